@@ -1,0 +1,31 @@
+//! What the laboratory speaks of: sizes, rectangles, ticks, velocities, sums, commands and refusals, the definitions of
+//! gas and laboratory in `specs/`, and their laws.
+#![tactic(auto)]
+
+pub mod account_laws;
+pub mod accounts;
+pub mod answer;
+pub mod command;
+pub mod lab_laws;
+pub mod laws;
+pub mod rect;
+pub mod refusal;
+pub mod row_bits;
+pub mod size;
+pub mod tick;
+pub mod velocity;
+
+/// Memory was refused: the one name for it in the laboratory's calls.
+pub use accounts::{Ledger, Pair, Sums, Took};
+pub use answer::Answer;
+pub use command::{Command, Entry};
+pub use rect::Rect;
+pub use refusal::Refusal;
+pub use row_bits::RowBits;
+pub use size::Size;
+pub use std::alloc::AllocError as NoMemory;
+pub use tick::{Tick, vel};
+pub use velocity::Vel;
+
+#[cfg(test)]
+mod tests;

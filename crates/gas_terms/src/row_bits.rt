@@ -1,0 +1,61 @@
+//! The cells of a row.
+
+ghost use Rattle.std.specs.Prelude.{◌≡◌, ◌≤◌, IfOk, replicate, length};
+ghost use Rattle.std.specs.Borrow.{Lends, Array, sem, u8};
+ghost use Rattle.gas_terms.specs.Rows.{overwritten};
+ghost use Rattle.gas_terms.specs.contracts.row_bits.RowBits.{the_row};
+
+use crate::NoMemory;
+use std::alloc::Global;
+use std::marker::Model;
+
+/// The cells of a row, as at most 512 bytes.
+#[derive(Drop)]
+pub struct RowBits {
+    bytes: Vec<u8>,
+}
+
+impl Model for RowBits {
+    ghost use Rattle.std.specs.Prelude.{ℕ, ◌≤◌, List, length};
+
+    ghost Value = { List ℕ };
+
+    ghost view = { λ b. b.bytes.items };
+
+    ghost invariant = { λ b. length b.bytes.items ≤ 512 };
+}
+
+impl RowBits {
+    /// A row without particles.
+    pub fn zero(alloc: Global, len: usize) -> Result<RowBits, NoMemory>
+        requires { len ≤ 512 }
+        ensures { IfOk result (λ row. row ≡ replicate len 0) }
+    {
+        Ok(RowBits {
+            bytes: vec![in alloc; 0; len]?,
+        })
+    }
+
+    pub fn copy(&self, alloc: Global) -> Result<RowBits, NoMemory>
+        ensures { IfOk result (λ row. row ≡ self.now) }
+    {
+        Ok(RowBits {
+            bytes: Vec::from_slice(alloc, self.bytes.as_slice())?,
+        })
+    }
+
+    pub fn bytes(&self) -> &[u8]
+        ensures bytes { result.now ≡ self.now }
+        ensures short { length self.now ≤ 512 }
+    {
+        self.bytes.as_slice()
+    }
+
+    /// The bytes, to be written: their number stays.
+    pub fn bytes_mut(&mut self) -> &mut [u8]
+        ensures* writes_back { sem 𝓛 (Lends the_row (Array u8 0) self.entry result (overwritten self.old)) }
+        ensures value { result.now ≡ self.old }
+    {
+        self.bytes.as_mut_slice()
+    }
+}
