@@ -264,23 +264,26 @@ fn commands_fit_their_lattice(rt: HostRuntime) -> Result<(), Fail> {
     Ok(())
 }
 
-fn is_area(area: Rect) -> bool {
-    area.x() == 1 && area.y() == 2 && area.w() == 3 && area.h() == 4
+// the place and the period of a source
+fn source_of(command: &Command) -> Option<(u16, u16, u16, u16, u16)> {
+    match command {
+        Command::Source(area, period) => { Some((area.x(), area.y(), area.w(), area.h(), *period)) }
+        _ => None,
+    }
 }
 
 #[test]
 fn commands_are_copied(rt: HostRuntime) -> Result<(), Fail> {
     let area = Rect::within(size(&rt, 64, 64), 1, 2, 3, 4).expect(&rt, "a rectangle");
-    let put = Command::Put(area).copy(rt.alloc())?;
-    assert!(rt; matches!(put, Command::Put(r) if is_area(r)));
     let source = Command::Source(area, 9).copy(rt.alloc())?;
-    assert!(rt; matches!(source, Command::Source(r, 9) if is_area(r)));
+    assert_eq!(rt; source_of(&source), Some((1, 2, 3, 4, 9)));
     let back = Command::Back(17).copy(rt.alloc())?;
     assert!(rt; matches!(back, Command::Back(17)));
     let mut row = RowBits::zero(rt.alloc(), 8)?;
     let bytes = [1, 2, 3, 4, 5, 6, 7, 8];
     row.bytes_mut().copy_from_slice(&bytes);
-    let copy = Command::Row(7, row).copy(rt.alloc())?;
-    assert!(rt; matches!(&copy, Command::Row(7, cells) if cells.bytes() == bytes.as_slice()));
+    let command = Command::Row(7, row);
+    assert!(rt; is_copied(&rt, &command, &bytes));
+    assert!(rt; command.copy(rt.alloc()).is_ok());
     Ok(())
 }
