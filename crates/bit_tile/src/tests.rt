@@ -1,0 +1,60 @@
+//! Worked examples, with values that were found by hand.
+
+use super::*;
+
+#[test]
+fn cells_are_put_in_and_taken_out(rt: HostRuntime) {
+    let mut tile = Tile::empty();
+    assert_eq!(rt; tile.count(), 0);
+    tile.set(3, 5, true);
+    tile.set(63, 63, true);
+    tile.set(63, 63, true);
+    assert!(rt; tile.get(3, 5) && tile.get(63, 63));
+    assert!(rt; !tile.get(5, 3) && !tile.get(4, 5) && !tile.get(3, 4));
+    assert_eq!(rt; tile.count(), 2);
+    tile.set(3, 5, false);
+    tile.set(0, 0, false);
+    assert!(rt; !tile.get(3, 5) && tile.get(63, 63));
+    assert_eq!(rt; tile.count(), 1);
+}
+
+#[test]
+fn rectangles_end_at_their_edges(rt: HostRuntime) {
+    // columns 62 and 63, rows 1 to 3
+    let mask = Tile::rect(62, 1, 2, 3);
+    assert!(rt; mask.get(62, 1) && mask.get(63, 1) && mask.get(62, 3) && mask.get(63, 3));
+    assert!(rt; !mask.get(61, 1) && !mask.get(62, 0) && !mask.get(63, 4) && !mask.get(0, 2));
+    assert_eq!(rt; mask.count(), 6);
+    // by columns and rows: even and even, odd and even, even and odd, odd and odd
+    assert_eq!(rt; mask.count_by_parity().as_slice(), [1, 1, 2, 2].as_slice());
+
+    let all = Tile::rect(0, 0, 64, 64);
+    assert_eq!(rt; all.count(), 4096);
+    assert_eq!(rt; all.count_by_parity().as_slice(), [1024; 4].as_slice());
+    assert_eq!(rt; Tile::rect(64, 64, 0, 0).count(), 0);
+    assert_eq!(rt; Tile::rect(5, 5, 0, 9).count(), 0);
+}
+
+#[test]
+fn tiles_are_joined_cut_and_met(rt: HostRuntime) {
+    // two squares of 16 cells that have the 4 cells (2, 2), (3, 2), (2, 3) and (3, 3) in common
+    let some = Tile::rect(0, 0, 4, 4);
+    let others = Tile::rect(2, 2, 4, 4);
+    let both = some.meet(&others);
+    assert_eq!(rt; both.count(), 4);
+    assert!(rt; both.get(2, 3) && !both.get(1, 3) && !both.get(4, 3));
+    assert_eq!(rt;
+        some.count_both_by_parity(&others).as_slice(),
+        [1, 1, 1, 1].as_slice()
+    );
+
+    let mut joined = some;
+    joined.join(&others);
+    assert_eq!(rt; joined.count(), 28);
+    assert!(rt; joined.get(0, 0) && joined.get(5, 5) && !joined.get(5, 0));
+
+    let mut cut = some;
+    cut.cut(&others);
+    assert_eq!(rt; cut.count(), 12);
+    assert!(rt; cut.get(0, 0) && cut.get(1, 3) && !cut.get(2, 2) && !cut.get(5, 5));
+}

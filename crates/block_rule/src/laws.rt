@@ -1,0 +1,50 @@
+//! Laws that join a tile to the torus. Each function does nothing: its contract is the law.
+
+ghost use Rattle.std.specs.Prelude.{◌≡◌, ℕ, ◌+◌, ◌<◌, ◌≤◌, Bool, ℤ, pos};
+ghost use Rattle.bit_tile.specs.Tile.{HasCells};
+ghost use Rattle.bit_tile.specs.declared.Tile.{Tile as TileRows};
+ghost use Rattle.tile_border.specs.declared.Border.{Border as RingCells};
+ghost use Rattle.gas_terms.specs.Velocity.{parity};
+ghost use Rattle.gas_terms.specs.Cells.{Cells, joined};
+ghost use Rattle.gas_terms.specs.Cells as plane;
+ghost use Rattle.gas_terms.specs.Gas.{streamed};
+ghost use Rattle.gas_terms.specs.declared.accounts.Pair.{Pair};
+ghost use Rattle.gas_terms.specs.declared.accounts.Took.{Took};
+ghost use Rattle.block_rule.specs.Around.{around, turned, either, none, taken};
+ghost use Rattle.block_rule.specs.Windows.{IsWindow, IsView, IsTilePlace, square, taken_in};
+
+/// What a tile's blocks reach of the torus: with the border all that they need, and at even parity the tile is enough.
+pub fn tiles_see_the_torus()
+    ensures window { (p : ℕ) (window : ℕ → ℕ → Bool) (cells : Cells) (x0 y0 : ℕ) → p < 2 →
+        IsWindow window cells x0 y0 → IsView p window cells x0 y0 }
+    ensures inside { (t : TileRows) (b : RingCells) (cells : Cells) (x0 y0 : ℕ) → x0 + 64 ≤ cells.width → y0 + 64 ≤ cells.height →
+        HasCells t (λ x y. plane.has cells (x0 + x) (y0 + y)) → IsView 0 (around t b) cells x0 y0 }
+{}
+
+/// The block rule on a tile is the step of the torus.
+pub fn tiles_turn_as_the_torus()
+    ensures { (p : ℕ) (particles walls obstacles : Cells) (x0 y0 : ℕ) (near near_walls near_obstacles : ℕ → ℕ → Bool) → p < 2 →
+        IsTilePlace particles walls obstacles x0 y0 →
+        IsView p near particles x0 y0 → IsView p near_walls walls x0 y0 → IsView p near_obstacles obstacles x0 y0 →
+        (x y : ℕ) → x < 64 → y < 64 →
+        turned p near (either near_walls near_obstacles) x y ≡ plane.has (streamed p particles (joined walls obstacles)) (x0 + x) (y0 + y) }
+{
+    gas_terms::laws::step_turns_blocks();
+    gas_terms::laws::made_cells_pass_the_test();
+}
+
+/// What a tile's walled blocks take is what walls and obstacles of the torus take of the tile's own particles.
+pub fn tiles_take_as_the_torus()
+    ensures taken { (tick : ℤ) (tile : TileRows) (particles walls obstacles : Cells) (x0 y0 : ℕ) (near_walls near_obstacles : ℕ → ℕ → Bool) →
+        IsTilePlace particles walls obstacles x0 y0 →
+        HasCells tile (λ x y. plane.has particles (x0 + x) (y0 + y)) →
+        IsView (parity tick) near_walls walls x0 y0 → IsView (parity tick) near_obstacles obstacles x0 y0 →
+        taken (parity tick) tile near_walls near_obstacles ≡ taken_in tick particles walls obstacles (square x0 y0) }
+    ensures nothing { (p : ℕ) (tile : TileRows) →
+        let zero : Pair = record { x = pos 0; y = pos 0 } in
+        taken p tile none none ≡ record { walls = zero; obstacles = zero } }
+{
+    gas_terms::laws::step_turns_blocks();
+    gas_terms::laws::made_cells_pass_the_test();
+    gas_terms::account_laws::sums_by_parities();
+}

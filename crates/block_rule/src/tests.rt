@@ -1,0 +1,203 @@
+//! Worked examples, with values that were found by hand.
+
+use super::*;
+
+// the cells in the order upper left, upper right, lower left, lower right: old and new
+const TABLE: [(u8, u8); 16] = [
+    (0b0000, 0b0000),
+    (0b0001, 0b1000),
+    (0b0010, 0b0100),
+    (0b0011, 0b1100),
+    (0b0100, 0b0010),
+    (0b0101, 0b1010),
+    (0b0110, 0b1001),
+    (0b0111, 0b1110),
+    (0b1000, 0b0001),
+    (0b1001, 0b0110),
+    (0b1010, 0b0101),
+    (0b1011, 0b1101),
+    (0b1100, 0b0011),
+    (0b1101, 0b1011),
+    (0b1110, 0b0111),
+    (0b1111, 0b1111),
+];
+
+fn block(cells: u8) -> [bool; 4] {
+    [
+        cells & 0b1000 != 0,
+        cells & 0b0100 != 0,
+        cells & 0b0010 != 0,
+        cells & 0b0001 != 0,
+    ]
+}
+
+#[test]
+fn blocks_turn_as_the_table_says(rt: HostRuntime) {
+    for (old, new) in TABLE {
+        assert_eq!(rt; turn_block(block(old), false), block(new), "at {old}");
+        assert_eq!(rt;
+            turn_block(block(old), true),
+            block(old),
+            "walled, at {old}"
+        );
+        assert_eq!(rt;
+            turn_block(turn_block(block(old), false), false),
+            block(old),
+            "twice, at {old}"
+        );
+    }
+}
+
+const NOTHING: Took = Took {
+    walls: Pair { x: 0, y: 0 },
+    obstacles: Pair { x: 0, y: 0 },
+};
+
+fn tile_of(cells: &[(u32, u32)]) -> Tile {
+    let mut tile = Tile::empty();
+    for (x, y) in cells {
+        if *x < 64 && *y < 64 {
+            tile.set(*x, *y, true);
+        }
+    }
+    tile
+}
+
+// the border of a tile whose neighbors above, to the left, above to the left and below to the right have these cells
+fn border_of(above: &Tile, left: &Tile, above_left: &Tile, below_right: &Tile) -> Border {
+    let none = Tile::empty();
+    Border::of(
+        above,
+        &none,
+        left,
+        &none,
+        above_left,
+        &none,
+        &none,
+        below_right,
+    )
+}
+
+fn no_border() -> Border {
+    let none = Tile::empty();
+    border_of(&none, &none, &none, &none)
+}
+
+fn has_just(tile: &Tile, cells: &[(u32, u32)]) -> bool {
+    tile.rows == tile_of(cells).rows
+}
+
+#[test]
+fn particles_cross_their_blocks(rt: HostRuntime) {
+    let none = Tile::empty();
+    let old = tile_of([(0, 0), (10, 10), (11, 11), (63, 62)].as_slice());
+    // a lone particle crosses its block, and a pair that meets head on turns
+    let even = [(1, 1), (11, 10), (10, 11), (62, 63)].as_slice();
+    let mut out = Tile::rect(0, 0, 64, 64);
+    turn_free_tile_even(&old, &mut out);
+    assert!(rt; has_just(&out, even));
+    let mut again = Tile::rect(0, 0, 64, 64);
+    let took = turn_tile_even(&old, &none, &none, &mut again);
+    assert!(rt; has_just(&again, even));
+    assert_eq!(rt; took, NOTHING);
+
+    // at odd parity (10, 10) and (11, 11) are in blocks of their own, and (0, 0) and (63, 62) leave the tile
+    let odd = [(9, 9), (12, 12)].as_slice();
+    turn_free_tile_odd(&old, &no_border(), &mut out);
+    assert!(rt; has_just(&out, odd));
+    let border = no_border();
+    let took = turn_tile_odd(&old, &border, &none, &border, &none, &border, &mut again);
+    assert!(rt; has_just(&again, odd));
+    assert_eq!(rt; took, NOTHING);
+}
+
+#[test]
+fn particles_come_in_over_the_corners(rt: HostRuntime) {
+    let none = Tile::empty();
+    let corner = tile_of([(63, 63)].as_slice());
+    let first = tile_of([(0, 0)].as_slice());
+    let last = tile_of([(63, 63)].as_slice());
+    let mut out = Tile::empty();
+
+    // from the tile above to the left, and from the tile below to the right
+    turn_free_tile_odd(&none, &border_of(&none, &none, &corner, &first), &mut out);
+    assert!(rt; has_just(&out, [(0, 0), (63, 63)].as_slice()));
+
+    // a head-on pair across the corner goes to the tiles above and to the left
+    turn_free_tile_odd(&first, &border_of(&none, &none, &corner, &none), &mut out);
+    assert!(rt; has_just(&out, [].as_slice()));
+
+    // and a pair of those tiles comes to the corner
+    let above = tile_of([(0, 63)].as_slice());
+    let left = tile_of([(63, 0)].as_slice());
+    turn_free_tile_odd(&last, &border_of(&above, &left, &none, &none), &mut out);
+    assert!(rt; has_just(&out, [(0, 0)].as_slice()));
+}
+
+// What is taken of a particle at (0, 0), with another at (-1, -1), at odd parity: the cell (-1, 0) of the left tile is
+// in both their blocks.
+fn taken_at_corner(walls: &Border, obstacles: &Border) -> (Tile, Took) {
+    let none = Tile::empty();
+    let border = border_of(&none, &none, &tile_of([(63, 63)].as_slice()), &none);
+    let old = tile_of([(0, 0)].as_slice());
+    turn_tile(&old, &border, &none, walls, &none, obstacles, 1)
+}
+
+fn pair(x: i64, y: i64) -> Pair {
+    Pair { x, y }
+}
+
+#[test]
+fn a_tile_books_its_own_particles(rt: HostRuntime) {
+    let none = Tile::empty();
+    let free = no_border();
+    let beside = border_of(&none, &tile_of([(63, 0)].as_slice()), &none, &none);
+    let above = border_of(&tile_of([(0, 63)].as_slice()), &none, &none, &none);
+
+    // the particle at (0, 0) is on its way up and left: turned back, it gives twice its momentum
+    for (walls, obstacles, of_walls, of_obstacles) in [
+        (&beside, &free, pair(-2, -2), pair(0, 0)),
+        (&free, &beside, pair(0, 0), pair(-2, -2)),
+        // with a wall and an obstacle in its block it counts for the obstacle
+        (&above, &beside, pair(0, 0), pair(-2, -2)),
+    ] {
+        let (out, took) = taken_at_corner(walls, obstacles);
+        assert!(rt; has_just(&out, [(0, 0)].as_slice()));
+        assert_eq!(rt; took.walls, of_walls);
+        assert_eq!(rt; took.obstacles, of_obstacles);
+    }
+
+    // with neither it meets the other head on
+    let (out, took) = taken_at_corner(&free, &free);
+    assert!(rt; has_just(&out, [].as_slice()));
+    assert_eq!(rt; took, NOTHING);
+}
+
+#[test]
+fn walls_and_obstacles_turn_particles_back(rt: HostRuntime) {
+    let none = Tile::empty();
+    let border = no_border();
+    // three blocks with one particle each: to the right and down, to the left and down, to the right and up
+    let old = tile_of([(0, 0), (5, 8), (20, 31)].as_slice());
+    let walls = tile_of([(1, 1), (4, 8)].as_slice());
+    let obstacles = tile_of([(21, 30)].as_slice());
+    let mut out = Tile::rect(0, 0, 64, 64);
+    let took = turn_tile_into(
+        &old, &border, &walls, &border, &obstacles, &border, 0, &mut out,
+    );
+    assert!(rt; has_just(&out, [(0, 0), (5, 8), (20, 31)].as_slice()));
+    assert_eq!(rt; took.walls, pair(0, 4));
+    assert_eq!(rt; took.obstacles, pair(2, -2));
+
+    // at odd parity they are in other blocks, none of them walled: (0, 0) leaves the tile
+    let took = turn_tile_into(
+        &old, &border, &walls, &border, &obstacles, &border, 1, &mut out,
+    );
+    assert!(rt; has_just(&out, [(6, 7), (19, 32)].as_slice()));
+    assert_eq!(rt; took, NOTHING);
+    // an obstacle on a particle's own cell takes as well
+    let took = turn_tile_into(&old, &border, &none, &border, &old, &border, 1, &mut out);
+    assert!(rt; has_just(&out, [(0, 0), (5, 8), (20, 31)].as_slice()));
+    assert_eq!(rt; took.walls, pair(0, 0));
+    assert_eq!(rt; took.obstacles, pair(-2, -2));
+}

@@ -1,0 +1,95 @@
+-- Edits of a gas with its ledger.
+use Rattle.std.proofs.Common.{◌≡◌, true, false, ℤ, refl, sym, ap, subst, ◌∙◌}
+use Rattle.gas_terms.specs.Cells.{Cells, extent, HasSidesOf}
+use Rattle.gas_terms.specs.Gas.{Gas}
+use Rattle.gas_terms.specs.Accounts.{nothing, gained, lost, plus, FitsI64, SumsFit}
+use Rattle.gas_terms.specs.Commands.{enact, is_move}
+use Rattle.gas_terms.specs.BookedGas.{BookedGas, changed, book}
+use Rattle.gas_terms.specs.declared.accounts.Ledger.{Ledger}
+use Rattle.gas_terms.specs.declared.command.Command.{Command}
+use Rattle.gas_terms.specs.declared.command.Command.TheVariants.{Put, Erase, Wall, Block, Unwall, Row, Source, Drain, Unport, Step, Back, Probe, Tally, Ledger as Accounting, Read, Entry as EntryAt}
+use Rattle.gas_terms.proofs.AccountBounds.{size-even}
+use Rattle.gas_terms.proofs.Stretches.{total-without_itself}
+use Rattle.gas_plane.specs.Planes.{IsLattice}
+use Rattle.gas_ledger.specs.Moves.{moved_by}
+use Rattle.gas_ledger.specs.declared.moved.Moved.{Moved}
+use Rattle.gas_lab.specs.Labs.{with_moved, leaves_particles}
+use Rattle.gas_lab.proofs.Stepping.{pair}
+
+-- What is no move is booked as one change.
+book_edit : (b : BookedGas) (command : Command) → is_move command ≡ false → book b command ≡ changed b (enact b.gas command)
+book_edit b (Put r) still = refl
+book_edit b (Erase r) still = refl
+book_edit b (Wall r) still = refl
+book_edit b (Block r) still = refl
+book_edit b (Unwall r) still = refl
+book_edit b (Row y bits) still = refl
+book_edit b (Source r n) still = refl
+book_edit b (Drain r) still = refl
+book_edit b Unport still = refl
+book_edit b (Step n) still = cc
+book_edit b (Back n) still = cc
+book_edit b (Probe r) still = refl
+book_edit b Tally still = refl
+book_edit b Accounting still = refl
+book_edit b (Read y) still = refl
+book_edit b (EntryAt k) still = refl
+
+edit_tick : (g : Gas) (command : Command) → is_move command ≡ false → (enact g command).tick ≡ g.tick
+edit_tick g (Put r) still = refl
+edit_tick g (Erase r) still = refl
+edit_tick g (Wall r) still = refl
+edit_tick g (Block r) still = refl
+edit_tick g (Unwall r) still = refl
+edit_tick g (Row y bits) still = refl
+edit_tick g (Source r n) still = refl
+edit_tick g (Drain r) still = refl
+edit_tick g Unport still = refl
+edit_tick g (Step n) still = cc
+edit_tick g (Back n) still = cc
+edit_tick g (Probe r) still = refl
+edit_tick g Tally still = refl
+edit_tick g Accounting still = refl
+edit_tick g (Read y) still = refl
+edit_tick g (EntryAt k) still = refl
+
+set_up_particles : (g : Gas) (command : Command) → leaves_particles command ≡ true → (enact g command).particles ≡ g.particles
+set_up_particles g (Put r) quiet = cc
+set_up_particles g (Erase r) quiet = cc
+set_up_particles g (Wall r) quiet = refl
+set_up_particles g (Block r) quiet = refl
+set_up_particles g (Unwall r) quiet = refl
+set_up_particles g (Row y bits) quiet = cc
+set_up_particles g (Source r n) quiet = refl
+set_up_particles g (Drain r) quiet = refl
+set_up_particles g Unport quiet = refl
+set_up_particles g (Step n) quiet = cc
+set_up_particles g (Back n) quiet = cc
+set_up_particles g (Probe r) quiet = refl
+set_up_particles g Tally quiet = refl
+set_up_particles g Accounting quiet = refl
+set_up_particles g (Read y) quiet = refl
+set_up_particles g (EntryAt k) quiet = refl
+
+-- What leaves the particles moves none.
+abbrev pub none_moved : Moved
+none_moved = record { injected = nothing; drained = nothing }
+
+pub quiet_moves : (g g' : Gas) (command : Command) → IsLattice g.particles → leaves_particles command ≡ true → g' ≡ enact g command →
+    none_moved ≡ moved_by g.tick g.particles g'.particles
+quiet_moves g g' command lattice quiet is =
+    let same : g'.particles ≡ g.particles = ap (λ (h : Gas). h.particles) is ∙ set_up_particles g command quiet in
+    let none : gained g.tick g.particles g.particles ≡ nothing = total-without_itself g.tick g.particles (size-even (extent g.particles) lattice.sized) in
+    ap (λ s. record { injected = s; drained = s }) (sym none) ∙ ap (moved_by g.tick g.particles) (sym same)
+
+-- An edit is booked.
+pub edit_booked : (g g' : Gas) (l : Ledger) (m : Moved) (command : Command) → is_move command ≡ false →
+    g' ≡ enact g command → m ≡ moved_by g.tick g.particles g'.particles → pair g' (with_moved l m) ≡ book (pair g l) command
+edit_booked g g' l m command still gas_is moved_is =
+    let h : Gas = enact g command in
+    let F : Gas → BookedGas = λ k. pair k (with_moved l (moved_by g.tick g.particles k.particles)) in
+    let T : ℤ → BookedGas = λ t. pair h (with_moved l (moved_by t g.particles h.particles)) in
+    ap (λ m. pair g' (with_moved l m)) moved_is ∙ ap F gas_is ∙ ap T (sym (edit_tick g command still)) ∙ sym (book_edit (pair g l) command still)
+
+pub edit_fits : (b b' : BookedGas) → b ≡ b' → FitsI64 b'.ledger → FitsI64 b.ledger
+edit_fits b b' same fits = subst (λ (c : BookedGas). FitsI64 c.ledger) (sym same) fits

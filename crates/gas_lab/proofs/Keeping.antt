@@ -1,0 +1,85 @@
+-- What a laboratory's type keeps.
+use Rattle.std.proofs.Common.{◌≡◌, ℕ, true, ◌≤◌, ◌<◌, ◌^◌, nat_lt, List, [], ◌∷◌, ◌++◌, length, pos, refl, sym, ap, ap₂, ◌∙◌, subst, arith}
+use Rattle.std.proofs.lemmas.Bool.Decides.{nat_tests}
+use Rattle.gas_terms.specs.Cells.{Cells, extent, is_size, HasSidesOf, IsEvenTorus}
+use Rattle.gas_terms.specs.Gas.{Gas}
+use Rattle.gas_terms.specs.Accounts.{nothing, total}
+use Rattle.gas_terms.specs.Commands.{fits}
+use Rattle.gas_terms.specs.BookedGas.{BookedGas, opened, book}
+use Rattle.gas_terms.specs.Laboratory.{Laboratory, opening, booked, accepted, commands, IsAcceptable, IsSound}
+use Rattle.gas_terms.specs.declared.command.Entry.{Entry}
+use Rattle.gas_terms.specs.declared.command.Command.{Command}
+use Rattle.gas_terms.specs.declared.command.Command.TheVariants.{Read}
+use Rattle.gas_terms.specs.declared.accounts.Ledger.{Ledger}
+use Rattle.gas_terms.specs.declared.accounts.Sums.{Sums}
+use Rattle.gas_terms.proofs.Bounds.{ledger_fits}
+use Rattle.gas_terms.proofs.Bookings.{book_all-sides}
+use Rattle.gas_terms.proofs.LabBounds.{next_accounts_fit}
+use Rattle.gas_terms.proofs.Laboratories.{all_booked, opening_sound, accepted_sound, has_room}
+use Rattle.gas_plane.specs.Planes.{IsLattice}
+use Rattle.gas_lab.specs.Labs.{Affords, IsKept}
+use Rattle.gas_lab.proofs.Stepping.{torus_of}
+
+abbrev pub lab_at : Gas → ℕ → BookedGas → List Entry → Laboratory
+lab_at start cap b journal = record { start = start; cap = cap; gas = b.gas; ledger = b.ledger; journal = journal }
+
+-- The gas has the start's sides.
+pub kept_extent : (lab : Laboratory) → IsSound lab → extent lab.gas.particles ≡ extent lab.start.particles
+kept_extent lab sound =
+    let sides : HasSidesOf lab.gas.particles lab.start.particles =
+    subst (λ (b : BookedGas). HasSidesOf b.gas.particles lab.start.particles) (sym (all_booked lab sound)) (book_all-sides (commands lab.journal) (opened lab.start)) in
+    ap₂ (λ m n. record { width = m; height = n }) sides.wide sides.high
+
+pub kept_in_order : (lab lab' : Laboratory) (command : Command) → IsSound lab → lab ≡ lab' →
+    fits (extent lab'.start.particles) command ≡ true → fits (extent lab.gas.particles) command ≡ true
+kept_in_order lab lab' command sound same in_order =
+    ap (λ e. fits e command) (kept_extent lab sound ∙ ap (λ (l : Laboratory). extent l.start.particles) same) ∙ in_order
+
+below_height : (y n : ℕ) → nat_lt y n ≡ true → y < n
+below_height y n h = grind (arith, nat_tests)
+
+pub row_within : (lab lab' : Laboratory) (command : Command) (y : ℕ) → lab ≡ lab' → command ≡ Read y →
+    fits (extent lab.gas.particles) command ≡ true → y < lab'.gas.particles.height
+row_within lab lab' command y same is in_order =
+    let here : nat_lt y lab.gas.particles.height ≡ true = ap (fits (extent lab.gas.particles)) (sym is) ∙ in_order in
+    subst (λ (l : Laboratory). y < l.gas.particles.height) same (below_height y lab.gas.particles.height here)
+
+-- Whatever the next command is, the accounts fit.
+pub kept_affords : (lab : Laboratory) (others : Cells) (entry : Entry) → IsLattice lab.start.particles → IsKept lab others → IsAcceptable lab entry → Affords (booked lab)
+kept_affords lab others entry lattice kept acceptable = λ command few.
+    let room : length lab.journal < lab.cap = (let h = has_room lab entry.command acceptable.change acceptable.no_cause in omega (arith, h)) in
+    ledger_fits (2 ^ 52) (book (booked lab) command).ledger (omega arith) (next_accounts_fit lab command lattice.sized kept.cap kept.sound room few)
+
+-- A change keeps it all.
+pub kept_by_change : (start : Gas) (cap : ℕ) (b b' : BookedGas) (journal journal' : List Entry) (others others' : Cells) (entry : Entry) →
+    IsLattice start.particles → IsKept (lab_at start cap b journal) others → IsAcceptable (lab_at start cap b journal) entry →
+    b' ≡ book b entry.command → HasSidesOf others' b'.gas.particles → journal' ≡ journal ++ entry ∷ [] →
+    IsKept (lab_at start cap b' journal') others'
+kept_by_change start cap b b' journal journal' others others' entry lattice kept acceptable e sides grown =
+    let lab : Laboratory = lab_at start cap b journal in
+    let after : IsSound (accepted lab entry) = accepted_sound lab entry (torus_of start.particles lattice) kept.sound acceptable in
+    let Sound : BookedGas → List Entry → Type 0 = λ c j. IsSound (lab_at start cap c j) in
+    record {
+      sound = subst (λ j. Sound b' j) (sym grown) (subst (λ c. Sound c (journal ++ entry ∷ [])) (sym e) after);
+      cap = kept.cap;
+      spare = sides;
+    }
+
+-- A laboratory opens with it.
+pub kept_at_opening : (start gas : Gas) (cap : ℕ) (sums : Sums) (journal : List Entry) (others : Cells) →
+    IsLattice start.particles → cap ≤ 65536 → gas ≡ start → sums ≡ total start.tick start.particles → journal ≡ [] → others ≡ start.particles →
+    IsKept
+    (lab_at start cap (record { gas = gas; ledger = record { start = sums; injected = nothing; drained = nothing; walls = record { x = pos 0; y = pos 0 }; obstacles = record { x = pos 0; y = pos 0 } } }) journal)
+    others
+kept_at_opening start gas cap sums journal others lattice small gas_is sums_are none spare_is =
+    let ledger_of : Sums → Ledger = λ s. record { start = s; injected = nothing; drained = nothing; walls = record { x = pos 0; y = pos 0 }; obstacles = record { x = pos 0; y = pos 0 } } in
+    let there : IsKept (opening start cap) start.particles = record {
+      sound = opening_sound start cap (torus_of start.particles lattice);
+      cap = small;
+      spare = record { wide = refl; high = refl };
+    } in
+    let Kept : Gas → Sums → List Entry → Cells → Type 0 = λ g s j o. IsKept (lab_at start cap (record { gas = g; ledger = ledger_of s }) j) o in
+    subst (λ g. Kept g sums journal others) (sym gas_is)
+    (subst (λ s. Kept start s journal others) (sym sums_are)
+    (subst (λ j. Kept start (total start.tick start.particles) j others) (sym none)
+    (subst (λ o. Kept start (total start.tick start.particles) [] o) (sym spare_is) there)))

@@ -1,0 +1,60 @@
+use Rattle.std.specs.Prelude.{◌≡◌, ◌≤◌, nat_le, ℕ, Bool, true, false, length, Result, Ok, Err, ◌⊎◌, ℤ, pos, ◌+ℤ◌, ◌-ℤ◌}
+use Rattle.gas_terms.specs.Cells.{Cells, HasSidesOf}
+use Rattle.gas_terms.specs.Gas.{Gas}
+use Rattle.gas_terms.specs.Accounts.{plus, FitsI64}
+use Rattle.gas_terms.specs.Commands.{is_tick}
+use Rattle.gas_terms.specs.BookedGas.{BookedGas, book, changes}
+use Rattle.gas_terms.specs.Laboratory.{Laboratory, accepted, IsSound}
+use Rattle.gas_terms.specs.declared.accounts.Ledger.{Ledger}
+use Rattle.gas_terms.specs.declared.command.Command.{Command}
+use Rattle.gas_terms.specs.declared.command.Command.TheVariants.{Put, Erase, Row, Source, Drain, Step, Back}
+use Rattle.gas_terms.specs.declared.command.Entry.{Entry}
+use Rattle.gas_terms.specs.declared.answer.Answer.{Answer}
+use Rattle.gas_terms.specs.declared.answer.Answer.TheVariants.{Taken}
+use Rattle.gas_terms.specs.declared.refusal.Refusal.{Refusal}
+use Rattle.gas_terms.specs.declared.refusal.Refusal.TheVariants.{Memory}
+use Rattle.gas_ledger.specs.declared.moved.Moved.{Moved}
+use Rattle.gas_lab.specs.declared.books.Books.{Books}
+
+abbrev pub books_of : Books → BookedGas
+books_of b = record { gas = b.gas; ledger = b.ledger }
+
+-- a ledger with what a change of the particles brought in and took out
+abbrev pub with_moved : Ledger → Moved → Ledger
+with_moved l m = record l { injected = plus l.injected m.injected; drained = plus l.drained m.drained }
+
+-- whether there are as many ports of the command's kind as there may be
+abbrev pub lacks_place : Gas → Command → Bool
+lacks_place g (Source r period) = nat_le 16 (length g.sources)
+lacks_place g (Drain r) = nat_le 16 (length g.drains)
+lacks_place g _ = false
+
+-- whether a command is no move and leaves the particles
+abbrev pub leaves_particles : Command → Bool
+leaves_particles (Put r) = false
+leaves_particles (Erase r) = false
+leaves_particles (Row y bits) = false
+leaves_particles (Step n) = false
+leaves_particles (Back n) = false
+leaves_particles _ = true
+
+-- the ticks on the way of a move stay in their range
+abbrev pub TicksHold : ℤ → Command → Type 0
+TicksHold t (Step n) = (k : ℕ) → k ≤ n → is_tick (t +ℤ pos k) ≡ true
+TicksHold t (Back n) = (k : ℕ) → k ≤ n → is_tick (t -ℤ pos k) ≡ true
+TicksHold t _ = Unit {0}
+
+-- the accounts stay within 64 bits whatever the next command is
+abbrev pub Affords : BookedGas → Type 0
+Affords b = (command : Command) → changes command ≤ 4096 → FitsI64 (book b command).ledger
+
+-- What a laboratory's type keeps beside what the types of its parts keep.
+pub record IsKept (lab : Laboratory) (others : Cells) : Type 0 where
+  pub sound : IsSound lab
+  pub cap : lab.cap ≤ 65536
+  pub spare : HasSidesOf others lab.gas.particles
+
+-- A change is accepted whole, or memory was refused and nothing is changed.
+abbrev pub Changes : Laboratory → Entry → Result Answer Refusal → Laboratory → Type 0
+Changes old entry result new =
+    ((result ≡ Ok (Taken (length old.journal))) × (new ≡ accepted old entry)) ⊎ ((result ≡ Err Memory) × (new ≡ old))

@@ -1,0 +1,218 @@
+//! A gas with its ledger, and what each change does to both.
+
+ghost use Rattle.std.specs.Prelude.{◌≡◌, ◌≤◌, ◌<◌, ℕ, true, false, ◌+ℤ◌, ◌-ℤ◌, pos};
+ghost use Rattle.std.specs.Fn.{iterate};
+ghost use Rattle.gas_terms.specs.Velocity.{parity};
+ghost use Rattle.gas_terms.specs.Cells.{extent, HasSidesOf};
+ghost use Rattle.gas_terms.specs.Gas.{streamed, solid};
+ghost use Rattle.gas_terms.specs.Accounts.{taken, FitsI64, SumsFit, plus};
+ghost use Rattle.gas_terms.specs.Commands.{enact, fits, is_move, is_tick};
+ghost use Rattle.gas_terms.specs.BookedGas.{stepped, stepped_back, book};
+ghost use Rattle.gas_plane.specs.Planes.{IsLattice};
+ghost use Rattle.gas_ledger.specs.Gases.{ports_of};
+ghost use Rattle.gas_ledger.specs.Moves.{moved_by};
+ghost use Rattle.gas_ledger.specs.PortLists.{adding, has_all};
+ghost use Rattle.gas_lab.specs.Labs.{books_of, with_moved, lacks_place, leaves_particles, TicksHold, Affords};
+
+use gas_ledger::{Gas, Moved, Port};
+use gas_plane::Plane;
+use gas_terms::{Command, Ledger, Sums, Took};
+use phase_step::Stepper;
+
+const NOTHING: Moved = Moved {
+    injected: Sums {
+        count: 0,
+        px: 0,
+        py: 0,
+    },
+    drained: Sums {
+        count: 0,
+        px: 0,
+        py: 0,
+    },
+};
+
+/// A gas with its ledger.
+#[derive(Drop)]
+pub struct Books {
+    pub gas: Gas,
+    pub ledger: Ledger,
+}
+
+// the ledger with what a change of the particles brought in and took out
+fn with_moved(ledger: Ledger, moved: Moved) -> Ledger
+    requires injected { SumsFit (plus ledger.injected moved.injected) }
+    requires drained { SumsFit (plus ledger.drained moved.drained) }
+    ensures { result ≡ with_moved ledger moved }
+{
+    Ledger {
+        injected: ledger.injected.plus(moved.injected),
+        drained: ledger.drained.plus(moved.drained),
+        ..ledger
+    }
+}
+
+// turns the blocks of a parity: what comes out goes into the spare plane
+fn turned<S: Stepper>(gas: &Gas, parity: u8, spare: &mut Plane, stepper: &mut S) -> Took
+    requires parity { parity < 2 }
+    requires spare { HasSidesOf spare.old gas.now.particles }
+    ensures out { spare.new ≡ streamed parity gas.now.particles (solid gas.now) }
+    ensures took { result ≡ taken parity gas.now.particles gas.now.walls gas.now.obstacles }
+    ensures lattice { IsLattice gas.now.particles }
+{
+    let _ = gas.size();
+    stepper.phase(gas.particles(), gas.walls(), gas.obstacles(), parity, spare)
+}
+
+fn parity_now(gas: &Gas) -> u8
+    ensures parity { result ≡ parity gas.now.tick }
+    ensures small { result < 2 }
+{
+    gas.tick().parity()
+}
+
+fn parity_before(gas: &Gas) -> u8
+    requires { is_tick (gas.now.tick -ℤ pos 1) ≡ true }
+    ensures parity { result ≡ parity (gas.now.tick -ℤ pos 1) }
+    ensures small { result < 2 }
+{
+    gas.tick().behind(1).unwrap().parity()
+}
+
+impl Books {
+    /// A step forward: walls and obstacles take their part, and the ports act at the new tick.
+    pub fn step<S: Stepper>(&mut self, spare: &mut Plane, stepper: &mut S)
+        requires tick { is_tick (self.old.gas.tick +ℤ pos 1) ≡ true }
+        requires spare { HasSidesOf spare.old self.old.gas.particles }
+        requires fits { FitsI64 (stepped (books_of self.old)).ledger }
+        ensures booked { books_of self.new ≡ stepped (books_of self.old) }
+        ensures spare { HasSidesOf spare.new self.new.gas.particles }
+    {
+        let took = turned(&self.gas, parity_now(&self.gas), spare, stepper);
+        self.gas.advance(spare);
+        self.ledger = self.ledger.with_taken(took);
+        if self.gas.ports().any() {
+            let moved = self.gas.act();
+            self.ledger = with_moved(self.ledger, moved);
+        }
+    }
+
+    /// A step back: walls and obstacles give back what they take in the step from the gas before.
+    pub fn step_back<S: Stepper>(&mut self, spare: &mut Plane, stepper: &mut S)
+        requires tick { is_tick (self.old.gas.tick -ℤ pos 1) ≡ true }
+        requires spare { HasSidesOf spare.old self.old.gas.particles }
+        requires fits { FitsI64 (stepped_back (books_of self.old)).ledger }
+        ensures booked { books_of self.new ≡ stepped_back (books_of self.old) }
+        ensures spare { HasSidesOf spare.new self.new.gas.particles }
+    {
+        let took = turned(&self.gas, parity_before(&self.gas), spare, stepper);
+        self.gas.retreat(spare);
+        self.ledger = self.ledger.with_given_back(took);
+    }
+
+    /// Steps forward, one after another.
+    pub fn steps<S: Stepper>(&mut self, n: u16, spare: &mut Plane, stepper: &mut S)
+        requires ticks { (k : ℕ) → k ≤ n → is_tick (self.old.gas.tick +ℤ pos k) ≡ true }
+        requires spare { HasSidesOf spare.old self.old.gas.particles }
+        requires fits { (k : ℕ) → k ≤ n → FitsI64 (iterate stepped k (books_of self.old)).ledger }
+        ensures booked { books_of self.new ≡ iterate stepped n (books_of self.old) }
+        ensures spare { HasSidesOf spare.new self.new.gas.particles }
+    {
+        for i in 0..n {
+            self.step(spare, stepper);
+        }
+    }
+
+    /// Steps back, one after another.
+    pub fn steps_back<S: Stepper>(&mut self, n: u16, spare: &mut Plane, stepper: &mut S)
+        requires ticks { (k : ℕ) → k ≤ n → is_tick (self.old.gas.tick -ℤ pos k) ≡ true }
+        requires spare { HasSidesOf spare.old self.old.gas.particles }
+        requires fits { (k : ℕ) → k ≤ n → FitsI64 (iterate stepped_back k (books_of self.old)).ledger }
+        ensures booked { books_of self.new ≡ iterate stepped_back n (books_of self.old) }
+        ensures spare { HasSidesOf spare.new self.new.gas.particles }
+    {
+        for i in 0..n {
+            self.step_back(spare, stepper);
+        }
+    }
+
+    /// A change: an edit, which is booked as one change of the particles, or steps.
+    pub fn enact<S: Stepper>(&mut self, command: &Command, spare: &mut Plane, stepper: &mut S)
+        requires in_order { fits (extent self.old.gas.particles) command.now ≡ true }
+        requires place { lacks_place self.old.gas command.now ≡ false }
+        requires ticks { TicksHold self.old.gas.tick command.now }
+        requires spare { HasSidesOf spare.old self.old.gas.particles }
+        requires fits { Affords (books_of self.old) }
+        ensures booked { books_of self.new ≡ book (books_of self.old) command.now }
+        ensures spare { HasSidesOf spare.new self.new.gas.particles }
+    {
+        match command {
+            Command::Step(n) => self.steps(*n, spare, stepper),
+            Command::Back(n) => self.steps_back(*n, spare, stepper),
+            edit => self.edit(edit, spare),
+        }
+    }
+
+    // the spare plane stays as it is, and so do the sides of the gas
+    fn edit(&mut self, command: &Command, spare: &Plane)
+        requires still { is_move command.now ≡ false }
+        requires in_order { fits (extent self.old.gas.particles) command.now ≡ true }
+        requires place { lacks_place self.old.gas command.now ≡ false }
+        requires spare { HasSidesOf spare.now self.old.gas.particles }
+        requires fits { FitsI64 (book (books_of self.old) command.now).ledger }
+        ensures booked { books_of self.new ≡ book (books_of self.old) command.now }
+        ensures spare { HasSidesOf spare.now self.new.gas.particles }
+    {
+        let moved = edited(&mut self.gas, command);
+        self.ledger = with_moved(self.ledger, moved);
+    }
+}
+
+// an edit of the gas, and what it brings in and takes out
+fn edited(gas: &mut Gas, command: &Command) -> Moved
+    requires still { is_move command.now ≡ false }
+    requires in_order { fits (extent gas.old.particles) command.now ≡ true }
+    requires place { lacks_place gas.old command.now ≡ false }
+    ensures gas { gas.new ≡ enact gas.old command.now }
+    ensures moved { result ≡ moved_by gas.old.tick gas.old.particles gas.new.particles }
+{
+    match command {
+        Command::Put(area) => gas.fill_particles(*area),
+        Command::Erase(area) => gas.clear_particles(*area),
+        Command::Row(y, row) => gas.replace_row(*y, row.bytes()),
+        other => {
+            set_up(gas, other);
+            NOTHING
+        }
+    }
+}
+
+// an edit of walls, obstacles or ports, which leaves the particles
+fn set_up(gas: &mut Gas, command: &Command)
+    requires quiet { leaves_particles command.now ≡ true }
+    requires in_order { fits (extent gas.old.particles) command.now ≡ true }
+    requires place { lacks_place gas.old command.now ≡ false }
+    ensures gas { gas.new ≡ enact gas.old command.now }
+    ensures lattice { IsLattice gas.old.particles }
+    ensures quiet { leaves_particles command.now ≡ true }
+{
+    let _ = gas.size();
+    match command {
+        Command::Wall(area) => gas.add_walls(*area),
+        Command::Block(area) => gas.add_obstacles(*area),
+        Command::Unwall(area) => gas.remove_walls_and_obstacles(*area),
+        Command::Source(area, period) => add_port(gas, Port::Source(*area, *period)),
+        Command::Drain(area) => add_port(gas, Port::Drain(*area)),
+        Command::Unport => gas.remove_ports(),
+        _ => {}
+    }
+}
+
+// a port that has a place
+fn add_port(gas: &mut Gas, port: Port)
+    requires in_order { fits (extent gas.old.particles) (adding port) ≡ true }
+    requires place { has_all (ports_of gas.old) port ≡ false }
+    ensures { gas.new ≡ enact gas.old (adding port) }
+{
+    let _ = gas.add_port(port);
+}

@@ -1,0 +1,283 @@
+//! The laboratory.
+
+ghost use Rattle.std.specs.Prelude.{◌≡◌, ◌≤◌, ◌<◌, ◌↔◌, true, false, IfOk, IfErr, length, slice_get};
+ghost use Rattle.gas_terms.specs.Cells.{extent};
+ghost use Rattle.gas_terms.specs.Rows.{row_bytes};
+ghost use Rattle.gas_terms.specs.Commands.{fits, is_change};
+ghost use Rattle.gas_terms.specs.Laboratory.{opening, answer as answer_of, cause, lacks_entry, has_all_ports, bars_way_back, leaves_ticks, lacks_room, Applies, IsAcceptable, IsSound};
+ghost use Rattle.gas_terms.specs.declared.command.Command.TheVariants.{Entry as EntryAt};
+ghost use Rattle.gas_terms.specs.declared.refusal.Refusal.TheVariants.{Memory};
+ghost use Rattle.gas_terms.specs.declared.answer.Answer.TheVariants.{RowIs};
+ghost use Rattle.gas_lab.specs.Labs.{Changes};
+
+use crate::books::Books;
+use gas_ledger::{Gas, probe, tally};
+use gas_plane::Plane;
+use gas_terms::{Answer, Command, Entry, Ledger, NoMemory, Pair, Refusal, RowBits, Size, Sums};
+use phase_step::Stepper;
+use std::alloc::Global;
+use std::marker::Model;
+
+/// A gas with its ledger, and the journal of the changes that made it.
+///
+/// Whoever holds one has what its type keeps: the gas is the start replayed by the journal, the ledger is that of the
+/// replay and balances with what there is, steps without ports that were undone have left no trace, and each entry was
+/// admitted where it stands.
+#[derive(Drop)]
+pub struct Lab<S: Stepper> {
+    start: Gas,
+    cap: u32,
+    books: Books,
+    journal: Vec<Entry>,
+    // what a step writes into, of the size of the gas
+    spare: Plane,
+    stepper: S,
+}
+
+impl<S: Stepper> Model for Lab<S> {
+    ghost use Rattle.gas_terms.specs.Laboratory.{Laboratory};
+    ghost use Rattle.gas_lab.specs.Labs.{IsKept};
+
+    ghost Value = { Laboratory };
+
+    ghost view = { λ l. record { start = l.start; cap = l.cap; gas = l.books.gas; ledger = l.books.ledger; journal = l.journal.items } };
+
+    ghost invariant = { λ l. IsKept (record { start = l.start; cap = l.cap; gas = l.books.gas; ledger = l.books.ledger; journal = l.journal.items }) l.spare };
+}
+
+const ZERO: Sums = Sums {
+    count: 0,
+    px: 0,
+    py: 0,
+};
+
+impl<S: Stepper> Lab<S> {
+    /// A laboratory with this gas, an empty journal of at most `cap` entries, from 1 to 65,536, and a ledger with the
+    /// gas's sums at the start and nothing else.
+    pub fn open(alloc: Global, start: Gas, cap: u32, stepper: S) -> Result<Lab<S>, NoMemory>
+        requires some { 1 ≤ cap }
+        requires cap { cap ≤ 65536 }
+        ensures { IfOk result (λ lab. lab ≡ opening start cap) }
+    {
+        let gas = start.copy(alloc)?;
+        let spare = start.particles().copy(alloc)?;
+        let _ = start.size();
+        let ledger = Ledger {
+            start: tally(start.particles(), start.tick()),
+            injected: ZERO,
+            drained: ZERO,
+            walls: Pair { x: 0, y: 0 },
+            obstacles: Pair { x: 0, y: 0 },
+        };
+        Ok(Lab {
+            start,
+            cap,
+            books: Books { gas, ledger },
+            journal: Vec::new(alloc),
+            spare,
+            stepper,
+        })
+    }
+
+    /// Does a command of a seat, or refuses it and leaves everything as it was. Only a change, a reading of a row and one
+    /// of an entry may want memory; a change is done whole or not begun.
+    pub fn apply(&mut self, seat: u16, command: Command) -> Result<Answer, Refusal>
+        requires in_order { fits (extent self.old.start.particles) command ≡ true }
+        ensures applied { Applies self.old (record { seat = seat; command = command }) result self.new }
+    {
+        if let Some(refusal) = self.cause(&command) {
+            return Err(refusal);
+        }
+        match command {
+            Command::Probe(area) => {
+                let gas = &self.books.gas;
+                Ok(Answer::Probed(probe(gas.particles(), area, gas.tick())))
+            }
+            Command::Tally => {
+                let gas = &self.books.gas;
+                Ok(Answer::Tallied(gas.tick(), tally(gas.particles(), gas.tick())))
+            }
+            Command::Ledger => Ok(Answer::Accounts(self.books.ledger)),
+            Command::Read(y) => self.row(y),
+            Command::Entry(k) => self.entry(k),
+            command => self.change(seat, command),
+        }
+    }
+}
+
+impl<S: Stepper> Lab<S> {
+    /// The gas that it started with.
+    pub fn start(&self) -> &Gas
+        ensures { result.now ≡ self.now.start }
+    {
+        &self.start
+    }
+
+    /// How many entries the journal may have.
+    pub fn cap(&self) -> u32
+        ensures { result ≡ self.now.cap }
+    {
+        self.cap
+    }
+
+    /// The gas as it is now.
+    pub fn gas(&self) -> &Gas
+        ensures { result.now ≡ self.now.gas }
+    {
+        &self.books.gas
+    }
+
+    /// The accounts since the start.
+    pub fn ledger(&self) -> &Ledger
+        ensures { result.now ≡ self.now.ledger }
+    {
+        &self.books.ledger
+    }
+
+    /// The accepted changes, each with its seat.
+    pub fn journal(&self) -> &[Entry]
+        ensures journal { result.now ≡ self.now.journal }
+        ensures room { length self.now.journal ≤ self.now.cap }
+    {
+        self.journal.as_slice()
+    }
+
+    /// How wide and high the lattice is, which never changes. What a laboratory's type keeps is handed out here.
+    pub fn size(&self) -> Size
+        ensures start { result ≡ extent self.now.start.particles }
+        ensures gas { result ≡ extent self.now.gas.particles }
+        ensures sound { IsSound self.now }
+        ensures cap { self.now.cap ≤ 65536 }
+    {
+        let _ = self.cap;
+        let _ = self.start.size();
+        self.books.gas.size()
+    }
+
+    /// The gas as it is now, once more.
+    pub fn copy_gas(&self) -> Result<Gas, NoMemory>
+        ensures { IfOk result (λ gas. gas ≡ self.now.gas) }
+    {
+        self.books.gas.copy(*self.journal.allocator())
+    }
+
+    // why the command would be refused, if it would
+    fn cause(&self, command: &Command) -> Option<Refusal>
+        ensures { result ≡ cause self.now command.now }
+    {
+        if self.lacks_entry(command) {
+            Some(Refusal::Entry)
+        } else if self.has_all_ports(command) {
+            Some(Refusal::Full)
+        } else if self.bars_way_back(command) {
+            Some(Refusal::Ports)
+        } else if self.leaves_ticks(command) {
+            Some(Refusal::Tick)
+        } else if self.lacks_room(command) {
+            Some(Refusal::Journal)
+        } else {
+            None
+        }
+    }
+
+    fn lacks_entry(&self, command: &Command) -> bool
+        ensures { result ≡ lacks_entry self.now command.now }
+    {
+        match command {
+            Command::Entry(k) => self.journal.len() <= *k as usize,
+            _ => false,
+        }
+    }
+
+    fn has_all_ports(&self, command: &Command) -> bool
+        ensures { result ≡ has_all_ports self.now command.now }
+    {
+        match command {
+            Command::Source(_, _) => 16 <= self.books.gas.ports().sources().len(),
+            Command::Drain(_) => 16 <= self.books.gas.ports().drains().len(),
+            _ => false,
+        }
+    }
+
+    fn bars_way_back(&self, command: &Command) -> bool
+        ensures { result ≡ bars_way_back self.now command.now }
+    {
+        match command {
+            Command::Back(_) => self.books.gas.ports().any(),
+            _ => false,
+        }
+    }
+
+    fn leaves_ticks(&self, command: &Command) -> bool
+        ensures { result ≡ leaves_ticks self.now command.now }
+    {
+        match command {
+            Command::Step(n) => self.books.gas.tick().ahead(*n).is_none(),
+            Command::Back(n) => self.books.gas.tick().behind(*n).is_none(),
+            _ => false,
+        }
+    }
+
+    fn lacks_room(&self, command: &Command) -> bool
+        ensures { result ≡ lacks_room self.now command.now }
+    {
+        is_change(command) && self.cap as usize <= self.journal.len()
+    }
+
+    // the particles of row y
+    fn row(&self, y: u16) -> Result<Answer, Refusal>
+        requires { y < self.now.gas.particles.height }
+        ensures ok { IfOk result (λ answer. answer ≡ RowIs (row_bytes self.now.gas.particles y)) }
+        ensures err { IfErr result (λ refusal. refusal ≡ Memory) }
+    {
+        let particles = self.books.gas.particles();
+        let len = particles.size().width() as usize / 8;
+        let Ok(mut row) = RowBits::zero(*self.journal.allocator(), len) else {
+            return Err(Refusal::Memory);
+        };
+        particles.row_bytes(y as u32, row.bytes_mut());
+        Ok(Answer::RowIs(row))
+    }
+
+    // entry k of the journal
+    fn entry(&self, k: u32) -> Result<Answer, Refusal>
+        requires { k < length self.now.journal }
+        ensures ok { IfOk result (λ answer. answer ≡ answer_of self.now (EntryAt k)) }
+        ensures err { IfErr result (λ refusal. refusal ≡ Memory) }
+    {
+        let entry = &self.journal[k as usize];
+        let Ok(command) = entry.command.copy(*self.journal.allocator()) else {
+            return Err(Refusal::Memory);
+        };
+        Ok(Answer::EntryIs(Entry {
+            seat: entry.seat,
+            command,
+        }))
+    }
+
+    // a change, whole or not at all: its place in the journal comes first
+    fn change(&mut self, seat: u16, command: Command) -> Result<Answer, Refusal>
+        requires acceptable { IsAcceptable self.old (record { seat = seat; command = command }) }
+        ensures { Changes self.old (record { seat = seat; command = command }) result self.new }
+    {
+        let count = self.journal.len();
+        let _ = self.books.gas.tick().get();
+        let _ = self.start.size();
+        if self.journal.reserve(1).is_err() {
+            return Err(Refusal::Memory);
+        }
+        self.books
+            .enact(&command, &mut self.spare, &mut self.stepper);
+        self.journal.push_reserved(Entry { seat, command });
+        Ok(Answer::Taken(count as u32))
+    }
+}
+
+fn is_change(command: &Command) -> bool
+    ensures { result ≡ is_change command.now }
+{
+    !matches!(
+        command,
+        Command::Probe(_) | Command::Tally | Command::Ledger | Command::Read(_) | Command::Entry(_)
+    )
+}

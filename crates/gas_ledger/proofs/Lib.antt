@@ -1,0 +1,5 @@
+pub mod Counting
+pub mod Emptied
+pub mod Exchanging
+pub mod Strips
+pub mod Moving

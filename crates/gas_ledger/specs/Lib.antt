@@ -1,0 +1,5 @@
+pub mod PortLists
+pub mod Gases
+pub mod Moves
+pub mod Counts
+pub mod Exchanges

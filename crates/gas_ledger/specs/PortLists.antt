@@ -1,0 +1,57 @@
+use Rattle.std.specs.Prelude.{◌≡◌, ◌≤◌, nat_le, Bool, true, ℤ, List, [], ◌∷◌, ◌++◌, length, map, filter}
+use Rattle.std.specs.List.{All}
+use Rattle.gas_terms.specs.Cells.{Cells, Extent, Rectangle, lies_within}
+use Rattle.gas_terms.specs.Gas.{Source, is_due, ported}
+use Rattle.gas_terms.specs.Commands.{is_period}
+use Rattle.gas_terms.specs.declared.command.Command.{Command}
+use Rattle.gas_terms.specs.declared.command.Command.TheVariants.{Source as AddSource, Drain as AddDrain}
+use Rattle.gas_ledger.specs.declared.port.Port.{Port}
+use Rattle.gas_ledger.specs.declared.port.Port.TheVariants.{Drain as DrainAt, Source as SourceAt}
+
+-- The drains and the sources, each kind in the order in which they were added.
+pub record PortLists : Type 0 where
+  pub drains : List Rectangle
+  pub sources : List Source
+
+abbrev pub no_ports : PortLists
+no_ports = record { drains = []; sources = [] }
+
+-- the command that adds a port
+abbrev pub adding : Port → Command
+adding (DrainAt r) = AddDrain r
+adding (SourceAt r period) = AddSource r period
+
+-- the ports with one more, at the end of its list
+abbrev pub with_port : PortLists → Port → PortLists
+with_port ports (DrainAt r) = record ports { drains = ports.drains ++ r ∷ [] }
+with_port ports (SourceAt r period) = record ports { sources = ports.sources ++ record { area = r; period = period } ∷ [] }
+
+-- whether there are as many ports of its kind as there may be
+abbrev pub has_all : PortLists → Port → Bool
+has_all ports (DrainAt r) = nat_le 16 (length ports.drains)
+has_all ports (SourceAt r period) = nat_le 16 (length ports.sources)
+
+-- whether its period is one that a source may have
+abbrev pub has_period : Port → Bool
+has_period (DrainAt r) = true
+has_period (SourceAt r period) = is_period period
+
+-- What the type of the ports keeps.
+pub record IsPortSet (ports : PortLists) : Type 0 where
+  pub few_drains : length ports.drains ≤ 16
+  pub few_sources : length ports.sources ≤ 16
+  pub periods : All (λ s. is_period s.period ≡ true) ports.sources
+
+-- Each port is inside a lattice of the size.
+pub record LieWithin (size : Extent) (ports : PortLists) : Type 0 where
+  pub drains : All (λ r. lies_within size r ≡ true) ports.drains
+  pub sources : All (λ s. lies_within size s.area ≡ true) ports.sources
+
+-- the rectangles of the sources that are due
+abbrev pub due_areas : ℤ → List Source → List Rectangle
+due_areas tick sources = map (λ s. s.area) (filter (is_due tick) sources)
+
+-- the cells after the ports have acted at the tick
+abbrev pub ported_by : PortLists → ℤ → Cells → Cells
+ported_by ports tick cells =
+    ported (record { tick = tick; particles = cells; walls = cells; obstacles = cells; drains = ports.drains; sources = ports.sources })

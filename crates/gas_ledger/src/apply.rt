@@ -1,0 +1,120 @@
+//! The port action.
+
+ghost use Rattle.std.specs.Prelude.{◌≡◌, true, ℕ, ◌<◌, ◌≤◌, ◌/◌, ◌+◌, ◌||◌, ◌&&◌, not};
+ghost use Rattle.bit_tile.specs.Tile.{HasCells};
+ghost use Rattle.bit_tile.specs.Tile as in_tile;
+ghost use Rattle.gas_terms.specs.Cells.{whole, without};
+ghost use Rattle.gas_ledger.specs.PortLists.{ported_by};
+ghost use Rattle.gas_ledger.specs.Moves.{moved_by};
+ghost use Rattle.gas_ledger.specs.Counts.{AreCounts};
+ghost use Rattle.gas_ledger.specs.Exchanges.{is_in_any, exchanged};
+
+use crate::change::Change;
+use crate::moved::Moved;
+use crate::ports::Ports;
+use bit_tile::Tile;
+use gas_plane::{Plane, part_of, sums};
+use gas_terms::{Rect, Tick};
+
+/// The drains empty their cells, then the sources that are due fill theirs. What is drained and filled again has
+/// stayed.
+pub fn apply_ports(plane: &mut Plane, ports: &Ports, tick: Tick) -> Moved
+    ensures cells { plane.new ≡ ported_by ports.now tick plane.old }
+    ensures moved { result ≡ moved_by tick plane.old plane.new }
+{
+    // no count is above a lattice's number of cells
+    let _ = plane.size();
+    let due = ports.due(tick);
+    exchange(plane, ports.drains(), due.as_slice()).moved(tick)
+}
+
+fn exchange(plane: &mut Plane, drains: &[Rect], sources: &[Rect]) -> Change
+    ensures cells { plane.new ≡ exchanged plane.old drains.now sources.now }
+    ensures gained { AreCounts result.gained (without plane.new plane.old) (whole plane.old) }
+    ensures lost { AreCounts result.lost (without plane.old plane.new) (whole plane.old) }
+{
+    let across = plane.size().width() as u32 / 64;
+    let end = plane.size().tiles();
+    let mut gained = [0; 4];
+    let mut lost = [0; 4];
+    if drains.is_empty() && sources.is_empty() {
+        return Change { gained, lost };
+    }
+    let met = tiles_met(drains, sources);
+    for i in 0..end {
+        if !met.get(i % across, i / across) {
+            continue;
+        }
+        let old = *plane.tile(i);
+        let new = exchanged_tile(old, drains, sources, i % across * 64, i / across * 64);
+        let more = sums(gained, only_in(new, &old).count_by_parity());
+        let less = sums(lost, only_in(old, &new).count_by_parity());
+        plane.set_tile(i, new);
+        gained = more;
+        lost = less;
+    }
+    Change { gained, lost }
+}
+
+// which tiles have a cell of some rectangle: a cell here stands for a tile
+fn tiles_met(drains: &[Rect], sources: &[Rect]) -> Tile
+    ensures drains { (x y : ℕ) → x < 4096 → y < 4096 → is_in_any drains.now x y ≡ true → in_tile.has result (x / 64) (y / 64) ≡ true }
+    ensures sources { (x y : ℕ) → x < 4096 → y < 4096 → is_in_any sources.now x y ≡ true → in_tile.has result (x / 64) (y / 64) ≡ true }
+{
+    let mut met = tiles_of(drains);
+    met.join(&tiles_of(sources));
+    met
+}
+
+fn tiles_of(areas: &[Rect]) -> Tile
+    ensures { (x y : ℕ) → x < 4096 → y < 4096 → is_in_any areas.now x y ≡ true → in_tile.has result (x / 64) (y / 64) ≡ true }
+{
+    let mut met = Tile::empty();
+    for area in areas {
+        let (x, w) = tiles_along(area.x(), area.w());
+        let (y, h) = tiles_along(area.y(), area.h());
+        met.join(&Tile::rect(x, y, w, h));
+    }
+    met
+}
+
+// of the first 64 tiles along an axis, the first that has one of the `len` places from `start` on, and how many have
+fn tiles_along(start: u16, len: u16) -> (u32, u32)
+    ensures within { result.0 + result.1 ≤ 64 }
+    ensures met { (k : ℕ) → k < 4096 → start ≤ k → k < start + len → (result.0 ≤ k / 64) × (k / 64 < result.0 + result.1) }
+{
+    let end = (start as u32 + len as u32).div_ceil(64).min(64);
+    let first = (start as u32 / 64).min(end);
+    (first, end - first)
+}
+
+fn exchanged_tile(old: Tile, drains: &[Rect], sources: &[Rect], left: u32, top: u32) -> Tile
+    ensures { HasCells result (λ x y. (in_tile.has old x y && not (is_in_any drains.now (left + x) (top + y))) || is_in_any sources.now (left + x) (top + y)) }
+{
+    let mut new = old;
+    new.cut(&parts_of(drains, left, top));
+    new.join(&parts_of(sources, left, top));
+    new
+}
+
+// the cells that one tile has and another lacks
+fn only_in(tile: Tile, other: &Tile) -> Tile
+    ensures { HasCells result (λ x y. in_tile.has tile x y && not (in_tile.has other.now x y)) }
+{
+    let mut only = tile;
+    only.cut(other);
+    only
+}
+
+// the cells of some rectangle among the 64 by 64 from the place (left, top) on
+fn parts_of(areas: &[Rect], left: u32, top: u32) -> Tile
+    ensures { HasCells result (λ x y. is_in_any areas.now (left + x) (top + y)) }
+{
+    let mut parts = Tile::empty();
+    for area in areas {
+        if let Some(part) = part_of(*area, left, top) {
+            parts.join(&part);
+        }
+    }
+    parts
+}

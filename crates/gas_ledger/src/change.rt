@@ -1,0 +1,62 @@
+//! How many cells a change brings in and takes out.
+
+ghost use Rattle.std.specs.Prelude.{◌≡◌, ◌<◌, ◌*◌, length};
+ghost use Rattle.gas_terms.specs.Cells.{without};
+ghost use Rattle.gas_terms.specs.Rows.{row_has, row_replaced};
+ghost use Rattle.gas_ledger.specs.Counts.{AreCounts, AreSmall, moved_by_counts};
+ghost use Rattle.gas_ledger.specs.Exchanges.{row_of};
+
+use crate::moved::Moved;
+use crate::sums::sums_by_counts;
+use gas_plane::Plane;
+use gas_terms::Tick;
+
+/// How many cells came in and went out, in each class of columns and rows: even column and even row, odd and even,
+/// even and odd, odd and odd.
+#[derive(Clone, Copy)]
+pub struct Change {
+    pub gained: [u64; 4],
+    pub lost: [u64; 4],
+}
+
+impl Change {
+    /// The sums of those particles at the tick.
+    pub fn moved(self, tick: Tick) -> Moved
+        requires gained { AreSmall self.gained }
+        requires lost { AreSmall self.lost }
+        ensures { result ≡ moved_by_counts tick self }
+    {
+        Moved {
+            injected: sums_by_counts(self.gained, tick),
+            drained: sums_by_counts(self.lost, tick),
+        }
+    }
+}
+
+/// What comes in and goes out when the bytes' cells replace row y.
+pub fn row_change(plane: &Plane, y: u32, bytes: &[u8]) -> Change
+    requires y { y < plane.now.height }
+    requires bytes { 8 * length bytes.now ≡ plane.now.width }
+    ensures gained { AreCounts result.gained (without (row_replaced plane.now y bytes.now) plane.now) (row_of plane.now y) }
+    ensures lost { AreCounts result.lost (without plane.now (row_replaced plane.now y bytes.now)) (row_of plane.now y) }
+{
+    let mut gained = [0; 4];
+    let mut lost = [0; 4];
+    let width = plane.size().width() as u32;
+    for x in 0..width {
+        let was = plane.get(x, y);
+        let is = row_holds(bytes, x);
+        let class = (y % 2 * 2 + x % 2) as usize;
+        gained[class] += (is && !was) as u64;
+        lost[class] += (was && !is) as u64;
+    }
+    Change { gained, lost }
+}
+
+// whether the bytes have cell x of their row
+fn row_holds(bytes: &[u8], x: u32) -> bool
+    requires { x < 8 * length bytes.now }
+    ensures { result ≡ row_has bytes.now x }
+{
+    (bytes[(x / 8) as usize] >> (7 - x % 8)) & 1 == 1
+}

@@ -1,0 +1,262 @@
+//! The gas.
+
+ghost use Rattle.std.specs.Prelude.{◌≡◌, ◌↔◌, true, pos, ◌+ℤ◌, ◌-ℤ◌, IfOk, IsErr, OnOk, OnErr};
+ghost use Rattle.gas_terms.specs.Cells.{extent, lies_within, HasSidesOf};
+ghost use Rattle.gas_terms.specs.Gas.{act};
+ghost use Rattle.gas_terms.specs.Commands.{enact, fits, is_tick};
+ghost use Rattle.gas_terms.specs.declared.command.Command.TheVariants.{Put, Erase, Row, Wall, Block, Unwall, Unport};
+ghost use Rattle.gas_ledger.specs.PortLists.{adding, has_all};
+ghost use Rattle.gas_ledger.specs.Gases.{FitTogether, IsSoundGas, gas_of, ports_of, empty_gas, ahead_with, behind_with};
+ghost use Rattle.gas_ledger.specs.Moves.{moved_by};
+
+use crate::apply::apply_ports;
+use crate::change::row_change;
+use crate::moved::Moved;
+use crate::port::{Full, Port};
+use crate::ports::Ports;
+use crate::sums::probe;
+use gas_plane::Plane;
+use gas_terms::{NoMemory, Rect, Size, Sums, Tick};
+use std::alloc::Global;
+use std::marker::Model;
+use std::mem;
+
+const NOTHING: Sums = Sums {
+    count: 0,
+    px: 0,
+    py: 0,
+};
+
+/// A gas at a tick, with its walls, its obstacles and its ports.
+#[derive(Drop)]
+pub struct Gas {
+    tick: Tick,
+    particles: Plane,
+    walls: Plane,
+    obstacles: Plane,
+    ports: Ports,
+}
+
+impl Model for Gas {
+    ghost use Rattle.gas_terms.specs.Gas.{Gas as GasTerm};
+
+    ghost Value = { GasTerm };
+
+    ghost use Rattle.gas_ledger.specs.Gases.{gas_of, FitTogether};
+
+    ghost view = { λ g. gas_of g.tick g.particles g.walls g.obstacles g.ports };
+
+    ghost invariant = { λ g. FitTogether g.particles g.walls g.obstacles g.ports };
+}
+
+impl Gas {
+    /// A gas of planes of one size, with ports inside it.
+    pub fn new(tick: Tick, particles: Plane, walls: Plane, obstacles: Plane, ports: Ports) -> Gas
+        requires { FitTogether particles walls obstacles ports }
+        ensures { result ≡ gas_of tick particles walls obstacles ports }
+    {
+        Gas {
+            tick,
+            particles,
+            walls,
+            obstacles,
+            ports,
+        }
+    }
+
+    /// No particles, walls, obstacles and ports, at tick 0, or an error where memory was refused.
+    pub fn empty(alloc: Global, size: Size) -> Result<Gas, NoMemory>
+        ensures { IfOk result (λ gas. gas ≡ empty_gas size) }
+    {
+        let particles = Plane::empty(alloc, size)?;
+        let walls = Plane::empty(alloc, size)?;
+        let obstacles = Plane::empty(alloc, size)?;
+        Ok(Gas {
+            tick: Tick::new(0).unwrap(),
+            particles,
+            walls,
+            obstacles,
+            ports: Ports::none(),
+        })
+    }
+
+    /// The same gas again, or an error where memory was refused.
+    pub fn copy(&self, alloc: Global) -> Result<Gas, NoMemory>
+        ensures { IfOk result (λ gas. gas ≡ self.now) }
+    {
+        let particles = self.particles.copy(alloc)?;
+        let walls = self.walls.copy(alloc)?;
+        let obstacles = self.obstacles.copy(alloc)?;
+        Ok(Gas {
+            tick: self.tick,
+            particles,
+            walls,
+            obstacles,
+            ports: self.ports.copy(),
+        })
+    }
+
+    /// The tick that it stands at.
+    pub fn tick(&self) -> Tick
+        ensures { result ≡ self.now.tick }
+    {
+        self.tick
+    }
+
+    /// How wide and high its lattice is.
+    pub fn size(&self) -> Size
+        ensures extent { result ≡ extent self.now.particles }
+        ensures sound { IsSoundGas self.now }
+    {
+        // what the types of the parts keep
+        let _ = self.tick.get();
+        let _ = self.walls.size();
+        let _ = self.obstacles.size();
+        let _ = self.ports.drains();
+        self.particles.size()
+    }
+
+    /// The cells with a particle.
+    pub fn particles(&self) -> &Plane
+        ensures { result.now ≡ self.now.particles }
+    {
+        &self.particles
+    }
+
+    /// The cells with a wall.
+    pub fn walls(&self) -> &Plane
+        ensures { result.now ≡ self.now.walls }
+    {
+        &self.walls
+    }
+
+    /// The cells with an obstacle.
+    pub fn obstacles(&self) -> &Plane
+        ensures { result.now ≡ self.now.obstacles }
+    {
+        &self.obstacles
+    }
+
+    /// Its drains and sources.
+    pub fn ports(&self) -> &Ports
+        ensures { result.now ≡ ports_of self.now }
+    {
+        &self.ports
+    }
+
+    /// Puts a particle into each cell of the rectangle that has none, and says what came in.
+    pub fn fill_particles(&mut self, area: Rect) -> Moved
+        requires { lies_within (extent self.old.particles) area ≡ true }
+        ensures gas { self.new ≡ enact self.old (Put area) }
+        ensures moved { result ≡ moved_by self.old.tick self.old.particles self.new.particles }
+    {
+        // its sides are a lattice's
+        let _ = self.particles.size();
+        let before = probe(&self.particles, area, self.tick);
+        self.particles.fill(area);
+        let after = probe(&self.particles, area, self.tick);
+        Moved {
+            injected: after.minus(before),
+            drained: NOTHING,
+        }
+    }
+
+    /// Takes the particles of the rectangle out, and says what went.
+    pub fn clear_particles(&mut self, area: Rect) -> Moved
+        requires { lies_within (extent self.old.particles) area ≡ true }
+        ensures gas { self.new ≡ enact self.old (Erase area) }
+        ensures moved { result ≡ moved_by self.old.tick self.old.particles self.new.particles }
+    {
+        // its sides are a lattice's
+        let _ = self.particles.size();
+        let before = probe(&self.particles, area, self.tick);
+        self.particles.clear(area);
+        Moved {
+            injected: NOTHING,
+            drained: before,
+        }
+    }
+
+    /// Replaces the particles of row y by those of the bytes, eight cells in each from the highest bit on, and
+    /// says what came in and what went.
+    pub fn replace_row(&mut self, y: u16, bytes: &[u8]) -> Moved
+        requires { fits (extent self.old.particles) (Row y bytes.now) ≡ true }
+        ensures gas { self.new ≡ enact self.old (Row y bytes.now) }
+        ensures moved { result ≡ moved_by self.old.tick self.old.particles self.new.particles }
+    {
+        // its sides are a lattice's
+        let _ = self.particles.size();
+        let change = row_change(&self.particles, y as u32, bytes);
+        self.particles.set_row(y as u32, bytes);
+        change.moved(self.tick)
+    }
+
+    /// Makes each cell of the rectangle a wall.
+    pub fn add_walls(&mut self, area: Rect)
+        ensures { self.new ≡ enact self.old (Wall area) }
+    {
+        self.walls.fill(area);
+    }
+
+    /// Makes each cell of the rectangle an obstacle.
+    pub fn add_obstacles(&mut self, area: Rect)
+        ensures { self.new ≡ enact self.old (Block area) }
+    {
+        self.obstacles.fill(area);
+    }
+
+    /// Leaves no wall and no obstacle in the rectangle.
+    pub fn remove_walls_and_obstacles(&mut self, area: Rect)
+        ensures { self.new ≡ enact self.old (Unwall area) }
+    {
+        self.walls.clear(area);
+        self.obstacles.clear(area);
+    }
+
+    /// Adds a port at the end of its list, unless there are 16 of the kind. It does not act by being added.
+    pub fn add_port(&mut self, port: Port) -> Result<(), Full>
+        requires { fits (extent self.old.particles) (adding port) ≡ true }
+        ensures full { IsErr result ↔ (has_all (ports_of self.old) port ≡ true) }
+        ensures ok { OnOk result (self.new ≡ enact self.old (adding port)) }
+        ensures err { OnErr result (self.new ≡ self.old) }
+    {
+        self.ports.add(port)
+    }
+
+    /// Removes all drains and sources.
+    pub fn remove_ports(&mut self)
+        ensures { self.new ≡ enact self.old Unport }
+    {
+        self.ports.clear();
+    }
+
+    /// Goes on to the next tick with the particles of `next`, which has the old ones then.
+    pub fn advance(&mut self, next: &mut Plane)
+        requires tick { is_tick (self.old.tick +ℤ pos 1) ≡ true }
+        requires sides { HasSidesOf next.old self.old.particles }
+        ensures gas { self.new ≡ ahead_with self.old next.old }
+        ensures next { next.new ≡ self.old.particles }
+    {
+        self.tick = self.tick.ahead(1).unwrap();
+        mem::swap(&mut self.particles, next);
+    }
+
+    /// Goes back to the tick before with the particles of `last`, which has the old ones then.
+    pub fn retreat(&mut self, last: &mut Plane)
+        requires tick { is_tick (self.old.tick -ℤ pos 1) ≡ true }
+        requires sides { HasSidesOf last.old self.old.particles }
+        ensures gas { self.new ≡ behind_with self.old last.old }
+        ensures last { last.new ≡ self.old.particles }
+    {
+        self.tick = self.tick.behind(1).unwrap();
+        mem::swap(&mut self.particles, last);
+    }
+
+    /// The ports act at the present tick, and it says what came in and what went.
+    pub fn act(&mut self) -> Moved
+        ensures gas { self.new ≡ act self.old }
+        ensures moved { result ≡ moved_by self.old.tick self.old.particles self.new.particles }
+    {
+        apply_ports(&mut self.particles, &self.ports, self.tick)
+    }
+}

@@ -1,0 +1,23 @@
+//! The gas with its walls, obstacles and ports, and the sums of its particles.
+#![tactic(auto)]
+
+pub mod apply;
+mod change;
+mod few;
+pub mod gas;
+pub mod moved;
+pub mod port;
+pub mod ports;
+pub mod sums;
+
+/// The accounts of a gas, and the sums that they are made of.
+pub use apply::apply_ports;
+pub use gas::Gas;
+pub use gas_terms::{Ledger, Sums};
+pub use moved::Moved;
+pub use port::{Full, Port, Source};
+pub use ports::Ports;
+pub use sums::{probe, tally};
+
+#[cfg(test)]
+mod tests;

@@ -1,0 +1,42 @@
+//! Ports: where particles go out and where they come in.
+
+use gas_terms::Rect;
+use std::error::Error;
+use std::fmt;
+use std::marker::Model;
+
+/// A port that may be added. A source has its period in ticks.
+#[derive(Clone, Copy, Debug, PartialEq, Eq)]
+pub enum Port {
+    Drain(Rect),
+    Source(Rect, u16),
+}
+
+/// Where a source puts particles, and every how many ticks.
+#[derive(Clone, Copy, Debug, PartialEq, Eq)]
+pub struct Source {
+    pub area: Rect,
+    pub period: u16,
+}
+
+impl Model for Source {
+    ghost use Rattle.gas_terms.specs.Gas.{Source as SourceTerm};
+
+    ghost Value = { SourceTerm };
+
+    ghost view = { λ s. record { area = s.area; period = s.period } };
+
+    ghost inverse = { λ s. record { area = s.area; period = s.period } };
+}
+
+/// There are 16 ports of the kind already.
+#[derive(Clone, Copy, Debug, PartialEq, Eq)]
+pub struct Full;
+
+impl fmt::Display for Full {
+    fn fmt<W: fmt::Write>(&self, f: &mut fmt::Formatter<W>) -> fmt::Result {
+        write!(f, "there are 16 ports of that kind already")
+    }
+}
+
+impl Error for Full {}

@@ -1,0 +1,132 @@
+//! The ports of a gas.
+
+ghost use Rattle.std.specs.Prelude.{◌≡◌, ◌<◌, ◌%◌, ◌==◌, ◌||◌, ◌↔◌, nat_lt, nat_abs, true, false, length, IsErr, OnOk, OnErr};
+ghost use Rattle.gas_ledger.specs.PortLists.{no_ports, with_port, has_all, has_period, due_areas, IsPortSet};
+
+use crate::few::Few;
+use crate::port::{Full, Port, Source};
+use gas_terms::{Rect, Size, Tick};
+use std::marker::Model;
+
+/// At most 16 drains and at most 16 sources, in the order in which they were added.
+#[derive(Drop)]
+pub struct Ports {
+    drains: Few<Rect>,
+    sources: Few<Source>,
+}
+
+impl Model for Ports {
+    ghost use Rattle.gas_ledger.specs.PortLists.{PortLists, IsPortSet};
+
+    ghost Value = { PortLists };
+
+    ghost view = { λ p. record { drains = p.drains; sources = p.sources } };
+
+    ghost invariant = { λ p. IsPortSet (record { drains = p.drains; sources = p.sources }) };
+}
+
+// a rectangle that stands for none
+fn any_area() -> Rect {
+    let size = Size::new(64, 64).unwrap();
+    Rect::within(size, 0, 0, 1, 1).unwrap()
+}
+
+impl Ports {
+    /// No drains and no sources.
+    pub fn none() -> Ports
+        ensures { result ≡ no_ports }
+    {
+        let area = any_area();
+        Ports {
+            drains: Few::none(area),
+            sources: Few::none(Source { area, period: 1 }),
+        }
+    }
+
+    /// The same ports again.
+    pub fn copy(&self) -> Ports
+        ensures { result ≡ self.now }
+    {
+        Ports {
+            drains: self.drains.copy(),
+            sources: self.sources.copy(),
+        }
+    }
+
+    /// Adds a port at the end of its list, unless there are 16 of the kind already.
+    pub fn add(&mut self, port: Port) -> Result<(), Full>
+        requires period { has_period port ≡ true }
+        ensures full { IsErr result ↔ (has_all self.old port ≡ true) }
+        ensures ok { OnOk result (self.new ≡ with_port self.old port) }
+        ensures err { OnErr result (self.new ≡ self.old) }
+    {
+        match port {
+            Port::Drain(area) => {
+                if self.drains.len() >= 16 {
+                    return Err(Full);
+                }
+                self.drains.push(area);
+            }
+            Port::Source(area, period) => {
+                if self.sources.len() >= 16 {
+                    return Err(Full);
+                }
+                self.sources.push(Source { area, period });
+            }
+        }
+        Ok(())
+    }
+
+    /// Removes all of them.
+    pub fn clear(&mut self)
+        ensures { self.new ≡ no_ports }
+    {
+        self.drains.clear();
+        self.sources.clear();
+    }
+
+    /// Whether there is a port.
+    pub fn any(&self) -> bool
+        ensures any { result ≡ (nat_lt 0 (length self.now.drains) || nat_lt 0 (length self.now.sources)) }
+        ensures none { result ≡ false → self.now ≡ no_ports }
+    {
+        self.drains.len() > 0 || self.sources.len() > 0
+    }
+
+    /// The rectangles of the drains, the oldest first.
+    pub fn drains(&self) -> &[Rect]
+        ensures drains { result.now ≡ self.now.drains }
+        ensures kept { IsPortSet self.now }
+    {
+        self.drains.as_slice()
+    }
+
+    /// The sources, the oldest first.
+    pub fn sources(&self) -> &[Source]
+        ensures sources { result.now ≡ self.now.sources }
+        ensures kept { IsPortSet self.now }
+    {
+        self.sources.as_slice()
+    }
+
+    /// The rectangles of the sources that are due at the tick.
+    pub(crate) fn due(&self, tick: Tick) -> Few<Rect>
+        ensures { result ≡ due_areas tick self.now.sources }
+    {
+        let mut due = Few::none(any_area());
+        for source in self.sources() {
+            if is_due(tick, source.period) {
+                due.push(source.area);
+            }
+        }
+        due
+    }
+}
+
+// whether the period divides the tick
+fn is_due(tick: Tick, period: u16) -> bool
+    requires { 0 < period }
+    ensures { result ≡ (nat_abs tick % period == 0) }
+{
+    tick.get().unsigned_abs() % period as u64 == 0
+}

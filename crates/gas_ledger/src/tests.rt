@@ -1,0 +1,354 @@
+//! Worked examples, with values that were found by hand.
+
+ghost use Rattle.std.specs.Prelude.{◌≡◌, true};
+ghost use Rattle.gas_terms.specs.Cells.{lies_within, extent};
+
+use super::*;
+use gas_plane::Plane;
+use gas_terms::{Rect, Size, Tick};
+use std::process::Abort;
+
+fn tick(rt: &impl Abort, number: i64) -> Tick {
+    Tick::new(number).expect(rt, "a tick")
+}
+
+fn sums(count: i64, px: i64, py: i64) -> Sums {
+    Sums { count, px, py }
+}
+
+// A gas of four tiles without cells and ports.
+fn gas_at(rt: &(impl Abort + AllocGlobal), number: i64) -> Gas {
+    let size = Size::new(128, 128).expect(rt, "a size");
+    let particles = Plane::empty(rt.alloc(), size).expect(rt, "memory");
+    let walls = Plane::empty(rt.alloc(), size).expect(rt, "memory");
+    let obstacles = Plane::empty(rt.alloc(), size).expect(rt, "memory");
+    Gas::new(tick(rt, number), particles, walls, obstacles, Ports::none())
+}
+
+fn area(rt: &impl Abort, gas: &Gas, x: u32, y: u32, w: u32, h: u32) -> Rect
+    ensures { lies_within (extent gas.now.particles) result ≡ true }
+{
+    let area = Rect::within(gas.size(), x, y, w, h).expect(rt, "a rectangle");
+    assert!(rt; area.fits(gas.size()));
+    area
+}
+
+fn put(rt: &impl Abort, gas: &mut Gas, x: u32, y: u32, w: u32, h: u32) -> Moved {
+    let area = area(rt, gas, x, y, w, h);
+    gas.fill_particles(area)
+}
+
+fn erase(rt: &impl Abort, gas: &mut Gas, x: u32, y: u32, w: u32, h: u32) -> Moved {
+    let area = area(rt, gas, x, y, w, h);
+    gas.clear_particles(area)
+}
+
+fn drain(rt: &impl Abort, gas: &mut Gas, x: u32, y: u32, w: u32, h: u32) {
+    let area = area(rt, gas, x, y, w, h);
+    assert!(rt; gas.add_port(Port::Drain(area)).is_ok());
+}
+
+fn source(rt: &impl Abort, gas: &mut Gas, x: u32, y: u32, w: u32, h: u32, period: u16) {
+    let area = area(rt, gas, x, y, w, h);
+    assert!(rt; 1 <= period);
+    assert!(rt; gas.add_port(Port::Source(area, period)).is_ok());
+}
+
+fn holds(plane: &Plane, x: u32, y: u32) -> bool {
+    let size = plane.size();
+    x < size.width() as u32 && y < size.height() as u32 && plane.get(x, y)
+}
+
+#[test]
+fn seventeen_drains(rt: HostRuntime) {
+    let gas = gas_at(&rt, 0);
+    let area = area(&rt, &gas, 3, 4, 5, 6);
+    let mut ports = Ports::none();
+    assert!(rt; !ports.any());
+    for k in 0..16 {
+        assert_eq!(rt; ports.add(Port::Drain(area)), Ok(()), "drain {k}");
+    }
+    assert_eq!(rt; ports.add(Port::Drain(area)), Err(Full));
+    assert_eq!(rt; ports.add(Port::Source(area, 1)), Ok(()));
+    assert!(rt; ports.any());
+    assert_eq!(rt; ports.drains().len(), 16);
+    assert_eq!(rt; ports.sources().len(), 1);
+    ports.clear();
+    assert!(rt; !ports.any());
+    assert_eq!(rt; ports.add(Port::Drain(area)), Ok(()));
+}
+
+#[test]
+fn seventeen_sources(rt: HostRuntime) {
+    let mut gas = gas_at(&rt, 0);
+    for k in 1..17 {
+        source(&rt, &mut gas, k, 0, 1, 1, 1);
+    }
+    let area = area(&rt, &gas, 0, 0, 1, 1);
+    assert_eq!(rt; gas.add_port(Port::Source(area, 1)), Err(Full));
+    assert_eq!(rt; gas.ports().sources().len(), 16);
+    let first = gas.ports().sources().first().copied();
+    assert_eq!(rt; first.map(|s| (s.area.x(), s.period)), Some((1, 1)));
+    drain(&rt, &mut gas, 0, 0, 1, 1);
+    assert_eq!(rt; gas.ports().drains().len(), 1);
+    let moved = gas.act();
+    // columns 1 to 16 of row 0
+    assert_eq!(rt; moved.injected, sums(16, 0, 16));
+    gas.remove_ports();
+    assert!(rt; !gas.ports().any());
+    assert_eq!(rt;
+        format!(in rt.alloc(); "{Full}")
+            .expect(&rt, "memory")
+            .as_str(),
+        "there are 16 ports of that kind already"
+    );
+}
+
+#[test]
+fn drained_particle_is_booked(rt: HostRuntime) {
+    let mut gas = gas_at(&rt, 1);
+    drain(&rt, &mut gas, 1, 1, 1, 1);
+    assert_eq!(rt; put(&rt, &mut gas, 1, 1, 2, 1).injected, sums(2, 0, 2));
+    let moved = gas.act();
+    assert_eq!(rt; moved.injected, sums(0, 0, 0));
+    assert_eq!(rt; moved.drained, sums(1, 1, 1));
+    assert!(rt; !holds(gas.particles(), 1, 1) && holds(gas.particles(), 2, 1));
+}
+
+#[test]
+fn source_on_its_period(rt: HostRuntime) {
+    for (number, period, is_due) in [
+        (0, 2, true),
+        (0, 65535, true),
+        (1, 1, true),
+        (1, 2, false),
+        (2, 2, true),
+        (3, 2, false),
+        (-1, 2, false),
+        (-2, 2, true),
+        (-6, 3, true),
+        (-7, 3, false),
+        (1_099_511_627_776, 2, true),
+    ] {
+        let mut gas = gas_at(&rt, number);
+        source(&rt, &mut gas, 10, 10, 1, 1, period);
+        let moved = gas.act();
+        assert_eq!(rt;
+            holds(gas.particles(), 10, 10),
+            is_due,
+            "at {number} by {period}"
+        );
+        assert_eq!(rt;
+            moved.injected.count,
+            if is_due { 1 } else { 0 },
+            "at {number} by {period}"
+        );
+        assert_eq!(rt; moved.drained, sums(0, 0, 0));
+    }
+}
+
+#[test]
+fn source_refills_a_drain(rt: HostRuntime) {
+    let mut gas = gas_at(&rt, 3);
+    source(&rt, &mut gas, 5, 6, 1, 1, 1);
+    drain(&rt, &mut gas, 5, 6, 1, 1);
+    // an empty cell is filled
+    let moved = gas.act();
+    assert_eq!(rt;
+        (moved.injected, moved.drained),
+        (sums(1, 1, -1), sums(0, 0, 0))
+    );
+    assert!(rt; holds(gas.particles(), 5, 6));
+}
+
+#[test]
+fn drained_and_refilled_cancels(rt: HostRuntime) {
+    let mut gas = gas_at(&rt, 3);
+    let _ = put(&rt, &mut gas, 5, 6, 1, 1);
+    source(&rt, &mut gas, 5, 6, 1, 1, 1);
+    drain(&rt, &mut gas, 5, 6, 1, 1);
+    let moved = gas.act();
+    assert_eq!(rt;
+        (moved.injected, moved.drained),
+        (sums(0, 0, 0), sums(0, 0, 0))
+    );
+    assert!(rt; holds(gas.particles(), 5, 6));
+}
+
+#[test]
+fn ports_across_tiles(rt: HostRuntime) {
+    let mut gas = gas_at(&rt, 0);
+    drain(&rt, &mut gas, 63, 10, 2, 1);
+    drain(&rt, &mut gas, 100, 0, 1, 128);
+    source(&rt, &mut gas, 64, 10, 2, 1, 7);
+    source(&rt, &mut gas, 0, 127, 1, 1, 5);
+    let _ = put(&rt, &mut gas, 63, 10, 2, 1);
+    let _ = put(&rt, &mut gas, 99, 127, 2, 1);
+    let moved = gas.act();
+    // (63, 10) and (100, 127) are gone, (64, 10) has stayed, (65, 10) and (0, 127) are new
+    assert_eq!(rt; moved.drained, sums(2, 0, 0));
+    assert_eq!(rt; moved.injected, sums(2, 0, 0));
+    for (x, y, held) in [
+        (63, 10, false),
+        (64, 10, true),
+        (65, 10, true),
+        (66, 10, false),
+        (0, 127, true),
+        (99, 127, true),
+        (100, 127, false),
+    ] {
+        assert_eq!(rt; holds(gas.particles(), x, y), held, "at {x} {y}");
+    }
+}
+
+#[test]
+fn probe_and_tally_by_parities(rt: HostRuntime) {
+    let mut gas = gas_at(&rt, 0);
+    let _ = put(&rt, &mut gas, 0, 0, 2, 1);
+    let _ = put(&rt, &mut gas, 0, 1, 1, 1);
+    let _ = put(&rt, &mut gas, 65, 67, 1, 1);
+    // (0, 0), (1, 0), (0, 1) and (65, 67)
+    for (number, all, row, far) in [
+        (0, sums(4, 0, 0), sums(2, 0, 2), sums(1, -1, -1)),
+        (1, sums(4, 0, 0), sums(2, 0, -2), sums(1, 1, 1)),
+        (-1, sums(4, 0, 0), sums(2, 0, -2), sums(1, 1, 1)),
+        (-2, sums(4, 0, 0), sums(2, 0, 2), sums(1, -1, -1)),
+    ] {
+        let at = tick(&rt, number);
+        assert_eq!(rt; tally(gas.particles(), at), all, "all at {number}");
+        let area_of_row = area(&rt, &gas, 0, 0, 128, 1);
+        assert_eq!(rt;
+            probe(gas.particles(), area_of_row, at),
+            row,
+            "row at {number}"
+        );
+        let area_of_far = area(&rt, &gas, 64, 64, 64, 64);
+        assert_eq!(rt;
+            probe(gas.particles(), area_of_far, at),
+            far,
+            "far at {number}"
+        );
+    }
+    let _ = erase(&rt, &mut gas, 65, 67, 1, 1);
+    assert_eq!(rt; tally(gas.particles(), tick(&rt, 0)), sums(3, 1, 1));
+    assert_eq!(rt; tally(gas.particles(), tick(&rt, -7)), sums(3, -1, -1));
+}
+
+#[test]
+fn full_cells_are_not_injected(rt: HostRuntime) {
+    let mut gas = gas_at(&rt, 0);
+    let first = put(&rt, &mut gas, 0, 0, 1, 1);
+    assert_eq!(rt;
+        (first.injected, first.drained),
+        (sums(1, 1, 1), sums(0, 0, 0))
+    );
+    let again = put(&rt, &mut gas, 0, 0, 1, 1);
+    assert_eq!(rt;
+        (again.injected, again.drained),
+        (sums(0, 0, 0), sums(0, 0, 0))
+    );
+    let wider = put(&rt, &mut gas, 0, 0, 2, 1);
+    assert_eq!(rt; wider.injected, sums(1, -1, 1));
+    let out = erase(&rt, &mut gas, 0, 0, 2, 2);
+    assert_eq!(rt; (out.injected, out.drained), (sums(0, 0, 0), sums(2, 0, 2)));
+}
+
+#[test]
+fn rows_are_replaced(rt: HostRuntime) {
+    let mut gas = gas_at(&rt, 0);
+    let mut row = [0; 16];
+    row[0] = 0x80;
+    row[7] = 0x01;
+    assert!(rt; gas.size().width() == 128 && gas.size().height() == 128);
+    let first = gas.replace_row(0, &row);
+    // (0, 0) and (63, 0)
+    assert_eq!(rt;
+        (first.injected, first.drained),
+        (sums(2, 0, 2), sums(0, 0, 0))
+    );
+    row[0] = 0xc0;
+    row[7] = 0x00;
+    assert!(rt; gas.size().width() == 128 && gas.size().height() == 128);
+    let second = gas.replace_row(0, &row);
+    // (1, 0) comes in and (63, 0) goes out
+    assert_eq!(rt;
+        (second.injected, second.drained),
+        (sums(1, -1, 1), sums(1, -1, 1))
+    );
+    assert!(rt;
+        holds(gas.particles(), 0, 0)
+            && holds(gas.particles(), 1, 0)
+            && !holds(gas.particles(), 63, 0)
+    );
+}
+
+#[test]
+fn wall_removed_again(rt: HostRuntime) {
+    let mut gas = gas_at(&rt, 0);
+    let both = area(&rt, &gas, 1, 1, 3, 1);
+    let part = area(&rt, &gas, 1, 1, 2, 2);
+    gas.add_walls(both);
+    gas.add_obstacles(both);
+    assert!(rt;
+        holds(gas.walls(), 1, 1) && holds(gas.obstacles(), 3, 1) && !holds(gas.walls(), 1, 2)
+    );
+    gas.remove_walls_and_obstacles(part);
+    assert!(rt; !holds(gas.walls(), 1, 1) && !holds(gas.obstacles(), 2, 1));
+    assert!(rt; holds(gas.walls(), 3, 1) && holds(gas.obstacles(), 3, 1));
+}
+
+fn go_on(rt: &impl Abort, gas: &mut Gas, next: &mut Plane) {
+    assert!(rt; gas.tick().ahead(1).is_some());
+    assert!(rt; gas.size() == next.size());
+    gas.advance(next);
+}
+
+fn go_back(rt: &impl Abort, gas: &mut Gas, last: &mut Plane) {
+    assert!(rt; gas.tick().behind(1).is_some());
+    assert!(rt; gas.size() == last.size());
+    gas.retreat(last);
+}
+
+#[test]
+fn ticks_take_the_next_particles(rt: HostRuntime) {
+    let mut gas = gas_at(&rt, -1);
+    let _ = put(&rt, &mut gas, 0, 0, 1, 1);
+    let mut other = gas_at(&rt, 0);
+    let _ = put(&rt, &mut other, 1, 1, 1, 1);
+    let mut next = other.particles().copy(rt.alloc()).expect(&rt, "memory");
+    go_on(&rt, &mut gas, &mut next);
+    assert_eq!(rt; gas.tick().get(), 0);
+    assert!(rt; holds(gas.particles(), 1, 1) && holds(&next, 0, 0) && !holds(&next, 1, 1));
+    go_back(&rt, &mut gas, &mut next);
+    assert_eq!(rt; gas.tick().get(), -1);
+    assert!(rt; holds(gas.particles(), 0, 0) && holds(&next, 1, 1));
+}
+
+// Passes too where any one of its allocations is refused.
+#[test]
+fn memory_is_refused(rt: HostRuntime) {
+    let size = Size::new(64, 128).expect(&rt, "a size");
+    let Ok(mut gas) = Gas::empty(rt.alloc(), size) else {
+        return;
+    };
+    let _ = put(&rt, &mut gas, 2, 3, 1, 1);
+    let wall = area(&rt, &gas, 4, 5, 1, 1);
+    gas.add_walls(wall);
+    let obstacle = area(&rt, &gas, 6, 70, 1, 1);
+    gas.add_obstacles(obstacle);
+    source(&rt, &mut gas, 8, 9, 1, 1, 10);
+    if let Ok(copy) = gas.copy(rt.alloc()) {
+        assert!(rt; copy.size() == size && copy.tick().get() == 0);
+        assert_eq!(rt; tally(copy.particles(), copy.tick()), sums(1, 1, -1));
+        assert!(rt;
+            holds(copy.particles(), 2, 3)
+                && holds(copy.walls(), 4, 5)
+                && holds(copy.obstacles(), 6, 70)
+        );
+        assert_eq!(rt; copy.ports().sources(), gas.ports().sources());
+    }
+    assert!(rt;
+        holds(gas.particles(), 2, 3) && holds(gas.walls(), 4, 5) && holds(gas.obstacles(), 6, 70)
+    );
+    assert_eq!(rt; gas.ports().sources().len(), 1);
+}

@@ -1,0 +1,9 @@
+pub mod Places
+pub mod Tilings
+pub mod Rings
+pub mod Sweeps
+pub mod RowBits
+pub mod RowSweeps
+pub mod PlaneCounts
+pub mod BareTiles
+pub mod Painting

@@ -1,0 +1,214 @@
+-- Cells are put in or taken out, tile by tile.
+use Rattle.std.proofs.Common.{◌≡◌, ℕ, ◌+◌, ◌*◌, ◌/◌, ◌%◌, ◌<◌, ◌≤◌, ◌==◌, ◌&&◌, ◌||◌, not, Bool, true, false, nat_lt, nat_le, if◌then◌else◌, refl, sym, ◌∙◌, ap, ap₂, arith, inl, inr}
+use Rattle.std.proofs.lemmas.Nat.{same_from_place, mul-add-lt}
+use Rattle.std.proofs.lemmas.Bool.{cases_eq, cases_lt, eq-eqb, ne_eqb}
+use Rattle.std.proofs.lemmas.Bool.Decides.{nat_tests}
+use Rattle.bit_tile.specs.Tile as tile
+use Rattle.bit_tile.specs.Tile.{HasCells}
+use Rattle.bit_tile.specs.declared.Tile.{Tile}
+use Rattle.gas_terms.specs.Cells.{Cells, Rectangle, has, extent, IsFull, is_inside, tile_count}
+use Rattle.gas_terms.proofs.Cells.{has-cells_where, full-cells_where, same_cells_where, same_cells}
+use Rattle.gas_plane.specs.Planes.{IsLattice, IsTileFrom, tile_of, with_tile, painted_where}
+use Rattle.gas_plane.proofs.Places.{wide, tile_below}
+use Rattle.gas_plane.proofs.Sweeps.{left_of, top_of, cell_across, cell_down}
+use Rattle.gas_plane.proofs.Tilings.{choose_true, choose_false}
+
+pub none_painted : (cells : Cells) (test : ℕ → ℕ → Bool) (held : Bool) → IsFull cells → ((x y : ℕ) → x < cells.width → y < cells.height → test x y ≡ false) → cells ≡ painted_where cells test held
+none_painted cells test held full none =
+    same_cells cells (painted_where cells test held) full (full-cells_where cells.width cells.height (λ x y. if test x y then held else has cells x y)) refl refl
+    (λ x y p q.
+    choose_false _ _ _ _ (none x y p q) refl
+    ∙ sym (has-cells_where cells.width cells.height (λ x y. if test x y then held else has cells x y) x y p q))
+
+pub same_painted : (cells : Cells) (test other : ℕ → ℕ → Bool) (held : Bool) → ((x y : ℕ) → x < cells.width → y < cells.height → test x y ≡ other x y) → painted_where cells test held ≡ painted_where cells other held
+same_painted cells test other held same =
+    same_cells_where cells.width cells.height (λ x y. if test x y then held else has cells x y) (λ x y. if other x y then held else has cells x y)
+    (λ x y p q. ap (λ b. if b then held else has cells x y) (same x y p q))
+
+two_choices : (a b held v : Bool) → (if b then held else (if a then held else v)) ≡ (if a || b then held else v)
+two_choices true true held v = refl
+two_choices true false held v = refl
+two_choices false b held v = refl
+
+pub painted_more : (cells now next : Cells) (test more all : ℕ → ℕ → Bool) (held : Bool) → now ≡ painted_where cells test held → next ≡ painted_where now more held → ((x y : ℕ) → x < cells.width → y < cells.height → (test x y || more x y) ≡ all x y) → next ≡ painted_where cells all held
+painted_more cells now next test more all held so_far put same =
+    put
+    ∙ (ap (λ (now : Cells). painted_where now more held) so_far
+    ∙ same_cells_where cells.width cells.height (λ x y. if more x y then held else has (painted_where cells test held) x y) (λ x y. if all x y then held else has cells x y)
+    (λ x y p q.
+    ap (λ v. if more x y then held else v) (has-cells_where cells.width cells.height (λ x y. if test x y then held else has cells x y) x y p q)
+    ∙ (two_choices (test x y) (more x y) held (has cells x y)
+    ∙ ap (λ b. if b then held else has cells x y) (same x y p q))))
+
+-- one tile
+pub tile_painted : (cells : Cells) (i : ℕ) (t part made : Tile) (held : Bool) → IsLattice cells → IsTileFrom t cells (left_of cells i) (top_of cells i) → HasCells made (λ x y. if tile.has part x y then held else tile.has t x y)
+    → with_tile cells i made ≡ painted_where cells (λ x y. (tile_of cells x y == i) && tile.has part (x % 64) (y % 64)) held
+tile_painted cells i t part made held is from of_made =
+    same_cells_where cells.width cells.height (λ x y. if tile_of cells x y == i then tile.has made (x % 64) (y % 64) else has cells x y) (λ x y. if (tile_of cells x y == i) && tile.has part (x % 64) (y % 64) then held else has cells x y)
+    (λ x y p q.
+    elim (cases_eq (tile_of cells x y) i) [
+      | inl e ↦
+          let here = eq-eqb (tile_of cells x y) i e in
+          let across = wide (extent cells) is.sized in
+          let was : tile.has t (x % 64) (y % 64) ≡ has cells x y = from.cell (x % 64) (y % 64) (omega arith) (omega arith) ∙ ap₂ (has cells) (cell_across cells i x y across p e) (cell_down cells i x y across p e) in
+          sym (choose_true _ _ _ _ here refl)
+          ∙ (of_made (x % 64) (y % 64) (omega arith) (omega arith)
+          ∙ (ap (λ b. if tile.has part (x % 64) (y % 64) then held else b) was
+          ∙ ap (λ b. if b && tile.has part (x % 64) (y % 64) then held else has cells x y) (sym here)))
+      | inr ne ↦
+          let here = ne_eqb (tile_of cells x y) i ne in
+          sym (choose_false _ _ _ _ here refl) ∙ ap (λ b. if b && tile.has part (x % 64) (y % 64) then held else has cells x y) (sym here)
+    ])
+
+either : (a b : Bool) → (a || b) ≡ (if b then true else a)
+either true true = refl
+either true false = refl
+either false true = refl
+either false false = refl
+
+pub put_in : (t part made : Tile) → HasCells made (λ x y. tile.has t x y || tile.has part x y) → HasCells made (λ x y. if tile.has part x y then true else tile.has t x y)
+put_in t part made of x y p q = of x y p q ∙ either (tile.has t x y) (tile.has part x y)
+
+without : (a b : Bool) → (a && not b) ≡ (if b then false else a)
+without true true = refl
+without true false = refl
+without false true = refl
+without false false = refl
+
+pub taken_out : (t part made : Tile) → HasCells made (λ x y. tile.has t x y && not (tile.has part x y)) → HasCells made (λ x y. if tile.has part x y then false else tile.has t x y)
+taken_out t part made of x y p q = of x y p q ∙ without (tile.has t x y) (tile.has part x y)
+
+pub painted_as : (cells : Cells) (i : ℕ) (part : Tile) (held other : Bool) → held ≡ other → painted_where cells (λ x y. (tile_of cells x y == i) && tile.has part (x % 64) (y % 64)) held ≡ painted_where cells (λ x y. (tile_of cells x y == i) && tile.has part (x % 64) (y % 64)) other
+painted_as cells i part held other e = ap (painted_where cells (λ x y. (tile_of cells x y == i) && tile.has part (x % 64) (y % 64))) e
+
+-- a rectangle, tile by tile along a row of tiles
+abbrev pub in_row : Rectangle → ℕ → ℕ → ℕ → ℕ → Bool
+in_row r row column x y = (y / 64 == row) && nat_lt (x / 64) column && is_inside r x y
+
+no_column : (ab c d : Bool) → ab ≡ false → (ab && c && d) ≡ false
+no_column ab c d e = rw e refl
+
+no_row : (a b c d : Bool) → (c && d) ≡ false → (a && b && c && d) ≡ false
+no_row true true c d e = e
+no_row true false c d e = refl
+no_row false b c d e = refl
+
+pub outside_columns : (r : Rectangle) (x y : ℕ) → (nat_le r.x x && nat_lt x (r.x + r.w)) ≡ false → is_inside r x y ≡ false
+outside_columns r x y e = no_column (nat_le r.x x && nat_lt x (r.x + r.w)) (nat_le r.y y) (nat_lt y (r.y + r.h)) e
+
+pub outside_rows : (r : Rectangle) (x y : ℕ) → (nat_le r.y y && nat_lt y (r.y + r.h)) ≡ false → is_inside r x y ≡ false
+outside_rows r x y e = no_row (nat_le r.x x) (nat_lt x (r.x + r.w)) (nat_le r.y y) (nat_lt y (r.y + r.h)) e
+
+and_false : (a b : Bool) → b ≡ false → (a && b) ≡ false
+and_false true b e = e
+and_false false b e = refl
+
+not_before : (n c : ℕ) (a b : Bool) → c ≤ n → (a && nat_lt n c && b) ≡ false
+not_before n c a b h = grind (arith, nat_tests)
+
+before : (n c : ℕ) (a b : Bool) → n < c → (a && nat_lt n c && b) ≡ (a && b)
+before n c a b h = grind (arith, nat_tests)
+
+pub row_starts : (r : Rectangle) (row first x y : ℕ) → (x / 64 < first → is_inside r x y ≡ false) → in_row r row first x y ≡ false
+row_starts r row first x y none =
+    elim (cases_lt (x / 64) first) [
+      | inl less ↦ and_false _ _ (none less)
+      | inr more ↦ not_before (x / 64) first (y / 64 == row) (is_inside r x y) more
+    ]
+
+pub row_ends : (r : Rectangle) (row column x y : ℕ) → (column ≤ x / 64 → is_inside r x y ≡ false) → in_row r row column x y ≡ ((y / 64 == row) && is_inside r x y)
+row_ends r row column x y none =
+    elim (cases_lt (x / 64) column) [
+      | inl less ↦ before (x / 64) column (y / 64 == row) (is_inside r x y) less
+      | inr more ↦ and_false _ _ (none more) ∙ sym (and_false _ _ (none more))
+    ]
+
+one_more : (n c : ℕ) (a b : Bool) → ((a && nat_lt n c && b) || (a && (n == c) && b)) ≡ (a && nat_lt n (c + 1) && b)
+one_more n c a b = grind (arith, nat_tests)
+
+no_more : (n c : ℕ) (a b : Bool) → (a ≡ true → n ≡ c → b ≡ false) → (a && nat_lt n c && b) ≡ (a && nat_lt n (c + 1) && b)
+no_more n c a b h = grind (arith, nat_tests)
+
+apart : (a b c d : ℕ) → (a ≡ b → c ≡ d → ⊥) → ((a == b) && (c == d)) ≡ false
+apart a b c d h = grind (arith, nat_tests)
+
+both : (a b c d : ℕ) (v : Bool) → a ≡ b → c ≡ d → ((a == b) && (c == d) && v) ≡ v
+both a b c d v e f = grind (arith, nat_tests)
+
+inside_as : (r : Rectangle) (column row x y : ℕ) → x / 64 ≡ column → y / 64 ≡ row → is_inside r (column * 64 + x % 64) (row * 64 + y % 64) ≡ is_inside r x y
+inside_as r column row x y e f = ap₂ (is_inside r) (let a : column * 64 + x % 64 ≡ x = omega arith in a) (let b : row * 64 + y % 64 ≡ y = omega arith in b)
+
+-- what a tile has of the rectangle
+tile_part : (r : Rectangle) (n row column x y : ℕ) (part : Tile) → column < n → x / 64 < n → HasCells part (λ x y. is_inside r (column * 64 + x) (row * 64 + y)) → ((y / 64 * n + x / 64 == row * n + column) && tile.has part (x % 64) (y % 64)) ≡ ((y / 64 == row) && (x / 64 == column) && is_inside r x y)
+tile_part r n row column x y part p q of =
+    elim (cases_eq (y / 64 * n + x / 64) (row * n + column)) [
+      | inl e ↦
+          let (same_row, same_column) = same_from_place (y / 64) (x / 64) row column n q p e in
+          ap (λ b. b && tile.has part (x % 64) (y % 64)) (eq-eqb (y / 64 * n + x / 64) (row * n + column) e)
+          ∙ (of (x % 64) (y % 64) (omega arith) (omega arith)
+          ∙ (inside_as r column row x y same_column same_row
+          ∙ sym (both (y / 64) row (x / 64) column (is_inside r x y) same_row same_column)))
+      | inr ne ↦
+          ap (λ b. b && tile.has part (x % 64) (y % 64)) (ne_eqb (y / 64 * n + x / 64) (row * n + column) ne)
+          ∙ sym (ap (λ b. b && is_inside r x y) (apart (y / 64) row (x / 64) column (λ e f. ne (ap₂ (λ a b. a * n + b) e f))))
+    ]
+
+pub row_next : (r : Rectangle) (n row column x y : ℕ) (part : Tile) → column < n → x / 64 < n → HasCells part (λ x y. is_inside r (column * 64 + x) (row * 64 + y))
+    → (in_row r row column x y || ((y / 64 * n + x / 64 == row * n + column) && tile.has part (x % 64) (y % 64))) ≡ in_row r row (column + 1) x y
+row_next r n row column x y part p q of =
+    ap (λ b. in_row r row column x y || b) (tile_part r n row column x y part p q of) ∙ one_more (x / 64) column (y / 64 == row) (is_inside r x y)
+
+is_row : (a b : ℕ) → (a == b) ≡ true → a ≡ b
+is_row a b e = grind (arith, nat_tests)
+
+pub row_past : (r : Rectangle) (row column x y : ℕ) → ((x y : ℕ) → x < 64 → y < 64 → is_inside r (column * 64 + x) (row * 64 + y) ≡ false) → in_row r row column x y ≡ in_row r row (column + 1) x y
+row_past r row column x y none =
+    no_more (x / 64) column (y / 64 == row) (is_inside r x y)
+    (λ e f. sym (inside_as r column row x y f (is_row (y / 64) row e)) ∙ none (x % 64) (y % 64) (omega arith) (omega arith))
+
+-- rows of tiles
+abbrev pub in_rows : Rectangle → ℕ → ℕ → ℕ → Bool
+in_rows r row x y = nat_lt (y / 64) row && is_inside r x y
+
+pub rows_start : (r : Rectangle) (first x y : ℕ) → (y / 64 < first → is_inside r x y ≡ false) → in_rows r first x y ≡ false
+rows_start r first x y none =
+    elim (cases_lt (y / 64) first) [
+      | inl less ↦ and_false _ _ (none less)
+      | inr more ↦ not_before (y / 64) first true (is_inside r x y) more
+    ]
+
+pub rows_next : (r : Rectangle) (row x y : ℕ) → (in_rows r row x y || ((y / 64 == row) && is_inside r x y)) ≡ in_rows r (row + 1) x y
+rows_next r row x y = one_more (y / 64) row true (is_inside r x y)
+
+pub rows_end : (r : Rectangle) (row x y : ℕ) → (row ≤ y / 64 → is_inside r x y ≡ false) → in_rows r row x y ≡ is_inside r x y
+rows_end r row x y none =
+    elim (cases_lt (y / 64) row) [
+      | inl less ↦ before (y / 64) row true (is_inside r x y) less
+      | inr more ↦ and_false _ _ (none more) ∙ sym (none more)
+    ]
+
+-- the sides stay
+pub same_wide : (cells now : Cells) (test : ℕ → ℕ → Bool) (held : Bool) → now ≡ painted_where cells test held → now.width ≡ cells.width
+same_wide cells now test held e = ap (λ (c : Cells). c.width) e
+
+pub same_high : (cells now : Cells) (test : ℕ → ℕ → Bool) (held : Bool) → now ≡ painted_where cells test held → now.height ≡ cells.height
+same_high cells now test held e = ap (λ (c : Cells). c.height) e
+
+-- the tile in the column of a row of tiles
+pub tile_in_row : (cells now : Cells) (test : ℕ → ℕ → Bool) (held : Bool) (row column across : ℕ) → now ≡ painted_where cells test held → across ≡ cells.width / 64 → row < cells.height / 64 → column < across → row * across + column < tile_count now
+tile_in_row cells now test held row column across so_far wide p q =
+    let less : column < cells.width / 64 = rw (← wide) q in
+    rw (so_far, wide) (mul-add-lt row (cells.width / 64) column (cells.height / 64) p less)
+
+pub row_more : (cells now next : Cells) (r : Rectangle) (held : Bool) (row column across : ℕ) (part : Tile) → IsLattice cells → across ≡ cells.width / 64 → column < across → now ≡ painted_where cells (in_row r row column) held → HasCells part (λ x y. is_inside r (column * 64 + x) (row * 64 + y))
+    → next ≡ painted_where now (λ x y. (tile_of now x y == row * across + column) && tile.has part (x % 64) (y % 64)) held → next ≡ painted_where cells (in_row r row (column + 1)) held
+row_more cells now next r held row column across part is wide_is less so_far of put =
+    painted_more cells now next (in_row r row column) (λ x y. (tile_of now x y == row * across + column) && tile.has part (x % 64) (y % 64)) (in_row r row (column + 1)) held so_far put
+    (λ x y p q.
+    let n : now.width / 64 ≡ cells.width / 64 = ap (λ w. w / 64) (same_wide cells now (in_row r row column) held so_far) in
+    let within : x / 64 < cells.width / 64 = tile_below cells.width x (wide (extent cells) is.sized) p in
+    ap₂ (λ m a. in_row r row column x y || ((y / 64 * m + x / 64 == row * a + column) && tile.has part (x % 64) (y % 64))) n wide_is
+    ∙ row_next r (cells.width / 64) row column x y part (rw (← wide_is) less) within of)
+
+pub row_same : (cells now : Cells) (r : Rectangle) (held : Bool) (row column : ℕ) → now ≡ painted_where cells (in_row r row column) held → ((x y : ℕ) → x < 64 → y < 64 → is_inside r (column * 64 + x) (row * 64 + y) ≡ false) → now ≡ painted_where cells (in_row r row (column + 1)) held
+row_same cells now r held row column so_far none = so_far ∙ same_painted cells (in_row r row column) (in_row r row (column + 1)) held (λ x y p q. row_past r row column x y none)

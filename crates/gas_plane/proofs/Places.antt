@@ -1,0 +1,91 @@
+-- The numbers of tiles, and where a tile's cells stand.
+use Rattle.std.proofs.Common.{◌≡◌, ℕ, ◌+◌, ◌-◌, ◌*◌, ◌/◌, ◌%◌, ◌<◌, ◌≤◌, true, sym, ◌∙◌, ap, arith, inl, inr, ◌⊎◌}
+use Rattle.std.proofs.lemmas.Nat.{mod-mul-add}
+use Rattle.std.proofs.lemmas.Bool.{cases_eq}
+use Rattle.std.proofs.lemmas.Bool.Decides.{nat_tests}
+use Rattle.gas_terms.specs.Cells.{Extent, is_side, is_size}
+
+pub record IsWholeTiles (n : ℕ) : Type 0 where
+  pub tiles : n / 64 * 64 ≡ n
+  pub some : 0 < n / 64
+  pub few : n / 64 ≤ 64
+
+side_tiles : (n : ℕ) → is_side n ≡ true → (n % 64 ≡ 0) × (64 ≤ n) × (n ≤ 4096)
+side_tiles n e = grind (arith, nat_tests)
+
+whole_tiles : (n : ℕ) → (n % 64 ≡ 0) × (64 ≤ n) × (n ≤ 4096) → IsWholeTiles n
+whole_tiles n e = record { tiles = omega arith; some = omega arith; few = omega arith }
+
+both_sides : (w h : ℕ) → is_size (record { width = w; height = h }) ≡ true → (is_side w ≡ true) × (is_side h ≡ true)
+both_sides w h e = grind (arith, nat_tests)
+
+pub wide : (size : Extent) → is_size size ≡ true → IsWholeTiles size.width
+wide size e = whole_tiles size.width (side_tiles size.width (both_sides size.width size.height e).0)
+
+pub high : (size : Extent) → is_size size ≡ true → IsWholeTiles size.height
+high size e = whole_tiles size.height (side_tiles size.height (both_sides size.width size.height e).1)
+
+-- a cell's tile is one of its row's, and a tile's cell is one of the lattice's
+pub tile_below : (n x : ℕ) → IsWholeTiles n → x < n → x / 64 < n / 64
+tile_below n x is h = let e = is.tiles in omega arith
+
+pub cell_below : (n column x : ℕ) → IsWholeTiles n → column < n / 64 → x < 64 → column * 64 + x < n
+cell_below n column x is h k = let e = is.tiles in omega arith
+
+-- round a circle of n places
+stays : (n k : ℕ) → k < n → k % n ≡ k
+stays n k less = let e : k ≡ 0 * n + k = omega arith in ap (λ m. m % n) e ∙ mod-mul-add 0 n k less
+
+wraps : (n k : ℕ) → k < n → (k + n) % n ≡ k
+wraps n k less = let e : k + n ≡ 1 * n + k = omega arith in ap (λ m. m % n) e ∙ mod-mul-add 1 n k less
+
+pub last_place : (k n : ℕ) → k ≡ 0 → 0 < n → n - 1 ≡ (k + n - 1) % n
+last_place k n e some = sym (ap (λ m. m % n) (omega arith) ∙ stays n (n - 1) (omega arith))
+
+pub place_before : (k n : ℕ) → (k ≡ 0 → ⊥) → k < n → k - 1 ≡ (k + n - 1) % n
+place_before k n e less = sym (let f : k + n - 1 ≡ (k - 1) + n = omega arith in ap (λ m. m % n) f ∙ wraps n (k - 1) (omega arith))
+
+pub first_place : (k n : ℕ) → k + 1 ≡ n → 0 ≡ (k + 1) % n
+first_place k n e = sym (let f : k + 1 ≡ 0 + n = omega arith in ap (λ m. m % n) f ∙ wraps n 0 (omega arith))
+
+pub place_after : (k n : ℕ) → (k + 1 ≡ n → ⊥) → k < n → k + 1 ≡ (k + 1) % n
+place_after k n e less = sym (stays n (k + 1) (omega arith))
+
+-- the places before, in and after the tile k of a circle of tiles
+pub ring_before : (n k : ℕ) → IsWholeTiles n → k < n / 64 → (k * 64 + 0 + n - 1) % n ≡ (k + n / 64 - 1) % (n / 64) * 64 + 63
+ring_before n k is less =
+    elim (cases_eq k 0) [
+      | inl e ↦
+          let a : (k * 64 + 0 + n - 1) % n ≡ n - 1 = ap (λ m. m % n) (omega arith) ∙ stays n (n - 1) (omega (arith, is.some)) in
+          omega (arith, a, last_place k (n / 64) e is.some, is.tiles, is.some)
+      | inr ne ↦
+          let f : k * 64 + 0 + n - 1 ≡ (k * 64 - 1) + n = omega arith in
+          let a : (k * 64 + 0 + n - 1) % n ≡ k * 64 - 1 = ap (λ m. m % n) f ∙ wraps n (k * 64 - 1) (omega (arith, is.tiles)) in
+          omega (arith, a, place_before k (n / 64) ne less)
+    ]
+
+pub ring_after : (n k : ℕ) → IsWholeTiles n → k < n / 64 → (k * 64 + 65 + n - 1) % n ≡ (k + 1) % (n / 64) * 64 + 0
+ring_after n k is less =
+    elim (cases_eq (k + 1) (n / 64)) [
+      | inl e ↦
+          let f : k * 64 + 65 + n - 1 ≡ 2 * n + 0 = omega (arith, is.tiles) in
+          let a : (k * 64 + 65 + n - 1) % n ≡ 0 = ap (λ m. m % n) f ∙ mod-mul-add 2 n 0 (omega (arith, is.tiles, is.some)) in
+          omega (arith, a, first_place k (n / 64) e)
+      | inr ne ↦
+          let f : k * 64 + 65 + n - 1 ≡ (k * 64 + 64) + n = omega arith in
+          let a : (k * 64 + 65 + n - 1) % n ≡ k * 64 + 64 = ap (λ m. m % n) f ∙ wraps n (k * 64 + 64) (omega (arith, is.tiles)) in
+          omega (arith, a, place_after k (n / 64) ne less)
+    ]
+
+pub ring_in : (n k x : ℕ) → IsWholeTiles n → k < n / 64 → x < 64 → (k * 64 + (x + 1) + n - 1) % n ≡ k * 64 + x
+ring_in n k x is less in_tile =
+    let f : k * 64 + (x + 1) + n - 1 ≡ (k * 64 + x) + n = omega arith in
+    ap (λ m. m % n) f ∙ wraps n (k * 64 + x) (omega (arith, is.tiles))
+
+-- a place from 0 to 65 is before, after or in the tile
+pub ring_cases : (i : ℕ) → i ≤ 65 → (i ≡ 0) ⊎ ((i ≡ 65) ⊎ ((x : ℕ) × (x < 64) × (i ≡ x + 1)))
+ring_cases i h =
+    elim (cases_eq i 0) [
+      | inl e ↦ inl e
+      | inr ne ↦ elim (cases_eq i 65) [ inl e ↦ inr (inl e) | inr nf ↦ inr (inr (i - 1, omega arith, omega arith)) ]
+    ]

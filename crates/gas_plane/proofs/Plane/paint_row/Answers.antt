@@ -1,0 +1,34 @@
+use Rattle.std.proofs.Common.{◌<◌, ◌∙◌, arith}
+use Rattle.gas_terms.specs.Cells.{extent}
+use Rattle.gas_plane.proofs.Places.{wide, tile_below}
+use Rattle.gas_plane.proofs.Painting.{in_row, none_painted, same_painted, outside_columns, row_starts, row_ends, row_more, row_same, tile_in_row}
+use Rattle.gas_plane.proofs.Plane.paint_row.Goals as goal
+use Rattle.gas_plane.proofs.Plane.paint_row.Goals.{in-Some, in_default}
+
+pub loop-column-init : goal.loop-column-init
+loop-column-init c =
+    none_painted c.args.self.now (in_row c.args.area c.args.row c.tiles_met-first.result.0) c.args.held c.across-across.ensures.lattice.full
+    (λ x y _ _. row_starts c.args.area c.args.row c.tiles_met-first.result.0 x y (λ less. outside_columns c.args.area x y (rw (c.x.ensures, c.w.ensures) at (c.tiles_met-first.ensures.before x less))))
+
+pub paint_tile-requires : goal.paint_tile-requires
+paint_tile-requires c =
+    tile_in_row c.args.self.now c.loop-column.self (in_row c.args.area c.args.row c.loop-column.column) c.args.held c.args.row c.loop-column.column c.across-across.result
+    c.loop-column.invariant c.across-across.ensures.across c.requires (omega (arith, c.tiles_met-first.ensures.within))
+
+pub loop-column-preserved : goal.loop-column-preserved
+loop-column-preserved c =
+    let is = c.across-across.ensures.lattice in
+    elim c.match-part_of.branch [
+      | in-Some w ↦
+          row_more c.args.self.now c.loop-column.self c.match-part_of.self c.args.area c.args.held c.args.row c.loop-column.column c.across-across.result w.in-Some.part is c.across-across.ensures.across
+          (let less : c.loop-column.column < c.across-across.result = omega (arith, c.tiles_met-first.ensures.within) in less) c.loop-column.invariant w.in-Some.ensures (w.self-is ∙ w.paint_tile.ensures)
+      | in_default w ↦ w.self-is ∙ row_same c.args.self.now c.loop-column.self c.args.area c.args.held c.args.row c.loop-column.column c.loop-column.invariant w.in_default.ensures
+    ]
+
+pub returns : goal.returns
+returns c =
+    c.loop-column.invariant
+    ∙ same_painted c.args.self.now (in_row c.args.area c.args.row c.loop-column.column) _ c.args.held
+    (λ x y p q. row_ends c.args.area c.args.row c.loop-column.column x y
+    (λ past. outside_columns c.args.area x y (rw (c.x.ensures, c.w.ensures) at (c.tiles_met-first.ensures.after x
+    (rw c.across-across.ensures.across (tile_below c.args.self.now.width x (wide (extent c.args.self.now) c.across-across.ensures.lattice.sized) p)) (omega arith)))))

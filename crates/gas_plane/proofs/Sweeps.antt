@@ -1,0 +1,134 @@
+-- Tiles are replaced one after another: what a plane is in between.
+use Rattle.std.proofs.Common.{◌≡◌, ℕ, ◌+◌, ◌*◌, ◌/◌, ◌%◌, ◌<◌, ◌≤◌, ◌==◌, Bool, true, false, nat_lt, if◌then◌else◌, refl, sym, ◌∙◌, ap, ap₂, subst, arith, inl, inr}
+use Rattle.std.proofs.lemmas.Nat.{mul-add-lt, div-mul-add, mod-mul-add, div-add-mod', row-Below}
+use Rattle.std.proofs.Math.Nat.{mod-lt}
+use Rattle.std.proofs.lemmas.Bool.{cases_eq, cases_lt, eq-eqb, ne_eqb}
+use Rattle.std.proofs.lemmas.Bool.Decides.{nat_tests}
+use Rattle.bit_tile.specs.Tile as tile
+use Rattle.bit_tile.specs.declared.Tile.{Tile}
+use Rattle.gas_terms.specs.Cells.{Cells, has, cells_where, extent, IsFull, tile_count}
+use Rattle.gas_terms.proofs.Cells.{has-cells_where, full-cells_where, same_cells_where, same_cells}
+use Rattle.gas_plane.specs.Planes.{IsLattice, IsTileFrom, tile_of, with_tile}
+pub use Rattle.gas_plane.specs.Planes.{swept}
+use Rattle.bit_tile.specs.Tile.{HasCells}
+use Rattle.gas_plane.proofs.Places.{IsWholeTiles, wide, high, tile_below, cell_below}
+use Rattle.gas_plane.proofs.Tilings.{choose_true, choose_false}
+
+is_below : (n i : ℕ) → n < i → nat_lt n i ≡ true
+is_below n i h = grind (arith, nat_tests)
+
+not_below : (n i : ℕ) → i ≤ n → nat_lt n i ≡ false
+not_below n i h = grind (arith, nat_tests)
+
+-- no tile is done, and all tiles are
+pub sweep_starts : (cells : Cells) (test : ℕ → ℕ → Bool) (i : ℕ) → IsFull cells → ((x y : ℕ) → x < cells.width → y < cells.height → tile_of cells x y < i → test x y ≡ has cells x y) → cells ≡ swept cells test i
+sweep_starts cells test i full same =
+    same_cells cells (swept cells test i) full (full-cells_where cells.width cells.height (λ x y. if nat_lt (tile_of cells x y) i then test x y else has cells x y)) refl refl
+    (λ x y p q.
+    elim (cases_lt (tile_of cells x y) i) [
+      | inl less ↦ choose_true _ _ _ _ (is_below (tile_of cells x y) i less) (sym (same x y p q less))
+      | inr more ↦ choose_false _ _ _ _ (not_below (tile_of cells x y) i more) refl
+    ]
+    ∙ sym (has-cells_where cells.width cells.height (λ x y. if nat_lt (tile_of cells x y) i then test x y else has cells x y) x y p q))
+
+pub sweep_ends : (cells : Cells) (test : ℕ → ℕ → Bool) (i : ℕ) → ((x y : ℕ) → x < cells.width → y < cells.height → i ≤ tile_of cells x y → test x y ≡ has cells x y) → swept cells test i ≡ cells_where cells.width cells.height test
+sweep_ends cells test i same =
+    same_cells_where cells.width cells.height (λ x y. if nat_lt (tile_of cells x y) i then test x y else has cells x y) test
+    (λ x y p q.
+    elim (cases_lt (tile_of cells x y) i) [
+      | inl less ↦ sym (choose_true _ _ _ _ (is_below (tile_of cells x y) i less) refl)
+      | inr more ↦ sym (choose_false _ _ _ _ (not_below (tile_of cells x y) i more) (same x y p q more))
+    ])
+
+-- the place of tile i
+abbrev pub left_of : Cells → ℕ → ℕ
+left_of cells i = i % (cells.width / 64) * 64
+
+abbrev pub top_of : Cells → ℕ → ℕ
+top_of cells i = i / (cells.width / 64) * 64
+
+-- a cell stands in its tile
+pub cell_across : (cells : Cells) (i x y : ℕ) → IsWholeTiles cells.width → x < cells.width → tile_of cells x y ≡ i → left_of cells i + x % 64 ≡ x
+cell_across cells i x y is p e =
+    let k : i % (cells.width / 64) ≡ x / 64 = ap (λ i. i % (cells.width / 64)) (sym e) ∙ mod-mul-add (y / 64) (cells.width / 64) (x / 64) (tile_below cells.width x is p) in
+    omega arith
+
+pub cell_down : (cells : Cells) (i x y : ℕ) → IsWholeTiles cells.width → x < cells.width → tile_of cells x y ≡ i → top_of cells i + y % 64 ≡ y
+cell_down cells i x y is p e =
+    let k : i / (cells.width / 64) ≡ y / 64 = ap (λ i. i / (cells.width / 64)) (sym e) ∙ div-mul-add (y / 64) (cells.width / 64) (x / 64) (tile_below cells.width x is p) in
+    omega arith
+
+step_cell : (b c : ℕ) (test before : Bool) → (b ≡ c → ⊥) → (if nat_lt b c then test else before) ≡ (if nat_lt b (c + 1) then test else before)
+step_cell b c test before other = grind (arith, nat_tests)
+
+-- the next tile is replaced
+pub sweep_tile : (cells : Cells) (test : ℕ → ℕ → Bool) (i : ℕ) (t : Tile) → IsLattice cells → ((x y : ℕ) → x < 64 → y < 64 → tile.has t x y ≡ test (left_of cells i + x) (top_of cells i + y)) → with_tile (swept cells test i) i t ≡ swept cells test (i + 1)
+sweep_tile cells test i t is made =
+    same_cells_where cells.width cells.height (λ x y. if tile_of cells x y == i then tile.has t (x % 64) (y % 64) else has (swept cells test i) x y) (λ x y. if nat_lt (tile_of cells x y) (i + 1) then test x y else has cells x y)
+    (λ x y p q.
+    elim (cases_eq (tile_of cells x y) i) [
+      | inl e ↦
+          sym (choose_true _ _ _ _ (eq-eqb (tile_of cells x y) i e) refl)
+          ∙ (made (x % 64) (y % 64) (omega arith) (omega arith)
+          ∙ (ap₂ test (cell_across cells i x y (wide (extent cells) is.sized) p e) (cell_down cells i x y (wide (extent cells) is.sized) p e)
+          ∙ choose_true _ _ _ _ (is_below (tile_of cells x y) (i + 1) (omega arith)) refl))
+      | inr ne ↦
+          sym (choose_false _ _ _ _ (ne_eqb (tile_of cells x y) i ne) refl)
+          ∙ (has-cells_where cells.width cells.height (λ x y. if nat_lt (tile_of cells x y) i then test x y else has cells x y) x y p q
+          ∙ step_cell (tile_of cells x y) i (test x y) (has cells x y) ne)
+    ])
+
+-- the next tile stays
+pub sweep_past : (cells : Cells) (test : ℕ → ℕ → Bool) (i : ℕ) → IsLattice cells → ((x y : ℕ) → x < 64 → y < 64 → test (left_of cells i + x) (top_of cells i + y) ≡ has cells (left_of cells i + x) (top_of cells i + y)) → swept cells test i ≡ swept cells test (i + 1)
+sweep_past cells test i is same =
+    same_cells_where cells.width cells.height (λ x y. if nat_lt (tile_of cells x y) i then test x y else has cells x y) (λ x y. if nat_lt (tile_of cells x y) (i + 1) then test x y else has cells x y)
+    (λ x y p q.
+    elim (cases_eq (tile_of cells x y) i) [
+      | inl e ↦
+          let a = cell_across cells i x y (wide (extent cells) is.sized) p e in
+          let d = cell_down cells i x y (wide (extent cells) is.sized) p e in
+          let here : test x y ≡ has cells x y = sym (ap₂ test a d) ∙ (same (x % 64) (y % 64) (omega arith) (omega arith) ∙ ap₂ (has cells) a d) in
+          sym (choose_false _ _ _ _ (not_below (tile_of cells x y) i (omega arith)) refl)
+          ∙ choose_true _ _ _ _ (is_below (tile_of cells x y) (i + 1) (omega arith)) (sym here)
+      | inr ne ↦ step_cell (tile_of cells x y) i (test x y) (has cells x y) ne
+    ])
+
+pub tile_column : (n i x y : ℕ) → 0 < n → x < 64 → y < 64 → (i / n * 64 + y) / 64 * n + (i % n * 64 + x) / 64 ≡ i
+tile_column n i x y some p q = rw (div-mul-add (i / n) 64 y q, div-mul-add (i % n) 64 x p) (div-add-mod' i n)
+
+-- a tile that has not been replaced yet is as before
+pub sweep_reads : (cells : Cells) (test : ℕ → ℕ → Bool) (i : ℕ) (t : Tile) → IsLattice cells → i < tile_count cells → IsTileFrom t (swept cells test i) (left_of cells i) (top_of cells i) → (x y : ℕ) → x < 64 → y < 64 → tile.has t x y ≡ has cells (left_of cells i + x) (top_of cells i + y)
+sweep_reads cells test i t is within from x y p q =
+    let across = wide (extent cells) is.sized in
+    let down = high (extent cells) is.sized in
+    let place : tile_of cells (left_of cells i + x) (top_of cells i + y) ≡ i = tile_column (cells.width / 64) i x y across.some p q in
+    let a : i % (cells.width / 64) < cells.width / 64 = mod-lt i across.some in
+    let d : i / (cells.width / 64) < cells.height / 64 = (row-Below i (cells.width / 64) (cells.width / 64) (cells.height / 64) within (omega arith)).1 in
+    from.cell x y p q
+    ∙ (has-cells_where cells.width cells.height (λ x y. if nat_lt (tile_of cells x y) i then test x y else has cells x y) (left_of cells i + x) (top_of cells i + y) (cell_below cells.width (i % (cells.width / 64)) x across a p) (cell_below cells.height (i / (cells.width / 64)) y down d q)
+    ∙ sym (choose_false _ _ _ _ (not_below (tile_of cells (left_of cells i + x) (top_of cells i + y)) i (omega arith)) refl))
+
+-- the next tile is read, and what is made of it is put in its place
+pub sweep_next : (cells now next : Cells) (test : ℕ → ℕ → Bool) (i : ℕ) (t made : Tile) → IsLattice cells → i < tile_count cells → now ≡ swept cells test i → IsTileFrom t now (left_of now i) (top_of now i) → next ≡ with_tile now i made
+    → ((x y : ℕ) → x < 64 → y < 64 → tile.has t x y ≡ has cells (left_of cells i + x) (top_of cells i + y) → tile.has made x y ≡ test (left_of cells i + x) (top_of cells i + y)) → next ≡ swept cells test (i + 1)
+sweep_next cells now next test i t made is within so_far from put makes =
+    let from_swept : IsTileFrom t (swept cells test i) (left_of cells i) (top_of cells i) = subst (λ (now : Cells). IsTileFrom t now (left_of now i) (top_of now i)) so_far from in
+    put
+    ∙ (ap (λ (now : Cells). with_tile now i made) so_far
+    ∙ sweep_tile cells test i made is (λ x y p q. makes x y p q (sweep_reads cells test i t is within from_swept x y p q)))
+
+pub sweep_within : (cells now : Cells) (test : ℕ → ℕ → Bool) (i end : ℕ) → now ≡ swept cells test i → i < end → end ≤ tile_count cells → i < tile_count now
+sweep_within cells now test i end e less within =
+    subst (λ (now : Cells). i < tile_count now) (sym e) (let k : i < tile_count cells = omega arith in k)
+
+pub sweep_begins : (cells : Cells) (test : ℕ → ℕ → Bool) → IsLattice cells → swept cells test 0 ≡ cells
+sweep_begins cells test is = sym (sweep_starts cells test 0 is.full (λ x y p q h. absurd (omega arith)))
+
+pub sweep_is_whole : (cells : Cells) (test : ℕ → ℕ → Bool) → IsLattice cells → swept cells test (tile_count cells) ≡ cells_where cells.width cells.height test
+sweep_is_whole cells test is =
+    sweep_ends cells test (tile_count cells)
+    (λ x y p q h.
+    let a = tile_below cells.width x (wide (extent cells) is.sized) p in
+    let d = tile_below cells.height y (high (extent cells) is.sized) q in
+    let k : tile_of cells x y < tile_count cells = mul-add-lt (y / 64) (cells.width / 64) (x / 64) (cells.height / 64) d a in
+    absurd (omega arith))

@@ -1,0 +1,427 @@
+//! A lattice's cells, in tiles.
+#![tactic(auto)]
+
+ghost use Rattle.std.specs.Borrow.{sem};
+ghost use Rattle.std.specs.Prelude.{◌≡◌, IsTrue, ℕ, ◌+◌, ◌*◌, ◌/◌, ◌%◌, ◌<◌, ◌≤◌, ◌-◌, ◌^◌, ◌==◌, ◌&&◌, nat_le, nat_lt, Bool, false, IfOk, MatchOption, if◌then◌else◌, length, true, slice_index};
+ghost use Rattle.bit_tile.specs.Bit.{bit};
+ghost use Rattle.gas_terms.specs.Cells.{Cells, HasSidesOf, has, cells_where, extent, tile_count, tile_rectangle, Rectangle, is_inside, filled, cleared, lies_within};
+ghost use Rattle.gas_terms.specs.Accounts.{parity_count};
+ghost use Rattle.gas_terms.specs.Rows.{row_has, row_replaced, row_bytes};
+ghost use Rattle.gas_plane.specs.Planes.{IsLattice, IsTileFrom, IsRingRound, IsBareRound, tile_of, with_tile, with_word, painted_where};
+ghost use Rattle.gas_plane.specs.Lending.{LendsTile};
+ghost use Rattle.bit_tile.specs.Tile.{HasCells};
+ghost use Rattle.bit_tile.specs.Tile as in_tile;
+
+pub mod laws;
+mod marks;
+
+pub use bit_tile::Tile;
+use gas_terms::{NoMemory, Rect, Size};
+use marks::{after, before, hold};
+use std::alloc::Global;
+use std::marker::Model;
+use tile_border::Border;
+
+const EVEN_BITS: u64 = 0x5555_5555_5555_5555;
+
+const EVEN_PAIRS: u64 = 0x3333_3333_3333_3333;
+
+const LOW_HALVES: u64 = 0x0f0f_0f0f_0f0f_0f0f;
+
+/// A set of cells of a lattice, which is a torus. Contracts see its width, its height and its cells; only `empty` and `copy`
+/// take memory.
+#[derive(Drop)]
+pub struct Plane {
+    size: Size,
+    // row by row
+    tiles: Vec<Tile>,
+    // a tile that is marked here has no cell
+    bare: Vec<bool>,
+    // and a tile that is marked here none in it or in the eight tiles round it: the step asks for it at each tile
+    bare_round: Vec<bool>,
+}
+
+impl Model for Plane {
+    ghost use Rattle.std.specs.Prelude.{◌/◌};
+    ghost use Rattle.gas_terms.specs.Cells.{Cells, cells_where};
+    ghost use Rattle.gas_plane.specs.Tiles.{tiles_have, IsMarked};
+
+    ghost Value = { Cells };
+
+    ghost view = { λ p. cells_where p.size.width p.size.height (tiles_have p.tiles.items (p.size.width / 64)) };
+
+    ghost invariant = { λ p. IsMarked p.tiles.items p.bare.items p.bare_round.items p.size };
+}
+
+impl Plane {
+    /// A lattice of this size without cells. Where memory is refused nothing stays taken.
+    pub fn empty(alloc: Global, size: Size) -> Result<Plane, NoMemory>
+        ensures { IfOk result (λ plane. plane ≡ cells_where size.width size.height (λ _ _. false)) }
+    {
+        let tiles = vec![in alloc; Tile::empty(); size.tiles() as usize]?;
+        let bare = vec![in alloc; true; size.tiles() as usize]?;
+        let bare_round = vec![in alloc; true; size.tiles() as usize]?;
+        Ok(Plane {
+            size,
+            tiles,
+            bare,
+            bare_round,
+        })
+    }
+
+    /// The same cells in memory of their own. Where that is refused nothing stays taken.
+    pub fn copy(&self, alloc: Global) -> Result<Plane, NoMemory>
+        ensures { IfOk result (λ plane. plane ≡ self.now) }
+    {
+        let tiles = Vec::from_slice(alloc, self.tiles.as_slice())?;
+        let bare = Vec::from_slice(alloc, self.bare.as_slice())?;
+        let bare_round = Vec::from_slice(alloc, self.bare_round.as_slice())?;
+        Ok(Plane {
+            size: self.size,
+            tiles,
+            bare,
+            bare_round,
+        })
+    }
+
+    /// Makes it the other plane, which has the same sides.
+    pub fn copy_from(&mut self, other: &Plane)
+        requires { HasSidesOf self.old other.now }
+        ensures { self.new ≡ other.now }
+    {
+        self.size = other.size;
+        self.tiles
+            .as_mut_slice()
+            .copy_from_slice(other.tiles.as_slice());
+        self.bare
+            .as_mut_slice()
+            .copy_from_slice(other.bare.as_slice());
+        self.bare_round
+            .as_mut_slice()
+            .copy_from_slice(other.bare_round.as_slice());
+    }
+
+    /// How wide and high the lattice is.
+    pub fn size(&self) -> Size
+        ensures extent { result ≡ extent self.now }
+        ensures lattice { IsLattice self.now }
+    {
+        let Plane { size, .. } = self;
+        *size
+    }
+
+    /// Whether it has the cell in column x of row y.
+    pub fn get(&self, x: u32, y: u32) -> bool
+        requires x { x < self.now.width }
+        requires y { y < self.now.height }
+        ensures { result ≡ has self.now x y }
+    {
+        // its sides are whole tiles
+        let _ = &self.size;
+        self.tile_in(x / 64, y / 64).get(x % 64, y % 64)
+    }
+
+    /// Tile i: they stand row by row.
+    #[inline]
+    pub fn tile(&self, i: u32) -> &Tile
+        requires { i < tile_count self.now }
+        ensures { let r = tile_rectangle self.now i in IsTileFrom result.now self.now r.x r.y }
+    {
+        &self.tiles[i as usize]
+    }
+
+    /// Puts the tile's cells in the place of tile i.
+    pub fn set_tile(&mut self, i: u32, tile: Tile)
+        requires { i < tile_count self.old }
+        ensures { self.new ≡ with_tile self.old i tile }
+    {
+        *self.tile_mut(i) = tile;
+    }
+
+    /// Tile i, to be written: the plane ends with what is left behind the reference.
+    #[inline]
+    pub fn tile_mut(&mut self, i: u32) -> &mut Tile
+        requires { i < tile_count self.old }
+        ensures* writes_back { sem 𝓛 (LendsTile self.entry i result) }
+        ensures tile { let r = tile_rectangle self.old i in IsTileFrom result.now self.old r.x r.y }
+    {
+        hold(
+            self.bare.as_mut_slice(),
+            self.bare_round.as_mut_slice(),
+            self.size,
+            i,
+        );
+        &mut self.tiles[i as usize]
+    }
+
+    /// Whether tile i is known to have no cell in it and none round it. A write to the tile or to one of the eight round it
+    /// that may add cells ends that knowledge, and a `clear` does not bring it back.
+    #[inline]
+    pub fn is_bare_round(&self, i: u32) -> bool
+        requires { i < tile_count self.now }
+        ensures { let r = tile_rectangle self.now i in IsTrue result → IsBareRound self.now r.x r.y }
+    {
+        self.bare_round[i as usize]
+    }
+
+    /// The cells round tile i: the lattice is a torus.
+    pub fn border(&self, i: u32) -> Border
+        requires { i < tile_count self.now }
+        ensures { let r = tile_rectangle self.now i in IsRingRound result self.now r.x r.y }
+    {
+        if self.is_bare_round(i) {
+            return Border {
+                above: 0,
+                below: 0,
+                sides: [0; 66],
+            };
+        }
+        let across = self.across();
+        let down = self.down();
+        let column = i % across;
+        let row = i / across;
+        let left = before(column, across);
+        let right = after(column, across);
+        let above = before(row, down);
+        let below = after(row, down);
+        Border::of(
+            self.tile_in(column, above),
+            self.tile_in(column, below),
+            self.tile_in(left, row),
+            self.tile_in(right, row),
+            self.tile_in(left, above),
+            self.tile_in(right, above),
+            self.tile_in(left, below),
+            self.tile_in(right, below),
+        )
+    }
+
+    /// Puts in the cells of the rectangle.
+    pub fn fill(&mut self, area: Rect)
+        ensures { self.new ≡ filled self.old area }
+    {
+        self.paint(area, true);
+    }
+
+    /// Takes out the cells of the rectangle.
+    pub fn clear(&mut self, area: Rect)
+        ensures { self.new ≡ cleared self.old area }
+    {
+        self.paint(area, false);
+    }
+
+    fn paint(&mut self, area: Rect, held: bool)
+        ensures { self.new ≡ painted_where self.old (is_inside area) held }
+    {
+        let (first, end) = tiles_met(area.y() as u32, area.h() as u32, self.down());
+        for row in first..end {
+            self.paint_row(row, area, held);
+        }
+    }
+
+    // the same in one row of tiles
+    fn paint_row(&mut self, row: u32, area: Rect, held: bool)
+        requires { row < self.old.height / 64 }
+        ensures { self.new ≡ painted_where self.old (λ x y. (y / 64 == row) && is_inside area x y) held }
+    {
+        let across = self.across();
+        let (first, end) = tiles_met(area.x() as u32, area.w() as u32, across);
+        for column in first..end {
+            if let Some(part) = part_of(area, column * 64, row * 64) {
+                self.paint_tile(row * across + column, &part, held);
+            }
+        }
+    }
+
+    // puts the part's cells into tile i, or takes them out: then it keeps its marks
+    fn paint_tile(&mut self, i: u32, part: &Tile, held: bool)
+        requires { i < tile_count self.old }
+        ensures { self.new ≡ painted_where self.old (λ x y. (tile_of self.old x y == i) && in_tile.has part.now (x % 64) (y % 64)) held }
+    {
+        // its sides are whole tiles
+        let _ = &self.size;
+        if held {
+            self.tile_mut(i).join(part);
+        } else {
+            self.tiles[i as usize].cut(part);
+        }
+    }
+
+    /// Writes the cells of row y, eight in a byte: the leftmost is the highest bit of the first.
+    pub fn row_bytes(&self, y: u32, out: &mut [u8])
+        requires y { y < self.now.height }
+        requires out { length out.old ≡ self.now.width / 8 }
+        ensures { out.new ≡ row_bytes self.now y }
+    {
+        // the columns are whole tiles
+        let _ = &self.size;
+        for i in 0..out.len() {
+            out[i] = byte_of(self.word(i as u32 / 8, y), i as u32 % 8);
+        }
+    }
+
+    /// Replaces the cells of row y by those of the bytes.
+    pub fn set_row(&mut self, y: u32, bytes: &[u8])
+        requires y { y < self.old.height }
+        requires bytes { length bytes.now ≡ self.old.width / 8 }
+        ensures { self.new ≡ row_replaced self.old y bytes.now }
+    {
+        let across = self.across();
+        for column in 0..across {
+            let from = column as usize * 8;
+            let word = word_of(&bytes[from..from + 8]);
+            self.set_word(column, y, word);
+        }
+    }
+
+    // the 64 cells of row y from column 64 * column on
+    fn word(&self, column: u32, y: u32) -> u64
+        requires column { column < self.now.width / 64 }
+        requires y { y < self.now.height }
+        ensures { (x : ℕ) → x < 64 → bit result x ≡ has self.now (column * 64 + x) y }
+    {
+        // the rows are whole tiles
+        let _ = &self.size;
+        self.tile_in(column, y / 64).rows[(y % 64) as usize]
+    }
+
+    fn set_word(&mut self, column: u32, y: u32, word: u64)
+        requires column { column < self.old.width / 64 }
+        requires y { y < self.old.height }
+        ensures { self.new ≡ with_word self.old column y word }
+    {
+        let across = self.across();
+        let tile = self.tile_mut(y / 64 * across + column);
+        tile.rows[(y % 64) as usize] = word;
+    }
+
+    /// How many cells the rectangle has in each class of columns and rows: even column and even row, odd and even,
+    /// even and odd, odd and odd.
+    pub fn counts_in(&self, area: Rect) -> [u64; 4]
+        requires { lies_within (extent self.now) area ≡ true }
+        ensures { (a b : ℕ) → a < 2 → b < 2 → slice_index result (2 * b + a) ≡ parity_count self.now area a b }
+    {
+        let across = self.across();
+        let (left, right) = tiles_met(area.x() as u32, area.w() as u32, across);
+        let (top, bottom) = tiles_met(area.y() as u32, area.h() as u32, self.down());
+        let mut counts = [0; 4];
+        for row in top..bottom {
+            for column in left..right {
+                if let Some(part) = part_of(area, column * 64, row * 64) {
+                    let here = self
+                        .tile(row * across + column)
+                        .meet(&part)
+                        .count_by_parity();
+                    let more = sums(counts, here);
+                    counts = more;
+                }
+            }
+        }
+        counts
+    }
+
+    // how many tiles stand in a row
+    fn across(&self) -> u32
+        ensures across { result ≡ self.now.width / 64 }
+        ensures lattice { IsLattice self.now }
+        ensures positive { 0 < self.now.width / 64 }
+    {
+        (self.size.width() / 64) as u32
+    }
+
+    // how many rows of tiles there are
+    fn down(&self) -> u32
+        ensures down { result ≡ self.now.height / 64 }
+        ensures lattice { IsLattice self.now }
+        ensures positive { 0 < self.now.height / 64 }
+    {
+        (self.size.height() / 64) as u32
+    }
+
+    fn tile_in(&self, column: u32, row: u32) -> &Tile
+        requires column { column < self.now.width / 64 }
+        requires row { row < self.now.height / 64 }
+        ensures { IsTileFrom result.now self.now (column * 64) (row * 64) }
+    {
+        let across = self.size.width() as usize / 64;
+        &self.tiles[row as usize * across + column as usize]
+    }
+}
+
+// of n places of 64 cells each, the first that `len` cells from `start` on meet, and the first after them
+fn tiles_met(start: u32, len: u32, n: u32) -> (u32, u32)
+    requires { start + len < 2 ^ 31 }
+    ensures ordered { result.0 ≤ result.1 }
+    ensures within { result.1 ≤ n }
+    ensures before { (x : ℕ) → x / 64 < result.0 → (nat_le start x && nat_lt x (start + len)) ≡ false }
+    ensures after { (x : ℕ) → x / 64 < n → result.1 ≤ x / 64 → (nat_le start x && nat_lt x (start + len)) ≡ false }
+{
+    let end = ((start + len + 63) / 64).min(n);
+    ((start / 64).min(end), end)
+}
+
+/// The rectangle's cells among the 64 by 64 from the place (left, top) on, if there are any.
+pub fn part_of(area: Rect, left: u32, top: u32) -> Option<Tile>
+    ensures { MatchOption result ((x y : ℕ) → x < 64 → y < 64 → is_inside area (left + x) (top + y) ≡ false) (λ part. HasCells part (λ x y. is_inside area (left + x) (top + y))) }
+{
+    let (x, w) = overlap(area.x() as u32, area.w() as u32, left);
+    let (y, h) = overlap(area.y() as u32, area.h() as u32, top);
+    if w == 0 || h == 0 {
+        return None;
+    }
+    Some(Tile::rect(x, y, w, h))
+}
+
+// what `len` places from `start` on have in common with the 64 from `from` on: where that begins there, and how many
+fn overlap(start: u32, len: u32, from: u32) -> (u32, u32)
+    requires { start + len < 2 ^ 32 }
+    ensures within { result.0 + result.1 ≤ 64 }
+    ensures same { (k : ℕ) → k < 64 → (nat_le result.0 k && nat_lt k (result.0 + result.1)) ≡ (nat_le start (from + k) && nat_lt (from + k) (start + len)) }
+{
+    let low = start.saturating_sub(from).min(64);
+    let high = (start + len).saturating_sub(from).min(64);
+    (low, high - low)
+}
+
+// the k-th eight cells of a word, the leftmost as the highest bit
+fn byte_of(word: u64, k: u32) -> u8
+    requires { k < 8 }
+    ensures { (i : ℕ) → i < 8 → bit result (7 - i) ≡ bit word (8 * k + i) }
+{
+    ((mirrored(word) >> (8 * k)) % 256) as u8
+}
+
+// the cells of eight bytes
+fn word_of(bytes: &[u8]) -> u64
+    requires { length bytes.now ≡ 8 }
+    ensures { (x : ℕ) → x < 64 → bit result x ≡ row_has bytes.now x }
+{
+    mirrored(u64::from_le_bytes([
+        bytes[0], bytes[1], bytes[2], bytes[3], bytes[4], bytes[5], bytes[6], bytes[7],
+    ]))
+}
+
+// the word with the bits of each byte in reverse
+fn mirrored(word: u64) -> u64
+    ensures { (i : ℕ) → i < 64 → bit result i ≡ bit word (i / 8 * 8 + (7 - i % 8)) }
+{
+    let ones = ((word >> 1) & EVEN_BITS) | ((word & EVEN_BITS) << 1);
+    let pairs = ((ones >> 2) & EVEN_PAIRS) | ((ones & EVEN_PAIRS) << 2);
+    ((pairs >> 4) & LOW_HALVES) | ((pairs & LOW_HALVES) << 4)
+}
+
+/// Adds the counts of four classes.
+pub fn sums(counts: [u64; 4], more: [u32; 4]) -> [u64; 4]
+    requires { (k : ℕ) → k < 4 → slice_index counts k + slice_index more k < 2 ^ 63 }
+    ensures { (k : ℕ) → k < 4 → slice_index result k ≡ slice_index counts k + slice_index more k }
+{
+    [
+        counts[0] + more[0] as u64,
+        counts[1] + more[1] as u64,
+        counts[2] + more[2] as u64,
+        counts[3] + more[3] as u64,
+    ]
+}
+
+#[cfg(test)]
+mod tests;

@@ -1,0 +1,229 @@
+//! Worked examples, with values that were found by hand.
+
+ghost use Rattle.std.specs.Prelude.{◌≡◌, true};
+ghost use Rattle.gas_terms.specs.Cells.{lies_within, extent};
+
+use super::*;
+use std::process::Abort;
+
+// An empty plane of 128 by 128: four tiles.
+fn four_tiles(rt: &(impl Abort + AllocGlobal)) -> Plane {
+    let size = Size::new(128, 128).expect(rt, "a size");
+    Plane::empty(rt.alloc(), size).expect(rt, "memory")
+}
+
+fn area(rt: &impl Abort, plane: &Plane, x: u32, y: u32, w: u32, h: u32) -> Rect
+    ensures { lies_within (extent plane.now) result ≡ true }
+{
+    let area = Rect::within(plane.size(), x, y, w, h).expect(rt, "a rectangle");
+    assert!(rt; area.fits(plane.size()));
+    area
+}
+
+fn holds(plane: &Plane, x: u32, y: u32) -> bool {
+    let size = plane.size();
+    x < size.width() as u32 && y < size.height() as u32 && plane.get(x, y)
+}
+
+#[test]
+fn fills_and_clears_over_the_seams(rt: HostRuntime) {
+    let mut plane = four_tiles(&rt);
+    plane.fill(area(&rt, &plane, 62, 63, 4, 3));
+    plane.clear(area(&rt, &plane, 64, 64, 1, 1));
+    for (x, y, held) in [
+        (61, 63, false),
+        (62, 63, true),
+        (65, 63, true),
+        (66, 63, false),
+        (63, 62, false),
+        (63, 65, true),
+        (63, 66, false),
+        (64, 64, false),
+        (65, 65, true),
+    ] {
+        assert_eq!(rt; holds(&plane, x, y), held, "at {x} {y}");
+    }
+}
+
+#[test]
+fn counts_by_parities(rt: HostRuntime) {
+    let mut plane = four_tiles(&rt);
+    plane.fill(area(&rt, &plane, 62, 63, 4, 3));
+    // columns 62 to 65 and rows 63 to 65
+    let all = plane.counts_in(area(&rt, &plane, 0, 0, 128, 128));
+    assert_eq!(rt; all.as_slice(), [2, 2, 4, 4].as_slice());
+    // columns 63 and 64, rows 64 and 65
+    let part = plane.counts_in(area(&rt, &plane, 63, 64, 2, 9));
+    assert_eq!(rt; part.as_slice(), [1, 1, 1, 1].as_slice());
+}
+
+#[test]
+fn reads_and_writes_rows(rt: HostRuntime) {
+    let mut plane = four_tiles(&rt);
+    let size = plane.size();
+    assert!(rt; size.width() == 128 && size.height() == 128);
+    let mut row = [0; 16];
+    row[0] = 0xc0;
+    row[7] = 0x01;
+    row[8] = 0x90;
+    plane.set_row(70, &row);
+    for (x, held) in [
+        (0, true),
+        (1, true),
+        (2, false),
+        (62, false),
+        (63, true),
+        (64, true),
+        (67, true),
+        (127, false),
+    ] {
+        assert_eq!(rt; holds(&plane, x, 70), held, "at {x}");
+    }
+    assert!(rt; !holds(&plane, 0, 69) && !holds(&plane, 0, 71));
+    let again = plane.size();
+    assert!(rt; again.width() == 128 && again.height() == 128);
+    let mut read = [1; 16];
+    plane.row_bytes(70, &mut read);
+    assert_eq!(rt; read.as_slice(), row.as_slice());
+}
+
+#[test]
+fn has_borders_round_the_torus(rt: HostRuntime) {
+    let mut plane = four_tiles(&rt);
+    plane.fill(area(&rt, &plane, 127, 127, 1, 1));
+    plane.fill(area(&rt, &plane, 64, 5, 1, 1));
+    assert!(rt; plane.size().tiles() == 4);
+    let first = plane.border(0);
+    assert!(rt;
+        first.cell(-1, -1) && first.cell(64, 5) && !first.cell(-1, 5) && !first.cell(64, 64)
+    );
+    let second = plane.border(1);
+    assert!(rt; second.cell(63, -1) && !second.cell(64, 5) && !second.cell(-1, -1));
+}
+
+#[test]
+fn replaces_a_tile(rt: HostRuntime) {
+    let mut plane = four_tiles(&rt);
+    plane.fill(area(&rt, &plane, 0, 0, 128, 128));
+    let was = plane.copy(rt.alloc()).expect(&rt, "memory");
+    assert!(rt; plane.size().tiles() == 4);
+    plane.set_tile(2, Tile::rect(1, 2, 3, 4));
+    let counts = plane.counts_in(area(&rt, &plane, 0, 64, 64, 64));
+    // columns 1 to 3 and rows 66 to 69
+    assert_eq!(rt; counts.as_slice(), [2, 4, 2, 4].as_slice());
+    assert!(rt; holds(&plane, 64, 64) && holds(&plane, 0, 63) && holds(&was, 0, 64));
+    assert!(rt; was.size().tiles() == 4);
+    assert!(rt; was.tile(2).get(0, 0));
+}
+
+#[test]
+fn writes_rows_from_the_highest_bit(rt: HostRuntime) {
+    let size = Size::new(64, 64).expect(&rt, "a size");
+    for (cells, want) in [
+        ((0, 1, 0, 0), [0x80, 0, 0, 0, 0, 0, 0, 0]),
+        ((63, 1, 0, 0), [0, 0, 0, 0, 0, 0, 0, 0x01]),
+        ((0, 1, 63, 1), [0x80, 0, 0, 0, 0, 0, 0, 0x01]),
+        ((28, 8, 0, 0), [0, 0, 0, 0x0f, 0xf0, 0, 0, 0]),
+    ] {
+        let mut plane = Plane::empty(rt.alloc(), size).expect(&rt, "memory");
+        for (x, w) in [(cells.0, cells.1), (cells.2, cells.3)] {
+            if w > 0 {
+                plane.fill(area(&rt, &plane, x, 5, w, 1));
+            }
+        }
+        let sides = plane.size();
+        assert!(rt; sides.width() == 64 && sides.height() == 64);
+        let mut read = [1; 8];
+        plane.row_bytes(5, &mut read);
+        assert_eq!(rt; read.as_slice(), want.as_slice());
+        let mut again = Plane::empty(rt.alloc(), size).expect(&rt, "memory");
+        let sides = again.size();
+        assert!(rt; sides.width() == 64 && sides.height() == 64);
+        again.set_row(5, &want);
+        for x in 0..64 {
+            assert_eq!(rt; holds(&again, x, 5), holds(&plane, x, 5), "at {x}");
+        }
+    }
+}
+
+#[test]
+fn is_as_wide_as_a_lattice_may_be(rt: HostRuntime) {
+    let size = Size::new(4096, 64).expect(&rt, "a size");
+    let mut plane = Plane::empty(rt.alloc(), size).expect(&rt, "memory");
+    plane.fill(area(&rt, &plane, 4030, 10, 66, 2));
+    plane.clear(area(&rt, &plane, 4095, 11, 1, 1));
+    // columns 4030 to 4095 in row 10, and to 4094 in row 11
+    let counts = plane.counts_in(area(&rt, &plane, 0, 0, 4096, 64));
+    assert_eq!(rt; counts.as_slice(), [33, 33, 33, 32].as_slice());
+    assert!(rt; plane.size().tiles() == 64);
+    let first = plane.border(0);
+    assert!(rt; first.cell(-1, 10) && !first.cell(-1, 11) && !first.cell(64, 10));
+    // one row of tiles is above and below itself
+    let last = plane.border(63);
+    assert!(rt; last.cell(-1, 10) && !last.cell(64, 10) && !last.cell(0, -1) && !last.cell(0, 64));
+    let sides = plane.size();
+    assert!(rt; sides.width() == 4096 && sides.height() == 64);
+    let mut row = [0; 512];
+    plane.row_bytes(11, &mut row);
+    assert!(rt; row[502] == 0 && row[503] == 0x03 && row[504] == 0xff && row[511] == 0xfe);
+}
+
+fn is_bare_round(plane: &Plane, i: u32) -> bool {
+    i < plane.size().tiles() && plane.is_bare_round(i)
+}
+
+#[test]
+fn knows_where_it_has_no_cells(rt: HostRuntime) {
+    let size = Size::new(320, 320).expect(&rt, "a size");
+    let mut plane = Plane::empty(rt.alloc(), size).expect(&rt, "memory");
+    for i in 0..25 {
+        assert!(rt; is_bare_round(&plane, i), "at {i}");
+    }
+    // a cell of tile 0: over the seams it stands beside tiles 1, 4, 5, 6, 9, 20, 21 and 24
+    plane.fill(area(&rt, &plane, 5, 5, 1, 1));
+    let held = [0, 1, 4, 5, 6, 9, 20, 21, 24];
+    let copy = plane.copy(rt.alloc()).expect(&rt, "memory");
+    let mut other = Plane::empty(rt.alloc(), size).expect(&rt, "memory");
+    let sides = other.size();
+    let sides_of_plane = plane.size();
+    assert!(rt;
+        sides.width() == sides_of_plane.width() && sides.height() == sides_of_plane.height()
+    );
+    other.copy_from(&plane);
+    assert!(rt; holds(&other, 5, 5));
+    plane.clear(area(&rt, &plane, 0, 0, 320, 320));
+    for i in 0..25u32 {
+        let apart = !held.contains(&i);
+        assert_eq!(rt; is_bare_round(&copy, i), apart, "of the copy at {i}");
+        assert_eq!(rt; is_bare_round(&other, i), apart, "of the other at {i}");
+        assert_eq!(rt; is_bare_round(&plane, i), apart, "after a clear at {i}");
+    }
+}
+
+#[test]
+fn lends_a_tile(rt: HostRuntime) {
+    let mut plane = four_tiles(&rt);
+    assert!(rt; plane.size().tiles() == 4);
+    plane.tile_mut(3).set(1, 2, true);
+    assert!(rt; holds(&plane, 65, 66) && !holds(&plane, 1, 2) && !is_bare_round(&plane, 0));
+    assert!(rt; plane.size().tiles() == 4);
+    plane.tile_mut(3).set(1, 2, false);
+    assert!(rt; !holds(&plane, 65, 66));
+}
+
+// One allocation may be refused here: rt try --test --fail-alloc N, with N from 1 to 6.
+#[test]
+fn asks_again_where_memory_is_refused(rt: HostRuntime) {
+    let size = Size::new(128, 64).expect(&rt, "a size");
+    let mut plane = match Plane::empty(rt.alloc(), size) {
+        Ok(plane) => plane,
+        Err(_) => Plane::empty(rt.alloc(), size).expect(&rt, "memory"),
+    };
+    plane.fill(area(&rt, &plane, 63, 0, 2, 1));
+    let copy = match plane.copy(rt.alloc()) {
+        Ok(copy) => copy,
+        Err(_) => plane.copy(rt.alloc()).expect(&rt, "memory"),
+    };
+    assert!(rt; holds(&copy, 63, 0) && holds(&copy, 64, 0) && !holds(&copy, 65, 0));
+    assert!(rt; holds(&plane, 63, 0) && holds(&plane, 64, 0) && !holds(&plane, 65, 0));
+}

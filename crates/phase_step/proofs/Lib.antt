@@ -1,0 +1,4 @@
+pub mod Rings
+pub mod TurnedTiles
+pub mod PhaseSweeps
+pub mod TakenSums

@@ -1,0 +1,94 @@
+-- The tiles of a plane are turned one after another.
+use Rattle.std.proofs.Common.{◌≡◌, ℕ, ◌+◌, ◌*◌, ◌/◌, ◌%◌, ◌<◌, ◌≤◌, Bool, true, refl, sym, ap, ap₂, subst, ◌∙◌, arith}
+use Rattle.std.proofs.lemmas.Nat.{row-Below}
+use Rattle.std.proofs.Math.Nat.{mod-lt}
+use Rattle.bit_tile.specs.Tile.{HasCells}
+use Rattle.bit_tile.specs.declared.Tile.{Tile}
+use Rattle.gas_terms.specs.Cells.{Cells, Extent, HasSidesOf, HasEvenSides, IsFull, cells_where, has, joined, extent, is_size, tile_count, tile_rectangle}
+use Rattle.gas_terms.specs.Gas.{streamed, arrived, site_of}
+use Rattle.gas_terms.specs.Velocity.{velocity_at}
+use Rattle.gas_plane.specs.Planes.{IsLattice, with_tile, swept}
+use Rattle.gas_plane.proofs.Places.{IsWholeTiles, wide, high, cell_below}
+use Rattle.block_rule.specs.Windows.{IsTilePlace}
+use Rattle.phase_step.specs.Turns.{IsTileAfter}
+
+even_tiles : (n : ℕ) → IsWholeTiles n → n % 2 ≡ 0
+even_tiles n is = omega (arith, is.tiles)
+
+pub whole_tiles : (n : ℕ) → IsWholeTiles n → n % 64 ≡ 0
+whole_tiles n is = omega (arith, is.tiles)
+
+pub even_sides : (cells : Cells) → is_size (extent cells) ≡ true → HasEvenSides cells.width cells.height
+even_sides cells sized = record { wide = even_tiles cells.width (wide (extent cells) sized); high = even_tiles cells.height (high (extent cells) sized) }
+
+end_of : (n k : ℕ) → IsWholeTiles n → k < n / 64 → k * 64 + 64 ≤ n
+end_of n k is less = let last : k * 64 + 63 < n = cell_below n k 63 is less (omega arith) in omega arith
+
+pub place_is : (particles walls obstacles : Cells) (i : ℕ) → is_size (extent particles) ≡ true → i < tile_count particles → HasSidesOf walls particles → HasSidesOf obstacles particles
+    → IsTilePlace particles walls obstacles (tile_rectangle particles i).x (tile_rectangle particles i).y
+place_is particles walls obstacles i sized within of_walls of_obstacles =
+    let across = wide (extent particles) sized in
+    let down = high (extent particles) sized in
+    let column : i % (particles.width / 64) < particles.width / 64 = mod-lt i across.some in
+    let row : i / (particles.width / 64) < particles.height / 64 = (row-Below i (particles.width / 64) (particles.width / 64) (particles.height / 64) within (let k : particles.width / 64 ≤ particles.width / 64 = omega arith in k)).1 in
+    record {
+      even_sides = even_sides particles sized;
+      of_walls = of_walls;
+      of_obstacles = of_obstacles;
+      even_column = omega arith;
+      even_row = omega arith;
+      right = end_of particles.width (i % (particles.width / 64)) across column;
+      bottom = end_of particles.height (i / (particles.width / 64)) down row;
+    }
+
+-- the extents of sets of one torus
+pub same_extent : (cells others : Cells) → HasSidesOf cells others → extent cells ≡ extent others
+same_extent cells others same = ap₂ (λ w h. let e : Extent = record { width = w; height = h } in e) same.wide same.high
+
+pub sized_as : (cells others : Cells) → HasSidesOf cells others → is_size (extent cells) ≡ true → is_size (extent others) ≡ true
+sized_as cells others same sized = ap is_size (sym (same_extent cells others same)) ∙ sized
+
+pub tiles_as : (cells others : Cells) → HasSidesOf cells others → tile_count cells ≡ tile_count others
+tiles_as cells others same = ap₂ (λ w h. w / 64 * (h / 64)) same.wide same.high
+
+pub tiles_are : (cells : Cells) (size : Extent) (end : ℕ) → size ≡ extent cells → end ≡ size.width / 64 * (size.height / 64) → end ≡ tile_count cells
+tiles_are cells size end e f = f ∙ ap (λ (s : Extent). s.width / 64 * (s.height / 64)) e
+
+pub swept_sides : (now start old : Cells) (test : ℕ → ℕ → Bool) (i : ℕ) → now ≡ swept start test i → HasSidesOf start old → HasSidesOf now old
+swept_sides now start old test i e same = record { wide = ap (λ (c : Cells). c.width) e ∙ same.wide; high = ap (λ (c : Cells). c.height) e ∙ same.high }
+
+-- the cells after the phase
+abbrev pub phased : ℕ → Cells → Cells → Cells → ℕ → ℕ → Bool
+phased p particles walls obstacles x y = has (streamed p particles (joined walls obstacles)) x y
+
+pub phase_next : (p : ℕ) (particles walls obstacles start now next : Cells) (i : ℕ) (t : Tile) → IsLattice start → HasSidesOf start particles → now ≡ swept start (phased p particles walls obstacles) i → IsTileAfter p particles walls obstacles i t → next ≡ with_tile now i t
+    → ((cells : Cells) (test : ℕ → ℕ → Bool) (i : ℕ) (t : Tile) → IsLattice cells → HasCells t (λ x y. test ((tile_rectangle cells i).x + x) ((tile_rectangle cells i).y + y)) → with_tile (swept cells test i) i t ≡ swept cells test (i + 1))
+    → next ≡ swept start (phased p particles walls obstacles) (i + 1)
+phase_next p particles walls obstacles start now next i t is same so_far after put law =
+    put
+    ∙ (ap (λ (now : Cells). with_tile now i t) so_far
+    ∙ law start (phased p particles walls obstacles) i t is
+    (subst (λ w. HasCells t (λ x y. phased p particles walls obstacles (i % (w / 64) * 64 + x) (i / (w / 64) * 64 + y))) (sym same.wide) after))
+
+-- a set is made of its own cells
+remade : (width height : ℕ) (test : ℕ → ℕ → Bool) → ((width height : ℕ) (test : ℕ → ℕ → Bool) (x y : ℕ) → x < width → y < height → has (cells_where width height test) x y ≡ test x y) → ((width height : ℕ) (test : ℕ → ℕ → Bool) → IsFull (cells_where width height test))
+    → ((some others : Cells) → IsFull some → IsFull others → some.width ≡ others.width → some.height ≡ others.height → ((x y : ℕ) → x < some.width → y < some.height → has some x y ≡ has others x y) → some ≡ others)
+    → cells_where width height (λ x y. has (cells_where width height test) x y) ≡ cells_where width height test
+remade width height test held full agree =
+    agree (cells_where width height (λ x y. has (cells_where width height test) x y)) (cells_where width height test) (full width height (λ x y. has (cells_where width height test) x y)) (full width height test) refl refl
+    (held width height (λ x y. has (cells_where width height test) x y))
+
+-- the last plane
+pub phase_ends : (p : ℕ) (particles walls obstacles start now : Cells) (i end : ℕ) → IsLattice start → HasSidesOf start particles → end ≡ tile_count start → end ≤ i → i ≤ end → now ≡ swept start (phased p particles walls obstacles) i
+    → ((cells : Cells) (test : ℕ → ℕ → Bool) → IsLattice cells → swept cells test (tile_count cells) ≡ cells_where cells.width cells.height test)
+    → ((width height : ℕ) (test : ℕ → ℕ → Bool) (x y : ℕ) → x < width → y < height → has (cells_where width height test) x y ≡ test x y)
+    → ((width height : ℕ) (test : ℕ → ℕ → Bool) → IsFull (cells_where width height test))
+    → ((some others : Cells) → IsFull some → IsFull others → some.width ≡ others.width → some.height ≡ others.height → ((x y : ℕ) → x < some.width → y < some.height → has some x y ≡ has others x y) → some ≡ others)
+    → now ≡ streamed p particles (joined walls obstacles)
+phase_ends p particles walls obstacles start now i end is same count past reach so_far law held full agree =
+    let all : i ≡ tile_count start = omega arith in
+    so_far
+    ∙ (ap (swept start (phased p particles walls obstacles)) all
+    ∙ (law start (phased p particles walls obstacles) is
+    ∙ (ap₂ (λ w h. cells_where w h (phased p particles walls obstacles)) same.wide same.high
+    ∙ remade particles.width particles.height (λ x y. arrived particles (joined walls obstacles) (site_of (p + 1) particles.width particles.height x y) (velocity_at (p + 1) x y)) held full agree)))

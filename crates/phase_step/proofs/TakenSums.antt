@@ -1,0 +1,136 @@
+-- What tiles take adds up to what the torus takes.
+use Rattle.std.proofs.Common.{◌≡◌, ℕ, zero, suc, ◌+◌, ◌*◌, ◌%◌, ◌<◌, ◌≤◌, ◌==◌, Bool, true, false, [], ◌∷◌, ◌++◌, ℤ, pos, ◌+ℤ◌, ◌-ℤ◌, ◌*ℤ◌, nat_abs, ◌^◌, w64, subst, FitsSigned, sym, ap, ap₂, ◌∙◌, arith, add-one}
+use Rattle.std.specs.List.{range_with_len}
+use Rattle.std.proofs.lemmas.Int.{ints}
+use Rattle.std.proofs.lemmas.List.Sums.{fold-append}
+use Rattle.gas_terms.specs.Velocity.{parity, sign}
+use Rattle.gas_terms.specs.Cells.{Cells, Rectangle, HasEvenSides, extent, is_size, tile_count, tile_rectangle}
+use Rattle.gas_terms.specs.Gas.{takes_for_walls, takes_for_obstacles}
+use Rattle.gas_terms.specs.Accounts.{nothing, plus, plus_all, pair_plus, took_plus, twice_momentum, total_in, stopped, sums_by_parity, parity_count, total, taken, TakenFits}
+use Rattle.gas_terms.specs.declared.accounts.Sums.{Sums}
+use Rattle.gas_terms.specs.declared.accounts.Pair.{Pair}
+use Rattle.gas_terms.specs.declared.accounts.Took.{Took}
+use Rattle.gas_plane.proofs.Places.{wide, high}
+use Rattle.block_rule.specs.Windows.{taken_in}
+use Rattle.phase_step.proofs.PhaseSweeps.{even_sides, whole_tiles}
+
+range_last : (a n : ℕ) → range_with_len a (suc n) ≡ range_with_len a n ++ (a + n) ∷ []
+range_last a zero = ap (λ k. k ∷ []) (let e : a ≡ a + 0 = omega arith in e)
+range_last a (suc n) = ap (λ ks. a ∷ ks) (range_last (a + 1) n ∙ ap (λ k. range_with_len (a + 1) n ++ k ∷ []) (let e : a + 1 + n ≡ a + suc n = omega arith in e))
+
+plus_last : (f : ℕ → Sums) (n : ℕ) → plus_all f (range_with_len 0 (suc n)) ≡ plus (plus_all f (range_with_len 0 n)) (f n)
+plus_last f n =
+    ap (plus_all f) (range_last 0 n)
+    ∙ (fold-append (λ s x. plus s (f x)) nothing (range_with_len 0 n) ((0 + n) ∷ [])
+    ∙ ap (λ k. plus (plus_all f (range_with_len 0 n)) (f k)) (let e : 0 + n ≡ n = omega arith in e))
+
+pair_same : (a b c d : ℤ) → a ≡ c → b ≡ d → (let p : Pair = record { x = a; y = b } in p) ≡ (let q : Pair = record { x = c; y = d } in q)
+pair_same a b c d e f = ap₂ (λ x y. let p : Pair = record { x = x; y = y } in p) e f
+
+twice-plus : (a b : Sums) → twice_momentum (plus a b) ≡ pair_plus (twice_momentum a) (twice_momentum b)
+twice-plus a b = pair_same _ _ _ _ (omega (arith, ints)) (omega (arith, ints))
+
+-- what the tiles below n take, of particles that stand at sites which pass a test
+abbrev pub momentum_below : (ℕ → Sums) → ℕ → Pair
+momentum_below f n = twice_momentum (plus_all f (range_with_len 0 n))
+
+momentum_last : (f : ℕ → Sums) (n : ℕ) → momentum_below f (n + 1) ≡ pair_plus (momentum_below f n) (twice_momentum (f n))
+momentum_last f n = ap (momentum_below f) (add-one n) ∙ (ap twice_momentum (plus_last f n) ∙ twice-plus (plus_all f (range_with_len 0 n)) (f n))
+
+-- sums of at most k particles of each class
+pub record IsSmall (k : ℕ) (s : Sums) : Type 0 where
+  pub x : nat_abs s.px ≤ k
+  pub y : nat_abs s.py ≤ k
+
+small_by_sign : (r : Bool) (z : ℤ) (k : ℕ) → nat_abs z ≤ k → nat_abs (sign r *ℤ z) ≤ k
+small_by_sign true z k h = omega (arith, ints)
+small_by_sign false z k h = omega (arith, ints)
+
+small_difference : (a b c d k : ℕ) → a ≤ k → b ≤ k → c ≤ k → d ≤ k → nat_abs (pos (a + b) -ℤ pos (c + d)) ≤ 2 * k
+small_difference a b c d k p q r s = omega (arith, ints)
+
+small_classes : (tick : ℤ) (a b c d k : ℕ) → a ≤ k → b ≤ k → c ≤ k → d ≤ k → IsSmall (2 * k) (sums_by_parity tick a b c d)
+small_classes tick a b c d k p q r s =
+    record {
+      x = small_by_sign (parity tick == 0) (pos (a + c) -ℤ pos (b + d)) (2 * k) (small_difference a c b d k p r q s);
+      y = small_by_sign (parity tick == 0) (pos (a + b) -ℤ pos (c + d)) (2 * k) (small_difference a b c d k p q r s);
+    }
+
+small_sum : (a b : ℤ) (m k : ℕ) → nat_abs a ≤ m → nat_abs b ≤ k → nat_abs (a +ℤ b) ≤ m + k
+small_sum a b m k p q = omega (arith, ints)
+
+small_below : (f : ℕ → Sums) (k : ℕ) → ((i : ℕ) → IsSmall k (f i)) → (n : ℕ) → IsSmall (k * n) (plus_all f (range_with_len 0 n))
+small_below f k small zero = record { x = omega arith; y = omega arith }
+small_below f k small (suc n) =
+    let before = small_below f k small n in
+    let here = small n in
+    let e : k * suc n ≡ k * n + k = omega arith in
+    rw (plus_last f n, e)
+    (let all : IsSmall (k * n + k) (plus (plus_all f (range_with_len 0 n)) (f n)) =
+    record {
+      x = small_sum (plus_all f (range_with_len 0 n)).px (f n).px (k * n) k before.x here.x;
+      y = small_sum (plus_all f (range_with_len 0 n)).py (f n).py (k * n) k before.y here.y;
+    } in all)
+
+-- what the tiles below n take
+abbrev pub took_below : ℤ → Cells → Cells → Cells → ℕ → Took
+took_below tick particles walls obstacles n =
+    record {
+      walls = momentum_below (λ i. total_in tick (stopped (parity tick) particles (takes_for_walls walls obstacles)) (tile_rectangle particles i)) n;
+      obstacles = momentum_below (λ i. total_in tick (stopped (parity tick) particles (takes_for_obstacles walls obstacles)) (tile_rectangle particles i)) n;
+    }
+
+took_same : (a b c d : Pair) → a ≡ c → b ≡ d → (let p : Took = record { walls = a; obstacles = b } in p) ≡ (let q : Took = record { walls = c; obstacles = d } in q)
+took_same a b c d e f = ap₂ (λ x y. let p : Took = record { walls = x; obstacles = y } in p) e f
+
+pub took_next : (tick : ℤ) (particles walls obstacles : Cells) (i : ℕ) (took more : Took) → took ≡ took_below tick particles walls obstacles i → more ≡ taken_in tick particles walls obstacles (tile_rectangle particles i) → took_plus took more ≡ took_below tick particles walls obstacles (i + 1)
+took_next tick particles walls obstacles i took more so_far here =
+    ap₂ took_plus so_far here
+    ∙ took_same _ _ _ _
+    (sym (momentum_last (λ i. total_in tick (stopped (parity tick) particles (takes_for_walls walls obstacles)) (tile_rectangle particles i)) i))
+    (sym (momentum_last (λ i. total_in tick (stopped (parity tick) particles (takes_for_obstacles walls obstacles)) (tile_rectangle particles i)) i))
+
+-- few particles are taken of
+small_tile : (tick : ℤ) (cells : Cells) (i : ℕ)
+    → ((cells : Cells) (r : Rectangle) (a b : ℕ) → parity_count cells r a b ≤ r.w * r.h)
+    → ((tick : ℤ) (cells : Cells) (r : Rectangle) → total_in tick cells r ≡ sums_by_parity tick (parity_count cells r 0 0) (parity_count cells r 1 0) (parity_count cells r 0 1) (parity_count cells r 1 1))
+    → IsSmall 8192 (total_in tick cells (tile_rectangle cells i))
+small_tile tick cells i counts by_parity =
+    let r : Rectangle = tile_rectangle cells i in
+    subst (IsSmall 8192) (sym (by_parity tick cells r)) (small_classes tick (parity_count cells r 0 0) (parity_count cells r 1 0) (parity_count cells r 0 1) (parity_count cells r 1 1) 4096 (counts cells r 0 0) (counts cells r 1 0) (counts cells r 0 1) (counts cells r 1 1))
+
+fits : (z : ℤ) → nat_abs z ≤ 2 ^ 26 → FitsSigned w64 z
+fits z h = omega (arith, ints)
+
+twice_small : (z : ℤ) (k n : ℕ) → nat_abs z ≤ 8192 * n → n ≤ 4096 → nat_abs (pos 2 *ℤ z) ≤ 2 ^ 26
+twice_small z k n h few = omega (arith, ints)
+
+fits_below : (f : ℕ → Sums) (n : ℕ) → ((i : ℕ) → IsSmall 8192 (f i)) → n ≤ 4096 → TakenFits (momentum_below f n)
+fits_below f n small few =
+    let all = small_below f 8192 small n in
+    (fits _ (twice_small (plus_all f (range_with_len 0 n)).px 0 n all.x few), fits _ (twice_small (plus_all f (range_with_len 0 n)).py 0 n all.y few))
+
+pub fits_next : (tick : ℤ) (particles walls obstacles : Cells) (n : ℕ) (took more : Took) → took_plus took more ≡ took_below tick particles walls obstacles n → n ≤ 4096
+    → ((cells : Cells) (r : Rectangle) (a b : ℕ) → parity_count cells r a b ≤ r.w * r.h)
+    → ((tick : ℤ) (cells : Cells) (r : Rectangle) → total_in tick cells r ≡ sums_by_parity tick (parity_count cells r 0 0) (parity_count cells r 1 0) (parity_count cells r 0 1) (parity_count cells r 1 1))
+    → TakenFits (pair_plus took.walls more.walls) × TakenFits (pair_plus took.obstacles more.obstacles)
+fits_next tick particles walls obstacles n took more e few counts by_parity = (
+  subst TakenFits (sym (ap (λ (t : Took). t.walls) e)) (fits_below (λ i. total_in tick (stopped (parity tick) particles (takes_for_walls walls obstacles)) (tile_rectangle particles i)) n (λ i. small_tile tick (stopped (parity tick) particles (takes_for_walls walls obstacles)) i counts by_parity) few),
+  subst TakenFits (sym (ap (λ (t : Took). t.obstacles) e)) (fits_below (λ i. total_in tick (stopped (parity tick) particles (takes_for_obstacles walls obstacles)) (tile_rectangle particles i)) n (λ i. small_tile tick (stopped (parity tick) particles (takes_for_obstacles walls obstacles)) i counts by_parity) few),
+)
+
+-- all tiles together take what the torus takes
+pub took_all : (p : ℕ) (particles walls obstacles : Cells) → p < 2 → is_size (extent particles) ≡ true
+    → ((tick : ℤ) (particles walls obstacles : Cells) → HasEvenSides particles.width particles.height → (taken (parity tick) particles walls obstacles).walls ≡ twice_momentum (total tick (stopped (parity tick) particles (takes_for_walls walls obstacles))))
+    → ((tick : ℤ) (particles walls obstacles : Cells) → HasEvenSides particles.width particles.height → (taken (parity tick) particles walls obstacles).obstacles ≡ twice_momentum (total tick (stopped (parity tick) particles (takes_for_obstacles walls obstacles))))
+    → ((tick : ℤ) (cells : Cells) → cells.width % 64 ≡ 0 → cells.height % 64 ≡ 0 → total tick cells ≡ plus_all (λ i. total_in tick cells (tile_rectangle cells i)) (range_with_len 0 (tile_count cells)))
+    → took_below (pos p) particles walls obstacles (tile_count particles) ≡ taken p particles walls obstacles
+took_all p particles walls obstacles small sized by_walls by_obstacles by_tiles =
+    let even = even_sides particles sized in
+    let across : particles.width % 64 ≡ 0 = whole_tiles particles.width (wide (extent particles) sized) in
+    let down : particles.height % 64 ≡ 0 = whole_tiles particles.height (high (extent particles) sized) in
+    let same : p % 2 ≡ p = omega arith in
+    took_same _ _ _ _
+    (sym (by_walls (pos p) particles walls obstacles even ∙ ap twice_momentum (by_tiles (pos p) (stopped (parity (pos p)) particles (takes_for_walls walls obstacles)) across down)))
+    (sym (by_obstacles (pos p) particles walls obstacles even ∙ ap twice_momentum (by_tiles (pos p) (stopped (parity (pos p)) particles (takes_for_obstacles walls obstacles)) across down)))
+    ∙ ap (λ q. taken q particles walls obstacles) same

@@ -1,0 +1,33 @@
+//! What a phase means. Each function does nothing: its contract is the law.
+
+ghost use Rattle.std.specs.Prelude.{◌≡◌, ℕ, ℤ, ◌+◌, ◌≤◌, pos, ◌-ℤ◌};
+ghost use Rattle.bit_tile.specs.declared.Tile.{Tile};
+ghost use Rattle.tile_border.specs.declared.Border.{Border};
+ghost use Rattle.gas_terms.specs.Cells.{Cells, HasEvenSides};
+ghost use Rattle.gas_terms.specs.Velocity.{parity};
+ghost use Rattle.gas_terms.specs.Gas.{Gas, streamed, solid, forward, back};
+ghost use Rattle.gas_terms.specs.Accounts.{taken, gas_taken};
+ghost use Rattle.gas_plane.specs.Planes.{IsTileFrom, IsRingRound};
+ghost use Rattle.block_rule.specs.Around.{around};
+ghost use Rattle.block_rule.specs.Windows.{IsWindow};
+
+/// A plane's tile and its border are a window of the torus.
+pub fn tile_and_border_are_a_window()
+    ensures { (t : Tile) (b : Border) (cells : Cells) (x0 y0 : ℕ) → IsTileFrom t cells x0 y0 → IsRingRound b cells x0 y0 →
+        x0 + 64 ≤ cells.width → y0 + 64 ≤ cells.height → IsWindow (around t b) cells x0 y0 }
+{}
+
+/// The phase of a tick's parity is the step forward from it, and that of the parity of the tick before is the step back to
+/// it. What the first takes is what walls and obstacles take in the step forward; what the second takes is what they took in
+/// the step forward that it undoes.
+pub fn phases_are_steps()
+    ensures forward { (g : Gas) → streamed (parity g.tick) g.particles (solid g) ≡ (forward g).particles }
+    ensures forward_took { (g : Gas) → taken (parity g.tick) g.particles g.walls g.obstacles ≡ gas_taken g }
+    ensures back { (g : Gas) → HasEvenSides g.particles.width g.particles.height →
+        streamed (parity (g.tick -ℤ pos 1)) g.particles (solid g) ≡ (back g).particles }
+    ensures back_took { (g : Gas) → HasEvenSides g.particles.width g.particles.height →
+        taken (parity (g.tick -ℤ pos 1)) g.particles g.walls g.obstacles ≡ gas_taken (back g) }
+{
+    gas_terms::laws::rule_is_its_own_inverse();
+    gas_terms::account_laws::taken_both_ways();
+}

@@ -1,0 +1,66 @@
+//! The step over a plane.
+#![tactic(auto)]
+
+ghost use Rattle.std.specs.Prelude.{◌≡◌, ◌<◌};
+ghost use Rattle.gas_terms.specs.Cells.{joined, HasSidesOf};
+ghost use Rattle.gas_terms.specs.Gas.{streamed};
+ghost use Rattle.gas_terms.specs.Accounts.{taken};
+
+pub mod laws;
+mod tiles;
+
+use gas_plane::Plane;
+use gas_terms::Took;
+use tiles::NOTHING;
+pub use tiles::turn_tile_at;
+
+/// What turns the blocks of a plane. It never refuses and takes no memory.
+pub trait Stepper: Drop {
+    /// Turns the blocks of parity 0 or 1: `out` becomes the particles after the phase, and the answer is what walls and
+    /// obstacles took of the particles of `old`.
+    fn phase(
+        &mut self,
+        old: &Plane,
+        walls: &Plane,
+        obstacles: &Plane,
+        parity: u8,
+        out: &mut Plane,
+    ) -> Took
+        requires parity { parity < 2 }
+        requires walls { HasSidesOf walls.now old.now }
+        requires obstacles { HasSidesOf obstacles.now old.now }
+        requires out { HasSidesOf out.old old.now }
+        ensures out { out.new ≡ streamed parity old.now (joined walls.now obstacles.now) }
+        ensures took { result ≡ taken parity old.now walls.now obstacles.now };
+}
+
+/// Turns one tile after another on the calling thread.
+#[derive(Clone, Copy, Debug, Default, PartialEq, Eq)]
+pub struct Serial;
+
+impl Stepper for Serial {
+    fn phase(
+        &mut self,
+        old: &Plane,
+        walls: &Plane,
+        obstacles: &Plane,
+        parity: u8,
+        out: &mut Plane,
+    ) -> Took {
+        gas_plane::laws::tiles_are_swept();
+        gas_terms::laws::made_cells_pass_the_test();
+        gas_terms::laws::cells_that_agree_are_equal();
+        gas_terms::account_laws::taken_over_cells();
+        gas_terms::account_laws::sums_over_tiles();
+        gas_terms::account_laws::sums_by_parities();
+        let mut took = NOTHING;
+        for i in 0..out.size().tiles() {
+            let here = turn_tile_at(old, walls, obstacles, parity, i, out.tile_mut(i));
+            took = took.plus(here);
+        }
+        took
+    }
+}
+
+#[cfg(test)]
+mod tests;

@@ -1,0 +1,164 @@
+//! Worked examples, with values that were found by hand.
+
+ghost use Rattle.std.specs.Prelude.{◌≡◌, ◌<◌, true};
+ghost use Rattle.gas_terms.specs.Cells.{Extent, extent, lies_within, is_inside};
+
+use super::*;
+use gas_terms::{Pair, Rect, Size};
+use std::process::Abort;
+
+const WIDE: u32 = 192;
+
+const HIGH: u32 = 128;
+
+fn plane(rt: &(impl Abort + AllocGlobal), width: u32, height: u32, cells: &[(u32, u32)]) -> Plane {
+    let size = Size::new(width, height).expect(rt, "a size");
+    let mut plane = Plane::empty(rt.alloc(), size).expect(rt, "memory");
+    for (x, y) in cells {
+        plane.fill(Rect::within(size, *x, *y, 1, 1).expect(rt, "a cell"));
+    }
+    plane
+}
+
+fn holds(plane: &Plane, x: u32, y: u32) -> bool {
+    let size = plane.size();
+    x < size.width() as u32 && y < size.height() as u32 && plane.get(x, y)
+}
+
+fn phase(
+    rt: &impl Abort,
+    old: &Plane,
+    walls: &Plane,
+    obstacles: &Plane,
+    parity: u8,
+    out: &mut Plane,
+) -> Took {
+    let size = old.size();
+    assert!(rt; parity < 2);
+    assert!(rt; walls.size() == size);
+    assert!(rt; obstacles.size() == size);
+    assert!(rt; out.size() == size);
+    Serial.phase(old, walls, obstacles, parity, out)
+}
+
+// whether two planes hold the same cells
+fn are_same(some: &Plane, others: &Plane, width: u32, height: u32) -> bool {
+    (0..height).all(|y| (0..width).all(|x| holds(some, x, y) == holds(others, x, y)))
+}
+
+#[test]
+fn head_on_pair_across_tiles(rt: HostRuntime) {
+    let old = plane(&rt, 128, 128, &[(63, 63), (64, 64)]);
+    let none = plane(&rt, 128, 128, &[]);
+    // what was there is overwritten
+    let mut out = plane(&rt, 128, 128, &[(63, 63), (5, 5)]);
+    let took = phase(&rt, &old, &none, &none, 1, &mut out);
+    let want = plane(&rt, 128, 128, &[(64, 63), (63, 64)]);
+    assert!(rt; are_same(&out, &want, 128, 128));
+    let nothing = Pair { x: 0, y: 0 };
+    assert!(rt; took.walls == nothing && took.obstacles == nothing);
+}
+
+#[test]
+fn wall_across_tiles_books_once(rt: HostRuntime) {
+    let nothing = Pair { x: 0, y: 0 };
+    // at an odd tick a particle at (63, 63) goes to the right and down
+    let twice = Pair { x: 2, y: 2 };
+    let old = plane(&rt, 128, 128, &[(63, 63)]);
+    let none = plane(&rt, 128, 128, &[]);
+    let corner = plane(&rt, 128, 128, &[(64, 64)]);
+    let beside = plane(&rt, 128, 128, &[(64, 63)]);
+    for (walls, obstacles, by_walls, by_obstacles) in [
+        (&corner, &none, twice, nothing),
+        (&none, &corner, nothing, twice),
+        (&beside, &corner, nothing, twice),
+        (&corner, &beside, nothing, twice),
+    ] {
+        let mut out = plane(&rt, 128, 128, &[]);
+        let took = phase(&rt, &old, walls, obstacles, 1, &mut out);
+        assert!(rt; are_same(&out, &old, 128, 128));
+        assert!(rt; took.walls == by_walls && took.obstacles == by_obstacles);
+    }
+}
+
+#[test]
+fn wall_in_a_tile_at_an_even_tick(rt: HostRuntime) {
+    // (63, 62) goes to the left and down, and meets the wall of its block at (62, 63)
+    let old = plane(&rt, 128, 64, &[(63, 62), (10, 10)]);
+    let none = plane(&rt, 128, 64, &[]);
+    let walls = plane(&rt, 128, 64, &[(62, 63)]);
+    let mut out = plane(&rt, 128, 64, &[]);
+    let took = phase(&rt, &old, &walls, &none, 0, &mut out);
+    let want = plane(&rt, 128, 64, &[(63, 62), (11, 11)]);
+    assert!(rt; are_same(&out, &want, 128, 64));
+    assert!(rt; took.walls == Pair { x: -2, y: 2 } && took.obstacles == Pair { x: 0, y: 0 });
+}
+
+#[test]
+fn steps_over_the_seam_and_back(rt: HostRuntime) {
+    let none = plane(&rt, 128, 64, &[]);
+    for (from, to) in [
+        ((127, 63), (0, 0)),
+        ((0, 63), (127, 0)),
+        ((127, 0), (0, 63)),
+        ((0, 0), (127, 63)),
+    ] {
+        let old = plane(&rt, 128, 64, &[from]);
+        let mut out = plane(&rt, 128, 64, &[]);
+        phase(&rt, &old, &none, &none, 1, &mut out);
+        let want = plane(&rt, 128, 64, &[to]);
+        assert!(rt; are_same(&out, &want, 128, 64));
+        let mut again = plane(&rt, 128, 64, &[]);
+        phase(&rt, &out, &none, &none, 1, &mut again);
+        assert!(rt; are_same(&again, &old, 128, 64));
+    }
+}
+
+// cells by a linear congruence, about one in `every`
+fn scattered(rt: &(impl Abort + AllocGlobal), seed: u32, every: u32) -> Plane {
+    let size = Size::new(WIDE, HIGH).expect(rt, "a size");
+    let mut plane = Plane::empty(rt.alloc(), size).expect(rt, "memory");
+    let mut state = seed;
+    for y in 0..HIGH {
+        for x in 0..WIDE {
+            state = state.wrapping_mul(1664525).wrapping_add(1013904223);
+            if every > 0 && (state / 65536) % every == 0 {
+                plane.fill(Rect::within(size, x, y, 1, 1).expect(rt, "a cell"));
+            }
+        }
+    }
+    plane
+}
+
+fn add(total: &mut Pair, more: Pair) {
+    total.x = total.x.wrapping_add(more.x);
+    total.y = total.y.wrapping_add(more.y);
+}
+
+#[test]
+fn fifty_steps_and_back(rt: HostRuntime) {
+    let start = scattered(&rt, 1, 3);
+    let walls = scattered(&rt, 2, 400);
+    let obstacles = scattered(&rt, 3, 700);
+    let mut now = scattered(&rt, 1, 3);
+    let mut next = scattered(&rt, 4, 2);
+    let mut by_walls = Pair { x: 0, y: 0 };
+    let mut by_obstacles = Pair { x: 0, y: 0 };
+    for t in 0..50u8 {
+        let took = phase(&rt, &now, &walls, &obstacles, t % 2, &mut next);
+        add(&mut by_walls, took.walls);
+        add(&mut by_obstacles, took.obstacles);
+        std::mem::swap(&mut now, &mut next);
+    }
+    assert!(rt; !are_same(&now, &start, WIDE, HIGH));
+    let mut back_walls = Pair { x: 0, y: 0 };
+    let mut back_obstacles = Pair { x: 0, y: 0 };
+    for t in (0..50u8).rev() {
+        let took = phase(&rt, &now, &walls, &obstacles, t % 2, &mut next);
+        add(&mut back_walls, took.walls);
+        add(&mut back_obstacles, took.obstacles);
+        std::mem::swap(&mut now, &mut next);
+    }
+    assert!(rt; are_same(&now, &start, WIDE, HIGH));
+    assert!(rt; by_walls == back_walls && by_obstacles == back_obstacles);
+}

@@ -1,0 +1,92 @@
+//! The ring of cells round a tile.
+#![tactic(auto)]
+
+ghost use Rattle.std.specs.Prelude.{◌≡◌, ℕ, ◌+◌, ◌<◌, ◌≤◌, pos, negsuc, ◌≤ℤ◌};
+ghost use Rattle.bit_tile.specs.Bit.{bit};
+ghost use Rattle.bit_tile.specs.Tile.{has};
+
+use bit_tile::Tile;
+
+/// The cells of the eight tiles round a tile that touch it.
+#[derive(Clone, Copy)]
+pub struct Border {
+    /// The row above the tile and the row below it.
+    pub above: u64,
+    pub below: u64,
+    /// For each row from the one above to the one below: the cell to the left of the tile's columns is the lowest bit,
+    /// the cell to their right is the highest.
+    pub sides: [u64; 66],
+}
+
+impl Border {
+    ghost use Rattle.tile_border.specs.Ring.{ring, IsOnRing, numbered};
+
+    /// The cells that touch a tile with these neighbors.
+    pub fn of(
+        above: &Tile,
+        below: &Tile,
+        left: &Tile,
+        right: &Tile,
+        above_left: &Tile,
+        above_right: &Tile,
+        below_left: &Tile,
+        below_right: &Tile,
+    ) -> Border
+        ensures above { (x : ℕ) → x < 64 → ring result (x + 1) 0 ≡ has above.now x 63 }
+        ensures below { (x : ℕ) → x < 64 → ring result (x + 1) 65 ≡ has below.now x 0 }
+        ensures left { (y : ℕ) → y < 64 → ring result 0 (y + 1) ≡ has left.now 63 y }
+        ensures right { (y : ℕ) → y < 64 → ring result 65 (y + 1) ≡ has right.now 0 y }
+        ensures above_left { ring result 0 0 ≡ has above_left.now 63 63 }
+        ensures above_right { ring result 65 0 ≡ has above_right.now 0 63 }
+        ensures below_left { ring result 0 65 ≡ has below_left.now 63 0 }
+        ensures below_right { ring result 65 65 ≡ has below_right.now 0 0 }
+    {
+        let mut sides = [0; 66];
+        for y in 0..64usize {
+            sides[y + 1] = side(left.rows[y], right.rows[y]);
+        }
+        sides[0] = side(above_left.rows[63], above_right.rows[63]);
+        sides[65] = side(below_left.rows[0], below_right.rows[0]);
+        Border {
+            above: above.rows[63],
+            below: below.rows[0],
+            sides,
+        }
+    }
+
+    /// The cell that is dx columns and dy rows from the tile's first.
+    pub fn cell(&self, dx: i32, dy: i32) -> bool
+        requires x_low { negsuc 0 ≤ℤ dx }
+        requires y_low { negsuc 0 ≤ℤ dy }
+        requires ring { IsOnRing (numbered dx) (numbered dy) }
+        ensures { result ≡ ring self.now (numbered dx) (numbered dy) }
+    {
+        self.at((dx + 1) as u32, (dy + 1) as u32)
+    }
+
+    fn at(&self, i: u32, j: u32) -> bool
+        requires { IsOnRing i j }
+        ensures { result ≡ ring self.now i j }
+    {
+        if i == 0 {
+            self.sides[j as usize] & 1 == 1
+        } else if i == 65 {
+            (self.sides[j as usize] >> 63) & 1 == 1
+        } else if j == 0 {
+            (self.above >> (i - 1)) & 1 == 1
+        } else {
+            (self.below >> (i - 1)) & 1 == 1
+        }
+    }
+}
+
+// the last cell of one row and the first of another, as the lowest and the highest bit
+fn side(left: u64, right: u64) -> u64
+    ensures low { bit result 0 ≡ bit left 63 }
+    ensures high { bit result 63 ≡ bit right 0 }
+{
+    (left >> 63) | (right << 63)
+}
+
+#[cfg(test)]
+mod tests;

@@ -1,0 +1,74 @@
+//! Worked examples, with values that were found by hand.
+
+use super::*;
+
+#[test]
+fn the_ring_is_what_the_neighbors_touch(rt: HostRuntime) {
+    let mut above = Tile::empty();
+    let mut below = Tile::empty();
+    let mut left = Tile::empty();
+    let mut right = Tile::empty();
+    above.set(5, 63, true);
+    above.set(9, 0, true);
+    below.set(6, 0, true);
+    below.set(10, 63, true);
+    left.set(63, 7, true);
+    left.set(0, 11, true);
+    right.set(0, 8, true);
+    right.set(63, 12, true);
+    let none = Tile::empty();
+    let border = Border::of(&above, &below, &left, &right, &none, &none, &none, &none);
+
+    assert!(rt;
+        border.cell(5, -1) && border.cell(6, 64) && border.cell(-1, 7) && border.cell(64, 8)
+    );
+    // each of these on the other side
+    assert!(rt;
+        !border.cell(5, 64) && !border.cell(6, -1) && !border.cell(64, 7) && !border.cell(-1, 8)
+    );
+    // cells that do not touch the tile
+    assert!(rt;
+        !border.cell(9, -1) && !border.cell(10, 64) && !border.cell(-1, 11) && !border.cell(64, 12)
+    );
+}
+
+#[test]
+fn each_corner_is_a_corner_of_its_tile(rt: HostRuntime) {
+    let none = Tile::empty();
+    let all = Tile::rect(0, 0, 64, 64);
+    let upper_left = Tile::rect(0, 0, 1, 1);
+    let upper_right = Tile::rect(63, 0, 1, 1);
+    let lower_left = Tile::rect(0, 63, 1, 1);
+    let lower_right = Tile::rect(63, 63, 1, 1);
+
+    // the neighbors' cells that touch the tile's corners
+    let touching = Border::of(
+        &none,
+        &none,
+        &none,
+        &none,
+        &lower_right,
+        &lower_left,
+        &upper_right,
+        &upper_left,
+    );
+    assert!(rt; touching.cell(-1, -1) && touching.cell(64, -1));
+    assert!(rt; touching.cell(-1, 64) && touching.cell(64, 64));
+    assert!(rt; !touching.cell(0, -1) && !touching.cell(-1, 0));
+    assert!(rt; !touching.cell(63, 64) && !touching.cell(64, 63));
+
+    // the neighbors at the sides are full, and those at the corners have cells that do not touch it
+    let apart = Border::of(
+        &all,
+        &all,
+        &all,
+        &all,
+        &upper_left,
+        &upper_right,
+        &lower_left,
+        &lower_right,
+    );
+    assert!(rt; !apart.cell(-1, -1) && !apart.cell(64, -1));
+    assert!(rt; !apart.cell(-1, 64) && !apart.cell(64, 64));
+    assert!(rt; apart.cell(0, -1) && apart.cell(-1, 0) && apart.cell(63, 64) && apart.cell(64, 63));
+}
