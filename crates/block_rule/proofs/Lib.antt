@@ -6,3 +6,4 @@ pub mod ByCorner
 pub mod Holding
 pub mod Torus
 pub mod TorusTook
+pub mod Sides

@@ -12,6 +12,7 @@ use Rattle.gas_terms.proofs.RectangleTotals.{parity_count_is, total_in-parities,
 use Rattle.gas_terms.proofs.ProbeTotals.{total_in-within}
 use Rattle.gas_terms.proofs.ChangeTotals.{total-change}
 use Rattle.gas_terms.proofs.Totals.{same_sums}
+use Rattle.gas_ledger.proofs.TotalBounds.{same_counts}
 
 pub none_inside : (there inside p q : Bool) → there ≡ false → ◌≡◌ {A = ℕ} (cond (there && inside && p && q) 1 0) 0
 none_inside there inside p q e = rw e refl
@@ -33,10 +34,8 @@ no_momentum false = refl
 
 no_sums : (tick : ℤ) (a b c d : ℕ) → a ≡ 0 → b ≡ 0 → c ≡ 0 → d ≡ 0 → sums_by_parity tick a b c d ≡ nothing
 no_sums tick a b c d e f g h =
-    ap (λ n. sums_by_parity tick n b c d) e
-    ∙ (ap (λ n. sums_by_parity tick 0 n c d) f
-    ∙ (ap (λ n. sums_by_parity tick 0 0 n d) g
-    ∙ (ap (λ n. sums_by_parity tick 0 0 0 n) h ∙ same_sums (sums_by_parity tick 0 0 0 0) nothing refl (no_momentum (parity tick == 0)) (no_momentum (parity tick == 0)))))
+    same_counts tick a 0 b 0 c 0 d 0 e f g h
+    ∙ same_sums (sums_by_parity tick 0 0 0 0) nothing refl (no_momentum (parity tick == 0)) (no_momentum (parity tick == 0))
 
 -- no cells have no sums
 pub total-none : (tick : ℤ) (cells : Cells) → HasEvenSides cells.width cells.height → ((x y : ℕ) → x < cells.width → y < cells.height → has cells x y ≡ false) → total tick cells ≡ nothing

@@ -1,16 +1,13 @@
 -- From counts to what a change of the particles brings in and takes out.
-use Rattle.std.proofs.Common.{◌≡◌, ℕ, ◌+◌, ◌<◌, ◌==◌, nat_lt, nat_le, Bool, true, false, ◌&&◌, ◌||◌, not, cond, if◌then◌else◌, List, [], ◌∷◌, map, filter, inl, inr, refl, sym, ap, ap₂, ◌∙◌, arith, ℤ}
+use Rattle.std.proofs.Common.{◌≡◌, ℕ, ◌<◌, Bool, true, false, ◌&&◌, ◌||◌, not, cond, List, [], ◌∷◌, map, filter, refl, sym, ap, ap₂, ◌∙◌, arith, ℤ}
 use Rattle.std.specs.List.{list_any}
-use Rattle.std.proofs.lemmas.Bool.{cases_eq, ne_eqb}
-use Rattle.std.proofs.lemmas.Bool.Decides.{nat_tests}
-use Rattle.gas_terms.specs.Cells.{Cells, Rectangle, has, is_inside, extent, is_size, lies_within, whole, without, filled, cleared, HasEvenSides, cells_where}
-use Rattle.gas_terms.specs.Rows.{row_has, row_replaced}
+use Rattle.gas_terms.specs.Cells.{Cells, Rectangle, has, is_inside, extent, lies_within, whole, without, filled, cleared, HasEvenSides}
+use Rattle.gas_terms.specs.Rows.{row_replaced}
 use Rattle.gas_terms.specs.Gas.{Source, is_due}
 use Rattle.gas_terms.specs.Accounts.{total, total_in, gained, lost, nothing, minus}
-use Rattle.gas_terms.proofs.Cells.{has-cells_where, same_cells_where}
+use Rattle.gas_terms.proofs.Cells.{same_cells_where}
 use Rattle.gas_terms.proofs.AccountBounds.{size-even, size-width, size-height}
 use Rattle.gas_terms.proofs.RectangleTotals.{total-whole}
-use Rattle.gas_terms.proofs.ProbeTotals.{total_in-within}
 use Rattle.gas_plane.specs.Planes.{IsLattice}
 use Rattle.gas_terms.specs.declared.accounts.Sums.{Sums}
 use Rattle.gas_ledger.specs.declared.change.Change.{Change}
@@ -20,6 +17,7 @@ use Rattle.gas_ledger.specs.Counts.{AreCounts, AreSmall, moved_by_counts}
 use Rattle.gas_ledger.specs.Moves.{moved_by}
 use Rattle.gas_ledger.specs.Exchanges.{is_in_any, row_of, exchanged}
 use Rattle.gas_ledger.proofs.Counting.{counted_sums, counts_small}
+use Rattle.gas_ledger.proofs.RowSums.{row_alone, other_row}
 use Rattle.gas_ledger.proofs.Emptied.{not_both, gained-filled, lost-filled, gained-cleared, lost-cleared}
 
 -- a source that is due fills its rectangle
@@ -61,43 +59,6 @@ pub lattice_counts_small : (counts : List ℕ) (cells old : Cells) → IsLattice
 lattice_counts_small counts cells old is are = counts_small counts cells (whole old) are (size-width (extent old) is.sized) (size-height (extent old) is.sized)
 
 -- Counts over a row.
-in_row : (w y x y' : ℕ) → x < w → y' ≡ y → (nat_le 0 x && nat_lt x (0 + w) && nat_le y y' && nat_lt y' (y + 1)) ≡ true
-in_row w y x y' p e = grind (arith, nat_tests)
-
-and_true : (b c : Bool) → c ≡ true → (b && c) ≡ b
-and_true true c e = e
-and_true false c e = refl
-
-neither : (b c : Bool) → b ≡ false → (b && c) ≡ b
-neither b c e = rw e refl
-
-row_fits : (w h y : ℕ) → 0 < w → y < h → (nat_lt 0 w && nat_lt 0 1 && nat_le (0 + w) w && nat_le (y + 1) h) ≡ true
-row_fits w h y p q = grind (arith, nat_tests)
-
-size-some : (w h : ℕ) → is_size (record { width = w; height = h }) ≡ true → 0 < w
-size-some w h size = grind (arith, nat_tests)
-
--- a set that has no cells outside a row
-row_alone : (tick : ℤ) (w h y : ℕ) (f : ℕ → ℕ → Bool) → is_size (record { width = w; height = h }) ≡ true → y < h → ((i j : ℕ) → i < w → j < h → (j ≡ y → ⊥) → f i j ≡ false)
-    → total_in tick (cells_where w h f) (row_of (cells_where w h f) y) ≡ total tick (cells_where w h f)
-row_alone tick w h y f size below alone =
-    let even : HasEvenSides w h = size-even (record { width = w; height = h }) size in
-    let cells : Cells = cells_where w h f in
-    let some : 0 < w = size-some w h size in
-    total_in-within tick cells (row_of cells y) even (row_fits w h y some below)
-    ∙ ap (total tick)
-    (same_cells_where w h (λ i j. has cells i j && is_inside (row_of cells y) i j) f
-    (λ i j p q.
-    elim (cases_eq j y) [
-      | inl e ↦ and_true (has cells i j) (is_inside (row_of cells y) i j) (in_row w y i j p e) ∙ has-cells_where w h f i j p q
-      | inr ne ↦ neither (has cells i j) (is_inside (row_of cells y) i j) (has-cells_where w h f i j p q ∙ alone i j p q ne) ∙ has-cells_where w h f i j p q
-    ]))
-
-same_elsewhere : (cells : Cells) (y : ℕ) (bytes : List ℕ) (i j : ℕ) → i < cells.width → j < cells.height → (j ≡ y → ⊥) → has (row_replaced cells y bytes) i j ≡ has cells i j
-same_elsewhere cells y bytes i j p q ne =
-    has-cells_where cells.width cells.height (λ x j. if j == y then row_has bytes x else has cells x j) i j p q
-    ∙ ap (λ b. if b then row_has bytes i else has cells i j) (ne_eqb j y ne)
-
 pub moved_by_row : (tick : ℤ) (cells : Cells) (y : ℕ) (bytes : List ℕ) (change : Change) → IsLattice cells → y < cells.height
     → AreCounts change.gained (without (row_replaced cells y bytes) cells) (row_of cells y) → AreCounts change.lost (without cells (row_replaced cells y bytes)) (row_of cells y)
     → moved_by_counts tick change ≡ moved_by tick cells (row_replaced cells y bytes)
@@ -105,10 +66,10 @@ moved_by_row tick cells y bytes change is below came went =
     same_moved (moved_by_counts tick change) (moved_by tick cells (row_replaced cells y bytes))
     (counted_sums tick change.gained (without (row_replaced cells y bytes) cells) (row_of cells y) came
     ∙ row_alone tick cells.width cells.height y (λ i j. has (row_replaced cells y bytes) i j && not (has cells i j)) is.sized below
-    (λ i j p q ne. ap (λ b. b && not (has cells i j)) (same_elsewhere cells y bytes i j p q ne) ∙ not_both (has cells i j)))
+    (λ i j p q ne. ap (λ b. b && not (has cells i j)) (other_row cells y bytes i j p q ne) ∙ not_both (has cells i j)))
     (counted_sums tick change.lost (without cells (row_replaced cells y bytes)) (row_of cells y) went
     ∙ row_alone tick cells.width cells.height y (λ i j. has cells i j && not (has (row_replaced cells y bytes) i j)) is.sized below
-    (λ i j p q ne. ap (λ b. has cells i j && not b) (same_elsewhere cells y bytes i j p q ne) ∙ not_both (has cells i j)))
+    (λ i j p q ne. ap (λ b. has cells i j && not b) (other_row cells y bytes i j p q ne) ∙ not_both (has cells i j)))
 
 pub row_counts_small : (counts : List ℕ) (cells old : Cells) (y : ℕ) → IsLattice old → AreCounts counts cells (row_of old y) → AreSmall counts
 row_counts_small counts cells old y is are = counts_small counts cells (row_of old y) are (size-width (extent old) is.sized) (omega arith)

@@ -1,36 +1,13 @@
--- The cells of a row, from the left.
-use Rattle.std.proofs.Common.{◌≡◌, ℕ, ◌+◌, ◌*◌, ◌%◌, ◌<◌, ◌≤◌, ◌==◌, Bool, true, false, ◌&&◌, not, cond, if◌then◌else◌, List, [], ◌∷◌, length, get_or, set, inl, inr, refl, sym, ap, ap₂, ◌∙◌, add-one, arith, get_or-set_other, get_or-set_same}
+-- Counts of the cells of a row, from the left.
+use Rattle.std.proofs.Common.{◌≡◌, ℕ, ◌+◌, ◌*◌, ◌%◌, ◌<◌, ◌≤◌, ◌==◌, Bool, true, false, ◌&&◌, not, cond, List, [], ◌∷◌, length, get_or, set, inl, inr, refl, sym, ap, ap₂, ◌∙◌, arith, get_or-set_other, get_or-set_same}
 use mir.Val.{bool_byte}
 use Rattle.std.proofs.lemmas.Bool.{cases_eq, eq-eqb, ne_eqb}
 use Rattle.bit_tile.proofs.Bits.{get_or-replicate_zero}
-use Rattle.gas_terms.specs.Cells.{Cells, Rectangle, has, without}
+use Rattle.gas_terms.specs.Cells.{Cells, has, without}
 use Rattle.gas_terms.specs.Rows.{row_has, row_replaced}
-use Rattle.gas_terms.specs.Accounts.{parity_count}
 use Rattle.gas_terms.proofs.Cells.{has-cells_where}
-use Rattle.gas_terms.proofs.FiniteSums.{sum_below}
-use Rattle.gas_terms.proofs.RectangleTotals.{parity_count_is}
+use Rattle.gas_ledger.proofs.RowSums.{strip, strip_count, strip_next, new_row}
 use Rattle.gas_ledger.specs.Counts.{AreCounts}
-
--- the first w cells of row y
-abbrev pub strip : ℕ → ℕ → Rectangle
-strip y w = record { x = 0; y = y; w = w; h = 1 }
-
-abbrev picked : Cells → ℕ → ℕ → ℕ → ℕ → ℕ
-picked cells y a b x = cond (has cells (0 + x) (y + 0) && ((0 + x) % 2 == a) && ((y + 0) % 2 == b)) 1 0
-
-strip_count : (cells : Cells) (y w a b : ℕ) → parity_count cells (strip y w) a b ≡ sum_below w (picked cells y a b)
-strip_count cells y w a b = parity_count_is cells (strip y w) a b ∙ (let e : 0 + sum_below w (picked cells y a b) ≡ sum_below w (picked cells y a b) = omega arith in e)
-
--- one cell more
-strip_next : (cells : Cells) (y w a b : ℕ) → parity_count cells (strip y (w + 1)) a b ≡ parity_count cells (strip y w) a b + cond (has cells w y && (w % 2 == a) && (y % 2 == b)) 1 0
-strip_next cells y w a b =
-    let e : 0 + w ≡ w = omega arith in
-    let f : y + 0 ≡ y = omega arith in
-    let last : picked cells y a b w ≡ cond (has cells w y && (w % 2 == a) && (y % 2 == b)) 1 0 =
-    ap₂ (λ m n. cond (has cells m n && (m % 2 == a) && (n % 2 == b)) 1 0) e f in
-    strip_count cells y (w + 1) a b
-    ∙ (ap (λ n. sum_below n (picked cells y a b)) (add-one w)
-    ∙ ap₂ (λ m n. m + n) (sym (strip_count cells y w a b)) last)
 
 both_true : (t p q : Bool) → p ≡ true → q ≡ true → (t && p && q) ≡ t
 both_true true p q e f = rw (e, f) refl
@@ -107,16 +84,6 @@ pub strip_starts : (cells : Cells) (y : ℕ) → AreCounts (0 ∷ 0 ∷ 0 ∷ 0 
 strip_starts cells y = record { count = λ a b p q. get_or-replicate_zero 4 (2 * b + a) ∙ sym (strip_count cells y 0 a b) }
 
 -- what comes in and what goes out in the row
-new_row : (cells : Cells) (row : ℕ) (bytes : List ℕ) (x : ℕ) → x < cells.width → row < cells.height → has (row_replaced cells row bytes) x row ≡ row_has bytes x
-new_row cells row bytes x p q =
-    has-cells_where cells.width cells.height (λ x y. if y == row then row_has bytes x else has cells x y) x row p q
-    ∙ ap (λ b. if b then row_has bytes x else has cells x row) (eq-eqb row row refl)
-
-other_row : (cells : Cells) (row : ℕ) (bytes : List ℕ) (x y : ℕ) → x < cells.width → y < cells.height → (y ≡ row → ⊥) → has (row_replaced cells row bytes) x y ≡ has cells x y
-other_row cells row bytes x y p q ne =
-    has-cells_where cells.width cells.height (λ x y. if y == row then row_has bytes x else has cells x y) x y p q
-    ∙ ap (λ b. if b then row_has bytes x else has cells x y) (ne_eqb y row ne)
-
 pub came_cell : (cells : Cells) (row : ℕ) (bytes : List ℕ) (x : ℕ) (was is : Bool) → x < cells.width → row < cells.height → was ≡ has cells x row → is ≡ row_has bytes x → (is && not was) ≡ has (without (row_replaced cells row bytes) cells) x row
 came_cell cells row bytes x was is p q e f =
     ap₂ (λ u v. u && not v) (f ∙ sym (new_row cells row bytes x p q)) e

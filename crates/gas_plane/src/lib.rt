@@ -10,6 +10,8 @@ ghost use Rattle.gas_terms.specs.Rows.{row_has, row_replaced, row_bytes};
 ghost use Rattle.gas_plane.specs.Planes.{IsLattice, IsTileFrom, IsRingRound, IsBareRound, tile_of, with_tile, with_word, painted_where};
 ghost use Rattle.gas_plane.specs.Lending.{LendsTile};
 ghost use Rattle.bit_tile.specs.Tile.{HasCells};
+ghost use Rattle.tile_border.specs.Ring.{IsBorderOf};
+ghost use Rattle.tile_border.specs.declared.Border.{Border as RingCells};
 ghost use Rattle.bit_tile.specs.Tile as in_tile;
 
 pub mod laws;
@@ -20,7 +22,7 @@ use gas_terms::{NoMemory, Rect, Size};
 use marks::{after, before, hold};
 use std::alloc::Global;
 use std::marker::Model;
-use tile_border::Border;
+use tile_border::{Border, Round};
 
 const EVEN_BITS: u64 = 0x5555_5555_5555_5555;
 
@@ -164,7 +166,33 @@ impl Plane {
         self.bare_round[i as usize]
     }
 
-    /// The cells round tile i: the lattice is a torus.
+    /// The eight tiles round tile i: the lattice is a torus.
+    #[inline]
+    pub fn round(&self, i: u32) -> Round<'_>
+        requires { i < tile_count self.now }
+        ensures { let r = tile_rectangle self.now i in (b : RingCells) → IsBorderOf b result.above.now result.below.now result.left.now result.right.now result.above_left.now result.above_right.now result.below_left.now result.below_right.now → IsRingRound b self.now r.x r.y }
+    {
+        let across = self.across();
+        let down = self.down();
+        let column = i % across;
+        let row = i / across;
+        let left = before(column, across);
+        let right = after(column, across);
+        let above = before(row, down);
+        let below = after(row, down);
+        Round {
+            above: self.tile_in(column, above),
+            below: self.tile_in(column, below),
+            left: self.tile_in(left, row),
+            right: self.tile_in(right, row),
+            above_left: self.tile_in(left, above),
+            above_right: self.tile_in(right, above),
+            below_left: self.tile_in(left, below),
+            below_right: self.tile_in(right, below),
+        }
+    }
+
+    /// The cells round tile i.
     pub fn border(&self, i: u32) -> Border
         requires { i < tile_count self.now }
         ensures { let r = tile_rectangle self.now i in IsRingRound result self.now r.x r.y }
@@ -176,23 +204,16 @@ impl Plane {
                 sides: [0; 66],
             };
         }
-        let across = self.across();
-        let down = self.down();
-        let column = i % across;
-        let row = i / across;
-        let left = before(column, across);
-        let right = after(column, across);
-        let above = before(row, down);
-        let below = after(row, down);
+        let round = self.round(i);
         Border::of(
-            self.tile_in(column, above),
-            self.tile_in(column, below),
-            self.tile_in(left, row),
-            self.tile_in(right, row),
-            self.tile_in(left, above),
-            self.tile_in(right, above),
-            self.tile_in(left, below),
-            self.tile_in(right, below),
+            round.above,
+            round.below,
+            round.left,
+            round.right,
+            round.above_left,
+            round.above_right,
+            round.below_left,
+            round.below_right,
         )
     }
 

@@ -6,7 +6,9 @@ ghost use Rattle.gas_plane.specs.Planes.{IsBareRound};
 ghost use Rattle.block_rule.specs.Windows.{IsTilePlace, taken_in};
 ghost use Rattle.phase_step.specs.Turns.{IsTileAfter};
 
-use block_rule::{turn_free_tile_even, turn_free_tile_odd, turn_tile_even, turn_tile_odd};
+use block_rule::{
+    turn_free_tile_even, turn_free_tile_odd_among, turn_tile_even, turn_tile_odd_among,
+};
 use gas_plane::{Plane, Tile};
 use gas_terms::{Pair, Took};
 
@@ -69,14 +71,15 @@ fn turn_odd(old: &Plane, walls: &Plane, obstacles: &Plane, i: u32, out: &mut Til
     block_rule::laws::tiles_see_the_torus();
     block_rule::laws::tiles_turn_as_the_torus();
     block_rule::laws::tiles_take_as_the_torus();
-    let border = old.border(i);
+    tile_border::laws::tiles_have_a_border();
+    let round = old.round(i);
     if is_free(walls, obstacles, i) {
-        turn_free_tile_odd(old.tile(i), &border, out);
+        turn_free_tile_odd_among(old.tile(i), &round, out);
         NOTHING
     } else {
-        turn_tile_odd(
+        turn_tile_odd_among(
             old.tile(i),
-            &border,
+            &round,
             walls.tile(i),
             &walls.border(i),
             obstacles.tile(i),

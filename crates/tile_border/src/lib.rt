@@ -1,9 +1,11 @@
 //! The ring of cells round a tile.
 #![tactic(auto)]
 
-ghost use Rattle.std.specs.Prelude.{◌≡◌, ℕ, ◌+◌, ◌<◌, ◌≤◌, pos, negsuc, ◌≤ℤ◌};
+ghost use Rattle.std.specs.Prelude.{◌≡◌, ℕ, ◌+◌, ◌<◌, ◌≤◌, slice_index, pos, negsuc, ◌≤ℤ◌};
 ghost use Rattle.bit_tile.specs.Bit.{bit};
 ghost use Rattle.bit_tile.specs.Tile.{has};
+
+pub mod laws;
 
 use bit_tile::Tile;
 
@@ -77,6 +79,49 @@ impl Border {
         } else {
             (self.below >> (i - 1)) & 1 == 1
         }
+    }
+}
+
+/// The eight tiles round a tile, to read the cells of its border from where they stand.
+#[derive(Clone, Copy)]
+pub struct Round<'a> {
+    pub above: &'a Tile,
+    pub below: &'a Tile,
+    pub left: &'a Tile,
+    pub right: &'a Tile,
+    pub above_left: &'a Tile,
+    pub above_right: &'a Tile,
+    pub below_left: &'a Tile,
+    pub below_right: &'a Tile,
+}
+
+impl<'a> Round<'a> {
+    ghost use Rattle.tile_border.specs.Ring.{IsBorderOf, HasEndsOf};
+    ghost use Rattle.tile_border.specs.declared.Border.{Border as RingCells};
+
+    /// The cells beside row y, as a border's sides have them.
+    #[inline]
+    pub fn side(&self, y: usize) -> u64
+        requires { y < 64 }
+        ensures { (b : RingCells) → IsBorderOf b self.now.above.now self.now.below.now self.now.left.now self.now.right.now self.now.above_left.now self.now.above_right.now self.now.below_left.now self.now.below_right.now → HasEndsOf result (slice_index b.sides (y + 1)) }
+    {
+        side(self.left.rows[y], self.right.rows[y])
+    }
+
+    /// The cells beside the row above the tile.
+    #[inline]
+    pub fn side_above(&self) -> u64
+        ensures { (b : RingCells) → IsBorderOf b self.now.above.now self.now.below.now self.now.left.now self.now.right.now self.now.above_left.now self.now.above_right.now self.now.below_left.now self.now.below_right.now → HasEndsOf result (slice_index b.sides 0) }
+    {
+        side(self.above_left.rows[63], self.above_right.rows[63])
+    }
+
+    /// The cells beside the row below the tile.
+    #[inline]
+    pub fn side_below(&self) -> u64
+        ensures { (b : RingCells) → IsBorderOf b self.now.above.now self.now.below.now self.now.left.now self.now.right.now self.now.above_left.now self.now.above_right.now self.now.below_left.now self.now.below_right.now → HasEndsOf result (slice_index b.sides 65) }
+    {
+        side(self.below_left.rows[0], self.below_right.rows[0])
     }
 }
 
