@@ -253,14 +253,18 @@ fn full_cells_are_not_injected(rt: HostRuntime) {
     assert_eq!(rt; (out.injected, out.drained), (sums(0, 0, 0), sums(2, 0, 2)));
 }
 
+fn row_0_replaced(rt: &impl Abort, gas: &mut Gas, row: &[u8; 16]) -> Moved {
+    assert!(rt; gas.size().width() == 128 && gas.size().height() == 128);
+    gas.replace_row(0, row)
+}
+
 #[test]
 fn rows_are_replaced(rt: HostRuntime) {
     let mut gas = gas_at(&rt, 0);
     let mut row = [0; 16];
     row[0] = 0x80;
     row[7] = 0x01;
-    assert!(rt; gas.size().width() == 128 && gas.size().height() == 128);
-    let first = gas.replace_row(0, &row);
+    let first = row_0_replaced(&rt, &mut gas, &row);
     // (0, 0) and (63, 0)
     assert_eq!(rt;
         (first.injected, first.drained),
@@ -268,8 +272,7 @@ fn rows_are_replaced(rt: HostRuntime) {
     );
     row[0] = 0xc0;
     row[7] = 0x00;
-    assert!(rt; gas.size().width() == 128 && gas.size().height() == 128);
-    let second = gas.replace_row(0, &row);
+    let second = row_0_replaced(&rt, &mut gas, &row);
     // (1, 0) comes in and (63, 0) goes out
     assert_eq!(rt;
         (second.injected, second.drained),
