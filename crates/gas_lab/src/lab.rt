@@ -3,7 +3,7 @@
 ghost use Rattle.std.specs.Prelude.{◌≡◌, ◌≤◌, ◌<◌, ◌↔◌, true, false, IfOk, IfErr, length, slice_get};
 ghost use Rattle.gas_terms.specs.Cells.{extent};
 ghost use Rattle.gas_terms.specs.Rows.{row_bytes};
-ghost use Rattle.gas_terms.specs.Commands.{fits, is_change};
+ghost use Rattle.gas_terms.specs.Commands.{fits};
 ghost use Rattle.gas_terms.specs.Laboratory.{opening, answer as answer_of, cause, lacks_entry, has_all_ports, bars_way_back, leaves_ticks, lacks_room, Applies, IsAcceptable, IsSound};
 ghost use Rattle.gas_terms.specs.declared.command.Command.TheVariants.{Entry as EntryAt};
 ghost use Rattle.gas_terms.specs.declared.refusal.Refusal.TheVariants.{Memory};
@@ -221,7 +221,7 @@ impl<S: Stepper> Lab<S> {
     fn lacks_room(&self, command: &Command) -> bool
         ensures { result ≡ lacks_room self.now command.now }
     {
-        is_change(command) && self.cap as usize <= self.journal.len()
+        command.is_change() && self.cap as usize <= self.journal.len()
     }
 
     // the particles of row y
@@ -271,13 +271,4 @@ impl<S: Stepper> Lab<S> {
         self.journal.push_reserved(Entry { seat, command });
         Ok(Answer::Taken(count as u32))
     }
-}
-
-fn is_change(command: &Command) -> bool
-    ensures { result ≡ is_change command.now }
-{
-    !matches!(
-        command,
-        Command::Probe(_) | Command::Tally | Command::Ledger | Command::Read(_) | Command::Entry(_)
-    )
 }

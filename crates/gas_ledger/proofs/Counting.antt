@@ -6,7 +6,7 @@ use Rattle.gas_terms.proofs.AccountBounds.{size-width, size-height, size-even}
 use Rattle.gas_terms.proofs.RectangleTotals.{total_in-parities, parity_count-small}
 use Rattle.gas_terms.proofs.ProbeTotals.{total_in-within}
 use Rattle.gas_plane.specs.Planes.{IsLattice}
-use Rattle.gas_ledger.proofs.TotalBounds.{same_counts, within_width, within_height, total_bounded}
+use Rattle.gas_terms.proofs.TotalBounds.{same_counts, within_width, within_height, total_bounded}
 use Rattle.gas_ledger.specs.Counts.{AreCounts, AreSmall, sums_of_counts}
 
 -- The four counts of a rectangle give its sums.

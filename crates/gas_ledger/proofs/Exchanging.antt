@@ -18,7 +18,7 @@ use Rattle.gas_plane.proofs.Sweeps.{left_of, top_of, sweep_starts, sweep_ends, s
 use Rattle.gas_plane.proofs.PlaneCounts.{counted, tile_counted, tile_counts_by, counts_end}
 use Rattle.gas_ledger.specs.Exchanges.{is_in_any, exchanged}
 use Rattle.gas_ledger.specs.Counts.{AreCounts}
-use Rattle.gas_ledger.proofs.Emptied.{parity_count-none, not_both, none_inside}
+use Rattle.gas_terms.proofs.Emptied.{parity_count-none, not_both, none_inside}
 
 abbrev pub exchanging : Cells → List Rectangle → List Rectangle → ℕ → ℕ → Bool
 exchanging cells drains sources x y = (has cells x y && not (is_in_any drains x y)) || is_in_any sources x y
@@ -210,7 +210,3 @@ idle_counts cells =
           let f : 0 + j ≡ j = omega arith in
           ap₂ (has (without cells cells)) e f ∙ (has-cells_where cells.width cells.height (λ x y. has cells x y && not (has cells x y)) i j h k ∙ not_both (has cells i j))));
     }
-
--- a tile where nothing is counted
-pub sum_past : (f : ℕ → ℕ) (i count : ℕ) → count ≡ sum_below i f → f i ≡ 0 → count ≡ sum_below (i + 1) f
-sum_past f i count e h = let s : sum_below (i + 1) f ≡ sum_below i f + f i = ap (λ n. sum_below n f) (add-one i) in omega arith

@@ -17,8 +17,8 @@ use Rattle.gas_ledger.specs.Counts.{AreCounts, AreSmall, moved_by_counts}
 use Rattle.gas_ledger.specs.Moves.{moved_by}
 use Rattle.gas_ledger.specs.Exchanges.{is_in_any, row_of, exchanged}
 use Rattle.gas_ledger.proofs.Counting.{counted_sums, counts_small}
-use Rattle.gas_ledger.proofs.RowSums.{row_alone, other_row}
-use Rattle.gas_ledger.proofs.Emptied.{not_both, gained-filled, lost-filled, gained-cleared, lost-cleared}
+use Rattle.gas_terms.proofs.RowSums.{row_alone, other_row}
+use Rattle.gas_terms.proofs.Emptied.{not_both, gained-filled, lost-filled, gained-cleared, lost-cleared}
 
 -- a source that is due fills its rectangle
 due_first : (due : Bool) (s : Source) (rest : List Source) (x y : ℕ) → is_in_any (map (λ (s : Source). s.area) (cond due (s ∷ rest) rest)) x y ≡ ((due && is_inside s.area x y) || is_in_any (map (λ (s : Source). s.area) rest) x y)

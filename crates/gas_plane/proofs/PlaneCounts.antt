@@ -147,7 +147,7 @@ tile_counts_by cells r a b i t same =
 pub counts_next : (f : ℕ → ℕ) (i count here next : ℕ) → count ≡ sum_below i f → here ≡ f i → next ≡ count + here → next ≡ sum_below (i + 1) f
 counts_next f i count here next e h n = let s : sum_below (i + 1) f ≡ sum_below i f + f i = ap (λ n. sum_below n f) (add-one i) in omega arith
 
-sum_past : (f : ℕ → ℕ) (i count : ℕ) → count ≡ sum_below i f → f i ≡ 0 → count ≡ sum_below (i + 1) f
+pub sum_past : (f : ℕ → ℕ) (i count : ℕ) → count ≡ sum_below i f → f i ≡ 0 → count ≡ sum_below (i + 1) f
 sum_past f i count e h = let s : sum_below (i + 1) f ≡ sum_below i f + f i = ap (λ n. sum_below n f) (add-one i) in omega arith
 
 -- the tile in the column of a row of tiles

@@ -138,19 +138,6 @@ bit_of_word bytes n word x long small read is h =
     ∙ (sym (bit_of_low (n / 2 ^ (8 * (x / 8))) 8 (7 - x % 8) (omega arith))
     ∙ ap (λ v. v / 2 ^ (7 - x % 8) % 2 == 1) (sym byte))))
 
--- a byte is the sum of its bits
-abbrev pub bits_summed : (ℕ → Bool) → ℕ
-bits_summed g = sum_by (λ k. if g k then 2 ^ (7 - k) else 0) (range_with_len 0 8)
-
-byte_summed : (b : ℕ) → b < 256 → b ≡ bits_summed (λ k. bit b (7 - k))
-unfolding bit
-byte_summed b h = (Decides-eqb b (bits_summed (λ k. bit b (7 - k)))).0 (agree_below_at (λ b. b == bits_summed (λ k. bit b (7 - k))) (λ _. true) 256 b refl h)
-
-pub byte_from_bits : (b : ℕ) (g : ℕ → Bool) → b < 256 → ((k : ℕ) → k < 8 → bit b (7 - k) ≡ g k) → b ≡ bits_summed g
-byte_from_bits b g small same =
-    byte_summed b small
-    ∙ (rw (← same 0 (omega arith), ← same 1 (omega arith), ← same 2 (omega arith), ← same 3 (omega arith), ← same 4 (omega arith), ← same 5 (omega arith), ← same 6 (omega arith), ← same 7 (omega arith)))
-
 pub next_byte : (out : List ℕ) (i b : ℕ) (f : ℕ → ℕ) → i < length out → ((k : ℕ) → k < i → get_or out k 0 ≡ f k) → b ≡ f i → (k : ℕ) → k < i + 1 → get_or (set out i b) k 0 ≡ f k
 next_byte out i b f within before here k h =
     elim (cases_eq k i) [

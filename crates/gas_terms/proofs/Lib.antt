@@ -30,3 +30,6 @@ pub mod AccountBounds
 pub mod Stretches
 pub mod Laboratories
 pub mod LabBounds
+pub mod TotalBounds
+pub mod Emptied
+pub mod RowSums

@@ -1,7 +1,7 @@
 //! What a seat may ask for.
 
 ghost use Rattle.std.specs.Prelude.{◌≡◌, IfOk};
-ghost use Rattle.gas_terms.specs.Commands.{fits};
+ghost use Rattle.gas_terms.specs.Commands.{fits, is_change};
 
 use crate::NoMemory;
 use crate::rect::Rect;
@@ -38,6 +38,20 @@ pub struct Entry {
 }
 
 impl Command {
+    /// Whether it changes the laboratory. The others are readings.
+    pub fn is_change(&self) -> bool
+        ensures { result ≡ is_change self.now }
+    {
+        !matches!(
+            self,
+            Command::Probe(_)
+                | Command::Tally
+                | Command::Ledger
+                | Command::Read(_)
+                | Command::Entry(_)
+        )
+    }
+
     /// Whether the command is in order for a lattice of the size.
     pub fn fits(&self, size: Size) -> bool
         ensures { result ≡ fits size self.now }
@@ -59,6 +73,7 @@ impl Command {
         }
     }
 
+    /// The same command. Only a row takes memory.
     pub fn copy(&self, alloc: Global) -> Result<Command, NoMemory>
         ensures { IfOk result (λ command. command ≡ self.now) }
     {

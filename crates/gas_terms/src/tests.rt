@@ -273,6 +273,24 @@ fn source_of(command: &Command) -> Option<(u16, u16, u16, u16, u16)> {
 }
 
 #[test]
+fn readings_are_no_changes(rt: HostRuntime) {
+    let area = Rect::within(size(&rt, 64, 64), 0, 0, 1, 1).expect(&rt, "a rectangle");
+    for (command, is_change) in [
+        (Command::Put(area), true),
+        (Command::Block(area), true),
+        (Command::Unport, true),
+        (Command::Back(1), true),
+        (Command::Probe(area), false),
+        (Command::Tally, false),
+        (Command::Ledger, false),
+        (Command::Read(0), false),
+        (Command::Entry(0), false),
+    ] {
+        assert_eq!(rt; command.is_change(), is_change);
+    }
+}
+
+#[test]
 fn commands_are_copied(rt: HostRuntime) -> Result<(), Fail> {
     let area = Rect::within(size(&rt, 64, 64), 1, 2, 3, 4).expect(&rt, "a rectangle");
     let source = Command::Source(area, 9).copy(rt.alloc())?;

@@ -3,10 +3,10 @@ use Rattle.bit_tile.proofs.Bits.{get_or-replicate_zero}
 use Rattle.gas_terms.specs.Accounts.{parity_count}
 use Rattle.gas_terms.specs.Cells.{Cells, Extent, Rectangle, has, tile_count, whole, without}
 use Rattle.gas_plane.proofs.Sweeps.{sweep_within, sweep_next, swept, left_of, top_of}
-use Rattle.gas_plane.proofs.PlaneCounts.{counts_next, class_place, few_tiles, tile_counted}
+use Rattle.gas_plane.proofs.PlaneCounts.{counts_next, class_place, few_tiles, tile_counted, sum_past}
 use Rattle.gas_plane.specs.Planes.{IsLattice}
 use Rattle.gas_ledger.specs.Exchanges.{exchanged}
-use Rattle.gas_ledger.proofs.Exchanging.{exchanging, made, came, went, came_count, went_count, exchange_makes, exchange_was, exchange_starts, exchange_ends, all_counted, unmet, unmet_stays, exchange_past, nothing_came, nothing_went, idle_exchange, idle_counts, sum_past}
+use Rattle.gas_ledger.proofs.Exchanging.{exchanging, made, came, went, came_count, went_count, exchange_makes, exchange_was, exchange_starts, exchange_ends, all_counted, unmet, unmet_stays, exchange_past, nothing_came, nothing_went, idle_exchange, idle_counts}
 use Rattle.gas_ledger.proofs.apply.exchange.Goals as goal
 
 all_tiles : (cells : Cells) (size : Extent) (n : ℕ) → n ≡ size.width / 64 * (size.height / 64) → size ≡ record { width = cells.width; height = cells.height } → n ≡ tile_count cells

@@ -1,4 +1,3 @@
--- belongs to gas_terms
 -- Sums by equal counts, and how large the sums of a lattice's particles can be.
 use Rattle.std.proofs.Common.{◌≡◌, ℕ, ◌*◌, ◌^◌, ◌≤◌, true, ℤ, ap, ◌∙◌, mul-le-mul, arith}
 use Rattle.std.proofs.lemmas.Bool.Decides.{nat_tests}

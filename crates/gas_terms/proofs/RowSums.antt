@@ -1,4 +1,3 @@
--- belongs to gas_terms
 -- The cells of a row: their sums and their counts, and what is so after the row is replaced.
 use Rattle.std.proofs.Common.{◌≡◌, ℕ, ◌+◌, ◌%◌, ◌<◌, ◌==◌, nat_lt, nat_le, Bool, true, false, ◌&&◌, cond, if◌then◌else◌, List, inl, inr, refl, sym, ap, ap₂, ◌∙◌, add-one, arith, ℤ}
 use Rattle.std.proofs.lemmas.Bool.{cases_eq, eq-eqb, ne_eqb}

@@ -1,4 +1,3 @@
--- belongs to gas_terms
 -- Sums where there is nothing, and what filling and clearing a rectangle brings in and takes out.
 use Rattle.std.proofs.Common.{◌≡◌, ℕ, ◌+◌, ◌%◌, ◌<◌, Bool, true, false, ◌&&◌, ◌||◌, not, cond, ◌==◌, ℤ, pos, ◌-ℤ◌, ◌*ℤ◌, refl, sym, ap, ap₂, ◌∙◌, arith}
 use Rattle.std.proofs.lemmas.Int.{ints}
@@ -12,7 +11,7 @@ use Rattle.gas_terms.proofs.RectangleTotals.{parity_count_is, total_in-parities,
 use Rattle.gas_terms.proofs.ProbeTotals.{total_in-within}
 use Rattle.gas_terms.proofs.ChangeTotals.{total-change}
 use Rattle.gas_terms.proofs.Totals.{same_sums}
-use Rattle.gas_ledger.proofs.TotalBounds.{same_counts}
+use Rattle.gas_terms.proofs.TotalBounds.{same_counts}
 
 pub none_inside : (there inside p q : Bool) → there ≡ false → ◌≡◌ {A = ℕ} (cond (there && inside && p && q) 1 0) 0
 none_inside there inside p q e = rw e refl
