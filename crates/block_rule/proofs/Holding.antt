@@ -2,7 +2,7 @@
 use Rattle.std.proofs.Common.{◌≡◌, ℕ, ◌+◌, ◌-◌, ◌%◌, ◌<◌, ◌==◌, ◌^◌, Bool, true, false, not, ◌&&◌, ◌||◌, if◌then◌else◌, List, [], length, get_or, set, length-set, get_or-set_other, refl, sym, ◌∙◌, ap, ap₂, arith, inl, inr, bit_and, bit_or}
 use Rattle.std.specs.Int.{bit_not, w64}
 use Rattle.std.proofs.lemmas.Nat.{or_comm, le_or_l, le_or_r}
-use Rattle.std.proofs.lemmas.Bool.{cases_eq, eq-eqb, ne_eqb, false_from_ne_true, true≢false}
+use Rattle.std.proofs.lemmas.Bool.{cases_eq, eq-eqb, ne_eqb}
 use Rattle.bit_tile.specs.Bit.{bit}
 use Rattle.bit_tile.specs.Tile.{has, HasCells}
 use Rattle.bit_tile.specs.declared.Tile.{Tile}
@@ -16,7 +16,7 @@ use Rattle.block_rule.specs.Around.{around, either, none, is_walled_at, turned}
 use Rattle.block_rule.specs.Words.{cell_of_row, partner, turned_cell}
 use Rattle.block_rule.proofs.Around.{IsRow, around_inside, cell_at, facing_row, partner_of_first, partner_of_second, walled_from_rows, turned_by_cells}
 use Rattle.block_rule.proofs.Blank.{walled_either, partner_inside}
-use Rattle.block_rule.proofs.Words.{bit-end_columns, cell_inside}
+use Rattle.block_rule.proofs.Words.{cell_inside}
 use Rattle.block_rule.specs.ByCorner.{IsMore}
 use Rattle.block_rule.specs.Holding.{IsHeld, IsSoFar}
 use Rattle.block_rule.proofs.ByCorner.{pair_counted, upper_counted, lower_counted, blank_counted}
@@ -97,28 +97,12 @@ blank_word_even both side x e within =
     let inside = partner_inside x within in
     blank_word 0 both side x e (blank_cell side (partner 0 x) (λ h. absurd (omega (arith, inside.0))) (λ h. absurd (omega (arith, inside.1))))
 
-end_none : (side x : ℕ) → x < 64 → bit 9223372036854775809 x ≡ true → bit_and side 9223372036854775809 ≡ 0 → bit side x ≡ false
-end_none side x within end empty =
-    false_from_ne_true (bit side x) (λ held.
-    let both : bit (bit_and side 9223372036854775809) x ≡ true = bit-and side 9223372036854775809 x ∙ rw (held, end) in
-    true≢false (sym both ∙ ap (λ n. bit n x) empty ∙ bit-zero x))
-
 pub blank_word_odd : (both side x : ℕ) → both ≡ 0 → bit side 0 ≡ false → bit side 63 ≡ false → bit 0 x ≡ (bit both x || cell_of_row both side (partner 1 x))
 blank_word_odd both side x e low high = blank_word 1 both side x e (blank_cell side (partner 1 x) (λ _. low) (λ _. high))
 
-neither : (p q : Bool) → (p || q) ≡ false → (p ≡ false) × (q ≡ false)
-neither true q e = absurd (true≢false e)
-neither false q e = (refl, e)
-
--- two sides without cells at the ends
-ends_none : (a b x : ℕ) → x < 64 → bit 9223372036854775809 x ≡ true → bit_and (bit_or a b) 9223372036854775809 ≡ 0 → (bit a x ≡ false) × (bit b x ≡ false)
-ends_none a b x within end empty = neither (bit a x) (bit b x) (sym (bit-or a b x) ∙ end_none (bit_or a b) x within end empty)
-
-pub low_none : (a b : ℕ) → bit_and (bit_or a b) 9223372036854775809 ≡ 0 → (bit a 0 ≡ false) × (bit b 0 ≡ false)
-low_none a b empty = ends_none a b 0 (omega arith) (bit-end_columns 0 (omega arith)) empty
-
-pub high_none : (a b : ℕ) → bit_and (bit_or a b) 9223372036854775809 ≡ 0 → (bit a 63 ≡ false) × (bit b 63 ≡ false)
-high_none a b empty = ends_none a b 63 (omega arith) (bit-end_columns 63 (omega arith)) empty
+-- a word of no cells
+pub empty_word : (n x : ℕ) → n ≡ 0 → bit n x ≡ false
+empty_word n x e = ap (λ n. bit n x) e ∙ bit-zero x
 
 solid_cell : (p walled obstructed x y : ℕ) (walls obstacles : ℕ → ℕ → Bool) (a b : Bool) → bit walled x ≡ is_walled_at p walls x y → bit obstructed x ≡ is_walled_at p obstacles x y → (if bit (bit_or walled obstructed) x then a else b) ≡ (if is_walled_at p (either walls obstacles) x y then a else b)
 solid_cell p walled obstructed x y walls obstacles a b w o =
@@ -278,10 +262,15 @@ so_far_by out there counts counts_there before tile walls obstacles p n m e f g 
 abbrev pub some_border : Border
 some_border = record { above = 0; below = 0; sides = [] }
 
--- four words without a one
+-- words without a one
+pub none_of_three : (a b c : ℕ) → bit_or (bit_or a b) c ≡ 0 → (a ≡ 0) × (b ≡ 0) × (c ≡ 0)
+none_of_three a b c empty = (
+  omega (arith, le_or_l a b, le_or_l (bit_or a b) c),
+  omega (arith, le_or_r a b, le_or_l (bit_or a b) c),
+  omega (arith, le_or_r (bit_or a b) c),
+)
+
 pub none_of_four : (a b c d : ℕ) → bit_or (bit_or (bit_or a b) c) d ≡ 0 → (bit_or a b ≡ 0) × (bit_or c d ≡ 0)
 none_of_four a b c d empty =
-    let ab : bit_or a b ≡ 0 = omega (arith, le_or_l (bit_or a b) c, le_or_l (bit_or (bit_or a b) c) d) in
-    let no_c : c ≡ 0 = omega (arith, le_or_r (bit_or a b) c, le_or_l (bit_or (bit_or a b) c) d) in
-    let no_d : d ≡ 0 = omega (arith, le_or_r (bit_or (bit_or a b) c) d) in
+    let (ab, no_c, no_d) = none_of_three (bit_or a b) c d empty in
     (ab, rw (no_c, no_d))

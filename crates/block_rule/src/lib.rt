@@ -428,7 +428,8 @@ fn hold_odd(
         let cells = walls.rows[y] | walls.rows[next] | obstacles.rows[y] | obstacles.rows[next];
         let wall_side = wall_border.sides[y + 1] | wall_border.sides[next + 1];
         let obstacle_side = obstacle_border.sides[y + 1] | obstacle_border.sides[next + 1];
-        if cells != 0 || (wall_side | obstacle_side) & END_COLUMNS != 0 {
+        let any = cells | wall_side | obstacle_side;
+        if any != 0 {
             counts = hold_pair_odd(
                 tile,
                 walls,

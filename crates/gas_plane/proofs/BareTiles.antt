@@ -1,6 +1,6 @@
 -- Marks of tiles that have no cell.
 use Rattle.std.proofs.Common.{◌≡◌, ℕ, ◌+◌, ◌-◌, ◌*◌, ◌/◌, ◌%◌, ◌<◌, ◌≤◌, ◌≢◌, ◌⊎◌, ◌&&◌, not, Bool, true, false, IsTrue, List, length, get_or, set, replicate, sym, ◌∙◌, ap, ap₂, subst, arith, inl, inr, get_or-set_same, get_or-set_other, length-set}
-use Rattle.std.proofs.lemmas.List.{get_or-replicate, get_or_past, get_or_read, length-replicate}
+use Rattle.std.proofs.lemmas.List.{get_or-replicate, get_or_past, get_or_read, get_or_default, length-replicate}
 use Rattle.std.proofs.lemmas.Nat.{mod-mul-add, div-mul-add, mul-add-lt, row-Below, div-add-mod'}
 use Rattle.std.proofs.Math.Nat.{mod-lt}
 use Rattle.std.proofs.lemmas.Bool.{cases_eq, cases_lt}
@@ -9,9 +9,9 @@ use Rattle.bit_tile.specs.Tile.{HasCells}
 use Rattle.bit_tile.specs.declared.Tile.{Tile}
 use Rattle.gas_terms.specs.Cells.{Cells, Extent, has, tile_count, is_size}
 use Rattle.gas_plane.specs.Tiles.{no_cells, tile_at, is_set, place_by, AreBareRound, AreBare, IsMarked}
-use Rattle.gas_plane.specs.Planes.{IsBareRound}
+use Rattle.gas_plane.specs.Planes.{IsTileFrom, IsBareRound}
 use Rattle.gas_plane.proofs.Places.{IsWholeTiles, wide, high, ring_before, ring_after, ring_in, ring_cases}
-use Rattle.gas_plane.proofs.Tilings.{tiled, tiled_from, tile_there, set_covers}
+use Rattle.gas_plane.proofs.Tilings.{tiled, tiled_from, tile_is, tile_there, set_covers}
 
 -- a flag that is still set was set, and is not the one that was taken away
 pub still_set : (flags : List Bool) (i k : ℕ) → is_set (set flags i false) k ≡ true → (is_set flags k ≡ true) × (k ≢ i)
@@ -231,6 +231,16 @@ bare_round_read tiles bare bare_round size cells marked e i read within is holds
     let there : i < length bare_round = omega (arith, marked.bare_round_each, tile_there tiles size cells i marked.cover e within) in
     let flag : is_set bare_round i ≡ true = sym (get_or_read bare_round i read there is false) ∙ true_is read holds in
     bare_round_is tiles bare bare_round size cells marked e i within flag
+
+-- a tile that is marked as bare, and any other without cells
+pub bare_read : (tiles : List Tile) (bare bare_round : List Bool) (size : Extent) (cells : Cells) (t : Tile) → IsMarked tiles bare bare_round size → tiled tiles size ≡ cells → (i : ℕ) (read : Bool) → i < tile_count cells → read ≡ get_or bare i read → IsTrue read
+    → ((x y : ℕ) → tile.has t x y ≡ false) → IsTileFrom t cells (i % (cells.width / 64) * 64) (i / (cells.width / 64) * 64)
+bare_read tiles bare bare_round size cells t marked e i read within is holds empty =
+    let own : i < length tiles = tile_there tiles size cells i marked.cover e within in
+    let there : i < length bare = omega (arith, marked.bare_each, own) in
+    let flag : is_set bare i ≡ true = sym (get_or_read bare i read there is false) ∙ true_is read holds in
+    let from = tile_is tiles size cells i (tile_at tiles i) marked.cover e within (get_or_default tiles i no_cells (tile_at tiles i) own) in
+    record { cell = λ x y p q. empty x y ∙ sym (marked.are_bare.none i flag x y p q) ∙ from.cell x y p q }
 
 -- all tiles of an empty set
 pub marked_empty : (tiles : List Tile) (bare bare_round : List Bool) (size : Extent) (t : Tile) (n m k : ℕ) → tiles ≡ replicate n t → bare ≡ replicate m true → bare_round ≡ replicate k true

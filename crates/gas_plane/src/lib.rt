@@ -22,13 +22,15 @@ use gas_terms::{NoMemory, Rect, Size};
 use marks::{after, before, hold};
 use std::alloc::Global;
 use std::marker::Model;
-use tile_border::{Border, Round};
+use tile_border::{Border, NO_BORDER, Round};
 
 const EVEN_BITS: u64 = 0x5555_5555_5555_5555;
 
 const EVEN_PAIRS: u64 = 0x3333_3333_3333_3333;
 
 const LOW_HALVES: u64 = 0x0f0f_0f0f_0f0f_0f0f;
+
+static NO_CELLS: Tile = Tile { rows: [0; 64] };
 
 /// A set of cells of a lattice, which is a torus. Contracts see its width, its height and its cells; only `empty` and `copy`
 /// take memory.
@@ -132,6 +134,20 @@ impl Plane {
         &self.tiles[i as usize]
     }
 
+    /// The same cells as tile i. Where the tile is known to have none they are read from an empty tile that all planes share,
+    /// which stays near while others are read.
+    #[inline]
+    pub fn tile_or_bare(&self, i: u32) -> &Tile
+        requires { i < tile_count self.now }
+        ensures { let r = tile_rectangle self.now i in IsTileFrom result.now self.now r.x r.y }
+    {
+        if self.bare[i as usize] {
+            &NO_CELLS
+        } else {
+            self.tile(i)
+        }
+    }
+
     /// Puts the tile's cells in the place of tile i.
     pub fn set_tile(&mut self, i: u32, tile: Tile)
         requires { i < tile_count self.old }
@@ -197,24 +213,21 @@ impl Plane {
         requires { i < tile_count self.now }
         ensures { let r = tile_rectangle self.now i in IsRingRound result self.now r.x r.y }
     {
+        let mut room = NO_BORDER;
+        *self.border_in(i, &mut room)
+    }
+
+    /// The cells round tile i, in room that is lent if there may be any: quicker than a border of its own for each tile.
+    #[inline]
+    pub fn border_in<'a>(&self, i: u32, room: &'a mut Border) -> &'a Border
+        requires { i < tile_count self.now }
+        ensures { let r = tile_rectangle self.now i in IsRingRound result.now self.now r.x r.y }
+    {
         if self.is_bare_round(i) {
-            return Border {
-                above: 0,
-                below: 0,
-                sides: [0; 66],
-            };
+            return &NO_BORDER;
         }
-        let round = self.round(i);
-        Border::of(
-            round.above,
-            round.below,
-            round.left,
-            round.right,
-            round.above_left,
-            round.above_right,
-            round.below_left,
-            round.below_right,
-        )
+        room.surround(&self.round(i));
+        room
     }
 
     /// Puts in the cells of the rectangle.

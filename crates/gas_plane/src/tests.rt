@@ -102,6 +102,20 @@ fn has_borders_round_the_torus(rt: HostRuntime) {
 }
 
 #[test]
+fn reads_tiles_and_borders_that_may_be_bare(rt: HostRuntime) {
+    let size = Size::new(256, 64).expect(&rt, "a size");
+    let mut plane = Plane::empty(rt.alloc(), size).expect(&rt, "memory");
+    plane.fill(area(&rt, &plane, 63, 5, 1, 1));
+    assert!(rt; plane.size().tiles() == 4);
+    assert!(rt; plane.tile_or_bare(0).get(63, 5) && !plane.tile_or_bare(1).get(63, 5));
+    let mut room = plane.border(0);
+    assert!(rt; plane.border_in(1, &mut room).cell(-1, 5));
+    // nothing is round the third tile, and the first touches the fourth with another column
+    assert!(rt; !plane.border_in(2, &mut room).cell(-1, 5));
+    assert!(rt; !plane.border_in(3, &mut room).cell(64, 5));
+}
+
+#[test]
 fn replaces_a_tile(rt: HostRuntime) {
     let mut plane = four_tiles(&rt);
     plane.fill(area(&rt, &plane, 0, 0, 128, 128));

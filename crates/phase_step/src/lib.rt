@@ -12,7 +12,7 @@ mod tiles;
 use gas_plane::Plane;
 use gas_terms::Took;
 use tiles::NOTHING;
-pub use tiles::turn_tile_at;
+pub use tiles::{Borders, NO_BORDERS, turn_tile_at};
 
 /// What turns the blocks of a plane. It never refuses and takes no memory.
 pub trait Stepper: Drop {
@@ -53,9 +53,10 @@ impl Stepper for Serial {
         gas_terms::account_laws::taken_over_cells();
         gas_terms::account_laws::sums_over_tiles();
         gas_terms::account_laws::sums_by_parities();
+        let mut room = NO_BORDERS;
         let mut took = NOTHING;
         for i in 0..out.size().tiles() {
-            let here = turn_tile_at(old, walls, obstacles, parity, i, out.tile_mut(i));
+            let here = turn_tile_at(old, walls, obstacles, parity, i, &mut room, out.tile_mut(i));
             took = took.plus(here);
         }
         took

@@ -41,6 +41,22 @@ fn phase(
     Serial.phase(old, walls, obstacles, parity, out)
 }
 
+// the first tile alone, at an odd tick
+fn first_tile(
+    rt: &impl Abort,
+    old: &Plane,
+    walls: &Plane,
+    obstacles: &Plane,
+    room: &mut Borders,
+    out: &mut gas_plane::Tile,
+) -> Took {
+    let size = old.size();
+    assert!(rt; walls.size() == size);
+    assert!(rt; obstacles.size() == size);
+    assert!(rt; size.tiles() > 0);
+    turn_tile_at(old, walls, obstacles, 1, 0, room, out)
+}
+
 // whether two planes hold the same cells
 fn are_same(some: &Plane, others: &Plane, width: u32, height: u32) -> bool {
     (0..height).all(|y| (0..width).all(|x| holds(some, x, y) == holds(others, x, y)))
@@ -78,6 +94,24 @@ fn wall_across_tiles_books_once(rt: HostRuntime) {
         let took = phase(&rt, &old, walls, obstacles, 1, &mut out);
         assert!(rt; are_same(&out, &old, 128, 128));
         assert!(rt; took.walls == by_walls && took.obstacles == by_obstacles);
+    }
+}
+
+#[test]
+fn the_room_may_hold_borders_of_others(rt: HostRuntime) {
+    let nothing = Pair { x: 0, y: 0 };
+    // at an odd tick a particle at (63, 63) goes to the right and down
+    let twice = Pair { x: 2, y: 2 };
+    let old = plane(&rt, 128, 128, &[(63, 63)]);
+    let none = plane(&rt, 128, 128, &[]);
+    let corner = plane(&rt, 128, 128, &[(64, 64)]);
+    let apart = plane(&rt, 128, 128, &[(5, 5)]);
+    let mut room = NO_BORDERS;
+    for (walls, by_walls, stays) in [(&corner, twice, true), (&apart, nothing, false)] {
+        let mut out = gas_plane::Tile::rect(0, 0, 64, 64);
+        let took = first_tile(&rt, &old, walls, &none, &mut room, &mut out);
+        assert!(rt; out.get(63, 63) == stays && !out.get(5, 5));
+        assert!(rt; took.walls == by_walls && took.obstacles == nothing);
     }
 }
 

@@ -11,10 +11,24 @@ use block_rule::{
 };
 use gas_plane::{Plane, Tile};
 use gas_terms::{Pair, Took};
+use tile_border::{Border, NO_BORDER};
 
 pub const NOTHING: Took = Took {
     walls: Pair { x: 0, y: 0 },
     obstacles: Pair { x: 0, y: 0 },
+};
+
+/// Room for the borders of walls and obstacles that a tile is turned with. What it holds does not matter.
+#[derive(Clone, Copy)]
+pub struct Borders {
+    walls: Border,
+    obstacles: Border,
+}
+
+/// Such room to begin with.
+pub const NO_BORDERS: Borders = Borders {
+    walls: NO_BORDER,
+    obstacles: NO_BORDER,
 };
 
 /// Puts tile i into `out` as it is after the phase, and answers what walls and obstacles take of its particles: what a phase
@@ -25,6 +39,7 @@ pub fn turn_tile_at(
     obstacles: &Plane,
     parity: u8,
     i: u32,
+    room: &mut Borders,
     out: &mut Tile,
 ) -> Took
     requires parity { parity < 2 }
@@ -39,7 +54,7 @@ pub fn turn_tile_at(
     if parity == 0 {
         turn_even(old, walls, obstacles, i, out)
     } else {
-        turn_odd(old, walls, obstacles, i, out)
+        turn_odd(old, walls, obstacles, i, room, out)
     }
 }
 
@@ -57,12 +72,24 @@ fn turn_even(old: &Plane, walls: &Plane, obstacles: &Plane, i: u32, out: &mut Ti
         turn_free_tile_even(old.tile(i), out);
         NOTHING
     } else {
-        turn_tile_even(old.tile(i), walls.tile(i), obstacles.tile(i), out)
+        turn_tile_even(
+            old.tile(i),
+            walls.tile_or_bare(i),
+            obstacles.tile_or_bare(i),
+            out,
+        )
     }
 }
 
 // Blocks begin at odd columns and rows: those at the tile's edges reach into the tiles round it.
-fn turn_odd(old: &Plane, walls: &Plane, obstacles: &Plane, i: u32, out: &mut Tile) -> Took
+fn turn_odd(
+    old: &Plane,
+    walls: &Plane,
+    obstacles: &Plane,
+    i: u32,
+    room: &mut Borders,
+    out: &mut Tile,
+) -> Took
     requires tile { i < tile_count old.now }
     requires place { let r = tile_rectangle old.now i in IsTilePlace old.now walls.now obstacles.now r.x r.y }
     ensures cells { IsTileAfter 1 old.now walls.now obstacles.now i out.new }
@@ -80,10 +107,10 @@ fn turn_odd(old: &Plane, walls: &Plane, obstacles: &Plane, i: u32, out: &mut Til
         turn_tile_odd_among(
             old.tile(i),
             &round,
-            walls.tile(i),
-            &walls.border(i),
-            obstacles.tile(i),
-            &obstacles.border(i),
+            walls.tile_or_bare(i),
+            walls.border_in(i, &mut room.walls),
+            obstacles.tile_or_bare(i),
+            obstacles.border_in(i, &mut room.obstacles),
             out,
         )
     }

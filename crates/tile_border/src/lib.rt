@@ -20,8 +20,15 @@ pub struct Border {
     pub sides: [u64; 66],
 }
 
+/// The border of a tile that nothing touches.
+pub const NO_BORDER: Border = Border {
+    above: 0,
+    below: 0,
+    sides: [0; 66],
+};
+
 impl Border {
-    ghost use Rattle.tile_border.specs.Ring.{ring, IsOnRing, numbered};
+    ghost use Rattle.tile_border.specs.Ring.{ring, IsOnRing, IsBorderOf, numbered};
 
     /// The cells that touch a tile with these neighbors.
     pub fn of(
@@ -43,17 +50,34 @@ impl Border {
         ensures below_left { ring result 0 65 ≡ has below_left.now 63 0 }
         ensures below_right { ring result 65 65 ≡ has below_right.now 0 0 }
     {
-        let mut sides = [0; 66];
+        let mut border = NO_BORDER;
+        border.surround(&Round {
+            above,
+            below,
+            left,
+            right,
+            above_left,
+            above_right,
+            below_left,
+            below_right,
+        });
+        border
+    }
+
+    /// Makes it the cells that touch a tile which stands among these: quicker than a border of its own for each tile.
+    pub fn surround(&mut self, round: &Round)
+        ensures { IsBorderOf self.new round.now.above.now round.now.below.now round.now.left.now round.now.right.now round.now.above_left.now round.now.above_right.now round.now.below_left.now round.now.below_right.now }
+    {
+        // where the tiles stand is read once
+        let near = *round;
+        let sides = &mut self.sides;
         for y in 0..64usize {
-            sides[y + 1] = side(left.rows[y], right.rows[y]);
+            sides[y + 1] = side(near.left.rows[y], near.right.rows[y]);
         }
-        sides[0] = side(above_left.rows[63], above_right.rows[63]);
-        sides[65] = side(below_left.rows[0], below_right.rows[0]);
-        Border {
-            above: above.rows[63],
-            below: below.rows[0],
-            sides,
-        }
+        sides[0] = side(near.above_left.rows[63], near.above_right.rows[63]);
+        sides[65] = side(near.below_left.rows[0], near.below_right.rows[0]);
+        self.above = near.above.rows[63];
+        self.below = near.below.rows[0];
     }
 
     /// The cell that is dx columns and dy rows from the tile's first.

@@ -72,3 +72,28 @@ fn each_corner_is_a_corner_of_its_tile(rt: HostRuntime) {
     assert!(rt; !apart.cell(-1, 64) && !apart.cell(64, 64));
     assert!(rt; apart.cell(0, -1) && apart.cell(-1, 0) && apart.cell(63, 64) && apart.cell(64, 63));
 }
+
+#[test]
+fn what_stood_in_a_border_is_overwritten(rt: HostRuntime) {
+    let none = Tile::empty();
+    let all = Tile::rect(0, 0, 64, 64);
+    let mut border = Border::of(&all, &all, &all, &all, &all, &all, &all, &all);
+
+    // each of these touches the tile at one place
+    let above = Tile::rect(5, 63, 1, 1);
+    let left = Tile::rect(63, 7, 1, 1);
+    let below_right = Tile::rect(0, 0, 1, 1);
+    border.surround(&Round {
+        above: &above,
+        below: &none,
+        left: &left,
+        right: &none,
+        above_left: &none,
+        above_right: &none,
+        below_left: &none,
+        below_right: &below_right,
+    });
+    assert!(rt; border.cell(5, -1) && border.cell(-1, 7) && border.cell(64, 64));
+    assert!(rt; !border.cell(5, 64) && !border.cell(64, 7) && !border.cell(-1, -1));
+    assert!(rt; !border.cell(6, -1) && !border.cell(-1, 8) && !border.cell(64, -1));
+}

@@ -1,10 +1,10 @@
-use Rattle.std.proofs.Common.{◌≡◌, ℕ, ◌+◌, ◌*◌, get_or, arith, refl, ◌∙◌, bit_and, bit_or}
+use Rattle.std.proofs.Common.{◌≡◌, ℕ, ◌+◌, ◌*◌, get_or, arith, refl, ◌∙◌, bit_or}
 use Rattle.block_rule.specs.Around.{around, either, is_walled_at}
 use Rattle.block_rule.proofs.Took.{accounts_same}
 use Rattle.block_rule.proofs.ByCorner.{none_counted, counted_small, more_small, momentum_is}
-use Rattle.block_rule.proofs.Holding.{none_held, pair_walled, lower_held, upper_held, pair_free, blank_word_odd, left_odd, so_far_by, low_none, high_none, none_of_four}
+use Rattle.block_rule.proofs.Holding.{none_held, pair_walled, lower_held, upper_held, pair_free, blank_word_odd, left_odd, so_far_by, empty_word, none_of_three, none_of_four}
 use Rattle.block_rule.proofs.hold_odd.Goals as goal
-use Rattle.block_rule.proofs.hold_odd.Goals.{then-cells-ne0, else-cells-ne0+else-wall_side-obstacle_side-ne0}
+use Rattle.block_rule.proofs.hold_odd.Goals.{then-any-ne0, else-any-ne0}
 
 pub loop-j-init : goal.loop-j-init
 loop-j-init c =
@@ -43,23 +43,22 @@ loop-j-preserved c =
     let more : 2 * (c.loop-j.j + 1) + 1 ≡ 2 * c.loop-j.j + 1 + 1 + 1 = omega arith in
     record {
       so_far =
-          elim c.if-cells-ne0.branch [
-            | then-cells-ne0 s ↦
+          elim c.if-any-ne0.branch [
+            | then-any-ne0 s ↦
                 so_far_by _ _ _ _ _ t (around w wb) (around o ob) 1 _ _ s.out-is s.counts-is more
                 (s.hold_pair_odd-counts.ensures c.args.out.now.rows c.loop-j.invariant.so_far)
-            | else-cells-ne0+else-wall_side-obstacle_side-ne0 s ↦
+            | else-any-ne0 s ↦
                 let wall : ℕ = bit_or (get_or w.rows y 0) (get_or w.rows (y + 1) 0) in
                 let obstacle : ℕ = bit_or (get_or o.rows y 0) (get_or o.rows (y + 1) 0) in
                 let side_w : ℕ = bit_or (get_or wb.sides (y + 1) 0) (get_or wb.sides (y + 1 + 1) 0) in
                 let side_o : ℕ = bit_or (get_or ob.sides (y + 1) 0) (get_or ob.sides (y + 1 + 1) 0) in
                 let cells : ℕ = bit_or (bit_or wall (get_or o.rows y 0)) (get_or o.rows (y + 1) 0) in
-                let no_cell : cells ≡ 0 = s.if-cells-ne0.false in
-                let no_end : bit_and (bit_or side_w side_o) 9223372036854775809 ≡ 0 = s.if-wall_side-obstacle_side-ne0.false in
+                let (no_cell, no_w, no_o) = none_of_three cells side_w side_o s.if-any-ne0.false in
                 let empty = none_of_four (get_or w.rows y 0) (get_or w.rows (y + 1) 0) (get_or o.rows y 0) (get_or o.rows (y + 1) 0) no_cell in
                 so_far_by _ _ _ _ _ t (around w wb) (around o ob) 1 _ _ s.out-is s.counts-is more
                 (pair_free c.loop-j.out.rows c.args.out.now.rows c.loop-j.counts.walls c.loop-j.counts.obstacles t w o wb ob 1 y c.loop-j.invariant.so_far
-                (pair_walled w wb 1 y wall side_w 0 (omega arith) (omega arith) (omega arith) refl refl (λ x h. blank_word_odd wall side_w x empty.0 (low_none side_w side_o no_end).0 (high_none side_w side_o no_end).0))
-                (pair_walled o ob 1 y obstacle side_o 0 (omega arith) (omega arith) (omega arith) refl refl (λ x h. blank_word_odd obstacle side_o x empty.1 (low_none side_w side_o no_end).1 (high_none side_w side_o no_end).1)))
+                (pair_walled w wb 1 y wall side_w 0 (omega arith) (omega arith) (omega arith) refl refl (λ x h. blank_word_odd wall side_w x empty.0 (empty_word side_w 0 no_w) (empty_word side_w 63 no_w)))
+                (pair_walled o ob 1 y obstacle side_o 0 (omega arith) (omega arith) (omega arith) refl refl (λ x h. blank_word_odd obstacle side_o x empty.1 (empty_word side_o 0 no_o) (empty_word side_o 63 no_o))))
           ];
     }
 

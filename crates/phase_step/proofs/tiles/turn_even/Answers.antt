@@ -39,15 +39,15 @@ returns-else-is_free-clause-cells c =
     let old = c.args.old.now in
     let r = tile_rectangle c.args.old.now c.args.i in
     let t = c.tile-else-is_free.result.now in
-    let walls = c.tile-else-is_free-2.result.now in
-    let obstacles = c.tile-else-is_free-3.result.now in
+    let walls = c.tile_or_bare.result.now in
+    let obstacles = c.tile_or_bare-else-is_free.result.now in
     let place = c.requires.place in
     λ x y p q.
     c.turn_tile_even.ensures.cells any any any x y p q
     ∙ c.tiles_turn_as_the_torus.ensures 0 old c.args.walls.now c.args.obstacles.now r.x r.y (around t any) (around walls any) (around obstacles any) (omega arith) place
     (c.tiles_see_the_torus.ensures.inside t any old r.x r.y place.right place.bottom (tile_cells c.args.i old old t refl c.tile-else-is_free.ensures))
-    (wall_view c.args.i c.args.walls.now old walls any place.of_walls place.right place.bottom c.tile-else-is_free-2.ensures c.tiles_see_the_torus.ensures.inside)
-    (wall_view c.args.i c.args.obstacles.now old obstacles any place.of_obstacles place.right place.bottom c.tile-else-is_free-3.ensures c.tiles_see_the_torus.ensures.inside)
+    (wall_view c.args.i c.args.walls.now old walls any place.of_walls place.right place.bottom c.tile_or_bare.ensures c.tiles_see_the_torus.ensures.inside)
+    (wall_view c.args.i c.args.obstacles.now old obstacles any place.of_obstacles place.right place.bottom c.tile_or_bare-else-is_free.ensures c.tiles_see_the_torus.ensures.inside)
     x y p q
 
 pub returns-else-is_free-clause-took : goal.returns-else-is_free-clause-took
@@ -55,10 +55,10 @@ returns-else-is_free-clause-took c =
     let old = c.args.old.now in
     let r = tile_rectangle c.args.old.now c.args.i in
     let t = c.tile-else-is_free.result.now in
-    let walls = c.tile-else-is_free-2.result.now in
-    let obstacles = c.tile-else-is_free-3.result.now in
+    let walls = c.tile_or_bare.result.now in
+    let obstacles = c.tile_or_bare-else-is_free.result.now in
     let place = c.requires.place in
     c.turn_tile_even.ensures.took any any
     ∙ c.tiles_take_as_the_torus.ensures.taken (pos 0) t old c.args.walls.now c.args.obstacles.now r.x r.y (around walls any) (around obstacles any) place (tile_cells c.args.i old old t refl c.tile-else-is_free.ensures)
-    (wall_view c.args.i c.args.walls.now old walls any place.of_walls place.right place.bottom c.tile-else-is_free-2.ensures c.tiles_see_the_torus.ensures.inside)
-    (wall_view c.args.i c.args.obstacles.now old obstacles any place.of_obstacles place.right place.bottom c.tile-else-is_free-3.ensures c.tiles_see_the_torus.ensures.inside)
+    (wall_view c.args.i c.args.walls.now old walls any place.of_walls place.right place.bottom c.tile_or_bare.ensures c.tiles_see_the_torus.ensures.inside)
+    (wall_view c.args.i c.args.obstacles.now old obstacles any place.of_obstacles place.right place.bottom c.tile_or_bare-else-is_free.ensures c.tiles_see_the_torus.ensures.inside)
