@@ -329,7 +329,7 @@ fn ticks_take_the_next_particles(rt: HostRuntime) {
 
 // Passes too where any one of its allocations is refused.
 #[test]
-fn memory_is_refused(rt: HostRuntime) {
+fn refused_memory_leaves_the_gas(rt: HostRuntime) {
     let size = Size::new(64, 128).expect(&rt, "a size");
     let Ok(mut gas) = Gas::empty(rt.alloc(), size) else {
         return;

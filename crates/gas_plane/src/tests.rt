@@ -227,7 +227,7 @@ fn lends_a_tile(rt: HostRuntime) {
 
 // One allocation may be refused here: rt try --test --fail-alloc N, with N from 1 to 6.
 #[test]
-fn asks_again_where_memory_is_refused(rt: HostRuntime) {
+fn refused_memory_leaves_planes(rt: HostRuntime) {
     let size = Size::new(128, 64).expect(&rt, "a size");
     let mut plane = match Plane::empty(rt.alloc(), size) {
         Ok(plane) => plane,
