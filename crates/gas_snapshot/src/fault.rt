@@ -1,0 +1,41 @@
+//! Why bytes were not read.
+
+ghost use Rattle.std.specs.Prelude.{◌≡◌};
+ghost use Rattle.gas_snapshot.specs.declared.fault.SnapFault.TheVariants.{Memory};
+
+use gas_terms::NoMemory;
+use thiserror::Error;
+
+/// The first fault from the left, or that memory was refused for bytes that have none.
+#[derive(Clone, Copy, Debug, PartialEq, Eq, Error)]
+pub enum SnapFault {
+    /// The bytes end within a field.
+    #[error("short")]
+    Short,
+    /// The first eight bytes name no version.
+    #[error("magic")]
+    Magic,
+    /// The version has no lattice of that size.
+    #[error("size")]
+    Size,
+    /// The tick is out of range.
+    #[error("tick")]
+    Tick,
+    /// More than 16 ports of a kind, a rectangle outside the lattice or without cells, or a period of 0.
+    #[error("port")]
+    Port,
+    /// Bytes stand after the last field.
+    #[error("trailing")]
+    Trailing,
+    /// Memory was refused.
+    #[error("memory")]
+    Memory,
+}
+
+impl From<NoMemory> for SnapFault {
+    ghost from_gives = { λ _ e. e ≡ Memory };
+
+    fn from(_e: NoMemory) -> SnapFault {
+        SnapFault::Memory
+    }
+}

@@ -1,0 +1,208 @@
+//! The fields before the cells, each from the front of the bytes.
+
+ghost use Rattle.std.specs.Prelude.{◌≡◌, ◌≤◌, ◌<◌, ◌+◌, ◌*◌, ◌&&◌, nat_le, ℕ, [], Some, None, Ok, Err, IfOk, if◌then◌else◌, length, bytes_eq};
+ghost use Rattle.gas_terms.specs.Cells.{lies_within};
+ghost use Rattle.gas_terms.specs.Commands.{is_tick, is_period};
+ghost use Rattle.gas_ledger.specs.PortLists.{no_ports};
+ghost use Rattle.gas_snapshot.specs.declared.version.Version.TheVariants.{One, Two};
+ghost use Rattle.gas_snapshot.specs.declared.fault.SnapFault.TheVariants.{Magic, Size as SizeFault, Tick as TickFault, Port as PortFault};
+ghost use Rattle.gas_snapshot.specs.Spelling.{magic};
+ghost use Rattle.gas_snapshot.specs.Reading.{Reads, greatest_side, is_size_of, field_at, number, size_in, tick_in, are_few, counts_in, area_in, source_in, drain_at, source_at, many, ports_at, head_with, head_at};
+
+use crate::fault::SnapFault;
+use crate::version::Version;
+use gas_ledger::{Port, Ports, Source};
+use gas_terms::{Rect, Size, Tick};
+
+const MAGIC_ONE: [u8; 8] = *b"HPPGAS1\n";
+
+const MAGIC_TWO: [u8; 8] = *b"HPPGAS2\n";
+
+/// What stands before the ports.
+#[derive(Clone, Copy, Debug, PartialEq, Eq)]
+pub struct Head {
+    pub version: Version,
+    pub size: Size,
+    pub tick: Tick,
+}
+
+fn field(n: usize, bytes: &[u8]) -> Result<(&[u8], &[u8]), SnapFault>
+    ensures field { Reads (λ x. (x.0.now, x.1.now)) result (field_at n bytes.now) }
+    ensures len { IfOk result (λ x. length x.0.now ≡ n) }
+{
+    if bytes.len() < n {
+        return Err(SnapFault::Short);
+    }
+    Ok(bytes.split_at(n))
+}
+
+// the k-th number of a field
+fn number(k: usize, field: &[u8]) -> u16
+    requires { 2 * k + 2 ≤ length field.now }
+    ensures { result ≡ number k field.now }
+{
+    u16::from_be_bytes([field[2 * k], field[2 * k + 1]])
+}
+
+fn version(field: &[u8]) -> Result<Version, SnapFault>
+    ensures { result ≡ (if bytes_eq field.now (magic One) then Ok One else if bytes_eq field.now (magic Two) then Ok Two else Err Magic) }
+{
+    if field == MAGIC_ONE.as_slice() {
+        return Ok(Version::One);
+    }
+    if field == MAGIC_TWO.as_slice() {
+        return Ok(Version::Two);
+    }
+    Err(SnapFault::Magic)
+}
+
+// whether the version has lattices of that size
+fn has_size(version: Version, size: Size) -> bool
+    ensures { result ≡ (nat_le size.width (greatest_side version) && nat_le size.height (greatest_side version)) }
+{
+    let most = match version {
+        Version::One => 2048,
+        Version::Two => 4096,
+    };
+    size.width() <= most && size.height() <= most
+}
+
+fn size(version: Version, field: &[u8]) -> Result<Size, SnapFault>
+    requires { length field.now ≡ 4 }
+    ensures { result ≡ (if is_size_of version (size_in field.now) then Ok (size_in field.now) else Err SizeFault) }
+{
+    match Size::new(number(0, field) as u32, number(1, field) as u32) {
+        Some(size) if has_size(version, size) => Ok(size),
+        _ => Err(SnapFault::Size),
+    }
+}
+
+fn tick(field: &[u8]) -> Result<Tick, SnapFault>
+    requires { length field.now ≡ 8 }
+    ensures { result ≡ (if is_tick (tick_in field.now) then Ok (tick_in field.now) else Err TickFault) }
+{
+    let number = i64::from_be_bytes([
+        field[0], field[1], field[2], field[3], field[4], field[5], field[6], field[7],
+    ]);
+    match Tick::new(number) {
+        Some(tick) => Ok(tick),
+        None => Err(SnapFault::Tick),
+    }
+}
+
+// how many drains and how many sources
+fn counts(field: &[u8]) -> Result<(u8, u8), SnapFault>
+    requires { length field.now ≡ 2 }
+    ensures { result ≡ (if are_few (counts_in field.now) then Ok (counts_in field.now) else Err PortFault) }
+{
+    let (drains, sources) = (field[0], field[1]);
+    if drains > 16 || sources > 16 {
+        return Err(SnapFault::Port);
+    }
+    Ok((drains, sources))
+}
+
+// the rectangle of a field's first four numbers
+fn area(size: Size, field: &[u8]) -> Option<Rect>
+    requires { 8 ≤ length field.now }
+    ensures { result ≡ (if lies_within size (area_in field.now) then Some (area_in field.now) else None) }
+{
+    let (x, y) = (number(0, field) as u32, number(1, field) as u32);
+    let (w, h) = (number(2, field) as u32, number(3, field) as u32);
+    Rect::within(size, x, y, w, h)
+}
+
+fn source(size: Size, field: &[u8]) -> Result<Source, SnapFault>
+    requires { length field.now ≡ 10 }
+    ensures { result ≡ (if lies_within size (area_in field.now) && is_period (number 4 field.now) then Ok (source_in field.now) else Err PortFault) }
+{
+    let period = number(4, field);
+    match area(size, field) {
+        Some(area) if period > 0 => Ok(Source { area, period }),
+        _ => Err(SnapFault::Port),
+    }
+}
+
+fn drains<'a>(
+    size: Size,
+    count: u8,
+    ports: &mut Ports,
+    bytes: &'a [u8],
+) -> Result<&'a [u8], SnapFault>
+    requires few { count ≤ 16 }
+    requires none { ports.old.drains ≡ [] }
+    ensures drains { Reads (λ x. (ports.new.drains, x.now)) result (many (drain_at size) count bytes.now) }
+    ensures sources { ports.new.sources ≡ ports.old.sources }
+{
+    let mut rest = bytes;
+    'drains: for _ in 0..count {
+        let (drain, after) = field(8, rest)?;
+        let Some(area) = area(size, drain) else {
+            return Err(SnapFault::Port);
+        };
+        ports.add(Port::Drain(area)).unwrap();
+        rest = after;
+    }
+    Ok(rest)
+}
+
+fn sources<'a>(
+    size: Size,
+    count: u8,
+    ports: &mut Ports,
+    bytes: &'a [u8],
+) -> Result<&'a [u8], SnapFault>
+    requires few { count ≤ 16 }
+    requires none { ports.old.sources ≡ [] }
+    ensures sources { Reads (λ x. (ports.new.sources, x.now)) result (many (source_at size) count bytes.now) }
+    ensures drains { ports.new.drains ≡ ports.old.drains }
+{
+    let mut rest = bytes;
+    'sources: for _ in 0..count {
+        let (bytes, after) = field(10, rest)?;
+        let Source { area, period } = source(size, bytes)?;
+        ports.add(Port::Source(area, period)).unwrap();
+        rest = after;
+    }
+    Ok(rest)
+}
+
+#[tactic(auto, unfolding(crate::specs::Reading::ports_at))]
+fn add_ports<'a>(
+    size: Size,
+    counts: (u8, u8),
+    ports: &mut Ports,
+    bytes: &'a [u8],
+) -> Result<&'a [u8], SnapFault>
+    requires drains { counts.0 ≤ 16 }
+    requires sources { counts.1 ≤ 16 }
+    requires none { ports.old ≡ no_ports }
+    ensures { Reads (λ x. (ports.new, x.now)) result (ports_at size counts bytes.now) }
+{
+    let rest = drains(size, counts.0, ports, bytes)?;
+    let rest = sources(size, counts.1, ports, rest)?;
+    Ok(rest)
+}
+
+/// Reads what stands before the cells, and gives the bytes after it. The ports are added to those there are.
+#[tactic(auto, unfolding(crate::specs::Reading::head_at, crate::specs::Reading::magic_at, crate::specs::Reading::size_at, crate::specs::Reading::tick_at, crate::specs::Reading::counts_at))]
+pub fn read_head<'a>(bytes: &'a [u8], ports: &mut Ports) -> Result<(Head, &'a [u8]), SnapFault>
+    requires { ports.old ≡ no_ports }
+    ensures { Reads (λ x. (head_with x.0 ports.new, x.1.now)) result (head_at bytes.now) }
+{
+    let (magic, rest) = field(8, bytes)?;
+    let version = version(magic)?;
+    let (sides, rest) = field(4, rest)?;
+    let size = size(version, sides)?;
+    let (moment, rest) = field(8, rest)?;
+    let tick = tick(moment)?;
+    let (numbers, rest) = field(2, rest)?;
+    let counts = counts(numbers)?;
+    let rest = add_ports(size, counts, ports, rest)?;
+    let head = Head {
+        version,
+        size,
+        tick,
+    };
+    Ok((head, rest))
+}

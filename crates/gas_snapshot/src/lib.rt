@@ -1,0 +1,23 @@
+//! A gas as bytes and back, and shelves that take the bytes.
+#![tactic(auto)]
+
+mod cells;
+mod fault;
+mod fields;
+pub mod laws;
+mod page;
+mod reading;
+pub mod shelf;
+mod version;
+mod writer;
+mod writing;
+
+pub use fault::SnapFault;
+pub use reading::decode;
+pub use shelf::{NoShelf, Shelf, ShelfFault};
+pub use version::Version;
+pub use writer::{WriteFault, write_to};
+pub use writing::encode;
+
+#[cfg(test)]
+mod tests;

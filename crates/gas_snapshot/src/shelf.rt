@@ -1,0 +1,72 @@
+//! Where snapshots are put.
+
+ghost use Rattle.std.specs.Prelude.{◌≡◌, ℕ, ◌+◌, ◌-◌, ◌^◌, min, List, [], ◌∷◌, Option, None, IsErr, OnOk, OnErr};
+ghost use Rattle.gas_snapshot.specs.Shelved.{Gains};
+
+use std::error::Error;
+use std::fmt;
+
+/// The shelf did not take the bytes.
+#[derive(Clone, Copy, Debug, PartialEq, Eq)]
+pub struct ShelfFault;
+
+impl fmt::Display for ShelfFault {
+    fn fmt<W: fmt::Write>(&self, f: &mut fmt::Formatter<W>) -> fmt::Result {
+        write!(f, "the shelf did not take the snapshot")
+    }
+}
+
+impl Error for ShelfFault {}
+
+/// Where snapshots are put. It counts the puts that fail; the count stays at 2^64-1 once it is there.
+pub trait Shelf {
+    // how many puts have failed
+    ghost failures: { Self → ℕ };
+
+    // what was put there, in order, where the type says so
+    ghost shelved: { Self → Option (List (List ℕ)) } = { λ _. None };
+
+    /// Takes the bytes, whole or not at all.
+    fn put(&mut self, bytes: &[u8]) -> Result<(), ShelfFault>
+        ensures ok { OnOk result ((failures self.new ≡ failures self.old)
+            × Gains (shelved self.old) (shelved self.new) (bytes.now ∷ [])) }
+        ensures err { OnErr result ((failures self.new ≡ min (failures self.old + 1) (2 ^ 64 - 1))
+            × Gains (shelved self.old) (shelved self.new) []) };
+
+    /// How many puts have failed.
+    fn failures(&self) -> u64
+        ensures { result ≡ failures self.now };
+}
+
+/// A shelf that takes nothing.
+#[derive(Drop)]
+pub struct NoShelf {
+    failures: u64,
+}
+
+impl NoShelf {
+    /// No put has failed yet.
+    pub fn new() -> NoShelf
+        ensures { result.failures ≡ 0 }
+    {
+        NoShelf { failures: 0 }
+    }
+}
+
+impl Shelf for NoShelf {
+    ghost failures = { λ s. s.failures };
+
+    fn put(&mut self, bytes: &[u8]) -> Result<(), ShelfFault>
+        ensures refused { IsErr result }
+        ensures ok { OnOk result ((self.new.failures ≡ self.old.failures) × Gains None None (bytes.now ∷ [])) }
+        ensures err { OnErr result ((self.new.failures ≡ min (self.old.failures + 1) (2 ^ 64 - 1)) × Gains None None []) }
+    {
+        let _ = bytes;
+        self.failures = self.failures.saturating_add(1);
+        Err(ShelfFault)
+    }
+
+    fn failures(&self) -> u64 {
+        self.failures
+    }
+}

@@ -1,0 +1,72 @@
+//! A gas as bytes, written as they are made.
+
+ghost use Rattle.std.specs.Prelude.{◌≡◌, length, IfOk, OnOk, OnErr};
+ghost use Rattle.std.specs.Io.KnownBytes.{Appends};
+ghost use Rattle.gas_snapshot.specs.declared.version.Version.TheVariants.{Two};
+ghost use Rattle.gas_snapshot.specs.Spelling.{rows, spelling};
+ghost use Rattle.gas_snapshot.specs.Written.{WritesFront};
+
+use crate::page::head_of;
+use gas_ledger::Gas;
+use gas_plane::Plane;
+use std::error::Error;
+use std::fmt;
+use std::io::Write;
+
+/// The writer failed, or took no byte.
+#[derive(Clone, Copy, Debug, PartialEq, Eq)]
+pub struct WriteFault;
+
+impl fmt::Display for WriteFault {
+    fn fmt<W: fmt::Write>(&self, f: &mut fmt::Formatter<W>) -> fmt::Result {
+        write!(f, "the snapshot was not written whole")
+    }
+}
+
+impl Error for WriteFault {}
+
+fn put_all<W: Write>(writer: &mut W, bytes: &[u8]) -> Result<(), WriteFault>
+    ensures ok { OnOk result (Appends (W.contents writer.old) (W.contents writer.new) bytes.now) }
+    ensures err { OnErr result (WritesFront (W.contents writer.old) (W.contents writer.new) bytes.now) }
+{
+    let mut from = 0;
+    while from < bytes.len() {
+        match writer.write(&bytes[from..]) {
+            Ok(0) => return Err(WriteFault),
+            Ok(n) => from += n,
+            Err(_) => return Err(WriteFault),
+        }
+    }
+    Ok(())
+}
+
+fn write_rows<W: Write>(writer: &mut W, plane: &Plane) -> Result<(), WriteFault>
+    ensures ok { OnOk result (Appends (W.contents writer.old) (W.contents writer.new) (rows plane.now)) }
+    ensures err { OnErr result (WritesFront (W.contents writer.old) (W.contents writer.new) (rows plane.now)) }
+{
+    let size = plane.size();
+    let len = size.width() as usize / 8;
+    let mut row = [0; 512];
+    for y in 0..size.height() {
+        plane.row_bytes(y as u32, &mut row[..len]);
+        put_all(writer, &row[..len])?;
+    }
+    Ok(())
+}
+
+/// Writes what `encode` gives and answers how many bytes that is, without memory. At a fault what was written is a front
+/// of it.
+pub fn write_to<W: Write>(gas: &Gas, writer: &mut W) -> Result<u64, WriteFault>
+    ensures ok { IfOk result (λ n. Appends (W.contents writer.old) (W.contents writer.new) (spelling Two gas.now) × (n ≡ length (spelling Two gas.now))) }
+    ensures err { OnErr result (WritesFront (W.contents writer.old) (W.contents writer.new) (spelling Two gas.now)) }
+{
+    let page = head_of(gas);
+    let head = page.as_slice();
+    let size = gas.size();
+    let part = size.height() as u64 * (size.width() as u64 / 8);
+    put_all(writer, head)?;
+    write_rows(writer, gas.particles())?;
+    write_rows(writer, gas.walls())?;
+    write_rows(writer, gas.obstacles())?;
+    Ok(head.len() as u64 + 3 * part)
+}
