@@ -4,6 +4,7 @@
 mod cells;
 mod fault;
 mod fields;
+pub mod file_shelf;
 pub mod laws;
 mod page;
 mod reading;
@@ -13,11 +14,14 @@ mod writer;
 mod writing;
 
 pub use fault::SnapFault;
+pub use file_shelf::FileShelf;
 pub use reading::decode;
 pub use shelf::{NoShelf, Shelf, ShelfFault};
 pub use version::Version;
 pub use writer::{WriteFault, write_to};
 pub use writing::encode;
 
+#[cfg(test)]
+mod file_tests;
 #[cfg(test)]
 mod tests;

@@ -1,0 +1,62 @@
+//! A file that holds the last snapshot.
+
+ghost use Rattle.std.specs.Prelude.{◌≡◌, IfOk};
+
+use crate::shelf::{Shelf, ShelfFault};
+use gas_terms::NoMemory;
+use std::alloc::Global;
+use std::fs::{File, OpenFile};
+use std::io::Write;
+use std::rt::Files;
+use std::{fs, io};
+
+/// Keeps the last snapshot in a file. A snapshot is written beside the path first, under the path's name with the seat's
+/// number and `.tmp`, and takes the path's place once it is whole: a put that fails leaves the old file.
+#[derive(Drop)]
+pub struct FileShelf<R: Files> {
+    files: R,
+    path: String,
+    draft: String,
+    failures: u64,
+}
+
+impl<R: Files + Drop> FileShelf<R> {
+    /// A shelf at the path, for a seat. Nothing is written yet, and no put has failed.
+    pub fn new(alloc: Global, files: R, path: &str, seat: u16) -> Result<FileShelf<R>, NoMemory>
+        ensures { IfOk result (λ shelf. shelf.failures ≡ 0) }
+    {
+        let draft = format!(in alloc; "{path}.{seat}.tmp")?;
+        let path = String::from_str(alloc, path)?;
+        Ok(FileShelf {
+            files,
+            path,
+            draft,
+            failures: 0,
+        })
+    }
+}
+
+fn replace<R: Files>(files: &R, draft: &str, path: &str, bytes: &[u8]) -> io::Result<()> {
+    let mut file = fs::create(files, draft)?;
+    file.write_all(bytes)?;
+    file.sync_all()?;
+    fs::rename(files, draft, path)
+}
+
+impl<R: Files> Shelf for FileShelf<R> {
+    ghost failures = { λ s. s.failures };
+
+    fn put(&mut self, bytes: &[u8]) -> Result<(), ShelfFault> {
+        match replace(&self.files, self.draft.as_str(), self.path.as_str(), bytes) {
+            Ok(()) => Ok(()),
+            Err(_) => {
+                self.failures = self.failures.saturating_add(1);
+                Err(ShelfFault)
+            }
+        }
+    }
+
+    fn failures(&self) -> u64 {
+        self.failures
+    }
+}
