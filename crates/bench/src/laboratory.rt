@@ -62,7 +62,8 @@ fn add_ports(lab: &mut Lab<Serial>, size: Size) {
     }
 }
 
-fn gas_of(rt: &impl AllocGlobal, particles: Plane) -> io::Result<Gas> {
+/// A gas of these particles, at tick 0.
+pub fn gas_of(rt: &impl AllocGlobal, particles: Plane) -> io::Result<Gas> {
     let size = particles.size();
     let walls = Plane::empty(rt.alloc(), size)?;
     let obstacles = Plane::empty(rt.alloc(), size)?;

@@ -158,11 +158,22 @@ pub fn report(
     start: &Instant,
     cells: u64,
 ) -> io::Result<()> {
+    report_of(rt, what, start, cells, "cells")
+}
+
+/// Prints how many of something a second were done.
+pub fn report_of(
+    rt: &(impl Clock + Eprint),
+    what: &str,
+    start: &Instant,
+    done: u64,
+    unit: &str,
+) -> io::Result<()> {
     let micros = u64::try_from(start.elapsed(rt)?.as_micros())
         .unwrap_or(u64::MAX)
         .max(1);
-    let speed = cells / micros;
-    eprintln!(rt; "{what}: {micros} us, {speed} million cells a second")
+    let speed = done / micros;
+    eprintln!(rt; "{what}: {micros} us, {speed} million {unit} a second")
 }
 
 /// Phases without walls and with channels, then counts, fills and clears.

@@ -6,6 +6,7 @@
 
 mod laboratory;
 mod lattice;
+mod snapshots;
 
 use lattice::Scale;
 use std::{env, io};
@@ -25,5 +26,6 @@ fn main(rt: HostRuntime) -> io::Result<()> {
     };
     lattice::run(&rt, scale)?;
     laboratory::run(&rt, scale)?;
+    snapshots::run(&rt, scale)?;
     println!(rt; "done")
 }
