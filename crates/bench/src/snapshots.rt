@@ -37,11 +37,13 @@ fn encoded(rt: &(impl Clock + Eprint + AllocGlobal), gas: &Gas, times: u32) -> i
 }
 
 fn written(rt: &(impl Clock + Eprint + AllocGlobal), gas: &Gas, times: u32) -> io::Result<()> {
-    let start = Instant::now(rt)?;
-    let mut sink = io::sink();
+    // room for the longest snapshot
+    let mut page = Vec::with_capacity(rt.alloc(), 6_291_766)?;
     let mut all = 0u64;
+    let start = Instant::now(rt)?;
     for _ in 0..times {
-        if let Ok(len) = write_to(gas, &mut sink) {
+        page.clear();
+        if let Ok(len) = write_to(gas, &mut page) {
             all = all.wrapping_add(len);
         }
     }
