@@ -1,8 +1,8 @@
 -- Edits of a gas with its ledger.
 use Rattle.std.proofs.Common.{◌≡◌, true, false, ℤ, refl, sym, ap, subst, ◌∙◌}
-use Rattle.gas_terms.specs.Cells.{Cells, extent, HasSidesOf}
+use Rattle.gas_terms.specs.Cells.{extent}
 use Rattle.gas_terms.specs.Gas.{Gas}
-use Rattle.gas_terms.specs.Accounts.{nothing, gained, lost, plus, FitsI64, SumsFit}
+use Rattle.gas_terms.specs.Accounts.{nothing, gained, FitsI64}
 use Rattle.gas_terms.specs.Commands.{enact, is_move}
 use Rattle.gas_terms.specs.BookedGas.{BookedGas, changed, book}
 use Rattle.gas_terms.specs.declared.accounts.Ledger.{Ledger}

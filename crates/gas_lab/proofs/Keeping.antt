@@ -1,7 +1,7 @@
 -- What a laboratory's type keeps.
 use Rattle.std.proofs.Common.{◌≡◌, ℕ, true, ◌≤◌, ◌<◌, ◌^◌, nat_lt, List, [], ◌∷◌, ◌++◌, length, pos, refl, sym, ap, ap₂, ◌∙◌, subst, arith}
 use Rattle.std.proofs.lemmas.Bool.Decides.{nat_tests}
-use Rattle.gas_terms.specs.Cells.{Cells, extent, is_size, HasSidesOf, IsEvenTorus}
+use Rattle.gas_terms.specs.Cells.{Cells, extent, HasSidesOf}
 use Rattle.gas_terms.specs.Gas.{Gas}
 use Rattle.gas_terms.specs.Accounts.{nothing, total}
 use Rattle.gas_terms.specs.Commands.{fits}

@@ -1,5 +1,5 @@
 -- Steps of a gas with its ledger.
-use Rattle.std.proofs.Common.{◌≡◌, ℕ, zero, suc, ◌+◌, true, ℤ, pos, ◌+ℤ◌, ◌-ℤ◌, refl, sym, ap, ap₂, subst, ◌∙◌, arith, add-one}
+use Rattle.std.proofs.Common.{◌≡◌, ℕ, zero, suc, ◌+◌, ℤ, pos, ◌+ℤ◌, ◌-ℤ◌, sym, ap, ap₂, subst, ◌∙◌, arith, add-one}
 use Rattle.std.proofs.lemmas.Int.{ints}
 use Rattle.std.specs.Fn.{iterate}
 use Rattle.gas_terms.specs.Velocity.{parity}
@@ -13,7 +13,7 @@ use Rattle.gas_terms.proofs.AccountBounds.{size-even}
 use Rattle.gas_terms.proofs.Iterate.{iterate_last}
 use Rattle.gas_terms.proofs.Steps.{unstreamed-streamed}
 use Rattle.gas_terms.proofs.StoppedTotals.{taken-streamed}
-use Rattle.gas_terms.proofs.Stretches.{IsReady, stepped-plain}
+use Rattle.gas_terms.proofs.Stretches.{stepped-plain}
 use Rattle.gas_plane.specs.Planes.{IsLattice}
 use Rattle.gas_ledger.specs.PortLists.{PortLists, no_ports}
 use Rattle.gas_ledger.specs.Gases.{ports_of, ahead_with, behind_with}

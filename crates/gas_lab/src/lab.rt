@@ -90,11 +90,11 @@ impl<S: Stepper> Lab<S> {
         }
         match command {
             Command::Probe(area) => {
-                let gas = &self.books.gas;
+                let gas = self.gas();
                 Ok(Answer::Probed(probe(gas.particles(), area, gas.tick())))
             }
             Command::Tally => {
-                let gas = &self.books.gas;
+                let gas = self.gas();
                 Ok(Answer::Tallied(gas.tick(), tally(gas.particles(), gas.tick())))
             }
             Command::Ledger => Ok(Answer::Accounts(self.books.ledger)),

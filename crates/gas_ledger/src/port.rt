@@ -34,6 +34,10 @@ impl Model for Source {
 pub struct Full;
 
 impl fmt::Display for Full {
+    ghost use Rattle.std.specs.Prelude.{codes, Some};
+
+    ghost output = { λ _. Some (codes "there are 16 ports of that kind already") };
+
     fn fmt<W: fmt::Write>(&self, f: &mut fmt::Formatter<W>) -> fmt::Result {
         write!(f, "there are 16 ports of that kind already")
     }

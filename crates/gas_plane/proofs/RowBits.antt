@@ -1,9 +1,11 @@
 -- The bits of a row's words and bytes.
-use Rattle.std.proofs.Common.{◌≡◌, ℕ, zero, suc, ◌+◌, ◌-◌, ◌*◌, ◌/◌, ◌%◌, ◌^◌, ◌<◌, ◌≤◌, ◌==◌, ◌&&◌, ◌||◌, nat_lt, Bool, true, false, if◌then◌else◌, bit_and, bit_or, List, length, get_or, sum_by, refl, sym, ◌∙◌, ap, arith, inl, inr, w64, set, get_or-set_same, get_or-set_other}
+use Rattle.std.proofs.Common.{◌≡◌, ℕ, zero, suc, ◌+◌, ◌++◌, ◌-◌, ◌*◌, ◌/◌, ◌%◌, ◌^◌, ◌<◌, ◌≤◌, ◌==◌, ◌&&◌, ◌||◌, nat_lt, Bool, true, false, if◌then◌else◌, bit_and, bit_or, List, length, get_or, refl, sym, ◌∙◌, ap, arith, inl, inr, w64, take, min}
 use Rattle.std.specs.Int.{byte_at, bytes_low_first, from_le_bytes}
-use Rattle.std.specs.List.{range_with_len}
+use Rattle.std.proofs.lemmas.List.{get_or-take, get_or_append_left, get_or-append_right, length-take}
+use Rattle.std.proofs.lemmas.Slice.{take-put_mid}
+use borrow.Rule.Slice.PartMut.{put_mid}
 use Rattle.std.proofs.lemmas.Nat.{le_bytes_8}
-use Rattle.std.proofs.lemmas.Bool.{agree_below_at, cases_lt, cases_eq}
+use Rattle.std.proofs.lemmas.Bool.{agree_below_at, cases_lt}
 use Rattle.std.proofs.lemmas.Bool.Decides.{Decides-eqb, nat_tests}
 use Rattle.bit_tile.specs.Bit.{bit}
 use Rattle.bit_tile.proofs.Bits.{bit-and, bit-or, bit-shr, bit-shl_high, bit-shl_low, bit_of_low}
@@ -102,7 +104,7 @@ bit_mirrored w i h =
     ∙ (swapped_ones w (partner 2 (partner 4 i)) inner ∙ ap (bit w) place))
 
 -- the k-th byte of a mirrored word
-pub bit_of_byte : (word mirror k i : ℕ) → i < 8 → k < 8 → ((i : ℕ) → i < 64 → bit mirror i ≡ bit word (i / 8 * 8 + (7 - i % 8))) → bit (mirror / 2 ^ (8 * k) % 256) (7 - i) ≡ bit word (8 * k + i)
+bit_of_byte : (word mirror k i : ℕ) → i < 8 → k < 8 → ((i : ℕ) → i < 64 → bit mirror i ≡ bit word (i / 8 * 8 + (7 - i % 8))) → bit (mirror / 2 ^ (8 * k) % 256) (7 - i) ≡ bit word (8 * k + i)
 bit_of_byte word mirror k i h q is =
     let place : (8 * k + (7 - i)) / 8 * 8 + (7 - (8 * k + (7 - i)) % 8) ≡ 8 * k + i = omega arith in
     bit_of_low (mirror / 2 ^ (8 * k)) 8 (7 - i) (omega arith)
@@ -138,13 +140,38 @@ bit_of_word bytes n word x long small read is h =
     ∙ (sym (bit_of_low (n / 2 ^ (8 * (x / 8))) 8 (7 - x % 8) (omega arith))
     ∙ ap (λ v. v / 2 ^ (7 - x % 8) % 2 == 1) (sym byte))))
 
-pub next_byte : (out : List ℕ) (i b : ℕ) (f : ℕ → ℕ) → i < length out → ((k : ℕ) → k < i → get_or out k 0 ≡ f k) → b ≡ f i → (k : ℕ) → k < i + 1 → get_or (set out i b) k 0 ≡ f k
-next_byte out i b f within before here k h =
-    elim (cases_eq k i) [
-      | inl e ↦ ap (λ k. get_or (set out i b) k 0) e ∙ (get_or-set_same out i b 0 within ∙ (here ∙ ap f (sym e)))
-      | inr ne ↦ get_or-set_other out i k b 0 ne ∙ before k (omega arith)
+-- the bytes of a mirrored word
+pub bit_of_bytes : (word mirror k i : ℕ) → k < 8 → i < 8 → ((i : ℕ) → i < 64 → bit mirror i ≡ bit word (i / 8 * 8 + (7 - i % 8))) → bit (get_or (bytes_low_first 0 8 mirror) k 0) (7 - i) ≡ bit word (8 * k + i)
+bit_of_bytes word mirror k i h q is =
+    ap (λ b. bit b (7 - i)) (low_byte 0 8 mirror k h ∙ (ap (λ m. byte_at m mirror) (let e : 0 + k ≡ k = omega arith in e) ∙ byte_is k mirror h)) ∙ bit_of_byte word mirror k i q h is
+
+-- a part of the bytes is written over: what stands before it, and in it
+kept_len : (n : ℕ) (l : List ℕ) → n ≤ length l → length (take n l) ≡ n
+kept_len n l h = let e : min n (length l) ≡ n = omega arith in length-take n l ∙ e
+
+written : (out part : List ℕ) (at k i : ℕ) → at ≤ length out → i < at + length part → get_or (put_mid at k out part) i 0 ≡ get_or (take at out ++ part) i 0
+written out part at k i within h =
+    sym (get_or-take (at + length part) (put_mid at k out part) i 0 h) ∙ ap (λ (bytes : List ℕ). get_or bytes i 0) (take-put_mid at k out part (at + length part) refl within)
+
+before_part : (out part : List ℕ) (at k i : ℕ) → at ≤ length out → i < at → get_or (put_mid at k out part) i 0 ≡ get_or out i 0
+before_part out part at k i within h =
+    written out part at k i within (omega arith) ∙ (get_or_append_left (take at out) part 0 i (omega (arith, kept_len at out within)) ∙ get_or-take at out i 0 h)
+
+pub in_part : (out part : List ℕ) (at k i : ℕ) → at ≤ length out → i < length part → get_or (put_mid at k out part) (at + i) 0 ≡ get_or part i 0
+in_part out part at k i within h =
+    written out part at k (at + i) within (omega arith)
+    ∙ (get_or-append_right (take at out) part at (at + i) 0 (kept_len at out within) (omega arith) ∙ ap (λ n. get_or part n 0) (let e : at + i - at ≡ i = omega arith in e))
+
+pub part_filled : (out part : List ℕ) (at k : ℕ) (f : ℕ → ℕ) → at ≤ length out → ((i : ℕ) → i < at → get_or out i 0 ≡ f i) → ((i : ℕ) → i < length part → get_or part i 0 ≡ f (at + i))
+    → (i : ℕ) → i < at + length part → get_or (put_mid at k out part) i 0 ≡ f i
+part_filled out part at k f within before here i h =
+    elim (cases_lt i at) [
+      | inl below ↦ before_part out part at k i within below ∙ before i below
+      | inr above ↦
+          let e : at + (i - at) ≡ i = omega arith in
+          ap (λ n. get_or (put_mid at k out part) n 0) (sym e) ∙ (in_part out part at k (i - at) within (omega arith) ∙ (here (i - at) (omega arith) ∙ ap f e))
     ]
 
 -- the i-th byte of a row is one of its word's
-pub byte_in_row : (i j : ℕ) → j < 8 → i / 8 * 64 + (8 * (i % 8) + j) ≡ 8 * i + j
-byte_in_row i j h = omega arith
+pub byte_in_row : (column i j : ℕ) → j < 8 → column * 64 + (8 * i + j) ≡ 8 * (column * 8 + i) + j
+byte_in_row column i j h = omega arith

@@ -287,10 +287,9 @@ impl Plane {
         requires out { length out.old ≡ self.now.width / 8 }
         ensures { out.new ≡ row_bytes self.now y }
     {
-        // the columns are whole tiles
-        let _ = &self.size;
-        for i in 0..out.len() {
-            out[i] = byte_of(self.word(i as u32 / 8, y), i as u32 % 8);
+        for column in 0..self.across() {
+            let from = column as usize * 8;
+            out[from..from + 8].copy_from_slice(&bytes_of(self.word(column, y)));
         }
     }
 
@@ -417,12 +416,11 @@ fn overlap(start: u32, len: u32, from: u32) -> (u32, u32)
     (low, high - low)
 }
 
-// the k-th eight cells of a word, the leftmost as the highest bit
-fn byte_of(word: u64, k: u32) -> u8
-    requires { k < 8 }
-    ensures { (i : ℕ) → i < 8 → bit result (7 - i) ≡ bit word (8 * k + i) }
+// the cells of a word, eight in a byte: the leftmost is the highest bit of the first
+fn bytes_of(word: u64) -> [u8; 8]
+    ensures { (k i : ℕ) → k < 8 → i < 8 → bit (slice_index result k) (7 - i) ≡ bit word (8 * k + i) }
 {
-    ((mirrored(word) >> (8 * k)) % 256) as u8
+    mirrored(word).to_le_bytes()
 }
 
 // the cells of eight bytes

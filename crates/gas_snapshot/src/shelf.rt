@@ -11,6 +11,10 @@ use std::fmt;
 pub struct ShelfFault;
 
 impl fmt::Display for ShelfFault {
+    ghost use Rattle.std.specs.Prelude.{codes, Some};
+
+    ghost output = { λ _. Some (codes "the shelf did not take the snapshot") };
+
     fn fmt<W: fmt::Write>(&self, f: &mut fmt::Formatter<W>) -> fmt::Result {
         write!(f, "the shelf did not take the snapshot")
     }

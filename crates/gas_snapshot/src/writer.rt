@@ -18,6 +18,10 @@ use std::io::Write;
 pub struct WriteFault;
 
 impl fmt::Display for WriteFault {
+    ghost use Rattle.std.specs.Prelude.{codes, Some};
+
+    ghost output = { λ _. Some (codes "the snapshot was not written whole") };
+
     fn fmt<W: fmt::Write>(&self, f: &mut fmt::Formatter<W>) -> fmt::Result {
         write!(f, "the snapshot was not written whole")
     }

@@ -1,6 +1,8 @@
-use Rattle.std.proofs.Common.{◌≡◌, true, ap, sym, subst, ◌∙◌}
+use Rattle.std.proofs.Common.{ap, sym, ◌∙◌}
 use Rattle.gas_terms.specs.Cells.{extent, lies_within}
+use Rattle.gas_terms.specs.Gas.{Gas}
 use Rattle.gas_terms.specs.Commands.{fits}
+use Rattle.gas_terms.specs.Laboratory.{Laboratory}
 use Rattle.gas_lab.specs.Labs.{books_of}
 use Rattle.gas_lab.proofs.Keeping.{lab_at, kept_in_order, row_within}
 use Rattle.gas_lab.proofs.lab.Lab.apply.Goals as goal
@@ -9,6 +11,8 @@ pub probe-requires : goal.probe-requires
 probe-requires g c =
     let l = c.self.inside in
     ap (λ p. lies_within (extent p) c.in-Probe.area) c.particles.ensures
+    ∙ ap (λ (g : Gas). lies_within (extent g.particles) c.in-Probe.area) c.gas-gas.ensures
+    ∙ sym (ap (λ (now : Laboratory). lies_within (extent now.gas.particles) c.in-Probe.area) c.self.view_is)
     ∙ ap (fits (extent l.books.gas.particles)) (sym c.in-Probe.is)
     ∙ kept_in_order (lab_at l.start l.cap (books_of l.books) l.journal.items) _ c.args.command c.self.invariant.sound c.self.view_is c.requires.in_order
 
