@@ -6,6 +6,7 @@
 
 mod laboratory;
 mod lattice;
+mod sessions;
 mod snapshots;
 
 use lattice::Scale;
@@ -27,5 +28,6 @@ fn main(rt: HostRuntime) -> io::Result<()> {
     lattice::run(&rt, scale)?;
     laboratory::run(&rt, scale)?;
     snapshots::run(&rt, scale)?;
+    sessions::run(&rt, scale)?;
     println!(rt; "done")
 }

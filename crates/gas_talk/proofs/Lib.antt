@@ -1,0 +1,11 @@
+pub mod Canonical
+pub mod CanonicalCommands
+pub mod Codec
+pub mod Cutting
+pub mod Decimals
+pub mod LineWords
+pub mod Progress
+pub mod Sending
+pub mod Sequential
+pub mod Spacing
+pub mod Steps

@@ -1,0 +1,279 @@
+-- How a session comes on, turn by turn, and what holds at each of its ends.
+use Rattle.std.proofs.Common.{◌≡◌, ◌≢◌, ℕ, true, false, cond, List, [], ◌∷◌, ◌++◌, Option, Some, None, Result, refl, sym, ap, ◌∙◌, subst, inl, inr, append_assoc, append-nil}
+use Rattle.std.proofs.lemmas.Fn.{FoldsTo-push}
+use Rattle.std.proofs.KnownBytes.{Appends-nil, Appends-trans}
+use Rattle.std.specs.List.{FoldsTo}
+use Rattle.std.specs.Io.KnownBytes.{Appends}
+use Rattle.gas_terms.specs.Cells.{Extent}
+use Rattle.gas_snapshot.specs.Shelved.{Gains}
+use Rattle.gas_talk.specs.declared.door.Copied.{Copied}
+use Rattle.std.specs.declared.alloc.AllocError.{AllocError as NoMemory}
+use Rattle.gas_terms.specs.declared.command.Command.{Command}
+use Rattle.gas_terms.specs.declared.answer.Answer.{Answer}
+use Rattle.gas_terms.specs.declared.refusal.Refusal.{Refusal}
+use Rattle.gas_terms.specs.declared.refusal.Refusal.TheVariants as refusals
+use Rattle.gas_talk.specs.declared.reply.Reply.{Reply}
+use Rattle.gas_talk.specs.declared.reply.Reply.TheVariants.{Refused}
+use Rattle.gas_talk.specs.Requests.{request_of}
+use Rattle.gas_talk.specs.Texts.{reply_line}
+use Rattle.gas_talk.specs.declared.end.SessionEnd.{SessionEnd}
+use Rattle.gas_talk.specs.declared.end.SessionEnd.TheVariants.{Quit, InputEnd, WriteFault, BadLine, Memory}
+use Rattle.gas_talk.specs.declared.reader.LineReader.{LineReader}
+use Rattle.gas_talk.specs.Lines.{Item, text, bad, lines}
+use Rattle.gas_talk.specs.Unread.{Keeps}
+use Rattle.gas_talk.specs.Talk.{Put, no_put, Turn, Takes}
+use Rattle.gas_talk.specs.Ends.{is_quit, until_end, ending, line_of, replies, memory_line, taken_by, failed_by, failures_after, EndsWith, EndsAs, Place, Leads, Serves, Progress, AnswersLines}
+use Rattle.gas_talk.proofs.Cutting.{lines_nil}
+use Rattle.gas_talk.proofs.Sending.{sent_whole}
+use Rattle.gas_talk.proofs.Steps.{items_of_turns, ending-append, until_end-append, items_push, replies_push, shelved_push, failed_push, failures_more, Gains-nil, Gains-trans}
+
+module _ {D : Type 0} (size_of : D → Extent) (asks : D → Command → Result Answer Refusal → D → Type 0) (copies : D → Result Copied NoMemory → D → Type 0) where
+  -- one turn, whatever is written
+  pub record IsStep (now : Place D) (turn : Turn) (next : Place D) : Type 0 where
+    pub takes : Takes size_of asks copies now.door turn next.door
+    pub failures : next.failures ≡ failures_after now.failures (failed_by turn.put)
+    pub shelved : Gains now.shelved next.shelved (taken_by turn.put)
+
+  Leads-nil : (old : Place D) → Leads size_of asks copies old [] old
+  Leads-nil old = record { talk = refl; failures = refl; shelved = Gains-nil old.shelved }
+
+  Leads-push : (old : Place D) (turns : List Turn) (now : Place D) (turn : Turn) (next : Place D) → Leads size_of asks copies old turns now → IsStep now turn next → Leads size_of asks copies old (turns ++ turn ∷ []) next
+  Leads-push old turns now turn next leads step = record {
+    talk = FoldsTo-push (Takes size_of asks copies) old.door turns now.door turn next.door leads.talk step.takes;
+    failures = step.failures ∙ ap (λ n. failures_after n (failed_by turn.put)) leads.failures ∙ failures_more old.failures _ turn.put ∙ ap (failures_after old.failures) (sym (failed_push turns turn));
+    shelved = subst (Gains old.shelved next.shelved) (sym (shelved_push turns turn)) (Gains-trans old.shelved now.shelved next.shelved _ _ leads.shelved step.shelved);
+  }
+
+  -- no turn changes the size
+  pub Leads-size : (old : D) (turns : List Turn) (new : D) → FoldsTo (Takes size_of asks copies) old turns new → size_of new ≡ size_of old
+  Leads-size old [] new h = ap size_of (sym h)
+  Leads-size old (turn ∷ turns) new h = Leads-size h.0 turns new h.2 ∙ h.1.1
+
+  -- before the first read
+  pub Progress_start : (old : Place D) (reader : LineReader) → Keeps reader [] → AnswersLines size_of asks copies [] old None reader old
+  Progress_start old reader keeps = (
+    record {
+      turns = [];
+      unread = [];
+      leads = Leads-nil old;
+      keeps = keeps;
+      items = λ more. refl;
+      unended = refl;
+      writes = Appends-nil old.written;
+    },
+    lines_nil,
+  )
+
+  -- a read
+  pub Progress_read : (input : List ℕ) (old : Place D) (reader : LineReader) (now : Place D) (bytes : List ℕ) (after : LineReader) → Progress size_of asks copies input old reader now → ((unread : List ℕ) → Keeps reader unread → Keeps after (unread ++ bytes)) → Progress size_of asks copies (input ++ bytes) old after now
+  Progress_read input old reader now bytes after p reads = record {
+    turns = p.turns;
+    unread = p.unread ++ bytes;
+    leads = p.leads;
+    keeps = reads p.unread p.keeps;
+    items = λ more. ap lines (append_assoc input bytes more) ∙ p.items (bytes ++ more) ∙ ap (λ xs. items_of_turns p.turns ++ lines xs) (sym (append_assoc p.unread bytes more));
+    unended = p.unended;
+    writes = p.writes;
+  }
+
+  -- the items of all the input so far
+  all_items : (input : List ℕ) (old : Place D) (reader : LineReader) (now : Place D) (p : Progress size_of asks copies input old reader now) → lines input ≡ items_of_turns p.turns ++ lines p.unread
+  all_items input old reader now p = ap lines (sym (append-nil input)) ∙ p.items [] ∙ ap (λ xs. items_of_turns p.turns ++ lines xs) (append-nil p.unread)
+
+  -- what they are up to the end, by those of what is unread
+  items_until_end : (input : List ℕ) (old : Place D) (reader : LineReader) (now : Place D) (p : Progress size_of asks copies input old reader now) (items : List Item) → lines p.unread ≡ items → until_end (size_of old.door) (lines input) ≡ items_of_turns p.turns ++ until_end (size_of old.door) items
+  items_until_end input old reader now p items e =
+      ap (until_end (size_of old.door)) (all_items input old reader now p ∙ ap (λ xs. items_of_turns p.turns ++ xs) e)
+      ∙ until_end-append (size_of old.door) (items_of_turns p.turns) items p.unended
+
+  ending_is : (input : List ℕ) (old : Place D) (reader : LineReader) (now : Place D) (p : Progress size_of asks copies input old reader now) (items : List Item) → lines p.unread ≡ items → ending (size_of old.door) (lines input) ≡ ending (size_of old.door) items
+  ending_is input old reader now p items e =
+      ap (ending (size_of old.door)) (all_items input old reader now p ∙ ap (λ xs. items_of_turns p.turns ++ xs) e)
+      ∙ ending-append (size_of old.door) (items_of_turns p.turns) items p.unended
+
+  one_more : (turns : List Turn) (turn : Turn) (later : List Item) → items_of_turns turns ++ turn.item ∷ later ≡ items_of_turns (turns ++ turn ∷ []) ++ later
+  one_more turns turn later = sym (append_assoc (items_of_turns turns) (turn.item ∷ []) later) ∙ ap (λ xs. xs ++ later) (sym (items_push turns turn))
+
+  -- the lines so far, and a part of the next
+  writes_more : (old now next : Option (List ℕ)) (turns : List Turn) (part : List ℕ) → Appends old now (replies turns) → Appends now next part → Appends old next (replies turns ++ part)
+  writes_more old now next turns part first second = Appends-trans old now next (replies turns) part first second
+
+  abbrev wrote : Place D → Option (List ℕ) → Place D
+  wrote now written = record { door = now.door; written = written; failures = now.failures; shelved = now.shelved }
+
+  head_line : (unread rest : List ℕ) (item : Item) → ((more : List ℕ) → lines (unread ++ more) ≡ item ∷ lines (rest ++ more)) → lines unread ≡ item ∷ lines rest
+  head_line unread rest item found = ap lines (sym (append-nil unread)) ∙ found [] ∙ ap (λ xs. item ∷ lines xs) (append-nil rest)
+
+  head_bad : (unread : List ℕ) → ((more : List ℕ) → lines (unread ++ more) ≡ bad ∷ []) → lines unread ≡ bad ∷ []
+  head_bad unread found = ap lines (sym (append-nil unread)) ∙ found []
+
+  push_writes : (old now next : Option (List ℕ)) (turns : List Turn) (turn : Turn) → Appends old now (replies turns) → Appends now next (line_of turn) → Appends old next (replies (turns ++ turn ∷ []))
+  push_writes old now next turns turn first second = subst (Appends old next) (sym (replies_push turns turn)) (writes_more old now next turns (line_of turn) first second)
+
+  module _ (input : List ℕ) (old : Place D) (reader : LineReader) (now : Place D) (p : Progress size_of asks copies input old reader now) where
+    -- a line that is answered, and the session goes on
+    pub Progress_line : (bytes : List ℕ) (reply : Reply) (put : Put) (after : LineReader) (rest : List ℕ) (next : Place D)
+        → Keeps after rest → ((more : List ℕ) → lines (p.unread ++ more) ≡ text bytes ∷ lines (rest ++ more))
+        → is_quit (request_of (size_of old.door) bytes) ≡ false
+        → IsStep now (record { item = text bytes; reply = reply; put = put }) next
+        → Appends now.written next.written (reply_line reply)
+        → Progress size_of asks copies input old after next
+    Progress_line bytes reply put after rest next keeps found goes_on step sent =
+        let turn : Turn = record { item = text bytes; reply = reply; put = put } in
+        record {
+          turns = p.turns ++ turn ∷ [];
+          unread = rest;
+          leads = Leads-push old p.turns now turn next p.leads step;
+          keeps = keeps;
+          items = λ more. p.items more ∙ ap (λ xs. items_of_turns p.turns ++ xs) (found more) ∙ one_more p.turns turn (lines (rest ++ more));
+          unended = ap (ending (size_of old.door)) (items_push p.turns turn) ∙ ending-append (size_of old.door) (items_of_turns p.turns) (text bytes ∷ []) p.unended ∙ ap (λ b. cond b (Some Quit) None) goes_on;
+          writes = push_writes old.written now.written next.written p.turns turn p.writes sent;
+        }
+
+    -- a line that asks to quit
+    pub Serves_quit : (bytes : List ℕ) (reply : Reply) (put : Put) (rest : List ℕ) (next : Place D)
+        → ((more : List ℕ) → lines (p.unread ++ more) ≡ text bytes ∷ lines (rest ++ more))
+        → is_quit (request_of (size_of old.door) bytes) ≡ true
+        → IsStep now (record { item = text bytes; reply = reply; put = put }) next
+        → Appends now.written next.written (reply_line reply)
+        → Serves size_of asks copies input old Quit next
+    Serves_quit bytes reply put rest next found quits step sent =
+        let turn : Turn = record { item = text bytes; reply = reply; put = put } in
+        let e = head_line p.unread rest (text bytes) found in
+        record {
+          turns = p.turns ++ turn ∷ [];
+          later = [];
+          output = replies (p.turns ++ turn ∷ []);
+          leads = Leads-push old p.turns now turn next p.leads step;
+          items = items_until_end input old reader now p _ e ∙ ap (λ b. items_of_turns p.turns ++ text bytes ∷ cond b [] (until_end (size_of old.door) (lines rest))) quits ∙ one_more p.turns turn [];
+          writes = push_writes old.written now.written next.written p.turns turn p.writes sent;
+          ended = (ending_is input old reader now p _ e ∙ ap (λ b. cond b (Some Quit) (ending (size_of old.door) (lines rest))) quits, refl, refl);
+        }
+
+    -- a line whose reply could not be written whole
+    pub Serves_cut : (bytes : List ℕ) (reply : Reply) (put : Put) (rest : List ℕ) (next : Place D) (part missing : List ℕ)
+        → ((more : List ℕ) → lines (p.unread ++ more) ≡ text bytes ∷ lines (rest ++ more))
+        → IsStep now (record { item = text bytes; reply = reply; put = put }) next
+        → reply_line reply ≡ part ++ missing → Appends now.written next.written part
+        → Serves size_of asks copies input old WriteFault next
+    Serves_cut bytes reply put rest next part missing found step cut sent =
+        let turn : Turn = record { item = text bytes; reply = reply; put = put } in
+        let e = head_line p.unread rest (text bytes) found in
+        let later : List Item = cond (is_quit (request_of (size_of old.door) bytes)) [] (until_end (size_of old.door) (lines rest)) in
+        record {
+          turns = p.turns ++ turn ∷ [];
+          later = later;
+          output = replies p.turns ++ part;
+          leads = Leads-push old p.turns now turn next p.leads step;
+          items = items_until_end input old reader now p _ e ∙ one_more p.turns turn later;
+          writes = writes_more old.written now.written next.written p.turns part p.writes sent;
+          ended = inl (p.turns, turn, part, missing, refl, cut, refl);
+        }
+
+    refused : (written : Option (List ℕ)) → IsStep now (record { item = bad; reply = Refused refusals.Line; put = no_put }) (wrote now written)
+    refused written = record { takes = ((refl, refl, refl), refl); failures = refl; shelved = Gains-nil now.shelved }
+
+    -- a bad line
+    Serves_bad : (written : Option (List ℕ)) → ((more : List ℕ) → lines (p.unread ++ more) ≡ bad ∷ [])
+        → Appends now.written written (reply_line (Refused refusals.Line))
+        → Serves size_of asks copies input old BadLine (wrote now written)
+    Serves_bad written found sent =
+        let turn : Turn = record { item = bad; reply = Refused refusals.Line; put = no_put } in
+        let e = head_bad p.unread found in
+        record {
+          turns = p.turns ++ turn ∷ [];
+          later = [];
+          output = replies (p.turns ++ turn ∷ []);
+          leads = Leads-push old p.turns now turn (wrote now written) p.leads (refused written);
+          items = items_until_end input old reader now p _ e ∙ one_more p.turns turn [];
+          writes = push_writes old.written now.written written p.turns turn p.writes sent;
+          ended = (ending_is input old reader now p _ e, refl, refl);
+        }
+
+    Serves_bad_cut : (written : Option (List ℕ)) (part missing : List ℕ) → ((more : List ℕ) → lines (p.unread ++ more) ≡ bad ∷ [])
+        → reply_line (Refused refusals.Line) ≡ part ++ missing → Appends now.written written part
+        → Serves size_of asks copies input old WriteFault (wrote now written)
+    Serves_bad_cut written part missing found cut sent =
+        let turn : Turn = record { item = bad; reply = Refused refusals.Line; put = no_put } in
+        let e = head_bad p.unread found in
+        record {
+          turns = p.turns ++ turn ∷ [];
+          later = [];
+          output = replies p.turns ++ part;
+          leads = Leads-push old p.turns now turn (wrote now written) p.leads (refused written);
+          items = items_until_end input old reader now p _ e ∙ one_more p.turns turn [];
+          writes = writes_more old.written now.written written p.turns part p.writes sent;
+          ended = inl (p.turns, turn, part, missing, refl, cut, refl);
+        }
+
+    moved : (written : Option (List ℕ)) → Leads size_of asks copies old p.turns (wrote now written)
+    moved written = record { talk = p.leads.talk; failures = p.leads.failures; shelved = p.leads.shelved }
+
+    -- the line reader found no memory
+    Serves_memory : (written : Option (List ℕ)) → Appends now.written written memory_line → Serves size_of asks copies input old Memory (wrote now written)
+    Serves_memory written sent = record {
+      turns = p.turns;
+      later = until_end (size_of old.door) (lines p.unread);
+      output = replies p.turns ++ memory_line;
+      leads = moved written;
+      items = items_until_end input old reader now p _ refl;
+      writes = writes_more old.written now.written written p.turns memory_line p.writes sent;
+      ended = (refl, p.unended);
+    }
+
+    Serves_memory_cut : (written : Option (List ℕ)) (part missing : List ℕ) → memory_line ≡ part ++ missing → Appends now.written written part → Serves size_of asks copies input old WriteFault (wrote now written)
+    Serves_memory_cut written part missing cut sent = record {
+      turns = p.turns;
+      later = until_end (size_of old.door) (lines p.unread);
+      output = replies p.turns ++ part;
+      leads = moved written;
+      items = items_until_end input old reader now p _ refl;
+      writes = writes_more old.written now.written written p.turns part p.writes sent;
+      ended = inr (part, missing, cut, refl, p.unended);
+    }
+
+    -- the last reply to a bad line
+    pub Serves_last_bad : (written : Option (List ℕ)) (end : SessionEnd) (part missing : List ℕ) → ((more : List ℕ) → lines (p.unread ++ more) ≡ bad ∷ [])
+        → reply_line (Refused refusals.Line) ≡ part ++ missing → Appends now.written written part → EndsWith missing BadLine end
+        → Serves size_of asks copies input old end (wrote now written)
+    Serves_last_bad written end part missing found cut sent (inl whole) = rw whole.1 (Serves_bad written found (sent_whole now.written written _ part missing cut whole.0 sent))
+    Serves_last_bad written end part missing found cut sent (inr fault) = rw fault (Serves_bad_cut written part missing found cut sent)
+
+    -- the last reply where the line reader found no memory
+    pub Serves_last_memory : (written : Option (List ℕ)) (end : SessionEnd) (part missing : List ℕ)
+        → memory_line ≡ part ++ missing → Appends now.written written part → EndsWith missing Memory end
+        → Serves size_of asks copies input old end (wrote now written)
+    Serves_last_memory written end part missing cut sent (inl whole) = rw whole.1 (Serves_memory written (sent_whole now.written written memory_line part missing cut whole.0 sent))
+    Serves_last_memory written end part missing cut sent (inr fault) = rw fault (Serves_memory_cut written part missing cut sent)
+
+    -- no line is left
+    pub lines_answered : (after : LineReader) → Keeps after p.unread → lines p.unread ≡ [] → AnswersLines size_of asks copies input old None after now
+    lines_answered after keeps none = (
+      record {
+        turns = p.turns;
+        unread = p.unread;
+        leads = p.leads;
+        keeps = keeps;
+        items = p.items;
+        unended = p.unended;
+        writes = p.writes;
+      },
+      none,
+    )
+
+    -- an end at which each line of the input is answered
+    pub Serves_all : (end : SessionEnd) → lines p.unread ≡ [] → ((ending (size_of old.door) (lines input) ≡ None) × (◌≡◌ {A = List Item} [] []) × (replies p.turns ≡ replies p.turns) → EndsAs (size_of old.door) end (lines input) p.turns [] (replies p.turns)) → Serves size_of asks copies input old end now
+    Serves_all end none as_said = record {
+      turns = p.turns;
+      later = [];
+      output = replies p.turns;
+      leads = p.leads;
+      items = items_until_end input old reader now p [] none;
+      writes = p.writes;
+      ended = as_said (ending_is input old reader now p [] none, refl, refl);
+    }
+
+-- the last reply of a session is at no end of its input
+pub last_not_at_end : (missing : List ℕ) (wanted end : SessionEnd) → wanted ≢ InputEnd → EndsWith missing wanted end → end ≢ InputEnd
+last_not_at_end missing wanted end other (inl whole) = rw whole.1 other
+last_not_at_end missing wanted end other (inr fault) = rw fault (λ wrong. cc)

@@ -1,0 +1,7 @@
+use Rattle.std.proofs.Common.{ap}
+use Rattle.gas_terms.specs.Cells.{extent}
+use Rattle.gas_talk.proofs.Sequential.{start_stays}
+use Rattle.gas_talk.proofs.alone.AloneDoor.ask.Goals as goal
+
+pub returns-clause-size : goal.returns-clause-size
+returns-clause-size g c = ap (λ start. extent start.particles) (start_stays _ _ _ _ c.apply.ensures.applied)

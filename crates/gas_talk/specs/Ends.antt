@@ -1,0 +1,151 @@
+-- How a session goes: the turns it takes over its input, and how it ends.
+use Rattle.std.specs.Prelude.{◌≡◌, ℕ, zero, suc, ◌+◌, ◌-◌, ◌^◌, min, ◌⊎◌, Bool, true, false, if◌then◌else◌, List, [], ◌∷◌, ◌++◌, map, Option, Some, None, Result, Ok, Err}
+use Rattle.std.specs.List.{flat_map, sum_by, FoldsTo}
+use Rattle.std.specs.Io.KnownBytes.{Consumes, Appends, IsAtEnd}
+use Rattle.gas_terms.specs.Cells.{Extent}
+use Rattle.gas_snapshot.specs.Shelved.{Gains}
+use Rattle.gas_talk.specs.declared.door.Copied.{Copied}
+use Rattle.std.specs.declared.alloc.AllocError.{AllocError as NoMemory}
+use Rattle.gas_terms.specs.declared.command.Command.{Command}
+use Rattle.gas_terms.specs.declared.answer.Answer.{Answer}
+use Rattle.gas_terms.specs.declared.refusal.Refusal.{Refusal}
+use Rattle.gas_terms.specs.declared.refusal.Refusal.TheVariants as refusals
+use Rattle.gas_talk.specs.declared.request.Request.{Request}
+use Rattle.gas_talk.specs.declared.request.Request.TheVariants as requests
+use Rattle.gas_talk.specs.declared.reply.Reply.TheVariants.{Refused}
+use Rattle.gas_talk.specs.Requests.{request_of}
+use Rattle.gas_talk.specs.Texts.{reply_line}
+use Rattle.gas_talk.specs.declared.end.SessionEnd.{SessionEnd}
+use Rattle.gas_talk.specs.declared.end.SessionEnd.TheVariants.{Quit, InputEnd, ReadFault, WriteFault, BadLine, Memory, TooManyReads}
+use Rattle.gas_talk.specs.Lines.{Item, text, bad, lines}
+use Rattle.gas_talk.specs.declared.reader.LineReader.{LineReader}
+use Rattle.gas_talk.specs.Unread.{Keeps}
+use Rattle.gas_talk.specs.Talk.{Put, no_put, put_taken, put_failed, Turn, Takes}
+
+abbrev pub is_quit : Result Request Refusal → Bool
+is_quit (Ok (requests.Ask command)) = false
+is_quit (Ok requests.Save) = false
+is_quit (Ok requests.Quit) = true
+is_quit (Err refusal) = false
+
+-- the items up to and with the first that is bad or asks to quit
+abbrev pub until_end : Extent → List Item → List Item
+until_end size [] = []
+until_end size (text line ∷ items) = text line ∷ (if is_quit (request_of size line) then [] else until_end size items)
+until_end size (bad ∷ items) = bad ∷ []
+
+-- how the first of these ends the session, if there is one
+abbrev pub ending : Extent → List Item → Option SessionEnd
+ending size [] = None
+ending size (text line ∷ items) = if is_quit (request_of size line) then Some Quit else ending size items
+ending size (bad ∷ items) = Some BadLine
+
+abbrev pub line_of : Turn → List ℕ
+line_of turn = reply_line turn.reply
+
+-- the lines of the replies
+abbrev pub replies : List Turn → List ℕ
+replies turns = flat_map line_of turns
+
+abbrev pub memory_line : List ℕ
+memory_line = reply_line (Refused refusals.Memory)
+
+abbrev pub taken_by : Put → List (List ℕ)
+taken_by no_put = []
+taken_by (put_taken bytes) = bytes ∷ []
+taken_by put_failed = []
+
+abbrev pub failed_by : Put → ℕ
+failed_by no_put = 0
+failed_by (put_taken bytes) = 0
+failed_by put_failed = 1
+
+-- what the shelf took, in order
+abbrev pub shelved_by : List Turn → List (List ℕ)
+shelved_by turns = flat_map (λ turn. taken_by turn.put) turns
+
+-- how many puts failed
+abbrev pub failed_puts : List Turn → ℕ
+failed_puts turns = sum_by (λ turn. failed_by turn.put) turns
+
+-- the count of failures after more of them, which stops at its greatest value
+abbrev pub failures_after : ℕ → ℕ → ℕ
+failures_after old zero = old
+failures_after old (suc more) = min (failures_after old more + 1) (2 ^ 64 - 1)
+
+-- what was written: the lines of the replies, the last of them perhaps cut short
+abbrev pub IsCutShort : List Turn → List ℕ → Type 0
+IsCutShort turns written =
+    (front : List Turn) × (last : Turn) × (part : List ℕ) × (rest : List ℕ)
+    × (turns ≡ front ++ last ∷ []) × (line_of last ≡ part ++ rest) × (written ≡ replies front ++ part)
+
+-- none of these turns ends a session
+abbrev pub AreUnended : Extent → List Turn → Type 0
+AreUnended size turns = ending size (map (λ turn. turn.item) turns) ≡ None
+
+-- the lines of the replies, and a part, perhaps all, of the line that says that the line reader found no memory
+abbrev pub IsCutShortAtMemory : Extent → List Turn → List ℕ → Type 0
+IsCutShortAtMemory size turns written =
+    (part : List ℕ) × (rest : List ℕ) × (memory_line ≡ part ++ rest) × (written ≡ replies turns ++ part) × AreUnended size turns
+
+-- What holds at an end, of the items of the input, the turns taken, the items left and what was written.
+abbrev pub EndsAs : Extent → SessionEnd → List Item → List Turn → List Item → List ℕ → Type 0
+EndsAs size Quit items turns later written = (ending size items ≡ Some Quit) × (later ≡ []) × (written ≡ replies turns)
+EndsAs size BadLine items turns later written = (ending size items ≡ Some BadLine) × (later ≡ []) × (written ≡ replies turns)
+EndsAs size InputEnd items turns later written = (ending size items ≡ None) × (later ≡ []) × (written ≡ replies turns)
+EndsAs size ReadFault items turns later written = (ending size items ≡ None) × (later ≡ []) × (written ≡ replies turns)
+EndsAs size TooManyReads items turns later written = (ending size items ≡ None) × (later ≡ []) × (written ≡ replies turns)
+EndsAs size Memory items turns later written = (written ≡ replies turns ++ memory_line) × AreUnended size turns
+EndsAs size WriteFault items turns later written = IsCutShort turns written ⊎ IsCutShortAtMemory size turns written
+
+-- the end where the last reply is written whole, or a fault of the writer
+abbrev pub EndsWith : List ℕ → SessionEnd → SessionEnd → Type 0
+EndsWith missing wanted end = ((missing ≡ []) × (end ≡ wanted)) ⊎ (end ≡ WriteFault)
+
+-- what a session asks, writes to and puts on
+pub record Place (D : Type 0) : Type 0 where
+  pub door : D
+  -- the bytes that the writer holds, where they are known
+  pub written : Option (List ℕ)
+  pub failures : ℕ
+  -- what the shelf has taken, where it is known
+  pub shelved : Option (List (List ℕ))
+
+module _ {D : Type 0} (size_of : D → Extent) (asks : D → Command → Result Answer Refusal → D → Type 0) (copies : D → Result Copied NoMemory → D → Type 0) where
+  -- these turns lead from one place to the other, whatever is written
+  pub record Leads (old : Place D) (turns : List Turn) (new : Place D) : Type 0 where
+    pub talk : FoldsTo (Takes size_of asks copies) old.door turns new.door
+    pub failures : new.failures ≡ failures_after old.failures (failed_puts turns)
+    pub shelved : Gains old.shelved new.shelved (shelved_by turns)
+
+  -- A session over this input: its items, up to one that ends it, are asked in order, each once.
+  pub record Serves (input : List ℕ) (old : Place D) (end : SessionEnd) (new : Place D) : Type 0 where
+    pub turns : List Turn
+    pub later : List Item
+    pub output : List ℕ
+    pub leads : Leads old turns new
+    pub items : until_end (size_of old.door) (lines input) ≡ map (λ turn. turn.item) turns ++ later
+    pub writes : Appends old.written new.written output
+    pub ended : EndsAs (size_of old.door) end (lines input) turns later output
+
+  -- The whole of it: the input is what the reads gave, and at its end nothing is left unread.
+  pub record IsSession (unread_old unread_new : Option (List ℕ)) (old : Place D) (end : SessionEnd) (new : Place D) : Type 0 where
+    pub input : List ℕ
+    pub reads : Consumes unread_old unread_new input
+    pub serves : Serves input old end new
+    pub whole : end ≡ InputEnd → IsAtEnd unread_new
+
+  -- Within a session: each item of the input so far is taken, or is an item of what is unread.
+  pub record Progress (input : List ℕ) (old : Place D) (reader : LineReader) (new : Place D) : Type 0 where
+    pub turns : List Turn
+    pub unread : List ℕ
+    pub leads : Leads old turns new
+    pub keeps : Keeps reader unread
+    pub items : (more : List ℕ) → lines (input ++ more) ≡ map (λ turn. turn.item) turns ++ lines (unread ++ more)
+    pub unended : AreUnended (size_of old.door) turns
+    pub writes : Appends old.written new.written (replies turns)
+
+  -- each line so far is answered, or the session is over
+  abbrev pub AnswersLines : List ℕ → Place D → Option SessionEnd → LineReader → Place D → Type 0
+  AnswersLines input old None reader new = (p : Progress input old reader new) × (lines p.unread ≡ [])
+  AnswersLines input old (Some end) reader new = Serves input old end new

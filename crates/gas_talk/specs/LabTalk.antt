@@ -1,0 +1,101 @@
+-- What a session says to a laboratory that nobody else uses, as a function.
+use Rattle.std.specs.Prelude.{◌≡◌, ℕ, Bool, true, false, not, ◌&&◌, ◌||◌, List, [], ◌∷◌, ◌++◌, length, map, Option, is_some, Result, Ok, Err}
+use Rattle.std.specs.Io.KnownBytes.{Consumes, Appends, IsAtEnd}
+use Rattle.std.specs.declared.alloc.AllocError.{AllocError as NoMemory}
+use Rattle.gas_terms.specs.Cells.{extent}
+use Rattle.gas_terms.specs.Laboratory.{Laboratory, event, reply, cause, takes_memory}
+use Rattle.gas_terms.specs.declared.command.Command.{Command}
+use Rattle.gas_terms.specs.declared.command.Command.TheVariants.{Row}
+use Rattle.gas_terms.specs.declared.command.Entry.{Entry}
+use Rattle.gas_terms.specs.declared.answer.Answer.{Answer}
+use Rattle.gas_terms.specs.declared.refusal.Refusal.{Refusal}
+use Rattle.gas_terms.specs.declared.refusal.Refusal.TheVariants as refusals
+use Rattle.gas_snapshot.specs.Shelved.{Gains}
+use Rattle.gas_talk.specs.declared.door.Copied.{Copied}
+use Rattle.gas_talk.specs.declared.request.Request.{Request}
+use Rattle.gas_talk.specs.declared.request.Request.TheVariants.{Ask, Save, Quit}
+use Rattle.gas_talk.specs.declared.reply.Reply.TheVariants.{Saved, Bye, Refused}
+use Rattle.gas_talk.specs.declared.end.SessionEnd.{SessionEnd}
+use Rattle.gas_talk.specs.declared.end.SessionEnd.TheVariants.{InputEnd}
+use Rattle.gas_talk.specs.Requests.{request_of}
+use Rattle.gas_talk.specs.Lines.{Item, text, bad, lines}
+use Rattle.gas_talk.specs.Talk.{no_put, put_taken, put_failed, Turn, reply_to, snapshot}
+use Rattle.gas_talk.specs.Ends.{until_end, EndsAs, Place, shelved_by, failed_puts, failures_after}
+
+-- what a copy of the laboratory holds
+abbrev pub copy_of : Laboratory → Copied
+copy_of lab = record { gas = lab.gas; entries = length lab.journal }
+
+-- From old a copy may be given so, and leave new: memory may be refused.
+abbrev pub Copies : Laboratory → Result Copied NoMemory → Laboratory → Type 0
+Copies old (Ok copied) new = (copied ≡ copy_of old) × (new ≡ old)
+Copies old (Err e) new = new ≡ old
+
+-- whether an item finds what it needs: memory may be refused, or the shelf may fail
+pub data Outcome : Type 0 where
+  plain : Outcome
+  memory : Outcome
+  shelf : Outcome
+
+abbrev pub is_memory : Outcome → Bool
+is_memory plain = false
+is_memory memory = true
+is_memory shelf = false
+
+abbrev pub is_row : Command → Bool
+is_row (Row y bits) = true
+is_row _ = false
+
+-- whether a command may want memory: a row as it is read, and any other where nothing else stands against it
+abbrev pub wants_memory : Laboratory → Command → Bool
+wants_memory lab command = is_row command || (takes_memory command && not (is_some (cause lab command)))
+
+-- the reply to a command of a seat, and the laboratory then: want of memory leaves it
+abbrev pub told : Laboratory → Entry → Bool → Result Answer Refusal × Laboratory
+told lab entry true = (Err refusals.Memory, lab)
+told lab entry false = (reply lab entry.command, event lab entry)
+
+-- the turn of an item that was answered so, and the laboratory then
+abbrev pub answered : Item → Result Answer Refusal × Laboratory → Turn × Laboratory
+answered item said = (record { item = item; reply = reply_to said.0; put = no_put }, said.1)
+
+abbrev pub saved : Item → Laboratory → Outcome → Turn × Laboratory
+saved item lab plain = (record { item = item; reply = Saved (length lab.journal) (length (snapshot (copy_of lab))); put = put_taken (snapshot (copy_of lab)) }, lab)
+saved item lab memory = (record { item = item; reply = Refused refusals.Memory; put = no_put }, lab)
+saved item lab shelf = (record { item = item; reply = Refused refusals.Save; put = put_failed }, lab)
+
+abbrev pub requested : ℕ → Item → Laboratory → Result Request Refusal → Outcome → Turn × Laboratory
+requested seat item lab (Ok (Ask command)) outcome = answered item (told lab (record { seat = seat; command = command }) (is_memory outcome && wants_memory lab command))
+requested seat item lab (Ok Save) outcome = saved item lab outcome
+requested seat item lab (Ok Quit) outcome = (record { item = item; reply = Bye; put = no_put }, lab)
+requested seat item lab (Err refusal) outcome = (record { item = item; reply = Refused refusal; put = no_put }, lab)
+
+-- the turn of an item of the seat, and the laboratory after it
+abbrev pub taken_at : ℕ → Laboratory → Item → Outcome → Turn × Laboratory
+taken_at seat lab (text line) outcome = requested seat (text line) lab (request_of (extent lab.start.particles) line) outcome
+taken_at seat lab bad outcome = (record { item = bad; reply = Refused refusals.Line; put = no_put }, lab)
+
+-- the turns of items with their outcomes, and the laboratory after them
+abbrev pub talk : ℕ → Laboratory → List (Item × Outcome) → List Turn × Laboratory
+talk seat lab [] = ([], lab)
+talk seat lab (i ∷ items) =
+    let first = taken_at seat lab i.0 i.1 in
+    let rest = talk seat first.1 items in
+    (first.0 ∷ rest.0, rest.1)
+
+-- A session of a seat with a laboratory alone: its turns and the laboratory after it are those of talk.
+pub record IsTalk (seat : ℕ) (unread_old unread_new : Option (List ℕ)) (old : Place Laboratory) (end : SessionEnd) (new : Place Laboratory) : Type 0 where
+  -- what the reads gave
+  pub input : List ℕ
+  -- the items that were asked, each with its outcome, and those that were not
+  pub asked : List (Item × Outcome)
+  pub later : List Item
+  pub output : List ℕ
+  pub reads : Consumes unread_old unread_new input
+  pub items : until_end (extent old.door.start.particles) (lines input) ≡ map (λ i. i.0) asked ++ later
+  pub lab : new.door ≡ (talk seat old.door asked).1
+  pub failures : new.failures ≡ failures_after old.failures (failed_puts (talk seat old.door asked).0)
+  pub shelved : Gains old.shelved new.shelved (shelved_by (talk seat old.door asked).0)
+  pub writes : Appends old.written new.written output
+  pub ended : EndsAs (extent old.door.start.particles) end (lines input) (talk seat old.door asked).0 later output
+  pub whole : end ≡ InputEnd → IsAtEnd unread_new

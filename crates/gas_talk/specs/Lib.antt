@@ -1,0 +1,9 @@
+pub mod Ends
+pub mod LabTalk
+pub mod Lines
+pub mod Requests
+pub mod Talk
+pub mod Texts
+pub mod Unread
+pub mod Verbs
+pub mod Words

@@ -1,0 +1,20 @@
+//! How sessions end.
+
+/// How a session ended.
+#[derive(Clone, Copy, Debug, PartialEq, Eq)]
+pub enum SessionEnd {
+    /// `quit` was answered.
+    Quit,
+    /// A read gave no bytes.
+    InputEnd,
+    /// A read failed.
+    ReadFault,
+    /// A write or a flush failed, or a write took no bytes.
+    WriteFault,
+    /// A line that is too long or isn't UTF-8 was answered.
+    BadLine,
+    /// The reader of lines found no memory, and that was answered.
+    Memory,
+    /// As many reads as a session may make were made, and another was needed.
+    TooManyReads,
+}

@@ -1,0 +1,35 @@
+//! Lines of commands and of replies, and sessions with the laboratory.
+#![tactic(auto)]
+
+mod alone;
+mod door;
+mod end;
+mod number;
+pub mod page;
+mod reader;
+pub mod reading;
+pub mod reading_laws;
+pub mod reply;
+pub mod request;
+mod send;
+pub mod session;
+mod turn;
+mod verb;
+mod word;
+
+pub use alone::{Alone, serve_alone};
+pub use door::{Copied, Door};
+pub use end::SessionEnd;
+pub use page::{ReplyPage, reply_text};
+pub use reading::read_command;
+pub use reply::Reply;
+pub use request::Request;
+
+#[cfg(test)]
+mod faults;
+#[cfg(test)]
+mod reading_tests;
+#[cfg(test)]
+mod session_tests;
+#[cfg(test)]
+mod text_tests;

@@ -1,0 +1,91 @@
+//! Cuts an input into lines.
+
+ghost use Rattle.std.specs.Prelude.{◌≡◌, ℕ, ◌≤◌, List, [], ◌++◌, length, IfOk, OnErr};
+ghost use Rattle.std.specs.Io.KnownBytes.{Consumes, Keeps as KeepsBytes, IsAtEnd};
+ghost use Rattle.gas_talk.specs.Unread.{Keeps, kept_len, Finds, IsShorter};
+
+use bytes::BytesMut;
+use std::alloc::Global;
+use std::io;
+use std::io::Read;
+use tokio_util::codec::{Decoder, LinesCodec, LinesCodecError};
+
+// how many bytes a line may have before its newline
+const LINE_LIMIT: usize = 2048;
+
+// how many bytes a read asks for
+const READ_LIMIT: usize = 4096;
+
+/// Cuts an input that comes in pieces into lines.
+#[derive(Drop)]
+pub struct LineReader {
+    codec: LinesCodec,
+    buffer: BytesMut,
+}
+
+/// What stands next in the input so far.
+#[derive(Drop)]
+pub enum Found {
+    Line(String),
+    /// A line that is too long or is not UTF-8.
+    Bad,
+    NoMemory,
+    /// No whole line.
+    More,
+}
+
+/// Why a read gave nothing.
+#[derive(Clone, Copy, Debug)]
+pub enum ReadFault {
+    Reader,
+    NoMemory,
+}
+
+impl LineReader {
+    /// Nothing is read yet.
+    pub fn new(alloc: Global) -> LineReader
+        ensures { Keeps result [] }
+    {
+        LineReader {
+            codec: LinesCodec::new_with_max_length(LINE_LIMIT),
+            buffer: BytesMut::new(alloc),
+        }
+    }
+
+    /// Takes the next line.
+    pub fn next_line(&mut self) -> Found
+        ensures found { (unread : List ℕ) → Keeps self.old unread → Finds unread result self.new }
+        ensures shorter { IsShorter result (kept_len self.old) (kept_len self.new) }
+    {
+        match self.codec.decode(&mut self.buffer) {
+            Ok(Some(line)) => Found::Line(line),
+            Ok(None) => Found::More,
+            Err(LinesCodecError::MaxLineLengthExceeded) => Found::Bad,
+            Err(LinesCodecError::Io(e)) => match e.kind() {
+                io::ErrorKind::OutOfMemory => Found::NoMemory,
+                _ => Found::Bad,
+            },
+        }
+    }
+
+    /// Reads once, at most 4,096 bytes, and keeps what the read gives.
+    pub fn read_more<R: Read>(&mut self, reader: &mut R) -> Result<usize, ReadFault>
+        ensures read { IfOk result (λ n. (more : List ℕ) × (length more ≡ n)
+            × Consumes (R.remaining reader.old) (R.remaining reader.new) more
+            × ((unread : List ℕ) → Keeps self.old unread → Keeps self.new (unread ++ more))) }
+        ensures end { IfOk result (λ n. n ≡ 0 → IsAtEnd (R.remaining reader.new)) }
+        ensures err { OnErr result (KeepsBytes (R.remaining reader.old) (R.remaining reader.new)) }
+    {
+        if self.buffer.reserve(READ_LIMIT).is_err() {
+            return Err(ReadFault::NoMemory);
+        }
+        let mut page = [0u8; READ_LIMIT];
+        match reader.read(&mut page) {
+            Ok(n) => {
+                self.buffer.extend_reserved(&page[..n]);
+                Ok(n)
+            }
+            Err(_) => Err(ReadFault::Reader),
+        }
+    }
+}

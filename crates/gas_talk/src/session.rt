@@ -1,0 +1,117 @@
+//! Sessions: an input of lines, and a reply to each.
+
+ghost use Rattle.std.specs.Prelude.{◌≡◌, ◌≢◌, IfSome, ℕ, List, [], ◌++◌, IsTrue};
+ghost use Rattle.std.specs.Io.KnownBytes.{Appends};
+ghost use Rattle.gas_talk.specs.Texts.{reply_line};
+ghost use Rattle.gas_talk.specs.Ends.{EndsWith, Place, Progress, AnswersLines, IsSession};
+
+use crate::door::Door;
+use crate::end::SessionEnd;
+use crate::page::{ReplyPage, reply_text};
+use crate::reader::{Found, LineReader, ReadFault};
+use crate::reply::Reply;
+use crate::send::send;
+use crate::turn::reply_of;
+use gas_snapshot::Shelf;
+use gas_terms::Refusal;
+use std::alloc::Global;
+use std::io::{Read, Write};
+
+// how many reads a session makes at most
+const READS: u32 = 1 << 24;
+
+// Writes the line of a reply and flushes. Where it fails a part of the line is written.
+fn send_reply<W: Write>(writer: &mut W, reply: &Reply, page: &mut ReplyPage) -> bool
+    ensures { (part : List ℕ) × (rest : List ℕ) × (reply_line reply.now ≡ part ++ rest)
+        × Appends (W.contents writer.old) (W.contents writer.new) part × (IsTrue result → rest ≡ []) }
+{
+    reply_text(reply, page);
+    send(writer, page.text())
+}
+
+// The last reply of a session, which ends so, or by a fault of the writer.
+fn last<W: Write>(
+    writer: &mut W,
+    page: &mut ReplyPage,
+    refusal: Refusal,
+    end: SessionEnd,
+) -> SessionEnd
+    ensures { (part : List ℕ) × (rest : List ℕ) × (reply_line (Reply.Refused refusal) ≡ part ++ rest)
+        × Appends (W.contents writer.old) (W.contents writer.new) part × EndsWith rest end result }
+{
+    if send_reply(writer, &Reply::Refused(refusal), page) {
+        end
+    } else {
+        SessionEnd::WriteFault
+    }
+}
+
+// Answers each line that is there.
+fn answer_lines<W: Write, D: Door, K: Shelf>(
+    alloc: Global,
+    lines: &mut LineReader,
+    writer: &mut W,
+    door: &mut D,
+    shelf: &mut K,
+    page: &mut ReplyPage,
+) -> Option<SessionEnd>
+    ensures answered { (input : List ℕ) (from : Place _)
+        → Progress D.size_of D.asks D.copies input from lines.old
+        (record { door = door.old; written = W.contents writer.old; failures = K.failures shelf.old; shelved = K.shelved shelf.old })
+        → AnswersLines D.size_of D.asks D.copies input from result lines.new
+        (record { door = door.new; written = W.contents writer.new; failures = K.failures shelf.new; shelved = K.shelved shelf.new }) }
+    ensures end { IfSome result (λ end. end ≢ SessionEnd.InputEnd) }
+{
+    'lines: loop {
+        match lines.next_line() {
+            Found::Line(line) => {
+                let (reply, is_quit) = reply_of(alloc, line.as_str(), door, shelf);
+                let is_sent = send_reply(writer, &reply, page);
+                if !is_sent {
+                    return Some(SessionEnd::WriteFault);
+                }
+                if is_quit {
+                    return Some(SessionEnd::Quit);
+                }
+            }
+            Found::Bad => return Some(last(writer, page, Refusal::Line, SessionEnd::BadLine)),
+            Found::NoMemory => return Some(last(writer, page, Refusal::Memory, SessionEnd::Memory)),
+            Found::More => return None,
+        }
+    }
+}
+
+/// Serves one session: cuts what the reader gives into lines of at most 2,048 bytes, asks each of the door, and writes
+/// and flushes its reply before the next is taken. It reads again only where no whole line is left, at most 4,096 bytes
+/// at once and at most 2^24 times. What stands after the last newline is not asked. A snapshot is put on the shelf after
+/// the door's call has ended.
+pub fn session<R: Read, W: Write, D: Door, K: Shelf>(
+    alloc: Global,
+    reader: &mut R,
+    writer: &mut W,
+    door: &mut D,
+    shelf: &mut K,
+) -> SessionEnd
+    ensures { IsSession D.size_of D.asks D.copies (R.remaining reader.old) (R.remaining reader.new)
+        (record { door = door.old; written = W.contents writer.old; failures = K.failures shelf.old; shelved = K.shelved shelf.old })
+        result
+        (record { door = door.new; written = W.contents writer.new; failures = K.failures shelf.new; shelved = K.shelved shelf.new }) }
+{
+    let mut lines = LineReader::new(alloc);
+    let mut page = ReplyPage::empty();
+    for _ in 0..READS {
+        match lines.read_more(reader) {
+            Ok(0) => return SessionEnd::InputEnd,
+            Ok(_) => {}
+            Err(ReadFault::Reader) => return SessionEnd::ReadFault,
+            Err(ReadFault::NoMemory) => {
+                return last(writer, &mut page, Refusal::Memory, SessionEnd::Memory);
+            }
+        }
+        match answer_lines(alloc, &mut lines, writer, door, shelf, &mut page) {
+            Some(end) => return end,
+            None => {}
+        }
+    }
+    SessionEnd::TooManyReads
+}

@@ -1,0 +1,64 @@
+//! One item of the input: what it asks is done, and the reply is given back.
+
+ghost use Rattle.std.specs.Prelude.{◌≡◌, Result};
+ghost use Rattle.gas_snapshot.specs.Shelved.{Gains};
+ghost use Rattle.gas_talk.specs.declared.door.Copied.{Copied};
+ghost use Rattle.std.specs.declared.alloc.AllocError.{AllocError as NoMemory};
+ghost use Rattle.gas_talk.specs.Requests.{request_of};
+ghost use Rattle.gas_talk.specs.Lines.{text};
+ghost use Rattle.gas_talk.specs.Talk.{Put, Takes, Saves};
+ghost use Rattle.gas_talk.specs.Ends.{is_quit, taken_by, failed_by, failures_after};
+
+use crate::door::{Copied, Door};
+use crate::reading::read_command;
+use crate::reply::Reply;
+use crate::request::Request;
+use gas_snapshot::{Shelf, encode};
+use gas_terms::{NoMemory, Refusal};
+use std::alloc::Global;
+
+// Copies, encodes, and puts the snapshot on the shelf.
+fn save<D: Door, K: Shelf>(alloc: Global, door: &mut D, shelf: &mut K) -> Reply
+    ensures saved { (copied : Result Copied NoMemory) × (put : Put) × D.copies door.old copied door.new
+        × Saves copied result put
+        × (K.failures shelf.new ≡ failures_after (K.failures shelf.old) (failed_by put))
+        × Gains (K.shelved shelf.old) (K.shelved shelf.new) (taken_by put) }
+    ensures size { D.size_of door.new ≡ D.size_of door.old }
+{
+    let copied = match door.copy_gas() {
+        Ok(copied) => copied,
+        Err(_) => return Reply::Refused(Refusal::Memory),
+    };
+    let bytes = match encode(alloc, &copied.gas) {
+        Ok(bytes) => bytes,
+        Err(_) => return Reply::Refused(Refusal::Memory),
+    };
+    match shelf.put(bytes.as_slice()) {
+        Ok(()) => Reply::Saved(copied.entries, bytes.len() as u64),
+        Err(_) => Reply::Refused(Refusal::Save),
+    }
+}
+
+/// Asks what the line asks. Answers the reply, and whether the line asks to quit.
+pub fn reply_of<D: Door, K: Shelf>(
+    alloc: Global,
+    line: &str,
+    door: &mut D,
+    shelf: &mut K,
+) -> (Reply, bool)
+    ensures taken { (put : Put) × Takes D.size_of D.asks D.copies door.old
+        (record { item = text line.now; reply = result.0; put = put }) door.new
+        × (K.failures shelf.new ≡ failures_after (K.failures shelf.old) (failed_by put))
+        × Gains (K.shelved shelf.old) (K.shelved shelf.new) (taken_by put) }
+    ensures quit { result.1 ≡ is_quit (request_of (D.size_of door.old) line.now) }
+{
+    match read_command(alloc, line, door.size()) {
+        Ok(Request::Ask(command)) => match door.ask(command) {
+            Ok(answer) => (Reply::Answered(answer), false),
+            Err(refusal) => (Reply::Refused(refusal), false),
+        },
+        Ok(Request::Save) => (save(alloc, door, shelf), false),
+        Ok(Request::Quit) => (Reply::Bye, true),
+        Err(refusal) => (Reply::Refused(refusal), false),
+    }
+}

@@ -1,0 +1,188 @@
+//! The command line.
+
+ghost use Rattle.std.specs.Prelude.{◌≤◌, IfOk};
+ghost use Rattle.gaslab.specs.Plans.{IsInRange};
+
+use crate::setup::{Plan, PlanFault, Setup};
+use clap::error::ErrorKind;
+use clap::{Arg, ArgMatches, Command};
+use gas_terms::{NoMemory, Size};
+use std::alloc::Global;
+use std::convert::AsStr;
+
+const ABOUT: &str =
+    "A flow laboratory on the HPP lattice gas: exact steps forwards and backwards, with accounts that balance.";
+
+const EXPERIMENT: &str = "One small experiment:
+  printf 'put 0 0 1 1\\nstep 1\\nprobe 1 1 1 1\\ntally\\n' | gaslab run
+It puts a particle into the cell (0, 0), makes a step, and asks for the count and the
+momentum in the cell (1, 1) and in the whole gas. It prints:
+  OK 0
+  OK 1
+  PROBE 1 1 1
+  TALLY 1 1 1 1
+The commands are: put, erase, wall, block, unwall, row, source, drain, unport, step, back, probe,
+tally, ledger, read, entry, save, quit. docs/FORMATS.md says what each takes and answers.";
+
+const RUN: &str = "Serves one session on standard input and output";
+
+const NO_COMMAND: &str =
+    "gaslab: say what it should do, as in gaslab run; gaslab --help shows more\n";
+
+const STATUSES: &str =
+    "Exit status: 0 the session ended by quit or at the end of its input, 1 reading or writing failed,
+2 this command line was not understood, 3 the snapshot was not loaded, 4 memory was refused,
+5 a line was too long or not UTF-8.
+Example:
+  gaslab run --width 256 --height 128 --cap 5000 --save tunnel.gas";
+
+/// An option that takes a number.
+#[derive(Clone, Copy)]
+struct NumberOption {
+    name: &'static str,
+    help: &'static str,
+    default: &'static str,
+    least: u32,
+    most: u32,
+}
+
+const WIDTH: NumberOption = NumberOption {
+    name: "width",
+    help: "How many cells a new lattice is wide: a multiple of 64, from 64 to 4096, as in --width 256",
+    default: "64",
+    least: 64,
+    most: 4096,
+};
+
+const HEIGHT: NumberOption = NumberOption {
+    name: "height",
+    help: "How many cells a new lattice is high: a multiple of 64, from 64 to 4096, as in --height 128",
+    default: "64",
+    least: 64,
+    most: 4096,
+};
+
+const CAP: NumberOption = NumberOption {
+    name: "cap",
+    help: "How many changes the journal has room for: from 1 to 65536, as in --cap 5000",
+    default: "1024",
+    least: 1,
+    most: 65536,
+};
+
+impl NumberOption {
+    fn arg<'a>(self, alloc: Global) -> Arg<'a> {
+        Arg::new(alloc, self.name)
+            .long(self.name)
+            .value_name("N")
+            .default_value(self.default)
+            .help(self.help)
+    }
+
+    // the number that was given, or else the default
+    fn number(self, alloc: Global, found: &ArgMatches<'_>) -> Result<u32, PlanFault>
+        ensures { IfOk result (λ n. (self.least ≤ n) × (n ≤ self.most)) }
+    {
+        match found.get_one::<u32>(self.name) {
+            Some(n) if self.least <= n && n <= self.most => Ok(n),
+            _ => Err(self.fault(alloc, found)?),
+        }
+    }
+
+    fn fault(self, alloc: Global, found: &ArgMatches<'_>) -> Result<PlanFault, NoMemory> {
+        let NumberOption {
+            name,
+            help,
+            default,
+            ..
+        } = self;
+        let given = found.get_str(name).unwrap_or(default);
+        let text = format!(in alloc;
+            "gaslab: {given} is no value for --{name}. {help}; without it the value is {default}.\n"
+        )?;
+        Ok(PlanFault::Line(text))
+    }
+}
+
+fn path_arg<'a>(alloc: Global, name: &'a str, help: &'a str) -> Arg<'a> {
+    Arg::new(alloc, name)
+        .long(name)
+        .value_name("PATH")
+        .help(help)
+}
+
+fn commands<'a>(alloc: Global) -> Result<Command<'a>, clap::Error> {
+    let load =
+        "Start from the snapshot in this file, whose size then holds, as in --load tunnel.gas";
+    let save =
+        "Where the command save writes its snapshot; without it save is refused; as in --save tunnel.gas";
+    let run = Command::new(alloc, "run")
+        .about(RUN)
+        .after_help(STATUSES)
+        .arg(WIDTH.arg(alloc))?
+        .arg(HEIGHT.arg(alloc))?
+        .arg(CAP.arg(alloc))?
+        .arg(path_arg(alloc, "load", load))?
+        .arg(path_arg(alloc, "save", save))?;
+    Ok(
+        Command::new(alloc, "gaslab")
+            .bin_name("gaslab")?
+            .about(ABOUT)
+            .after_help(EXPERIMENT)
+            .arg_required_else_help(true)
+            .subcommand(run)?,
+    )
+}
+
+fn fault_of(alloc: Global, error: &clap::Error) -> PlanFault {
+    if error.kind() == ErrorKind::OutOfMemory {
+        return PlanFault::Memory;
+    }
+    match format!(in alloc; "{error}") {
+        Ok(text) => PlanFault::Line(text),
+        Err(_) => PlanFault::Memory,
+    }
+}
+
+// the size of a new lattice; with a snapshot to load the sizes of the line do not matter
+fn size_of(alloc: Global, found: &ArgMatches<'_>, load: Option<&str>) -> Result<Size, PlanFault> {
+    let width = WIDTH.number(alloc, found)?;
+    let height = HEIGHT.number(alloc, found)?;
+    let (width, height) = match load {
+        Some(_) => (64, 64),
+        None => (width, height),
+    };
+    if width % 64 != 0 {
+        return Err(WIDTH.fault(alloc, found)?);
+    }
+    match Size::new(width, height) {
+        Some(size) => Ok(size),
+        None => Err(HEIGHT.fault(alloc, found)?),
+    }
+}
+
+/// Reads the words of a command line, the first of which is the program's name.
+pub fn plan<'a, S: AsStr>(alloc: Global, words: &'a [S]) -> Result<Plan<'a>, PlanFault>
+    ensures { IfOk result (λ plan. IsInRange plan.setup) }
+{
+    let found = match commands(alloc) {
+        Ok(command) => command.try_get_matches_from(words),
+        Err(error) => Err(error),
+    };
+    let found = match found {
+        Ok(found) => found,
+        Err(error) => return Err(fault_of(alloc, &error)),
+    };
+    let Some(run) = found.subcommand_matches("run") else {
+        let text = String::from_str(alloc, NO_COMMAND)?;
+        return Err(PlanFault::Line(text));
+    };
+    let load = run.get_str("load");
+    let size = size_of(alloc, run, load)?;
+    let cap = CAP.number(alloc, run)?;
+    Ok(Plan {
+        setup: Setup { size, cap },
+        load,
+        save: run.get_str("save"),
+    })
+}

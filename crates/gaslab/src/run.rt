@@ -1,0 +1,61 @@
+//! A run of the laboratory: one session, of seat 0.
+
+ghost use Rattle.std.specs.Prelude.{◌≡◌, ◌≤◌, IfOk};
+ghost use Rattle.gas_terms.specs.Laboratory.{opening};
+ghost use Rattle.gaslab.specs.Plans.{IsInRange};
+ghost use Rattle.gaslab.specs.Running.{Runs, status_of, start_of};
+
+use crate::setup::Setup;
+use gas_lab::Lab;
+use gas_ledger::Gas;
+use gas_snapshot::Shelf;
+use gas_talk::{SessionEnd, serve_alone};
+use gas_terms::NoMemory;
+use phase_step::Serial;
+use std::alloc::Global;
+use std::io::{Read, Write};
+
+/// What the program exits with after a session that ended so.
+fn status_of(end: SessionEnd) -> u8
+    ensures { result ≡ status_of end }
+{
+    match end {
+        SessionEnd::Quit | SessionEnd::InputEnd => 0,
+        SessionEnd::ReadFault | SessionEnd::WriteFault | SessionEnd::TooManyReads => 1,
+        SessionEnd::Memory => 4,
+        SessionEnd::BadLine => 5,
+    }
+}
+
+fn opened(alloc: Global, setup: Setup, start: Option<Gas>) -> Result<Lab<Serial>, NoMemory>
+    requires { IsInRange setup }
+    ensures { IfOk result (λ lab. lab ≡ opening (start_of setup.size start) setup.cap) }
+{
+    let start = match start {
+        Some(gas) => gas,
+        None => Gas::empty(alloc, setup.size)?,
+    };
+    Lab::open(alloc, start, setup.cap, Serial)
+}
+
+/// Serves one session on a laboratory that opens with the given gas, or else the empty gas of the setup's size, and
+/// answers the program's exit status. Where memory is refused for the opening it is 4, and nothing is read or written.
+pub fn run_on<R: Read, W: Write, K: Shelf>(
+    alloc: Global,
+    setup: Setup,
+    start: Option<Gas>,
+    reader: &mut R,
+    writer: &mut W,
+    shelf: &mut K,
+) -> u8
+    requires { IsInRange setup }
+    ensures { Runs setup start
+        (record { unread = R.remaining reader.old; written = W.contents writer.old; failures = K.failures shelf.old; shelved = K.shelved shelf.old })
+        result
+        (record { unread = R.remaining reader.new; written = W.contents writer.new; failures = K.failures shelf.new; shelved = K.shelved shelf.new }) }
+{
+    let Ok(mut lab) = opened(alloc, setup, start) else {
+        return 4;
+    };
+    status_of(serve_alone(alloc, reader, writer, &mut lab, 0, shelf))
+}

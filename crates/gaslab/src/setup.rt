@@ -1,0 +1,31 @@
+//! What the program is asked to do.
+
+use gas_terms::{NoMemory, Size};
+
+/// How a laboratory is set up: the size of a new lattice, and how many entries the journal may have, from 1 to 65,536.
+#[derive(Clone, Copy, Debug, PartialEq, Eq)]
+pub struct Setup {
+    pub size: Size,
+    pub cap: u32,
+}
+
+/// What a command line asks for. A snapshot to start from has a size of its own, so that of the setup is then not used.
+#[derive(Clone, Copy, Debug, PartialEq, Eq)]
+pub struct Plan<'a> {
+    pub setup: Setup,
+    pub load: Option<&'a str>,
+    pub save: Option<&'a str>,
+}
+
+/// Memory was refused, or the line asks for something else: for help, or for what there is not. The text says which.
+#[derive(Debug, Drop)]
+pub enum PlanFault {
+    Memory,
+    Line(String),
+}
+
+impl From<NoMemory> for PlanFault {
+    fn from(_e: NoMemory) -> PlanFault {
+        PlanFault::Memory
+    }
+}
