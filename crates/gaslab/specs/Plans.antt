@@ -1,7 +1,10 @@
 -- What the program may be set up with.
-use Rattle.std.specs.Prelude.{ℕ, ◌≤◌}
+use Rattle.std.specs.Prelude.{◌≤◌}
 use Rattle.gaslab.specs.declared.setup.Setup.{Setup}
 
--- The journal has room for 1 to 65,536 entries; the type of a size keeps the range of its own.
-abbrev pub IsInRange : Setup → Type 0
-IsInRange setup = (1 ≤ setup.cap) × (setup.cap ≤ 65536)
+-- There are 1 to 16 workers, and the journal has room for 1 to 65,536 entries; the type of a size keeps the range of its own.
+pub record IsInRange (setup : Setup) : Type 0 where
+  pub some_workers : 1 ≤ setup.workers
+  pub few_workers : setup.workers ≤ 16
+  pub some_entries : 1 ≤ setup.cap
+  pub few_entries : setup.cap ≤ 65536

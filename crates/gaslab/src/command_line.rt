@@ -62,6 +62,14 @@ const HEIGHT: NumberOption = NumberOption {
     most: 4096,
 };
 
+const WORKERS: NumberOption = NumberOption {
+    name: "workers",
+    help: "How many threads step the gas, which makes no difference but to its speed: from 1 to 16, as in --workers 4",
+    default: "1",
+    least: 1,
+    most: 16,
+};
+
 const CAP: NumberOption = NumberOption {
     name: "cap",
     help: "How many changes the journal has room for: from 1 to 65536, as in --cap 5000",
@@ -121,6 +129,7 @@ fn commands<'a>(alloc: Global) -> Result<Command<'a>, clap::Error> {
         .after_help(STATUSES)
         .arg(WIDTH.arg(alloc))?
         .arg(HEIGHT.arg(alloc))?
+        .arg(WORKERS.arg(alloc))?
         .arg(CAP.arg(alloc))?
         .arg(path_arg(alloc, "load", load))?
         .arg(path_arg(alloc, "save", save))?;
@@ -179,9 +188,10 @@ pub fn plan<'a, S: AsStr>(alloc: Global, words: &'a [S]) -> Result<Plan<'a>, Pla
     };
     let load = run.get_str("load");
     let size = size_of(alloc, run, load)?;
+    let workers = WORKERS.number(alloc, run)? as u8;
     let cap = CAP.number(alloc, run)?;
     Ok(Plan {
-        setup: Setup { size, cap },
+        setup: Setup { size, workers, cap },
         load,
         save: run.get_str("save"),
     })

@@ -2,10 +2,12 @@
 
 use gas_terms::{NoMemory, Size};
 
-/// How a laboratory is set up: the size of a new lattice, and how many entries the journal may have, from 1 to 65,536.
+/// How a laboratory is set up: the size of a new lattice, by how many workers it is stepped, from 1 to 16, and how many
+/// entries the journal may have, from 1 to 65,536.
 #[derive(Clone, Copy, Debug, PartialEq, Eq)]
 pub struct Setup {
     pub size: Size,
+    pub workers: u8,
     pub cap: u32,
 }
 

@@ -7,17 +7,31 @@ use gaslab::run::run_on;
 use gaslab::setup::Setup;
 use std::io::Write;
 use std::process::ExitCode;
+use std::rt::Files;
+use std::thread::Threads;
 use std::{fs, io};
 
 const NAMES: [&str; 4] = ["one_particle", "tunnel", "sound_pulse", "reversal"];
 
 // what the script gives on a laboratory without options
-fn output_of(rt: &HostRuntime, script: &[u8]) -> io::Result<Vec<u8>> {
+fn output_of(rt: &(impl Threads + AllocGlobal), script: &[u8]) -> io::Result<Vec<u8>> {
     let mut output = Vec::new(rt.alloc());
     if let Some(size) = Size::new(64, 64) {
-        let setup = Setup { size, cap: 1024 };
+        let setup = Setup {
+            size,
+            workers: 1,
+            cap: 1024,
+        };
         let mut reader = script;
-        let status = run_on(rt.alloc(), setup, None, &mut reader, &mut output, &mut NoShelf::new());
+        let status = run_on(
+            rt,
+            rt.alloc(),
+            setup,
+            None,
+            &mut reader,
+            &mut output,
+            &mut NoShelf::new(),
+        );
         if status != 0 {
             writeln!(output, "status {status}")?;
         }
@@ -25,7 +39,7 @@ fn output_of(rt: &HostRuntime, script: &[u8]) -> io::Result<Vec<u8>> {
     Ok(output)
 }
 
-fn is_as_expected(rt: &HostRuntime, name: &str) -> io::Result<bool> {
+fn is_as_expected(rt: &(impl Threads + Files + AllocGlobal), name: &str) -> io::Result<bool> {
     let script = format!(in rt.alloc(); "{name}.txt")?;
     let expected = format!(in rt.alloc(); "{name}.out")?;
     let script = fs::read(rt, script.as_str())?;

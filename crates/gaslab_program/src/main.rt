@@ -10,6 +10,8 @@ use gaslab::load::{LoadFault, load_from};
 use gaslab::run::run_on;
 use gaslab::setup::{Plan, PlanFault};
 use std::process::ExitCode;
+use std::rt::Files;
+use std::thread::Threads;
 use std::{env, fs, io};
 
 const REFUSED_LINE: u8 = 2;
@@ -19,17 +21,23 @@ const NOT_LOADED: u8 = 3;
 const NO_MEMORY: u8 = 4;
 
 // the gas of the snapshot in the file
-fn load(rt: &HostRuntime, path: &str) -> Result<Gas, LoadFault> {
+fn load(rt: &(impl Files + AllocGlobal), path: &str) -> Result<Gas, LoadFault> {
     let Ok(mut file) = fs::open(rt, path) else {
         return Err(LoadFault::Read);
     };
     load_from(rt.alloc(), &mut file)
 }
 
-fn run(rt: &HostRuntime, plan: &Plan<'_>, start: Option<Gas>, shelf: &mut impl Shelf) -> u8
+fn run(
+    rt: &(impl Threads + Input + Print + AllocGlobal),
+    plan: &Plan<'_>,
+    start: Option<Gas>,
+    shelf: &mut impl Shelf,
+) -> u8
     requires { IsInRange plan.now.setup }
 {
     run_on(
+        rt,
         rt.alloc(),
         plan.setup,
         start,
@@ -39,7 +47,10 @@ fn run(rt: &HostRuntime, plan: &Plan<'_>, start: Option<Gas>, shelf: &mut impl S
     )
 }
 
-fn run_plan(rt: &HostRuntime, plan: &Plan<'_>) -> io::Result<u8>
+fn run_plan(
+    rt: &(impl Threads + Input + Print + Eprint + Files + AllocGlobal),
+    plan: &Plan<'_>,
+) -> io::Result<u8>
     requires { IsInRange plan.now.setup }
 {
     let mut start = None;
@@ -56,7 +67,7 @@ fn run_plan(rt: &HostRuntime, plan: &Plan<'_>) -> io::Result<u8>
     let Some(path) = plan.save else {
         return Ok(run(rt, plan, start, &mut NoShelf::new()));
     };
-    match FileShelf::new(rt.alloc(), *rt, path, 0) {
+    match FileShelf::new(rt.alloc(), rt, path, 0) {
         Ok(mut shelf) => Ok(run(rt, plan, start, &mut shelf)),
         Err(_) => Ok(NO_MEMORY),
     }

@@ -91,7 +91,7 @@ took_next tick particles walls obstacles i took more so_far here =
     (sym (momentum_last (λ i. total_in tick (stopped (parity tick) particles (takes_for_obstacles walls obstacles)) (tile_rectangle particles i)) i))
 
 -- few particles are taken of
-small_tile : (tick : ℤ) (cells : Cells) (i : ℕ)
+pub small_tile : (tick : ℤ) (cells : Cells) (i : ℕ)
     → ((cells : Cells) (r : Rectangle) (a b : ℕ) → parity_count cells r a b ≤ r.w * r.h)
     → ((tick : ℤ) (cells : Cells) (r : Rectangle) → total_in tick cells r ≡ sums_by_parity tick (parity_count cells r 0 0) (parity_count cells r 1 0) (parity_count cells r 0 1) (parity_count cells r 1 1))
     → IsSmall 8192 (total_in tick cells (tile_rectangle cells i))

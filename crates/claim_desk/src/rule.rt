@@ -1,0 +1,48 @@
+//! The rule of the table, and its steps.
+
+use crate::draws::Draws;
+use atomic_table::{Join, Play, Split, TableRule};
+
+/// The key is the limit and the number of seats.
+pub struct DeskRule;
+
+impl TableRule<(), Draws, (u32, u32)> for DeskRule {
+    ghost use Rattle.std.specs.Prelude.{[]};
+    ghost use Rattle.claim_desk.specs.Draws.{draws};
+    ghost use Rattle.claim_desk.specs.Rule.{Keeps};
+
+    ghost holds = { Keeps };
+
+    ghost first = { λ key. draws key.0 key.1 0 [] };
+}
+
+/// A draw.
+pub struct Meets;
+
+impl Play<(), Draws> for Meets {
+    ghost use Rattle.claim_desk.specs.Rule.{Met};
+
+    ghost then = { Met };
+}
+
+/// A seat beside a seat.
+pub struct Apart;
+
+impl Split<Draws> for Apart {
+    ghost use Rattle.claim_desk.specs.Draws.{less_one, new_beside};
+
+    ghost left = { less_one };
+
+    ghost right = { new_beside };
+}
+
+/// Two seats made one.
+pub struct Together;
+
+impl Join<Draws> for Together {
+    ghost use Rattle.claim_desk.specs.Draws.{together, spent};
+
+    ghost both = { together };
+
+    ghost spent = { spent };
+}

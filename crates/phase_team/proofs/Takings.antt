@@ -1,0 +1,81 @@
+-- What the tiles of a list of numbers take.
+use Rattle.std.proofs.Common.{◌≡◌, ℕ, zero, suc, ◌*◌, ◌≤◌, ◌^◌, List, [], ◌∷◌, ◌++◌, length, ℤ, pos, ◌*ℤ◌, nat_abs, w64, FitsSigned, refl, sym, ap, ap₂, ◌∙◌, subst, arith, add-one}
+use Rattle.std.proofs.lemmas.Int.{ints}
+use Rattle.gas_terms.specs.Velocity.{parity}
+use Rattle.gas_terms.specs.Cells.{Cells, Rectangle, tile_rectangle}
+use Rattle.gas_terms.specs.Gas.{takes_for_walls, takes_for_obstacles}
+use Rattle.gas_terms.specs.Accounts.{took_plus, total_in, stopped, sums_by_parity, parity_count, TakenFits}
+use Rattle.gas_terms.specs.declared.accounts.Pair.{Pair}
+use Rattle.gas_terms.specs.declared.accounts.Took.{Took}
+use Rattle.phase_step.proofs.TakenSums.{small_tile, took_below, took_next}
+use Rattle.claim_desk.specs.Draws.{times, once_below}
+use Rattle.phase_team.specs.Tiles.{tile_takes, tiles_take}
+use Rattle.phase_team.proofs.NumberSums.{int_sum-append, int_sum-push, int_sum-small, upto, each_once}
+
+pair_same : {a b c d : ℤ} → a ≡ c → b ≡ d → (let p : Pair = record { x = a; y = b } in p) ≡ (let q : Pair = record { x = c; y = d } in q)
+pair_same e f = ap₂ (λ x y. let p : Pair = record { x = x; y = y } in p) e f
+
+took_same : {a b c d : Pair} → a ≡ c → b ≡ d → (let p : Took = record { walls = a; obstacles = b } in p) ≡ (let q : Took = record { walls = c; obstacles = d } in q)
+took_same e f = ap₂ (λ x y. let p : Took = record { walls = x; obstacles = y } in p) e f
+
+pub record LawsOfCounts : Type 0 where
+  pub counts : (cells : Cells) (r : Rectangle) (a b : ℕ) → parity_count cells r a b ≤ r.w * r.h
+  pub sums : (tick : ℤ) (cells : Cells) (r : Rectangle) → total_in tick cells r ≡ sums_by_parity tick (parity_count cells r 0 0) (parity_count cells r 1 0) (parity_count cells r 0 1) (parity_count cells r 1 1)
+
+module _ (p : ℕ) (particles walls obstacles : Cells) where
+  takes : ℕ → Took
+  takes i = tile_takes p particles walls obstacles i
+
+  pub take_more : (numbers : List ℕ) (i : ℕ) (took here : Took) → took ≡ tiles_take p particles walls obstacles numbers → here ≡ tile_takes p particles walls obstacles i
+      → took_plus took here ≡ tiles_take p particles walls obstacles (numbers ++ i ∷ [])
+  take_more numbers i took here so_far is =
+      ap₂ took_plus so_far is
+      ∙ sym (took_same
+      (pair_same (int_sum-push (λ i. (tile_takes p particles walls obstacles i).walls.x) numbers i) (int_sum-push (λ i. (tile_takes p particles walls obstacles i).walls.y) numbers i))
+      (pair_same (int_sum-push (λ i. (tile_takes p particles walls obstacles i).obstacles.x) numbers i) (int_sum-push (λ i. (tile_takes p particles walls obstacles i).obstacles.y) numbers i)))
+
+  pub take_both : (numbers others : List ℕ) (took more : Took) → took ≡ tiles_take p particles walls obstacles numbers → more ≡ tiles_take p particles walls obstacles others
+      → took_plus took more ≡ tiles_take p particles walls obstacles (numbers ++ others)
+  take_both numbers others took more so_far is =
+      ap₂ took_plus so_far is
+      ∙ sym (took_same
+      (pair_same (int_sum-append (λ i. (tile_takes p particles walls obstacles i).walls.x) numbers others) (int_sum-append (λ i. (tile_takes p particles walls obstacles i).walls.y) numbers others))
+      (pair_same (int_sum-append (λ i. (tile_takes p particles walls obstacles i).obstacles.x) numbers others) (int_sum-append (λ i. (tile_takes p particles walls obstacles i).obstacles.y) numbers others)))
+
+  take_upto : (n : ℕ) → tiles_take p particles walls obstacles (upto n) ≡ took_below (pos p) particles walls obstacles n
+  take_upto zero = refl
+  take_upto (suc n) =
+      sym (take_more (upto n) n _ _ refl refl)
+      ∙ (took_next (pos p) particles walls obstacles n (tiles_take p particles walls obstacles (upto n)) (tile_takes p particles walls obstacles n) (take_upto n) refl
+      ∙ ap (took_below (pos p) particles walls obstacles) (add-one n))
+
+  -- each tile once, in whatever order
+  pub take_each : (n : ℕ) (numbers : List ℕ) → ((x : ℕ) → times x numbers ≡ once_below n x) → tiles_take p particles walls obstacles numbers ≡ took_below (pos p) particles walls obstacles n
+  take_each n numbers once =
+      took_same
+      (pair_same (each_once (λ i. (tile_takes p particles walls obstacles i).walls.x) n numbers once) (each_once (λ i. (tile_takes p particles walls obstacles i).walls.y) n numbers once))
+      (pair_same (each_once (λ i. (tile_takes p particles walls obstacles i).obstacles.x) n numbers once) (each_once (λ i. (tile_takes p particles walls obstacles i).obstacles.y) n numbers once))
+      ∙ take_upto n
+
+twice : (z : ℤ) → nat_abs z ≤ 8192 → nat_abs (pos 2 *ℤ z) ≤ 16384
+twice z h = omega (arith, ints)
+
+fits : (z : ℤ) (n : ℕ) → nat_abs z ≤ 16384 * n → n ≤ 2 ^ 20 → FitsSigned w64 z
+fits z n h few = omega (arith, ints)
+
+-- what few tiles take fits
+pub take_fits : (p : ℕ) (particles walls obstacles : Cells) (numbers : List ℕ) (took : Took) → LawsOfCounts → length numbers ≤ 2 ^ 20 → took ≡ tiles_take p particles walls obstacles numbers
+    → TakenFits took.walls × TakenFits took.obstacles
+take_fits p particles walls obstacles numbers took laws few is =
+    let by_walls = λ (i : ℕ). small_tile (pos p) (stopped (parity (pos p)) particles (takes_for_walls walls obstacles)) i laws.counts laws.sums in
+    let by_obstacles = λ (i : ℕ). small_tile (pos p) (stopped (parity (pos p)) particles (takes_for_obstacles walls obstacles)) i laws.counts laws.sums in
+    subst (λ (t : Took). TakenFits t.walls × TakenFits t.obstacles) (sym is) (
+      (
+        fits _ (length numbers) (int_sum-small (λ i. (tile_takes p particles walls obstacles i).walls.x) 16384 (λ i. twice (total_in (pos p) (stopped (parity (pos p)) particles (takes_for_walls walls obstacles)) (tile_rectangle particles i)).px (by_walls i).x) numbers) few,
+        fits _ (length numbers) (int_sum-small (λ i. (tile_takes p particles walls obstacles i).walls.y) 16384 (λ i. twice (total_in (pos p) (stopped (parity (pos p)) particles (takes_for_walls walls obstacles)) (tile_rectangle particles i)).py (by_walls i).y) numbers) few,
+      ),
+      (
+        fits _ (length numbers) (int_sum-small (λ i. (tile_takes p particles walls obstacles i).obstacles.x) 16384 (λ i. twice (total_in (pos p) (stopped (parity (pos p)) particles (takes_for_obstacles walls obstacles)) (tile_rectangle particles i)).px (by_obstacles i).x) numbers) few,
+        fits _ (length numbers) (int_sum-small (λ i. (tile_takes p particles walls obstacles i).obstacles.y) 16384 (λ i. twice (total_in (pos p) (stopped (parity (pos p)) particles (takes_for_obstacles walls obstacles)) (tile_rectangle particles i)).py (by_obstacles i).y) numbers) few,
+      ),
+    )

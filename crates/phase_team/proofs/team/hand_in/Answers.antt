@@ -1,0 +1,88 @@
+use Rattle.std.proofs.Common.{arith, ◌≡◌, ◌+◌, ◌*◌, ◌<◌, ◌≤◌, ◌++◌, All, length, length-append, map, vec_len, sym, ap, ◌∙◌, subst}
+use Rattle.std.proofs.lemmas.Nat.{mul-le}
+use mathlib.Core.Logic.{dite}
+use native.Mathlib.Decide.{dec_lt}
+use Rattle.gas_terms.specs.Cells.{tile_count}
+use Rattle.gas_plane.proofs.PlaneCounts.{few_tiles}
+use Rattle.claim_desk.specs.Desk.{SeatView}
+use Rattle.claim_desk.specs.Draws.{times}
+use Rattle.claim_desk.proofs.Laws.{times-append}
+use Rattle.claim_desk.proofs.Sums.{all_last, all_front}
+use Rattle.phase_team.specs.Tiles.{tiles_take}
+use Rattle.phase_team.specs.Teamwork.{HasWorked, IsRight, drawn}
+use Rattle.phase_team.specs.declared.worker.Turned.{Turned}
+use Rattle.phase_team.proofs.Places.{all_push}
+use Rattle.phase_team.proofs.DrawnNumbers.{drawn_push, still_ended}
+use Rattle.phase_team.proofs.Takings.{take_both, take_fits}
+use Rattle.phase_team.proofs.team.hand_in.Goals as goal
+
+pub write_out-requires-clause-right : goal.write_out-requires-clause-right
+write_out-requires-clause-right c =
+    let task = c.args.task in
+    let worked = all_last (HasWorked task c.args.desk.now.id) _ _ _ c.in-Some.ensures.items c.loop-worker.invariant.worked in
+    let right = subst (λ n. All (IsRight task n) c.in-Some.worker.turned.items) c.requires.limit worked.right in
+    subst (All (IsRight task (tile_count task.old.now))) (sym c.as_slice.ensures.value) right
+
+pub plus-took-requires-clause-walls : goal.plus-took-requires-clause-walls
+plus-took-requires-clause-walls c =
+    let task = c.args.task in
+    let was = c.loop-worker.invariant in
+    let numbers = drawn c.loop-worker.seats.items in
+    let others = c.in-Some.worker.seat.numbers in
+    let worked = all_last (HasWorked task c.args.desk.now.id) _ _ _ c.in-Some.ensures.items was.worked in
+    let few = few_tiles task.old.now (tile_count task.old.now) c.size.ensures.lattice (omega arith) in
+    let seats : vec_len c.loop-worker.seats ≤ 16 = omega (arith, was.all_seats, c.requires.room.0) in
+    let product : vec_len c.loop-worker.seats * tile_count task.old.now ≤ 16 * 4096 = mul-le (vec_len c.loop-worker.seats) (tile_count task.old.now) 16 4096 seats few in
+    (take_fits task.parity task.old.now task.walls.now task.obstacles.now (numbers ++ others) _ (record { counts = c.sums_by_parities.ensures.counts; sums = c.sums_by_parities.ensures.sums })
+    (omega (arith, length-append numbers others, was.few, worked.few, few, product, c.requires.limit))
+    (take_both task.parity task.old.now task.walls.now task.obstacles.now numbers others c.loop-worker.took c.in-Some.worker.took was.turned.took worked.took)).0
+
+pub plus-took-requires-clause-obstacles : goal.plus-took-requires-clause-obstacles
+plus-took-requires-clause-obstacles c =
+    let task = c.args.task in
+    let was = c.loop-worker.invariant in
+    let numbers = drawn c.loop-worker.seats.items in
+    let others = c.in-Some.worker.seat.numbers in
+    let worked = all_last (HasWorked task c.args.desk.now.id) _ _ _ c.in-Some.ensures.items was.worked in
+    let few = few_tiles task.old.now (tile_count task.old.now) c.size.ensures.lattice (omega arith) in
+    let seats : vec_len c.loop-worker.seats ≤ 16 = omega (arith, was.all_seats, c.requires.room.0) in
+    let product : vec_len c.loop-worker.seats * tile_count task.old.now ≤ 16 * 4096 = mul-le (vec_len c.loop-worker.seats) (tile_count task.old.now) 16 4096 seats few in
+    (take_fits task.parity task.old.now task.walls.now task.obstacles.now (numbers ++ others) _ (record { counts = c.sums_by_parities.ensures.counts; sums = c.sums_by_parities.ensures.sums })
+    (omega (arith, length-append numbers others, was.few, worked.few, few, product, c.requires.limit))
+    (take_both task.parity task.old.now task.walls.now task.obstacles.now numbers others c.loop-worker.took c.in-Some.worker.took was.turned.took worked.took)).1
+
+pub loop-worker-preserved : goal.loop-worker-preserved
+loop-worker-preserved c =
+    let task = c.args.task in
+    let was = c.loop-worker.invariant in
+    let popped = c.in-Some.ensures.items in
+    let pushed = c.push_reserved.ensures.items in
+    let numbers = drawn c.loop-worker.seats.items in
+    let others = c.in-Some.worker.seat.numbers in
+    let worked = all_last (HasWorked task c.args.desk.now.id) _ _ _ popped was.worked in
+    let all : drawn c.push_reserved.new.self.items ≡ numbers ++ others = drawn_push _ _ c.in-Some.worker.seat pushed in
+    let places : map (λ (t : Turned). t.place) c.as_slice.result.now ≡ others = ap (map (λ (t : Turned). t.place)) c.as_slice.ensures.value ∙ worked.all_turned in
+    record {
+      all_seats = omega (arith, was.all_seats, c.push_reserved.ensures.len, c.in-Some.ensures.len);
+      room = c.push_reserved.ensures.capacity ∙ was.room;
+      same_desk =
+          let P : SeatView → Type 0 = λ s. s.desk ≡ c.args.desk.now.id in
+          subst (All P) (sym pushed) (all_push P _ _ was.same_desk worked.same_desk);
+      some_ended = still_ended _ _ c.in-Some.worker.seat pushed was.some_ended;
+      worked = all_front (HasWorked task c.args.desk.now.id) _ _ _ popped was.worked;
+      few =
+          let long = ap length all ∙ length-append numbers others in
+          let next : (vec_len c.loop-worker.seats + 1) * tile_count task.old.now ≡ vec_len c.loop-worker.seats * tile_count task.old.now + tile_count task.old.now = omega arith in
+          let count = ap (λ n. n * tile_count task.old.now) c.push_reserved.ensures.len in
+          omega (arith, long, next, count, was.few, worked.few, c.requires.limit);
+      turned = record {
+        sides = c.write_out.ensures.out;
+        turned = λ i within some_time.
+            let both = ap (times i) all ∙ times-append i numbers others in
+            dite (dec_lt 0 (times i others))
+            (λ mine. c.write_out.ensures.new i within (subst (λ ns. 0 < times i ns) (sym places) mine))
+            (λ other. c.write_out.ensures.kept i within (was.turned.turned i within (omega arith)));
+        took = c.plus-took.ensures ∙ (take_both task.parity task.old.now task.walls.now task.obstacles.now numbers others c.loop-worker.took c.in-Some.worker.took was.turned.took worked.took
+            ∙ ap (tiles_take task.parity task.old.now task.walls.now task.obstacles.now) (sym all));
+      };
+    }

@@ -1,0 +1,31 @@
+use Rattle.std.specs.Prelude.{◌≡◌, ℕ, ◌+◌, ◌<◌, List, pos}
+use Rattle.gas_terms.specs.Cells.{Cells, has, joined, tile_rectangle}
+use Rattle.gas_terms.specs.Gas.{streamed}
+use Rattle.gas_terms.specs.Accounts.{int_sum_by}
+use Rattle.gas_terms.specs.declared.accounts.Took.{Took}
+use Rattle.block_rule.specs.Windows.{taken_in}
+
+-- tile i of the set of cells is as it is after the phase of parity p of the particles
+abbrev pub IsTurnedAt : ℕ → Cells → Cells → Cells → Cells → ℕ → Type 0
+IsTurnedAt p particles walls obstacles cells i =
+    (x y : ℕ) → x < 64 → y < 64 →
+    has cells ((tile_rectangle particles i).x + x) ((tile_rectangle particles i).y + y)
+    ≡ has (streamed p particles (joined walls obstacles)) ((tile_rectangle particles i).x + x) ((tile_rectangle particles i).y + y)
+
+-- what walls and obstacles take in tile i
+abbrev pub tile_takes : ℕ → Cells → Cells → Cells → ℕ → Took
+tile_takes p particles walls obstacles i = taken_in (pos p) particles walls obstacles (tile_rectangle particles i)
+
+-- what they take in the tiles of these numbers
+abbrev pub tiles_take : ℕ → Cells → Cells → Cells → List ℕ → Took
+tiles_take p particles walls obstacles numbers =
+    record {
+      walls = record {
+        x = int_sum_by (λ i. (tile_takes p particles walls obstacles i).walls.x) numbers;
+        y = int_sum_by (λ i. (tile_takes p particles walls obstacles i).walls.y) numbers;
+      };
+      obstacles = record {
+        x = int_sum_by (λ i. (tile_takes p particles walls obstacles i).obstacles.x) numbers;
+        y = int_sum_by (λ i. (tile_takes p particles walls obstacles i).obstacles.y) numbers;
+      };
+    }

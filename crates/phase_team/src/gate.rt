@@ -1,0 +1,18 @@
+//! Where a caller may watch the workers of a team.
+
+use std::marker::Sync;
+
+/// What is called each time that a worker has drawn a tile, before the tile is turned. It owes nothing but to return.
+pub trait Gate: Sync {
+    /// Worker `worker`, counted from 0, is about to turn tile `tile`; tiles are counted row by row.
+    fn at_tile(&self, worker: u8, tile: u32);
+}
+
+/// Does nothing.
+#[derive(Clone, Copy, Debug, Default, PartialEq, Eq)]
+pub struct NoGate;
+
+impl Gate for NoGate {
+    #[inline]
+    fn at_tile(&self, _worker: u8, _tile: u32) {}
+}

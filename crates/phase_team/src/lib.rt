@@ -1,0 +1,12 @@
+//! The step over a plane by several threads, which draw its tiles one by one.
+#![tactic(auto)]
+
+mod gate;
+mod task;
+mod team;
+#[cfg(test)]
+mod tests;
+mod worker;
+
+pub use gate::{Gate, NoGate};
+pub use team::Team;

@@ -1,0 +1,328 @@
+//! A team of workers.
+
+ghost use Rattle.std.specs.Prelude.{◌≡◌, ℕ, ◌+◌, ◌*◌, ◌<◌, ◌≤◌, true, [], All, IfSome, IfNone, map, length, vec_len, count_by};
+ghost use Rattle.std.specs.Vec.{vec_capacity};
+ghost use Rattle.gas_terms.specs.Cells.{joined, tile_count, HasSidesOf};
+ghost use Rattle.gas_terms.specs.Gas.{streamed};
+ghost use Rattle.gas_terms.specs.Accounts.{taken};
+ghost use Rattle.claim_desk.specs.Desk.{fresh};
+ghost use Rattle.claim_desk.specs.Draws.{times};
+ghost use Rattle.phase_team.specs.Tiles.{tiles_take};
+ghost use Rattle.phase_team.specs.Teamwork.{IsReady, IsTurned, HasWorked, HasTurned, IsRight, drawn};
+
+use crate::gate::{Gate, NoGate};
+use crate::task::Task;
+use crate::worker::{NOTHING, Turned, Worker, work_on};
+use claim_desk::{Desk, DeskSeat};
+use gas_plane::Plane;
+use gas_terms::Took;
+use phase_step::{NO_BORDERS, Serial, Stepper};
+use std::alloc::Global;
+use std::marker::Model;
+use std::thread;
+use std::thread::Threads;
+
+/// Puts the tiles that a worker turned into the plane.
+fn write_out(task: Task<'_>, turned: &[Turned], out: &mut Plane)
+    requires out { HasSidesOf out.old task.old.now }
+    requires right { All (IsRight task (tile_count task.old.now)) turned.now }
+    ensures out { HasSidesOf out.new task.entry.old.now }
+    ensures kept { (i : ℕ) → i < tile_count task.entry.old.now → IsTurned task.entry out.old i → IsTurned task.entry out.new i }
+    ensures new { (i : ℕ) → i < tile_count task.entry.old.now → 0 < times i (map (λ t. t.place) turned.now) → IsTurned task.entry out.new i }
+{
+    let _ = out.size();
+    for Turned { place, tile } in turned {
+        *out.tile_mut(*place) = *tile;
+    }
+}
+
+// A worker for each seat, with room of earlier phases where there is some; `None` where there is no memory.
+fn gather(
+    alloc: Global,
+    desk: &Desk,
+    seats: &mut Vec<DeskSeat>,
+    rooms: &mut Vec<Vec<Turned>>,
+) -> Option<Vec<Worker>>
+    requires { All (λ s. s ≡ fresh desk.now.id) seats.old.items }
+    ensures team { IfSome result (λ team. (vec_len team ≡ vec_len seats.old) × All (IsReady desk.now.id) team.items) }
+    ensures seats { IfSome result (λ _. (seats.new.items ≡ []) × (vec_capacity seats.new ≡ vec_capacity seats.old)) }
+{
+    let mut team = Vec::with_capacity(alloc, seats.len()).ok()?;
+    while let Some(seat) = seats.pop() {
+        let mut turned = match rooms.pop() {
+            Some(room) => room,
+            None => Vec::new(alloc),
+        };
+        turned.clear();
+        let took = NOTHING;
+        team.push_reserved(Worker { seat, turned, took });
+    }
+    Some(team)
+}
+
+// A desk for the tiles of a phase, the calling thread's seat, the other workers, and an empty list with room for all seats.
+#[derive(Drop)]
+struct Crew {
+    desk: Desk,
+    own: DeskSeat,
+    team: Vec<Worker>,
+    seats: Vec<DeskSeat>,
+}
+
+// `None` where there is no memory.
+fn crew_of(alloc: Global, tiles: u32, workers: u32, rooms: &mut Vec<Vec<Turned>>) -> Option<Crew>
+    requires { (0 < workers) × (workers ≤ 16) }
+    ensures desk { IfSome result (λ crew. (crew.desk.id.limit ≡ tiles) × (crew.desk.seats ≡ workers)) }
+    ensures own { IfSome result (λ crew. crew.own ≡ fresh crew.desk.id) }
+    ensures team { IfSome result (λ crew. (vec_len crew.team + 1 ≡ workers) × All (IsReady crew.desk.id) crew.team.items) }
+    ensures seats { IfSome result (λ crew. (crew.seats.items ≡ []) × (workers ≤ vec_capacity crew.seats)) }
+{
+    let Ok((desk, mut seats)) = Desk::open(alloc, tiles, workers) else {
+        return None;
+    };
+    let Some(own) = seats.pop() else {
+        return None;
+    };
+    let Some(team) = gather(alloc, &desk, &mut seats, rooms) else {
+        return None;
+    };
+    Some(Crew {
+        desk,
+        own,
+        team,
+        seats,
+    })
+}
+
+// Draws tiles and turns them in the plane, until no tile is left.
+fn draw_here<G: Gate>(
+    task: Task<'_>,
+    gate: &G,
+    desk: &Desk,
+    seat: &mut DeskSeat,
+    out: &mut Plane,
+) -> Took
+    requires limit { desk.now.id.limit ≡ tile_count task.old.now }
+    requires out { HasSidesOf out.old task.old.now }
+    requires seat { seat.old ≡ fresh desk.now.id }
+    ensures seat { (seat.new.desk ≡ desk.now.id) × (seat.new.ended ≡ true) × (length seat.new.numbers ≤ desk.now.id.limit) }
+    ensures turned { HasTurned task.entry seat.new.numbers result out.new }
+{
+    // their sides are whole tiles
+    let _ = (task.old.size(), out.size());
+    gas_terms::account_laws::sums_by_parities();
+    let mut took = NOTHING;
+    let mut room = NO_BORDERS;
+    while let Some(place) = seat.draw(desk) {
+        gate.at_tile(0, place);
+        let here = task.turn(place, &mut room, out.tile_mut(place));
+        took = took.plus(here);
+    }
+    took
+}
+
+// The workers work, each in a thread of its own where one can be made, and the calling thread turns tiles in the plane.
+fn work_together<R: Threads, G: Gate>(
+    rt: &R,
+    task: Task<'_>,
+    gate: &G,
+    desk: &Desk,
+    team: &mut [Worker],
+    seat: &mut DeskSeat,
+    out: &mut Plane,
+) -> Took
+    requires limit { desk.now.id.limit ≡ tile_count task.old.now }
+    requires few { length team.old < 16 }
+    requires ready { All (IsReady desk.now.id) team.old }
+    requires out { HasSidesOf out.old task.old.now }
+    requires seat { seat.old ≡ fresh desk.now.id }
+    ensures worked { All (HasWorked task.entry desk.now.id) team.new }
+    ensures seat { (seat.new.desk ≡ desk.now.id) × (seat.new.ended ≡ true) × (length seat.new.numbers ≤ desk.now.id.limit) }
+    ensures turned { HasTurned task.entry seat.new.numbers result out.new }
+{
+    let Some((last, rest)) = team.split_last_mut() else {
+        return draw_here(task, gate, desk, seat, out);
+    };
+    let number = rest.len() as u8 + 1;
+    let (_, took) = thread::join_mut(
+        rt,
+        &mut ||
+            requires { (desk.now.id.limit ≡ tile_count task.old.now) × IsReady desk.now.id last.now }
+            ensures { HasWorked task.entry desk.entry.now.id last.exit.now }
+        { work_on(last, number, task, desk, gate) },
+        &mut || -> Took
+            requires { (desk.now.id.limit ≡ tile_count task.old.now) × (length rest.now < 16) × All (IsReady desk.now.id) rest.now × HasSidesOf out.now task.old.now × (seat.now ≡ fresh desk.now.id) }
+            ensures { All (HasWorked task.entry desk.entry.now.id) rest.exit.now
+                × (seat.exit.now.desk ≡ desk.entry.now.id) × (seat.exit.now.ended ≡ true) × (length seat.exit.now.numbers ≤ desk.entry.now.id.limit)
+                × HasTurned task.entry seat.exit.now.numbers result out.exit.now }
+        { work_together(rt, task, gate, desk, rest, seat, out) },
+    );
+    took
+}
+
+// Keeps room for later phases, if there is memory to list it.
+fn keep(rooms: &mut Vec<Vec<Turned>>, room: Vec<Turned>) {
+    let _ = rooms.push(room);
+}
+
+// Puts what the workers turned to its places, takes their seats and keeps their room. The answer is what was taken in all.
+fn hand_in(
+    task: Task<'_>,
+    desk: &Desk,
+    mut team: Vec<Worker>,
+    seats: &mut Vec<DeskSeat>,
+    rooms: &mut Vec<Vec<Turned>>,
+    mut took: Took,
+    out: &mut Plane,
+) -> Took
+    requires limit { desk.now.id.limit ≡ tile_count task.old.now }
+    requires worked { All (HasWorked task desk.now.id) team.items }
+    requires room { (vec_len seats.old + vec_len team ≤ 16) × (vec_len seats.old + vec_len team ≤ vec_capacity seats.old) }
+    requires seats { All (λ s. s.desk ≡ desk.now.id) seats.old.items × (0 < count_by (λ s. s.ended) seats.old.items) }
+    requires few { length (drawn seats.old.items) ≤ vec_len seats.old * tile_count task.old.now }
+    requires turned { HasTurned task (drawn seats.old.items) took out.old }
+    ensures seats { (vec_len seats.new ≡ vec_len seats.old + vec_len team) × All (λ s. s.desk ≡ desk.now.id) seats.new.items × (0 < count_by (λ s. s.ended) seats.new.items) }
+    ensures turned { HasTurned task.entry (drawn seats.new.items) result out.new }
+{
+    // its sides are whole tiles
+    let _ = task.old.size();
+    gas_terms::account_laws::sums_by_parities();
+    while let Some(worker) = team.pop() {
+        let Worker {
+            seat,
+            turned,
+            took: here,
+        } = worker;
+        write_out(task, turned.as_slice(), out);
+        took = took.plus(here);
+        seats.push_reserved(seat);
+        keep(rooms, turned);
+    }
+    took
+}
+
+// A phase by a desk and its workers; `None` where they can't be had, and then nothing was done.
+fn turn_together<R: Threads, G: Gate>(
+    rt: &R,
+    alloc: Global,
+    workers: u32,
+    task: Task<'_>,
+    gate: &G,
+    rooms: &mut Vec<Vec<Turned>>,
+    out: &mut Plane,
+) -> Option<Took>
+    requires workers { (0 < workers) × (workers ≤ 16) }
+    requires out { HasSidesOf out.old task.old.now }
+    ensures out { IfSome result (λ _. out.new ≡ streamed task.entry.parity task.entry.old.now (joined task.entry.walls.now task.entry.obstacles.now)) }
+    ensures took { IfSome result (λ took. took ≡ taken task.entry.parity task.entry.old.now task.entry.walls.now task.entry.obstacles.now) }
+    ensures none { IfNone result (out.new ≡ out.old) }
+{
+    gas_terms::account_laws::taken_over_cells();
+    gas_terms::account_laws::sums_over_tiles();
+    let tiles = task.old.size().tiles();
+    let Some(crew) = crew_of(alloc, tiles, workers, rooms) else {
+        return None;
+    };
+    let Crew {
+        desk,
+        mut own,
+        mut team,
+        mut seats,
+    } = crew;
+    let first = work_together(rt, task, gate, &desk, team.as_mut_slice(), &mut own, out);
+    seats.push_reserved(own);
+    let took = hand_in(task, &desk, team, &mut seats, rooms, first, out);
+    let _ = out.size();
+    desk.close(seats);
+    Some(took)
+}
+
+/// Up to 16 workers that draw the tiles of a plane and turn them. The calling thread is worker 0; for each other worker of a
+/// phase a thread is started, no more than there are tiles in all, so that one tile starts none. A phase never refuses: where
+/// memory or a thread can't be had, the calling thread does what remains. The tiles that other workers turn are kept in
+/// memory of their own, which a team keeps between phases, and written when all is turned. Contracts see how many workers it has.
+#[derive(Drop)]
+pub struct Team<R: Threads + Drop, G: Gate + Drop> {
+    rt: R,
+    alloc: Global,
+    workers: u8,
+    gate: G,
+    rooms: Vec<Vec<Turned>>,
+}
+
+impl<R: Threads + Drop, G: Gate + Drop> Model for Team<R, G> {
+    ghost use Rattle.std.specs.Prelude.{ℕ, ◌<◌, ◌≤◌};
+
+    ghost Value = { ℕ };
+
+    ghost view = { λ t. t.workers };
+
+    ghost invariant = { λ t. (0 < t.workers) × (t.workers ≤ 16) };
+}
+
+impl<R: Threads + Drop, G: Gate + Drop> Team<R, G> {
+    /// A team of 1 to 16 workers. It takes memory and starts threads in its phases, not before. Its gate is called by each
+    /// worker each time that it has drawn a tile.
+    pub fn new(rt: R, alloc: Global, workers: u8, gate: G) -> Team<R, G>
+        requires { (0 < workers) × (workers ≤ 16) }
+        ensures { result ≡ workers }
+    {
+        Team {
+            rt,
+            alloc,
+            workers,
+            gate,
+            rooms: Vec::new(alloc),
+        }
+    }
+
+    /// What `Stepper::phase` says, by the workers, with any gate.
+    pub fn phase(
+        &mut self,
+        old: &Plane,
+        walls: &Plane,
+        obstacles: &Plane,
+        parity: u8,
+        out: &mut Plane,
+    ) -> Took
+        requires parity { parity < 2 }
+        requires walls { HasSidesOf walls.now old.now }
+        requires obstacles { HasSidesOf obstacles.now old.now }
+        requires out { HasSidesOf out.old old.now }
+        ensures out { out.new ≡ streamed parity old.now (joined walls.now obstacles.now) }
+        ensures took { result ≡ taken parity old.now walls.now obstacles.now }
+        ensures team { self.new ≡ self.old }
+    {
+        let workers = u32::from(self.workers).min(old.size().tiles());
+        let task = Task {
+            old,
+            walls,
+            obstacles,
+            parity,
+        };
+        let Team {
+            rt,
+            alloc,
+            gate,
+            rooms,
+            ..
+        } = self;
+        match turn_together(rt, *alloc, workers, task, gate, rooms, out) {
+            Some(took) => took,
+            None => Serial.phase(old, walls, obstacles, parity, out),
+        }
+    }
+}
+
+impl<R: Threads + Drop> Stepper for Team<R, NoGate> {
+    fn phase(
+        &mut self,
+        old: &Plane,
+        walls: &Plane,
+        obstacles: &Plane,
+        parity: u8,
+        out: &mut Plane,
+    ) -> Took {
+        self.phase(old, walls, obstacles, parity, out)
+    }
+}
