@@ -5,3 +5,5 @@ pub mod command_line;
 pub mod load;
 pub mod run;
 pub mod setup;
+#[cfg(test)]
+mod tests;

@@ -1,0 +1,12 @@
+//! Runs, loads and command lines as worked examples.
+
+mod command_line;
+mod examples;
+mod failing;
+mod faults;
+mod lines;
+mod loads;
+mod ports;
+mod refused;
+mod script;
+mod snapshots;
