@@ -3,7 +3,7 @@
 ghost use Rattle.std.specs.Prelude.{◌≡◌, true};
 
 use crate::lattice::{Scale, area_of, cells_of, phases, report, seeded, size_of};
-use gas_lab::{Gas, Lab, Serial};
+use gas_lab::{Gas, Lab, Serial, Stepper};
 use gas_ledger::Ports;
 use gas_plane::Plane;
 use gas_terms::{Command, Size, Tick};
@@ -71,8 +71,8 @@ pub fn gas_of(rt: &impl AllocGlobal, particles: Plane) -> io::Result<Gas> {
     Ok(Gas::new(tick, particles, walls, obstacles, Ports::none()))
 }
 
-// what is refused here shows in the figures
-fn ask(lab: &mut Lab<Serial>, command: Command) {
+/// Asks the laboratory. What is refused shows in the figures.
+pub fn ask<S: Stepper>(lab: &mut Lab<S>, command: Command) {
     if command.fits(lab.size()) {
         let _ = lab.apply(0, command);
     }

@@ -8,6 +8,7 @@ mod laboratory;
 mod lattice;
 mod sessions;
 mod snapshots;
+mod workers;
 
 use lattice::Scale;
 use std::{env, io};
@@ -29,5 +30,6 @@ fn main(rt: HostRuntime) -> io::Result<()> {
     laboratory::run(&rt, scale)?;
     snapshots::run(&rt, scale)?;
     sessions::run(&rt, scale)?;
+    workers::run(&rt, scale)?;
     println!(rt; "done")
 }
