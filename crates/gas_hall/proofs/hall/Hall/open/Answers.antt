@@ -1,0 +1,14 @@
+use Rattle.std.proofs.Common.{rules, arith}
+use Rattle.gas_hall.proofs.Numbered.{one_more}
+use Rattle.gas_hall.proofs.hall.Hall.open.Goals as goal
+
+pub loop-number-preserved : goal.loop-number-preserved
+loop-number-preserved g c =
+    let so_far = c.loop-number.invariant in (
+      omega (arith, so_far, c.split_off.ensures.parts_left),
+      search rules,
+      search rules,
+      search rules,
+      search rules,
+      one_more c.loop-number.all.items c.push_reserved.new.self.items c.loop-number.number (search rules) c.push_reserved.ensures.items so_far.5,
+    )

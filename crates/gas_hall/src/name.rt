@@ -1,0 +1,23 @@
+//! What names a hall.
+
+ghost use Rattle.std.specs.Prelude.{ℕ};
+ghost use Rattle.gas_terms.specs.Cells.{Extent};
+
+use std::marker::Brand;
+use std::sync::ledger::Ledger;
+
+/// Names a hall: its ledger, which has a part for each seat, and the width, the height and the capacity of its
+/// laboratory.
+pub trait HallName: Ledger {
+    // how wide and high the laboratory's lattice is
+    ghost size: { Extent };
+
+    // how many entries its journal may have
+    ghost cap: { ℕ };
+}
+
+impl HallName for Brand {
+    ghost size = { record { width = 0; height = 0 } };
+
+    ghost cap = { 0 };
+}

@@ -1,0 +1,9 @@
+mod doors;
+mod many;
+mod memory;
+mod refused;
+mod rows;
+mod served;
+mod socket;
+mod turns;
+mod values;

@@ -1,0 +1,85 @@
+//! Whichever allocation is refused: the hall hands the laboratory back, and a door's call leaves it.
+
+ghost use Rattle.std.specs.Prelude.{◌≡◌, []};
+ghost use Rattle.gas_terms.specs.Cells.{extent};
+
+use crate::gate::NoHallGate;
+use crate::hall::{Hall, HallDoor};
+use crate::name::HallName;
+use crate::tests::values::{are_puts, small_lab, taken, tally};
+use gas_lab::{Lab, Serial};
+use gas_talk::Door;
+use gas_terms::{Command, Rect, Refusal};
+use std::alloc::Global;
+use std::marker::Brand;
+use std::process::Abort;
+use std::sync::Wait;
+use std::sync::ledger::Blank;
+
+// A put, a reading of the row and a copy, each answered or refused for want of memory. Tells how many entries there are.
+fn use_door<N: HallName, R: Wait + Abort>(
+    rt: &R,
+    door: &mut HallDoor<'_, N, Serial, NoHallGate, R>,
+) -> u32 {
+    let area = Rect::within(door.size(), 0, 0, 1, 1).expect(rt, "a rectangle");
+    let put = Command::Put(area);
+    assert!(rt; put.fits(door.size()));
+    let made = match taken(&door.ask(put)) {
+        Ok(k) => {
+            assert_eq!(rt; k, 0);
+            1
+        }
+        Err(refusal) => {
+            assert_eq!(rt; refusal, Refusal::Memory);
+            0
+        }
+    };
+    match door.ask(Command::Entry(0)) {
+        Ok(_) => assert_eq!(rt; made, 1),
+        Err(Refusal::Memory) => {}
+        Err(refusal) => assert_eq!(rt; (refusal, made), (Refusal::Entry, 0)),
+    }
+    assert!(rt; door.ask(Command::Tally).is_ok());
+    if let Ok(copied) = door.copy_gas() {
+        assert_eq!(rt; copied.entries, made);
+    }
+    made
+}
+
+fn open_and_use<N: HallName, R: Wait + Abort>(rt: &R, alloc: Global, blank: Blank, lab: Lab<Serial>)
+    requires name { blank.name ≡ N.name }
+    requires parts { (blank.parts ≡ N.parts) × (blank.parts ≡ 2) }
+    requires lab { (extent lab.start.particles ≡ N.size) × (lab.cap ≡ N.cap) × (lab.journal ≡ []) }
+{
+    let (hall, mut seats) = match Hall::<N, Serial, NoHallGate>::open(
+        alloc, blank, lab, 2, NoHallGate,
+    ) {
+        Ok(opened) => opened,
+        Err(back) => {
+            let mut back = back;
+            assert!(rt; back.journal().is_empty());
+            assert_eq!(rt; tally(rt, &mut back), (0, 0, 0));
+            return;
+        }
+    };
+    let Some(seat) = seats.pop() else {
+        panic!(rt; "no seats")
+    };
+    let mut door = hall.door(rt, seat);
+    let made = use_door(rt, &mut door);
+    let seat = door.end();
+    assert_eq!(rt; (seat.number(), seat.entries()), (1, made));
+    // there is room for the seat that was taken out
+    assert!(rt; seats.push(seat).is_ok());
+    assert!(rt; seats.len() == 2);
+    let lab = hall.close(seats);
+    assert_eq!(rt; are_puts(lab.journal(), &[(1, 0)]), made == 1);
+    assert_eq!(rt; lab.journal().len(), made as usize);
+}
+
+#[test]
+fn refused_memory_leaves_the_laboratory(rt: HostRuntime) {
+    if let Some(lab) = small_lab(rt.alloc()) {
+        open_and_use::<Brand, HostRuntime>(&rt, rt.alloc(), Blank::new(2), lab);
+    }
+}

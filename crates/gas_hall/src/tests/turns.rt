@@ -1,0 +1,58 @@
+//! A gate that lets two sessions go on by turns alone.
+
+use crate::gate::HallGate;
+use std::sync::atomic::{AtomicBool, Ordering};
+use std::thread;
+use std::time::{Clock, Duration};
+
+/// Holds seat 1's first call until seat 0 has made its first, and seat 0's second until seat 1 has made its first.
+#[derive(Drop)]
+pub struct Turns<C: Clock> {
+    clock: C,
+    first_made: AtomicBool,
+    second_made: AtomicBool,
+    met_limit: AtomicBool,
+}
+
+impl<C: Clock> Turns<C> {
+    pub fn new(clock: C) -> Turns<C> {
+        Turns {
+            clock,
+            first_made: AtomicBool::new(false),
+            second_made: AtomicBool::new(false),
+            met_limit: AtomicBool::new(false),
+        }
+    }
+
+    pub fn met_limit(&self) -> bool {
+        self.met_limit.load(Ordering::SeqCst)
+    }
+
+    fn hold(&self, until: &AtomicBool) {
+        for _ in 0..100000u32 {
+            if until.load(Ordering::SeqCst) {
+                return;
+            }
+            thread::sleep(&self.clock, Duration::from_micros(100));
+        }
+        self.met_limit.store(true, Ordering::SeqCst);
+    }
+}
+
+impl<C: Clock> HallGate for &Turns<C> {
+    fn before(&self, seat: u16, call: u32) {
+        match (seat, call) {
+            (1, 0) => self.hold(&self.first_made),
+            (0, 1) => self.hold(&self.second_made),
+            _ => {}
+        }
+    }
+
+    fn after(&self, seat: u16, call: u32) {
+        match (seat, call) {
+            (0, 0) => self.first_made.store(true, Ordering::SeqCst),
+            (1, 0) => self.second_made.store(true, Ordering::SeqCst),
+            _ => {}
+        }
+    }
+}
