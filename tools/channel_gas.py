@@ -5,6 +5,10 @@ It reads a script of commands on standard input and writes the replies. The outp
 from here, so they are not the program's own. It knows no refusals: its scripts are in order.
 
     tools/channel_gas.py [width height] < examples/tunnel.txt
+
+Scripts that are named are sessions on one gas, one after the other, of the seats 0, 1, ..:
+
+    tools/channel_gas.py examples/two_people_first.txt examples/two_people_second.txt
 """
 import sys
 
@@ -104,8 +108,7 @@ def row_text(gas, y):
     return f"{int(bits, 2):0{gas.width // 4}x}"
 
 
-def run(lines, width, height):
-    gas, books, journal = Gas(width, height), Books(), []
+def session(seat, lines, gas, books, journal):
     for line in lines:
         word, *rest = line.split()
         numbers = [int(n) for n in rest] if word != "row" else [int(rest[0])]
@@ -123,14 +126,14 @@ def run(lines, width, height):
         elif word == "read":
             yield "ROW", row_text(gas, *numbers)
         elif word == "entry":
-            yield "ENTRY", 0, journal[numbers[0]]
+            yield "ENTRY", *journal[numbers[0]]
         elif word == "quit":
             yield ("BYE",)
             return
         else:
             change(gas, books, word, numbers, rest)
             yield "OK", len(journal)
-            journal.append(" ".join([word] + rest).lower())
+            journal.append((seat, " ".join([word] + rest).lower()))
 
 
 def change(gas, books, word, numbers, rest):
@@ -167,9 +170,12 @@ def change(gas, books, word, numbers, rest):
 
 
 def main():
-    width, height = [int(n) for n in sys.argv[1:3]] or (64, 64)
-    for reply in run((line for line in sys.stdin if line.strip()), width, height):
-        print(*reply)
+    named = [word for word in sys.argv[1:] if not word.isdecimal()]
+    width, height = [int(word) for word in sys.argv[1:] if word.isdecimal()] or (64, 64)
+    laboratory = Gas(width, height), Books(), []
+    for seat, script in enumerate([open(name) for name in named] or [sys.stdin]):
+        for reply in session(seat, (line for line in script if line.strip()), *laboratory):
+            print(*reply)
 
 
 main()

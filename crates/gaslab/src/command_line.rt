@@ -1,14 +1,15 @@
 //! The command line.
 
 ghost use Rattle.std.specs.Prelude.{◌≤◌, IfOk};
-ghost use Rattle.gaslab.specs.Plans.{IsInRange};
+ghost use Rattle.gaslab.specs.Plans.{IsInRange, HasSessions};
 
-use crate::setup::{Plan, PlanFault, Setup};
+use crate::setup::{Plan, PlanFault, Service, Setup};
 use clap::error::ErrorKind;
 use clap::{Arg, ArgMatches, Command};
 use gas_terms::{NoMemory, Size};
 use std::alloc::Global;
 use std::convert::AsStr;
+use std::net::SocketAddr;
 
 const ABOUT: &str =
     "A flow laboratory on the HPP lattice gas: exact steps forwards and backwards, with accounts that balance.";
@@ -26,15 +27,33 @@ tally, ledger, read, entry, save, quit. docs/FORMATS.md says what each takes and
 
 const RUN: &str = "Serves one session on standard input and output";
 
+const SERVE: &str = "Serves several sessions over sockets, all on one gas";
+
 const NO_COMMAND: &str =
     "gaslab: say what it should do, as in gaslab run; gaslab --help shows more\n";
 
-const STATUSES: &str =
+const RUN_MORE: &str =
     "Exit status: 0 the session ended by quit or at the end of its input, 1 reading or writing failed,
 2 this command line was not understood, 3 the snapshot was not loaded, 4 memory was refused,
 5 a line was too long or not UTF-8.
 Example:
   gaslab run --width 256 --height 128 --cap 5000 --save tunnel.gas";
+
+const SERVE_MORE: &str =
+    "It prints LISTEN and its address, waits for its sessions, and when all have ended prints SERVED,
+how many seats were served, how many were not, and how many changes all made together.
+Exit status: 0 the sessions have ended, 1 listening or writing failed, 2 this command line was not
+understood, 3 the snapshot was not loaded, 4 memory was refused.
+Example: two people, each with a terminal of their own, on one gas:
+  gaslab serve --listen 127.0.0.1:7878 --sessions 2
+  nc 127.0.0.1 7878      in the second terminal; type  put 0 0 1 1  and see  OK 0
+  nc 127.0.0.1 7878      in the third; type  entry 0  and see  ENTRY 0 put 0 0 1 1
+Each ends with quit.";
+
+const LISTEN_HELP: &str =
+    "The IP address and port where clients connect, port 0 for any that is free, as in --listen 127.0.0.1:7878";
+
+const ANY_PORT: &str = "127.0.0.1:0";
 
 /// An option that takes a number.
 #[derive(Clone, Copy)]
@@ -78,6 +97,14 @@ const CAP: NumberOption = NumberOption {
     most: 65536,
 };
 
+const SESSIONS: NumberOption = NumberOption {
+    name: "sessions",
+    help: "How many sessions it serves, each once: from 1 to 64, as in --sessions 2",
+    default: "1",
+    least: 1,
+    most: 64,
+};
+
 impl NumberOption {
     fn arg<'a>(self, alloc: Global) -> Arg<'a> {
         Arg::new(alloc, self.name)
@@ -98,18 +125,23 @@ impl NumberOption {
     }
 
     fn fault(self, alloc: Global, found: &ArgMatches<'_>) -> Result<PlanFault, NoMemory> {
-        let NumberOption {
-            name,
-            help,
-            default,
-            ..
-        } = self;
-        let given = found.get_str(name).unwrap_or(default);
-        let text = format!(in alloc;
-            "gaslab: {given} is no value for --{name}. {help}; without it the value is {default}.\n"
-        )?;
-        Ok(PlanFault::Line(text))
+        no_value(alloc, found, self.name, self.help, self.default)
     }
+}
+
+// the text for an option's value that is none
+fn no_value(
+    alloc: Global,
+    found: &ArgMatches<'_>,
+    name: &str,
+    help: &str,
+    default: &str,
+) -> Result<PlanFault, NoMemory> {
+    let given = found.get_str(name).unwrap_or(default);
+    let text = format!(in alloc;
+        "gaslab: {given} is no value for --{name}. {help}; without it the value is {default}.\n"
+    )?;
+    Ok(PlanFault::Line(text))
 }
 
 fn path_arg<'a>(alloc: Global, name: &'a str, help: &'a str) -> Arg<'a> {
@@ -119,27 +151,48 @@ fn path_arg<'a>(alloc: Global, name: &'a str, help: &'a str) -> Arg<'a> {
         .help(help)
 }
 
-fn commands<'a>(alloc: Global) -> Result<Command<'a>, clap::Error> {
+// a command with the options that both have
+fn command<'a>(
+    alloc: Global,
+    name: &'a str,
+    about: &'a str,
+    more: &'a str,
+) -> Result<Command<'a>, clap::Error> {
     let load =
         "Start from the snapshot in this file, whose size then holds, as in --load tunnel.gas";
     let save =
         "Where the command save writes its snapshot; without it save is refused; as in --save tunnel.gas";
-    let run = Command::new(alloc, "run")
-        .about(RUN)
-        .after_help(STATUSES)
-        .arg(WIDTH.arg(alloc))?
-        .arg(HEIGHT.arg(alloc))?
-        .arg(WORKERS.arg(alloc))?
-        .arg(CAP.arg(alloc))?
-        .arg(path_arg(alloc, "load", load))?
-        .arg(path_arg(alloc, "save", save))?;
+    Ok(
+        Command::new(alloc, name)
+            .about(about)
+            .after_help(more)
+            .arg(WIDTH.arg(alloc))?
+            .arg(HEIGHT.arg(alloc))?
+            .arg(WORKERS.arg(alloc))?
+            .arg(CAP.arg(alloc))?
+            .arg(path_arg(alloc, "load", load))?
+            .arg(path_arg(alloc, "save", save))?,
+    )
+}
+
+fn commands<'a>(alloc: Global) -> Result<Command<'a>, clap::Error> {
+    let listen = Arg::new(alloc, "listen")
+        .long("listen")
+        .value_name("ADDR")
+        .default_value(ANY_PORT)
+        .help(LISTEN_HELP);
+    let run = command(alloc, "run", RUN, RUN_MORE)?;
+    let serve = command(alloc, "serve", SERVE, SERVE_MORE)?
+        .arg(listen)?
+        .arg(SESSIONS.arg(alloc))?;
     Ok(
         Command::new(alloc, "gaslab")
             .bin_name("gaslab")?
             .about(ABOUT)
             .after_help(EXPERIMENT)
             .arg_required_else_help(true)
-            .subcommand(run)?,
+            .subcommand(run)?
+            .subcommand(serve)?,
     )
 }
 
@@ -170,9 +223,41 @@ fn size_of(alloc: Global, found: &ArgMatches<'_>, load: Option<&str>) -> Result<
     }
 }
 
+// where to listen, and for how many sessions
+fn serving(alloc: Global, found: &ArgMatches<'_>) -> Result<Service, PlanFault>
+    ensures { IfOk result HasSessions }
+{
+    let sessions = SESSIONS.number(alloc, found)? as u8;
+    match found.get_one::<SocketAddr>("listen") {
+        Some(address) => Ok(Service::Serve { address, sessions }),
+        None => Err(no_value(alloc, found, "listen", LISTEN_HELP, ANY_PORT)?),
+    }
+}
+
+// the options that both commands have
+fn plan_for<'a>(
+    alloc: Global,
+    found: &ArgMatches<'a>,
+    service: Service,
+) -> Result<Plan<'a>, PlanFault>
+    requires { HasSessions service }
+    ensures { IfOk result (λ plan. IsInRange plan.setup × HasSessions plan.service) }
+{
+    let load = found.get_str("load");
+    let size = size_of(alloc, found, load)?;
+    let workers = WORKERS.number(alloc, found)? as u8;
+    let cap = CAP.number(alloc, found)?;
+    Ok(Plan {
+        service,
+        setup: Setup { size, workers, cap },
+        load,
+        save: found.get_str("save"),
+    })
+}
+
 /// Reads the words of a command line, the first of which is the program's name.
 pub fn plan<'a, S: AsStr>(alloc: Global, words: &'a [S]) -> Result<Plan<'a>, PlanFault>
-    ensures { IfOk result (λ plan. IsInRange plan.setup) }
+    ensures { IfOk result (λ plan. IsInRange plan.setup × HasSessions plan.service) }
 {
     let found = match commands(alloc) {
         Ok(command) => command.try_get_matches_from(words),
@@ -182,17 +267,13 @@ pub fn plan<'a, S: AsStr>(alloc: Global, words: &'a [S]) -> Result<Plan<'a>, Pla
         Ok(found) => found,
         Err(error) => return Err(fault_of(alloc, &error)),
     };
-    let Some(run) = found.subcommand_matches("run") else {
-        let text = String::from_str(alloc, NO_COMMAND)?;
-        return Err(PlanFault::Line(text));
-    };
-    let load = run.get_str("load");
-    let size = size_of(alloc, run, load)?;
-    let workers = WORKERS.number(alloc, run)? as u8;
-    let cap = CAP.number(alloc, run)?;
-    Ok(Plan {
-        setup: Setup { size, workers, cap },
-        load,
-        save: run.get_str("save"),
-    })
+    if let Some(run) = found.subcommand_matches("run") {
+        return plan_for(alloc, run, Service::Run);
+    }
+    if let Some(serve) = found.subcommand_matches("serve") {
+        let service = serving(alloc, serve)?;
+        return plan_for(alloc, serve, service);
+    }
+    let text = String::from_str(alloc, NO_COMMAND)?;
+    Err(PlanFault::Line(text))
 }

@@ -4,6 +4,7 @@
 pub mod command_line;
 pub mod load;
 pub mod run;
+pub mod serving;
 pub mod setup;
 #[cfg(test)]
 mod tests;

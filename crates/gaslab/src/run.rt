@@ -29,7 +29,7 @@ fn status_of(end: SessionEnd) -> u8
     }
 }
 
-fn opened<S: Stepper>(
+pub(crate) fn opened<S: Stepper>(
     alloc: Global,
     setup: Setup,
     start: Option<Gas>,

@@ -1,4 +1,4 @@
-//! Runs, loads and command lines as worked examples.
+//! Runs, servers, loads and command lines as worked examples.
 
 mod command_line;
 mod examples;
@@ -6,7 +6,9 @@ mod failing;
 mod faults;
 mod lines;
 mod loads;
+mod pages;
 mod ports;
 mod refused;
 mod script;
+mod serving;
 mod snapshots;

@@ -1,18 +1,26 @@
 //! The program: runs what its command line asks for.
 #![tactic(auto)]
 
-ghost use Rattle.gaslab.specs.Plans.{IsInRange};
+ghost use Rattle.std.specs.Prelude.{◌≡◌, ◌<◌, ◌≤◌, IfOk, vec_len};
+ghost use Rattle.gaslab.specs.Plans.{IsInRange, HasSessions};
 
+use gas_hall::TcpLobby;
 use gas_ledger::Gas;
 use gas_snapshot::{FileShelf, NoShelf, Shelf, SnapFault};
 use gaslab::command_line::plan;
 use gaslab::load::{LoadFault, load_from};
 use gaslab::run::run_on;
-use gaslab::setup::{Plan, PlanFault};
+use gaslab::serving::serve_on;
+use gaslab::setup::{Plan, PlanFault, Service, Setup};
+use std::alloc::AllocError;
+use std::net::{Net, SocketAddr, TcpListener, TcpStream};
 use std::process::ExitCode;
 use std::rt::Files;
+use std::sync::Wait;
 use std::thread::Threads;
 use std::{env, fs, io};
+
+const FAILED: u8 = 1;
 
 const REFUSED_LINE: u8 = 2;
 
@@ -30,16 +38,16 @@ fn load(rt: &(impl Files + AllocGlobal), path: &str) -> Result<Gas, LoadFault> {
 
 fn run(
     rt: &(impl Threads + Input + Print + AllocGlobal),
-    plan: &Plan<'_>,
+    setup: Setup,
     start: Option<Gas>,
     shelf: &mut impl Shelf,
 ) -> u8
-    requires { IsInRange plan.now.setup }
+    requires { IsInRange setup }
 {
     run_on(
         rt,
         rt.alloc(),
-        plan.setup,
+        setup,
         start,
         &mut rt.reader(),
         &mut io::writer(rt),
@@ -47,29 +55,122 @@ fn run(
     )
 }
 
-fn run_plan(
-    rt: &(impl Threads + Input + Print + Eprint + Files + AllocGlobal),
-    plan: &Plan<'_>,
+// listens at the address, says so, and serves a session for each shelf
+fn serve<K: Shelf + Drop + Send>(
+    rt: &(impl Threads + Wait + Sync + Net<Listener = TcpListener, Stream = TcpStream> + Print + AllocGlobal),
+    setup: Setup,
+    start: Option<Gas>,
+    address: SocketAddr,
+    shelves: Vec<K>,
 ) -> io::Result<u8>
+    requires setup { IsInRange setup }
+    requires shelves { (0 < vec_len shelves) × (vec_len shelves ≤ 64) }
+{
+    let listener = TcpListener::bind(rt, address)?;
+    let bound = listener.local_addr()?;
+    println!(rt; "LISTEN {bound}")?;
+    let mut lobby = TcpLobby::over(listener);
+    Ok(serve_on(rt, rt.alloc(), setup, start, &mut lobby, shelves, &mut io::writer(rt)))
+}
+
+// a shelf at the path for each seat
+fn file_shelves<'r, R: Files + AllocGlobal>(
+    rt: &'r R,
+    path: &str,
+    seats: u8,
+) -> Result<Vec<FileShelf<&'r R>>, AllocError>
+    ensures { IfOk result (λ shelves. vec_len shelves ≡ seats) }
+{
+    let mut shelves = Vec::new(rt.alloc());
+    for seat in 0..seats {
+        shelves.push(FileShelf::new(rt.alloc(), rt, path, seat as u16)?)?;
+    }
+    Ok(shelves)
+}
+
+fn no_shelves(rt: &impl AllocGlobal, seats: u8) -> Result<Vec<NoShelf>, AllocError>
+    ensures { IfOk result (λ shelves. vec_len shelves ≡ seats) }
+{
+    let mut shelves = Vec::new(rt.alloc());
+    for _ in 0..seats {
+        shelves.push(NoShelf::new())?;
+    }
+    Ok(shelves)
+}
+
+// one session, with a shelf at the path where there is one
+fn run_plan(
+    rt: &(impl Threads + Input + Print + Files + AllocGlobal),
+    plan: &Plan<'_>,
+    start: Option<Gas>,
+) -> u8
     requires { IsInRange plan.now.setup }
 {
-    let mut start = None;
-    if let Some(path) = plan.load {
-        match load(rt, path) {
-            Ok(gas) => start = Some(gas),
-            Err(LoadFault::Snap(SnapFault::Memory)) => return Ok(NO_MEMORY),
-            Err(fault) => {
-                eprintln!(rt; "load: {fault}")?;
-                return Ok(NOT_LOADED);
-            }
-        }
-    }
     let Some(path) = plan.save else {
-        return Ok(run(rt, plan, start, &mut NoShelf::new()));
+        return run(rt, plan.setup, start, &mut NoShelf::new());
     };
     match FileShelf::new(rt.alloc(), rt, path, 0) {
-        Ok(mut shelf) => Ok(run(rt, plan, start, &mut shelf)),
-        Err(_) => Ok(NO_MEMORY),
+        Ok(mut shelf) => run(rt, plan.setup, start, &mut shelf),
+        Err(_) => NO_MEMORY,
+    }
+}
+
+// several sessions, each with a shelf of its own
+fn serve_plan(
+    rt: &(impl Threads + Wait + Sync + Net<Listener = TcpListener, Stream = TcpStream> + Print + Files + AllocGlobal),
+    plan: &Plan<'_>,
+    start: Option<Gas>,
+    address: SocketAddr,
+    sessions: u8,
+) -> u8
+    requires setup { IsInRange plan.now.setup }
+    requires sessions { (0 < sessions) × (sessions ≤ 64) }
+{
+    let served = match plan.save {
+        Some(path) => match file_shelves(rt, path, sessions) {
+            Ok(shelves) => serve(rt, plan.setup, start, address, shelves),
+            Err(_) => return NO_MEMORY,
+        },
+        None => match no_shelves(rt, sessions) {
+            Ok(shelves) => serve(rt, plan.setup, start, address, shelves),
+            Err(_) => return NO_MEMORY,
+        },
+    };
+    served.unwrap_or(FAILED)
+}
+
+// The gas to start from, or else what the program exits with.
+fn start_of(
+    rt: &(impl Eprint + Files + AllocGlobal),
+    plan: &Plan<'_>,
+) -> io::Result<Result<Option<Gas>, u8>> {
+    let Some(path) = plan.load else {
+        return Ok(Ok(None));
+    };
+    match load(rt, path) {
+        Ok(gas) => Ok(Ok(Some(gas))),
+        Err(LoadFault::Snap(SnapFault::Memory)) => Ok(Err(NO_MEMORY)),
+        Err(fault) => {
+            eprintln!(rt; "load: {fault}")?;
+            Ok(Err(NOT_LOADED))
+        }
+    }
+}
+
+fn do_plan(
+    rt: &(impl Threads + Wait + Sync + Net<Listener = TcpListener, Stream = TcpStream> + Input + Print + Eprint + Files + AllocGlobal),
+    plan: &Plan<'_>,
+) -> io::Result<u8>
+    requires setup { IsInRange plan.now.setup }
+    requires sessions { HasSessions plan.now.service }
+{
+    let start = match start_of(rt, plan)? {
+        Ok(start) => start,
+        Err(status) => return Ok(status),
+    };
+    match plan.service {
+        Service::Run => Ok(run_plan(rt, plan, start)),
+        Service::Serve { address, sessions } => Ok(serve_plan(rt, plan, start, address, sessions)),
     }
 }
 
@@ -77,7 +178,7 @@ fn main(rt: HostRuntime) -> io::Result<ExitCode> {
     let alloc = rt.alloc();
     let words: Vec<String> = env::args(&rt)?.collect(alloc)?;
     let status = match plan(alloc, words.as_slice()) {
-        Ok(plan) => run_plan(&rt, &plan)?,
+        Ok(plan) => do_plan(&rt, &plan)?,
         Err(PlanFault::Memory) => NO_MEMORY,
         Err(PlanFault::Line(text)) => {
             eprint!(rt; "{text}")?;

@@ -1,7 +1,8 @@
 //! Command lines: what they are read as, and the texts that teach.
 
 use crate::command_line::plan;
-use crate::setup::{Plan, PlanFault};
+use crate::setup::{Plan, PlanFault, Service};
+use std::net::{IpAddr, Ipv4Addr, SocketAddr};
 use std::process::Abort;
 use std::thread::Threads;
 
@@ -173,10 +174,112 @@ fn options_that_are_not_there(rt: HostRuntime) {
     for option in ["--listen", "--sessions", "--speed"] {
         teaches(&rt, &["gaslab", "run", option, "2"], &[option]);
     }
-    teaches(&rt, &["gaslab", "serve"], &["serve"]);
     teaches(&rt, &["gaslab", "jump"], &["jump"]);
     teaches(&rt, &["gaslab", "run", "tunnel.gas"], &["tunnel.gas"]);
     teaches(&rt, &["gaslab", "--width", "64"], &["--width"]);
+}
+
+// where the words have it listen, and for how many sessions
+fn service_of(rt: &(impl Abort + AllocGlobal), words: &[&str]) -> Service {
+    match plan(rt.alloc(), words) {
+        Ok(found) => found.service,
+        Err(_) => panic!(rt; "the words were not understood"),
+    }
+}
+
+fn here(port: u16, sessions: u8) -> Service {
+    Service::Serve {
+        address: SocketAddr::new(IpAddr::V4(Ipv4Addr::LOCALHOST), port),
+        sessions,
+    }
+}
+
+#[test]
+fn plan_of_a_server(rt: HostRuntime) {
+    assert_eq!(rt; service_of(&rt, &["gaslab", "run"]), Service::Run);
+    assert_eq!(rt; service_of(&rt, &["gaslab", "serve"]), here(0, 1));
+    let words = [
+        "gaslab",
+        "serve",
+        "--listen",
+        "127.0.0.1:7878",
+        "--sessions",
+        "2",
+    ];
+    assert_eq!(rt; service_of(&rt, &words), here(7878, 2));
+    let words = ["gaslab", "serve", "--sessions", "64"];
+    assert_eq!(rt; service_of(&rt, &words), here(0, 64));
+    plans(
+        &rt,
+        &["gaslab", "serve", "--width", "128", "--cap", "7"],
+        [128, 64, 7],
+    );
+    assert_eq!(rt; workers_of(&rt, &["gaslab", "serve", "--workers", "3"]), 3);
+    assert!(rt;
+        matches!(
+            service_of(&rt, &["gaslab", "serve", "--listen", "[::1]:80"]),
+            Service::Serve { .. }
+        )
+    );
+}
+
+#[test]
+fn limits_of_a_server(rt: HostRuntime) {
+    for n in ["0", "65", "256", "4294967297", "x", ""] {
+        teaches(
+            &rt,
+            &["gaslab", "serve", "--sessions", n],
+            &["--sessions", "from 1 to 64", "is 1", "--sessions 2"],
+        );
+    }
+    for address in [
+        "127.0.0.1",
+        "7878",
+        "localhost:7878",
+        "127.0.0.1:65536",
+        "127.0.0.256:1",
+        "",
+    ] {
+        teaches(
+            &rt,
+            &["gaslab", "serve", "--listen", address],
+            &[
+                "--listen",
+                "IP address and port",
+                "is 127.0.0.1:0",
+                "--listen 127.0.0.1:7878",
+            ],
+        );
+    }
+    teaches(&rt, &["gaslab", "serve", "--width", "65"], &["--width"]);
+    for option in ["--listen", "--sessions"] {
+        teaches(&rt, &["gaslab", "serve", option], &[option]);
+    }
+}
+
+#[test]
+fn help_of_a_server_teaches(rt: HostRuntime) {
+    teaches(
+        &rt,
+        &["gaslab", "serve", "--help"],
+        &[
+            "--listen ",
+            "--sessions ",
+            "--width ",
+            "--workers ",
+            "--cap ",
+            "--load ",
+            "--save ",
+            "from 1 to 64",
+            "IP address and port",
+            "127.0.0.1:0]",
+            "LISTEN",
+            "SERVED",
+            "nc 127.0.0.1 7878",
+            "Exit status",
+        ],
+    );
+    teaches(&rt, &["gaslab", "--help"], &["run", "serve"]);
 }
 
 #[test]

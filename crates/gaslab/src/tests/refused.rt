@@ -5,66 +5,11 @@ use crate::load::{LoadFault, load_from};
 use crate::setup::PlanFault;
 use crate::tests::faults::FaultAt;
 use crate::tests::loads::{Padded, WITH_PORTS};
+use crate::tests::pages::{Input, Page};
 use crate::tests::script::{Room, SMALL, status_on};
 use gas_snapshot::{Shelf, ShelfFault, SnapFault};
-use std::io;
-use std::io::{Read, Write};
 use std::process::Abort;
 use std::thread::Threads;
-
-// gives its bytes, and holds no memory
-#[derive(Drop)]
-struct Input<'a> {
-    rest: &'a [u8],
-}
-
-impl<'a> Read for Input<'a> {
-    fn read(&mut self, buf: &mut [u8]) -> io::Result<usize> {
-        let n = self.rest.len().min(buf.len());
-        buf[..n].copy_from_slice(&self.rest[..n]);
-        self.rest = &self.rest[n..];
-        Ok(n)
-    }
-}
-
-const ROOM: usize = 512;
-
-// takes what fits, and holds no memory
-#[derive(Drop)]
-struct Output {
-    bytes: [u8; ROOM],
-    len: usize,
-}
-
-impl Output {
-    fn new() -> Output {
-        Output {
-            bytes: [0; ROOM],
-            len: 0,
-        }
-    }
-
-    fn text(&self) -> &[u8] {
-        &self.bytes[..self.len.min(ROOM)]
-    }
-}
-
-impl Write for Output {
-    fn write(&mut self, buf: &[u8]) -> io::Result<usize> {
-        if self.len >= ROOM {
-            return Ok(0);
-        }
-        let n = buf.len().min(ROOM - self.len);
-        let end = self.len + n;
-        self.bytes[self.len..end].copy_from_slice(&buf[..n]);
-        self.len = end;
-        Ok(n)
-    }
-
-    fn flush(&mut self) -> io::Result<()> {
-        Ok(())
-    }
-}
 
 // counts the snapshots of an empty gas, and of one with a particle in its first cell
 #[derive(Drop)]
@@ -122,8 +67,8 @@ fn runs(
     others: &[&[u8]],
     shelf: &mut Counted,
 ) -> u8 {
-    let mut reader = Input { rest: input };
-    let mut writer = Output::new();
+    let mut reader = Input::new(input);
+    let mut writer = Page::new();
     let status = status_on(rt, room, None, &mut reader, &mut writer, shelf);
     let found = writer.text();
     if status == 0 {

@@ -1,0 +1,24 @@
+-- What a run of the program as a server is.
+use Rattle.std.specs.Prelude.{◌≡◌, ℕ, ◌+◌, ◌≤◌, ◌⊎◌, List, [], ◌∷◌, ◌++◌, Option, codes}
+use Rattle.std.specs.Fmt.{decimal}
+use Rattle.std.specs.Io.KnownBytes.{Appends}
+use Rattle.gas_talk.specs.Texts.{parted}
+use Rattle.gaslab.specs.declared.setup.Setup.{Setup}
+
+-- what is said at the end: how many seats were served and how many were not, and the entries that all made
+abbrev pub served_text : ℕ → ℕ → ℕ → List ℕ
+served_text done failed entries = parted (codes "SERVED" ∷ decimal done ∷ decimal failed ∷ decimal entries ∷ [])
+
+abbrev pub served_line : ℕ → ℕ → ℕ → List ℕ
+served_line done failed entries = served_text done failed entries ++ 10 ∷ []
+
+-- each seat was served or was not, the journal had room for the entries, and the line that says so was written, unless the status is 1
+abbrev pub ServesAll : Setup → ℕ → Option (List ℕ) → ℕ → Option (List ℕ) → Type 0
+ServesAll setup seats old status new =
+    (done : ℕ) × (failed : ℕ) × (entries : ℕ)
+    × (done + failed ≡ seats) × (entries ≤ setup.cap)
+    × ((status ≡ 1) ⊎ ((status ≡ 0) × Appends old new (served_line done failed entries)))
+
+-- All was served, or memory was refused for the opening, and nothing was written.
+abbrev pub Serves : Setup → ℕ → Option (List ℕ) → ℕ → Option (List ℕ) → Type 0
+Serves setup seats old status new = ((status ≡ 4) × (new ≡ old)) ⊎ ServesAll setup seats old status new
