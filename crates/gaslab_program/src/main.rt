@@ -56,8 +56,13 @@ fn run(
 }
 
 // listens at the address, says so, and serves a session for each shelf
-fn serve<K: Shelf + Drop + Send>(
-    rt: &(impl Threads + Wait + Sync + Net<Listener = TcpListener, Stream = TcpStream> + Print + AllocGlobal),
+fn listen_and_serve<K: Shelf + Drop + Send>(
+    rt: &(impl Threads
+        + Wait
+        + Sync
+        + Net<Listener = TcpListener, Stream = TcpStream>
+        + Print
+        + AllocGlobal),
     setup: Setup,
     start: Option<Gas>,
     address: SocketAddr,
@@ -70,7 +75,15 @@ fn serve<K: Shelf + Drop + Send>(
     let bound = listener.local_addr()?;
     println!(rt; "LISTEN {bound}")?;
     let mut lobby = TcpLobby::over(listener);
-    Ok(serve_on(rt, rt.alloc(), setup, start, &mut lobby, shelves, &mut io::writer(rt)))
+    Ok(serve_on(
+        rt,
+        rt.alloc(),
+        setup,
+        start,
+        &mut lobby,
+        shelves,
+        &mut io::writer(rt),
+    ))
 }
 
 // a shelf at the path for each seat
@@ -115,28 +128,23 @@ fn run_plan(
     }
 }
 
-// several sessions, each with a shelf of its own
-fn serve_plan(
-    rt: &(impl Threads + Wait + Sync + Net<Listener = TcpListener, Stream = TcpStream> + Print + Files + AllocGlobal),
-    plan: &Plan<'_>,
+// what the program exits with after serving
+fn serve<K: Shelf + Drop + Send>(
+    rt: &(impl Threads
+        + Wait
+        + Sync
+        + Net<Listener = TcpListener, Stream = TcpStream>
+        + Print
+        + AllocGlobal),
+    setup: Setup,
     start: Option<Gas>,
     address: SocketAddr,
-    sessions: u8,
+    shelves: Vec<K>,
 ) -> u8
-    requires setup { IsInRange plan.now.setup }
-    requires sessions { (0 < sessions) × (sessions ≤ 64) }
+    requires setup { IsInRange setup }
+    requires shelves { (0 < vec_len shelves) × (vec_len shelves ≤ 64) }
 {
-    let served = match plan.save {
-        Some(path) => match file_shelves(rt, path, sessions) {
-            Ok(shelves) => serve(rt, plan.setup, start, address, shelves),
-            Err(_) => return NO_MEMORY,
-        },
-        None => match no_shelves(rt, sessions) {
-            Ok(shelves) => serve(rt, plan.setup, start, address, shelves),
-            Err(_) => return NO_MEMORY,
-        },
-    };
-    served.unwrap_or(FAILED)
+    listen_and_serve(rt, setup, start, address, shelves).unwrap_or(FAILED)
 }
 
 // The gas to start from, or else what the program exits with.
@@ -157,32 +165,45 @@ fn start_of(
     }
 }
 
-fn do_plan(
-    rt: &(impl Threads + Wait + Sync + Net<Listener = TcpListener, Stream = TcpStream> + Input + Print + Eprint + Files + AllocGlobal),
-    plan: &Plan<'_>,
-) -> io::Result<u8>
-    requires setup { IsInRange plan.now.setup }
-    requires sessions { HasSessions plan.now.service }
+// What the words ask for and the gas to start from, or else what the program exits with.
+fn prepare<'a>(
+    rt: &(impl Eprint + Files + AllocGlobal),
+    words: &'a [String],
+) -> io::Result<Result<(Plan<'a>, Option<Gas>), u8>>
+    ensures { IfOk result (λ found. IfOk found (λ p. IsInRange p.0.setup × HasSessions p.0.service)) }
 {
-    let start = match start_of(rt, plan)? {
-        Ok(start) => start,
-        Err(status) => return Ok(status),
+    let plan = match plan(rt.alloc(), words) {
+        Ok(plan) => plan,
+        Err(PlanFault::Memory) => return Ok(Err(NO_MEMORY)),
+        Err(PlanFault::Line(text)) => {
+            eprint!(rt; "{text}")?;
+            return Ok(Err(REFUSED_LINE));
+        }
     };
-    match plan.service {
-        Service::Run => Ok(run_plan(rt, plan, start)),
-        Service::Serve { address, sessions } => Ok(serve_plan(rt, plan, start, address, sessions)),
+    match start_of(rt, &plan)? {
+        Ok(start) => Ok(Ok((plan, start))),
+        Err(status) => Ok(Err(status)),
     }
 }
 
 fn main(rt: HostRuntime) -> io::Result<ExitCode> {
-    let alloc = rt.alloc();
-    let words: Vec<String> = env::args(&rt)?.collect(alloc)?;
-    let status = match plan(alloc, words.as_slice()) {
-        Ok(plan) => do_plan(&rt, &plan)?,
-        Err(PlanFault::Memory) => NO_MEMORY,
-        Err(PlanFault::Line(text)) => {
-            eprint!(rt; "{text}")?;
-            REFUSED_LINE
+    let words: Vec<String> = env::args(&rt)?.collect(rt.alloc())?;
+    let (plan, start) = match prepare(&rt, words.as_slice())? {
+        Ok(found) => found,
+        Err(status) => return Ok(ExitCode::from(status)),
+    };
+    let setup = plan.setup;
+    let status = match (plan.service, plan.save) {
+        (Service::Run, _) => run_plan(&rt, &plan, start),
+        (Service::Serve { address, sessions }, None) => match no_shelves(&rt, sessions) {
+            Ok(shelves) => serve(&rt, setup, start, address, shelves),
+            Err(_) => NO_MEMORY,
+        },
+        (Service::Serve { address, sessions }, Some(path)) => {
+            match file_shelves(&rt, path, sessions) {
+                Ok(shelves) => serve(&rt, setup, start, address, shelves),
+                Err(_) => NO_MEMORY,
+            }
         }
     };
     Ok(ExitCode::from(status))
