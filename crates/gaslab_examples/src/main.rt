@@ -98,11 +98,7 @@ fn file_of(rt: &(impl Files + AllocGlobal), name: &str, kind: &str) -> io::Resul
 }
 
 // compares what was given with what stands beside the script, and says which it is
-fn tell(
-    rt: &(impl Print + Files + AllocGlobal),
-    name: &str,
-    output: &[u8],
-) -> io::Result<bool> {
+fn tell(rt: &(impl Print + Files + AllocGlobal), name: &str, output: &[u8]) -> io::Result<bool> {
     let is_same = file_of(rt, name, "out")?.as_slice() == output;
     let verdict = if is_same {
         "as expected"
