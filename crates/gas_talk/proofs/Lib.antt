@@ -3,6 +3,7 @@ pub mod CanonicalCommands
 pub mod Codec
 pub mod Cutting
 pub mod Decimals
+pub mod Filling
 pub mod LineWords
 pub mod Progress
 pub mod Sending

@@ -75,17 +75,22 @@ impl LineReader {
             × ((unread : List ℕ) → Keeps self.old unread → Keeps self.new (unread ++ more))) }
         ensures end { IfOk result (λ n. n ≡ 0 → IsAtEnd (R.remaining reader.new)) }
         ensures err { OnErr result (KeepsBytes (R.remaining reader.old) (R.remaining reader.new)) }
+        ensures kept { OnErr result ((unread : List ℕ) → Keeps self.old unread → Keeps self.new unread) }
     {
         if self.buffer.reserve(READ_LIMIT).is_err() {
             return Err(ReadFault::NoMemory);
         }
-        let mut page = [0u8; READ_LIMIT];
-        match reader.read(&mut page) {
+        let kept = self.buffer.len();
+        self.buffer.advance_mut(READ_LIMIT);
+        match reader.read(&mut self.buffer.as_mut_slice()[kept..]) {
             Ok(n) => {
-                self.buffer.extend_reserved(&page[..n]);
+                self.buffer.truncate(kept + n);
                 Ok(n)
             }
-            Err(_) => Err(ReadFault::Reader),
+            Err(_) => {
+                self.buffer.truncate(kept);
+                Err(ReadFault::Reader)
+            }
         }
     }
 }
