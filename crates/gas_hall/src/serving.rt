@@ -5,12 +5,13 @@ ghost use Rattle.std.specs.List.{sum_by};
 ghost use Rattle.gas_hall.specs.Seats.{Seat};
 
 use crate::gate::HallGate;
-use crate::hall::Hall;
+use crate::hall::{Hall, HallDoor};
 use crate::name::HallName;
 use crate::seat::HallSeat;
 use gas_lab::Stepper;
 use gas_snapshot::Shelf;
 use gas_talk::session::session;
+use gas_talk::session_laws::kept_by_calls_is_kept_by_sessions;
 use std::alloc::Global;
 use std::io::{Read, Write};
 use std::sync::Wait;
@@ -77,6 +78,7 @@ pub(crate) fn sit<
     let mut writer = writer;
     let mut shelf = shelf;
     let mut door = hall.door(rt, seat);
+    kept_by_calls_is_kept_by_sessions::<HallDoor<'_, N, S, G, R>>();
     session(alloc, &mut reader, &mut writer, &mut door, &mut shelf);
     door.end()
 }

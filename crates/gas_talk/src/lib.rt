@@ -13,6 +13,7 @@ pub mod reply;
 pub mod request;
 mod send;
 pub mod session;
+pub mod session_laws;
 mod turn;
 mod verb;
 mod word;

@@ -13,6 +13,7 @@ use gas_lab::{Lab, Serial, Stepper};
 use gas_snapshot::NoShelf;
 use gas_talk::session::session;
 use gas_talk::{Copied, Door, SessionEnd};
+use gas_terms::NoMemory;
 use std::alloc::Global;
 use std::marker::Brand;
 use std::process::Abort;
@@ -123,6 +124,45 @@ fn copied<N: HallName + Send + Sync, R: Threads + Wait + Clock + Abort + Sync + 
     Ok((tally(rt, &mut again), entries))
 }
 
+fn copy_through<N: HallName, S: Stepper, G: HallGate, R: Wait>(
+    rt: &R,
+    hall: &Hall<N, S, G>,
+    seat: HallSeat<N>,
+) -> Result<Copied, NoMemory> {
+    let mut door = hall.door(rt, seat);
+    door.copy_gas()
+}
+
+// What a door's copy holds that is made between two changes of a session.
+fn copied_between<
+    N: HallName + Send + Sync,
+    R: Threads + Wait + Clock + Abort + Sync + Copy + Send,
+>(rt: &R, alloc: Global, blank: Blank, lab: Lab<Serial>) -> Result<((i64, i64, i64), u32), Fail>
+    requires name { blank.name ≡ N.name }
+    requires parts { (blank.parts ≡ N.parts) × (blank.parts ≡ 2) }
+    requires lab { (extent lab.start.particles ≡ N.size) × (lab.cap ≡ N.cap) × (lab.journal ≡ []) }
+{
+    let turns = Turns::new(*rt);
+    let Ok((hall, mut seats)) = Hall::<N, Serial, &Turns<R>>::open(alloc, blank, lab, 2, &turns)
+    else {
+        return Err(Fail::from("no memory"));
+    };
+    let (Some(second), Some(first)) = (seats.pop(), seats.pop()) else {
+        return Err(Fail::from("no seats"));
+    };
+    let hall = &hall;
+    let (one, copied) = thread::join(
+        rt,
+        move || sit_down(rt, alloc, hall, first, b"put 0 0 1 1\nput 2 0 1 1\n"),
+        move || copy_through(rt, hall, second),
+    );
+    assert_eq!(rt; one.1.as_slice(), b"OK 0\nOK 1\n".as_slice());
+    assert!(rt; !turns.met_limit());
+    let Copied { gas, entries } = copied?;
+    let mut again = Lab::open(alloc, gas, 1, Serial)?;
+    Ok((tally(rt, &mut again), entries))
+}
+
 #[test]
 fn two_sessions_take_turns(rt: HostRuntime) -> Result<(), Fail> {
     match small_lab(rt.alloc()) {
@@ -138,5 +178,15 @@ fn copy_after_the_hall(rt: HostRuntime) -> Result<(), Fail> {
     };
     let found = copied::<Brand, HostRuntime>(&rt, rt.alloc(), Blank::new(2), lab)?;
     assert_eq!(rt; found, ((3, 3, 3), 3));
+    Ok(())
+}
+
+#[test]
+fn copy_between_two_changes(rt: HostRuntime) -> Result<(), Fail> {
+    let Some(lab) = small_lab(rt.alloc()) else {
+        return Err(Fail::from("no memory"));
+    };
+    let found = copied_between::<Brand, HostRuntime>(&rt, rt.alloc(), Blank::new(2), lab)?;
+    assert_eq!(rt; found, ((1, 1, 1), 1));
     Ok(())
 }

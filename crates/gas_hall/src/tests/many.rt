@@ -9,6 +9,7 @@ use crate::name::HallName;
 use crate::serving::sit;
 use crate::tests::memory::{MemoryLobby, Page};
 use crate::tests::served::{Closed, serve_lab};
+use crate::tests::turns::Meeting;
 use crate::tests::values::{no_shelves, small_lab, tally};
 use gas_lab::{Lab, Serial};
 use gas_snapshot::NoShelf;
@@ -20,6 +21,7 @@ use std::sync::ledger::Blank;
 use std::sync::{Mutex, Wait};
 use std::test::Fail;
 
+/// Sixty-four sessions run at once: each makes its change only when all have come to theirs.
 #[test]
 fn sixty_four_seats_are_served(rt: HostRuntime) -> Result<(), Fail> {
     let line: &[u8] = b"put 6 0 1 1\n";
@@ -31,18 +33,19 @@ fn sixty_four_seats_are_served(rt: HostRuntime) -> Result<(), Fail> {
     }
     let mut lobby = MemoryLobby::new(inputs.as_slice(), pages.as_slice());
     let shelves = no_shelves(rt.alloc(), 64)?;
+    let meeting = Meeting::new(rt, 64);
     let lab = small_lab(rt.alloc()).expect(&rt, "memory");
-    let Some(
-        Closed {
-            counts,
-            of_seats: _,
-            mut lab,
-        },
-    ) = serve_lab(&rt, rt.alloc(), lab, NoHallGate, &mut lobby, shelves)
-    else {
+    let Some(closed) = serve_lab(&rt, rt.alloc(), lab, &meeting, &mut lobby, shelves) else {
         return Err(Fail::from("no memory"));
     };
+    let Closed {
+        counts,
+        of_seats,
+        mut lab,
+    } = closed;
+    assert!(rt; !meeting.met_limit());
     assert_eq!(rt; counts, (64, 0, 64));
+    assert_eq!(rt; of_seats, [1, 1, 1, 1]);
     assert_eq!(rt; tally(&rt, &mut lab), (1, 1, 1));
     Ok(())
 }
@@ -85,7 +88,7 @@ fn refused_seat<N: HallName, R: Wait + Abort>(
 
 /// A seat whose thread was refused comes back unserved.
 #[test]
-fn refused_thread_serves_nobody(rt: HostRuntime) -> Result<(), Fail> {
+fn unstarted_thread_serves_nobody(rt: HostRuntime) -> Result<(), Fail> {
     match small_lab(rt.alloc()) {
         Some(lab) => refused_seat::<Brand, HostRuntime>(&rt, rt.alloc(), Blank::new(1), lab),
         None => Err(Fail::from("no memory")),

@@ -1,7 +1,7 @@
-//! A gate that lets two sessions go on by turns alone.
+//! Gates that let sessions go on by turns alone, or all at once alone.
 
 use crate::gate::HallGate;
-use std::sync::atomic::{AtomicBool, Ordering};
+use std::sync::atomic::{AtomicBool, AtomicU32, Ordering};
 use std::thread;
 use std::time::{Clock, Duration};
 
@@ -55,4 +55,49 @@ impl<C: Clock> HallGate for &Turns<C> {
             _ => {}
         }
     }
+}
+
+/// Holds each seat's first call until so many seats have come to theirs.
+#[derive(Drop)]
+pub struct Meeting<C: Clock> {
+    clock: C,
+    seats: u32,
+    come: AtomicU32,
+    met_limit: AtomicBool,
+}
+
+impl<C: Clock> Meeting<C> {
+    pub fn new(clock: C, seats: u32) -> Meeting<C> {
+        Meeting {
+            clock,
+            seats,
+            come: AtomicU32::new(0),
+            met_limit: AtomicBool::new(false),
+        }
+    }
+
+    pub fn met_limit(&self) -> bool {
+        self.met_limit.load(Ordering::SeqCst)
+    }
+
+    fn hold(&self) {
+        for _ in 0..100000u32 {
+            if self.come.load(Ordering::SeqCst) >= self.seats {
+                return;
+            }
+            thread::sleep(&self.clock, Duration::from_micros(100));
+        }
+        self.met_limit.store(true, Ordering::SeqCst);
+    }
+}
+
+impl<C: Clock> HallGate for &Meeting<C> {
+    fn before(&self, _seat: u16, call: u32) {
+        if call == 0 {
+            self.come.fetch_add(1, Ordering::SeqCst);
+            self.hold();
+        }
+    }
+
+    fn after(&self, _seat: u16, _call: u32) {}
 }

@@ -12,7 +12,14 @@ use std::process::Abort;
 pub fn small_lab(alloc: Global) -> Option<Lab<Serial>>
     ensures { IfSome result (λ lab. lab.journal ≡ []) }
 {
-    let size = Size::new(64, 64)?;
+    empty_lab(alloc, 64)
+}
+
+/// An empty laboratory of this width, and 64 high.
+pub fn empty_lab(alloc: Global, width: u32) -> Option<Lab<Serial>>
+    ensures { IfSome result (λ lab. lab.journal ≡ []) }
+{
+    let size = Size::new(width, 64)?;
     let gas = Gas::empty(alloc, size).ok()?;
     Lab::open(alloc, gas, 1024, Serial).ok()
 }
@@ -42,20 +49,17 @@ pub fn are_puts(journal: &[Entry], wanted: &[(u16, u16)]) -> bool {
     same
 }
 
-fn sums(answer: &Answer) -> Option<Sums> {
-    match answer {
-        Answer::Tallied(_, sums) => Some(*sums),
-        _ => None,
+/// What the reply to `tally` tells: count and momentum.
+pub fn summed(rt: &impl Abort, reply: &Result<Answer, Refusal>) -> (i64, i64, i64) {
+    match reply {
+        Ok(Answer::Tallied(_, Sums { count, px, py })) => (*count, *px, *py),
+        _ => panic!(rt; "no tally"),
     }
 }
 
 /// What a laboratory answers to `tally`: count and momentum.
 pub fn tally(rt: &impl Abort, lab: &mut Lab<Serial>) -> (i64, i64, i64) {
-    let Ok(answer) = lab.apply(0, Command::Tally) else {
-        panic!(rt; "no answer")
-    };
-    let found = sums(&answer).expect(rt, "a tally");
-    (found.count, found.px, found.py)
+    summed(rt, &lab.apply(0, Command::Tally))
 }
 
 /// The index of the entry that an answer tells of, or why it was refused.

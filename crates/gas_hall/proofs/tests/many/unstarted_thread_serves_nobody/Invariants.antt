@@ -1,5 +1,5 @@
 use Rattle.gas_terms.specs.Cells.{extent}
-use Rattle.gas_hall.proofs.tests.many.refused_thread_serves_nobody.Given as goal
+use Rattle.gas_hall.proofs.tests.many.unstarted_thread_serves_nobody.Given as goal
 
 abbrev pub ghosts-refused_seat-N-Ledger : goal.ghosts-refused_seat-N-Ledger
 ghosts-refused_seat-N-Ledger g a = record { name = a.blank.name; parts = a.blank.parts }

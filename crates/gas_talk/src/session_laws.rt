@@ -1,0 +1,21 @@
+//! Laws of sessions.
+
+ghost use Rattle.std.specs.Prelude.{◌≡◌, ℕ, List, Option, Result};
+ghost use Rattle.std.specs.declared.alloc.AllocError.{AllocError as NoMemory};
+ghost use Rattle.gas_terms.specs.declared.command.Command.{Command};
+ghost use Rattle.gas_terms.specs.declared.answer.Answer.{Answer};
+ghost use Rattle.gas_terms.specs.declared.refusal.Refusal.{Refusal};
+ghost use Rattle.gas_talk.specs.declared.door.Copied.{Copied};
+ghost use Rattle.gas_talk.specs.declared.end.SessionEnd.{SessionEnd};
+ghost use Rattle.gas_talk.specs.Ends.{Place, IsSession};
+
+use crate::door::Door;
+
+/// A number of a door that none of its calls changes is the same after a session over it.
+pub fn kept_by_calls_is_kept_by_sessions<D: Door>()
+    ensures { (number : D → ℕ)
+        → ((d : D) (command : Command) (reply : Result Answer Refusal) (e : D) → D.asks d command reply e → number e ≡ number d)
+        → ((d : D) (copied : Result Copied NoMemory) (e : D) → D.copies d copied e → number e ≡ number d)
+        → (unread_old unread_new : Option (List ℕ)) (old : Place D) (end : SessionEnd) (new : Place D)
+        → IsSession D.size_of D.asks D.copies unread_old unread_new old end new → number new.door ≡ number old.door }
+{}
