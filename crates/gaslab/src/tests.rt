@@ -12,3 +12,4 @@ mod refused;
 mod script;
 mod serving;
 mod snapshots;
+mod workers;
