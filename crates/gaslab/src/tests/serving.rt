@@ -122,7 +122,7 @@ fn refused_serve_on(rt: HostRuntime) {
         }
         None => return,
     }
-    let made = shows(&pages[1], b"OK 0\nBYE\n");
+    let made = shows(&pages[1], b"OK 0\nBYE\n") || shows(&pages[1], b"OK 0\nERR 14 memory\n");
     let refused = shows(&pages[1], b"ERR 14 memory\nBYE\n") || shows(&pages[1], b"ERR 14 memory\n");
     let unserved = shows(&pages[1], b"");
     assert!(rt; shows(&pages[0], b""));
