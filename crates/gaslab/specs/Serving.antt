@@ -12,13 +12,13 @@ served_text done failed entries = parted (codes "SERVED" ∷ decimal done ∷ de
 abbrev pub served_line : ℕ → ℕ → ℕ → List ℕ
 served_line done failed entries = served_text done failed entries ++ 10 ∷ []
 
--- each seat was served or was not, the journal had room for the entries, and the line that says so was written, unless the status is 1
-abbrev pub ServesAll : Setup → ℕ → Option (List ℕ) → ℕ → Option (List ℕ) → Type 0
-ServesAll setup seats old status new =
+-- Each seat was served or was not, the journal had room for the entries, and the line that says so was written whole.
+abbrev pub IsTold : Setup → ℕ → Option (List ℕ) → Option (List ℕ) → Type 0
+IsTold setup seats old new =
     (done : ℕ) × (failed : ℕ) × (entries : ℕ)
-    × (done + failed ≡ seats) × (entries ≤ setup.cap)
-    × ((status ≡ 1) ⊎ ((status ≡ 0) × Appends old new (served_line done failed entries)))
+    × (done + failed ≡ seats) × (entries ≤ setup.cap) × Appends old new (served_line done failed entries)
 
--- All was served, or memory was refused for the opening, and nothing was written.
+-- What was served was told; or memory was refused for the opening, and nothing was written; or, with status 1, writing failed.
 abbrev pub Serves : Setup → ℕ → Option (List ℕ) → ℕ → Option (List ℕ) → Type 0
-Serves setup seats old status new = ((status ≡ 4) × (new ≡ old)) ⊎ ServesAll setup seats old status new
+Serves setup seats old status new =
+    ((status ≡ 0) × IsTold setup seats old new) ⊎ ((status ≡ 4) × (new ≡ old)) ⊎ (status ≡ 1)

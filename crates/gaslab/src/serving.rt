@@ -1,6 +1,6 @@
 //! A server: one session for each shelf, all on one laboratory.
 
-ghost use Rattle.std.specs.Prelude.{◌≡◌, ◌+◌, ◌<◌, ◌≤◌, ◌⊎◌, [], IfSome, vec_len};
+ghost use Rattle.std.specs.Prelude.{◌≡◌, ◌+◌, ◌<◌, ◌≤◌, [], IfSome, IsTrue, vec_len};
 ghost use Rattle.std.specs.Io.KnownBytes.{Appends};
 ghost use Rattle.gas_terms.specs.Cells.{extent};
 ghost use Rattle.gaslab.specs.Plans.{IsInRange};
@@ -46,16 +46,11 @@ impl fmt::Display for Counts {
     }
 }
 
-// Writes what was served, and tells the program's exit status.
-fn tell<W: Write>(writer: &mut W, counts: Counts) -> u8
-    ensures { (result ≡ 1) ⊎ ((result ≡ 0)
-        × Appends (W.contents writer.old) (W.contents writer.new) (served_line counts.done counts.failed counts.entries)) }
+// Writes what was served.
+fn tell<W: Write>(writer: &mut W, counts: Counts) -> bool
+    ensures { IsTrue result → Appends (W.contents writer.old) (W.contents writer.new) (served_line counts.done counts.failed counts.entries) }
 {
-    if writeln!(writer, "{counts}").is_ok() && writer.flush().is_ok() {
-        0
-    } else {
-        1
-    }
+    writeln!(writer, "{counts}").is_ok() && writer.flush().is_ok()
 }
 
 // All that is done with the hall. `None` where memory is refused for its opening.
@@ -143,7 +138,8 @@ pub fn serve_on<T: Threads + Wait + Sync, L: Lobby, K: Shelf + Drop + Send, W: W
         serve_by(rt, alloc, team, setup, start, lobby, shelves)
     };
     match found {
-        Some(counts) => tell(writer, counts),
+        Some(counts) if tell(writer, counts) => 0,
+        Some(_) => 1,
         None => 4,
     }
 }
