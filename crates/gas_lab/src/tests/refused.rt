@@ -63,30 +63,47 @@ fn refused_changes_leave_the_laboratory(rt: HostRuntime) {
     }
 }
 
+// A row without cells is read, or memory is wanted.
+fn reads_an_empty_row(rt: &impl Abort, reply: &Result<Answer, Refusal>) {
+    match reply {
+        Ok(Answer::RowIs(row)) => assert_eq!(rt; row.bytes(), [0; 8].as_slice()),
+        Ok(_) => panic!(rt; "no row"),
+        Err(refusal) => assert_eq!(rt; *refusal, Refusal::Memory),
+    }
+}
+
+// The entry of the row is answered, or memory is wanted, or there is none.
+fn reads_the_entry(rt: &impl Abort, reply: &Result<Answer, Refusal>, entries: usize) {
+    match reply {
+        Ok(Answer::EntryIs(entry)) => assert!(rt; matches!(&entry.command, Command::Row(3, _))),
+        Ok(_) => panic!(rt; "no entry"),
+        Err(refusal) => assert!(rt; *refusal == Refusal::Memory || entries == 0),
+    }
+}
+
+fn copied_tick(lab: &Lab<Serial>) -> Option<i64> {
+    let gas = lab.copy_gas().ok()?;
+    Some(gas.tick().get())
+}
+
+// Puts a row, unless memory is refused.
+fn put_a_row(rt: &(impl Abort + AllocGlobal), lab: &mut Lab<Serial>) {
+    if let Ok(row) = RowBits::zero(rt.alloc(), 8) {
+        let _ = ask(rt, lab, Command::Row(3, row));
+    }
+}
+
 #[test]
 fn refused_readings_leave_the_laboratory(rt: HostRuntime) {
     if let Some(mut lab) = opened(&rt) {
-        if let Ok(row) = RowBits::zero(rt.alloc(), 8) {
-            let _ = ask(&rt, &mut lab, Command::Row(3, row));
-        }
+        put_a_row(&rt, &mut lab);
         let before = view_of(&rt, &lab);
-        match ask(&rt, &mut lab, Command::Read(3)) {
-            Ok(Answer::RowIs(row)) => assert_eq!(rt; row.bytes(), [0; 8].as_slice()),
-            Ok(_) => panic!(rt; "no row"),
-            Err(refusal) => assert_eq!(rt; refusal, Refusal::Memory),
-        }
+        reads_an_empty_row(&rt, &ask(&rt, &mut lab, Command::Read(3)));
         assert_eq!(rt; view_of(&rt, &lab), before);
-        match ask(&rt, &mut lab, Command::Entry(0)) {
-            Ok(Answer::EntryIs(entry)) => assert!(rt; matches!(&entry.command, Command::Row(3, _))),
-            Ok(_) => panic!(rt; "no entry"),
-            Err(refusal) => {
-                assert!(rt; refusal == Refusal::Memory || before.entries == 0);
-            }
-        }
+        reads_the_entry(&rt, &ask(&rt, &mut lab, Command::Entry(0)), before.entries);
         assert_eq!(rt; view_of(&rt, &lab), before);
-        if let Ok(gas) = lab.copy_gas() {
-            assert_eq!(rt; gas.tick().get(), before.tick);
-        }
+        let tick = copied_tick(&lab);
+        assert!(rt; tick.is_none() || tick == Some(before.tick));
         assert_eq!(rt; view_of(&rt, &lab), before);
     }
 }
