@@ -1,3 +1,4 @@
 pub mod Turns
 pub mod Events
 pub mod Numbered
+pub mod TurnSeats

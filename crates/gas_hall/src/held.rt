@@ -37,7 +37,7 @@ impl<N: HallName, S: Stepper> Model for Held<N, S> {
 }
 
 // How many entries of the journal a reply tells of.
-fn entries_of(reply: &Result<Answer, Refusal>) -> u32
+pub(crate) fn entries_of(reply: &Result<Answer, Refusal>) -> u32
     ensures { result ≡ taken reply.now }
 {
     match reply {
@@ -47,7 +47,11 @@ fn entries_of(reply: &Result<Answer, Refusal>) -> u32
 }
 
 // Does a command of a seat with this number. What the laboratory keeps, it keeps before and after.
-fn event<S: Stepper>(lab: &mut Lab<S>, seat: u16, command: Command) -> Result<Answer, Refusal>
+pub(crate) fn event<S: Stepper>(
+    lab: &mut Lab<S>,
+    seat: u16,
+    command: Command,
+) -> Result<Answer, Refusal>
     requires in_order { fits (extent lab.old.start.particles) command ≡ true }
     ensures applied { Applies lab.old (record { seat = seat; command = command }) result lab.new }
     ensures before { IsSound lab.old }

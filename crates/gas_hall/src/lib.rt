@@ -4,18 +4,22 @@
 mod gate;
 mod hall;
 mod held;
+mod in_turn;
 mod name;
+pub mod receipts;
 mod seat;
 mod serving;
 mod tcp;
+mod turn_hall;
 
 pub use gate::{HallGate, NoHallGate};
 pub use hall::{Hall, HallDoor};
 pub use held::Held;
 pub use name::HallName;
 pub use seat::HallSeat;
-pub use serving::{AcceptFault, Lobby, Served, serve};
+pub use serving::{AcceptFault, Lobby, Served, TurnServed, serve, serve_turn};
 pub use tcp::TcpLobby;
+pub use turn_hall::{TurnDoor, TurnHall, TurnNote, TurnSeat};
 
 #[cfg(test)]
 mod tests;

@@ -1,19 +1,23 @@
 //! Serving: one session for each seat.
 
-ghost use Rattle.std.specs.Prelude.{◌≡◌, ◌+◌, ◌≤◌, IfOk, IfErr, length, map, vec_len, vec_capacity};
+ghost use Rattle.std.specs.Prelude.{◌≡◌, ℕ, ◌+◌, ◌≤◌, ⊤, All, IfOk, IfErr, length, map, vec_len, vec_capacity};
 ghost use Rattle.std.specs.List.{sum_by};
 ghost use Rattle.gas_hall.specs.Seats.{Seat};
+ghost use Rattle.gas_hall.specs.TurnSeats.{SeatView, made_by, but_for_seen};
 
 use crate::gate::HallGate;
 use crate::hall::{Hall, HallDoor};
 use crate::name::HallName;
 use crate::seat::HallSeat;
+use crate::turn_hall::{TurnDoor, TurnHall, TurnSeat};
 use gas_lab::Stepper;
 use gas_snapshot::Shelf;
 use gas_talk::session::session;
 use gas_talk::session_laws::kept_by_calls_is_kept_by_sessions;
 use std::alloc::Global;
 use std::io::{Read, Write};
+use std::marker::PhantomData;
+use std::snapshot::Snapshot;
 use std::sync::Wait;
 use std::sync::atomic::{AtomicU32, Ordering};
 use std::thread;
@@ -33,6 +37,104 @@ pub trait Lobby {
     fn accept(&mut self) -> Result<(Self::R, Self::W), AcceptFault>;
 }
 
+/// A hall whose seats take sessions.
+pub(crate) trait Seating<T, R> {
+    // the seat without what its sessions change
+    ghost kept: { T → T };
+
+    // whether a seat, without what its sessions change, is one of the hall's
+    ghost has: { Self → T → Type 0 };
+
+    // how many entries the seat made
+    ghost made: { T → ℕ };
+
+    fn number_of(seat: &T) -> u16;
+
+    fn entries_of(seat: &T) -> u32
+        ensures made { result ≡ made seat.now }
+        ensures bound { result ≤ 65536 };
+
+    fn hold<In: Read + Drop, Out: Write + Drop, K: Shelf + Drop>(
+        &self,
+        rt: &R,
+        alloc: Global,
+        seat: T,
+        reader: In,
+        writer: Out,
+        shelf: K,
+    ) -> T
+        requires here { has self.now (kept seat) }
+        ensures { kept result ≡ kept seat };
+}
+
+impl<N: HallName, S: Stepper, G: HallGate, R: Wait> Seating<HallSeat<N>, R> for Hall<N, S, G> {
+    ghost kept = { λ seat. record seat { entries = 0 } };
+
+    ghost has = { λ _ _. ⊤ };
+
+    ghost made = { λ seat. seat.entries };
+
+    fn number_of(seat: &HallSeat<N>) -> u16 {
+        seat.number()
+    }
+
+    fn entries_of(seat: &HallSeat<N>) -> u32 {
+        seat.entries()
+    }
+
+    fn hold<In: Read + Drop, Out: Write + Drop, K: Shelf + Drop>(
+        &self,
+        rt: &R,
+        alloc: Global,
+        seat: HallSeat<N>,
+        reader: In,
+        writer: Out,
+        shelf: K,
+    ) -> HallSeat<N> {
+        let mut reader = reader;
+        let mut writer = writer;
+        let mut shelf = shelf;
+        let mut door = self.door(rt, seat);
+        kept_by_calls_is_kept_by_sessions::<HallDoor<'_, N, S, G, R>, HallSeat<N>>();
+        session(alloc, &mut reader, &mut writer, &mut door, &mut shelf);
+        door.end()
+    }
+}
+
+impl<S: Stepper, R: Wait> Seating<TurnSeat<S>, R> for TurnHall<S> {
+    ghost kept = { but_for_seen };
+
+    ghost has = { λ hall seat. seat.hall ≡ hall };
+
+    ghost made = { λ seat. length (made_by seat.number seat.seen) };
+
+    fn number_of(seat: &TurnSeat<S>) -> u16 {
+        seat.number()
+    }
+
+    fn entries_of(seat: &TurnSeat<S>) -> u32 {
+        seat.entries()
+    }
+
+    fn hold<In: Read + Drop, Out: Write + Drop, K: Shelf + Drop>(
+        &self,
+        rt: &R,
+        alloc: Global,
+        seat: TurnSeat<S>,
+        reader: In,
+        writer: Out,
+        shelf: K,
+    ) -> TurnSeat<S> {
+        let mut reader = reader;
+        let mut writer = writer;
+        let mut shelf = shelf;
+        let mut door = self.door(rt, seat);
+        kept_by_calls_is_kept_by_sessions::<TurnDoor<'_, S, R>, TurnSeat<S>>();
+        session(alloc, &mut reader, &mut writer, &mut door, &mut shelf);
+        door.end()
+    }
+}
+
 /// How many seats were served and how many were not, the entries that all of them made, and the seats in their order.
 #[derive(Drop)]
 pub struct Served<N: HallName> {
@@ -42,82 +144,86 @@ pub struct Served<N: HallName> {
     pub seats: Vec<HallSeat<N>>,
 }
 
-/// The seat that a thread hands back has this number.
+/// The same of a hall whose seats take turns.
 #[derive(Drop)]
-pub struct SeatNumbered(u16);
+pub struct TurnServed<S: Stepper> {
+    pub done: u32,
+    pub failed: u32,
+    pub entries: u32,
+    pub seats: Vec<TurnSeat<S>>,
+}
 
-impl<N: HallName> Promise<HallSeat<N>> for SeatNumbered {
-    ghost kept_by = { λ p seat. seat.number ≡ p.0 };
+/// The seat that a thread hands back is this one, but for what its session changed.
+#[derive(Drop)]
+struct SeatKept<H, T, R> {
+    seat: Snapshot<T>,
+    hall: PhantomData<(H, R)>,
+}
+
+impl<T, R, H: Seating<T, R>> Promise<T> for SeatKept<H, T, R> {
+    ghost kept_by = { λ p seat. H.kept seat ≡ H.kept p.seat.value };
 }
 
 // What a session's thread does. It serves nobody if the thread was refused.
-pub(crate) fn sit<
-    N: HallName,
-    S: Stepper,
-    G: HallGate,
-    In: Read + Drop,
-    Out: Write + Drop,
-    K: Shelf + Drop,
-    R: Wait,
->(
+pub(crate) fn sit<T, R, H: Seating<T, R>, In: Read + Drop, Out: Write + Drop, K: Shelf + Drop>(
     rt: &R,
     alloc: Global,
-    hall: &Hall<N, S, G>,
+    hall: &H,
     refused: &AtomicU32,
-    seat: HallSeat<N>,
+    seat: T,
     reader: In,
     writer: Out,
     shelf: K,
-) -> HallSeat<N>
-    ensures { result.number ≡ seat.number }
+) -> T
+    requires here { H.has hall.now (H.kept seat) }
+    ensures { H.kept result ≡ H.kept seat }
 {
-    if refused.load(Ordering::SeqCst) == seat.number() as u32 {
+    if refused.load(Ordering::SeqCst) == H::number_of(&seat) as u32 {
         return seat;
     }
-    let mut reader = reader;
-    let mut writer = writer;
-    let mut shelf = shelf;
-    let mut door = hall.door(rt, seat);
-    kept_by_calls_is_kept_by_sessions::<HallDoor<'_, N, S, G, R>>();
-    session(alloc, &mut reader, &mut writer, &mut door, &mut shelf);
-    door.end()
+    hall.hold(rt, alloc, seat, reader, writer, shelf)
 }
 
 // Starts a session's thread, or hands the seat back.
 fn start<
     's,
     E,
-    N: HallName + Send + Sync,
-    S: Stepper + Send,
-    G: HallGate + Sync,
+    T: Drop + Send,
+    R: Sync,
+    H: Seating<T, R> + Sync,
     In: Read + Drop + Send,
     Out: Write + Drop + Send,
     K: Shelf + Drop + Send,
-    R: Wait + Sync,
 >(
     rt: &'s R,
     alloc: Global,
     scope: &Scope<'s, E>,
-    hall: &'s Hall<N, S, G>,
+    hall: &'s H,
     refused: &'s AtomicU32,
-    seat: HallSeat<N>,
+    seat: T,
     reader: In,
     writer: Out,
     shelf: K,
-) -> Result<PromisedHandle<HallSeat<N>, SeatNumbered>, HallSeat<N>>
+) -> Result<PromisedHandle<T, SeatKept<H, T, R>>, T>
 where
-    N: 's,
+    T: 's,
     In: 's,
     Out: 's,
     K: 's,
-    ensures ok { IfOk result (λ handle. handle.promise.0 ≡ seat.number) }
-    ensures err { IfErr result (λ back. back.number ≡ seat.number) }
+    requires here { H.has hall.now (H.kept seat) }
+    ensures ok { IfOk result (λ handle. handle.promise.seat.value ≡ seat) }
+    ensures err { IfErr result (λ back. H.kept back ≡ H.kept seat) }
 {
-    let number = seat.number();
-    let job = move || -> HallSeat<N>
-        ensures { result.number ≡ seat.number }
+    let number = H::number_of(&seat);
+    let promise = SeatKept {
+        seat: Snapshot::of(&seat),
+        hall: PhantomData,
+    };
+    let job = move || -> T
+        requires here { H.has hall.now (H.kept seat) }
+        ensures { H.kept result ≡ H.kept seat }
     { sit(rt, alloc, hall, refused, seat, reader, writer, shelf) };
-    match scope.spawn_with(SeatNumbered(number), job) {
+    match scope.spawn_with(promise, job) {
         Ok(handle) => Ok(handle),
         Err(failed) => {
             refused.store(number as u32, Ordering::SeqCst);
@@ -131,32 +237,32 @@ where
 fn serve_rest<
     's,
     E,
-    N: HallName + Send + Sync,
-    S: Stepper + Send,
-    G: HallGate + Sync,
+    T: Drop + Send,
+    R: Threads + Wait + Sync,
+    H: Seating<T, R> + Sync,
     L: Lobby,
     K: Shelf + Drop + Send,
-    R: Threads + Wait + Sync,
 >(
     rt: &'s R,
     alloc: Global,
     scope: &Scope<'s, E>,
     lobby: &mut L,
-    hall: &'s Hall<N, S, G>,
+    hall: &'s H,
     refused: &'s AtomicU32,
-    seats: &mut Vec<HallSeat<N>>,
+    seats: &mut Vec<T>,
     shelves: &mut Vec<K>,
 ) -> u32
 where
-    N: 's,
+    T: 's,
     L::R: 's,
     L::W: 's,
     K: 's,
     requires few { vec_len seats.old ≤ 64 }
     requires shelves { vec_len shelves.old ≡ vec_len seats.old }
+    requires here { All (λ seat. H.has hall.now (H.kept seat)) seats.old.items }
     ensures done { result ≤ vec_len seats.old }
     ensures all { vec_len seats.new ≡ vec_len seats.old }
-    ensures seats { map (λ seat. seat.number) seats.new.items ≡ map (λ seat. seat.number) seats.old.items }
+    ensures seats { map H.kept seats.new.items ≡ map H.kept seats.old.items }
     ensures capacity { vec_capacity seats.new ≡ vec_capacity seats.old }
 {
     let Some(seat) = seats.pop() else {
@@ -185,15 +291,74 @@ where
 }
 
 // The entries that the seats count.
-fn entries_of<N: HallName>(seats: &[HallSeat<N>]) -> u32
+fn entries_of<T, R, H: Seating<T, R>>(seats: &[T]) -> u32
     requires { length seats.now ≤ 64 }
-    ensures { result ≡ sum_by (λ seat. seat.entries) seats.now }
+    ensures { result ≡ sum_by H.made seats.now }
 {
     let mut total = 0;
     for seat in seats {
-        total += seat.entries();
+        total += H::entries_of(seat);
     }
     total
+}
+
+// Serves each seat once. Tells how many were served, and how many entries all made, with the seats in their order.
+fn serve_seats<
+    T: Drop + Send,
+    R: Threads + Wait + Sync,
+    H: Seating<T, R> + Sync,
+    L: Lobby,
+    K: Shelf + Drop + Send,
+>(
+    rt: &R,
+    alloc: Global,
+    lobby: &mut L,
+    hall: &H,
+    seats: Vec<T>,
+    shelves: Vec<K>,
+) -> (u32, u32, Vec<T>)
+    requires few { vec_len seats ≤ 64 }
+    requires shelves { vec_len shelves ≡ vec_len seats }
+    requires here { All (λ seat. H.has hall.now (H.kept seat)) seats.items }
+    ensures done { result.0 ≤ vec_len seats }
+    ensures all { vec_len result.2 ≡ vec_len seats }
+    ensures seats { map H.kept result.2.items ≡ map H.kept seats.items }
+    ensures entries { result.1 ≡ sum_by H.made result.2.items }
+{
+    let refused = AtomicU32::new(u32::MAX);
+    let flag = &refused;
+    let mut seats = seats;
+    let mut shelves = shelves;
+    seats.reverse();
+    shelves.reverse();
+    let (done, mut seats) = thread::scope(
+        thread::scope_env(),
+        rt,
+        move |scope| -> (u32, Vec<T>)
+            requires few { vec_len seats ≤ 64 }
+            requires shelves { vec_len shelves ≡ vec_len seats }
+            requires here { All (λ seat. H.has hall.now (H.kept seat)) seats.items }
+            ensures done { result.0 ≤ vec_len seats }
+            ensures all { vec_len result.1 ≡ vec_len seats }
+            ensures seats { map H.kept result.1.items ≡ map H.kept seats.items }
+        {
+            let mut seats = seats;
+            let mut shelves = shelves;
+            let done = serve_rest(
+                rt,
+                alloc,
+                scope,
+                lobby,
+                hall,
+                flag,
+                &mut seats,
+                &mut shelves,
+            );
+            (done, seats)
+        },
+    );
+    seats.reverse();
+    (done, entries_of::<T, R, H>(seats.as_slice()), seats)
 }
 
 /// Serves each seat once: one accept for each, in order, and a thread of its own for each session that is accepted, with
@@ -222,40 +387,36 @@ pub fn serve<
     ensures entries { result.entries ≡ sum_by (λ seat. seat.entries) result.seats.items }
 {
     let count = seats.len() as u32;
-    let refused = AtomicU32::new(u32::MAX);
-    let flag = &refused;
-    let mut seats = seats;
-    let mut shelves = shelves;
-    seats.reverse();
-    shelves.reverse();
-    let (done, mut seats) = thread::scope(
-        thread::scope_env(),
-        rt,
-        move |scope| -> (u32, Vec<HallSeat<N>>)
-            requires few { vec_len seats ≤ 64 }
-            requires shelves { vec_len shelves ≡ vec_len seats }
-            ensures done { result.0 ≤ vec_len seats }
-            ensures all { vec_len result.1 ≡ vec_len seats }
-            ensures seats { map (λ seat. seat.number) result.1.items ≡ map (λ seat. seat.number) seats.items }
-        {
-            let mut seats = seats;
-            let mut shelves = shelves;
-            let done = serve_rest(
-                rt,
-                alloc,
-                scope,
-                lobby,
-                hall,
-                flag,
-                &mut seats,
-                &mut shelves,
-            );
-            (done, seats)
-        },
-    );
-    seats.reverse();
-    let entries = entries_of(seats.as_slice());
+    let (done, entries, seats) = serve_seats(rt, alloc, lobby, hall, seats, shelves);
     Served {
+        done,
+        failed: count - done,
+        entries,
+        seats,
+    }
+}
+
+/// Serves each seat of a hall that takes turns, as `serve` does. Each seat comes back as it was, but for what it has seen.
+pub fn serve_turn<S: Stepper + Send, L: Lobby, K: Shelf + Drop + Send, R: Threads + Wait + Sync>(
+    rt: &R,
+    alloc: Global,
+    lobby: &mut L,
+    hall: &TurnHall<S>,
+    seats: Vec<TurnSeat<S>>,
+    shelves: Vec<K>,
+) -> TurnServed<S>
+    requires few { vec_len seats ≤ 64 }
+    requires shelves { vec_len shelves ≡ vec_len seats }
+    requires here { All (λ seat. seat.hall ≡ hall.now) seats.items }
+    ensures count { result.done + result.failed ≡ vec_len seats }
+    ensures all { vec_len result.seats ≡ vec_len seats }
+    ensures seats { map but_for_seen result.seats.items ≡ map but_for_seen seats.items }
+    ensures here { All (λ seat. seat.hall ≡ hall.now) result.seats.items }
+    ensures entries { result.entries ≡ sum_by (λ seat. length (made_by seat.number seat.seen)) result.seats.items }
+{
+    let count = seats.len() as u32;
+    let (done, entries, seats) = serve_seats(rt, alloc, lobby, hall, seats, shelves);
+    TurnServed {
         done,
         failed: count - done,
         entries,

@@ -5,5 +5,7 @@ mod refused;
 mod rows;
 mod served;
 mod socket;
+mod turn;
+mod turn_served;
 mod turns;
 mod values;

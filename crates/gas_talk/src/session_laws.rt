@@ -11,11 +11,11 @@ ghost use Rattle.gas_talk.specs.Ends.{Place, IsSession};
 
 use crate::door::Door;
 
-/// A number of a door that none of its calls changes is the same after a session over it.
-pub fn kept_by_calls_is_kept_by_sessions<D: Door>()
-    ensures { (number : D → ℕ)
-        → ((d : D) (command : Command) (reply : Result Answer Refusal) (e : D) → D.asks d command reply e → number e ≡ number d)
-        → ((d : D) (copied : Result Copied NoMemory) (e : D) → D.copies d copied e → number e ≡ number d)
+/// A part of a door that none of its calls changes is the same after a session over it.
+pub fn kept_by_calls_is_kept_by_sessions<D: Door, X>()
+    ensures { (part : D → X)
+        → ((d : D) (command : Command) (reply : Result Answer Refusal) (e : D) → D.asks d command reply e → part e ≡ part d)
+        → ((d : D) (copied : Result Copied NoMemory) (e : D) → D.copies d copied e → part e ≡ part d)
         → (unread_old unread_new : Option (List ℕ)) (old : Place D) (end : SessionEnd) (new : Place D)
-        → IsSession D.size_of D.asks D.copies unread_old unread_new old end new → number new.door ≡ number old.door }
+        → IsSession D.size_of D.asks D.copies unread_old unread_new old end new → part new.door ≡ part old.door }
 {}

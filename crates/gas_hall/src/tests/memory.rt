@@ -64,6 +64,12 @@ pub struct PageWriter<'a> {
     page: &'a Mutex<Page>,
 }
 
+impl<'a> PageWriter<'a> {
+    pub fn new(page: &'a Mutex<Page>) -> PageWriter<'a> {
+        PageWriter { page }
+    }
+}
+
 impl<'a> Write for PageWriter<'a> {
     fn write(&mut self, bytes: &[u8]) -> io::Result<usize> {
         match self.page.try_lock() {

@@ -20,7 +20,7 @@ use std::sync::Wait;
 use std::sync::ledger::Blank;
 
 // One particle at the upper left cell.
-fn one_particle(rt: &impl Abort, size: Size) -> Command
+pub fn one_particle(rt: &impl Abort, size: Size) -> Command
     ensures { fits size result ≡ true }
 {
     let area = Rect::within(size, 0, 0, 1, 1).expect(rt, "a rectangle");
@@ -30,7 +30,7 @@ fn one_particle(rt: &impl Abort, size: Size) -> Command
 }
 
 // How many entries the reply to the first put tells of. It can only be refused for want of memory.
-fn made_by(rt: &impl Abort, reply: &Result<Answer, Refusal>) -> u32 {
+pub fn made_by(rt: &impl Abort, reply: &Result<Answer, Refusal>) -> u32 {
     match taken(reply) {
         Ok(k) => {
             assert_eq!(rt; k, 0);
@@ -44,7 +44,7 @@ fn made_by(rt: &impl Abort, reply: &Result<Answer, Refusal>) -> u32 {
 }
 
 // The entry can only be missing where none was made, or be refused for want of memory.
-fn entry_is_there(rt: &impl Abort, reply: &Result<Answer, Refusal>, made: u32) {
+pub fn entry_is_there(rt: &impl Abort, reply: &Result<Answer, Refusal>, made: u32) {
     match reply {
         Ok(_) => assert_eq!(rt; made, 1),
         Err(Refusal::Memory) => {}
@@ -52,14 +52,14 @@ fn entry_is_there(rt: &impl Abort, reply: &Result<Answer, Refusal>, made: u32) {
     }
 }
 
-fn is_answered_or_wants_memory(reply: &Result<Answer, Refusal>) -> bool {
+pub fn is_answered_or_wants_memory(reply: &Result<Answer, Refusal>) -> bool {
     match reply {
         Ok(_) => true,
         Err(refusal) => *refusal == Refusal::Memory,
     }
 }
 
-fn copied_entries(copied: &Result<Copied, NoMemory>) -> Option<u32> {
+pub fn copied_entries(copied: &Result<Copied, NoMemory>) -> Option<u32> {
     match copied {
         Ok(copied) => Some(copied.entries),
         Err(_) => None,

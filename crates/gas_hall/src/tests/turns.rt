@@ -5,6 +5,17 @@ use std::sync::atomic::{AtomicBool, AtomicU32, Ordering};
 use std::thread;
 use std::time::{Clock, Duration};
 
+/// Waits until the flag is set, and no longer than some ten seconds: then it says that it met its limit.
+pub fn wait_for<C: Clock>(clock: &C, flag: &AtomicBool, met_limit: &AtomicBool) {
+    for _ in 0..100000u32 {
+        if flag.load(Ordering::SeqCst) {
+            return;
+        }
+        thread::sleep(clock, Duration::from_micros(100));
+    }
+    met_limit.store(true, Ordering::SeqCst);
+}
+
 /// Holds seat 1's first call until seat 0 has made its first, and seat 0's second until seat 1 has made its first.
 #[derive(Drop)]
 pub struct Turns<C: Clock> {
@@ -29,13 +40,7 @@ impl<C: Clock> Turns<C> {
     }
 
     fn hold(&self, until: &AtomicBool) {
-        for _ in 0..100000u32 {
-            if until.load(Ordering::SeqCst) {
-                return;
-            }
-            thread::sleep(&self.clock, Duration::from_micros(100));
-        }
-        self.met_limit.store(true, Ordering::SeqCst);
+        wait_for(&self.clock, until, &self.met_limit);
     }
 }
 

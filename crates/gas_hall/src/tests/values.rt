@@ -33,7 +33,8 @@ pub fn no_shelves(alloc: Global, count: usize) -> Result<Vec<NoShelf>, AllocErro
     Ok(shelves)
 }
 
-fn is_put_at(command: &Command, x: u16) -> bool {
+/// Whether it puts one cell of row 0, in this column.
+pub fn is_put_at(command: &Command, x: u16) -> bool {
     match command {
         Command::Put(area) => (area.x(), area.y(), area.w(), area.h()) == (x, 0, 1, 1),
         _ => false,

@@ -1,8 +1,8 @@
-use Rattle.std.proofs.Common.{rules}
-use Rattle.gas_hall.proofs.Turns.{turned_back}
+use Rattle.std.proofs.Common.{refl}
+use Rattle.gas_hall.specs.Seats.{Seat}
+use Rattle.gas_hall.proofs.Turns.{same_through}
 use Rattle.gas_hall.proofs.serving.serve.Goals as goal
 
 pub returns-clause-seats : goal.returns-clause-seats
 returns-clause-seats g c =
-    turned_back (λ seat. seat.number) c.args.seats.items c.reverse.new.self.items c.scoped-done.result.1.items c.reverse-3.new.self.items
-    c.reverse.ensures.items (search rules) c.reverse-3.ensures.items
+    same_through (λ (s : Seat). s.number) (λ (s : Seat). record s { entries = 0 }) (λ s. refl) _ _ c.serve_seats-done.ensures.seats

@@ -1,6 +1,11 @@
-use Rattle.std.proofs.Common.{rules, arith}
+use Rattle.std.proofs.Common.{ℕ, rules, arith}
 use Rattle.gas_hall.proofs.Numbered.{one_more}
+use Rattle.gas_hall.specs.Seats.{Seat}
 use Rattle.gas_hall.proofs.hall.Hall.open.Goals as goal
+
+-- the seat of this number, before it has made an entry
+abbrev fresh : ℕ → Seat
+fresh i = record { number = i; entries = 0 }
 
 pub loop-number-preserved : goal.loop-number-preserved
 loop-number-preserved g c =
@@ -10,5 +15,5 @@ loop-number-preserved g c =
       search rules,
       search rules,
       search rules,
-      one_more c.loop-number.all.items c.push_reserved.new.self.items c.loop-number.number (search rules) c.push_reserved.ensures.items so_far.5,
+      one_more fresh c.loop-number.all.items c.push_reserved.new.self.items c.loop-number.number (search rules) c.push_reserved.ensures.items so_far.5,
     )
