@@ -20,6 +20,3 @@ pub use seat::HallSeat;
 pub use serving::{AcceptFault, Lobby, Served, TurnServed, serve, serve_turn};
 pub use tcp::TcpLobby;
 pub use turn_hall::{TurnDoor, TurnHall, TurnNote, TurnSeat};
-
-#[cfg(test)]
-mod tests;

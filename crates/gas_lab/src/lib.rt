@@ -9,6 +9,3 @@ pub use gas_ledger::Gas;
 pub use gas_terms::Answer;
 pub use lab::Lab;
 pub use phase_step::{Serial, Stepper};
-
-#[cfg(test)]
-mod tests;

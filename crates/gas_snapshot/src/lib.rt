@@ -16,12 +16,7 @@ mod writing;
 pub use fault::SnapFault;
 pub use file_shelf::FileShelf;
 pub use reading::decode;
-pub use shelf::{NoShelf, Shelf, ShelfFault};
+pub use shelf::{MaybeShelf, NoShelf, Shelf, ShelfFault};
 pub use version::Version;
 pub use writer::{WriteFault, write_to};
 pub use writing::encode;
-
-#[cfg(test)]
-mod file_tests;
-#[cfg(test)]
-mod tests;

@@ -74,3 +74,32 @@ impl Shelf for NoShelf {
         self.failures
     }
 }
+
+/// A shelf, or none, as is found out where it is made.
+#[derive(Drop)]
+pub enum MaybeShelf<K> {
+    Shelf(K),
+    Nothing(NoShelf),
+}
+
+impl<K: Shelf> Shelf for MaybeShelf<K> {
+    ghost use Rattle.gas_snapshot.specs.Shelved.{failures_of, shelved_of};
+
+    ghost failures = { failures_of K.failures };
+
+    ghost shelved = { shelved_of K.shelved };
+
+    fn put(&mut self, bytes: &[u8]) -> Result<(), ShelfFault> {
+        match self {
+            MaybeShelf::Shelf(shelf) => shelf.put(bytes),
+            MaybeShelf::Nothing(none) => none.put(bytes),
+        }
+    }
+
+    fn failures(&self) -> u64 {
+        match self {
+            MaybeShelf::Shelf(shelf) => shelf.failures(),
+            MaybeShelf::Nothing(none) => none.failures(),
+        }
+    }
+}

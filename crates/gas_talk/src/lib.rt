@@ -25,12 +25,3 @@ pub use page::{ReplyPage, reply_text};
 pub use reading::read_command;
 pub use reply::Reply;
 pub use request::Request;
-
-#[cfg(test)]
-mod faults;
-#[cfg(test)]
-mod reading_tests;
-#[cfg(test)]
-mod session_tests;
-#[cfg(test)]
-mod text_tests;

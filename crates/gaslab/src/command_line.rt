@@ -175,25 +175,34 @@ fn command<'a>(
     )
 }
 
-fn commands<'a>(alloc: Global) -> Result<Command<'a>, clap::Error> {
-    let listen = Arg::new(alloc, "listen")
+fn listen_arg<'a>(alloc: Global) -> Arg<'a> {
+    Arg::new(alloc, "listen")
         .long("listen")
         .value_name("ADDR")
         .default_value(ANY_PORT)
-        .help(LISTEN_HELP);
-    let run = command(alloc, "run", RUN, RUN_MORE)?;
-    let serve = command(alloc, "serve", SERVE, SERVE_MORE)?
-        .arg(listen)?
-        .arg(SESSIONS.arg(alloc))?;
+        .help(LISTEN_HELP)
+}
+
+fn serve_command<'a>(alloc: Global) -> Result<Command<'a>, clap::Error> {
+    let serve = command(alloc, "serve", SERVE, SERVE_MORE)?.arg(listen_arg(alloc))?;
+    Ok(serve.arg(SESSIONS.arg(alloc))?)
+}
+
+// the program, without its commands
+fn program<'a>(alloc: Global) -> Result<Command<'a>, clap::Error> {
+    let program = Command::new(alloc, "gaslab").bin_name("gaslab")?;
     Ok(
-        Command::new(alloc, "gaslab")
-            .bin_name("gaslab")?
+        program
             .about(ABOUT)
             .after_help(EXPERIMENT)
-            .arg_required_else_help(true)
-            .subcommand(run)?
-            .subcommand(serve)?,
+            .arg_required_else_help(true),
     )
+}
+
+fn commands<'a>(alloc: Global) -> Result<Command<'a>, clap::Error> {
+    let run = command(alloc, "run", RUN, RUN_MORE)?;
+    let program = program(alloc)?.subcommand(run)?;
+    Ok(program.subcommand(serve_command(alloc)?)?)
 }
 
 fn fault_of(alloc: Global, error: &clap::Error) -> PlanFault {

@@ -6,5 +6,3 @@ pub mod load;
 pub mod run;
 pub mod serving;
 pub mod setup;
-#[cfg(test)]
-mod tests;

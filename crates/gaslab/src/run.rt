@@ -11,7 +11,7 @@ use gas_ledger::Gas;
 use gas_snapshot::Shelf;
 use gas_talk::{SessionEnd, serve_alone};
 use gas_terms::NoMemory;
-use phase_step::{Serial, Stepper};
+use phase_step::Stepper;
 use phase_team::{NoGate, Team};
 use std::alloc::Global;
 use std::io::{Read, Write};
@@ -45,27 +45,6 @@ pub(crate) fn opened<S: Stepper>(
     Lab::open(alloc, start, setup.cap, stepper)
 }
 
-fn run_by<S: Stepper, R: Read, W: Write, K: Shelf>(
-    alloc: Global,
-    stepper: S,
-    setup: Setup,
-    start: Option<Gas>,
-    reader: &mut R,
-    writer: &mut W,
-    shelf: &mut K,
-) -> u8
-    requires { IsInRange setup }
-    ensures { Runs setup start
-        (record { unread = R.remaining reader.old; written = W.contents writer.old; failures = K.failures shelf.old; shelved = K.shelved shelf.old })
-        result
-        (record { unread = R.remaining reader.new; written = W.contents writer.new; failures = K.failures shelf.new; shelved = K.shelved shelf.new }) }
-{
-    let Ok(mut lab) = opened(alloc, setup, start, stepper) else {
-        return 4;
-    };
-    status_of(serve_alone(alloc, reader, writer, &mut lab, 0, shelf))
-}
-
 /// Serves one session on a laboratory that opens with the given gas, or else the empty gas of the setup's size, and
 /// answers the program's exit status. Where memory is refused for the opening it is 4, and nothing is read or written.
 /// One worker is the calling thread; more take `rt` to start threads.
@@ -84,9 +63,9 @@ pub fn run_on<T: Threads + Drop, R: Read, W: Write, K: Shelf>(
         result
         (record { unread = R.remaining reader.new; written = W.contents writer.new; failures = K.failures shelf.new; shelved = K.shelved shelf.new }) }
 {
-    if setup.workers == 1 {
-        return run_by(alloc, Serial, setup, start, reader, writer, shelf);
-    }
     let team = Team::new(rt, alloc, setup.workers, NoGate);
-    run_by(alloc, team, setup, start, reader, writer, shelf)
+    let Ok(mut lab) = opened(alloc, setup, start, team) else {
+        return 4;
+    };
+    status_of(serve_alone(alloc, reader, writer, &mut lab, 0, shelf))
 }

@@ -12,7 +12,7 @@ use gas_hall::{Hall, HallName, Lobby, NoHallGate, Served, serve};
 use gas_lab::Lab;
 use gas_ledger::Gas;
 use gas_snapshot::Shelf;
-use phase_step::{Serial, Stepper};
+use phase_step::Stepper;
 use phase_team::{NoGate, Team};
 use std::alloc::Global;
 use std::fmt;
@@ -131,13 +131,8 @@ pub fn serve_on<T: Threads + Wait + Sync, L: Lobby, K: Shelf + Drop + Send, W: W
     requires shelves { (0 < vec_len shelves) × (vec_len shelves ≤ 64) }
     ensures { Serves setup (vec_len shelves) (W.contents writer.old) result (W.contents writer.new) }
 {
-    let found = if setup.workers == 1 {
-        serve_by(rt, alloc, Serial, setup, start, lobby, shelves)
-    } else {
-        let team = Team::new(rt, alloc, setup.workers, NoGate);
-        serve_by(rt, alloc, team, setup, start, lobby, shelves)
-    };
-    match found {
+    let team = Team::new(rt, alloc, setup.workers, NoGate);
+    match serve_by(rt, alloc, team, setup, start, lobby, shelves) {
         Some(counts) if tell(writer, counts) => 0,
         Some(_) => 1,
         None => 4,

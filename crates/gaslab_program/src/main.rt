@@ -6,13 +6,14 @@ ghost use Rattle.gaslab.specs.Plans.{IsInRange, HasSessions};
 
 use gas_hall::TcpLobby;
 use gas_ledger::Gas;
-use gas_snapshot::{FileShelf, NoShelf, Shelf, SnapFault};
+use gas_snapshot::{FileShelf, MaybeShelf, NoShelf, Shelf, SnapFault};
 use gaslab::command_line::plan;
 use gaslab::load::{LoadFault, load_from};
 use gaslab::run::run_on;
 use gaslab::serving::serve_on;
 use gaslab::setup::{Plan, PlanFault, Service, Setup};
 use std::alloc::AllocError;
+use std::env::Env;
 use std::net::{Net, SocketAddr, TcpListener, TcpStream};
 use std::process::ExitCode;
 use std::rt::Files;
@@ -36,14 +37,64 @@ fn load(rt: &(impl Files + AllocGlobal), path: &str) -> Result<Gas, LoadFault> {
     load_from(rt.alloc(), &mut file)
 }
 
+// The gas to start from, or else what the program exits with.
+fn start_of(
+    rt: &(impl Eprint + Files + AllocGlobal),
+    load_path: Option<&str>,
+) -> Result<Option<Gas>, u8> {
+    let Some(path) = load_path else {
+        return Ok(None);
+    };
+    match load(rt, path) {
+        Ok(gas) => Ok(Some(gas)),
+        Err(LoadFault::Snap(SnapFault::Memory)) => Err(NO_MEMORY),
+        Err(fault) => {
+            // the status tells of the fault, whether or not this can be written
+            let _ = eprintln!(rt; "load: {fault}");
+            Err(NOT_LOADED)
+        }
+    }
+}
+
+// a shelf at the path, where there is one, for a seat
+fn shelf_of<'r, R: Files + AllocGlobal>(
+    rt: &'r R,
+    path: Option<&str>,
+    seat: u16,
+) -> Result<MaybeShelf<FileShelf<&'r R>>, AllocError> {
+    match path {
+        Some(path) => Ok(MaybeShelf::Shelf(FileShelf::new(rt.alloc(), rt, path, seat)?)),
+        None => Ok(MaybeShelf::Nothing(NoShelf::new())),
+    }
+}
+
+// a shelf for each seat
+fn shelves_of<'r, R: Files + AllocGlobal>(
+    rt: &'r R,
+    path: Option<&str>,
+    seats: u8,
+) -> Result<Vec<MaybeShelf<FileShelf<&'r R>>>, AllocError>
+    ensures { IfOk result (λ shelves. vec_len shelves ≡ seats) }
+{
+    let mut shelves = Vec::new(rt.alloc());
+    for seat in 0..seats {
+        shelves.push(shelf_of(rt, path, seat as u16)?)?;
+    }
+    Ok(shelves)
+}
+
+// one session, on standard input and output
 fn run(
-    rt: &(impl Threads + Input + Print + AllocGlobal),
+    rt: &(impl Threads + Input + Print + Files + AllocGlobal),
     setup: Setup,
     start: Option<Gas>,
-    shelf: &mut impl Shelf,
+    save: Option<&str>,
 ) -> u8
     requires { IsInRange setup }
 {
+    let Ok(mut shelf) = shelf_of(rt, save, 0) else {
+        return NO_MEMORY;
+    };
     run_on(
         rt,
         rt.alloc(),
@@ -51,84 +102,23 @@ fn run(
         start,
         &mut rt.reader(),
         &mut io::writer(rt),
-        shelf,
+        &mut shelf,
     )
 }
 
-// listens at the address, says so, and serves a session for each shelf
-fn listen_and_serve<K: Shelf + Drop + Send>(
-    rt: &(impl Threads
-        + Wait
-        + Sync
-        + Net<Listener = TcpListener, Stream = TcpStream>
-        + Print
-        + AllocGlobal),
-    setup: Setup,
-    start: Option<Gas>,
+// listens at the address, and says so
+fn listen(
+    rt: &(impl Net<Listener = TcpListener, Stream = TcpStream> + Print),
     address: SocketAddr,
-    shelves: Vec<K>,
-) -> io::Result<u8>
-    requires setup { IsInRange setup }
-    requires shelves { (0 < vec_len shelves) × (vec_len shelves ≤ 64) }
-{
+) -> io::Result<TcpLobby> {
     let listener = TcpListener::bind(rt, address)?;
     let bound = listener.local_addr()?;
     println!(rt; "LISTEN {bound}")?;
-    let mut lobby = TcpLobby::over(listener);
-    Ok(serve_on(
-        rt,
-        rt.alloc(),
-        setup,
-        start,
-        &mut lobby,
-        shelves,
-        &mut io::writer(rt),
-    ))
+    Ok(TcpLobby::over(listener))
 }
 
-// a shelf at the path for each seat
-fn file_shelves<'r, R: Files + AllocGlobal>(
-    rt: &'r R,
-    path: &str,
-    seats: u8,
-) -> Result<Vec<FileShelf<&'r R>>, AllocError>
-    ensures { IfOk result (λ shelves. vec_len shelves ≡ seats) }
-{
-    let mut shelves = Vec::new(rt.alloc());
-    for seat in 0..seats {
-        shelves.push(FileShelf::new(rt.alloc(), rt, path, seat as u16)?)?;
-    }
-    Ok(shelves)
-}
-
-fn no_shelves(rt: &impl AllocGlobal, seats: u8) -> Result<Vec<NoShelf>, AllocError>
-    ensures { IfOk result (λ shelves. vec_len shelves ≡ seats) }
-{
-    let mut shelves = Vec::new(rt.alloc());
-    for _ in 0..seats {
-        shelves.push(NoShelf::new())?;
-    }
-    Ok(shelves)
-}
-
-// one session, with a shelf at the path where there is one
-fn run_plan(
-    rt: &(impl Threads + Input + Print + Files + AllocGlobal),
-    plan: &Plan<'_>,
-    start: Option<Gas>,
-) -> u8
-    requires { IsInRange plan.now.setup }
-{
-    let Some(path) = plan.save else {
-        return run(rt, plan.setup, start, &mut NoShelf::new());
-    };
-    match FileShelf::new(rt.alloc(), rt, path, 0) {
-        Ok(mut shelf) => run(rt, plan.setup, start, &mut shelf),
-        Err(_) => NO_MEMORY,
-    }
-}
-
-// what the program exits with after serving
+// A session for each shelf, over sockets. The shelves come from `main`, where their type is known: what is sent to a
+// thread is not covered where it rests on a bound.
 fn serve<K: Shelf + Drop + Send>(
     rt: &(impl Threads
         + Wait
@@ -144,67 +134,75 @@ fn serve<K: Shelf + Drop + Send>(
     requires setup { IsInRange setup }
     requires shelves { (0 < vec_len shelves) × (vec_len shelves ≤ 64) }
 {
-    listen_and_serve(rt, setup, start, address, shelves).unwrap_or(FAILED)
+    let Ok(mut lobby) = listen(rt, address) else {
+        return FAILED;
+    };
+    serve_on(
+        rt,
+        rt.alloc(),
+        setup,
+        start,
+        &mut lobby,
+        shelves,
+        &mut io::writer(rt),
+    )
 }
 
-// The gas to start from, or else what the program exits with.
-fn start_of(
-    rt: &(impl Eprint + Files + AllocGlobal),
-    plan: &Plan<'_>,
-) -> io::Result<Result<Option<Gas>, u8>> {
-    let Some(path) = plan.load else {
-        return Ok(Ok(None));
-    };
-    match load(rt, path) {
-        Ok(gas) => Ok(Ok(Some(gas))),
-        Err(LoadFault::Snap(SnapFault::Memory)) => Ok(Err(NO_MEMORY)),
-        Err(fault) => {
-            eprintln!(rt; "load: {fault}")?;
-            Ok(Err(NOT_LOADED))
+// what the words ask for, or else what the program exits with
+fn plan_of<'a>(rt: &(impl Eprint + AllocGlobal), words: &'a [String]) -> Result<Plan<'a>, u8>
+    ensures { IfOk result (λ plan. IsInRange plan.setup × HasSessions plan.service) }
+{
+    match plan(rt.alloc(), words) {
+        Ok(plan) => Ok(plan),
+        Err(PlanFault::Memory) => Err(NO_MEMORY),
+        Err(PlanFault::Line(text)) => {
+            let _ = eprint!(rt; "{text}");
+            Err(REFUSED_LINE)
         }
     }
 }
 
-// What the words ask for and the gas to start from, or else what the program exits with.
+// the words of the command line, or else what the program exits with
+fn words_of(rt: &(impl Env + AllocGlobal)) -> Result<Vec<String>, u8> {
+    match env::args(rt) {
+        Ok(words) => words.collect(rt.alloc()).map_err(|_| NO_MEMORY),
+        Err(fault) if fault.kind() == io::ErrorKind::OutOfMemory => Err(NO_MEMORY),
+        Err(_) => Err(REFUSED_LINE),
+    }
+}
+
+// what the words ask for and the gas to start from, or else what the program exits with
 fn prepare<'a>(
     rt: &(impl Eprint + Files + AllocGlobal),
     words: &'a [String],
-) -> io::Result<Result<(Plan<'a>, Option<Gas>), u8>>
-    ensures { IfOk result (λ found. IfOk found (λ p. IsInRange p.0.setup × HasSessions p.0.service)) }
+) -> Result<(Plan<'a>, Option<Gas>), u8>
+    ensures { IfOk result (λ found. IsInRange found.0.setup × HasSessions found.0.service) }
 {
-    let plan = match plan(rt.alloc(), words) {
+    let plan = match plan_of(rt, words) {
         Ok(plan) => plan,
-        Err(PlanFault::Memory) => return Ok(Err(NO_MEMORY)),
-        Err(PlanFault::Line(text)) => {
-            eprint!(rt; "{text}")?;
-            return Ok(Err(REFUSED_LINE));
-        }
+        Err(status) => return Err(status),
     };
-    match start_of(rt, &plan)? {
-        Ok(start) => Ok(Ok((plan, start))),
-        Err(status) => Ok(Err(status)),
+    match start_of(rt, plan.load) {
+        Ok(start) => Ok((plan, start)),
+        Err(status) => Err(status),
     }
 }
 
-fn main(rt: HostRuntime) -> io::Result<ExitCode> {
-    let words: Vec<String> = env::args(&rt)?.collect(rt.alloc())?;
-    let (plan, start) = match prepare(&rt, words.as_slice())? {
-        Ok(found) => found,
-        Err(status) => return Ok(ExitCode::from(status)),
+fn main(rt: HostRuntime) -> ExitCode {
+    let words = match words_of(&rt) {
+        Ok(words) => words,
+        Err(status) => return ExitCode::from(status),
     };
-    let setup = plan.setup;
-    let status = match (plan.service, plan.save) {
-        (Service::Run, _) => run_plan(&rt, &plan, start),
-        (Service::Serve { address, sessions }, None) => match no_shelves(&rt, sessions) {
-            Ok(shelves) => serve(&rt, setup, start, address, shelves),
+    let (plan, start) = match prepare(&rt, words.as_slice()) {
+        Ok(found) => found,
+        Err(status) => return ExitCode::from(status),
+    };
+    let status = match plan.service {
+        Service::Run => run(&rt, plan.setup, start, plan.save),
+        Service::Serve { address, sessions } => match shelves_of(&rt, plan.save, sessions) {
+            Ok(shelves) => serve(&rt, plan.setup, start, address, shelves),
             Err(_) => NO_MEMORY,
         },
-        (Service::Serve { address, sessions }, Some(path)) => {
-            match file_shelves(&rt, path, sessions) {
-                Ok(shelves) => serve(&rt, setup, start, address, shelves),
-                Err(_) => NO_MEMORY,
-            }
-        }
     };
-    Ok(ExitCode::from(status))
+    ExitCode::from(status)
 }

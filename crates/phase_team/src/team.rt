@@ -323,6 +323,9 @@ impl<R: Threads + Drop> Stepper for Team<R, NoGate> {
         parity: u8,
         out: &mut Plane,
     ) -> Took {
+        if self.workers == 1 {
+            return Serial.phase(old, walls, obstacles, parity, out);
+        }
         self.phase(old, walls, obstacles, parity, out)
     }
 }

@@ -1,0 +1,375 @@
+//! Command lines: what they are read as, and the texts that teach.
+
+use gaslab::command_line::plan;
+use gaslab::setup::{Plan, PlanFault, Service};
+use std::net::{IpAddr, Ipv4Addr, SocketAddr};
+use std::process::Abort;
+use std::thread::Threads;
+
+// width, height and capacity of a plan
+fn numbers(found: &Plan<'_>) -> [u32; 3] {
+    let size = found.setup.size;
+    [size.width() as u32, size.height() as u32, found.setup.cap]
+}
+
+// the words are read as this width, height and capacity, and nothing to load or save
+fn plans(
+    rt: &(impl Abort + AllocGlobal + Threads + Copy + Drop),
+    words: &[&str],
+    wanted: [u32; 3],
+) {
+    match plan(rt.alloc(), words) {
+        Ok(found) => {
+            assert_eq!(rt; numbers(&found), wanted);
+            assert!(rt; found.load.is_none() && found.save.is_none());
+        }
+        Err(_) => panic!(rt; "the words were not understood"),
+    }
+}
+
+// the text where the words ask for something else
+fn text_of(rt: &(impl Abort + AllocGlobal + Threads + Copy + Drop), words: &[&str]) -> String {
+    match plan(rt.alloc(), words) {
+        Err(PlanFault::Line(text)) => text,
+        Err(PlanFault::Memory) => panic!(rt; "memory"),
+        Ok(_) => panic!(rt; "the words were understood"),
+    }
+}
+
+// the text for the words has all these parts
+fn teaches(
+    rt: &(impl Abort + AllocGlobal + Threads + Copy + Drop),
+    words: &[&str],
+    parts: &[&str],
+) {
+    let text = text_of(rt, words);
+    for part in parts {
+        assert!(rt;
+            text.as_str().split_once(*part).is_some(),
+            "{part} is not in: {text}"
+        );
+    }
+}
+
+#[test]
+fn plan_of_words(rt: HostRuntime) {
+    plans(&rt, &["gaslab", "run"], [64, 64, 1024]);
+    teaches(&rt, &["gaslab", "run", "--width", "65"], &["--width"]);
+    teaches(&rt, &["gaslab", "run", "--cap", "0"], &["--cap"]);
+}
+
+const NO_SIDES: [&str; 16] = [
+    "0",
+    "1",
+    "63",
+    "65",
+    "100",
+    "2047",
+    "4095",
+    "4097",
+    "4160",
+    "65600",
+    "4294967296",
+    "4294967360",
+    "x",
+    "",
+    "64.0",
+    "0x40",
+];
+
+const NO_CAPACITIES: [&str; 7] = ["0", "65537", "4294967296", "4294967297", "x", "", "1e3"];
+
+const WITH_VALUES: [&str; 5] = ["--width", "--height", "--cap", "--load", "--save"];
+
+// an option of run with this value
+fn with<'a>(option: &'a str, value: &'a str) -> [&'a str; 4] {
+    ["gaslab", "run", option, value]
+}
+
+fn refuses_sides(rt: &(impl Abort + AllocGlobal + Threads + Copy + Drop)) {
+    for side in NO_SIDES {
+        teaches(rt, &with("--width", side), &["--width"]);
+        teaches(rt, &with("--height", side), &["--height"]);
+    }
+}
+
+fn refuses_capacities(rt: &(impl Abort + AllocGlobal + Threads + Copy + Drop)) {
+    for cap in NO_CAPACITIES {
+        teaches(rt, &with("--cap", cap), &["--cap"]);
+    }
+}
+
+fn refuses_no_value(rt: &(impl Abort + AllocGlobal + Threads + Copy + Drop)) {
+    for option in WITH_VALUES {
+        teaches(rt, &["gaslab", "run", option], &[option]);
+    }
+}
+
+#[test]
+fn limits_of_options(rt: HostRuntime) {
+    plans(&rt, &with("--width", "128"), [128, 64, 1024]);
+    plans(&rt, &with("--width", "4096"), [4096, 64, 1024]);
+    plans(&rt, &["gaslab", "run", "--width=64"], [64, 64, 1024]);
+    plans(&rt, &with("--height", "4096"), [64, 4096, 1024]);
+    plans(&rt, &with("--height", "192"), [64, 192, 1024]);
+    plans(&rt, &with("--cap", "1"), [64, 64, 1]);
+    plans(&rt, &with("--cap", "65536"), [64, 64, 65536]);
+    refuses_sides(&rt);
+    refuses_capacities(&rt);
+    refuses_no_value(&rt);
+}
+
+#[test]
+fn paths_of_a_plan(rt: HostRuntime) {
+    let words = [
+        "gaslab",
+        "run",
+        "--load",
+        "start.gas",
+        "--height",
+        "128",
+        "--save",
+        "end.gas",
+        "--cap",
+        "7",
+    ];
+    match plan(rt.alloc(), &words) {
+        Ok(found) => {
+            assert_eq!(rt; numbers(&found), [64, 64, 7]);
+            assert_eq!(rt; found.load, Some("start.gas"));
+            assert_eq!(rt; found.save, Some("end.gas"));
+        }
+        Err(_) => panic!(rt; "the words were not understood"),
+    }
+}
+
+// the snapshot's size then holds
+#[test]
+fn sizes_beside_a_snapshot(rt: HostRuntime) {
+    let words = [
+        "gaslab",
+        "run",
+        "--width",
+        "65",
+        "--height",
+        "100",
+        "--load",
+        "start.gas",
+    ];
+    match plan(rt.alloc(), &words) {
+        Ok(found) => {
+            assert_eq!(rt; numbers(&found), [64, 64, 1024]);
+            assert_eq!(rt; found.load, Some("start.gas"));
+            assert!(rt; found.save.is_none());
+        }
+        Err(_) => panic!(rt; "the words were not understood"),
+    }
+}
+
+// how many workers the words give
+fn workers_of(rt: &(impl Abort + AllocGlobal), words: &[&str]) -> u8 {
+    match plan(rt.alloc(), words) {
+        Ok(found) => found.setup.workers,
+        Err(_) => panic!(rt; "the words were not understood"),
+    }
+}
+
+#[test]
+fn limits_of_workers(rt: HostRuntime) {
+    assert_eq!(rt; workers_of(&rt, &["gaslab", "run"]), 1);
+    assert_eq!(rt; workers_of(&rt, &["gaslab", "run", "--workers", "1"]), 1);
+    assert_eq!(rt; workers_of(&rt, &["gaslab", "run", "--workers", "16"]), 16);
+    for n in ["0", "17", "256"] {
+        teaches(
+            &rt,
+            &["gaslab", "run", "--workers", n],
+            &["--workers", "from 1 to 16", "is 1", "--workers 4"],
+        );
+    }
+}
+
+#[test]
+fn options_that_are_not_there(rt: HostRuntime) {
+    for option in ["--listen", "--sessions", "--speed"] {
+        teaches(&rt, &["gaslab", "run", option, "2"], &[option]);
+    }
+    teaches(&rt, &["gaslab", "jump"], &["jump"]);
+    teaches(&rt, &["gaslab", "run", "tunnel.gas"], &["tunnel.gas"]);
+    teaches(&rt, &["gaslab", "--width", "64"], &["--width"]);
+}
+
+// where the words have it listen, and for how many sessions
+fn service_of(rt: &(impl Abort + AllocGlobal), words: &[&str]) -> Service {
+    match plan(rt.alloc(), words) {
+        Ok(found) => found.service,
+        Err(_) => panic!(rt; "the words were not understood"),
+    }
+}
+
+fn here(port: u16, sessions: u8) -> Service {
+    Service::Serve {
+        address: SocketAddr::new(IpAddr::V4(Ipv4Addr::LOCALHOST), port),
+        sessions,
+    }
+}
+
+#[test]
+fn plan_of_a_server(rt: HostRuntime) {
+    assert_eq!(rt; service_of(&rt, &["gaslab", "run"]), Service::Run);
+    assert_eq!(rt; service_of(&rt, &["gaslab", "serve"]), here(0, 1));
+    let words = [
+        "gaslab",
+        "serve",
+        "--listen",
+        "127.0.0.1:7878",
+        "--sessions",
+        "2",
+    ];
+    assert_eq!(rt; service_of(&rt, &words), here(7878, 2));
+    let words = ["gaslab", "serve", "--sessions", "64"];
+    assert_eq!(rt; service_of(&rt, &words), here(0, 64));
+    plans(
+        &rt,
+        &["gaslab", "serve", "--width", "128", "--cap", "7"],
+        [128, 64, 7],
+    );
+    assert_eq!(rt; workers_of(&rt, &["gaslab", "serve", "--workers", "3"]), 3);
+    assert!(rt;
+        matches!(
+            service_of(&rt, &["gaslab", "serve", "--listen", "[::1]:80"]),
+            Service::Serve { .. }
+        )
+    );
+}
+
+#[test]
+fn limits_of_a_server(rt: HostRuntime) {
+    for n in ["0", "65", "256", "4294967297", "x", ""] {
+        teaches(
+            &rt,
+            &["gaslab", "serve", "--sessions", n],
+            &["--sessions", "from 1 to 64", "is 1", "--sessions 2"],
+        );
+    }
+    for address in [
+        "127.0.0.1",
+        "7878",
+        "localhost:7878",
+        "127.0.0.1:65536",
+        "127.0.0.256:1",
+        "",
+    ] {
+        teaches(
+            &rt,
+            &["gaslab", "serve", "--listen", address],
+            &[
+                "--listen",
+                "IP address and port",
+                "is 127.0.0.1:0",
+                "--listen 127.0.0.1:7878",
+            ],
+        );
+    }
+    teaches(&rt, &["gaslab", "serve", "--width", "65"], &["--width"]);
+    for option in ["--listen", "--sessions"] {
+        teaches(&rt, &["gaslab", "serve", option], &[option]);
+    }
+}
+
+#[test]
+fn help_of_a_server_teaches(rt: HostRuntime) {
+    teaches(
+        &rt,
+        &["gaslab", "serve", "--help"],
+        &[
+            "--listen ",
+            "--sessions ",
+            "--width ",
+            "--workers ",
+            "--cap ",
+            "--load ",
+            "--save ",
+            "from 1 to 64",
+            "IP address and port",
+            "127.0.0.1:0]",
+            "LISTEN",
+            "SERVED",
+            "nc 127.0.0.1 7878",
+            "Exit status",
+        ],
+    );
+    teaches(&rt, &["gaslab", "--help"], &["run", "serve"]);
+}
+
+#[test]
+fn faults_teach(rt: HostRuntime) {
+    for side in ["65", "0", "4160"] {
+        teaches(
+            &rt,
+            &["gaslab", "run", "--width", side],
+            &[
+                "--width",
+                "multiple of 64",
+                "from 64 to 4096",
+                "is 64",
+                "--width 256",
+            ],
+        );
+        teaches(
+            &rt,
+            &["gaslab", "run", "--height", side],
+            &[
+                "--height",
+                "multiple of 64",
+                "from 64 to 4096",
+                "is 64",
+                "--height 128",
+            ],
+        );
+    }
+    teaches(
+        &rt,
+        &["gaslab", "run", "--cap", "0"],
+        &["--cap", "from 1 to 65536", "is 1024", "--cap 5000"],
+    );
+}
+
+#[test]
+fn help_teaches(rt: HostRuntime) {
+    let experiment = [
+        "put 0 0 1 1",
+        "step 1",
+        "probe 1 1 1 1",
+        "tally",
+        "gaslab run",
+        "OK 0",
+        "PROBE 1 1 1",
+        "TALLY 1 1 1 1",
+    ];
+    teaches(&rt, &["gaslab", "--help"], &experiment);
+    teaches(&rt, &["gaslab"], &experiment);
+    teaches(
+        &rt,
+        &["gaslab", "run", "--help"],
+        &[
+            "--width",
+            "--height",
+            "--cap",
+            "--load",
+            "--save",
+            "multiple of 64",
+            "from 64 to 4096",
+            "from 1 to 65536",
+            "64]",
+            "1024]",
+            "--width 256",
+            "--height 128",
+            "--cap 5000",
+            "--load tunnel.gas",
+            "--save tunnel.gas",
+            "Exit status",
+        ],
+    );
+    let nothing: [&str; 0] = [];
+    teaches(&rt, &nothing, &["gaslab"]);
+}

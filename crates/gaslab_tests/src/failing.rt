@@ -1,0 +1,438 @@
+//! Readers, writers and shelves that fail at one of their calls: what was done and written is that of the first lines.
+
+use crate::script::{ALL, SMALL, lines, status_on};
+use gas_lab::{Gas, Lab};
+use gas_snapshot::Shelf;
+use gas_talk::{SessionEnd, serve_alone};
+use gas_terms::Size;
+use phase_team::{NoGate, Team};
+use std::process::Abort;
+use std::thread::Threads;
+use test_types::faults::{FaultAt, Sink, Source, Store};
+
+const CHANNEL: &str =
+    "wall 0 20 64 1; wall 0 29 64 1; put 28 21 8 8; step 100; back 100; tally; ledger; read 21; read 28; read 29";
+
+const CHANNEL_REPLIES: &str =
+    "OK 0; OK 1; OK 2; OK 3; OK 4; TALLY 0 64 0 0; LEDGER 0 64 0 0 0 0 0 0 0 0 0 0 0; ROW 0000000ff0000000; ROW 0000000ff0000000; ROW 0000000000000000";
+
+const SAVING: &str = "put 0 0 1 1; save; tally";
+
+const SAVING_REPLIES: &str = "OK 0; SAVED 1 1558; TALLY 0 1 1 1";
+
+// what a run reads, and what it writes where nothing fails
+#[derive(Drop)]
+struct Exchange {
+    input: Vec<u8>,
+    output: Vec<u8>,
+}
+
+fn exchange_of(rt: &(impl Abort + AllocGlobal + Threads), input: &str, output: &str) -> Exchange {
+    Exchange {
+        input: lines(rt, input),
+        output: lines(rt, output),
+    }
+}
+
+// how much a read gives and a write takes, and which of them fails
+#[derive(Clone, Copy)]
+struct Failing {
+    reads: FaultAt,
+    read_step: usize,
+    writes: FaultAt,
+    write_step: usize,
+}
+
+fn no_fault() -> Failing {
+    Failing {
+        reads: FaultAt::never(),
+        read_step: ALL,
+        writes: FaultAt::never(),
+        write_step: ALL,
+    }
+}
+
+// how many lines are asked, how many bytes are written, and how the session ends
+#[derive(Clone, Copy)]
+struct Outcome {
+    asked: usize,
+    written: usize,
+    end: SessionEnd,
+}
+
+fn status_of(end: SessionEnd) -> u8 {
+    if end == SessionEnd::InputEnd { 0 } else { 1 }
+}
+
+fn count_lines(text: &[u8]) -> usize {
+    let mut count = 0usize;
+    for byte in text {
+        if *byte == b'\n' {
+            count = count.saturating_add(1);
+        }
+    }
+    count
+}
+
+fn front(text: &[u8], len: usize) -> &[u8] {
+    &text[..len.min(text.len())]
+}
+
+fn first_lines(text: &[u8], count: usize) -> &[u8] {
+    let mut left = count;
+    let mut len = 0usize;
+    for byte in text {
+        if left == 0 {
+            return front(text, len);
+        }
+        if *byte == b'\n' {
+            left = left.saturating_sub(1);
+        }
+        len = len.saturating_add(1);
+    }
+    text
+}
+
+fn opened<R: Abort + AllocGlobal + Threads>(rt: &R) -> Lab<Team<&R, NoGate>> {
+    let size = Size::new(64, 64).expect(rt, "a size");
+    let gas = Gas::empty(rt.alloc(), size).expect(rt, "memory");
+    Lab::open(rt.alloc(), gas, 1024, Team::new(rt, rt.alloc(), 1, NoGate)).expect(rt, "memory")
+}
+
+// all that can be seen of a laboratory: its tick, accounts and journal, and its gas as a snapshot
+fn view_of<R: Abort + AllocGlobal + Threads>(rt: &R, lab: &mut Lab<Team<&R, NoGate>>) -> Vec<u8> {
+    let questions = lines(
+        rt,
+        "tally; ledger; entry 0; entry 1; entry 2; entry 3; entry 4; entry 5; save",
+    );
+    let mut source = Source::new(questions.as_slice(), ALL, FaultAt::never());
+    let mut sink = Sink::new(rt.alloc(), ALL, ALL, FaultAt::never());
+    let mut store = Store::new(rt.alloc(), FaultAt::never());
+    let end = serve_alone(rt.alloc(), &mut source, &mut sink, lab, 0, &mut store);
+    assert_eq!(rt; end, SessionEnd::InputEnd);
+    let mut view = Vec::from_slice(rt.alloc(), sink.taken()).expect(rt, "memory");
+    assert_eq!(rt; store.kept().len(), 1);
+    for bytes in store.kept() {
+        view.extend_from_slice(bytes.as_slice())
+            .expect(rt, "memory");
+    }
+    view
+}
+
+// a laboratory and a shelf after the lines
+fn after<'r, R: Abort + AllocGlobal + Threads>(
+    rt: &'r R,
+    input: &[u8],
+) -> (Lab<Team<&'r R, NoGate>>, Store) {
+    let mut lab = opened(rt);
+    let mut source = Source::new(input, ALL, FaultAt::never());
+    let mut sink = Sink::new(rt.alloc(), ALL, ALL, FaultAt::never());
+    let mut store = Store::new(rt.alloc(), FaultAt::never());
+    let end = serve_alone(rt.alloc(), &mut source, &mut sink, &mut lab, 0, &mut store);
+    assert_eq!(rt; end, SessionEnd::InputEnd);
+    (lab, store)
+}
+
+// both shelves have taken the same
+fn are_same(rt: &impl Abort, found: &[Vec<u8>], wanted: &[Vec<u8>]) {
+    assert_eq!(rt; found.len(), wanted.len());
+    for (found, wanted) in found.iter().zip(wanted) {
+        assert_eq!(rt; found.as_slice(), wanted.as_slice());
+    }
+}
+
+// the laboratory is as after the lines, and the shelf has taken what it then has
+fn is_as_after<R: Abort + AllocGlobal + Threads>(
+    rt: &R,
+    lab: &mut Lab<Team<&R, NoGate>>,
+    store: &Store,
+    input: &[u8],
+) {
+    let (mut other, kept) = after(rt, input);
+    let found = view_of(rt, lab);
+    let wanted = view_of(rt, &mut other);
+    assert_eq!(rt; found.as_slice(), wanted.as_slice());
+    are_same(rt, store.kept(), kept.kept());
+}
+
+// the run goes like this
+fn runs(
+    rt: &(impl Abort + AllocGlobal + Threads),
+    exchange: &Exchange,
+    failing: Failing,
+    wanted: Outcome,
+) {
+    let mut source = Source::new(exchange.input.as_slice(), failing.read_step, failing.reads);
+    let mut sink = Sink::new(rt.alloc(), failing.write_step, ALL, failing.writes);
+    let mut store = Store::new(rt.alloc(), FaultAt::never());
+    let status = status_on(rt, SMALL, None, &mut source, &mut sink, &mut store);
+    assert_eq!(rt; status, status_of(wanted.end));
+    assert_eq!(rt;
+        sink.taken(),
+        front(exchange.output.as_slice(), wanted.written)
+    );
+}
+
+// a session on this laboratory goes like this; what the shelf takes
+fn sits<R: Abort + AllocGlobal + Threads>(
+    rt: &R,
+    lab: &mut Lab<Team<&R, NoGate>>,
+    exchange: &Exchange,
+    failing: Failing,
+    wanted: Outcome,
+) -> Store {
+    let mut source = Source::new(exchange.input.as_slice(), failing.read_step, failing.reads);
+    let mut sink = Sink::new(rt.alloc(), failing.write_step, ALL, failing.writes);
+    let mut store = Store::new(rt.alloc(), FaultAt::never());
+    let end = serve_alone(rt.alloc(), &mut source, &mut sink, lab, 0, &mut store);
+    assert_eq!(rt; end, wanted.end);
+    assert_eq!(rt;
+        sink.taken(),
+        front(exchange.output.as_slice(), wanted.written)
+    );
+    store
+}
+
+// the run, and a session on a laboratory that is then looked at, go like this
+fn goes(
+    rt: &(impl Abort + AllocGlobal + Threads),
+    exchange: &Exchange,
+    failing: Failing,
+    wanted: Outcome,
+) {
+    runs(rt, exchange, failing, wanted);
+    let mut lab = opened(rt);
+    let store = sits(rt, &mut lab, exchange, failing, wanted);
+    is_as_after(
+        rt,
+        &mut lab,
+        &store,
+        first_lines(exchange.input.as_slice(), wanted.asked),
+    );
+}
+
+// so many bytes were read
+fn after_bytes(exchange: &Exchange, len: usize, end: SessionEnd) -> Outcome {
+    let asked = count_lines(front(exchange.input.as_slice(), len));
+    Outcome {
+        asked,
+        written: first_lines(exchange.output.as_slice(), asked).len(),
+        end,
+    }
+}
+
+// one byte a read, and this fault
+fn reading_fails(reads: FaultAt) -> Failing {
+    Failing {
+        read_step: 1,
+        reads,
+        ..no_fault()
+    }
+}
+
+// this fault, and writes of at most so many bytes
+fn writing_fails(writes: FaultAt, write_step: usize) -> Failing {
+    Failing {
+        writes,
+        write_step,
+        ..no_fault()
+    }
+}
+
+// how a session ends that fails at the read after so many, of which each gives a byte and one is for the end
+fn end_after(exchange: &Exchange, calls: usize) -> SessionEnd {
+    if calls <= exchange.input.len() {
+        SessionEnd::ReadFault
+    } else {
+        SessionEnd::InputEnd
+    }
+}
+
+fn readers_fail(rt: &(impl Abort + AllocGlobal + Threads), exchange: &Exchange) {
+    for calls in 0..exchange.input.len().saturating_add(2) {
+        let cut = after_bytes(exchange, calls, end_after(exchange, calls));
+        goes(
+            rt,
+            exchange,
+            reading_fails(FaultAt::after(calls as u64)),
+            cut,
+        );
+        let ended = after_bytes(exchange, calls, SessionEnd::InputEnd);
+        goes(
+            rt,
+            exchange,
+            reading_fails(FaultAt::nothing_after(calls as u64)),
+            ended,
+        );
+    }
+}
+
+// one read gives all, and a second is the end
+fn whole_readers_fail(rt: &(impl Abort + AllocGlobal + Threads), exchange: &Exchange) {
+    let ends = [
+        (0, SessionEnd::ReadFault),
+        (ALL, SessionEnd::ReadFault),
+        (ALL, SessionEnd::InputEnd),
+    ];
+    let mut calls = 0u64;
+    for (len, end) in ends {
+        let failing = Failing {
+            reads: FaultAt::after(calls),
+            ..no_fault()
+        };
+        goes(rt, exchange, failing, after_bytes(exchange, len, end));
+        calls = calls.saturating_add(1);
+    }
+}
+
+// each reply is a write and a flush
+fn cut_by_replies(output: &[u8], calls: usize) -> Outcome {
+    let begun = (calls / 2).saturating_add(1);
+    if begun > count_lines(output) {
+        return Outcome {
+            asked: count_lines(output),
+            written: output.len(),
+            end: SessionEnd::InputEnd,
+        };
+    }
+    let whole = if calls % 2 == 0 { calls / 2 } else { begun };
+    Outcome {
+        asked: begun,
+        written: first_lines(output, whole).len(),
+        end: SessionEnd::WriteFault,
+    }
+}
+
+// each byte is a write, and after each newline there is a flush
+fn cut_by_bytes(output: &[u8], calls: usize) -> Outcome {
+    let mut left = calls;
+    let mut written = 0usize;
+    let mut whole = 0usize;
+    for byte in output {
+        if left == 0 {
+            return Outcome {
+                asked: whole.saturating_add(1),
+                written,
+                end: SessionEnd::WriteFault,
+            };
+        }
+        left = left.saturating_sub(1);
+        written = written.saturating_add(1);
+        if *byte == b'\n' {
+            whole = whole.saturating_add(1);
+            if left == 0 {
+                return Outcome {
+                    asked: whole,
+                    written,
+                    end: SessionEnd::WriteFault,
+                };
+            }
+            left = left.saturating_sub(1);
+        }
+    }
+    Outcome {
+        asked: whole,
+        written,
+        end: SessionEnd::InputEnd,
+    }
+}
+
+// a write or flush fails in this way, be replies written whole or byte by byte
+fn writer_fails(
+    rt: &(impl Abort + AllocGlobal + Threads),
+    exchange: &Exchange,
+    writes: FaultAt,
+    calls: usize,
+) {
+    let output = exchange.output.as_slice();
+    goes(
+        rt,
+        exchange,
+        writing_fails(writes, ALL),
+        cut_by_replies(output, calls),
+    );
+    goes(
+        rt,
+        exchange,
+        writing_fails(writes, 1),
+        cut_by_bytes(output, calls),
+    );
+}
+
+// a write or flush fails, or takes nothing
+fn writers_fail(rt: &(impl Abort + AllocGlobal + Threads), exchange: &Exchange) {
+    let output = exchange.output.as_slice();
+    let all_calls = output.len().saturating_add(count_lines(output));
+    for calls in 0..all_calls.saturating_add(1) {
+        writer_fails(rt, exchange, FaultAt::after(calls as u64), calls);
+        writer_fails(rt, exchange, FaultAt::nothing_after(calls as u64), calls);
+        let end = cut_by_bytes(output, calls).end;
+        assert_eq!(rt; end == SessionEnd::InputEnd, calls == all_calls);
+    }
+}
+
+#[test]
+fn readers_fail_in_a_channel(rt: HostRuntime) {
+    let exchange = exchange_of(&rt, CHANNEL, CHANNEL_REPLIES);
+    readers_fail(&rt, &exchange);
+    whole_readers_fail(&rt, &exchange);
+}
+
+#[test]
+fn readers_fail_before_a_save(rt: HostRuntime) {
+    let exchange = exchange_of(&rt, SAVING, SAVING_REPLIES);
+    readers_fail(&rt, &exchange);
+    whole_readers_fail(&rt, &exchange);
+}
+
+#[test]
+fn writers_fail_in_a_channel(rt: HostRuntime) {
+    writers_fail(&rt, &exchange_of(&rt, CHANNEL, CHANNEL_REPLIES));
+}
+
+#[test]
+fn writers_fail_at_a_save(rt: HostRuntime) {
+    writers_fail(&rt, &exchange_of(&rt, SAVING, SAVING_REPLIES));
+}
+
+// the output where the put after so many fails, and how many puts fail
+fn puts(
+    rt: &(impl Abort + AllocGlobal + Threads),
+    input: &str,
+    calls: u64,
+    output: &str,
+    failures: u64,
+    kept: usize,
+) {
+    let input = lines(rt, input);
+    let output = lines(rt, output);
+    let mut source = Source::new(input.as_slice(), ALL, FaultAt::never());
+    let mut sink = Sink::new(rt.alloc(), ALL, ALL, FaultAt::never());
+    let mut store = Store::new(rt.alloc(), FaultAt::after(calls));
+    let status = status_on(rt, SMALL, None, &mut source, &mut sink, &mut store);
+    assert_eq!(rt; status, 0);
+    assert_eq!(rt; sink.taken(), output.as_slice());
+    assert_eq!(rt; store.failures(), failures);
+    assert_eq!(rt; store.kept().len(), kept);
+}
+
+#[test]
+fn shelves_fail(rt: HostRuntime) {
+    let failed = "OK 0; ERR 15 save; TALLY 0 1 1 1";
+    puts(&rt, SAVING, 0, failed, 1, 0);
+    puts(&rt, SAVING, 1, SAVING_REPLIES, 0, 1);
+    puts(&rt, CHANNEL, 0, CHANNEL_REPLIES, 0, 0);
+    let thrice = "save; put 0 0 1 1; save; step 1; save; tally";
+    let outputs = [
+        "ERR 15 save; OK 0; SAVED 1 1558; OK 1; SAVED 2 1558; TALLY 1 1 1 1",
+        "SAVED 0 1558; OK 0; ERR 15 save; OK 1; SAVED 2 1558; TALLY 1 1 1 1",
+        "SAVED 0 1558; OK 0; SAVED 1 1558; OK 1; ERR 15 save; TALLY 1 1 1 1",
+    ];
+    let mut calls = 0u64;
+    for output in outputs {
+        puts(&rt, thrice, calls, output, 1, 2);
+        calls = calls.saturating_add(1);
+    }
+    let saved = "SAVED 0 1558; OK 0; SAVED 1 1558; OK 1; SAVED 2 1558; TALLY 1 1 1 1";
+    puts(&rt, thrice, calls, saved, 0, 3);
+}

@@ -1,0 +1,25 @@
+//! Tests of the program's library, and through it of all below: worked examples with their values from outside.
+#![tactic(auto)]
+
+#[cfg(test)]
+mod command_line;
+#[cfg(test)]
+mod examples;
+#[cfg(test)]
+mod failing;
+#[cfg(test)]
+mod lines;
+#[cfg(test)]
+mod loads;
+#[cfg(test)]
+mod ports;
+#[cfg(test)]
+mod refused;
+#[cfg(test)]
+mod script;
+#[cfg(test)]
+mod serving;
+#[cfg(test)]
+mod snapshots;
+#[cfg(test)]
+mod workers;

@@ -1,0 +1,233 @@
+//! Whichever allocation is refused: that line alone is answered `ERR 14 memory`, or the session ends there, or nothing begins.
+
+use crate::loads::{Padded, WITH_PORTS};
+use crate::script::{Room, SMALL, status_on};
+use gas_snapshot::{Shelf, ShelfFault, SnapFault};
+use gaslab::command_line::plan;
+use gaslab::load::{LoadFault, load_from};
+use gaslab::setup::PlanFault;
+use std::process::Abort;
+use std::thread::Threads;
+use test_types::faults::FaultAt;
+use test_types::pages::Page;
+
+// counts the snapshots of an empty gas, and of one with a particle in its first cell
+#[derive(Drop)]
+struct Counted {
+    empty: u64,
+    filled: u64,
+}
+
+impl Shelf for Counted {
+    ghost failures = { λ _. 0 };
+
+    fn put(&mut self, bytes: &[u8]) -> Result<(), ShelfFault> {
+        if bytes.get(22) == Some(&0x80) {
+            self.filled = self.filled.saturating_add(1);
+        } else {
+            self.empty = self.empty.saturating_add(1);
+        }
+        Ok(())
+    }
+
+    fn failures(&self) -> u64 {
+        0
+    }
+}
+
+const MEMORY: &[u8] = b"ERR 14 memory\n";
+
+fn is_one_of(found: &[u8], texts: &[&[u8]]) -> bool {
+    for text in texts {
+        if *text == found {
+            return true;
+        }
+    }
+    false
+}
+
+// nothing, or whole lines of the known output and then want of memory
+fn stops_for_memory(found: &[u8], known: &[u8]) -> bool {
+    if found.is_empty() {
+        return true;
+    }
+    match found.strip_suffix(MEMORY) {
+        Some(front) => known.starts_with(front) && (front.is_empty() || front.ends_with(b"\n")),
+        None => false,
+    }
+}
+
+// Runs over an input. What is written is the known output, or one of those where one line has found no memory; or the run
+// stops for want of memory.
+fn runs(
+    rt: &(impl Abort + AllocGlobal + Threads),
+    room: Room,
+    input: &[u8],
+    known: &[u8],
+    others: &[&[u8]],
+    shelf: &mut Counted,
+) -> u8 {
+    let mut reader = input;
+    let mut writer = Page::new();
+    let status = status_on(rt, room, None, &mut reader, &mut writer, shelf);
+    let found = writer.text();
+    if status == 0 {
+        assert!(rt; found == known || is_one_of(found, others));
+    } else {
+        assert_eq!(rt; status, 4);
+        assert!(rt; stops_for_memory(found, known));
+    }
+    status
+}
+
+fn no_snapshots() -> Counted {
+    Counted {
+        empty: 0,
+        filled: 0,
+    }
+}
+
+#[test]
+fn refused_one_particle_steps(rt: HostRuntime) {
+    let _ = runs(
+        &rt,
+        SMALL,
+        b"put 0 0 1 1\nstep 1\nprobe 1 1 1 1\ntally\n",
+        b"OK 0\nOK 1\nPROBE 1 1 1\nTALLY 1 1 1 1\n",
+        &[
+            b"ERR 14 memory\nOK 0\nPROBE 0 0 0\nTALLY 1 0 0 0\n",
+            b"OK 0\nERR 14 memory\nPROBE 0 0 0\nTALLY 0 1 1 1\n",
+        ],
+        &mut no_snapshots(),
+    );
+}
+
+#[test]
+fn refused_rows_and_hex(rt: HostRuntime) {
+    let _ = runs(
+        &rt,
+        SMALL,
+        b"row 0 8000000000000001\nrow 0 C000000000000000\nerase 0 0 1 1\nread 0\nentry 1\nledger\n",
+        b"OK 0\nOK 1\nOK 2\nROW 4000000000000000\nENTRY 0 row 0 c000000000000000\nLEDGER 0 3 2 0 -1 0 0 0 0 3 2 0 0\n",
+        &[
+            b"ERR 14 memory\nOK 0\nOK 1\nROW 4000000000000000\nENTRY 0 erase 0 0 1 1\nLEDGER 0 2 1 0 0 1 0 0 0 2 1 0 0\n",
+            b"OK 0\nERR 14 memory\nOK 1\nROW 0000000000000001\nENTRY 0 erase 0 0 1 1\nLEDGER 0 2 1 0 0 1 0 0 0 2 1 0 0\n",
+            b"OK 0\nOK 1\nERR 14 memory\nROW c000000000000000\nENTRY 0 row 0 c000000000000000\nLEDGER 0 3 1 0 -1 -1 0 0 0 3 1 0 0\n",
+            b"OK 0\nOK 1\nOK 2\nERR 14 memory\nENTRY 0 row 0 c000000000000000\nLEDGER 0 3 2 0 -1 0 0 0 0 3 2 0 0\n",
+            b"OK 0\nOK 1\nOK 2\nROW 4000000000000000\nERR 14 memory\nLEDGER 0 3 2 0 -1 0 0 0 0 3 2 0 0\n",
+        ],
+        &mut no_snapshots(),
+    );
+}
+
+#[test]
+fn refused_save_to_a_shelf(rt: HostRuntime) {
+    let mut shelf = no_snapshots();
+    let status = runs(
+        &rt,
+        SMALL,
+        b"put 0 0 1 1\nsave\ntally\n",
+        b"OK 0\nSAVED 1 1558\nTALLY 0 1 1 1\n",
+        &[
+            b"ERR 14 memory\nSAVED 0 1558\nTALLY 0 0 0 0\n",
+            b"OK 0\nERR 14 memory\nTALLY 0 1 1 1\n",
+        ],
+        &mut shelf,
+    );
+    assert!(rt; shelf.empty.saturating_add(shelf.filled) <= 1);
+    assert!(rt; shelf.empty == 0 || status == 0);
+}
+
+#[test]
+fn refused_load(rt: HostRuntime) {
+    let mut reader = Padded::new(&WITH_PORTS, 1064, 100, FaultAt::never());
+    match load_from(rt.alloc(), &mut reader) {
+        Ok(gas) => assert_eq!(rt; gas.ports().drains().len(), 1),
+        Err(fault) => assert_eq!(rt; fault, LoadFault::Snap(SnapFault::Memory)),
+    }
+    // want of memory comes before what the bytes are
+    let mut reader = Padded::new(&WITH_PORTS, 1063, 100, FaultAt::never());
+    match load_from(rt.alloc(), &mut reader) {
+        Ok(_) => panic!(rt; "a gas of bytes that are cut short"),
+        Err(fault) => assert!(rt;
+            fault == LoadFault::Snap(SnapFault::Memory)
+                || fault == LoadFault::Snap(SnapFault::Short)
+        ),
+    }
+}
+
+// whether the words are understood, or memory was refused
+fn is_planned(rt: &(impl Abort + AllocGlobal + Threads), words: &[&str]) -> bool {
+    match plan(rt.alloc(), words) {
+        Ok(found) => {
+            assert_eq!(rt; found.setup.cap, 5000);
+            assert!(rt; found.save == Some("tunnel.gas") && found.load.is_none());
+            true
+        }
+        Err(PlanFault::Memory) => true,
+        Err(PlanFault::Line(_)) => false,
+    }
+}
+
+#[test]
+fn refused_plan(rt: HostRuntime) {
+    let words = [
+        "gaslab",
+        "run",
+        "--cap",
+        "5000",
+        "--width",
+        "128",
+        "--save",
+        "tunnel.gas",
+    ];
+    assert!(rt; is_planned(&rt, &words));
+}
+
+// the fault is one of the line, or want of memory
+#[test]
+fn refused_plan_of_a_bad_line(rt: HostRuntime) {
+    for words in [
+        ["gaslab", "run", "--cap", "0"],
+        ["gaslab", "run", "--speed", "3"],
+        ["gaslab", "run", "--width", "x"],
+    ] {
+        match plan(rt.alloc(), &words) {
+            Ok(_) => panic!(rt; "a bad line was understood"),
+            Err(PlanFault::Line(text)) => assert!(rt; !text.is_empty()),
+            Err(PlanFault::Memory) => {}
+        }
+    }
+}
+
+// the channel between two walls, stepped by two workers
+const CHANNEL: &[u8] =
+    b"wall 0 20 64 1\nwall 0 29 64 1\nput 28 21 8 8\nstep 100\nback 100\ntally\nledger\nread 21\nread 28\nread 29\n";
+
+const CHANNEL_UNDONE: &[u8] =
+    b"OK 0\nOK 1\nOK 2\nOK 3\nOK 4\nTALLY 0 64 0 0\nLEDGER 0 64 0 0 0 0 0 0 0 0 0 0 0\nROW 0000000ff0000000\nROW 0000000ff0000000\nROW 0000000000000000\n";
+
+#[test]
+fn refused_channel_with_a_team(rt: HostRuntime) {
+    let room = Room {
+        workers: 2,
+        ..SMALL
+    };
+    let _ = runs(
+        &rt,
+        room,
+        CHANNEL,
+        CHANNEL_UNDONE,
+        &[
+            b"ERR 14 memory\nOK 0\nOK 1\nOK 2\nOK 3\nTALLY 0 64 0 0\nLEDGER 0 64 0 0 0 0 0 0 0 0 0 0 0\nROW 0000000ff0000000\nROW 0000000ff0000000\nROW 0000000000000000\n",
+            b"OK 0\nERR 14 memory\nOK 1\nOK 2\nOK 3\nTALLY 0 64 0 0\nLEDGER 0 64 0 0 0 0 0 0 0 0 0 0 0\nROW 0000000ff0000000\nROW 0000000ff0000000\nROW 0000000000000000\n",
+            b"OK 0\nOK 1\nERR 14 memory\nOK 2\nOK 3\nTALLY 0 0 0 0\nLEDGER 0 0 0 0 0 0 0 0 0 0 0 0 0\nROW 0000000000000000\nROW 0000000000000000\nROW 0000000000000000\n",
+            b"OK 0\nOK 1\nOK 2\nERR 14 memory\nOK 3\nTALLY -100 64 0 0\nLEDGER 0 64 0 0 0 0 0 0 0 0 0 0 0\nROW 0400220180440020\nROW 0400220180440020\nROW 0000000000000000\n",
+            b"OK 0\nOK 1\nOK 2\nOK 3\nERR 14 memory\nTALLY 100 64 0 0\nLEDGER 0 64 0 0 0 0 0 0 0 0 0 0 0\nROW 0400220180440020\nROW 0400220180440020\nROW 0000000000000000\n",
+            b"OK 0\nOK 1\nOK 2\nOK 3\nOK 4\nTALLY 0 64 0 0\nLEDGER 0 64 0 0 0 0 0 0 0 0 0 0 0\nERR 14 memory\nROW 0000000ff0000000\nROW 0000000000000000\n",
+            b"OK 0\nOK 1\nOK 2\nOK 3\nOK 4\nTALLY 0 64 0 0\nLEDGER 0 64 0 0 0 0 0 0 0 0 0 0 0\nROW 0000000ff0000000\nERR 14 memory\nROW 0000000000000000\n",
+            b"OK 0\nOK 1\nOK 2\nOK 3\nOK 4\nTALLY 0 64 0 0\nLEDGER 0 64 0 0 0 0 0 0 0 0 0 0 0\nROW 0000000ff0000000\nROW 0000000ff0000000\nERR 14 memory\n",
+        ],
+        &mut no_snapshots(),
+    );
+}

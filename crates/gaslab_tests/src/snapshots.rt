@@ -1,0 +1,154 @@
+//! Runs that save, and runs that start from a snapshot, whose bytes were written out by hand from the format.
+
+use crate::loads::{Padded, WITH_PORTS};
+use crate::script::{ALL, SMALL, answers, lines, status_on};
+use gas_ledger::Gas;
+use gas_snapshot::{MaybeShelf, NoShelf, Shelf, decode};
+use gaslab::load::load_from;
+use std::process::Abort;
+use std::thread::Threads;
+use test_types::faults::{FaultAt, Sink, Source, Store};
+
+// the head of a gas of 64 by 64 at tick 0 without ports
+const HEAD: [u8; 22] = [
+    0x48, 0x50, 0x50, 0x47, 0x41, 0x53, 0x32, 0x0a, 0, 0x40, 0, 0x40, 0, 0, 0, 0, 0, 0, 0, 0, 0, 0,
+];
+
+// the same at tick 2^40
+const LAST: [u8; 22] = [
+    0x48, 0x50, 0x50, 0x47, 0x41, 0x53, 0x32, 0x0a, 0, 0x40, 0, 0x40, 0, 0, 1, 0, 0, 0, 0, 0, 0, 0,
+];
+
+// the head, then zeros up to the length of a snapshot without ports, but for one byte
+fn snapshot(rt: &(impl Abort + AllocGlobal + Threads), at: usize, byte: u8) -> Vec<u8> {
+    let mut bytes = Vec::from_slice(rt.alloc(), &HEAD).expect(rt, "memory");
+    for i in HEAD.len()..1558 {
+        let byte = if i == at { byte } else { 0 };
+        bytes.push(byte).expect(rt, "memory");
+    }
+    bytes
+}
+
+// the script gives this output, on a shelf that keeps what it takes
+fn saves(rt: &(impl Abort + AllocGlobal + Threads), script: &str, output: &str, store: &mut Store) {
+    let input = lines(rt, script);
+    let mut source = Source::new(input.as_slice(), ALL, FaultAt::never());
+    let mut sink = Sink::new(rt.alloc(), ALL, ALL, FaultAt::never());
+    let status = status_on(rt, SMALL, None, &mut source, &mut sink, store);
+    assert_eq!(rt; sink.taken(), lines(rt, output).as_slice());
+    assert_eq!(rt; status, 0);
+}
+
+// the gas of a head, then zeros
+fn loaded(rt: &(impl Abort + AllocGlobal + Threads), head: &[u8], len: usize) -> Gas {
+    let mut reader = Padded::new(head, len, ALL, FaultAt::never());
+    load_from(rt.alloc(), &mut reader).expect(rt, "a gas")
+}
+
+// a run from this gas
+fn goes_on(rt: &(impl Abort + AllocGlobal + Threads), start: Gas, script: &str, output: &str) {
+    let input = lines(rt, script);
+    let output = lines(rt, output);
+    answers(
+        rt,
+        SMALL,
+        Some(start),
+        input.as_slice(),
+        ALL,
+        output.as_slice(),
+        0,
+    );
+}
+
+#[test]
+fn save_to_a_shelf(rt: HostRuntime) {
+    let mut store = Store::new(rt.alloc(), FaultAt::never());
+    saves(
+        &rt,
+        "put 0 0 1 1; save; tally",
+        "OK 0; SAVED 1 1558; TALLY 0 1 1 1",
+        &mut store,
+    );
+    assert_eq!(rt; store.failures(), 0);
+    assert_eq!(rt; store.kept().len(), 1);
+    for bytes in store.kept() {
+        assert_eq!(rt; bytes.as_slice(), snapshot(&rt, 22, 0x80).as_slice());
+    }
+}
+
+#[test]
+fn save_to_a_shelf_that_fails(rt: HostRuntime) {
+    let mut store = Store::new(rt.alloc(), FaultAt::after(0));
+    saves(
+        &rt,
+        "put 0 0 1 1; save; tally",
+        "OK 0; ERR 15 save; TALLY 0 1 1 1",
+        &mut store,
+    );
+    assert_eq!(rt; store.failures(), 1);
+    assert!(rt; store.kept().is_empty());
+}
+
+#[test]
+fn obstacle_in_a_snapshot(rt: HostRuntime) {
+    let mut store = Store::new(rt.alloc(), FaultAt::never());
+    saves(
+        &rt,
+        "put 0 0 1 1; block 1 1 1 1; save",
+        "OK 0; OK 1; SAVED 2 1558",
+        &mut store,
+    );
+    assert_eq!(rt; store.kept().len(), 1);
+    for bytes in store.kept() {
+        // the particles stand from byte 22 on, and row 1 of the obstacles from byte 1,054 on
+        let mut wanted = snapshot(&rt, 1054, 0x40);
+        if wanted.len() > 22 {
+            wanted[22] = 0x80;
+        }
+        assert_eq!(rt; bytes.as_slice(), wanted.as_slice());
+        let gas = decode(rt.alloc(), bytes.as_slice()).expect(&rt, "a gas");
+        goes_on(
+            &rt,
+            gas,
+            "step 1; ledger",
+            "OK 0; LEDGER 1 0 0 1 0 0 0 2 1 0 0 0 2",
+        );
+    }
+}
+
+#[test]
+fn greatest_tick(rt: HostRuntime) {
+    goes_on(
+        &rt,
+        loaded(&rt, &LAST, 1558),
+        "step 1; back 1; tally",
+        "ERR 12 tick; OK 0; TALLY 1099511627775 0 0 0",
+    );
+}
+
+// version 1, at tick -1, with a drain and a source of period 2, which acts at tick 0
+#[test]
+fn old_snapshots_are_read(rt: HostRuntime) {
+    goes_on(
+        &rt,
+        loaded(&rt, &WITH_PORTS, 1064),
+        "tally; back 1; put 0 0 1 1; step 1; probe 10 10 1 1; tally",
+        "TALLY -1 0 0 0; ERR 11 ports; OK 0; OK 1; PROBE 1 1 1; TALLY 0 2 0 0",
+    );
+}
+
+#[test]
+fn a_shelf_or_none(rt: HostRuntime) {
+    let mut shelf = MaybeShelf::Shelf(Store::new(rt.alloc(), FaultAt::after(1)));
+    assert!(rt; shelf.put(b"one".as_slice()).is_ok());
+    assert!(rt; shelf.put(b"two".as_slice()).is_err());
+    assert_eq!(rt; shelf.failures(), 1);
+    match shelf {
+        MaybeShelf::Shelf(store) => assert_eq!(rt; store.kept().len(), 1),
+        MaybeShelf::Nothing(_) => panic!(rt; "no shelf"),
+    }
+    let mut nothing = MaybeShelf::<Store>::Nothing(NoShelf::new());
+    assert!(rt; nothing.put(b"one".as_slice()).is_err());
+    assert!(rt; nothing.put(b"two".as_slice()).is_err());
+    assert_eq!(rt; nothing.failures(), 2);
+}

@@ -1,0 +1,224 @@
+//! Two sessions in threads of their own, over the doors of one hall.
+
+ghost use Rattle.std.specs.Prelude.{◌≡◌, [], vec_len};
+ghost use Rattle.gas_terms.specs.Cells.{extent};
+
+use crate::values::{are_puts, small_lab, tally};
+use gas_hall::{Hall, HallGate, HallName, HallSeat};
+use gas_lab::{Lab, Serial, Stepper};
+use gas_snapshot::NoShelf;
+use gas_talk::session::session;
+use gas_talk::{Copied, Door, SessionEnd};
+use gas_terms::NoMemory;
+use std::alloc::Global;
+use std::marker::Brand;
+use std::process::Abort;
+use std::sync::ledger::Blank;
+use std::sync::{Mutex, Wait};
+use std::thread;
+use std::thread::Threads;
+use std::time::Clock;
+use test_types::gates::TestGate;
+use test_types::pages::{Page, PageWriter, shows};
+
+// One session over memory, which writes to the page.
+fn sit_down<N: HallName, S: Stepper, G: HallGate, R: Wait>(
+    rt: &R,
+    alloc: Global,
+    hall: &Hall<N, S, G>,
+    seat: HallSeat<N>,
+    input: &[u8],
+    page: &Mutex<Page>,
+) -> (HallSeat<N>, SessionEnd) {
+    let mut reader = input;
+    let mut writer = PageWriter::new(page);
+    let mut door = hall.door(rt, seat);
+    let mut shelf = NoShelf::new();
+    let end = session(alloc, &mut reader, &mut writer, &mut door, &mut shelf);
+    (door.end(), end)
+}
+
+// Seat 0 puts into columns 0 and 2, and seat 1 between the two into column 4.
+fn take_turns<
+    N: HallName + Send + Sync,
+    G: HallGate + Sync,
+    R: Threads + Wait + Abort + Sync + Send,
+>(
+    rt: &R,
+    alloc: Global,
+    hall: &Hall<N, Serial, G>,
+    mut seats: Vec<HallSeat<N>>,
+) -> Vec<HallSeat<N>> {
+    let (Some(second), Some(first)) = (seats.pop(), seats.pop()) else {
+        panic!(rt; "no seats")
+    };
+    assert_eq!(rt; (first.number(), second.number()), (0, 1));
+    let (first_page, second_page) = (Mutex::new(Page::new()), Mutex::new(Page::new()));
+    let (on_first, on_second) = (&first_page, &second_page);
+    let (one, two) = thread::join(
+        rt,
+        move || sit_down(
+            rt,
+            alloc,
+            hall,
+            first,
+            b"put 0 0 1 1\nput 2 0 1 1\n",
+            on_first,
+        ),
+        move || sit_down(rt, alloc, hall, second, b"put 4 0 1 1\n", on_second),
+    );
+    assert!(rt; shows(&first_page, b"OK 0\nOK 2\n"));
+    assert!(rt; shows(&second_page, b"OK 1\n"));
+    come_back(rt, &mut seats, one, 2);
+    come_back(rt, &mut seats, two, 1);
+    seats
+}
+
+// The seat has made so many entries, its session ended with its input, and it is with the others again.
+fn come_back<N: HallName>(
+    rt: &impl Abort,
+    seats: &mut Vec<HallSeat<N>>,
+    back: (HallSeat<N>, SessionEnd),
+    entries: u32,
+) {
+    let (seat, end) = back;
+    assert_eq!(rt; end, SessionEnd::InputEnd);
+    assert_eq!(rt; seat.entries(), entries);
+    assert!(rt; seats.push(seat).is_ok());
+}
+
+// The sessions, and the laboratory afterwards.
+fn both<N: HallName + Send + Sync, R: Threads + Wait + Clock + Abort + Sync + Copy + Send>(
+    rt: &R,
+    alloc: Global,
+    blank: Blank,
+    lab: Lab<Serial>,
+)
+    requires name { blank.name ≡ N.name }
+    requires parts { (blank.parts ≡ N.parts) × (blank.parts ≡ 2) }
+    requires lab { (extent lab.start.particles ≡ N.size) × (lab.cap ≡ N.cap) × (lab.journal ≡ []) }
+{
+    let turns = TestGate::turns(*rt);
+    let Ok((hall, seats)) = Hall::<N, Serial, &TestGate<R>>::open(alloc, blank, lab, 2, &turns)
+    else {
+        panic!(rt; "no memory")
+    };
+    let seats = take_turns(rt, alloc, &hall, seats);
+    assert!(rt; !turns.met_limit());
+    assert!(rt; seats.len() == 2);
+    let mut lab = hall.close(seats);
+    assert_eq!(rt; tally(rt, &mut lab), (3, 3, 3));
+    assert!(rt; are_puts(lab.journal(), &[(0, 0), (1, 4), (0, 2)]));
+}
+
+// The sums of a copy's gas, and how many entries the journal had.
+fn sums_of(
+    rt: &(impl Abort + AllocGlobal),
+    copied: Result<Copied, NoMemory>,
+) -> ((i64, i64, i64), u32) {
+    let Copied { gas, entries } = copied.expect(rt, "memory");
+    let mut again = Lab::open(rt.alloc(), gas, 1, Serial).expect(rt, "memory");
+    (tally(rt, &mut again), entries)
+}
+
+fn copy_through<N: HallName, S: Stepper, G: HallGate, R: Wait>(
+    rt: &R,
+    hall: &Hall<N, S, G>,
+    seat: HallSeat<N>,
+) -> Result<Copied, NoMemory> {
+    let mut door = hall.door(rt, seat);
+    door.copy_gas()
+}
+
+// What a door's copy holds after the sessions.
+fn copied<
+    N: HallName + Send + Sync,
+    R: Threads + Wait + Clock + Abort + Sync + Copy + Send + AllocGlobal,
+>(rt: &R, alloc: Global, blank: Blank, lab: Lab<Serial>) -> ((i64, i64, i64), u32)
+    requires name { blank.name ≡ N.name }
+    requires parts { (blank.parts ≡ N.parts) × (blank.parts ≡ 2) }
+    requires lab { (extent lab.start.particles ≡ N.size) × (lab.cap ≡ N.cap) × (lab.journal ≡ []) }
+{
+    let turns = TestGate::turns(*rt);
+    let Ok((hall, seats)) = Hall::<N, Serial, &TestGate<R>>::open(alloc, blank, lab, 2, &turns)
+    else {
+        panic!(rt; "no memory")
+    };
+    let mut seats = take_turns(rt, alloc, &hall, seats);
+    let Some(seat) = seats.pop() else {
+        panic!(rt; "no seats")
+    };
+    assert_eq!(rt; (seat.number(), seat.entries()), (1, 1));
+    sums_of(rt, copy_through(rt, &hall, seat))
+}
+
+// What a door's copy holds that is made between two changes of a session.
+fn copied_between<
+    N: HallName + Send + Sync,
+    R: Threads + Wait + Clock + Abort + Sync + Copy + Send + AllocGlobal,
+>(rt: &R, alloc: Global, blank: Blank, lab: Lab<Serial>) -> ((i64, i64, i64), u32)
+    requires name { blank.name ≡ N.name }
+    requires parts { (blank.parts ≡ N.parts) × (blank.parts ≡ 2) }
+    requires lab { (extent lab.start.particles ≡ N.size) × (lab.cap ≡ N.cap) × (lab.journal ≡ []) }
+{
+    let turns = TestGate::turns(*rt);
+    let Ok((hall, seats)) = Hall::<N, Serial, &TestGate<R>>::open(alloc, blank, lab, 2, &turns)
+    else {
+        panic!(rt; "no memory")
+    };
+    let copied = copy_between(rt, alloc, &hall, seats);
+    assert!(rt; !turns.met_limit());
+    sums_of(rt, copied)
+}
+
+// Seat 1 copies the gas between two changes of seat 0.
+fn copy_between<
+    N: HallName + Send + Sync,
+    G: HallGate + Sync,
+    R: Threads + Wait + Abort + Sync + Send,
+>(
+    rt: &R,
+    alloc: Global,
+    hall: &Hall<N, Serial, G>,
+    mut seats: Vec<HallSeat<N>>,
+) -> Result<Copied, NoMemory> {
+    let (Some(second), Some(first)) = (seats.pop(), seats.pop()) else {
+        panic!(rt; "no seats")
+    };
+    let page = Mutex::new(Page::new());
+    let on_page = &page;
+    let (_, copied) = thread::join(
+        rt,
+        move || sit_down(
+            rt,
+            alloc,
+            hall,
+            first,
+            b"put 0 0 1 1\nput 2 0 1 1\n",
+            on_page,
+        ),
+        move || copy_through(rt, hall, second),
+    );
+    assert!(rt; shows(&page, b"OK 0\nOK 1\n"));
+    copied
+}
+
+#[test]
+fn two_sessions_take_turns(rt: HostRuntime) {
+    let lab = small_lab(rt.alloc()).expect(&rt, "memory");
+    both::<Brand, HostRuntime>(&rt, rt.alloc(), Blank::new(2), lab);
+}
+
+#[test]
+fn copy_after_the_hall(rt: HostRuntime) {
+    let lab = small_lab(rt.alloc()).expect(&rt, "memory");
+    let found = copied::<Brand, HostRuntime>(&rt, rt.alloc(), Blank::new(2), lab);
+    assert_eq!(rt; found, ((3, 3, 3), 3));
+}
+
+#[test]
+fn copy_between_two_changes(rt: HostRuntime) {
+    let lab = small_lab(rt.alloc()).expect(&rt, "memory");
+    let found = copied_between::<Brand, HostRuntime>(&rt, rt.alloc(), Blank::new(2), lab);
+    assert_eq!(rt; found, ((1, 1, 1), 1));
+}

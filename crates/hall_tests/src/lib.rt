@@ -1,0 +1,21 @@
+//! Tests of halls and of what serves them: sessions over doors, in memory and over sockets, with values from outside.
+#![tactic(auto)]
+
+#[cfg(test)]
+mod doors;
+#[cfg(test)]
+mod many;
+#[cfg(test)]
+mod refused;
+#[cfg(test)]
+mod rows;
+#[cfg(test)]
+mod served;
+#[cfg(test)]
+mod socket;
+#[cfg(test)]
+mod turn;
+#[cfg(test)]
+mod turn_served;
+#[cfg(test)]
+mod values;

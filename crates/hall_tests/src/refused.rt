@@ -1,0 +1,168 @@
+//! Whichever allocation is refused: the hall hands the laboratory back, a door's call leaves it, and a seat without a thread
+//! comes back.
+
+ghost use Rattle.std.specs.Prelude.{◌≡◌, [], true};
+ghost use Rattle.gas_terms.specs.Cells.{extent};
+ghost use Rattle.gas_terms.specs.Commands.{fits};
+
+use crate::served::{Closed, serve_lab};
+use crate::values::{are_puts, no_shelves, small_lab, summed, taken, tally};
+use gas_hall::{Hall, HallDoor, HallName};
+use gas_lab::{Lab, Serial};
+use gas_talk::{Copied, Door};
+use gas_terms::{Answer, Command, NoMemory, Rect, Refusal, Size};
+use std::alloc::Global;
+use std::marker::Brand;
+use std::process::Abort;
+use std::sync::ledger::Blank;
+use std::sync::{Mutex, Wait};
+use std::time::Clock;
+use test_types::gates::TestGate;
+use test_types::pages::{Guests, Page, shows};
+
+// One particle at the upper left cell.
+pub fn one_particle(rt: &impl Abort, size: Size) -> Command
+    ensures { fits size result ≡ true }
+{
+    let area = Rect::within(size, 0, 0, 1, 1).expect(rt, "a rectangle");
+    let put = Command::Put(area);
+    assert!(rt; put.fits(size));
+    put
+}
+
+// How many entries the reply to the first put tells of. It can only be refused for want of memory.
+pub fn made_by(rt: &impl Abort, reply: &Result<Answer, Refusal>) -> u32 {
+    match taken(reply) {
+        Ok(k) => {
+            assert_eq!(rt; k, 0);
+            1
+        }
+        Err(refusal) => {
+            assert_eq!(rt; refusal, Refusal::Memory);
+            0
+        }
+    }
+}
+
+// The entry can only be missing where none was made, or be refused for want of memory.
+pub fn entry_is_there(rt: &impl Abort, reply: &Result<Answer, Refusal>, made: u32) {
+    match reply {
+        Ok(_) => assert_eq!(rt; made, 1),
+        Err(Refusal::Memory) => {}
+        Err(refusal) => assert_eq!(rt; (*refusal, made), (Refusal::Entry, 0)),
+    }
+}
+
+pub fn is_answered_or_wants_memory(reply: &Result<Answer, Refusal>) -> bool {
+    match reply {
+        Ok(_) => true,
+        Err(refusal) => *refusal == Refusal::Memory,
+    }
+}
+
+pub fn copied_entries(copied: &Result<Copied, NoMemory>) -> Option<u32> {
+    match copied {
+        Ok(copied) => Some(copied.entries),
+        Err(_) => None,
+    }
+}
+
+// A put and its entry, each answered or refused for want of memory. Tells how many entries there are.
+fn put_one<N: HallName, R: Wait + Clock + Abort>(
+    rt: &R,
+    door: &mut HallDoor<'_, N, Serial, &TestGate<R>, R>,
+) -> u32 {
+    let put = one_particle(rt, door.size());
+    let made = made_by(rt, &door.ask(put));
+    entry_is_there(rt, &door.ask(Command::Entry(0)), made);
+    made
+}
+
+// Readings and a copy, likewise, of a gas with so many particles and entries.
+fn read_all<N: HallName, R: Wait + Clock + Abort>(
+    rt: &R,
+    door: &mut HallDoor<'_, N, Serial, &TestGate<R>, R>,
+    made: u32,
+) {
+    assert!(rt; is_answered_or_wants_memory(&door.ask(Command::Read(0))));
+    let all = made as i64;
+    assert_eq!(rt; summed(rt, &door.ask(Command::Tally)), (all, all, all));
+    let copied = copied_entries(&door.copy_gas());
+    assert!(rt; copied.is_none() || copied == Some(made));
+}
+
+fn open_and_use<N: HallName, R: Wait + Clock + Abort + Copy>(
+    rt: &R,
+    alloc: Global,
+    blank: Blank,
+    lab: Lab<Serial>,
+)
+    requires name { blank.name ≡ N.name }
+    requires parts { (blank.parts ≡ N.parts) × (blank.parts ≡ 2) }
+    requires lab { (extent lab.start.particles ≡ N.size) × (lab.cap ≡ N.cap) × (lab.journal ≡ []) }
+{
+    let gate = TestGate::open(*rt);
+    let (hall, mut seats) = match Hall::<N, Serial, &TestGate<R>>::open(
+        alloc, blank, lab, 2, &gate,
+    ) {
+        Ok(opened) => opened,
+        Err(back) => {
+            let mut back = back;
+            assert!(rt; back.journal().is_empty());
+            assert_eq!(rt; tally(rt, &mut back), (0, 0, 0));
+            return;
+        }
+    };
+    let Some(seat) = seats.pop() else {
+        panic!(rt; "no seats")
+    };
+    let mut door = hall.door(rt, seat);
+    let made = put_one(rt, &mut door);
+    read_all(rt, &mut door, made);
+    let seat = door.end();
+    assert_eq!(rt; (seat.number(), seat.entries()), (1, made));
+    // there is room for the seat that was taken out
+    assert!(rt; seats.push(seat).is_ok());
+    assert!(rt; seats.len() == 2);
+    let lab = hall.close(seats);
+    assert_eq!(rt; are_puts(lab.journal(), &[(1, 0)]), made == 1);
+    assert_eq!(rt; lab.journal().len(), made as usize);
+}
+
+#[test]
+fn refused_memory_leaves_the_laboratory(rt: HostRuntime) {
+    if let Some(lab) = small_lab(rt.alloc()) {
+        open_and_use::<Brand, HostRuntime>(&rt, rt.alloc(), Blank::new(2), lab);
+    }
+}
+
+/// A seat whose thread was refused comes back unserved.
+#[test]
+fn refused_thread_serves_nobody(rt: HostRuntime) {
+    let line: &[u8] = b"put 0 0 1 1\n";
+    let inputs = [Some(line)];
+    let pages = [Mutex::new(Page::new())];
+    let mut lobby = Guests::new(&inputs, &pages);
+    let gate = TestGate::open(rt);
+    let (Some(lab), Ok(shelves)) = (small_lab(rt.alloc()), no_shelves(rt.alloc(), 1)) else {
+        return;
+    };
+    let Some(closed) = serve_lab(&rt, rt.alloc(), lab, &gate, &mut lobby, shelves) else {
+        return;
+    };
+    let Closed {
+        counts,
+        of_seats,
+        lab,
+    } = closed;
+    let wanted: &[u8] = match counts {
+        (1, 0, 1) => b"OK 0\n",
+        (1, 0, 0) => b"ERR 14 memory\n",
+        (0, 1, 0) => b"",
+        _ => panic!(rt; "other counts"),
+    };
+    assert!(rt; shows(&pages[0], wanted));
+    assert_eq!(rt; of_seats, [counts.2, 0, 0, 0]);
+    assert_eq!(rt; are_puts(lab.journal(), &[(0, 0)]), counts.2 == 1);
+    assert_eq!(rt; lab.journal().len(), counts.2 as usize);
+}

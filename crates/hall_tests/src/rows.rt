@@ -1,0 +1,145 @@
+//! Served sessions in memory.
+
+use crate::served::{Closed, serve_lab};
+use crate::values::{are_puts, no_shelves, small_lab, tally};
+use std::process::Abort;
+use std::sync::{Mutex, Wait};
+use std::thread::Threads;
+use std::time::Clock;
+use test_types::gates::TestGate;
+use test_types::pages::{Guests, Page, shows};
+
+// What is left of a hall: seats that were served and were not, and the entries of all; the entries of each seat; who put
+// into which column; count and momentum of the gas.
+#[derive(Clone, Copy)]
+struct Outcome<'a> {
+    counts: (u32, u32, u32),
+    of_seats: [u32; 4],
+    puts: Option<&'a [(u16, u16)]>,
+    tally: (i64, i64, i64),
+}
+
+// Serves a session over each page on an empty laboratory of 64 by 64, and looks at what is left.
+fn serves<R: Threads + Wait + Clock + Sync + Abort + AllocGlobal>(
+    rt: &R,
+    gate: &TestGate<R>,
+    inputs: &[Option<&[u8]>],
+    pages: &[Mutex<Page>],
+    wanted: Outcome<'_>,
+) {
+    let mut lobby = Guests::new(inputs, pages);
+    let shelves = no_shelves(rt.alloc(), pages.len()).expect(rt, "memory");
+    let lab = small_lab(rt.alloc()).expect(rt, "memory");
+    let Closed {
+        counts,
+        of_seats,
+        mut lab,
+    } = serve_lab(rt, rt.alloc(), lab, gate, &mut lobby, shelves).expect(rt, "memory");
+    assert_eq!(rt; counts, wanted.counts);
+    assert_eq!(rt; of_seats, wanted.of_seats);
+    assert_eq!(rt; tally(rt, &mut lab), wanted.tally);
+    if let Some(puts) = wanted.puts {
+        assert!(rt; are_puts(lab.journal(), puts));
+    }
+}
+
+fn empty_pages() -> [Mutex<Page>; 3] {
+    [
+        Mutex::new(Page::new()),
+        Mutex::new(Page::new()),
+        Mutex::new(Page::new()),
+    ]
+}
+
+/// Two sessions take turns by a gate that a server of one after the other can't pass, nor one that holds the lock for a
+/// session.
+#[test]
+fn two_served_sessions_take_turns(rt: HostRuntime) {
+    let turns = TestGate::turns(rt);
+    let pages = empty_pages();
+    let inputs: [Option<&[u8]>; 2] = [Some(b"put 0 0 1 1\nput 2 0 1 1\n"), Some(b"put 4 0 1 1\n")];
+    let wanted = Outcome {
+        counts: (2, 0, 3),
+        of_seats: [2, 1, 0, 0],
+        puts: Some(&[(0, 0), (1, 4), (0, 2)]),
+        tally: (3, 3, 3),
+    };
+    serves(&rt, &turns, &inputs, &pages[..2], wanted);
+    assert!(rt; !turns.met_limit());
+    assert!(rt; shows(&pages[0], b"OK 0\nOK 2\n"));
+    assert!(rt; shows(&pages[1], b"OK 1\n"));
+}
+
+#[test]
+fn failed_accept_is_counted(rt: HostRuntime) {
+    let pages = empty_pages();
+    let inputs: [Option<&[u8]>; 2] = [None, Some(b"put 0 0 1 1\nquit\n")];
+    let wanted = Outcome {
+        counts: (1, 1, 1),
+        of_seats: [0, 1, 0, 0],
+        puts: Some(&[(1, 0)]),
+        tally: (1, 1, 1),
+    };
+    serves(&rt, &TestGate::open(rt), &inputs, &pages[..2], wanted);
+    assert!(rt; shows(&pages[0], b""));
+    assert!(rt; shows(&pages[1], b"OK 0\nBYE\n"));
+}
+
+// Whether one change was accepted, as the first, second or third entry.
+fn shows_one_of_three(page: &Mutex<Page>) -> bool {
+    shows(page, b"OK 0\n") || shows(page, b"OK 1\n") || shows(page, b"OK 2\n")
+}
+
+#[test]
+fn failed_writer_beside_others(rt: HostRuntime) {
+    let pages = [
+        Mutex::new(Page::new()),
+        Mutex::new(Page::full()),
+        Mutex::new(Page::new()),
+    ];
+    let inputs: [Option<&[u8]>; 3] = [
+        Some(b"put 0 0 1 1\n"),
+        Some(b"put 2 0 1 1\n"),
+        Some(b"put 4 0 1 1\n"),
+    ];
+    let wanted = Outcome {
+        counts: (3, 0, 3),
+        of_seats: [1, 1, 1, 0],
+        puts: None,
+        tally: (3, 3, 3),
+    };
+    serves(&rt, &TestGate::open(rt), &inputs, &pages, wanted);
+    assert!(rt; shows_one_of_three(&pages[0]));
+    assert!(rt; shows(&pages[1], b""));
+    assert!(rt; shows_one_of_three(&pages[2]));
+}
+
+// 3,000 bytes in one line, and a change after it
+fn long_input(rt: &(impl Abort + AllocGlobal)) -> Vec<u8> {
+    let mut long = vec![in rt.alloc(); b'x'; 3000].expect(rt, "memory");
+    long.extend_from_slice(b"\nput 2 0 1 1\n")
+        .expect(rt, "memory");
+    long
+}
+
+/// One client hangs up in the middle of a line, and one sends a line of 3,000 bytes.
+#[test]
+fn torn_and_long_lines_beside_others(rt: HostRuntime) {
+    let pages = empty_pages();
+    let long = long_input(&rt);
+    let inputs: [Option<&[u8]>; 3] = [
+        Some(b"put 0 0 1 1"),
+        Some(long.as_slice()),
+        Some(b"put 4 0 1 1\ntally\nquit\n"),
+    ];
+    let wanted = Outcome {
+        counts: (3, 0, 1),
+        of_seats: [0, 0, 1, 0],
+        puts: Some(&[(2, 4)]),
+        tally: (1, 1, 1),
+    };
+    serves(&rt, &TestGate::open(rt), &inputs, &pages, wanted);
+    assert!(rt; shows(&pages[0], b""));
+    assert!(rt; shows(&pages[1], b"ERR 1 line\n"));
+    assert!(rt; shows(&pages[2], b"OK 0\nTALLY 0 1 1 1\nBYE\n"));
+}

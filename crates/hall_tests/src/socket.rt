@@ -1,0 +1,181 @@
+//! Sessions over sockets.
+
+use crate::served::{Closed, serve_lab};
+use crate::values::{empty_lab, no_shelves};
+use gas_hall::TcpLobby;
+use std::alloc::Global;
+use std::io::{ErrorKind, Read, Write};
+use std::net::{Net, SocketAddr, TcpListener, TcpStream};
+use std::process::Abort;
+use std::sync::Wait;
+use std::thread::Threads;
+use std::time::{Clock, Duration};
+use std::{io, thread};
+use test_types::gates::TestGate;
+
+// Serves so many sessions of the listener on an empty laboratory of this width. Tells how many were served and how many
+// were not, the entries that all made, and those of each of the first four seats.
+fn serve_some<R: Threads + Wait + Clock + Sync + Copy>(
+    rt: &R,
+    alloc: Global,
+    listener: TcpListener,
+    seats: usize,
+    width: u32,
+) -> Option<((u32, u32, u32), [u32; 4])> {
+    let mut lobby = TcpLobby::over(listener);
+    let shelves = no_shelves(alloc, seats).ok()?;
+    let lab = empty_lab(alloc, width)?;
+    let gate = TestGate::open(*rt);
+    let Closed {
+        counts,
+        of_seats,
+        lab: _,
+    } = serve_lab(rt, alloc, lab, &gate, &mut lobby, shelves)?;
+    Some((counts, of_seats))
+}
+
+// What the server wrote to this input until it closed the connection.
+fn talk_to<R: Net<Stream = TcpStream>>(
+    rt: &R,
+    alloc: Global,
+    addr: SocketAddr,
+    input: &[u8],
+) -> io::Result<Vec<u8>> {
+    let mut stream = TcpStream::connect(rt, addr)?;
+    stream.write_all(input)?;
+    let mut replies = Vec::new(alloc);
+    stream.read_to_end(&mut replies)?;
+    Ok(replies)
+}
+
+#[test]
+fn serve_over_a_socket(rt: HostRuntime) {
+    let listener = TcpListener::bind(&rt, "127.0.0.1:0").expect(&rt, "a listener");
+    let addr = listener.local_addr().expect(&rt, "an address");
+    let alloc = rt.alloc();
+    let (served, replies) = thread::join(
+        &rt,
+        || serve_some(&rt, alloc, listener, 1, 64),
+        || talk_to(&rt, alloc, addr, b"put 0 0 1 1\nquit\n"),
+    );
+    assert_eq!(rt; served, Some(((1, 0, 1), [1, 0, 0, 0])));
+    let replies = replies.expect(&rt, "replies");
+    assert_eq!(rt; replies.as_slice(), b"OK 0\nBYE\n".as_slice());
+}
+
+// Makes a change, reads its reply, and hangs up in the middle of the next line.
+fn hang_up<R: Net<Stream = TcpStream>>(rt: &R, addr: SocketAddr) -> io::Result<[u8; 5]> {
+    let mut stream = TcpStream::connect(rt, addr)?;
+    let mut reply = [0; 5];
+    stream.write_all(b"put 0 0 1 1\n")?;
+    stream.read_exact(&mut reply)?;
+    stream.write_all(b"put 1 0 1")?;
+    Ok(reply)
+}
+
+// Makes a change, and sends a line of 3,000 bytes and another change after it. The connection may be reset once the
+// replies are there.
+fn ramble<R: Net<Stream = TcpStream>>(
+    rt: &R,
+    alloc: Global,
+    addr: SocketAddr,
+) -> io::Result<Vec<u8>> {
+    let mut input = vec![in alloc; b'x'; 3012]?;
+    for (place, byte) in input.iter_mut().zip(b"put 2 0 1 1\n") {
+        *place = *byte;
+    }
+    input.extend_from_slice(b"\nput 3 0 1 1\n")?;
+    let mut stream = TcpStream::connect(rt, addr)?;
+    stream.write_all(input.as_slice())?;
+    let mut replies = Vec::new(alloc);
+    let _ = stream.read_to_end(&mut replies);
+    Ok(replies)
+}
+
+// Sends lines with long replies, which it doesn't read, until a write has waited for a second: the server reads no more,
+// since its own write waits. Tells whether it came to that.
+fn fill(stream: &mut TcpStream) -> io::Result<bool> {
+    stream.set_write_timeout(Some(Duration::from_secs(1)))?;
+    for _ in 0..4000000u32 {
+        match stream.write_all(
+            b"read 0\nread 0\nread 0\nread 0\nread 0\nread 0\nread 0\nread 0\n",
+        ) {
+            Ok(()) => {}
+            Err(e) if e.kind() == ErrorKind::WouldBlock => return Ok(true),
+            Err(e) => return Err(e),
+        }
+    }
+    Ok(false)
+}
+
+// What the clients have read, and whether the server waited for the one that reads nothing.
+#[derive(Drop)]
+struct Heard {
+    first: [u8; 5],
+    second: Vec<u8>,
+    waited: bool,
+    last: Vec<u8>,
+}
+
+// Three clients that misbehave, and one that doesn't and is done before the third of them hangs up.
+fn crowd<R: Net<Stream = TcpStream>>(rt: &R, alloc: Global, addr: SocketAddr) -> io::Result<Heard> {
+    let first = hang_up(rt, addr)?;
+    let second = ramble(rt, alloc, addr)?;
+    let mut third = TcpStream::connect(rt, addr)?;
+    let waited = fill(&mut third)?;
+    let last = talk_to(
+        rt,
+        alloc,
+        addr,
+        b"put 4 0 1 1\nput 6 0 1 1\nstep 1\ntally\nledger\nread 1\nentry 0\nentry 1\nentry 3\nquit\n",
+    )?;
+    drop(third);
+    Ok(Heard {
+        first,
+        second,
+        waited,
+        last,
+    })
+}
+
+// what the client that behaves is told
+fn wanted(rt: &(impl Abort + AllocGlobal)) -> Vec<u8> {
+    let mut wanted = Vec::new(rt.alloc());
+    wanted
+        .extend_from_slice(
+            b"OK 2\nOK 3\nOK 4\nTALLY 1 4 4 4\nLEDGER 0 4 0 0 4 0 0 0 0 4 0 0 0\nROW 55",
+        )
+        .expect(rt, "memory");
+    for _ in 0..1022u32 {
+        wanted.push(b'0').expect(rt, "memory");
+    }
+    wanted
+        .extend_from_slice(
+            b"\nENTRY 0 put 0 0 1 1\nENTRY 1 put 2 0 1 1\nENTRY 3 put 6 0 1 1\nBYE\n",
+        )
+        .expect(rt, "memory");
+    wanted
+}
+
+fn hears(rt: &(impl Abort + AllocGlobal), heard: &Heard) {
+    assert_eq!(rt; heard.first, *b"OK 0\n");
+    assert_eq!(rt; heard.second.as_slice(), b"OK 1\nERR 1 line\n".as_slice());
+    assert!(rt; heard.waited);
+    assert_eq!(rt; heard.last.as_slice(), wanted(rt).as_slice());
+}
+
+/// One client hangs up in the middle of a line, one sends a line that is too long, and one never reads. All four
+/// particles move right and down.
+#[test]
+fn clients_that_misbehave_beside_another(rt: HostRuntime) {
+    let listener = TcpListener::bind(&rt, "127.0.0.1:0").expect(&rt, "a listener");
+    let addr = listener.local_addr().expect(&rt, "an address");
+    let alloc = rt.alloc();
+    let (served, heard) = thread::join(
+        &rt,
+        || serve_some(&rt, alloc, listener, 4, 4096),
+        || crowd(&rt, alloc, addr),
+    );
+    assert_eq!(rt; served, Some(((4, 0, 5), [1, 1, 0, 3])));
+    hears(&rt, &heard.expect(&rt, "replies"));
+}

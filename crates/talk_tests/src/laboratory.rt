@@ -1,0 +1,183 @@
+//! A laboratory that is asked directly: whichever allocation is refused, it is as before.
+
+use gas_lab::{Gas, Lab, Serial};
+use gas_plane::Plane;
+use gas_terms::{Answer, Command, Ledger, Rect, Refusal, RowBits, Size};
+use std::process::Abort;
+
+// The bytes of the rows of 64 by 64 cells.
+const CELLS: usize = 512;
+
+// What a laboratory shows, in no memory of its own: to compare it takes none that could be refused.
+#[derive(Clone, Copy, Debug, PartialEq, Eq)]
+struct Shown {
+    tick: i64,
+    ledger: Ledger,
+    entries: usize,
+    particles: [u8; CELLS],
+    walls: [u8; CELLS],
+    obstacles: [u8; CELLS],
+    drains: usize,
+    sources: usize,
+}
+
+fn cells_of(rt: &impl Abort, plane: &Plane) -> [u8; CELLS] {
+    let mut cells = [0; CELLS];
+    for y in 0..64u32 {
+        let size = plane.size();
+        assert!(rt; size.width() == 64 && size.height() == 64);
+        let from = y as usize * 8;
+        plane.row_bytes(y, &mut cells[from..from + 8]);
+    }
+    cells
+}
+
+fn view_of(rt: &impl Abort, lab: &Lab<Serial>) -> Shown {
+    let gas = lab.gas();
+    Shown {
+        tick: gas.tick().get(),
+        ledger: *lab.ledger(),
+        entries: lab.journal().len(),
+        particles: cells_of(rt, gas.particles()),
+        walls: cells_of(rt, gas.walls()),
+        obstacles: cells_of(rt, gas.obstacles()),
+        drains: gas.ports().drains().len(),
+        sources: gas.ports().sources().len(),
+    }
+}
+
+fn opened(rt: &(impl Abort + AllocGlobal)) -> Option<Lab<Serial>> {
+    let size = Size::new(64, 64).expect(rt, "a size");
+    let gas = Gas::empty(rt.alloc(), size).ok()?;
+    Lab::open(rt.alloc(), gas, 8, Serial).ok()
+}
+
+fn ask(
+    rt: &impl Abort,
+    lab: &mut Lab<Serial>,
+    seat: u16,
+    command: Command,
+) -> Result<Answer, Refusal> {
+    assert!(rt; command.fits(lab.size()));
+    lab.apply(seat, command)
+}
+
+// Entry k is one of the seat, whoever asks for it.
+fn has_entry_of(rt: &impl Abort, lab: &mut Lab<Serial>, k: u32, seat: u16) {
+    match ask(rt, lab, 7, Command::Entry(k)) {
+        Ok(Answer::EntryIs(entry)) => assert_eq!(rt; entry.seat, seat),
+        Ok(_) => panic!(rt; "no entry"),
+        Err(refusal) => assert_eq!(rt; refusal, Refusal::Memory),
+    }
+}
+
+// Changes, of which none is refused but for memory.
+fn change(number: u32, area: Rect) -> Command {
+    match number {
+        0 => Command::Put(area),
+        1 => Command::Wall(area),
+        2 => Command::Block(area),
+        3 => Command::Step(3),
+        4 => Command::Back(1),
+        5 => Command::Source(area, 1),
+        6 => Command::Drain(area),
+        _ => Command::Unport,
+    }
+}
+
+// A change is taken as seat 3's, or memory is wanted and nothing changes.
+fn changes_or_not(rt: &impl Abort, lab: &mut Lab<Serial>, command: Command) {
+    let before = view_of(rt, lab);
+    match ask(rt, lab, 3, command) {
+        Ok(Answer::Taken(k)) => {
+            assert_eq!(rt; k as usize, before.entries);
+            has_entry_of(rt, lab, k, 3);
+        }
+        Ok(_) => panic!(rt; "a reading"),
+        Err(refusal) => {
+            assert_eq!(rt; refusal, Refusal::Memory);
+            assert_eq!(rt; view_of(rt, lab), before);
+        }
+    }
+}
+
+#[test]
+fn refused_changes_leave_the_laboratory(rt: HostRuntime) {
+    if let Some(mut lab) = opened(&rt) {
+        let area = Rect::within(lab.size(), 0, 0, 2, 2).expect(&rt, "a rectangle");
+        for number in 0..8u32 {
+            changes_or_not(&rt, &mut lab, change(number, area));
+        }
+    }
+}
+
+// A row without cells is read, or memory is wanted.
+fn reads_an_empty_row(rt: &impl Abort, reply: &Result<Answer, Refusal>) {
+    match reply {
+        Ok(Answer::RowIs(row)) => assert_eq!(rt; row.bytes(), [0; 8].as_slice()),
+        Ok(_) => panic!(rt; "no row"),
+        Err(refusal) => assert_eq!(rt; *refusal, Refusal::Memory),
+    }
+}
+
+// Seat 0's entry of the row is answered, or memory is wanted, or there is none.
+fn reads_the_entry(rt: &impl Abort, reply: &Result<Answer, Refusal>, entries: usize) {
+    match reply {
+        Ok(Answer::EntryIs(entry)) => {
+            assert_eq!(rt; entry.seat, 0);
+            assert!(rt; matches!(&entry.command, Command::Row(3, _)));
+        }
+        Ok(_) => panic!(rt; "no entry"),
+        Err(refusal) => assert!(rt; *refusal == Refusal::Memory || entries == 0),
+    }
+}
+
+fn copied_tick(lab: &Lab<Serial>) -> Option<i64> {
+    let gas = lab.copy_gas().ok()?;
+    Some(gas.tick().get())
+}
+
+// Puts a row, unless memory is refused.
+fn put_a_row(rt: &(impl Abort + AllocGlobal), lab: &mut Lab<Serial>) {
+    if let Ok(row) = RowBits::zero(rt.alloc(), 8) {
+        let _ = ask(rt, lab, 0, Command::Row(3, row));
+    }
+}
+
+#[test]
+fn refused_readings_leave_the_laboratory(rt: HostRuntime) {
+    if let Some(mut lab) = opened(&rt) {
+        put_a_row(&rt, &mut lab);
+        let before = view_of(&rt, &lab);
+        reads_an_empty_row(&rt, &ask(&rt, &mut lab, 0, Command::Read(3)));
+        assert_eq!(rt; view_of(&rt, &lab), before);
+        let reply = ask(&rt, &mut lab, 0, Command::Entry(0));
+        reads_the_entry(&rt, &reply, before.entries);
+        assert_eq!(rt; view_of(&rt, &lab), before);
+        let tick = copied_tick(&lab);
+        assert!(rt; tick.is_none() || tick == Some(before.tick));
+        assert_eq!(rt; view_of(&rt, &lab), before);
+    }
+}
+
+fn puts(rt: &impl Abort, lab: &mut Lab<Serial>, area: Rect) {
+    assert!(rt; ask(rt, lab, 0, Command::Put(area)).is_ok());
+}
+
+// The particles of a rectangle in a copy of the gas.
+fn copied_counts(rt: &impl Abort, lab: &Lab<Serial>, area: Rect) -> [u64; 4] {
+    let gas = lab.copy_gas().expect(rt, "memory");
+    assert!(rt; area.fits(gas.size()));
+    gas.particles().counts_in(area)
+}
+
+#[test]
+fn a_gas_is_copied(rt: HostRuntime) {
+    let mut lab = opened(&rt).expect(&rt, "memory");
+    let area = Rect::within(lab.size(), 5, 6, 3, 2).expect(&rt, "a rectangle");
+    puts(&rt, &mut lab, area);
+    // columns 5 to 7 and rows 6 and 7
+    assert_eq!(rt; copied_counts(&rt, &lab, area), [1, 2, 1, 2]);
+    assert_eq!(rt; lab.start().tick().get(), 0);
+    assert_eq!(rt; lab.cap(), 8);
+}

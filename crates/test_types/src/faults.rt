@@ -1,0 +1,242 @@
+//! Readers, writers and shelves in memory, which fail at one of their calls.
+
+ghost use Rattle.std.specs.Prelude.{◌≡◌};
+
+use gas_snapshot::{Shelf, ShelfFault};
+use std::alloc::Global;
+use std::io;
+use std::io::{Read, Write};
+
+/// What becomes of a call.
+#[derive(Clone, Copy, Debug, PartialEq, Eq)]
+enum Call {
+    Succeeds,
+    Fails,
+    MovesNothing,
+}
+
+/// At which of its calls something fails, once.
+#[derive(Clone, Copy, Debug)]
+pub struct FaultAt {
+    calls: u64,
+    then: Call,
+}
+
+impl FaultAt {
+    /// No call fails.
+    pub fn never() -> FaultAt {
+        FaultAt {
+            calls: u64::MAX,
+            then: Call::Succeeds,
+        }
+    }
+
+    /// The call after so many fails.
+    pub fn after(calls: u64) -> FaultAt {
+        FaultAt {
+            calls,
+            then: Call::Fails,
+        }
+    }
+
+    /// The call after so many gives or takes no bytes: a reader is at its end there.
+    pub fn nothing_after(calls: u64) -> FaultAt {
+        FaultAt {
+            calls,
+            then: Call::MovesNothing,
+        }
+    }
+
+    fn next(&mut self) -> Call {
+        if self.calls == 0 {
+            self.calls = u64::MAX;
+            return self.then;
+        }
+        self.calls -= 1;
+        Call::Succeeds
+    }
+
+    /// How many bytes the next call moves, where it would move so many.
+    pub fn room(&mut self, most: usize) -> io::Result<usize> {
+        match self.next() {
+            Call::Succeeds => Ok(most),
+            Call::Fails => Err(failure()),
+            Call::MovesNothing => Ok(0),
+        }
+    }
+}
+
+fn failure() -> io::Error {
+    io::Error::from(io::ErrorKind::Other)
+}
+
+/// Gives its bytes, at most `step` of them a read, and then the same bytes again where it is told to.
+#[derive(Drop)]
+pub struct Source<'a> {
+    bytes: &'a [u8],
+    rest: &'a [u8],
+    step: usize,
+    repeats: u64,
+    fault: FaultAt,
+    reads: u64,
+    asked: usize,
+}
+
+impl<'a> Source<'a> {
+    pub fn new(bytes: &'a [u8], step: usize, fault: FaultAt) -> Source<'a> {
+        Source {
+            bytes,
+            rest: bytes,
+            step,
+            repeats: 0,
+            fault,
+            reads: 0,
+            asked: 0,
+        }
+    }
+
+    /// Gives its bytes again and again, without an end in sight.
+    pub fn endless(bytes: &'a [u8], step: usize) -> Source<'a> {
+        Source {
+            repeats: u64::MAX,
+            ..Source::new(bytes, step, FaultAt::never())
+        }
+    }
+
+    /// How many reads there were.
+    pub fn reads(&self) -> u64 {
+        self.reads
+    }
+
+    /// How many bytes a read has asked for at most.
+    pub fn asked(&self) -> usize {
+        self.asked
+    }
+}
+
+impl<'a> Read for Source<'a> {
+    fn read(&mut self, buf: &mut [u8]) -> io::Result<usize> {
+        self.reads = self.reads.saturating_add(1);
+        self.asked = self.asked.max(buf.len());
+        if self.rest.is_empty() && self.repeats > 0 {
+            self.repeats -= 1;
+            self.rest = self.bytes;
+        }
+        let n = self
+            .fault
+            .room(self.step)?
+            .min(self.rest.len())
+            .min(buf.len());
+        buf[..n].copy_from_slice(&self.rest[..n]);
+        self.rest = &self.rest[n..];
+        Ok(n)
+    }
+}
+
+/// Takes bytes, at most `step` of them a write and `room` of them in all: a write that finds no room fails.
+#[derive(Drop)]
+pub struct Sink {
+    taken: Vec<u8>,
+    step: usize,
+    room: usize,
+    // over writes and flushes
+    fault: FaultAt,
+    flushes: u64,
+}
+
+impl Sink {
+    pub fn new(alloc: Global, step: usize, room: usize, fault: FaultAt) -> Sink {
+        Sink {
+            taken: Vec::new(alloc),
+            step,
+            room,
+            fault,
+            flushes: 0,
+        }
+    }
+
+    /// What it took.
+    pub fn taken(&self) -> &[u8] {
+        self.taken.as_slice()
+    }
+
+    /// How many flushes succeeded.
+    pub fn flushes(&self) -> u64 {
+        self.flushes
+    }
+}
+
+impl Write for Sink {
+    fn write(&mut self, buf: &[u8]) -> io::Result<usize> {
+        match self.fault.next() {
+            Call::Succeeds => {}
+            Call::Fails => return Err(failure()),
+            Call::MovesNothing => return Ok(0),
+        }
+        if self.room == 0 {
+            return Err(failure());
+        }
+        let n = buf.len().min(self.step).min(self.room);
+        self.taken.extend_from_slice(&buf[..n])?;
+        self.room -= n;
+        Ok(n)
+    }
+
+    fn flush(&mut self) -> io::Result<()> {
+        if self.fault.next() != Call::Succeeds {
+            return Err(failure());
+        }
+        self.flushes = self.flushes.saturating_add(1);
+        Ok(())
+    }
+}
+
+/// Keeps what was put.
+#[derive(Drop)]
+pub struct Store {
+    kept: Vec<Vec<u8>>,
+    failures: u64,
+    fault: FaultAt,
+}
+
+impl Store {
+    pub fn new(alloc: Global, fault: FaultAt) -> Store {
+        Store {
+            kept: Vec::new(alloc),
+            failures: 0,
+            fault,
+        }
+    }
+
+    /// The snapshots that it took, in order.
+    pub fn kept(&self) -> &[Vec<u8>] {
+        self.kept.as_slice()
+    }
+
+    fn keep(&mut self, bytes: &[u8]) -> io::Result<()>
+        ensures { self.new.failures ≡ self.old.failures }
+    {
+        if self.fault.next() != Call::Succeeds {
+            return Err(failure());
+        }
+        let copy = Vec::from_slice(*self.kept.allocator(), bytes)?;
+        self.kept.push(copy)?;
+        Ok(())
+    }
+}
+
+impl Shelf for Store {
+    ghost failures = { λ s. s.failures };
+
+    fn put(&mut self, bytes: &[u8]) -> Result<(), ShelfFault> {
+        if self.keep(bytes).is_err() {
+            self.failures = self.failures.saturating_add(1);
+            return Err(ShelfFault);
+        }
+        Ok(())
+    }
+
+    fn failures(&self) -> u64 {
+        self.failures
+    }
+}

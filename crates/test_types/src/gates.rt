@@ -1,0 +1,107 @@
+//! A gate that lets all calls pass, or sessions go on by turns alone, or all at once alone.
+
+use gas_hall::HallGate;
+use std::sync::atomic::{AtomicBool, AtomicU32, Ordering};
+use std::thread;
+use std::time::{Clock, Duration};
+
+// how often the clock is asked to wait, and for how long: some ten seconds in all
+const WAITS: u32 = 100_000;
+
+const WAIT: u64 = 100;
+
+/// Waits until the flag is set, and no longer than some ten seconds: then it says that it met its limit.
+pub fn wait_for<C: Clock>(clock: &C, flag: &AtomicBool, met_limit: &AtomicBool) {
+    for _ in 0..WAITS {
+        if flag.load(Ordering::SeqCst) {
+            return;
+        }
+        thread::sleep(clock, Duration::from_micros(WAIT));
+    }
+    met_limit.store(true, Ordering::SeqCst);
+}
+
+/// Which calls wait.
+#[derive(Clone, Copy, Debug, PartialEq, Eq)]
+enum Waiting {
+    Nobody,
+    ByTurns,
+    UntilAllHaveCome(u32),
+}
+
+/// A gate of tests.
+#[derive(Drop)]
+pub struct TestGate<C: Clock> {
+    clock: C,
+    waiting: Waiting,
+    first_made: AtomicBool,
+    second_made: AtomicBool,
+    come: AtomicU32,
+    met_limit: AtomicBool,
+}
+
+impl<C: Clock> TestGate<C> {
+    fn new(clock: C, waiting: Waiting) -> TestGate<C> {
+        TestGate {
+            clock,
+            waiting,
+            first_made: AtomicBool::new(false),
+            second_made: AtomicBool::new(false),
+            come: AtomicU32::new(0),
+            met_limit: AtomicBool::new(false),
+        }
+    }
+
+    /// Holds nobody.
+    pub fn open(clock: C) -> TestGate<C> {
+        TestGate::new(clock, Waiting::Nobody)
+    }
+
+    /// Holds seat 1's first call until seat 0 has made its first, and seat 0's second until seat 1 has made its first.
+    pub fn turns(clock: C) -> TestGate<C> {
+        TestGate::new(clock, Waiting::ByTurns)
+    }
+
+    /// Holds each seat's first call until so many seats have come to theirs.
+    pub fn meeting(clock: C, seats: u32) -> TestGate<C> {
+        TestGate::new(clock, Waiting::UntilAllHaveCome(seats))
+    }
+
+    pub fn met_limit(&self) -> bool {
+        self.met_limit.load(Ordering::SeqCst)
+    }
+
+    fn hold(&self, until: &AtomicBool) {
+        wait_for(&self.clock, until, &self.met_limit);
+    }
+
+    fn come_and_wait(&self, seats: u32) {
+        self.come.fetch_add(1, Ordering::SeqCst);
+        for _ in 0..WAITS {
+            if self.come.load(Ordering::SeqCst) >= seats {
+                return;
+            }
+            thread::sleep(&self.clock, Duration::from_micros(WAIT));
+        }
+        self.met_limit.store(true, Ordering::SeqCst);
+    }
+}
+
+impl<C: Clock> HallGate for &TestGate<C> {
+    fn before(&self, seat: u16, call: u32) {
+        match (self.waiting, seat, call) {
+            (Waiting::ByTurns, 1, 0) => self.hold(&self.first_made),
+            (Waiting::ByTurns, 0, 1) => self.hold(&self.second_made),
+            (Waiting::UntilAllHaveCome(seats), _, 0) => self.come_and_wait(seats),
+            _ => {}
+        }
+    }
+
+    fn after(&self, seat: u16, call: u32) {
+        match (seat, call) {
+            (0, 0) => self.first_made.store(true, Ordering::SeqCst),
+            (1, 0) => self.second_made.store(true, Ordering::SeqCst),
+            _ => {}
+        }
+    }
+}
