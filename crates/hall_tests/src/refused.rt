@@ -84,7 +84,9 @@ fn read_all<N: HallName, R: Wait + Clock + Abort>(
     door: &mut HallDoor<'_, N, Serial, &TestGate<R>, R>,
     made: u32,
 ) {
-    assert!(rt; is_answered_or_wants_memory(&door.ask(Command::Read(0))));
+    let read = Command::Read(0);
+    assert!(rt; read.fits(door.size()));
+    assert!(rt; is_answered_or_wants_memory(&door.ask(read)));
     let all = made as i64;
     assert_eq!(rt; summed(rt, &door.ask(Command::Tally)), (all, all, all));
     let copied = copied_entries(&door.copy_gas());
