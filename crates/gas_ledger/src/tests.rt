@@ -78,12 +78,17 @@ fn seventeen_drains(rt: HostRuntime) {
     assert_eq!(rt; ports.add(Port::Drain(area)), Ok(()));
 }
 
+// sixteen sources, in columns 1 to 16 of row 0
+fn add_sixteen_sources(rt: &impl Abort, gas: &mut Gas) {
+    for k in 1..17 {
+        source(rt, gas, k, 0, 1, 1, 1);
+    }
+}
+
 #[test]
 fn seventeen_sources(rt: HostRuntime) {
     let mut gas = gas_at(&rt, 0);
-    for k in 1..17 {
-        source(&rt, &mut gas, k, 0, 1, 1, 1);
-    }
+    add_sixteen_sources(&rt, &mut gas);
     let area = area(&rt, &gas, 0, 0, 1, 1);
     assert_eq!(rt; gas.add_port(Port::Source(area, 1)), Err(Full));
     assert_eq!(rt; gas.ports().sources().len(), 16);
@@ -92,16 +97,15 @@ fn seventeen_sources(rt: HostRuntime) {
     drain(&rt, &mut gas, 0, 0, 1, 1);
     assert_eq!(rt; gas.ports().drains().len(), 1);
     let moved = gas.act();
-    // columns 1 to 16 of row 0
     assert_eq!(rt; moved.injected, sums(16, 0, 16));
     gas.remove_ports();
     assert!(rt; !gas.ports().any());
-    assert_eq!(rt;
-        format!(in rt.alloc(); "{Full}")
-            .expect(&rt, "memory")
-            .as_str(),
-        "there are 16 ports of that kind already"
-    );
+}
+
+#[test]
+fn full_says_which(rt: HostRuntime) {
+    let text = format!(in rt.alloc(); "{Full}").expect(&rt, "memory");
+    assert_eq!(rt; text.as_str(), "there are 16 ports of that kind already");
 }
 
 #[test]
@@ -113,6 +117,16 @@ fn drained_particle_is_booked(rt: HostRuntime) {
     assert_eq!(rt; moved.injected, sums(0, 0, 0));
     assert_eq!(rt; moved.drained, sums(1, 1, 1));
     assert!(rt; !holds(gas.particles(), 1, 1) && holds(gas.particles(), 2, 1));
+}
+
+// a source of this period acts at this tick, or does nothing
+fn acts_at(rt: &(impl Abort + AllocGlobal), number: i64, period: u16, is_due: bool) {
+    let mut gas = gas_at(rt, number);
+    source(rt, &mut gas, 10, 10, 1, 1, period);
+    let moved = gas.act();
+    assert_eq!(rt; holds(gas.particles(), 10, 10), is_due);
+    assert_eq!(rt; moved.injected.count, if is_due { 1 } else { 0 });
+    assert_eq!(rt; moved.drained, sums(0, 0, 0));
 }
 
 #[test]
@@ -130,20 +144,7 @@ fn source_on_its_period(rt: HostRuntime) {
         (-7, 3, false),
         (1_099_511_627_776, 2, true),
     ] {
-        let mut gas = gas_at(&rt, number);
-        source(&rt, &mut gas, 10, 10, 1, 1, period);
-        let moved = gas.act();
-        assert_eq!(rt;
-            holds(gas.particles(), 10, 10),
-            is_due,
-            "at {number} by {period}"
-        );
-        assert_eq!(rt;
-            moved.injected.count,
-            if is_due { 1 } else { 0 },
-            "at {number} by {period}"
-        );
-        assert_eq!(rt; moved.drained, sums(0, 0, 0));
+        acts_at(&rt, number, period, is_due);
     }
 }
 
@@ -175,13 +176,18 @@ fn drained_and_refilled_cancels(rt: HostRuntime) {
     assert!(rt; holds(gas.particles(), 5, 6));
 }
 
+// two drains and two sources, each over an edge of a tile or at the lattice's end
+fn add_ports_across_tiles(rt: &impl Abort, gas: &mut Gas) {
+    drain(rt, gas, 63, 10, 2, 1);
+    drain(rt, gas, 100, 0, 1, 128);
+    source(rt, gas, 64, 10, 2, 1, 7);
+    source(rt, gas, 0, 127, 1, 1, 5);
+}
+
 #[test]
 fn ports_across_tiles(rt: HostRuntime) {
     let mut gas = gas_at(&rt, 0);
-    drain(&rt, &mut gas, 63, 10, 2, 1);
-    drain(&rt, &mut gas, 100, 0, 1, 128);
-    source(&rt, &mut gas, 64, 10, 2, 1, 7);
-    source(&rt, &mut gas, 0, 127, 1, 1, 5);
+    add_ports_across_tiles(&rt, &mut gas);
     let _ = put(&rt, &mut gas, 63, 10, 2, 1);
     let _ = put(&rt, &mut gas, 99, 127, 2, 1);
     let moved = gas.act();
@@ -197,36 +203,50 @@ fn ports_across_tiles(rt: HostRuntime) {
         (99, 127, true),
         (100, 127, false),
     ] {
-        assert_eq!(rt; holds(gas.particles(), x, y), held, "at {x} {y}");
+        assert_eq!(rt; holds(gas.particles(), x, y), held);
     }
+}
+
+// the sums of the whole gas at a tick, of row 0 and of the tile at (64, 64)
+fn sums_are(rt: &impl Abort, gas: &Gas, number: i64, all: Sums, row: Sums, far: Sums) {
+    let at = tick(rt, number);
+    assert_eq!(rt; tally(gas.particles(), at), all);
+    let area_of_row = area(rt, gas, 0, 0, 128, 1);
+    assert_eq!(rt; probe(gas.particles(), area_of_row, at), row);
+    let area_of_far = area(rt, gas, 64, 64, 64, 64);
+    assert_eq!(rt; probe(gas.particles(), area_of_far, at), far);
+}
+
+// the cells (0, 0), (1, 0), (0, 1) and (65, 67)
+fn four_cells(rt: &(impl Abort + AllocGlobal)) -> Gas {
+    let mut gas = gas_at(rt, 0);
+    let _ = put(rt, &mut gas, 0, 0, 2, 1);
+    let _ = put(rt, &mut gas, 0, 1, 1, 1);
+    let _ = put(rt, &mut gas, 65, 67, 1, 1);
+    gas
 }
 
 #[test]
 fn probe_and_tally_by_parities(rt: HostRuntime) {
-    let mut gas = gas_at(&rt, 0);
-    let _ = put(&rt, &mut gas, 0, 0, 2, 1);
-    let _ = put(&rt, &mut gas, 0, 1, 1, 1);
-    let _ = put(&rt, &mut gas, 65, 67, 1, 1);
-    // (0, 0), (1, 0), (0, 1) and (65, 67)
-    for (number, all, row, far) in [
-        (0, sums(4, 0, 0), sums(2, 0, 2), sums(1, -1, -1)),
-        (1, sums(4, 0, 0), sums(2, 0, -2), sums(1, 1, 1)),
-        (-1, sums(4, 0, 0), sums(2, 0, -2), sums(1, 1, 1)),
-        (-2, sums(4, 0, 0), sums(2, 0, 2), sums(1, -1, -1)),
-    ] {
-        let at = tick(&rt, number);
-        assert_eq!(rt; tally(gas.particles(), at), all, "all at {number}");
-        let area_of_row = area(&rt, &gas, 0, 0, 128, 1);
-        assert_eq!(rt;
-            probe(gas.particles(), area_of_row, at),
-            row,
-            "row at {number}"
+    let mut gas = four_cells(&rt);
+    for number in [0, -2] {
+        sums_are(
+            &rt,
+            &gas,
+            number,
+            sums(4, 0, 0),
+            sums(2, 0, 2),
+            sums(1, -1, -1),
         );
-        let area_of_far = area(&rt, &gas, 64, 64, 64, 64);
-        assert_eq!(rt;
-            probe(gas.particles(), area_of_far, at),
-            far,
-            "far at {number}"
+    }
+    for number in [1, -1] {
+        sums_are(
+            &rt,
+            &gas,
+            number,
+            sums(4, 0, 0),
+            sums(2, 0, -2),
+            sums(1, 1, 1),
         );
     }
     let _ = erase(&rt, &mut gas, 65, 67, 1, 1);
@@ -327,6 +347,23 @@ fn ticks_take_the_next_particles(rt: HostRuntime) {
     assert!(rt; holds(gas.particles(), 0, 0) && holds(&next, 1, 1));
 }
 
+// A gas with a particle, a wall, an obstacle and a source.
+fn fill_in(rt: &impl Abort, gas: &mut Gas) {
+    let _ = put(rt, gas, 2, 3, 1, 1);
+    let wall = area(rt, gas, 4, 5, 1, 1);
+    gas.add_walls(wall);
+    let obstacle = area(rt, gas, 6, 70, 1, 1);
+    gas.add_obstacles(obstacle);
+    source(rt, gas, 8, 9, 1, 1, 10);
+}
+
+fn is_filled_in(gas: &Gas) -> bool {
+    holds(gas.particles(), 2, 3)
+        && holds(gas.walls(), 4, 5)
+        && holds(gas.obstacles(), 6, 70)
+        && gas.ports().sources().len() == 1
+}
+
 // Passes too where any one of its allocations is refused.
 #[test]
 fn refused_memory_leaves_the_gas(rt: HostRuntime) {
@@ -334,24 +371,12 @@ fn refused_memory_leaves_the_gas(rt: HostRuntime) {
     let Ok(mut gas) = Gas::empty(rt.alloc(), size) else {
         return;
     };
-    let _ = put(&rt, &mut gas, 2, 3, 1, 1);
-    let wall = area(&rt, &gas, 4, 5, 1, 1);
-    gas.add_walls(wall);
-    let obstacle = area(&rt, &gas, 6, 70, 1, 1);
-    gas.add_obstacles(obstacle);
-    source(&rt, &mut gas, 8, 9, 1, 1, 10);
+    fill_in(&rt, &mut gas);
     if let Ok(copy) = gas.copy(rt.alloc()) {
         assert!(rt; copy.size() == size && copy.tick().get() == 0);
         assert_eq!(rt; tally(copy.particles(), copy.tick()), sums(1, 1, -1));
-        assert!(rt;
-            holds(copy.particles(), 2, 3)
-                && holds(copy.walls(), 4, 5)
-                && holds(copy.obstacles(), 6, 70)
-        );
+        assert!(rt; is_filled_in(&copy));
         assert_eq!(rt; copy.ports().sources(), gas.ports().sources());
     }
-    assert!(rt;
-        holds(gas.particles(), 2, 3) && holds(gas.walls(), 4, 5) && holds(gas.obstacles(), 6, 70)
-    );
-    assert_eq!(rt; gas.ports().sources().len(), 1);
+    assert!(rt; is_filled_in(&gas));
 }
