@@ -4,15 +4,20 @@
 It reads a script of commands on standard input and writes the replies. The outputs beside the scripts in examples/ come
 from here, so they are not the program's own. It knows no refusals: its scripts are in order.
 
-    tools/channel_gas.py [width height] < examples/tunnel.txt
+    tools/channel_gas.py [width height] < examples/4_tunnel.txt
 
 Scripts that are named are sessions on one gas, one after the other, of the seats 0, 1, ..:
 
-    tools/channel_gas.py examples/two_people_first.txt examples/two_people_second.txt
+    tools/channel_gas.py examples/8_first.txt examples/8_second.txt examples/8_third.txt
+
+--save and --load are the program's. With --without-collisions particles pass through one another.
 """
+import argparse
+import struct
 import sys
 
 VELOCITIES = [(1, 1), (-1, 1), (1, -1), (-1, -1)]
+HEAD_ON = [{(1, 1), (-1, -1)}, {(1, -1), (-1, 1)}]
 
 
 class Gas:
@@ -20,6 +25,7 @@ class Gas:
         self.width, self.height, self.tick = width, height, 0
         self.particles, self.walls, self.obstacles = set(), set(), set()
         self.drains, self.sources = [], []
+        self.collides = True
 
     def velocity(self, cell, tick):
         return tuple(1 if (place + tick) % 2 == 0 else -1 for place in cell)
@@ -30,51 +36,67 @@ class Gas:
 
     def cell_of(self, site, velocity):
         """The cell that is the site's channel of that velocity."""
-        return tuple((s + (1 - v) // 2) % n for s, v, n in zip(site, velocity, (self.width, self.height)))
+        (x, y), (vx, vy) = site, velocity
+        return ((x + (vx < 0)) % self.width, (y + (vy < 0)) % self.height)
 
-    def sites(self, tick):
-        return ((x, y) for x in range(tick % 2, self.width, 2) for y in range(tick % 2, self.height, 2))
+    def site_of(self, cell, velocity):
+        """The site of which the cell is the channel of that velocity."""
+        (x, y), (vx, vy) = cell, velocity
+        return ((x - (vx < 0)) % self.width, (y - (vy < 0)) % self.height)
 
-    def outcome(self, site, held):
-        """What leaves the site, and who takes the momentum: nobody, the walls or the obstacles."""
-        block = [self.cell_of(site, velocity) for velocity in VELOCITIES]
-        taker = "obstacles" if self.obstacles.intersection(block) else "walls" if self.walls.intersection(block) else None
+    def beside(self, site, velocity):
+        """The site to which that velocity leads."""
+        return ((site[0] + velocity[0]) % self.width, (site[1] + velocity[1]) % self.height)
+
+    def takers(self, tick):
+        """The sites with a wall or an obstacle among their cells, and who takes the momentum there."""
+        sites = {}
+        for name, cells in (("walls", self.walls), ("obstacles", self.obstacles)):
+            for cell in cells:
+                sites[self.site_of(cell, self.velocity(cell, tick))] = name
+        return sites
+
+    def outcome(self, held, taker):
+        """What leaves a site that holds particles of these velocities."""
         if taker:
-            return {(-x, -y) for x, y in held}, taker
-        if held in ({(1, 1), (-1, -1)}, {(1, -1), (-1, 1)}):
-            return set(VELOCITIES) - held, None
-        return held, None
+            return {(-x, -y) for x, y in held}
+        if self.collides and held in HEAD_ON:
+            return set(VELOCITIES) - held
+        return held
 
     def step(self, books):
-        moved = set()
-        for site in self.sites(self.tick):
-            held = {v for v in VELOCITIES if self.cell_of(site, v) in self.particles}
-            leaving, taker = self.outcome(site, held)
+        """Each site lets its particles collide or bounce, and they stream on."""
+        sites, moved, takers = {}, set(), self.takers(self.tick)
+        for cell in self.particles:
+            velocity = self.velocity(cell, self.tick)
+            sites.setdefault(self.site_of(cell, velocity), set()).add(velocity)
+        for site, held in sites.items():
+            taker = takers.get(site)
             if taker:
                 books.take(taker, held, 1)
-            for x, y in leaving:
-                there = ((site[0] + x) % self.width, (site[1] + y) % self.height)
-                moved.add(self.cell_of(there, (x, y)))
+            for velocity in self.outcome(held, taker):
+                moved.add(self.cell_of(self.beside(site, velocity), velocity))
         self.particles, self.tick = moved, self.tick + 1
 
     def step_back(self, books):
-        moved = set()
-        for site in self.sites(self.tick - 1):
-            arrived = set()
-            for x, y in VELOCITIES:
-                there = ((site[0] + x) % self.width, (site[1] + y) % self.height)
-                if self.cell_of(there, (x, y)) in self.particles:
-                    arrived.add((x, y))
-            held, taker = self.outcome(site, arrived)
+        """Each site takes in what it sent out, and gets back what it held."""
+        sites, moved, takers = {}, set(), self.takers(self.tick - 1)
+        for cell in self.particles:
+            x, y = velocity = self.velocity(cell, self.tick)
+            sent_by = self.beside(self.site_of(cell, velocity), (-x, -y))
+            sites.setdefault(sent_by, set()).add(velocity)
+        for site, sent in sites.items():
+            taker = takers.get(site)
+            held = self.outcome(sent, taker)
             if taker:
                 books.take(taker, held, -1)
-            moved |= {self.cell_of(site, v) for v in held}
+            moved |= {self.cell_of(site, velocity) for velocity in held}
         self.particles, self.tick = moved, self.tick - 1
 
 
 class Books:
-    def __init__(self):
-        self.injected, self.drained = [0, 0, 0], [0, 0, 0]
+    def __init__(self, start):
+        self.start, self.injected, self.drained = start, [0, 0, 0], [0, 0, 0]
         self.taken = {"walls": [0, 0], "obstacles": [0, 0]}
 
     def take(self, taker, held, sign):
@@ -88,45 +110,81 @@ class Books:
                 account[i] += n
         gas.particles = cells
 
+    def numbers(self):
+        numbers = [self.start[0], self.injected[0], self.drained[0]]
+        for axis in (0, 1):
+            numbers += [account[axis + 1] for account in (self.start, self.injected, self.drained)]
+            numbers += [self.taken["walls"][axis], self.taken["obstacles"][axis]]
+        return numbers
+
 
 def rectangle(x, y, w, h):
     return {(i, j) for i in range(x, x + w) for j in range(y, y + h)}
 
 
 def ports(gas, books):
+    if not gas.drains and not gas.sources:
+        return
     cells = set(gas.particles)
     for area in gas.drains:
-        cells -= area
-    for area, period in gas.sources:
+        cells -= rectangle(*area)
+    for *area, period in gas.sources:
         if gas.tick % period == 0:
-            cells |= area
+            cells |= rectangle(*area)
     books.change(gas, cells)
 
 
-def row_text(gas, y):
-    bits = "".join("1" if (x, y) in gas.particles else "0" for x in range(gas.width))
-    return f"{int(bits, 2):0{gas.width // 4}x}"
+def row_bits(cells, width, y):
+    return int("".join("1" if (x, y) in cells else "0" for x in range(width)), 2)
 
 
-def session(seat, lines, gas, books, journal):
+def snapshot(gas):
+    """The bytes of a gas, as docs/FORMATS.md lays them out."""
+    parts = [b"HPPGAS2\n", struct.pack(">HHqBB", gas.width, gas.height, gas.tick, len(gas.drains), len(gas.sources))]
+    parts += [struct.pack(">4H", *area) for area in gas.drains]
+    parts += [struct.pack(">5H", *source) for source in gas.sources]
+    for cells in (gas.particles, gas.walls, gas.obstacles):
+        parts += [row_bits(cells, gas.width, y).to_bytes(gas.width // 8, "big") for y in range(gas.height)]
+    return b"".join(parts)
+
+
+def from_snapshot(data):
+    width, height, tick, drains, sources = struct.unpack_from(">HHqBB", data, 8)
+    gas, at = Gas(width, height), 22
+    gas.tick = tick
+    for _ in range(drains):
+        gas.drains.append(struct.unpack_from(">4H", data, at))
+        at += 8
+    for _ in range(sources):
+        gas.sources.append(struct.unpack_from(">5H", data, at))
+        at += 10
+    for cells in (gas.particles, gas.walls, gas.obstacles):
+        for y in range(height):
+            bits = f"{int.from_bytes(data[at:at + width // 8], 'big'):0{width}b}"
+            cells |= {(x, y) for x in range(width) if bits[x] == "1"}
+            at += width // 8
+    return gas
+
+
+def session(seat, lines, gas, books, journal, save_path):
     for line in lines:
         word, *rest = line.split()
         numbers = [int(n) for n in rest] if word != "row" else [int(rest[0])]
         if word == "probe":
-            area = rectangle(*numbers)
-            yield "PROBE", *gas.sums(gas.particles & area)
+            yield "PROBE", *gas.sums(gas.particles & rectangle(*numbers))
         elif word == "tally":
             yield "TALLY", gas.tick, *gas.sums(gas.particles)
         elif word == "ledger":
-            injected, drained = books.injected, books.drained
-            momenta = []
-            for axis in (0, 1):
-                momenta += [0, injected[axis + 1], drained[axis + 1], books.taken["walls"][axis], books.taken["obstacles"][axis]]
-            yield "LEDGER", 0, injected[0], drained[0], *momenta
+            yield "LEDGER", *books.numbers()
         elif word == "read":
-            yield "ROW", row_text(gas, *numbers)
+            yield "ROW", f"{row_bits(gas.particles, gas.width, numbers[0]):0{gas.width // 4}x}"
         elif word == "entry":
             yield "ENTRY", *journal[numbers[0]]
+        elif word == "save":
+            data = snapshot(gas)
+            with open(save_path, "wb") as file:
+                file.write(data)
+            yield "SAVED", len(journal), len(data)
         elif word == "quit":
             yield ("BYE",)
             return
@@ -153,9 +211,9 @@ def change(gas, books, word, numbers, rest):
         gas.walls -= rectangle(*numbers)
         gas.obstacles -= rectangle(*numbers)
     elif word == "source":
-        gas.sources.append((rectangle(*numbers[:4]), numbers[4]))
+        gas.sources.append(numbers)
     elif word == "drain":
-        gas.drains.append(rectangle(*numbers))
+        gas.drains.append(numbers)
     elif word == "unport":
         gas.drains, gas.sources = [], []
     elif word == "step":
@@ -170,12 +228,24 @@ def change(gas, books, word, numbers, rest):
 
 
 def main():
-    named = [word for word in sys.argv[1:] if not word.isdecimal()]
-    width, height = [int(word) for word in sys.argv[1:] if word.isdecimal()] or (64, 64)
-    laboratory = Gas(width, height), Books(), []
-    for seat, script in enumerate([open(name) for name in named] or [sys.stdin]):
-        for reply in session(seat, (line for line in script if line.strip()), *laboratory):
-            print(*reply)
+    options = argparse.ArgumentParser(description="The laboratory once more, in Python and straight from its rules.")
+    options.add_argument("--load", metavar="PATH")
+    options.add_argument("--save", metavar="PATH")
+    options.add_argument("--without-collisions", action="store_true")
+    options.add_argument("words", nargs="*", metavar="width height | script")
+    asked = options.parse_args()
+    sizes = [int(word) for word in asked.words if word.isdecimal()] or (64, 64)
+    scripts = [open(word) for word in asked.words if not word.isdecimal()] or [sys.stdin]
+    if asked.load:
+        with open(asked.load, "rb") as file:
+            gas = from_snapshot(file.read())
+    else:
+        gas = Gas(*sizes)
+    gas.collides = not asked.without_collisions
+    laboratory = gas, Books(gas.sums(gas.particles)), []
+    for seat, script in enumerate(scripts):
+        for reply in session(seat, (line for line in script if line.strip()), *laboratory, asked.save):
+            print(*reply, flush=True)
 
 
 main()

@@ -78,6 +78,9 @@ number_again n small =
     let h = spells n small in
     number_is (decimal n) (decimal_nonempty n (omega arith)) (length-decimal-le 10 n (omega arith) (omega arith) (omega arith)) h.digits (omega (arith, h.value)) ∙ ap Some h.value
 
+pub digits_of_number : (n : ℕ) → n < 2 ^ 32 → all_ascii_digits (decimal n) ≡ true
+digits_of_number n small = (spells n small).digits
+
 no_space : (c : ℕ) → is_ascii_digit c ≡ true → not (is_space c) ≡ true
 no_space c digit = grind (arith, nat_tests, digit)
 
@@ -92,7 +95,7 @@ some_plain [] some plain = absurd (omega arith)
 some_plain (c ∷ text) some plain = rw plain (grind (arith, nat_tests))
 
 pub number_word : (n : ℕ) → n < 2 ^ 32 → is_word (decimal n) ≡ true
-number_word n small = some_plain (decimal n) (decimal_nonempty n (omega arith)) (plain_digits (decimal n) (spells n small).digits)
+number_word n small = some_plain (decimal n) (decimal_nonempty n (omega arith)) (plain_digits (decimal n) (digits_of_number n small))
 
 -- ---- verbs
 

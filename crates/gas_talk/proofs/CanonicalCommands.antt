@@ -21,7 +21,7 @@ use Rattle.gas_talk.specs.declared.verb.Verb.{Verb}
 use Rattle.gas_talk.specs.declared.verb.Verb.TheVariants.{Put, Erase, Wall, Block, Unwall, Drain, Probe, Source, Row, Step, Back, Read, Entry, Unport, Tally, Ledger}
 
 -- numbers that a line can hold
-abbrev AreSmall : List ℕ → Type 0
+abbrev pub AreSmall : List ℕ → Type 0
 AreSmall numbers = AllByRecursion (λ n. n < 2 ^ 32) numbers
 
 numbers_again : (numbers : List ℕ) → AreSmall numbers → numbers_of (map decimal numbers) ≡ Some numbers
@@ -57,17 +57,17 @@ alone_again size verb none all =
 
 -- ---- ranges
 
-area_small : (size : Extent) (r : Rectangle) → is_size size ≡ true → lies_within size r ≡ true → AreSmall (area_numbers r)
+pub area_small : (size : Extent) (r : Rectangle) → is_size size ≡ true → lies_within size r ≡ true → AreSmall (area_numbers r)
 area_small size r sized within =
     (grind (arith, nat_tests), (grind (arith, nat_tests), (grind (arith, nat_tests), (grind (arith, nat_tests), tt))))
 
-count_small : (n : ℕ) → is_step_count n ≡ true → n < 2 ^ 32
+pub count_small : (n : ℕ) → is_step_count n ≡ true → n < 2 ^ 32
 count_small n h = grind (arith, nat_tests)
 
-row_small : (size : Extent) (y : ℕ) → is_size size ≡ true → nat_lt y size.height ≡ true → y < 2 ^ 32
+pub row_small : (size : Extent) (y : ℕ) → is_size size ≡ true → nat_lt y size.height ≡ true → y < 2 ^ 32
 row_small size y sized h = grind (arith, nat_tests)
 
-period_small : (n : ℕ) → is_period n ≡ true → n < 2 ^ 32
+pub period_small : (n : ℕ) → is_period n ≡ true → n < 2 ^ 32
 period_small n h = grind (arith, nat_tests)
 
 -- ---- rows

@@ -5,7 +5,9 @@ pub mod Cutting
 pub mod Decimals
 pub mod Filling
 pub mod LineWords
+pub mod JournalScripts
 pub mod Progress
+pub mod ScriptLines
 pub mod Sending
 pub mod Sequential
 pub mod Spacing

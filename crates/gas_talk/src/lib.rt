@@ -4,6 +4,7 @@
 mod alone;
 mod door;
 mod end;
+pub mod journal_laws;
 mod number;
 pub mod page;
 mod reader;

@@ -1,12 +1,15 @@
 //! Runs the scripts of `examples/` and compares what they give with the output that stands beside each.
-//! The two people's scripts are sessions on one gas, over sockets, one after the other.
+//! The three people's scripts are sessions on one gas, over sockets, one after the other.
 #![tactic(auto)]
 
+ghost use Rattle.std.specs.Prelude.{IfOk};
 ghost use Rattle.gaslab.specs.Plans.{IsInRange};
 
 use gas_hall::TcpLobby;
+use gas_ledger::Gas;
 use gas_snapshot::NoShelf;
 use gas_terms::Size;
+use gaslab::load::load_from;
 use gaslab::run::run_on;
 use gaslab::serving::serve_on;
 use gaslab::setup::Setup;
@@ -17,61 +20,123 @@ use std::rt::Files;
 use std::sync::Wait;
 use std::thread::Threads;
 use std::{fs, io, thread};
+use test_types::faults::{FaultAt, Store};
 
-const NAMES: [&str; 4] = ["one_particle", "tunnel", "sound_pulse", "reversal"];
+// what is run alone, on a new lattice of that width and height
+const LESSONS: [(&str, u32, u32); 11] = [
+    ("1_one_particle", 64, 64),
+    ("2_head_on", 64, 64),
+    ("2_blocks", 64, 64),
+    ("3_gate", 64, 64),
+    ("3_two_gates", 64, 64),
+    ("4_tunnel", 64, 64),
+    ("4_open_tunnel", 64, 64),
+    ("5_sound", 256, 256),
+    ("5_empty", 256, 256),
+    ("6_reversal", 64, 64),
+    ("6_spoiled", 64, 64),
+];
 
-const PEOPLE: [&str; 2] = ["two_people_first", "two_people_second"];
+const PEOPLE: [&str; 3] = ["8_first", "8_second", "8_third"];
 
-// a laboratory without options
-fn setup() -> Setup
-    ensures { IsInRange result }
+fn failure() -> io::Error {
+    io::Error::from(io::ErrorKind::Other)
+}
+
+// a laboratory of that size, without other options
+fn setup(width: u32, height: u32) -> io::Result<Setup>
+    ensures { IfOk result IsInRange }
 {
-    let Some(size) = Size::new(64, 64) else {
-        unreachable!()
+    let Some(size) = Size::new(width, height) else {
+        return Err(failure());
     };
-    Setup {
+    Ok(Setup {
         size,
         workers: 1,
         cap: 1024,
-    }
+    })
 }
 
-// what the script gives
-fn output_of(rt: &(impl Threads + AllocGlobal), script: &[u8]) -> io::Result<Vec<u8>> {
+fn file_of(rt: &(impl Files + AllocGlobal), name: &str, kind: &str) -> io::Result<Vec<u8>> {
+    let path = format!(in rt.alloc(); "{name}.{kind}")?;
+    fs::read(rt, path.as_str())
+}
+
+// compares what was given with what stands beside the script, and says which it is
+fn tell(rt: &(impl Print + Files + AllocGlobal), name: &str, output: &[u8]) -> io::Result<bool> {
+    let is_same = file_of(rt, name, "out")?.as_slice() == output;
+    let verdict = if is_same {
+        "as expected"
+    } else {
+        "not as expected"
+    };
+    println!(rt; "{name}: {verdict}")?;
+    Ok(is_same)
+}
+
+// runs the script from the gas, or else from an empty one, and tells whether it gives what is expected
+fn run_script(
+    rt: &(impl Threads + Print + Files + AllocGlobal),
+    name: &str,
+    setup: Setup,
+    start: Option<Gas>,
+    shelf: &mut Store,
+) -> io::Result<bool>
+    requires { IsInRange setup }
+{
+    let script = file_of(rt, name, "txt")?;
     let mut output = Vec::new(rt.alloc());
-    let mut reader = script;
+    let mut reader = script.as_slice();
     let status = run_on(
         rt,
         rt.alloc(),
-        setup(),
-        None,
+        setup,
+        start,
         &mut reader,
         &mut output,
-        &mut NoShelf::new(),
+        shelf,
     );
     if status != 0 {
         writeln!(output, "status {status}")?;
     }
-    Ok(output)
+    tell(rt, name, output.as_slice())
 }
 
-// serves two sessions, and gives what is said of them
-fn serve_two(
+fn run_all(rt: &(impl Threads + Print + Files + AllocGlobal)) -> io::Result<bool> {
+    let mut are_same = true;
+    let mut shelf = Store::new(rt.alloc(), FaultAt::never());
+    for (name, width, height) in LESSONS {
+        let setup = setup(width, height)?;
+        are_same = run_script(rt, name, setup, None, &mut shelf)? && are_same;
+    }
+    Ok(are_same)
+}
+
+// work that is kept, and gone on with from what was saved
+fn run_kept(rt: &(impl Threads + Print + Files + AllocGlobal)) -> io::Result<bool> {
+    let setup = setup(128, 64)?;
+    let mut shelf = Store::new(rt.alloc(), FaultAt::never());
+    let is_first_same = run_script(rt, "7_kept", setup, None, &mut shelf)?;
+    let Some(bytes) = shelf.kept().first() else {
+        return Err(failure());
+    };
+    let Ok(gas) = load_from(rt.alloc(), &mut bytes.as_slice()) else {
+        return Err(failure());
+    };
+    let mut next = Store::new(rt.alloc(), FaultAt::never());
+    Ok(run_script(rt, "7_next_day", setup, Some(gas), &mut next)? && is_first_same)
+}
+
+// serves three sessions, and gives what is said of them
+fn serve_three(
     rt: &(impl Threads + Wait + Sync + AllocGlobal),
     listener: TcpListener,
 ) -> io::Result<Vec<u8>> {
+    let setup = setup(64, 64)?;
     let mut said = Vec::new(rt.alloc());
     let mut lobby = TcpLobby::over(listener);
-    let shelves = vec![in rt.alloc(); NoShelf::new(), NoShelf::new()]?;
-    let status = serve_on(
-        rt,
-        rt.alloc(),
-        setup(),
-        None,
-        &mut lobby,
-        shelves,
-        &mut said,
-    );
+    let shelves = vec![in rt.alloc(); NoShelf::new(), NoShelf::new(), NoShelf::new()]?;
+    let status = serve_on(rt, rt.alloc(), setup, None, &mut lobby, shelves, &mut said);
     if status != 0 {
         writeln!(said, "status {status}")?;
     }
@@ -92,33 +157,6 @@ fn session_of(
     Ok(replies)
 }
 
-fn file_of(rt: &(impl Files + AllocGlobal), name: &str, kind: &str) -> io::Result<Vec<u8>> {
-    let path = format!(in rt.alloc(); "{name}.{kind}")?;
-    fs::read(rt, path.as_str())
-}
-
-// compares what was given with what stands beside the script, and says which it is
-fn tell(rt: &(impl Print + Files + AllocGlobal), name: &str, output: &[u8]) -> io::Result<bool> {
-    let is_same = file_of(rt, name, "out")?.as_slice() == output;
-    let verdict = if is_same {
-        "as expected"
-    } else {
-        "not as expected"
-    };
-    println!(rt; "{name}: {verdict}")?;
-    Ok(is_same)
-}
-
-fn run_all(rt: &(impl Threads + Print + Files + AllocGlobal)) -> io::Result<bool> {
-    let mut are_same = true;
-    for name in NAMES {
-        let script = file_of(rt, name, "txt")?;
-        let output = output_of(rt, script.as_slice())?;
-        are_same = tell(rt, name, output.as_slice())? && are_same;
-    }
-    Ok(are_same)
-}
-
 fn meet_all(
     rt: &(impl Net<Stream = TcpStream> + Print + Files + AllocGlobal),
     address: SocketAddr,
@@ -131,16 +169,27 @@ fn meet_all(
     Ok(are_same)
 }
 
+// three people on one gas
+fn meet(
+    rt: &(impl Net<Listener = TcpListener, Stream = TcpStream>
+        + Threads
+        + Wait
+        + Sync
+        + Print
+        + Files
+        + AllocGlobal),
+) -> io::Result<bool> {
+    let listener = TcpListener::bind(rt, "127.0.0.1:0")?;
+    let address = listener.local_addr()?;
+    let (said, are_same) = thread::join(rt, || serve_three(rt, listener), || meet_all(rt, address));
+    io::writer(rt).write_all(said?.as_slice())?;
+    are_same
+}
+
 fn main(rt: HostRuntime) -> io::Result<ExitCode> {
     let are_runs_same = run_all(&rt)?;
-    let listener = TcpListener::bind(&rt, "127.0.0.1:0")?;
-    let address = listener.local_addr()?;
-    let (said, are_people_same) = thread::join(
-        &rt,
-        || serve_two(&rt, listener),
-        || meet_all(&rt, address),
-    );
-    io::writer(&rt).write_all(said?.as_slice())?;
-    let is_same = are_runs_same && are_people_same?;
+    let is_kept_same = run_kept(&rt)?;
+    let are_people_same = meet(&rt)?;
+    let is_same = are_runs_same && is_kept_same && are_people_same;
     Ok(ExitCode::from(if is_same { 0 } else { 1 }))
 }

@@ -1,0 +1,33 @@
+-- A journal as a script, and what becomes of it.
+use Rattle.std.specs.Prelude.{ℕ, ◌+◌, List, [], ◌∷◌, ◌++◌, map}
+use Rattle.std.specs.List.{flat_map}
+use Rattle.gas_terms.specs.Laboratory.{Laboratory}
+use Rattle.gas_terms.specs.declared.command.Entry.{Entry}
+use Rattle.gas_terms.specs.declared.answer.Answer.TheVariants.{Taken}
+use Rattle.gas_talk.specs.declared.reply.Reply.TheVariants.{Answered}
+use Rattle.gas_talk.specs.Lines.{Item, text}
+use Rattle.gas_talk.specs.Talk.{no_put, Turn}
+use Rattle.gas_talk.specs.LabTalk.{Outcome, plain}
+use Rattle.gas_talk.specs.Texts.{command_text}
+
+-- the texts of a journal's commands, each a line
+abbrev pub script : List Entry → List ℕ
+script journal = flat_map (λ e. command_text e.command ++ 10 ∷ []) journal
+
+-- items of which each finds what it needs
+abbrev pub all_plain : List Item → List (Item × Outcome)
+all_plain items = map (λ i. (i, plain)) items
+
+-- the turns of a script whose commands are taken, each with the next index from k on
+abbrev pub taken_from : ℕ → List Entry → List Turn
+taken_from k [] = []
+taken_from k (entry ∷ journal) =
+    record { item = text (command_text entry.command); reply = Answered (Taken k); put = no_put } ∷ taken_from (k + 1) journal
+
+-- the entries, made by one seat
+abbrev pub made_by : ℕ → List Entry → List Entry
+made_by seat journal = map (λ e. record { seat = seat; command = e.command }) journal
+
+-- the laboratory with all its entries made by one seat, and room for cap of them
+abbrev pub made_alone : ℕ → ℕ → Laboratory → Laboratory
+made_alone seat cap lab = record lab { cap = cap; journal = made_by seat lab.journal }
