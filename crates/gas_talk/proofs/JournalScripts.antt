@@ -21,7 +21,7 @@ use Rattle.gas_talk.specs.declared.reply.Reply.TheVariants.{Answered}
 use Rattle.gas_talk.specs.Ends.{until_end}
 use Rattle.gas_talk.specs.LabTalk.{plain, answered, requested, taken_at, talk}
 use Rattle.gas_talk.specs.Lines.{Item, text, lines}
-use Rattle.gas_talk.specs.Scripts.{script, all_plain, taken_from, made_alone}
+use Rattle.gas_talk.specs.Scripts.{script, all_plain, asked_by_script, taken_from, made_alone}
 use Rattle.gas_talk.specs.Talk.{no_put, Turn}
 use Rattle.gas_talk.specs.Texts.{command_text, IsTyped}
 
@@ -119,7 +119,7 @@ talk_there (entry ∷ journal) lab seat cap sized admits typed room =
     ∙ ap (λ n. (turn_of k entry ∷ taken_from n journal, made_alone seat cap (fold accepted next journal))) one_more
 
 pub journal_is_script : (lab : Laboratory) → is_size (extent lab.start.particles) ≡ true → IsSound lab → All Typed lab.journal → (seat cap : ℕ) → length lab.journal ≤ cap →
-    talk seat (opening lab.start cap) (all_plain (until_end (extent lab.start.particles) (lines (script lab.journal)))) ≡ (taken_from 0 lab.journal, made_alone seat cap lab)
+    talk seat (opening lab.start cap) (asked_by_script (extent lab.start.particles) lab.journal) ≡ (taken_from 0 lab.journal, made_alone seat cap lab)
 journal_is_script lab sized sound typed seat cap room =
     let start = opening lab.start lab.cap in
     ap (λ items. talk seat (opening lab.start cap) (all_plain items)) (script_items lab.journal start sized sound.admitted.entries typed)

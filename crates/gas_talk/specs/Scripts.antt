@@ -1,11 +1,13 @@
 -- A journal as a script, and what becomes of it.
 use Rattle.std.specs.Prelude.{ℕ, ◌+◌, List, [], ◌∷◌, ◌++◌, map}
 use Rattle.std.specs.List.{flat_map}
+use Rattle.gas_terms.specs.Cells.{Extent}
 use Rattle.gas_terms.specs.Laboratory.{Laboratory}
 use Rattle.gas_terms.specs.declared.command.Entry.{Entry}
 use Rattle.gas_terms.specs.declared.answer.Answer.TheVariants.{Taken}
 use Rattle.gas_talk.specs.declared.reply.Reply.TheVariants.{Answered}
-use Rattle.gas_talk.specs.Lines.{Item, text}
+use Rattle.gas_talk.specs.Ends.{until_end}
+use Rattle.gas_talk.specs.Lines.{Item, text, lines}
 use Rattle.gas_talk.specs.Talk.{no_put, Turn}
 use Rattle.gas_talk.specs.LabTalk.{Outcome, plain}
 use Rattle.gas_talk.specs.Texts.{command_text}
@@ -17,6 +19,10 @@ script journal = flat_map (λ e. command_text e.command ++ 10 ∷ []) journal
 -- items of which each finds what it needs
 abbrev pub all_plain : List Item → List (Item × Outcome)
 all_plain items = map (λ i. (i, plain)) items
+
+-- what a session asks whose input is the script, where nothing is wanting
+abbrev pub asked_by_script : Extent → List Entry → List (Item × Outcome)
+asked_by_script size journal = all_plain (until_end size (lines (script journal)))
 
 -- the turns of a script whose commands are taken, each with the next index from k on
 abbrev pub taken_from : ℕ → List Entry → List Turn

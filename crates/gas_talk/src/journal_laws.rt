@@ -5,17 +5,16 @@ ghost use Rattle.std.specs.List.{All};
 ghost use Rattle.gas_terms.specs.Cells.{extent, is_size};
 ghost use Rattle.gas_terms.specs.Laboratory.{Laboratory, opening, IsSound};
 ghost use Rattle.gas_talk.specs.Texts.{IsTyped};
-ghost use Rattle.gas_talk.specs.Lines.{lines};
-ghost use Rattle.gas_talk.specs.Ends.{until_end};
 ghost use Rattle.gas_talk.specs.LabTalk.{talk};
-ghost use Rattle.gas_talk.specs.Scripts.{script, all_plain, taken_from, made_alone};
+ghost use Rattle.gas_talk.specs.Scripts.{asked_by_script, taken_from, made_alone};
 
 /// A journal is a script: the texts of its commands, each a line, asked by one seat of a laboratory that opens with the
 /// same start and has room for them, are all taken, in order. Gas and ledger are then the same, and the journal too, but
 /// for the seats.
 pub fn journals_are_scripts()
-    ensures { (lab : Laboratory) → is_size (extent lab.start.particles) ≡ true → IsSound lab → All (λ e. IsTyped e.command) lab.journal
+    ensures { (lab : Laboratory) → is_size (extent lab.start.particles) ≡ true → IsSound lab
+        → All (λ e. IsTyped e.command) lab.journal
         → (seat cap : ℕ) → length lab.journal ≤ cap
-        → talk seat (opening lab.start cap) (all_plain (until_end (extent lab.start.particles) (lines (script lab.journal))))
+        → talk seat (opening lab.start cap) (asked_by_script (extent lab.start.particles) lab.journal)
         ≡ (taken_from 0 lab.journal, made_alone seat cap lab) }
 {}
