@@ -1,4 +1,4 @@
-use Rattle.std.specs.Prelude.{◌≡◌, ◌≤◌, nat_le, ℕ, Bool, true, false, length, Result, Ok, Err, ◌⊎◌, ℤ, pos, ◌+ℤ◌, ◌-ℤ◌}
+use Rattle.std.specs.Prelude.{◌≡◌, ◌≤◌, ℕ, Bool, true, false, length, Result, Ok, Err, ◌⊎◌, ℤ, pos, ◌+ℤ◌, ◌-ℤ◌}
 use Rattle.gas_terms.specs.Cells.{Cells, HasSidesOf}
 use Rattle.gas_terms.specs.Gas.{Gas}
 use Rattle.gas_terms.specs.Accounts.{plus, FitsI64}
@@ -22,12 +22,6 @@ books_of b = record { gas = b.gas; ledger = b.ledger }
 -- a ledger with what a change of the particles brought in and took out
 abbrev pub with_moved : Ledger → Moved → Ledger
 with_moved l m = record l { injected = plus l.injected m.injected; drained = plus l.drained m.drained }
-
--- whether there are as many ports of the command's kind as there may be
-abbrev pub lacks_place : Gas → Command → Bool
-lacks_place g (Source r period) = nat_le 16 (length g.sources)
-lacks_place g (Drain r) = nat_le 16 (length g.drains)
-lacks_place g _ = false
 
 -- whether a command is no move and leaves the particles
 abbrev pub leaves_particles : Command → Bool

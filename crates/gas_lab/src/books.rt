@@ -8,11 +8,12 @@ ghost use Rattle.gas_terms.specs.Gas.{streamed, solid};
 ghost use Rattle.gas_terms.specs.Accounts.{taken, FitsI64, SumsFit, plus};
 ghost use Rattle.gas_terms.specs.Commands.{enact, fits, is_move, is_tick};
 ghost use Rattle.gas_terms.specs.BookedGas.{stepped, stepped_back, book};
+ghost use Rattle.gas_terms.specs.Laboratory.{has_all_ports};
 ghost use Rattle.gas_plane.specs.Planes.{IsLattice};
 ghost use Rattle.gas_ledger.specs.Gases.{ports_of};
 ghost use Rattle.gas_ledger.specs.Moves.{moved_by};
 ghost use Rattle.gas_ledger.specs.PortLists.{adding, has_all};
-ghost use Rattle.gas_lab.specs.Labs.{books_of, with_moved, lacks_place, leaves_particles, TicksHold, Affords};
+ghost use Rattle.gas_lab.specs.Labs.{books_of, with_moved, leaves_particles, TicksHold, Affords};
 
 use gas_ledger::{Gas, Moved, Port};
 use gas_plane::Plane;
@@ -139,7 +140,7 @@ impl Books {
     /// A change: an edit, which is booked as one change of the particles, or steps.
     pub fn enact<S: Stepper>(&mut self, command: &Command, spare: &mut Plane, stepper: &mut S)
         requires in_order { fits (extent self.old.gas.particles) command.now ≡ true }
-        requires place { lacks_place self.old.gas command.now ≡ false }
+        requires place { has_all_ports self.old.gas command.now ≡ false }
         requires ticks { TicksHold self.old.gas.tick command.now }
         requires spare { HasSidesOf spare.old self.old.gas.particles }
         requires fits { Affords (books_of self.old) }
@@ -157,7 +158,7 @@ impl Books {
     fn edit(&mut self, command: &Command, spare: &Plane)
         requires still { is_move command.now ≡ false }
         requires in_order { fits (extent self.old.gas.particles) command.now ≡ true }
-        requires place { lacks_place self.old.gas command.now ≡ false }
+        requires place { has_all_ports self.old.gas command.now ≡ false }
         requires spare { HasSidesOf spare.now self.old.gas.particles }
         requires fits { FitsI64 (book (books_of self.old) command.now).ledger }
         ensures booked { books_of self.new ≡ book (books_of self.old) command.now }
@@ -172,7 +173,7 @@ impl Books {
 fn edited(gas: &mut Gas, command: &Command) -> Moved
     requires still { is_move command.now ≡ false }
     requires in_order { fits (extent gas.old.particles) command.now ≡ true }
-    requires place { lacks_place gas.old command.now ≡ false }
+    requires place { has_all_ports gas.old command.now ≡ false }
     ensures gas { gas.new ≡ enact gas.old command.now }
     ensures moved { result ≡ moved_by gas.old.tick gas.old.particles gas.new.particles }
 {
@@ -191,7 +192,7 @@ fn edited(gas: &mut Gas, command: &Command) -> Moved
 fn set_up(gas: &mut Gas, command: &Command)
     requires quiet { leaves_particles command.now ≡ true }
     requires in_order { fits (extent gas.old.particles) command.now ≡ true }
-    requires place { lacks_place gas.old command.now ≡ false }
+    requires place { has_all_ports gas.old command.now ≡ false }
     ensures gas { gas.new ≡ enact gas.old command.now }
     ensures lattice { IsLattice gas.old.particles }
     ensures quiet { leaves_particles command.now ≡ true }

@@ -190,7 +190,7 @@ impl<S: Stepper> Lab<S> {
     }
 
     fn has_all_ports(&self, command: &Command) -> bool
-        ensures { result ≡ has_all_ports self.now command.now }
+        ensures { result ≡ has_all_ports self.now.gas command.now }
     {
         match command {
             Command::Source(_, _) => 16 <= self.books.gas.ports().sources().len(),

@@ -1,7 +1,7 @@
-use Rattle.std.specs.Prelude.{◌≡◌, ◌≤◌, nat_le, Bool, true, ℤ, List, [], ◌∷◌, ◌++◌, length, map, filter}
+use Rattle.std.specs.Prelude.{◌≡◌, ◌≤◌, Bool, true, ℤ, List, [], ◌∷◌, ◌++◌, length, map, filter}
 use Rattle.std.specs.List.{All}
 use Rattle.gas_terms.specs.Cells.{Cells, Extent, Rectangle, lies_within}
-use Rattle.gas_terms.specs.Gas.{Source, is_due, ported}
+use Rattle.gas_terms.specs.Gas.{Source, has_sixteen, is_due, ported}
 use Rattle.gas_terms.specs.Commands.{is_period}
 use Rattle.gas_terms.specs.declared.command.Command.{Command}
 use Rattle.gas_terms.specs.declared.command.Command.TheVariants.{Source as AddSource, Drain as AddDrain}
@@ -28,8 +28,8 @@ with_port ports (SourceAt r period) = record ports { sources = ports.sources ++ 
 
 -- whether there are as many ports of its kind as there may be
 abbrev pub has_all : PortLists → Port → Bool
-has_all ports (DrainAt r) = nat_le 16 (length ports.drains)
-has_all ports (SourceAt r period) = nat_le 16 (length ports.sources)
+has_all ports (DrainAt r) = has_sixteen ports.drains
+has_all ports (SourceAt r period) = has_sixteen ports.sources
 
 -- whether its period is one that a source may have
 abbrev pub has_period : Port → Bool

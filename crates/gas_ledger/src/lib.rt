@@ -10,14 +10,15 @@ pub mod port;
 pub mod ports;
 pub mod sums;
 
-/// The accounts of a gas, and the sums that they are made of.
 pub use apply::apply_ports;
 pub use gas::Gas;
-pub use gas_terms::{Ledger, Sums};
 pub use moved::Moved;
 pub use port::{Full, Port, Source};
 pub use ports::Ports;
 pub use sums::{probe, tally};
+
+/// The accounts of a gas, and the sums that they are made of.
+pub use gas_terms::{Ledger, Sums};
 
 #[cfg(test)]
 mod tests;

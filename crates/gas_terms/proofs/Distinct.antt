@@ -1,5 +1,5 @@
 -- No site is listed twice.
-use Rattle.std.proofs.Common.{◌≡◌, ℕ, zero, suc, ◌+◌, ◌*◌, ◌/◌, ◌<◌, ◌≤◌, ◌≢◌, List, [], ◌∷◌, ◌++◌, map, arith, ap}
+use Rattle.std.proofs.Common.{◌≡◌, ℕ, zero, suc, ◌+◌, ◌*◌, ◌/◌, ◌<◌, ◌≢◌, List, [], ◌∷◌, ◌++◌, map, arith, ap}
 use Rattle.std.specs.List.{range_with_len, flat_map, All, AllPairs}
 use Rattle.std.proofs.lemmas.List.Elements.{All-from_get_or, All-append, All-head, All-tail}
 use Rattle.std.proofs.lemmas.List.Kept.{AllPairs-cons}

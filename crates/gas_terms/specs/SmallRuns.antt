@@ -1,4 +1,4 @@
-use Rattle.std.specs.Prelude.{ℕ, false, List, [], ◌∷◌, map, ℤ, pos}
+use Rattle.std.specs.Prelude.{ℕ, ◌-◌, ◌^◌, false, List, [], ◌∷◌, map, ℤ, pos, negsuc}
 use Rattle.gas_terms.specs.Cells.{Cells, Rectangle, cells_where, whole}
 use Rattle.gas_terms.specs.Gas.{Gas}
 use Rattle.gas_terms.specs.BookedGas.{BookedGas, opened, book_all}
@@ -50,6 +50,13 @@ on_a_wall = after (Put (cell 1 1) ∷ Put (cell 1 1) ∷ Wall (cell 1 1) ∷ Ste
 abbrev pub drained : BookedGas
 drained = after (Put (cell 0 0) ∷ Drain (cell 1 1) ∷ Step 1 ∷ [])
 
+-- a drain that is added leaves what is there until the next tick
+abbrev pub drain_on_a_particle : BookedGas
+drain_on_a_particle = after (Put (cell 0 0) ∷ Drain (cell 0 0) ∷ [])
+
+abbrev pub two_drains : BookedGas
+two_drains = after (Put (cell 0 0) ∷ Put (cell 2 2) ∷ Drain (cell 1 1) ∷ Drain (cell 3 3) ∷ Step 1 ∷ [])
+
 abbrev pub drained_and_filled : BookedGas
 drained_and_filled = after (Put (cell 0 0) ∷ Drain (cell 1 1) ∷ Source (cell 1 1) 1 ∷ Step 1 ∷ [])
 
@@ -75,6 +82,10 @@ drained_and_sourced = after (Source (cell 2 2) 2 ∷ Drain (cell 2 2) ∷ Step 3
 abbrev pub seam : BookedGas
 seam = after (Step 1 ∷ Put (cell 3 3) ∷ Step 1 ∷ [])
 
+-- two particles and a wall, before any step
+abbrev pub walled_pair : BookedGas
+walled_pair = after (Put (cell 0 0) ∷ Put (cell 2 2) ∷ Wall (cell 1 1) ∷ [])
+
 abbrev pub wall_removed : BookedGas
 wall_removed = after (Put (cell 0 0) ∷ Wall (record { x = 1; y = 1; w = 2; h = 2 }) ∷ Unwall (record { x = 1; y = 1; w = 2; h = 2 }) ∷ Step 1 ∷ [])
 
@@ -92,3 +103,11 @@ rows = after (Row 0 (128 ∷ []) ∷ Row 0 (192 ∷ []) ∷ Erase (cell 0 0) ∷
 -- a small laboratory, after commands of one seat
 abbrev pub lab_after : ℤ → ℕ → List Command → Laboratory
 lab_after tick cap commands = run (opening (empty_gas tick) cap) (map (λ c. record { seat = 0; command = c }) commands)
+
+-- two particles after a step, at (1, 1) and (3, 3)
+abbrev pub two_in_a_lab : Laboratory
+two_in_a_lab = lab_after (pos 0) 9 (Put (cell 0 0) ∷ Put (cell 2 2) ∷ Step 1 ∷ [])
+
+-- the first tick of all
+abbrev pub first_tick : ℤ
+first_tick = negsuc (2 ^ 40 - 1)

@@ -1,15 +1,16 @@
 //! Laws of the sums and the accounts. Each function does nothing: its contract is the law.
 
-ghost use Rattle.std.specs.Prelude.{◌≡◌, ℕ, ◌*◌, ◌^◌, ◌<◌, ◌≤◌, ◌%◌, ℤ, pos, negsuc, true, nat_abs, length, List};
+ghost use Rattle.std.specs.Prelude.{◌≡◌, ℕ, ◌*◌, ◌^◌, ◌<◌, ◌≤◌, ◌%◌, ℤ, pos, negsuc, true, nat_abs, length, List, [], ◌∷◌};
 ghost use Rattle.std.specs.List.{range_with_len, All, sum_by};
 ghost use Rattle.gas_terms.specs.Velocity.{parity};
 ghost use Rattle.gas_terms.specs.Cells.{Cells, joined, HasEvenSides, HasSidesOf, IsEvenTorus, Rectangle, extent, is_size, lies_within, within, whole, tile_count, tile_rectangle};
 ghost use Rattle.gas_terms.specs.Gas.{Gas, Site, is_walled, takes_for_walls, takes_for_obstacles, streamed, forward, back};
-ghost use Rattle.gas_terms.specs.Accounts.{plus_all, taken_at, taken, together, stopped, twice_momentum, total, total_in, parity_count, sums_by_parity, plus, minus, less_taken, gained, lost, gas_total, gas_taken, balance, IsOfAtMost, IsTakenOfAtMost, IsLedgerOfAtMost, FitsI64};
+ghost use Rattle.gas_terms.specs.Accounts.{plus_all, taken_at, taken, together, stopped, twice_momentum, total, total_in, parity_count, sums_by_parity, plus, minus, less_taken, gained, lost, gas_total, gas_taken, nothing, balance, IsOfAtMost, IsTakenOfAtMost, IsLedgerOfAtMost, FitsI64};
 ghost use Rattle.gas_terms.specs.Commands.{replay};
-ghost use Rattle.gas_terms.specs.SmallRuns.{cell, sums, pair, sourced, drained_and_sourced, seam, wall_removed, shut_in, let_go, rows, one_step, one_back, collision, three, bounce, on_a_wall, drained, drained_and_filled, obstructed, wall_and_obstacle, wall_alone};
+ghost use Rattle.gas_terms.specs.SmallRuns.{cell, sums, pair, sourced, drained_and_sourced, seam, walled_pair, wall_removed, shut_in, let_go, rows, one_step, one_back, collision, three, bounce, on_a_wall, drained, drain_on_a_particle, two_drains, drained_and_filled, obstructed, wall_and_obstacle, wall_alone};
 ghost use Rattle.gas_terms.specs.BookedGas.{BookedGas, opened, changed, book_all, changes, IsStretch};
 ghost use Rattle.gas_terms.specs.declared.command.Command.{Command};
+ghost use Rattle.gas_terms.specs.declared.command.Command.TheVariants.{Step, Back};
 ghost use Rattle.gas_terms.specs.declared.accounts.Ledger.{Ledger};
 
 /// The sums over the channels of all sites are the sums over all cells.
@@ -100,13 +101,15 @@ pub fn other_edits_book_nothing()
         g.particles ≡ b.gas.particles → changed b g ≡ record b { gas = g } }
 {}
 
-/// Each change adds to each account at most the number of cells, and twice that to what walls took and to what obstacles took.
+/// Each change adds to each account at most the number of cells, and twice that to what walls took and to what obstacles
+/// took. The start's sums stay what they were.
 pub fn accounts_are_bounded()
     ensures by_changes { (g : Gas) (commands : List Command) → HasEvenSides g.particles.width g.particles.height →
         IsLedgerOfAtMost (sum_by changes commands * (g.particles.width * g.particles.height)) (book_all (opened g) commands).ledger }
     ensures by_limits { (g : Gas) (commands : List Command) → is_size (extent g.particles) ≡ true →
         length commands ≤ 65536 → All (λ c. changes c ≤ 4096) commands →
         IsLedgerOfAtMost (2 ^ 52) (book_all (opened g) commands).ledger }
+    ensures start { (g : Gas) (commands : List Command) → (book_all (opened g) commands).ledger.start ≡ gas_total g }
     ensures fits { (n : ℕ) (l : Ledger) → n < 2 ^ 62 → IsLedgerOfAtMost n l → FitsI64 l }
 {}
 
@@ -114,6 +117,12 @@ pub fn accounts_are_bounded()
 pub fn stretch_restores()
     ensures { (b : BookedGas) (commands : List Command) →
         IsEvenTorus b.gas.particles → IsStretch b.gas commands → book_all b commands ≡ b }
+{}
+
+/// Steps and steps back that undo them are such a stretch, over particles and a wall, in any order.
+pub fn undone_stretches()
+    ensures steps_first { IsStretch walled_pair.gas (Step 3 ∷ Back 1 ∷ Back 2 ∷ []) }
+    ensures back_first { IsStretch walled_pair.gas (Back 2 ∷ Step 3 ∷ Back 1 ∷ []) }
 {}
 
 /// Small runs, worked by hand.
@@ -128,12 +137,15 @@ pub fn small_runs()
     ensures on_a_wall { on_a_wall.ledger.walls ≡ pair (pos 0) (pos 0) }
     ensures filled_once { on_a_wall.ledger.injected ≡ sums (pos 1) (negsuc 0) (negsuc 0) }
     ensures drained { drained.ledger.drained ≡ sums (pos 1) (pos 1) (pos 1) }
+    ensures drain_waits_for_a_step { gas_total drain_on_a_particle.gas ≡ sums (pos 1) (pos 1) (pos 1) }
+    ensures two_drains { (gas_total two_drains.gas ≡ nothing) × (two_drains.ledger.drained ≡ sums (pos 2) (pos 2) (pos 2)) }
     ensures neither_side { drained_and_filled.ledger.drained ≡ sums (pos 0) (pos 0) (pos 0) }
     ensures kept { gas_total drained_and_filled.gas ≡ sums (pos 1) (pos 1) (pos 1) }
     ensures obstructed { gas_total obstructed.gas ≡ sums (pos 1) (negsuc 0) (negsuc 0) }
     ensures obstacle_took { (obstructed.ledger.walls ≡ pair (pos 0) (pos 0)) × (obstructed.ledger.obstacles ≡ pair (pos 2) (pos 2)) }
     ensures obstacle_before_wall { (wall_and_obstacle.ledger.walls ≡ pair (pos 0) (pos 0)) × (wall_and_obstacle.ledger.obstacles ≡ pair (pos 2) (pos 2)) }
     ensures source_on_its_period { total_in (pos 3) sourced.gas.particles (cell 3 3) ≡ sums (pos 1) (pos 1) (pos 1) }
+    ensures source_in_whole { gas_total sourced.gas ≡ sums (pos 1) (pos 1) (pos 1) }
     ensures source_refills_a_drain { total_in (pos 3) drained_and_sourced.gas.particles (cell 3 3) ≡ sums (pos 1) (pos 1) (pos 1) }
     ensures block_across_the_seam { total_in (pos 2) seam.gas.particles (cell 0 0) ≡ sums (pos 1) (pos 1) (pos 1) }
     ensures wall_removed { total_in (pos 1) wall_removed.gas.particles (cell 1 1) ≡ sums (pos 1) (pos 1) (pos 1) }

@@ -1,7 +1,7 @@
 //! What a seat may ask for.
 
-ghost use Rattle.std.specs.Prelude.{◌≡◌, IfOk};
-ghost use Rattle.gas_terms.specs.Commands.{fits, is_change};
+ghost use Rattle.std.specs.Prelude.{◌≡◌, false, IfOk, IsOk};
+ghost use Rattle.gas_terms.specs.Commands.{fits, is_change, is_row};
 
 use crate::NoMemory;
 use crate::rect::Rect;
@@ -75,7 +75,8 @@ impl Command {
 
     /// The same command. Only a row takes memory.
     pub fn copy(&self, alloc: Global) -> Result<Command, NoMemory>
-        ensures { IfOk result (λ command. command ≡ self.now) }
+        ensures same { IfOk result (λ command. command ≡ self.now) }
+        ensures memory { is_row self.now ≡ false → IsOk result }
     {
         Ok(match self {
             Command::Put(r) => Command::Put(*r),

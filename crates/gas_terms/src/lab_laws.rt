@@ -4,16 +4,16 @@ ghost use Rattle.std.specs.Prelude.{◌≡◌, ℕ, ◌^◌, ◌≤◌, ◌<◌,
 ghost use Rattle.std.specs.List.{All};
 ghost use Rattle.gas_terms.specs.Cells.{extent, is_size, IsEvenTorus};
 ghost use Rattle.gas_terms.specs.Gas.{Gas};
-ghost use Rattle.gas_terms.specs.Accounts.{IsLedgerOfAtMost};
+ghost use Rattle.gas_terms.specs.Accounts.{IsOfAtMost, IsLedgerOfAtMost};
 ghost use Rattle.gas_terms.specs.Commands.{fits};
 ghost use Rattle.gas_terms.specs.BookedGas.{book, changes};
 ghost use Rattle.gas_terms.specs.Laboratory.{Laboratory, opening, booked, cause, reply, event, run, IsPrefix, IsSound};
 ghost use Rattle.gas_terms.specs.declared.command.Command.{Command};
-ghost use Rattle.gas_terms.specs.declared.command.Command.TheVariants.{Put, Source, Drain, Unport, Step, Back, Tally, Entry as EntryAt};
+ghost use Rattle.gas_terms.specs.declared.command.Command.TheVariants.{Put, Source, Drain, Unport, Step, Back, Probe, Tally, Entry as EntryAt};
 ghost use Rattle.gas_terms.specs.declared.command.Entry.{Entry};
 ghost use Rattle.gas_terms.specs.declared.refusal.Refusal.TheVariants.{Full, Ports, Tick, Journal, Entry as NoEntry};
-ghost use Rattle.gas_terms.specs.declared.answer.Answer.TheVariants.{Taken, EntryIs};
-ghost use Rattle.gas_terms.specs.SmallRuns.{cell, lab_after};
+ghost use Rattle.gas_terms.specs.declared.answer.Answer.TheVariants.{Taken, Probed, Tallied, EntryIs};
+ghost use Rattle.gas_terms.specs.SmallRuns.{cell, sums, lab_after, two_in_a_lab, first_tick};
 
 /// A laboratory opens sound.
 pub fn opening_is_sound()
@@ -48,16 +48,22 @@ pub fn accounts_fit()
     ensures next { (lab : Laboratory) (command : Command) → is_size (extent lab.start.particles) ≡ true → lab.cap ≤ 65536 → IsSound lab →
         length lab.journal < lab.cap → changes command ≤ 4096 →
         IsLedgerOfAtMost (2 ^ 52) (book (booked lab) command).ledger }
+    // These leave out the start's sums, which never change.
+    ensures start { (lab : Laboratory) → is_size (extent lab.start.particles) ≡ true → IsSound lab →
+        IsOfAtMost (2 ^ 24) lab.ledger.start }
 {}
 
 /// Small laboratories, worked by hand: what stands against a command, and in which order.
 pub fn small_laboratories()
     ensures ports_bar_the_way_back { cause (lab_after (pos 0) 9 (Source (cell 0 0) 1 ∷ [])) (Back 1) ≡ Some Ports }
+    ensures drains_bar_it_too { cause (lab_after (pos 0) 9 (Drain (cell 0 0) ∷ [])) (Back 1) ≡ Some Ports }
     ensures way_back_is_open { cause (lab_after (pos 0) 9 (Source (cell 0 0) 1 ∷ Unport ∷ [])) (Back 1) ≡ None }
     ensures ports_before_journal { cause (lab_after (pos 0) 1 (Source (cell 0 0) 1 ∷ [])) (Back 1) ≡ Some Ports }
     ensures journal { cause (lab_after (pos 0) 1 (Source (cell 0 0) 1 ∷ [])) Unport ≡ Some Journal }
     ensures readings_need_no_room { cause (lab_after (pos 0) 1 (Unport ∷ [])) Tally ≡ None }
     ensures greatest_tick { cause (lab_after (pos (2 ^ 40)) 9 []) (Step 1) ≡ Some Tick }
+    ensures no_tick_before_the_first { cause (lab_after first_tick 9 []) (Back 1) ≡ Some Tick }
+    ensures ports_before_tick { cause (lab_after first_tick 9 (Drain (cell 0 0) ∷ [])) (Back 1) ≡ Some Ports }
     ensures tick_before_journal { cause (lab_after (pos (2 ^ 40)) 0 []) (Step 1) ≡ Some Tick }
     ensures last_tick { cause (lab_after (pos (2 ^ 40)) 9 []) (Back 4096) ≡ None }
     ensures sixteen_sources { cause (lab_after (pos 0) 99 (replicate 15 (Source (cell 0 0) 1))) (Source (cell 0 0) 1) ≡ None }
@@ -67,5 +73,7 @@ pub fn small_laboratories()
     ensures no_such_entry { cause (lab_after (pos 0) 9 (Unport ∷ [])) (EntryAt 1) ≡ Some NoEntry }
     ensures entry { reply (lab_after (pos 0) 9 (Unport ∷ [])) (EntryAt 0) ≡ Ok (EntryIs (record { seat = 0; command = Unport })) }
     ensures taken { reply (lab_after (pos 0) 9 (Unport ∷ [])) Unport ≡ Ok (Taken 1) }
+    ensures tally { reply two_in_a_lab Tally ≡ Ok (Tallied (pos 1) (sums (pos 2) (pos 2) (pos 2))) }
+    ensures probe { reply two_in_a_lab (Probe (cell 1 1)) ≡ Ok (Probed (sums (pos 1) (pos 1) (pos 1))) }
     ensures refused_leaves { lab_after (pos 0) 1 (Unport ∷ Put (cell 0 0) ∷ []) ≡ lab_after (pos 0) 1 (Unport ∷ []) }
 {}

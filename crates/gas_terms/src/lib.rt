@@ -15,7 +15,6 @@ pub mod size;
 pub mod tick;
 pub mod velocity;
 
-/// Memory was refused: the one name for it in the laboratory's calls.
 pub use accounts::{Ledger, Pair, Sums, Took};
 pub use answer::Answer;
 pub use command::{Command, Entry};
@@ -23,9 +22,11 @@ pub use rect::Rect;
 pub use refusal::Refusal;
 pub use row_bits::RowBits;
 pub use size::Size;
-pub use std::alloc::AllocError as NoMemory;
 pub use tick::{Tick, vel};
 pub use velocity::Vel;
+
+/// Memory was refused: the one name for it in the laboratory's calls.
+pub use std::alloc::AllocError as NoMemory;
 
 #[cfg(test)]
 mod tests;
