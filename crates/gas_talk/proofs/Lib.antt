@@ -1,6 +1,7 @@
 pub mod Canonical
 pub mod CanonicalCommands
 pub mod Codec
+pub mod Counting
 pub mod Cutting
 pub mod Decimals
 pub mod Filling

@@ -22,7 +22,7 @@ use Rattle.gas_talk.specs.declared.reader.LineReader.{LineReader}
 use Rattle.gas_talk.specs.Lines.{Item, text, bad, lines}
 use Rattle.gas_talk.specs.Unread.{Keeps}
 use Rattle.gas_talk.specs.Talk.{Put, no_put, Turn, Takes}
-use Rattle.gas_talk.specs.Ends.{is_quit, until_end, ending, line_of, replies, memory_line, taken_by, failed_by, failures_after, EndsWith, EndsAs, Place, Leads, Serves, Progress, AnswersLines}
+use Rattle.gas_talk.specs.Ends.{is_quit, until_end, ending, line_of, replies, memory_line, taken_by, failed_by, failures_after, EndsWith, EndsAs, Place, Leads, Serves, IsSession, Progress, AnswersLines}
 use Rattle.gas_talk.proofs.Cutting.{lines_nil}
 use Rattle.gas_talk.proofs.Sending.{sent_whole}
 use Rattle.gas_talk.proofs.Steps.{items_of_turns, ending-append, until_end-append, items_push, replies_push, shelved_push, failed_push, failures_more, Gains-nil, Gains-trans}
@@ -273,7 +273,13 @@ module _ {D : Type 0} (size_of : D → Extent) (asks : D → Command → Result 
       ended = as_said (ending_is input old reader now p [] none, refl, refl);
     }
 
--- the last reply of a session is at no end of its input
-pub last_not_at_end : (missing : List ℕ) (wanted end : SessionEnd) → wanted ≢ InputEnd → EndsWith missing wanted end → end ≢ InputEnd
-last_not_at_end missing wanted end other (inl whole) = rw whole.1 other
-last_not_at_end missing wanted end other (inr fault) = rw fault (λ wrong. cc)
+-- a session over a reader that ends as this one is
+pub read_by : {D X : Type 0} (size_of : D → Extent) (asks : D → Command → Result Answer Refusal → D → Type 0) (copies : D → Result Copied NoMemory → D → Type 0)
+    → (remaining : X → Option (List ℕ)) (unread : Option (List ℕ)) (now last : X) (old : Place D) (end : SessionEnd) (new : Place D) → last ≡ now
+    → IsSession size_of asks copies unread (remaining now) old end new → IsSession size_of asks copies unread (remaining last) old end new
+read_by size_of asks copies remaining unread now last old end new same s = subst (λ x. IsSession size_of asks copies unread (remaining x) old end new) (sym same) s
+
+-- the last reply of a session is at none of the ends that are neither the wanted one nor a fault of the writer
+pub last_at_no_other : (missing : List ℕ) (wanted end other : SessionEnd) → wanted ≢ other → WriteFault ≢ other → EndsWith missing wanted end → end ≢ other
+last_at_no_other missing wanted end other h fault_is_other (inl whole) = rw whole.1 h
+last_at_no_other missing wanted end other h fault_is_other (inr fault) = rw fault fault_is_other

@@ -1,5 +1,5 @@
 -- How a session goes: the turns it takes over its input, and how it ends.
-use Rattle.std.specs.Prelude.{◌≡◌, ℕ, zero, suc, ◌+◌, ◌-◌, ◌^◌, min, ◌⊎◌, Bool, true, false, if◌then◌else◌, List, [], ◌∷◌, ◌++◌, map, Option, Some, None, Result, Ok, Err}
+use Rattle.std.specs.Prelude.{◌≡◌, ℕ, zero, suc, ◌+◌, ◌-◌, ◌*◌, ◌^◌, ◌≤◌, min, ◌⊎◌, Bool, true, false, if◌then◌else◌, List, [], ◌∷◌, ◌++◌, length, map, Option, Some, None, Result, Ok, Err}
 use Rattle.std.specs.List.{flat_map, sum_by, FoldsTo}
 use Rattle.std.specs.Io.KnownBytes.{Consumes, Appends, IsAtEnd}
 use Rattle.gas_terms.specs.Cells.{Extent}
@@ -102,6 +102,13 @@ EndsAs size WriteFault items turns later written = IsCutShort turns written ⊎ 
 abbrev pub EndsWith : List ℕ → SessionEnd → SessionEnd → Type 0
 EndsWith missing wanted end = ((missing ≡ []) × (end ≡ wanted)) ⊎ (end ≡ WriteFault)
 
+-- So many reads gave the input: at most 2^24, of at most 4,096 bytes each; and where another was needed, as many as that,
+-- each with a byte at least.
+pub record AreReads (reads : ℕ) (input : List ℕ) (end : SessionEnd) : Type 0 where
+  pub few : reads ≤ 2 ^ 24
+  pub short : length input ≤ 4096 * reads
+  pub all : end ≡ TooManyReads → (reads ≡ 2 ^ 24) × (reads ≤ length input)
+
 -- what a session asks, writes to and puts on
 pub record Place (D : Type 0) : Type 0 where
   pub door : D
@@ -134,6 +141,9 @@ module _ {D : Type 0} (size_of : D → Extent) (asks : D → Command → Result 
     pub reads : Consumes unread_old unread_new input
     pub serves : Serves input old end new
     pub whole : end ≡ InputEnd → IsAtEnd unread_new
+    -- how many reads there were
+    pub count : ℕ
+    pub bounded : AreReads count input end
 
   -- Within a session: each item of the input so far is taken, or is an item of what is unread.
   pub record Progress (input : List ℕ) (old : Place D) (reader : LineReader) (new : Place D) : Type 0 where

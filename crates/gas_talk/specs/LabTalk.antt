@@ -2,8 +2,8 @@
 use Rattle.std.specs.Prelude.{◌≡◌, ℕ, Bool, true, false, not, ◌&&◌, ◌||◌, List, [], ◌∷◌, ◌++◌, length, map, Option, is_some, Result, Ok, Err}
 use Rattle.std.specs.Io.KnownBytes.{Consumes, Appends, IsAtEnd}
 use Rattle.std.specs.declared.alloc.AllocError.{AllocError as NoMemory}
-use Rattle.gas_terms.specs.Cells.{extent}
-use Rattle.gas_terms.specs.Laboratory.{Laboratory, event, reply, cause, takes_memory}
+use Rattle.gas_terms.specs.Cells.{Extent, extent}
+use Rattle.gas_terms.specs.Laboratory.{Laboratory, Applies, event, reply, cause, takes_memory}
 use Rattle.gas_terms.specs.declared.command.Command.{Command}
 use Rattle.gas_terms.specs.declared.command.Command.TheVariants.{Row}
 use Rattle.gas_terms.specs.declared.command.Entry.{Entry}
@@ -20,7 +20,7 @@ use Rattle.gas_talk.specs.declared.end.SessionEnd.TheVariants.{InputEnd}
 use Rattle.gas_talk.specs.Requests.{request_of}
 use Rattle.gas_talk.specs.Lines.{Item, text, bad, lines}
 use Rattle.gas_talk.specs.Talk.{no_put, put_taken, put_failed, Turn, reply_to, snapshot}
-use Rattle.gas_talk.specs.Ends.{until_end, EndsAs, Place, shelved_by, failed_puts, failures_after}
+use Rattle.gas_talk.specs.Ends.{until_end, EndsAs, AreReads, Place, shelved_by, failed_puts, failures_after}
 
 -- what a copy of the laboratory holds
 abbrev pub copy_of : Laboratory → Copied
@@ -99,3 +99,16 @@ pub record IsTalk (seat : ℕ) (unread_old unread_new : Option (List ℕ)) (old 
   pub writes : Appends old.written new.written output
   pub ended : EndsAs (extent old.door.start.particles) end (lines input) (talk seat old.door asked).0 later output
   pub whole : end ≡ InputEnd → IsAtEnd unread_new
+  -- how many reads there were
+  pub count : ℕ
+  pub bounded : AreReads count input end
+
+-- A door of a seat whose calls are those of a laboratory that nobody else uses.
+pub record IsAlone {D : Type 0} (size_of : D → Extent) (asks : D → Command → Result Answer Refusal → D → Type 0) (copies : D → Result Copied NoMemory → D → Type 0) (lab_of : D → Laboratory) (seat_of : D → ℕ) : Type 0 where
+  pub size : (d : D) → size_of d ≡ extent (lab_of d).start.particles
+  pub asked : (d : D) (command : Command) (reply : Result Answer Refusal) (e : D) → asks d command reply e → Applies (lab_of d) (record { seat = seat_of d; command = command }) reply (lab_of e) × (seat_of e ≡ seat_of d)
+  pub copied : (d : D) (copied : Result Copied NoMemory) (e : D) → copies d copied e → Copies (lab_of d) copied (lab_of e) × (seat_of e ≡ seat_of d)
+
+-- the same place, where a door stands for its laboratory
+abbrev pub lab_place : {D : Type 0} → (D → Laboratory) → Place D → Place Laboratory
+lab_place lab_of place = record { door = lab_of place.door; written = place.written; failures = place.failures; shelved = place.shelved }

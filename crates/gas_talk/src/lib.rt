@@ -10,6 +10,7 @@ pub mod page;
 mod reader;
 pub mod reading;
 pub mod reading_laws;
+mod reads;
 pub mod reply;
 pub mod request;
 mod send;

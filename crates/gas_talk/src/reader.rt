@@ -1,9 +1,10 @@
 //! Cuts an input into lines.
 
-ghost use Rattle.std.specs.Prelude.{◌≡◌, ℕ, ◌≤◌, List, [], ◌++◌, length, IfOk, OnErr};
+ghost use Rattle.std.specs.Prelude.{◌≡◌, ℕ, ◌+◌, ◌<◌, ◌≤◌, List, [], ◌++◌, length, IfOk, OnOk, OnErr};
 ghost use Rattle.std.specs.Io.KnownBytes.{Consumes, Keeps as KeepsBytes, IsAtEnd};
 ghost use Rattle.gas_talk.specs.Unread.{Keeps, kept_len, Finds, IsShorter};
 
+use crate::reads::{READ_LIMIT, SessionReads};
 use bytes::BytesMut;
 use std::alloc::Global;
 use std::io;
@@ -12,9 +13,6 @@ use tokio_util::codec::{Decoder, LinesCodec, LinesCodecError};
 
 // how many bytes a line may have before its newline
 const LINE_LIMIT: usize = 2048;
-
-// how many bytes a read asks for
-const READ_LIMIT: usize = 4096;
 
 /// Cuts an input that comes in pieces into lines.
 #[derive(Drop)]
@@ -69,12 +67,20 @@ impl LineReader {
     }
 
     /// Reads once, at most 4,096 bytes, and keeps what the read gives.
-    pub fn read_more<R: Read>(&mut self, reader: &mut R) -> Result<usize, ReadFault>
+    pub fn read_more<R: Read>(
+        &mut self,
+        reads: &mut SessionReads<'_, R>,
+    ) -> Result<usize, ReadFault>
+        requires { 0 < reads.old.left }
+        ensures same { reads.new.reader.ghost_name ≡ reads.old.reader.ghost_name }
+        ensures left { OnOk result (reads.new.left + 1 ≡ reads.old.left) }
+        ensures spent { OnErr result ((reads.new.left ≤ reads.old.left) × (reads.old.left ≤ reads.new.left + 1)) }
         ensures read { IfOk result (λ n. (more : List ℕ) × (length more ≡ n)
-            × Consumes (R.remaining reader.old) (R.remaining reader.new) more
+            × Consumes (R.remaining reads.old.reader.now) (R.remaining reads.new.reader.now) more
             × ((unread : List ℕ) → Keeps self.old unread → Keeps self.new (unread ++ more))) }
-        ensures end { IfOk result (λ n. n ≡ 0 → IsAtEnd (R.remaining reader.new)) }
-        ensures err { OnErr result (KeepsBytes (R.remaining reader.old) (R.remaining reader.new)) }
+        ensures short { IfOk result (λ n. n ≤ 4096) }
+        ensures end { IfOk result (λ n. n ≡ 0 → IsAtEnd (R.remaining reads.new.reader.now)) }
+        ensures err { OnErr result (KeepsBytes (R.remaining reads.old.reader.now) (R.remaining reads.new.reader.now)) }
         ensures kept { OnErr result ((unread : List ℕ) → Keeps self.old unread → Keeps self.new unread) }
     {
         if self.buffer.reserve(READ_LIMIT).is_err() {
@@ -82,7 +88,7 @@ impl LineReader {
         }
         let kept = self.buffer.len();
         self.buffer.advance_mut(READ_LIMIT);
-        match reader.read(&mut self.buffer.as_mut_slice()[kept..]) {
+        match reads.read(&mut self.buffer.as_mut_slice()[kept..]) {
             Ok(n) => {
                 self.buffer.truncate(kept + n);
                 Ok(n)

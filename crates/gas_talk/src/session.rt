@@ -9,6 +9,7 @@ use crate::door::Door;
 use crate::end::SessionEnd;
 use crate::page::{ReplyPage, reply_text};
 use crate::reader::{Found, LineReader, ReadFault};
+use crate::reads::SessionReads;
 use crate::reply::Reply;
 use crate::send::send;
 use crate::turn::reply_of;
@@ -16,9 +17,6 @@ use gas_snapshot::Shelf;
 use gas_terms::Refusal;
 use std::alloc::Global;
 use std::io::{Read, Write};
-
-// how many reads a session makes at most
-const READS: u32 = 1 << 24;
 
 // Writes the line of a reply and flushes. Where it fails a part of the line is written.
 fn send_reply<W: Write>(writer: &mut W, reply: &Reply, page: &mut ReplyPage) -> bool
@@ -61,6 +59,7 @@ fn answer_lines<W: Write, D: Door, K: Shelf>(
         → AnswersLines D.size_of D.asks D.copies input from result lines.new
         (record { door = door.new; written = W.contents writer.new; failures = K.failures shelf.new; shelved = K.shelved shelf.new }) }
     ensures end { IfSome result (λ end. end ≢ SessionEnd.InputEnd) }
+    ensures in_time { IfSome result (λ end. end ≢ SessionEnd.TooManyReads) }
 {
     'lines: loop {
         match lines.next_line() {
@@ -97,10 +96,11 @@ pub fn session<R: Read, W: Write, D: Door, K: Shelf>(
         result
         (record { door = door.new; written = W.contents writer.new; failures = K.failures shelf.new; shelved = K.shelved shelf.new }) }
 {
+    let mut reads = SessionReads::new(reader);
     let mut lines = LineReader::new(alloc);
     let mut page = ReplyPage::empty();
-    for _ in 0..READS {
-        match lines.read_more(reader) {
+    while reads.any_left() {
+        match lines.read_more(&mut reads) {
             Ok(0) => return SessionEnd::InputEnd,
             Ok(_) => {}
             Err(ReadFault::Reader) => return SessionEnd::ReadFault,

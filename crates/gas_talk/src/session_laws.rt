@@ -8,6 +8,8 @@ ghost use Rattle.gas_terms.specs.declared.refusal.Refusal.{Refusal};
 ghost use Rattle.gas_talk.specs.declared.door.Copied.{Copied};
 ghost use Rattle.gas_talk.specs.declared.end.SessionEnd.{SessionEnd};
 ghost use Rattle.gas_talk.specs.Ends.{Place, IsSession};
+ghost use Rattle.gas_talk.specs.LabTalk.{IsAlone, lab_place, IsTalk};
+ghost use Rattle.gas_terms.specs.Laboratory.{Laboratory};
 
 use crate::door::Door;
 
@@ -18,4 +20,13 @@ pub fn kept_by_calls_is_kept_by_sessions<D: Door, X>()
         → ((d : D) (copied : Result Copied NoMemory) (e : D) → D.copies d copied e → part e ≡ part d)
         → (unread_old unread_new : Option (List ℕ)) (old : Place D) (end : SessionEnd) (new : Place D)
         → IsSession D.size_of D.asks D.copies unread_old unread_new old end new → part new.door ≡ part old.door }
+{}
+
+/// A session over a door to a laboratory that nobody else uses is a talk with the laboratory.
+pub fn sessions_alone_are_talks<D: Door>()
+    ensures { (lab_of : D → Laboratory) (seat_of : D → ℕ)
+        → IsAlone D.size_of D.asks D.copies lab_of seat_of
+        → (unread_old unread_new : Option (List ℕ)) (old : Place D) (end : SessionEnd) (new : Place D)
+        → IsSession D.size_of D.asks D.copies unread_old unread_new old end new
+        → IsTalk (seat_of old.door) unread_old unread_new (lab_place lab_of old) end (lab_place lab_of new) }
 {}

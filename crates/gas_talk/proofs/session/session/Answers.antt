@@ -1,64 +1,92 @@
-use Rattle.std.proofs.Common.{◌≡◌, [], ◌++◌, ◌∙◌, append-nil}
+use Rattle.std.proofs.Common.{◌≡◌, [], ◌+◌, ◌-◌, ◌<◌, ◌++◌, ◌∙◌, sym, append-nil, arith, refl, rules}
 use Rattle.std.proofs.KnownBytes.{Consumes-nil, Consumes-trans, Consumes-kept}
 use Rattle.std.proofs.lemmas.List.{nil_from_length}
 use Rattle.gas_talk.specs.declared.end.SessionEnd.TheVariants.{InputEnd, ReadFault, TooManyReads}
-use Rattle.gas_talk.proofs.Progress.{Progress_start, Progress_read, Serves_last_memory, last_not_at_end, Serves_all}
+use Rattle.gas_talk.proofs.Counting.{none_yet, one_more, after_read, after_fault, after_all}
+use Rattle.gas_talk.proofs.Progress.{Progress_start, Progress_read, Serves_last_memory, last_at_no_other, Serves_all, read_by}
 use Rattle.gas_talk.proofs.session.session.Goals as goal
 
-pub loop-init : goal.loop-init
-loop-init g c = ([], Consumes-nil _, Progress_start g.D.Door.size_of g.D.Door.asks g.D.Door.copies _ c.new-lines.result c.new-lines.ensures)
+pub loop-reads-init : goal.loop-reads-init
+loop-reads-init g c = (
+  [],
+  rw c.new-reads.ensures.bytes (Consumes-nil _),
+  Progress_start g.D.Door.size_of g.D.Door.asks g.D.Door.copies _ c.new-lines.result c.new-lines.ensures,
+  0,
+  none_yet _ c.new-reads.ensures.left,
+  refl,
+)
 
 pub returns-in-Ok-eq0 : goal.returns-in-Ok-eq0
 returns-in-Ok-eq0 g c =
     let given = c.in-Ok-eq0.ensures.read in
     let nothing : given.0 ≡ [] = nil_from_length given.0 (given.1 ∙ c.in-Ok-eq0.field-0-test) in
-    record {
-      input = c.loop.invariant.0 ++ given.0;
-      reads = Consumes-trans _ _ _ _ _ c.loop.invariant.1 given.2;
-      serves = rw (nothing, append-nil) (Serves_all g.D.Door.size_of g.D.Door.asks g.D.Door.copies c.loop.invariant.0 _ c.loop.lines _ c.loop.invariant.2.0 InputEnd c.loop.invariant.2.1 (λ h. h));
+    let same = c.in-Ok-eq0.ensures.same ∙ c.loop-reads.invariant.5 ∙ c.new-reads.ensures.same in
+    read_by g.D.Door.size_of g.D.Door.asks g.D.Door.copies g.R.Read.remaining _ c.read_more.new.reads.reader.now _ _ InputEnd _ (search (rules, same)) (record {
+      input = c.loop-reads.invariant.0 ++ given.0;
+      reads = Consumes-trans _ _ _ _ _ c.loop-reads.invariant.1 given.2;
+      serves = rw (nothing, append-nil) (Serves_all g.D.Door.size_of g.D.Door.asks g.D.Door.copies c.loop-reads.invariant.0 _ c.loop-reads.lines _ c.loop-reads.invariant.2.0 InputEnd c.loop-reads.invariant.2.1 (λ h. h));
       whole = λ _. c.in-Ok-eq0.ensures.end c.in-Ok-eq0.field-0-test;
-    }
+      count = c.loop-reads.invariant.3 + 1;
+      bounded = after_read _ _ _ _ _ given.0 InputEnd c.loop-reads.invariant.4 c.in-Ok-eq0.ensures.left given.1 c.in-Ok-eq0.ensures.short (λ wrong. cc);
+    })
 
 pub returns-in-Err-Reader : goal.returns-in-Err-Reader
-returns-in-Err-Reader g c = record {
-  input = c.loop.invariant.0;
-  reads = Consumes-kept _ _ _ _ c.loop.invariant.1 c.in-Err-Reader.ensures.err;
-  serves = Serves_all g.D.Door.size_of g.D.Door.asks g.D.Door.copies c.loop.invariant.0 _ c.loop.lines _ c.loop.invariant.2.0 ReadFault c.loop.invariant.2.1 (λ h. h);
-  whole = λ wrong. cc;
-}
+returns-in-Err-Reader g c =
+    let same = c.in-Err-Reader.ensures.same ∙ c.loop-reads.invariant.5 ∙ c.new-reads.ensures.same in
+    read_by g.D.Door.size_of g.D.Door.asks g.D.Door.copies g.R.Read.remaining _ c.read_more.new.reads.reader.now _ _ ReadFault _ (search (rules, same)) (record {
+      input = c.loop-reads.invariant.0;
+      reads = Consumes-kept _ _ _ _ c.loop-reads.invariant.1 c.in-Err-Reader.ensures.err;
+      serves = Serves_all g.D.Door.size_of g.D.Door.asks g.D.Door.copies c.loop-reads.invariant.0 _ c.loop-reads.lines _ c.loop-reads.invariant.2.0 ReadFault c.loop-reads.invariant.2.1 (λ h. h);
+      whole = λ wrong. cc;
+      count = c.loop-reads.invariant.3 + (c.loop-reads.reads.left - c.read_more.new.reads.left);
+      bounded = after_fault _ _ _ _ ReadFault c.loop-reads.invariant.4 c.in-Err-Reader.ensures.spent.0 c.in-Err-Reader.ensures.spent.1 (λ wrong. cc);
+    })
 
 pub returns-in-Err-NoMemory : goal.returns-in-Err-NoMemory
 returns-in-Err-NoMemory g c =
     let sent = c.last.ensures in
-    record {
-      input = c.loop.invariant.0;
-      reads = Consumes-kept _ _ _ _ c.loop.invariant.1 c.in-Err-NoMemory.ensures.err;
-      serves = Serves_last_memory g.D.Door.size_of g.D.Door.asks g.D.Door.copies c.loop.invariant.0 _ c.loop.lines _ c.loop.invariant.2.0 _ c.last.result sent.0 sent.1 sent.2 sent.3 sent.4;
-      whole = λ wrong. absurd (last_not_at_end _ _ _ (λ wrong. cc) sent.4 wrong);
-    }
+    let same = c.in-Err-NoMemory.ensures.same ∙ c.loop-reads.invariant.5 ∙ c.new-reads.ensures.same in
+    read_by g.D.Door.size_of g.D.Door.asks g.D.Door.copies g.R.Read.remaining _ c.read_more.new.reads.reader.now _ _ _ _ (search (rules, same)) (record {
+      input = c.loop-reads.invariant.0;
+      reads = Consumes-kept _ _ _ _ c.loop-reads.invariant.1 c.in-Err-NoMemory.ensures.err;
+      serves = Serves_last_memory g.D.Door.size_of g.D.Door.asks g.D.Door.copies c.loop-reads.invariant.0 _ c.loop-reads.lines _ c.loop-reads.invariant.2.0 _ c.last.result sent.0 sent.1 sent.2 sent.3 sent.4;
+      whole = λ wrong. absurd (last_at_no_other _ _ _ InputEnd (λ wrong. cc) (λ wrong. cc) sent.4 wrong);
+      count = c.loop-reads.invariant.3 + (c.loop-reads.reads.left - c.read_more.new.reads.left);
+      bounded = after_fault _ _ _ _ _ c.loop-reads.invariant.4 c.in-Err-NoMemory.ensures.spent.0 c.in-Err-NoMemory.ensures.spent.1 (last_at_no_other _ _ _ TooManyReads (λ wrong. cc) (λ wrong. cc) sent.4);
+    })
 
 pub returns-in-Some : goal.returns-in-Some
 returns-in-Some g c =
     let given = c.in-Ok.ensures.read in
-    record {
-      input = c.loop.invariant.0 ++ given.0;
-      reads = Consumes-trans _ _ _ _ _ c.loop.invariant.1 given.2;
-      serves = c.in-Some.ensures.answered _ _ (Progress_read g.D.Door.size_of g.D.Door.asks g.D.Door.copies c.loop.invariant.0 _ c.loop.lines _ given.0 c.read_more.new.self c.loop.invariant.2.0 given.3);
+    let same = c.in-Ok.ensures.same ∙ c.loop-reads.invariant.5 ∙ c.new-reads.ensures.same in
+    read_by g.D.Door.size_of g.D.Door.asks g.D.Door.copies g.R.Read.remaining _ c.read_more.new.reads.reader.now _ _ _ _ (search (rules, same)) (record {
+      input = c.loop-reads.invariant.0 ++ given.0;
+      reads = Consumes-trans _ _ _ _ _ c.loop-reads.invariant.1 given.2;
+      serves = c.in-Some.ensures.answered _ _ (Progress_read g.D.Door.size_of g.D.Door.asks g.D.Door.copies c.loop-reads.invariant.0 _ c.loop-reads.lines _ given.0 c.read_more.new.self c.loop-reads.invariant.2.0 given.3);
       whole = λ wrong. absurd (c.in-Some.ensures.end wrong);
-    }
+      count = c.loop-reads.invariant.3 + 1;
+      bounded = after_read _ _ _ _ _ given.0 _ c.loop-reads.invariant.4 c.in-Ok.ensures.left given.1 c.in-Ok.ensures.short c.in-Some.ensures.in_time;
+    })
 
-pub loop-preserved : goal.loop-preserved
-loop-preserved g c =
+pub loop-reads-preserved : goal.loop-reads-preserved
+loop-reads-preserved g c =
     let given = c.in-Ok.ensures.read in (
-      c.loop.invariant.0 ++ given.0,
-      Consumes-trans _ _ _ _ _ c.loop.invariant.1 given.2,
-      c.in-None.ensures.answered _ _ (Progress_read g.D.Door.size_of g.D.Door.asks g.D.Door.copies c.loop.invariant.0 _ c.loop.lines _ given.0 c.read_more.new.self c.loop.invariant.2.0 given.3),
+      c.loop-reads.invariant.0 ++ given.0,
+      Consumes-trans _ _ _ _ _ c.loop-reads.invariant.1 given.2,
+      c.in-None.ensures.answered _ _ (Progress_read g.D.Door.size_of g.D.Door.asks g.D.Door.copies c.loop-reads.invariant.0 _ c.loop-reads.lines _ given.0 c.read_more.new.self c.loop-reads.invariant.2.0 given.3),
+      c.loop-reads.invariant.3 + 1,
+      one_more _ _ _ _ _ given.0 c.loop-reads.invariant.4 c.in-Ok.ensures.left given.1 c.in-Ok.ensures.short (omega (arith, c.in-Ok.field-0-test)),
+      c.in-Ok.ensures.same ∙ c.loop-reads.invariant.5,
     )
 
 pub returns : goal.returns
-returns g c = record {
-  input = c.loop.invariant.0;
-  reads = c.loop.invariant.1;
-  serves = Serves_all g.D.Door.size_of g.D.Door.asks g.D.Door.copies c.loop.invariant.0 _ c.loop.lines _ c.loop.invariant.2.0 TooManyReads c.loop.invariant.2.1 (λ h. h);
-  whole = λ wrong. cc;
-}
+returns g c =
+    let same = c.loop-reads.invariant.5 ∙ c.new-reads.ensures.same in
+    read_by g.D.Door.size_of g.D.Door.asks g.D.Door.copies g.R.Read.remaining _ c.loop-reads.reads.reader.now _ _ TooManyReads _ (search (rules, same)) (record {
+      input = c.loop-reads.invariant.0;
+      reads = c.loop-reads.invariant.1;
+      serves = Serves_all g.D.Door.size_of g.D.Door.asks g.D.Door.copies c.loop-reads.invariant.0 _ c.loop-reads.lines _ c.loop-reads.invariant.2.0 TooManyReads c.loop-reads.invariant.2.1 (λ h. h);
+      whole = λ wrong. cc;
+      count = c.loop-reads.invariant.3;
+      bounded = after_all _ _ _ c.loop-reads.invariant.4 (sym c.any_left.ensures ∙ c.loop-reads-test.false);
+    })

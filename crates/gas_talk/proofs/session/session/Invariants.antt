@@ -1,13 +1,18 @@
-use Rattle.std.proofs.Common.{ℕ, List, None}
+use Rattle.std.proofs.Common.{◌≡◌, ℕ, List, None}
 use Rattle.std.specs.Io.KnownBytes.{Consumes}
 use Rattle.gas_talk.specs.Ends.{AnswersLines}
+use Rattle.gas_talk.proofs.Counting.{Counts}
 use Rattle.gas_talk.proofs.session.session.Given as goal
 
--- each line of what was read is answered
-abbrev pub invariant-loop : goal.invariant-loop
-invariant-loop g l =
-    (input : List ℕ) × Consumes (g.R.Read.remaining l.fn.reader) (g.R.Read.remaining l.reader) input
+-- each line of what was read is answered, and each read is counted
+abbrev pub invariant-loop-reads : goal.invariant-loop-reads
+invariant-loop-reads g l =
+    (input : List ℕ) × Consumes (g.R.Read.remaining l.fn.reader) (g.R.Read.remaining l.reads.reader.now) input
     × AnswersLines g.D.Door.size_of g.D.Door.asks g.D.Door.copies input
     (record { door = l.fn.door; written = g.W.Write.contents l.fn.writer; failures = g.K.Shelf.failures l.fn.shelf; shelved = g.K.Shelf.shelved l.fn.shelf })
     None l.lines
     (record { door = l.door; written = g.W.Write.contents l.writer; failures = g.K.Shelf.failures l.shelf; shelved = g.K.Shelf.shelved l.shelf })
+    × (count : ℕ) × Counts count l.reads.left input × (l.reads.reader.ghost_name ≡ l.initial.reads.reader.ghost_name)
+
+abbrev pub decreases-loop-reads : goal.decreases-loop-reads
+decreases-loop-reads g l = l.reads.left
