@@ -141,5 +141,5 @@ module _ {D : Type 0} (size_of : D → Extent) (asks : D → Command → Result 
           ended = subst (λ ts. EndsAs (extent (lab_of old.door).start.particles) end (lines s.input) ts s.serves.later s.serves.output) (sym turns) (subst (λ n. EndsAs n end (lines s.input) s.serves.turns s.serves.later s.serves.output) (sizes old.door) s.serves.ended);
           whole = s.whole;
           count = s.count;
-          bounded = s.bounded;
+          counted = s.counted;
         }

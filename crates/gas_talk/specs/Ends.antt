@@ -1,5 +1,5 @@
 -- How a session goes: the turns it takes over its input, and how it ends.
-use Rattle.std.specs.Prelude.{◌≡◌, ℕ, zero, suc, ◌+◌, ◌-◌, ◌*◌, ◌^◌, ◌≤◌, min, ◌⊎◌, Bool, true, false, if◌then◌else◌, List, [], ◌∷◌, ◌++◌, length, map, Option, Some, None, Result, Ok, Err}
+use Rattle.std.specs.Prelude.{◌≡◌, ℕ, zero, suc, ◌+◌, ◌-◌, ◌*◌, ◌^◌, ◌<◌, ◌≤◌, min, ◌⊎◌, Bool, true, false, if◌then◌else◌, List, [], ◌∷◌, ◌++◌, length, map, Option, Some, None, Result, Ok, Err}
 use Rattle.std.specs.List.{flat_map, sum_by, FoldsTo}
 use Rattle.std.specs.Io.KnownBytes.{Consumes, Appends, IsAtEnd}
 use Rattle.gas_terms.specs.Cells.{Extent}
@@ -102,12 +102,14 @@ EndsAs size WriteFault items turns later written = IsCutShort turns written ⊎ 
 abbrev pub EndsWith : List ℕ → SessionEnd → SessionEnd → Type 0
 EndsWith missing wanted end = ((missing ≡ []) × (end ≡ wanted)) ⊎ (end ≡ WriteFault)
 
--- So many reads gave the input: at most 2^24, of at most 4,096 bytes each; and where another was needed, as many as that,
--- each with a byte at least.
+-- So many reads gave the input, each of them a byte at least and 4,096 bytes at most. There are at most 2^24: all of them
+-- where another was needed, and fewer where one gave nothing.
 pub record AreReads (reads : ℕ) (input : List ℕ) (end : SessionEnd) : Type 0 where
   pub few : reads ≤ 2 ^ 24
+  pub some : reads ≤ length input
   pub short : length input ≤ 4096 * reads
-  pub all : end ≡ TooManyReads → (reads ≡ 2 ^ 24) × (reads ≤ length input)
+  pub all : end ≡ TooManyReads → reads ≡ 2 ^ 24
+  pub fewer : (end ≡ InputEnd) ⊎ (end ≡ ReadFault) → reads < 2 ^ 24
 
 -- what a session asks, writes to and puts on
 pub record Place (D : Type 0) : Type 0 where
@@ -141,9 +143,9 @@ module _ {D : Type 0} (size_of : D → Extent) (asks : D → Command → Result 
     pub reads : Consumes unread_old unread_new input
     pub serves : Serves input old end new
     pub whole : end ≡ InputEnd → IsAtEnd unread_new
-    -- how many reads there were
+    -- how many reads gave it
     pub count : ℕ
-    pub bounded : AreReads count input end
+    pub counted : AreReads count input end
 
   -- Within a session: each item of the input so far is taken, or is an item of what is unread.
   pub record Progress (input : List ℕ) (old : Place D) (reader : LineReader) (new : Place D) : Type 0 where

@@ -99,9 +99,9 @@ pub record IsTalk (seat : ℕ) (unread_old unread_new : Option (List ℕ)) (old 
   pub writes : Appends old.written new.written output
   pub ended : EndsAs (extent old.door.start.particles) end (lines input) (talk seat old.door asked).0 later output
   pub whole : end ≡ InputEnd → IsAtEnd unread_new
-  -- how many reads there were
+  -- how many reads gave it
   pub count : ℕ
-  pub bounded : AreReads count input end
+  pub counted : AreReads count input end
 
 -- A door of a seat whose calls are those of a laboratory that nobody else uses.
 pub record IsAlone {D : Type 0} (size_of : D → Extent) (asks : D → Command → Result Answer Refusal → D → Type 0) (copies : D → Result Copied NoMemory → D → Type 0) (lab_of : D → Laboratory) (seat_of : D → ℕ) : Type 0 where

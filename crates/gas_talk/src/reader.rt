@@ -74,7 +74,6 @@ impl LineReader {
         requires { 0 < reads.old.left }
         ensures same { reads.new.reader.ghost_name ≡ reads.old.reader.ghost_name }
         ensures left { OnOk result (reads.new.left + 1 ≡ reads.old.left) }
-        ensures spent { OnErr result ((reads.new.left ≤ reads.old.left) × (reads.old.left ≤ reads.new.left + 1)) }
         ensures read { IfOk result (λ n. (more : List ℕ) × (length more ≡ n)
             × Consumes (R.remaining reads.old.reader.now) (R.remaining reads.new.reader.now) more
             × ((unread : List ℕ) → Keeps self.old unread → Keeps self.new (unread ++ more))) }

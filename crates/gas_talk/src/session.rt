@@ -60,6 +60,7 @@ fn answer_lines<W: Write, D: Door, K: Shelf>(
         (record { door = door.new; written = W.contents writer.new; failures = K.failures shelf.new; shelved = K.shelved shelf.new }) }
     ensures end { IfSome result (λ end. end ≢ SessionEnd.InputEnd) }
     ensures in_time { IfSome result (λ end. end ≢ SessionEnd.TooManyReads) }
+    ensures no_fault { IfSome result (λ end. end ≢ SessionEnd.ReadFault) }
 {
     'lines: loop {
         match lines.next_line() {

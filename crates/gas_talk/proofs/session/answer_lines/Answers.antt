@@ -55,6 +55,9 @@ returns-in-Bad-clause-end g c = last_at_no_other _ _ _ _ (λ wrong. cc) (λ wron
 pub returns-in-Bad-clause-in_time : goal.returns-in-Bad-clause-in_time
 returns-in-Bad-clause-in_time g c = last_at_no_other _ _ _ _ (λ wrong. cc) (λ wrong. cc) c.last.ensures.4
 
+pub returns-in-Bad-clause-no_fault : goal.returns-in-Bad-clause-no_fault
+returns-in-Bad-clause-no_fault g c = last_at_no_other _ _ _ _ (λ wrong. cc) (λ wrong. cc) c.last.ensures.4
+
 pub returns-in-NoMemory-clause-answered : goal.returns-in-NoMemory-clause-answered
 returns-in-NoMemory-clause-answered g c = λ input from before.
     let p = c.lines.invariant input from before in
@@ -66,6 +69,9 @@ returns-in-NoMemory-clause-end g c = last_at_no_other _ _ _ _ (λ wrong. cc) (λ
 
 pub returns-in-NoMemory-clause-in_time : goal.returns-in-NoMemory-clause-in_time
 returns-in-NoMemory-clause-in_time g c = last_at_no_other _ _ _ _ (λ wrong. cc) (λ wrong. cc) c.last-in-NoMemory.ensures.4
+
+pub returns-in-NoMemory-clause-no_fault : goal.returns-in-NoMemory-clause-no_fault
+returns-in-NoMemory-clause-no_fault g c = last_at_no_other _ _ _ _ (λ wrong. cc) (λ wrong. cc) c.last-in-NoMemory.ensures.4
 
 pub returns-in-More-clause-answered : goal.returns-in-More-clause-answered
 returns-in-More-clause-answered g c = λ input from before.

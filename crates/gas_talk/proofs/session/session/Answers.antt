@@ -1,8 +1,8 @@
-use Rattle.std.proofs.Common.{◌≡◌, [], ◌+◌, ◌-◌, ◌<◌, ◌++◌, ◌∙◌, sym, append-nil, arith, refl, rules}
+use Rattle.std.proofs.Common.{◌≡◌, [], ◌+◌, ◌++◌, ◌∙◌, sym, append-nil, arith, refl, rules}
 use Rattle.std.proofs.KnownBytes.{Consumes-nil, Consumes-trans, Consumes-kept}
 use Rattle.std.proofs.lemmas.List.{nil_from_length}
 use Rattle.gas_talk.specs.declared.end.SessionEnd.TheVariants.{InputEnd, ReadFault, TooManyReads}
-use Rattle.gas_talk.proofs.Counting.{none_yet, one_more, after_read, after_fault, after_all}
+use Rattle.gas_talk.proofs.Counting.{none_yet, one_more, after_read, after_nothing, after_all}
 use Rattle.gas_talk.proofs.Progress.{Progress_start, Progress_read, Serves_last_memory, last_at_no_other, Serves_all, read_by}
 use Rattle.gas_talk.proofs.session.session.Goals as goal
 
@@ -26,8 +26,8 @@ returns-in-Ok-eq0 g c =
       reads = Consumes-trans _ _ _ _ _ c.loop-reads.invariant.1 given.2;
       serves = rw (nothing, append-nil) (Serves_all g.D.Door.size_of g.D.Door.asks g.D.Door.copies c.loop-reads.invariant.0 _ c.loop-reads.lines _ c.loop-reads.invariant.2.0 InputEnd c.loop-reads.invariant.2.1 (λ h. h));
       whole = λ _. c.in-Ok-eq0.ensures.end c.in-Ok-eq0.field-0-test;
-      count = c.loop-reads.invariant.3 + 1;
-      bounded = after_read _ _ _ _ _ given.0 InputEnd c.loop-reads.invariant.4 c.in-Ok-eq0.ensures.left given.1 c.in-Ok-eq0.ensures.short (λ wrong. cc);
+      count = c.loop-reads.invariant.3;
+      counted = rw (nothing, append-nil) (after_nothing _ _ _ InputEnd c.loop-reads.invariant.4 (sym c.any_left.ensures ∙ c.loop-reads-test.true) (λ wrong. cc));
     })
 
 pub returns-in-Err-Reader : goal.returns-in-Err-Reader
@@ -38,8 +38,8 @@ returns-in-Err-Reader g c =
       reads = Consumes-kept _ _ _ _ c.loop-reads.invariant.1 c.in-Err-Reader.ensures.err;
       serves = Serves_all g.D.Door.size_of g.D.Door.asks g.D.Door.copies c.loop-reads.invariant.0 _ c.loop-reads.lines _ c.loop-reads.invariant.2.0 ReadFault c.loop-reads.invariant.2.1 (λ h. h);
       whole = λ wrong. cc;
-      count = c.loop-reads.invariant.3 + (c.loop-reads.reads.left - c.read_more.new.reads.left);
-      bounded = after_fault _ _ _ _ ReadFault c.loop-reads.invariant.4 c.in-Err-Reader.ensures.spent.0 c.in-Err-Reader.ensures.spent.1 (λ wrong. cc);
+      count = c.loop-reads.invariant.3;
+      counted = after_nothing _ _ _ ReadFault c.loop-reads.invariant.4 (sym c.any_left.ensures ∙ c.loop-reads-test.true) (λ wrong. cc);
     })
 
 pub returns-in-Err-NoMemory : goal.returns-in-Err-NoMemory
@@ -51,8 +51,8 @@ returns-in-Err-NoMemory g c =
       reads = Consumes-kept _ _ _ _ c.loop-reads.invariant.1 c.in-Err-NoMemory.ensures.err;
       serves = Serves_last_memory g.D.Door.size_of g.D.Door.asks g.D.Door.copies c.loop-reads.invariant.0 _ c.loop-reads.lines _ c.loop-reads.invariant.2.0 _ c.last.result sent.0 sent.1 sent.2 sent.3 sent.4;
       whole = λ wrong. absurd (last_at_no_other _ _ _ InputEnd (λ wrong. cc) (λ wrong. cc) sent.4 wrong);
-      count = c.loop-reads.invariant.3 + (c.loop-reads.reads.left - c.read_more.new.reads.left);
-      bounded = after_fault _ _ _ _ _ c.loop-reads.invariant.4 c.in-Err-NoMemory.ensures.spent.0 c.in-Err-NoMemory.ensures.spent.1 (last_at_no_other _ _ _ TooManyReads (λ wrong. cc) (λ wrong. cc) sent.4);
+      count = c.loop-reads.invariant.3;
+      counted = after_nothing _ _ _ _ c.loop-reads.invariant.4 (sym c.any_left.ensures ∙ c.loop-reads-test.true) (last_at_no_other _ _ _ TooManyReads (λ wrong. cc) (λ wrong. cc) sent.4);
     })
 
 pub returns-in-Some : goal.returns-in-Some
@@ -65,7 +65,7 @@ returns-in-Some g c =
       serves = c.in-Some.ensures.answered _ _ (Progress_read g.D.Door.size_of g.D.Door.asks g.D.Door.copies c.loop-reads.invariant.0 _ c.loop-reads.lines _ given.0 c.read_more.new.self c.loop-reads.invariant.2.0 given.3);
       whole = λ wrong. absurd (c.in-Some.ensures.end wrong);
       count = c.loop-reads.invariant.3 + 1;
-      bounded = after_read _ _ _ _ _ given.0 _ c.loop-reads.invariant.4 c.in-Ok.ensures.left given.1 c.in-Ok.ensures.short c.in-Some.ensures.in_time;
+      counted = after_read _ _ _ _ (one_more _ _ _ _ _ given.0 c.loop-reads.invariant.4 c.in-Ok.ensures.left given.1 c.in-Ok.ensures.short (omega (arith, c.in-Ok.field-0-test))) c.in-Some.ensures.in_time c.in-Some.ensures.end c.in-Some.ensures.no_fault;
     })
 
 pub loop-reads-preserved : goal.loop-reads-preserved
@@ -88,5 +88,5 @@ returns g c =
       serves = Serves_all g.D.Door.size_of g.D.Door.asks g.D.Door.copies c.loop-reads.invariant.0 _ c.loop-reads.lines _ c.loop-reads.invariant.2.0 TooManyReads c.loop-reads.invariant.2.1 (λ h. h);
       whole = λ wrong. cc;
       count = c.loop-reads.invariant.3;
-      bounded = after_all _ _ _ c.loop-reads.invariant.4 (sym c.any_left.ensures ∙ c.loop-reads-test.false);
+      counted = after_all _ _ _ c.loop-reads.invariant.4 (sym c.any_left.ensures ∙ c.loop-reads-test.false);
     })
