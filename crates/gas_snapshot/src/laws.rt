@@ -1,6 +1,7 @@
 //! Laws of snapshots. Each function does nothing: its contract is the law.
 
-ghost use Rattle.std.specs.Prelude.{◌≡◌, List, ℕ};
+ghost use Rattle.std.specs.Prelude.{◌≡◌, ◌<◌, List, ℕ, Ok};
+ghost use Rattle.std.specs.List.{All};
 ghost use Rattle.gas_terms.specs.Gas.{Gas};
 ghost use Rattle.gas_ledger.specs.Gases.{IsSoundGas};
 ghost use Rattle.gas_snapshot.specs.declared.version.Version.{Version};
@@ -21,4 +22,10 @@ pub fn each_gas_has_a_spelling()
 pub fn bytes_spell_one_gas()
     ensures gas { (bytes : List ℕ) (g h : Gas) → Spells bytes g → Spells bytes h → g ≡ h }
     ensures version { (bytes : List ℕ) (g h : Gas) (s : Spells bytes g) (t : Spells bytes h) → s.version ≡ t.version }
+{}
+
+/// What is read of bytes is the gas that they spell, and what they spell is read. So memory is wanted for a snapshot alone.
+pub fn reading_is_spelling()
+    ensures read { (bytes : List ℕ) (g : Gas) → All (λ b. b < 256) bytes → reading bytes ≡ Ok g → Spells bytes g }
+    ensures spelled { (bytes : List ℕ) (g : Gas) → Spells bytes g → reading bytes ≡ Ok g }
 {}

@@ -27,9 +27,12 @@ fn path_in(rt: &(impl Abort + AllocGlobal), folder: &str) -> String {
 }
 
 // Seat 7's draft.
+fn draft_of(rt: &(impl Abort + AllocGlobal), path: &str) -> String {
+    format!(in rt.alloc(); "{path}.7.tmp").expect(rt, "memory")
+}
+
 fn has_no_draft(rt: &(impl Abort + AllocGlobal + Files), path: &str) {
-    let draft = format!(in rt.alloc(); "{path}.7.tmp").expect(rt, "memory");
-    assert!(rt; fs::metadata(rt, draft.as_str()).is_err());
+    assert!(rt; fs::metadata(rt, draft_of(rt, path).as_str()).is_err());
 }
 
 fn is_read(rt: &(impl Abort + AllocGlobal), bytes: &[u8]) {
@@ -43,6 +46,23 @@ fn holds_the_snapshot(rt: &(impl Abort + AllocGlobal + Files), path: &str) {
     let read = fs::read(rt, path).expect(rt, "a file");
     assert_eq!(rt; read.as_slice(), snapshot().as_slice());
     is_read(rt, read.as_slice());
+}
+
+// A folder where the draft would be: the put fails, is counted, and leaves the file that was there.
+#[test]
+fn failed_put_leaves_the_file(rt: HostRuntime) {
+    let folder = format!(in rt.alloc(); "/tmp/gaslab_kept_{}", process::id(rt.process())).expect(
+        &rt, "memory",
+    );
+    let path = path_in(&rt, folder.as_str());
+    let draft = draft_of(&rt, path.as_str());
+    fs::create_dir_all(&rt, draft.as_str()).expect(&rt, "a new folder");
+    fs::write(&rt, path.as_str(), snapshot().as_slice()).expect(&rt, "a file");
+    let mut shelf = FileShelf::new(rt.alloc(), rt, path.as_str(), 7).expect(&rt, "memory");
+    assert!(rt; shelf.put([1, 2, 3].as_slice()).is_err());
+    assert_eq!(rt; shelf.failures(), 1);
+    holds_the_snapshot(&rt, path.as_str());
+    fs::remove_dir_all(&rt, folder.as_str()).expect(&rt, "no folder");
 }
 
 #[test]

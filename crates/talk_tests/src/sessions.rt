@@ -3,7 +3,7 @@
 use gas_lab::{Gas, Lab, Serial};
 use gas_talk::session::session;
 use gas_talk::{Alone, SessionEnd, serve_alone};
-use gas_terms::{Command, Size};
+use gas_terms::{Command, NoMemory, Size};
 use std::process::Abort;
 use test_types::faults::{FaultAt, Sink, Source, Store};
 
@@ -143,5 +143,36 @@ fn failing_calls(rt: HostRuntime) {
         FaultAt::nothing_after(2),
     ] {
         write_fails(&rt, &mut lab, fault);
+    }
+}
+
+// a byte a read: 2^24 reads are made, and another is needed
+#[test]
+fn too_many_reads(rt: HostRuntime) {
+    let mut lab = lab(&rt);
+    let mut source = Source::endless(b"tally\n", 1);
+    let mut sink = sink(&rt);
+    let mut store = Store::new(rt.alloc(), FaultAt::never());
+    let end = serve_alone(rt.alloc(), &mut source, &mut sink, &mut lab, 5, &mut store);
+    assert_eq!(rt; end, SessionEnd::TooManyReads);
+    assert_eq!(rt; source.reads(), 16_777_216);
+    assert_eq!(rt; sink.taken().len(), 39_146_828);
+}
+
+fn small_lab(rt: &(impl Abort + AllocGlobal)) -> Result<Lab<Serial>, NoMemory> {
+    let size = Size::new(64, 64).expect(rt, "a size");
+    Lab::open(rt.alloc(), Gas::empty(rt.alloc(), size)?, 1024, Serial)
+}
+
+// Whichever allocation is refused, that of the line reader too: where nothing can be written the session ends so.
+#[test]
+fn refused_memory_to_a_session_that_cannot_write(rt: HostRuntime) {
+    if let Ok(mut lab) = small_lab(&rt) {
+        let mut source = Source::new(b"tally\n", ALL, FaultAt::never());
+        let mut sink = Sink::new(rt.alloc(), ALL, ALL, FaultAt::after(0));
+        let mut store = Store::new(rt.alloc(), FaultAt::never());
+        let end = serve_alone(rt.alloc(), &mut source, &mut sink, &mut lab, 2, &mut store);
+        assert_eq!(rt; end, SessionEnd::WriteFault);
+        assert!(rt; sink.taken().is_empty() && lab.journal().is_empty());
     }
 }

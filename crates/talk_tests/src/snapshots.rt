@@ -157,6 +157,36 @@ fn each_change_has_its_fault(rt: HostRuntime) {
     );
 }
 
+// what is wrong with other bytes when those from a place on are changed
+fn fault_in(
+    rt: &(impl Abort + AllocGlobal),
+    first: &[u8],
+    len: usize,
+    at: usize,
+    change: &[u8],
+) -> Option<SnapFault> {
+    let mut bytes = padded(rt, first, len);
+    set_all(&mut bytes, at, change);
+    decode(rt.alloc(), bytes.as_slice()).err()
+}
+
+#[test]
+fn sides_and_ticks_out_of_range(rt: HostRuntime) {
+    // version 2, 4,160 wide
+    assert_eq!(rt;
+        fault_in(&rt, &NEW, 1558, 8, &[0x10, 0x40]),
+        Some(SnapFault::Size)
+    );
+    assert_eq!(rt;
+        fault_in(&rt, &WITH_PORTS, 1064, 8, &[0xff]),
+        Some(SnapFault::Size)
+    );
+    assert_eq!(rt;
+        fault_in(&rt, &WITH_PORTS, 1064, 12, &[0]),
+        Some(SnapFault::Tick)
+    );
+}
+
 fn with_an_obstacle(rt: &(impl Abort + AllocGlobal)) -> Vec<u8> {
     let mut gas = empty(rt);
     let area = Rect::within(gas.size(), 1, 1, 1, 1).expect(rt, "a rectangle");
