@@ -2,3 +2,4 @@ pub mod Turns
 pub mod Events
 pub mod Numbered
 pub mod TurnSeats
+pub mod Totals

@@ -4,6 +4,7 @@
 mod gate;
 mod hall;
 mod held;
+mod hosting;
 mod in_turn;
 mod name;
 pub mod receipts;
@@ -15,6 +16,7 @@ mod turn_hall;
 pub use gate::{HallGate, NoHallGate};
 pub use hall::{Hall, HallDoor};
 pub use held::Held;
+pub use hosting::{Counts, serve_lab};
 pub use name::HallName;
 pub use seat::HallSeat;
 pub use serving::{AcceptFault, Lobby, Served, TurnServed, serve, serve_turn};

@@ -37,6 +37,23 @@ pub trait Lobby {
     fn accept(&mut self) -> Result<(Self::R, Self::W), AcceptFault>;
 }
 
+/// One session: its seat, what it says, where its replies go, and where it saves.
+pub(crate) struct Guest<T, In, Out, K> {
+    pub(crate) seat: T,
+    pub(crate) reader: In,
+    pub(crate) writer: Out,
+    pub(crate) shelf: K,
+}
+
+/// What all sessions share: the hall, and the number of the seat whose thread was refused, where one was.
+#[derive(Drop)]
+pub(crate) struct House<'s, R, H> {
+    pub(crate) rt: &'s R,
+    pub(crate) alloc: Global,
+    pub(crate) hall: &'s H,
+    pub(crate) refused: &'s AtomicU32,
+}
+
 /// A hall whose seats take sessions.
 pub(crate) trait Seating<T, R> {
     // the seat without what its sessions change
@@ -58,13 +75,10 @@ pub(crate) trait Seating<T, R> {
         &self,
         rt: &R,
         alloc: Global,
-        seat: T,
-        reader: In,
-        writer: Out,
-        shelf: K,
+        guest: Guest<T, In, Out, K>,
     ) -> T
-        requires here { has self.now (kept seat) }
-        ensures { kept result ≡ kept seat };
+        requires here { has self.now (kept guest.seat) }
+        ensures { kept result ≡ kept guest.seat };
 }
 
 impl<N: HallName, S: Stepper, G: HallGate, R: Wait> Seating<HallSeat<N>, R> for Hall<N, S, G> {
@@ -86,14 +100,16 @@ impl<N: HallName, S: Stepper, G: HallGate, R: Wait> Seating<HallSeat<N>, R> for 
         &self,
         rt: &R,
         alloc: Global,
-        seat: HallSeat<N>,
-        reader: In,
-        writer: Out,
-        shelf: K,
-    ) -> HallSeat<N> {
-        let mut reader = reader;
-        let mut writer = writer;
-        let mut shelf = shelf;
+        guest: Guest<HallSeat<N>, In, Out, K>,
+    ) -> HallSeat<N>
+        ensures { record result { entries = 0 } ≡ record guest.seat { entries = 0 } }
+    {
+        let Guest {
+            seat,
+            mut reader,
+            mut writer,
+            mut shelf,
+        } = guest;
         let mut door = self.door(rt, seat);
         kept_by_calls_is_kept_by_sessions::<HallDoor<'_, N, S, G, R>, HallSeat<N>>();
         session(alloc, &mut reader, &mut writer, &mut door, &mut shelf);
@@ -120,14 +136,17 @@ impl<S: Stepper, R: Wait> Seating<TurnSeat<S>, R> for TurnHall<S> {
         &self,
         rt: &R,
         alloc: Global,
-        seat: TurnSeat<S>,
-        reader: In,
-        writer: Out,
-        shelf: K,
-    ) -> TurnSeat<S> {
-        let mut reader = reader;
-        let mut writer = writer;
-        let mut shelf = shelf;
+        guest: Guest<TurnSeat<S>, In, Out, K>,
+    ) -> TurnSeat<S>
+        requires here { guest.seat.hall ≡ self.now }
+        ensures { but_for_seen result ≡ but_for_seen guest.seat }
+    {
+        let Guest {
+            seat,
+            mut reader,
+            mut writer,
+            mut shelf,
+        } = guest;
         let mut door = self.door(rt, seat);
         kept_by_calls_is_kept_by_sessions::<TurnDoor<'_, S, R>, TurnSeat<S>>();
         session(alloc, &mut reader, &mut writer, &mut door, &mut shelf);
@@ -166,22 +185,22 @@ impl<T, R, H: Seating<T, R>> Promise<T> for SeatKept<H, T, R> {
 
 // What a session's thread does. It serves nobody if the thread was refused.
 pub(crate) fn sit<T, R, H: Seating<T, R>, In: Read + Drop, Out: Write + Drop, K: Shelf + Drop>(
-    rt: &R,
-    alloc: Global,
-    hall: &H,
-    refused: &AtomicU32,
-    seat: T,
-    reader: In,
-    writer: Out,
-    shelf: K,
+    house: &House<'_, R, H>,
+    guest: Guest<T, In, Out, K>,
 ) -> T
-    requires here { H.has hall.now (H.kept seat) }
-    ensures { H.kept result ≡ H.kept seat }
+    requires here { H.has house.now.hall.now (H.kept guest.seat) }
+    ensures { H.kept result ≡ H.kept guest.seat }
 {
-    if refused.load(Ordering::SeqCst) == H::number_of(&seat) as u32 {
+    if house.refused.load(Ordering::SeqCst) == H::number_of(&guest.seat) as u32 {
+        let Guest {
+            seat,
+            reader: _,
+            writer: _,
+            shelf: _,
+        } = guest;
         return seat;
     }
-    hall.hold(rt, alloc, seat, reader, writer, shelf)
+    house.hall.hold(house.rt, house.alloc, guest)
 }
 
 // Starts a session's thread, or hands the seat back.
@@ -195,25 +214,26 @@ fn start<
     Out: Write + Drop + Send,
     K: Shelf + Drop + Send,
 >(
-    rt: &'s R,
-    alloc: Global,
+    house: &House<'s, R, H>,
     scope: &Scope<'s, E>,
-    hall: &'s H,
-    refused: &'s AtomicU32,
-    seat: T,
-    reader: In,
-    writer: Out,
-    shelf: K,
+    guest: Guest<T, In, Out, K>,
 ) -> Result<PromisedHandle<T, SeatKept<H, T, R>>, T>
 where
     T: 's,
     In: 's,
     Out: 's,
     K: 's,
-    requires here { H.has hall.now (H.kept seat) }
-    ensures ok { IfOk result (λ handle. handle.promise.seat.value ≡ seat) }
-    ensures err { IfErr result (λ back. H.kept back ≡ H.kept seat) }
+    requires here { H.has house.now.hall.now (H.kept guest.seat) }
+    ensures ok { IfOk result (λ handle. handle.promise.seat.value ≡ guest.seat) }
+    ensures err { IfErr result (λ back. H.kept back ≡ H.kept guest.seat) }
 {
+    let (rt, alloc, hall, refused) = (house.rt, house.alloc, house.hall, house.refused);
+    let Guest {
+        seat,
+        reader,
+        writer,
+        shelf,
+    } = guest;
     let number = H::number_of(&seat);
     let promise = SeatKept {
         seat: Snapshot::of(&seat),
@@ -222,7 +242,21 @@ where
     let job = move || -> T
         requires here { H.has hall.now (H.kept seat) }
         ensures { H.kept result ≡ H.kept seat }
-    { sit(rt, alloc, hall, refused, seat, reader, writer, shelf) };
+    {
+        let house = House {
+            rt,
+            alloc,
+            hall,
+            refused,
+        };
+        let guest = Guest {
+            seat,
+            reader,
+            writer,
+            shelf,
+        };
+        sit(&house, guest)
+    };
     match scope.spawn_with(promise, job) {
         Ok(handle) => Ok(handle),
         Err(failed) => {
@@ -243,12 +277,9 @@ fn serve_rest<
     L: Lobby,
     K: Shelf + Drop + Send,
 >(
-    rt: &'s R,
-    alloc: Global,
+    house: &House<'s, R, H>,
     scope: &Scope<'s, E>,
     lobby: &mut L,
-    hall: &'s H,
-    refused: &'s AtomicU32,
     seats: &mut Vec<T>,
     shelves: &mut Vec<K>,
 ) -> u32
@@ -259,7 +290,7 @@ where
     K: 's,
     requires few { vec_len seats.old ≤ 64 }
     requires shelves { vec_len shelves.old ≡ vec_len seats.old }
-    requires here { All (λ seat. H.has hall.now (H.kept seat)) seats.old.items }
+    requires here { All (λ seat. H.has house.now.hall.now (H.kept seat)) seats.old.items }
     ensures done { result ≤ vec_len seats.old }
     ensures all { vec_len seats.new ≡ vec_len seats.old }
     ensures seats { map H.kept seats.new.items ≡ map H.kept seats.old.items }
@@ -272,18 +303,24 @@ where
         unreachable!()
     };
     let Ok((reader, writer)) = lobby.accept() else {
-        let done = serve_rest(rt, alloc, scope, lobby, hall, refused, seats, shelves);
+        let done = serve_rest(house, scope, lobby, seats, shelves);
         seats.push_reserved(seat);
         return done;
     };
-    match start(rt, alloc, scope, hall, refused, seat, reader, writer, shelf) {
+    let guest = Guest {
+        seat,
+        reader,
+        writer,
+        shelf,
+    };
+    match start(house, scope, guest) {
         Ok(handle) => {
-            let done = serve_rest(rt, alloc, scope, lobby, hall, refused, seats, shelves);
-            seats.push_reserved(handle.join(rt));
+            let done = serve_rest(house, scope, lobby, seats, shelves);
+            seats.push_reserved(handle.join(house.rt));
             done + 1
         }
         Err(seat) => {
-            let done = serve_rest(rt, alloc, scope, lobby, hall, refused, seats, shelves);
+            let done = serve_rest(house, scope, lobby, seats, shelves);
             seats.push_reserved(seat);
             done
         }
@@ -344,16 +381,13 @@ fn serve_seats<
         {
             let mut seats = seats;
             let mut shelves = shelves;
-            let done = serve_rest(
+            let house = House {
                 rt,
                 alloc,
-                scope,
-                lobby,
                 hall,
-                flag,
-                &mut seats,
-                &mut shelves,
-            );
+                refused: flag,
+            };
+            let done = serve_rest(&house, scope, lobby, &mut seats, &mut shelves);
             (done, seats)
         },
     );

@@ -1,6 +1,6 @@
 //! Where snapshots are put.
 
-ghost use Rattle.std.specs.Prelude.{◌≡◌, ℕ, ◌+◌, ◌-◌, ◌^◌, min, List, [], ◌∷◌, Option, None, IsErr, OnOk, OnErr};
+ghost use Rattle.std.specs.Prelude.{◌≡◌, ℕ, ◌+◌, ◌-◌, ◌^◌, min, List, [], ◌∷◌, Option, None, Some, IsErr, OnOk, OnErr};
 ghost use Rattle.gas_snapshot.specs.Shelved.{Gains};
 
 use std::error::Error;
@@ -60,10 +60,14 @@ impl NoShelf {
 impl Shelf for NoShelf {
     ghost failures = { λ s. s.failures };
 
+    ghost shelved = { λ _. Some [] };
+
     fn put(&mut self, bytes: &[u8]) -> Result<(), ShelfFault>
         ensures refused { IsErr result }
-        ensures ok { OnOk result ((self.new.failures ≡ self.old.failures) × Gains None None (bytes.now ∷ [])) }
-        ensures err { OnErr result ((self.new.failures ≡ min (self.old.failures + 1) (2 ^ 64 - 1)) × Gains None None []) }
+        ensures ok { OnOk result ((self.new.failures ≡ self.old.failures)
+            × Gains (Some []) (Some []) (bytes.now ∷ [])) }
+        ensures err { OnErr result ((self.new.failures ≡ min (self.old.failures + 1) (2 ^ 64 - 1))
+            × Gains (Some []) (Some []) []) }
     {
         let _ = bytes;
         self.failures = self.failures.saturating_add(1);

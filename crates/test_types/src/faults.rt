@@ -1,11 +1,13 @@
 //! Readers, writers and shelves in memory, which fail at one of their calls.
 
-ghost use Rattle.std.specs.Prelude.{◌≡◌};
+ghost use Rattle.std.specs.Prelude.{◌≡◌, ◌++◌, ◌∷◌, [], OnOk, OnErr};
+ghost use Rattle.test_types.specs.Stores.{kept_by};
 
 use gas_snapshot::{Shelf, ShelfFault};
 use std::alloc::Global;
 use std::io;
 use std::io::{Read, Write};
+use std::sync::atomic::{AtomicU32, Ordering};
 
 /// What becomes of a call.
 #[derive(Clone, Copy, Debug, PartialEq, Eq)]
@@ -213,20 +215,31 @@ impl Store {
         self.kept.as_slice()
     }
 
-    fn keep(&mut self, bytes: &[u8]) -> io::Result<()>
-        ensures { self.new.failures ≡ self.old.failures }
+    fn keep(&mut self, bytes: &[u8]) -> Result<(), ShelfFault>
+        ensures failures { self.new.failures ≡ self.old.failures }
+        ensures ok { OnOk result (kept_by self.new ≡ kept_by self.old ++ bytes.now ∷ []) }
+        ensures err { OnErr result (kept_by self.new ≡ kept_by self.old) }
     {
         if self.fault.next() != Call::Succeeds {
-            return Err(failure());
+            return Err(ShelfFault);
         }
-        let copy = Vec::from_slice(*self.kept.allocator(), bytes)?;
-        self.kept.push(copy)?;
-        Ok(())
+        let Ok(copy) = Vec::from_slice(*self.kept.allocator(), bytes) else {
+            return Err(ShelfFault);
+        };
+        match self.kept.push(copy) {
+            Ok(()) => Ok(()),
+            Err(_) => Err(ShelfFault),
+        }
     }
 }
 
 impl Shelf for Store {
+    ghost use Rattle.std.specs.Prelude.{Some};
+    ghost use Rattle.test_types.specs.Stores.{kept_by};
+
     ghost failures = { λ s. s.failures };
+
+    ghost shelved = { λ s. Some (kept_by s) };
 
     fn put(&mut self, bytes: &[u8]) -> Result<(), ShelfFault> {
         if self.keep(bytes).is_err() {
@@ -238,5 +251,31 @@ impl Shelf for Store {
 
     fn failures(&self) -> u64 {
         self.failures
+    }
+}
+
+/// Takes all that is put, and counts it where the test can see it.
+#[derive(Drop)]
+pub struct Counter<'a> {
+    puts: &'a AtomicU32,
+}
+
+impl<'a> Counter<'a> {
+    pub fn new(puts: &'a AtomicU32) -> Counter<'a> {
+        Counter { puts }
+    }
+}
+
+impl<'a> Shelf for Counter<'a> {
+    ghost failures = { λ _. 0 };
+
+    fn put(&mut self, bytes: &[u8]) -> Result<(), ShelfFault> {
+        let _ = bytes;
+        self.puts.fetch_add(1, Ordering::SeqCst);
+        Ok(())
+    }
+
+    fn failures(&self) -> u64 {
+        0
     }
 }

@@ -1,7 +1,8 @@
 //! What tests of several crates speak with: readers, writers and shelves that fail where they are told to, pages and a
-//! lobby in memory, and gates that let sessions go on by turns.
+//! lobby in memory, gates that let sessions go on by turns, and sessions that wait for one another.
 #![tactic(auto)]
 
 pub mod faults;
 pub mod gates;
 pub mod pages;
+pub mod stage;

@@ -2,7 +2,7 @@
 
 use gas_hall::{AcceptFault, Lobby};
 use std::io;
-use std::io::{ErrorKind, Write};
+use std::io::{ErrorKind, Read, Write};
 use std::sync::Mutex;
 
 const ROOM: usize = 512;
@@ -89,11 +89,31 @@ pub fn shows(page: &Mutex<Page>, text: &[u8]) -> bool {
     }
 }
 
+/// Gives its text, and then ends or fails.
+#[derive(Drop)]
+pub struct Words<'a> {
+    rest: &'a [u8],
+    fails: bool,
+}
+
+impl<'a> Read for Words<'a> {
+    fn read(&mut self, buf: &mut [u8]) -> io::Result<usize> {
+        if self.rest.is_empty() && self.fails {
+            return Err(io::Error::from(ErrorKind::Other));
+        }
+        let n = self.rest.len().min(buf.len());
+        buf[..n].copy_from_slice(&self.rest[..n]);
+        self.rest = &self.rest[n..];
+        Ok(n)
+    }
+}
+
 /// Each of its inputs is a session, and an input that is missing is an accept that fails.
 #[derive(Drop)]
 pub struct Guests<'a> {
     inputs: &'a [Option<&'a [u8]>],
     pages: &'a [Mutex<Page>],
+    fails: Option<usize>,
     next: usize,
 }
 
@@ -102,21 +122,36 @@ impl<'a> Guests<'a> {
         Guests {
             inputs,
             pages,
+            fails: None,
             next: 0,
         }
+    }
+
+    /// This session's reader fails at the end of its text.
+    pub fn fail_at_end(&mut self, session: Option<usize>) {
+        self.fails = session;
     }
 }
 
 impl<'a> Lobby for Guests<'a> {
-    type R = &'a [u8];
+    type R = Words<'a>;
 
     type W = PageWriter<'a>;
 
-    fn accept(&mut self) -> Result<(&'a [u8], PageWriter<'a>), AcceptFault> {
+    fn accept(&mut self) -> Result<(Words<'a>, PageWriter<'a>), AcceptFault> {
         let at = self.next;
         self.next = at.saturating_add(1);
         match (self.inputs.get(at), self.pages.get(at)) {
-            (Some(Some(input)), Some(page)) => Ok((*input, PageWriter::new(page))),
+            (Some(Some(input)), Some(page)) => {
+                let fails = self.fails == Some(at);
+                Ok((
+                    Words {
+                        rest: *input,
+                        fails,
+                    },
+                    PageWriter::new(page),
+                ))
+            }
             _ => Err(AcceptFault),
         }
     }

@@ -1,12 +1,10 @@
-use Rattle.std.proofs.Common.{◌≡◌, ℕ, ◌∙◌, ◌++◌, ◌∷◌, [], List, length, length-append, append_assoc, Some, slice_get, refl, sym, ap, subst, arith}
+use Rattle.std.proofs.Common.{◌≡◌, ℕ, ◌∙◌, ◌++◌, ◌∷◌, [], List, length, length-append, Some, slice_get, refl, sym, ap, subst, arith}
 use Rattle.gas_terms.specs.Laboratory.{IsPrefix}
 use Rattle.gas_terms.specs.declared.command.Entry.{Entry}
 use Rattle.gas_hall.proofs.Events.{applies_extends}
 use Rattle.gas_hall.proofs.Numbered.{at_end, before_end}
+use Rattle.gas_hall.proofs.Totals.{goes_on}
 use Rattle.gas_hall.proofs.receipts.receipts_hold.Goals as goal
-
-goes_on : (xs ys zs : List Entry) → IsPrefix xs ys → IsPrefix ys zs → IsPrefix xs zs
-goes_on xs ys zs p q = (p.0 ++ q.0, q.1 ∙ ap (λ l. l ++ q.0) p.1 ∙ append_assoc xs p.0 q.0)
 
 stands : (journal new later : List Entry) (entry : Entry) (k : ℕ) → new ≡ journal ++ entry ∷ [] → k ≡ length journal → IsPrefix new later → slice_get later k ≡ Some entry
 stands journal new later entry k is at p =

@@ -1,0 +1,87 @@
+//! A laboratory that is served, from the opening of its hall to the last session's end.
+
+ghost use Rattle.std.specs.Prelude.{◌≡◌, ℕ, ◌+◌, ◌<◌, ◌≤◌, [], All, IfSome, Some, length, slice_get, vec_len};
+ghost use Rattle.std.specs.List.{sum_by};
+ghost use Rattle.gas_terms.specs.Gas.{Gas};
+ghost use Rattle.gas_hall.specs.TurnSeats.{SeatView, made_by};
+
+use crate::serving::{Lobby, TurnServed, serve_turn};
+use crate::turn_hall::{TurnHall, TurnNote, TurnSeat};
+use gas_lab::{Lab, Stepper};
+use gas_snapshot::Shelf;
+use gas_talk::Door;
+use gas_terms::Command;
+use std::alloc::Global;
+use std::sync::Wait;
+use std::thread::Threads;
+
+/// How many seats were served and how many were not, and the entries that all of them made.
+#[derive(Clone, Copy, Debug, PartialEq, Eq)]
+pub struct Counts {
+    pub done: u32,
+    pub failed: u32,
+    pub entries: u32,
+}
+
+fn note_of<S: Stepper, R>(rt: &R, hall: &TurnHall<S>, seat: TurnSeat<S>) -> TurnNote<S>
+    requires here { seat.hall ≡ hall.now }
+    ensures hall { result.hall ≡ hall.now }
+    ensures seen { result.seen ≡ seat.seen }
+{
+    hall.door(rt, seat).note()
+}
+
+// The entries that all seats made, once they are back. The last of them meets a note of each other one, so that the journal
+// that it then finds at its turn begins with what each has seen.
+fn made_by_all<S: Stepper, R: Wait>(rt: &R, hall: &TurnHall<S>, seats: Vec<TurnSeat<S>>) -> u32
+    requires some { 0 < vec_len seats }
+    requires few { vec_len seats ≤ 64 }
+    requires here { All (λ seat. seat.hall ≡ hall.now) seats.items }
+    requires numbers { (i : ℕ) (seat : SeatView) → slice_get seats.items i ≡ Some seat → seat.number ≡ i }
+    ensures entries { result ≡ sum_by (λ seat. length (made_by seat.number seat.seen)) seats.items }
+    ensures room { (opened : Gas × ℕ) → All (λ seat. seat.opened ≡ Some opened) seats.items → result ≤ opened.1 }
+{
+    let mut seats = seats;
+    let Some(last) = seats.pop() else {
+        unreachable!()
+    };
+    let mut made = last.entries();
+    let mut door = hall.door(rt, last);
+    while let Some(seat) = seats.pop() {
+        made += seat.entries();
+        door.meet(note_of(rt, hall, seat));
+    }
+    let _ = door.ask(Command::Tally);
+    made
+}
+
+/// Serves a laboratory: opens a hall whose seats take turns, a seat for each shelf, and serves each seat once, as
+/// `serve_turn` does. `None` where memory is refused for the hall: then nothing was accepted.
+pub fn serve_lab<S: Stepper + Send, L: Lobby, K: Shelf + Drop + Send, R: Threads + Wait + Sync>(
+    rt: &R,
+    alloc: Global,
+    lab: Lab<S>,
+    lobby: &mut L,
+    shelves: Vec<K>,
+) -> Option<Counts>
+    requires shelves { (0 < vec_len shelves) × (vec_len shelves ≤ 64) }
+    requires lab { lab.journal ≡ [] }
+    ensures seats { IfSome result (λ counts. counts.done + counts.failed ≡ vec_len shelves) }
+    ensures entries { IfSome result (λ counts. counts.entries ≤ lab.cap) }
+{
+    let count = shelves.len() as u16;
+    let Ok((hall, seats)) = TurnHall::open(alloc, lab, count) else {
+        return None;
+    };
+    let TurnServed {
+        done,
+        failed,
+        entries: _,
+        seats,
+    } = serve_turn(rt, alloc, lobby, &hall, seats, shelves);
+    Some(Counts {
+        done,
+        failed,
+        entries: made_by_all(rt, &hall, seats),
+    })
+}

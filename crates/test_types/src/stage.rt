@@ -1,0 +1,184 @@
+//! Sessions in memory that wait for one another's replies.
+
+use crate::gates::wait_for;
+use crate::pages::{Page, PageWriter, shows};
+use gas_hall::{AcceptFault, Lobby};
+use std::io;
+use std::io::{ErrorKind, Read};
+use std::sync::Mutex;
+use std::sync::atomic::{AtomicBool, Ordering};
+use std::time::Clock;
+
+/// What a session writes, and whether its reader was asked again when just the first reply stood there.
+#[derive(Drop)]
+pub struct Place {
+    pub page: Mutex<Page>,
+    told: AtomicBool,
+}
+
+impl Place {
+    fn new(page: Page) -> Place {
+        Place {
+            page: Mutex::new(page),
+            told: AtomicBool::new(false),
+        }
+    }
+}
+
+/// The places of three sessions.
+#[derive(Drop)]
+pub struct Stage {
+    places: [Place; 3],
+    met_limit: AtomicBool,
+}
+
+impl Stage {
+    pub fn new() -> Stage {
+        Stage::with_last(Page::new())
+    }
+
+    /// The last session's page takes nothing.
+    pub fn with_full_page() -> Stage {
+        Stage::with_last(Page::full())
+    }
+
+    fn with_last(last: Page) -> Stage {
+        Stage {
+            places: [
+                Place::new(Page::new()),
+                Place::new(Page::new()),
+                Place::new(last),
+            ],
+            met_limit: AtomicBool::new(false),
+        }
+    }
+
+    /// Whether this was written by the session.
+    pub fn shows(&self, session: usize, text: &[u8]) -> bool {
+        match self.places.get(session) {
+            Some(place) => shows(&place.page, text),
+            None => false,
+        }
+    }
+
+    /// Whether a session waited for the limit of its time.
+    pub fn met_limit(&self) -> bool {
+        self.met_limit.load(Ordering::SeqCst)
+    }
+}
+
+/// A text that is given once this session was told its first reply, where one is named.
+#[derive(Clone, Copy)]
+pub struct Text<'a> {
+    pub after: Option<usize>,
+    pub text: &'a [u8],
+}
+
+/// What a session says: one or two texts, and whether its reader fails after them. `told` is its first reply.
+#[derive(Clone, Copy)]
+pub struct Speech<'a> {
+    pub first: Text<'a>,
+    pub second: Option<Text<'a>>,
+    pub fails: bool,
+    pub told: &'a [u8],
+}
+
+impl<'a> Speech<'a> {
+    /// One text at once.
+    pub fn of(text: &'a [u8]) -> Speech<'a> {
+        Speech {
+            first: Text { after: None, text },
+            second: None,
+            fails: false,
+            told: b"",
+        }
+    }
+}
+
+/// A session that says its speech.
+#[derive(Drop)]
+pub struct Speaker<'a, C: Clock> {
+    clock: C,
+    stage: &'a Stage,
+    place: &'a Place,
+    speech: Speech<'a>,
+    said: u32,
+}
+
+impl<'a, C: Clock> Speaker<'a, C> {
+    // the text that comes next
+    fn next(&mut self) -> Option<Text<'a>> {
+        let said = self.said;
+        self.said = said.saturating_add(1);
+        match said {
+            0 => Some(self.speech.first),
+            1 => self.speech.second,
+            _ => None,
+        }
+    }
+}
+
+impl<'a, C: Clock> Read for Speaker<'a, C> {
+    fn read(&mut self, buf: &mut [u8]) -> io::Result<usize> {
+        if shows(&self.place.page, self.speech.told) {
+            self.place.told.store(true, Ordering::SeqCst);
+        }
+        let Some(Text { after, text }) = self.next() else {
+            return if self.speech.fails {
+                Err(io::Error::from(ErrorKind::Other))
+            } else {
+                Ok(0)
+            };
+        };
+        if let Some(other) = after.and_then(|session| self.stage.places.get(session)) {
+            wait_for(&self.clock, &other.told, &self.stage.met_limit);
+        }
+        let n = text.len().min(buf.len());
+        buf[..n].copy_from_slice(&text[..n]);
+        Ok(n)
+    }
+}
+
+/// Each of its speeches is a session, and one that is missing is an accept that fails.
+#[derive(Drop)]
+pub struct Speakers<'a, C: Clock> {
+    clock: C,
+    stage: &'a Stage,
+    speeches: &'a [Option<Speech<'a>>],
+    next: usize,
+}
+
+impl<'a, C: Clock> Speakers<'a, C> {
+    pub fn new(clock: C, stage: &'a Stage, speeches: &'a [Option<Speech<'a>>]) -> Speakers<'a, C> {
+        Speakers {
+            clock,
+            stage,
+            speeches,
+            next: 0,
+        }
+    }
+}
+
+impl<'a, C: Clock + Copy + Drop + Send> Lobby for Speakers<'a, C> {
+    type R = Speaker<'a, C>;
+
+    type W = PageWriter<'a>;
+
+    fn accept(&mut self) -> Result<(Speaker<'a, C>, PageWriter<'a>), AcceptFault> {
+        let at = self.next;
+        self.next = at.saturating_add(1);
+        match (self.speeches.get(at), self.stage.places.get(at)) {
+            (Some(Some(speech)), Some(place)) => {
+                let speaker = Speaker {
+                    clock: self.clock,
+                    stage: self.stage,
+                    place,
+                    speech: *speech,
+                    said: 0,
+                };
+                Ok((speaker, PageWriter::new(&place.page)))
+            }
+            _ => Err(AcceptFault),
+        }
+    }
+}
