@@ -1,24 +1,58 @@
-//! Servers over a lobby in memory.
+//! Servers over sessions in memory.
 
 use crate::script::{LARGE, Room, SMALL};
-use gas_snapshot::NoShelf;
+use crate::snapshots::snapshot;
+use gas_ledger::Gas;
+use gas_snapshot::{FileShelf, MaybeShelf, NoShelf, decode};
 use gas_terms::Size;
 use gaslab::serving::serve_on;
 use gaslab::setup::Setup;
 use std::process::Abort;
-use std::sync::{Mutex, Wait};
-use std::thread::Threads;
-use test_types::pages::{Guests, Page, shows};
+use std::rt::Files;
+use std::{fs, process};
+use test_types::pages::Page;
+use test_types::stage::{Speakers, Speech, Stage, Text};
 
-// The status of a server with a session for each input, none of which can save; `None` where there is no memory for the
-// shelves.
-fn status_of(
-    rt: &(impl Abort + Threads + Wait + Sync + AllocGlobal),
+type Shelves = Vec<MaybeShelf<FileShelf<HostRuntime>>>;
+
+// What a server begins with.
+struct Opening {
     room: Room,
-    inputs: &[Option<&[u8]>],
-    pages: &[Mutex<Page>],
+    start: Option<Gas>,
+    shelves: Shelves,
+}
+
+// no shelf for each of so many sessions
+fn no_shelves(rt: &HostRuntime, count: usize) -> Option<Shelves> {
+    let mut shelves = Vec::with_capacity(rt.alloc(), 4).ok()?;
+    for _ in 0..count {
+        shelves.push(MaybeShelf::Nothing(NoShelf::new())).ok()?;
+    }
+    Some(shelves)
+}
+
+// an empty laboratory, and no shelf for so many sessions
+fn empty(rt: &HostRuntime, room: Room, count: usize) -> Opening {
+    Opening {
+        room,
+        start: None,
+        shelves: no_shelves(rt, count).expect(rt, "memory"),
+    }
+}
+
+// The status of a server with a session for each speech.
+fn status_of(
+    rt: &HostRuntime,
+    opening: Opening,
+    stage: &Stage,
+    speeches: &[Option<Speech<'_>>],
     said: &mut Page,
-) -> Option<u8> {
+) -> u8 {
+    let Opening {
+        room,
+        start,
+        shelves,
+    } = opening;
     let Room {
         width,
         height,
@@ -28,92 +62,199 @@ fn status_of(
     let size = Size::new(width, height).expect(rt, "a size");
     assert!(rt; 1 <= cap && cap <= 65536);
     assert!(rt; 1 <= workers && workers <= 16);
-    let mut shelves = Vec::with_capacity(rt.alloc(), 4).ok()?;
-    for _ in inputs {
-        shelves.push(NoShelf::new()).ok()?;
-    }
     assert!(rt; 1 <= shelves.len() && shelves.len() <= 64);
-    let mut guests = Guests::new(inputs, pages);
+    let mut lobby = Speakers::new(*rt, stage, speeches);
     let setup = Setup { size, workers, cap };
-    Some(serve_on(rt, rt.alloc(), setup, None, &mut guests, shelves, said))
+    serve_on(rt, rt.alloc(), setup, start, &mut lobby, shelves, said)
 }
+
+const ONE_PUT: &[u8] = b"put 0 0 1 1\nquit\n";
 
 #[test]
 fn serve_on_a_lobby(rt: HostRuntime) {
-    let session: &[u8] = b"put 0 0 1 1\nquit\n";
-    let inputs = [None, Some(session)];
-    let pages = [Mutex::new(Page::new()), Mutex::new(Page::new())];
+    let stage = Stage::new();
     let mut said = Page::new();
-    assert_eq!(rt; status_of(&rt, SMALL, &inputs, &pages, &mut said), Some(0));
+    let speeches = [None, Some(Speech::of(ONE_PUT))];
+    let status = status_of(&rt, empty(&rt, SMALL, 2), &stage, &speeches, &mut said);
+    assert_eq!(rt; status, 0);
     assert_eq!(rt; said.text(), b"SERVED 1 1 1\n".as_slice());
-    assert!(rt; shows(&pages[0], b""));
-    assert!(rt; shows(&pages[1], b"OK 0\nBYE\n"));
+    assert!(rt; stage.shows(0, b""));
+    assert!(rt; stage.shows(1, b"OK 0\nBYE\n"));
+}
+
+/// Seat 1 speaks between the two lines of seat 0: sessions that run one after the other meet the limit.
+#[test]
+fn served_sessions_take_turns(rt: HostRuntime) {
+    let stage = Stage::new();
+    let mut said = Page::new();
+    let first = Speech {
+        second: Some(Text {
+            after: Some(1),
+            text: b"put 2 0 1 1\n",
+        }),
+        told: b"OK 0\n",
+        ..Speech::of(b"put 0 0 1 1\n")
+    };
+    let second = Speech {
+        first: Text {
+            after: Some(0),
+            text: b"put 4 0 1 1\n",
+        },
+        told: b"OK 1\n",
+        ..Speech::of(b"")
+    };
+    let speeches = [Some(first), Some(second)];
+    let status = status_of(&rt, empty(&rt, SMALL, 2), &stage, &speeches, &mut said);
+    assert_eq!(rt; status, 0);
+    assert_eq!(rt; said.text(), b"SERVED 2 0 3\n".as_slice());
+    assert!(rt; !stage.met_limit());
+    assert!(rt; stage.shows(0, b"OK 0\nOK 2\n"));
+    assert!(rt; stage.shows(1, b"OK 1\n"));
 }
 
 /// The sessions are served, and the status says that the last line was not written.
 #[test]
 fn served_line_that_fails(rt: HostRuntime) {
-    let session: &[u8] = b"put 0 0 1 1\nquit\n";
-    let inputs = [Some(session)];
-    let pages = [Mutex::new(Page::new())];
-    assert_eq!(rt;
-        status_of(&rt, SMALL, &inputs, &pages, &mut Page::full()),
-        Some(1)
+    let stage = Stage::new();
+    let speeches = [Some(Speech::of(ONE_PUT))];
+    let status = status_of(
+        &rt,
+        empty(&rt, SMALL, 1),
+        &stage,
+        &speeches,
+        &mut Page::full(),
     );
-    assert!(rt; shows(&pages[0], b"OK 0\nBYE\n"));
+    assert_eq!(rt; status, 1);
+    assert!(rt; stage.shows(0, b"OK 0\nBYE\n"));
 }
 
-/// One session steps and undoes a channel with three workers under the lock, and another asks all the while for a row
-/// that no particle reaches.
+/// One session steps and undoes a channel with three workers in its turns, and another asks all the while for a row that
+/// no particle reaches.
 #[test]
 fn workers_under_the_lock(rt: HostRuntime) {
-    let channel: &[u8] =
-        b"wall 0 20 128 1\nwall 0 29 128 1\nput 28 21 8 8\nstep 100\nback 100\ntally\nledger\nquit\n";
-    let asks: &[u8] =
-        b"probe 0 60 128 1\nprobe 0 60 128 1\nprobe 0 60 128 1\nprobe 0 60 128 1\nprobe 0 60 128 1\nquit\n";
-    let inputs = [Some(channel), Some(asks)];
-    let pages = [Mutex::new(Page::new()), Mutex::new(Page::new())];
+    let stage = Stage::new();
+    let mut said = Page::new();
+    let speeches = [
+        Some(Speech::of(
+            b"wall 0 20 128 1\nwall 0 29 128 1\nput 28 21 8 8\nstep 100\nback 100\ntally\nledger\nquit\n",
+        )),
+        Some(Speech::of(
+            b"probe 0 60 128 1\nprobe 0 60 128 1\nprobe 0 60 128 1\nprobe 0 60 128 1\nprobe 0 60 128 1\nquit\n",
+        )),
+    ];
     let room = Room {
         workers: 3,
         ..LARGE
     };
-    let mut said = Page::new();
-    assert_eq!(rt; status_of(&rt, room, &inputs, &pages, &mut said), Some(0));
+    let status = status_of(&rt, empty(&rt, room, 2), &stage, &speeches, &mut said);
+    assert_eq!(rt; status, 0);
     assert_eq!(rt; said.text(), b"SERVED 2 0 5\n".as_slice());
     assert!(rt;
-        shows(
-            &pages[0],
+        stage.shows(
+            0,
             b"OK 0\nOK 1\nOK 2\nOK 3\nOK 4\nTALLY 0 64 0 0\nLEDGER 0 64 0 0 0 0 0 0 0 0 0 0 0\nBYE\n"
         )
     );
     assert!(rt;
-        shows(
-            &pages[1],
+        stage.shows(
+            1,
             b"PROBE 0 0 0\nPROBE 0 0 0\nPROBE 0 0 0\nPROBE 0 0 0\nPROBE 0 0 0\nBYE\n"
         )
     );
+}
+
+/// The particle of the snapshot is there.
+#[test]
+fn server_from_a_snapshot(rt: HostRuntime) {
+    let stage = Stage::new();
+    let mut said = Page::new();
+    let gas = decode(rt.alloc(), snapshot(&rt, 22, 0x80).as_slice()).expect(&rt, "a gas");
+    let opening = Opening {
+        start: Some(gas),
+        ..empty(&rt, LARGE, 1)
+    };
+    let speeches = [Some(Speech::of(b"tally\nread 0\nquit\n"))];
+    assert_eq!(rt; status_of(&rt, opening, &stage, &speeches, &mut said), 0);
+    assert!(rt; stage.shows(0, b"TALLY 0 1 1 1\nROW 0 8000000000000000\nBYE\n"));
+    assert_eq!(rt; said.text(), b"SERVED 1 0 0\n".as_slice());
+}
+
+// a shelf that is a file of this folder
+fn file_shelf(
+    rt: &HostRuntime,
+    folder: &str,
+    name: &str,
+    seat: u16,
+) -> MaybeShelf<FileShelf<HostRuntime>> {
+    let path = format!(in rt.alloc(); "{folder}/{name}").expect(rt, "memory");
+    MaybeShelf::Shelf(FileShelf::new(rt.alloc(), *rt, path.as_str(), seat).expect(rt, "memory"))
+}
+
+fn file_holds(rt: &(impl Abort + AllocGlobal + Files), folder: &str, name: &str, bytes: &[u8]) {
+    let path = format!(in rt.alloc(); "{folder}/{name}").expect(rt, "memory");
+    let read = fs::read(rt, path.as_str()).expect(rt, "a file");
+    assert!(rt; read.as_slice() == bytes);
+}
+
+/// Seat 0 saves the empty gas, and then puts a particle, which seat 1 saves.
+#[test]
+fn each_session_saves_in_its_own_file(rt: HostRuntime) {
+    let id = process::id(rt.process());
+    let folder = format!(in rt.alloc(); "/tmp/gaslab_served_{id}").expect(&rt, "memory");
+    fs::create_dir_all(&rt, folder.as_str()).expect(&rt, "a new folder");
+    let mut shelves = Vec::new(rt.alloc());
+    assert!(rt; shelves.push(file_shelf(&rt, folder.as_str(), "first", 0)).is_ok());
+    assert!(rt; shelves.push(file_shelf(&rt, folder.as_str(), "second", 1)).is_ok());
+    let opening = Opening {
+        room: SMALL,
+        start: None,
+        shelves,
+    };
+    let first = Speech {
+        told: b"SAVED 0 1558\nOK 0\n",
+        ..Speech::of(b"save\nput 0 0 1 1\n")
+    };
+    let second = Speech {
+        first: Text {
+            after: Some(0),
+            text: b"save\nquit\n",
+        },
+        ..Speech::of(b"")
+    };
+    let stage = Stage::new();
+    let speeches = [Some(first), Some(second)];
+    assert_eq!(rt; status_of(&rt, opening, &stage, &speeches, &mut Page::new()), 0);
+    assert!(rt; stage.shows(1, b"SAVED 1 1558\nBYE\n"));
+    file_holds(&rt, folder.as_str(), "first", snapshot(&rt, 22, 0).as_slice());
+    file_holds(&rt, folder.as_str(), "second", snapshot(&rt, 22, 0x80).as_slice());
+    fs::remove_dir_all(&rt, folder.as_str()).expect(&rt, "no folder");
 }
 
 /// Whichever allocation is refused: nothing begins, or the seat's thread isn't started, or the session goes on or ends
 /// with `ERR 14 memory`, and the last line counts what was made.
 #[test]
 fn refused_serve_on(rt: HostRuntime) {
-    let session: &[u8] = b"put 0 0 1 1\nquit\n";
-    let inputs = [None, Some(session)];
-    let pages = [Mutex::new(Page::new()), Mutex::new(Page::new())];
+    let Some(shelves) = no_shelves(&rt, 2) else {
+        return;
+    };
+    let opening = Opening {
+        room: SMALL,
+        start: None,
+        shelves,
+    };
+    let stage = Stage::new();
     let mut said = Page::new();
-    match status_of(&rt, SMALL, &inputs, &pages, &mut said) {
-        Some(0) => {}
-        Some(status) => {
-            assert_eq!(rt; (status, said.text()), (4, b"".as_slice()));
-            assert!(rt; shows(&pages[1], b""));
-        }
-        None => return,
+    let speeches = [None, Some(Speech::of(ONE_PUT))];
+    let status = status_of(&rt, opening, &stage, &speeches, &mut said);
+    if status != 0 {
+        assert_eq!(rt; (status, said.text()), (4, b"".as_slice()));
+        assert!(rt; stage.shows(1, b""));
     }
-    let made = shows(&pages[1], b"OK 0\nBYE\n") || shows(&pages[1], b"OK 0\nERR 14 memory\n");
-    let refused = shows(&pages[1], b"ERR 14 memory\nBYE\n") || shows(&pages[1], b"ERR 14 memory\n");
-    let unserved = shows(&pages[1], b"");
-    assert!(rt; shows(&pages[0], b""));
+    let made = stage.shows(1, b"OK 0\nBYE\n") || stage.shows(1, b"OK 0\nERR 14 memory\n");
+    let refused =
+        stage.shows(1, b"ERR 14 memory\nBYE\n") || stage.shows(1, b"ERR 14 memory\n");
+    let unserved = stage.shows(1, b"");
+    assert!(rt; stage.shows(0, b""));
     match said.text() {
         b"SERVED 1 1 1\n" => assert!(rt; made),
         b"SERVED 1 1 0\n" => assert!(rt; refused),

@@ -19,8 +19,8 @@ const LAST: [u8; 22] = [
     0x48, 0x50, 0x50, 0x47, 0x41, 0x53, 0x32, 0x0a, 0, 0x40, 0, 0x40, 0, 0, 1, 0, 0, 0, 0, 0, 0, 0,
 ];
 
-// the head, then zeros up to the length of a snapshot without ports, but for one byte
-fn snapshot(rt: &(impl Abort + AllocGlobal + Threads), at: usize, byte: u8) -> Vec<u8> {
+/// The head, then zeros up to the length of a snapshot without ports, but for one byte.
+pub fn snapshot(rt: &(impl Abort + AllocGlobal + Threads), at: usize, byte: u8) -> Vec<u8> {
     let mut bytes = Vec::from_slice(rt.alloc(), &HEAD).expect(rt, "memory");
     for i in HEAD.len()..1558 {
         let byte = if i == at { byte } else { 0 };

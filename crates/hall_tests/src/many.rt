@@ -1,7 +1,7 @@
 //! As many seats as a hall may have.
 
 use crate::served::{Closed, serve_lab};
-use crate::values::{no_shelves, small_lab, tally};
+use crate::values::{counters, no_puts, small_lab, tally};
 use std::process::Abort;
 use std::sync::{Mutex, Wait};
 use std::thread::Threads;
@@ -28,7 +28,8 @@ fn serve_all<R: Threads + Wait + Clock + Sync + Abort + AllocGlobal>(
     let line: &[u8] = b"put 6 0 1 1\n";
     let inputs = [Some(line); SEATS];
     let mut lobby = Guests::new(&inputs, pages);
-    let shelves = no_shelves(rt.alloc(), SEATS).expect(rt, "memory");
+    let saved = no_puts();
+    let shelves = counters(rt.alloc(), &saved, SEATS).expect(rt, "memory");
     let lab = small_lab(rt.alloc()).expect(rt, "memory");
     let Closed {
         counts,

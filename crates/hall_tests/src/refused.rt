@@ -6,7 +6,7 @@ ghost use Rattle.gas_terms.specs.Cells.{extent};
 ghost use Rattle.gas_terms.specs.Commands.{fits};
 
 use crate::served::{Closed, serve_lab};
-use crate::values::{are_puts, no_shelves, small_lab, summed, taken, tally};
+use crate::values::{are_puts, counters, no_puts, small_lab, summed, taken, tally};
 use gas_hall::{Hall, HallDoor, HallName};
 use gas_lab::{Lab, Serial};
 use gas_talk::{Copied, Door};
@@ -146,7 +146,8 @@ fn refused_thread_serves_nobody(rt: HostRuntime) {
     let pages = [Mutex::new(Page::new())];
     let mut lobby = Guests::new(&inputs, &pages);
     let gate = TestGate::open(rt);
-    let (Some(lab), Ok(shelves)) = (small_lab(rt.alloc()), no_shelves(rt.alloc(), 1)) else {
+    let saved = no_puts();
+    let (Some(lab), Ok(shelves)) = (small_lab(rt.alloc()), counters(rt.alloc(), &saved, 1)) else {
         return;
     };
     let Some(closed) = serve_lab(&rt, rt.alloc(), lab, &gate, &mut lobby, shelves) else {

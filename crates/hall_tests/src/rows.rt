@@ -1,7 +1,7 @@
 //! Served sessions in memory.
 
 use crate::served::{Closed, serve_lab};
-use crate::values::{are_puts, no_shelves, small_lab, tally};
+use crate::values::{are_puts, counted, counters, no_puts, small_lab, tally};
 use std::process::Abort;
 use std::sync::{Mutex, Wait};
 use std::thread::Threads;
@@ -10,25 +10,35 @@ use test_types::gates::TestGate;
 use test_types::pages::{Guests, Page, shows};
 
 // What is left of a hall: seats that were served and were not, and the entries of all; the entries of each seat; who put
-// into which column; count and momentum of the gas.
+// into which column; count and momentum of the gas; how often each seat saved.
 #[derive(Clone, Copy)]
 struct Outcome<'a> {
     counts: (u32, u32, u32),
     of_seats: [u32; 4],
     puts: Option<&'a [(u16, u16)]>,
     tally: (i64, i64, i64),
+    saved: [u32; 3],
+}
+
+// The sessions, and the one whose reader fails at the end of its text.
+#[derive(Clone, Copy)]
+struct Sessions<'a> {
+    inputs: &'a [Option<&'a [u8]>],
+    fails: Option<usize>,
 }
 
 // Serves a session over each page on an empty laboratory of 64 by 64, and looks at what is left.
 fn serves<R: Threads + Wait + Clock + Sync + Abort + AllocGlobal>(
     rt: &R,
     gate: &TestGate<R>,
-    inputs: &[Option<&[u8]>],
+    sessions: Sessions<'_>,
     pages: &[Mutex<Page>],
     wanted: Outcome<'_>,
 ) {
-    let mut lobby = Guests::new(inputs, pages);
-    let shelves = no_shelves(rt.alloc(), pages.len()).expect(rt, "memory");
+    let mut lobby = Guests::new(sessions.inputs, pages);
+    lobby.fail_at_end(sessions.fails);
+    let saved = no_puts();
+    let shelves = counters(rt.alloc(), &saved, pages.len()).expect(rt, "memory");
     let lab = small_lab(rt.alloc()).expect(rt, "memory");
     let Closed {
         counts,
@@ -38,8 +48,17 @@ fn serves<R: Threads + Wait + Clock + Sync + Abort + AllocGlobal>(
     assert_eq!(rt; counts, wanted.counts);
     assert_eq!(rt; of_seats, wanted.of_seats);
     assert_eq!(rt; tally(rt, &mut lab), wanted.tally);
+    assert_eq!(rt; counted(&saved), wanted.saved);
     if let Some(puts) = wanted.puts {
         assert!(rt; are_puts(lab.journal(), puts));
+    }
+}
+
+// sessions none of whose readers fails
+fn all_end<'a>(inputs: &'a [Option<&'a [u8]>]) -> Sessions<'a> {
+    Sessions {
+        inputs,
+        fails: None,
     }
 }
 
@@ -63,8 +82,9 @@ fn two_served_sessions_take_turns(rt: HostRuntime) {
         of_seats: [2, 1, 0, 0],
         puts: Some(&[(0, 0), (1, 4), (0, 2)]),
         tally: (3, 3, 3),
+        saved: [0, 0, 0],
     };
-    serves(&rt, &turns, &inputs, &pages[..2], wanted);
+    serves(&rt, &turns, all_end(&inputs), &pages[..2], wanted);
     assert!(rt; !turns.met_limit());
     assert!(rt; shows(&pages[0], b"OK 0\nOK 2\n"));
     assert!(rt; shows(&pages[1], b"OK 1\n"));
@@ -79,8 +99,9 @@ fn failed_accept_is_counted(rt: HostRuntime) {
         of_seats: [0, 1, 0, 0],
         puts: Some(&[(1, 0)]),
         tally: (1, 1, 1),
+        saved: [0, 0, 0],
     };
-    serves(&rt, &TestGate::open(rt), &inputs, &pages[..2], wanted);
+    serves(&rt, &TestGate::open(rt), all_end(&inputs), &pages[..2], wanted);
     assert!(rt; shows(&pages[0], b""));
     assert!(rt; shows(&pages[1], b"OK 0\nBYE\n"));
 }
@@ -107,8 +128,9 @@ fn failed_writer_beside_others(rt: HostRuntime) {
         of_seats: [1, 1, 1, 0],
         puts: None,
         tally: (3, 3, 3),
+        saved: [0, 0, 0],
     };
-    serves(&rt, &TestGate::open(rt), &inputs, &pages, wanted);
+    serves(&rt, &TestGate::open(rt), all_end(&inputs), &pages, wanted);
     assert!(rt; shows_one_of_three(&pages[0]));
     assert!(rt; shows(&pages[1], b""));
     assert!(rt; shows_one_of_three(&pages[2]));
@@ -137,9 +159,53 @@ fn torn_and_long_lines_beside_others(rt: HostRuntime) {
         of_seats: [0, 0, 1, 0],
         puts: Some(&[(2, 4)]),
         tally: (1, 1, 1),
+        saved: [0, 0, 0],
     };
-    serves(&rt, &TestGate::open(rt), &inputs, &pages, wanted);
+    serves(&rt, &TestGate::open(rt), all_end(&inputs), &pages, wanted);
     assert!(rt; shows(&pages[0], b""));
     assert!(rt; shows(&pages[1], b"ERR 1 line\n"));
     assert!(rt; shows(&pages[2], b"OK 0\nTALLY 0 1 1 1\nBYE\n"));
+}
+
+/// A reader fails in the middle of a line.
+#[test]
+fn failed_reader_beside_others(rt: HostRuntime) {
+    let pages = empty_pages();
+    let inputs: [Option<&[u8]>; 3] = [
+        Some(b"put 0 0 1 1\n"),
+        Some(b"put 2 0 1 1\nput 6 0 1"),
+        Some(b"put 4 0 1 1\n"),
+    ];
+    let sessions = Sessions {
+        inputs: &inputs,
+        fails: Some(1),
+    };
+    let wanted = Outcome {
+        counts: (3, 0, 3),
+        of_seats: [1, 1, 1, 0],
+        puts: None,
+        tally: (3, 3, 3),
+        saved: [0, 0, 0],
+    };
+    serves(&rt, &TestGate::open(rt), sessions, &pages, wanted);
+    for page in &pages {
+        assert!(rt; shows_one_of_three(page));
+    }
+}
+
+#[test]
+fn each_session_saves_on_its_own_shelf(rt: HostRuntime) {
+    let pages = empty_pages();
+    let inputs: [Option<&[u8]>; 3] = [Some(b"save\nsave\nquit\n"), Some(b"save\nquit\n"), Some(b"quit\n")];
+    let wanted = Outcome {
+        counts: (3, 0, 0),
+        of_seats: [0, 0, 0, 0],
+        puts: None,
+        tally: (0, 0, 0),
+        saved: [2, 1, 0],
+    };
+    serves(&rt, &TestGate::open(rt), all_end(&inputs), &pages, wanted);
+    assert!(rt; shows(&pages[0], b"SAVED 0 1558\nSAVED 0 1558\nBYE\n"));
+    assert!(rt; shows(&pages[1], b"SAVED 0 1558\nBYE\n"));
+    assert!(rt; shows(&pages[2], b"BYE\n"));
 }

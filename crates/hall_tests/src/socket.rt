@@ -1,7 +1,7 @@
 //! Sessions over sockets.
 
 use crate::served::{Closed, serve_lab};
-use crate::values::{empty_lab, no_shelves};
+use crate::values::{counters, empty_lab, no_puts};
 use gas_hall::TcpLobby;
 use std::alloc::Global;
 use std::io::{ErrorKind, Read, Write};
@@ -23,7 +23,8 @@ fn serve_some<R: Threads + Wait + Clock + Sync + Copy>(
     width: u32,
 ) -> Option<((u32, u32, u32), [u32; 4])> {
     let mut lobby = TcpLobby::over(listener);
-    let shelves = no_shelves(alloc, seats).ok()?;
+    let saved = no_puts();
+    let shelves = counters(alloc, &saved, seats).ok()?;
     let lab = empty_lab(alloc, width)?;
     let gate = TestGate::open(*rt);
     let Closed {

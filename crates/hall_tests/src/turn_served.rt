@@ -1,208 +1,150 @@
 //! Served sessions in memory, on a hall whose seats take turns.
 
-use crate::values::{no_shelves, small_lab};
-use gas_hall::{AcceptFault, Lobby, TurnHall, TurnSeat, TurnServed, serve_turn};
+use crate::values::{counted, counters, no_puts, small_lab};
+use gas_hall::{TurnHall, TurnSeat, TurnServed, serve_turn};
 use gas_lab::Serial;
-use std::alloc::Global;
-use std::io;
-use std::io::Read;
 use std::process::Abort;
-use std::sync::atomic::{AtomicBool, Ordering};
-use std::sync::{Mutex, Wait};
+use std::sync::Wait;
 use std::thread::Threads;
 use std::time::Clock;
-use test_types::gates::wait_for;
-use test_types::pages::{Page, PageWriter, shows};
+use test_types::stage::{Speakers, Speech, Stage, Text};
 
-/// What a session writes, and whether its reader was asked again when just the first reply stood there.
-#[derive(Drop)]
-struct Place {
-    page: Mutex<Page>,
-    told: AtomicBool,
+/// What became of the seats: how many were served and how many not, and the entries of all; the entries of each, and how
+/// often each saved.
+#[derive(Clone, Copy, Debug, PartialEq, Eq)]
+struct Outcome {
+    counts: (u32, u32, u32),
+    of_seats: [u32; 3],
+    saved: [u32; 3],
 }
 
-impl Place {
-    fn new() -> Place {
-        Place {
-            page: Mutex::new(Page::new()),
-            told: AtomicBool::new(false),
-        }
-    }
-}
-
-/// The places of two sessions.
-#[derive(Drop)]
-struct Stage {
-    first: Place,
-    second: Place,
-    met_limit: AtomicBool,
-}
-
-impl Stage {
-    fn new() -> Stage {
-        Stage {
-            first: Place::new(),
-            second: Place::new(),
-            met_limit: AtomicBool::new(false),
-        }
-    }
-}
-
-/// A text that is read once its flag is set, where it has one.
-#[derive(Drop)]
-struct Held<'a> {
-    flag: Option<&'a AtomicBool>,
-    text: &'a [u8],
-}
-
-/// Two texts, one after the other.
-#[derive(Drop)]
-struct HeldReader<'a, C: Clock> {
-    clock: C,
-    first: Option<Held<'a>>,
-    second: Option<Held<'a>>,
-    place: &'a Place,
-    first_reply: &'a [u8],
-    met_limit: &'a AtomicBool,
-}
-
-impl<'a, C: Clock> Read for HeldReader<'a, C> {
-    fn read(&mut self, buf: &mut [u8]) -> io::Result<usize> {
-        if shows(&self.place.page, self.first_reply) {
-            self.place.told.store(true, Ordering::SeqCst);
-        }
-        let first = self.first.take();
-        let Some(Held { flag, text }) = first.or_else(|| self.second.take()) else {
-            return Ok(0);
-        };
-        if let Some(flag) = flag {
-            wait_for(&self.clock, flag, self.met_limit);
-        }
-        let n = text.len().min(buf.len());
-        buf[..n].copy_from_slice(&text[..n]);
-        Ok(n)
-    }
-}
-
-// A line, and a second one once the other session was told a reply.
-fn first_session<'a, C: Clock>(clock: C, stage: &'a Stage) -> HeldReader<'a, C> {
-    HeldReader {
-        clock,
-        first: Some(Held {
-            flag: None,
-            text: b"put 0 0 1 1\n",
-        }),
-        second: Some(Held {
-            flag: Some(&stage.second.told),
-            text: b"put 2 0 1 1\n",
-        }),
-        place: &stage.first,
-        first_reply: b"OK 0\n",
-        met_limit: &stage.met_limit,
-    }
-}
-
-// A text of the second session, once this flag is set, where there is one.
-fn second_session<'a, C: Clock>(
-    clock: C,
-    stage: &'a Stage,
-    flag: Option<&'a AtomicBool>,
-    text: &'a [u8],
-) -> HeldReader<'a, C> {
-    HeldReader {
-        clock,
-        first: Some(Held { flag, text }),
-        second: None,
-        place: &stage.second,
-        first_reply: b"OK 1\n",
-        met_limit: &stage.met_limit,
-    }
-}
-
-/// Its sessions come from the last to the first, and one that is missing is an accept that fails.
-#[derive(Drop)]
-struct HeldLobby<'a, C: Clock> {
-    readers: Vec<Option<HeldReader<'a, C>>>,
-}
-
-impl<'a, C: Clock + Drop + Send> Lobby for HeldLobby<'a, C> {
-    type R = HeldReader<'a, C>;
-
-    type W = PageWriter<'a>;
-
-    fn accept(&mut self) -> Result<(HeldReader<'a, C>, PageWriter<'a>), AcceptFault> {
-        match self.readers.pop() {
-            Some(Some(reader)) => {
-                let writer = PageWriter::new(&reader.place.page);
-                Ok((reader, writer))
-            }
-            _ => Err(AcceptFault),
-        }
-    }
-}
-
-// The entries that two seats made.
-fn counts_of(seats: &[TurnSeat<Serial>]) -> [u32; 2] {
-    let mut counts = [0; 2];
+// The entries that each of the seats made.
+fn counts_of(seats: &[TurnSeat<Serial>]) -> [u32; 3] {
+    let mut counts = [0; 3];
     for (count, seat) in counts.iter_mut().zip(seats) {
         *count = seat.entries();
     }
     counts
 }
 
-// What became of two seats: served, not served, entries of all; entries of each.
-fn serve_two<L: Lobby, R: Threads + Wait + Sync + Abort>(
+// Serves a session for each speech.
+fn serve_speeches<R: Threads + Wait + Sync + Abort + Clock + Copy + Drop + Send + AllocGlobal>(
     rt: &R,
-    alloc: Global,
-    lobby: &mut L,
-) -> ((u32, u32, u32), [u32; 2]) {
-    let shelves = no_shelves(alloc, 2).expect(rt, "memory");
-    assert!(rt; shelves.len() == 2);
-    let lab = small_lab(alloc).expect(rt, "memory");
-    let Ok((hall, seats)) = TurnHall::open(alloc, lab, 2) else {
+    stage: &Stage,
+    speeches: &[Option<Speech<'_>>],
+) -> Outcome {
+    assert!(rt; 0 < speeches.len() && speeches.len() <= 3);
+    let saved = no_puts();
+    let shelves = counters(rt.alloc(), &saved, speeches.len()).expect(rt, "memory");
+    assert!(rt; shelves.len() == speeches.len());
+    let lab = small_lab(rt.alloc()).expect(rt, "memory");
+    let Ok((hall, seats)) = TurnHall::open(rt.alloc(), lab, speeches.len() as u16) else {
         panic!(rt; "no memory")
     };
+    let mut lobby = Speakers::new(*rt, stage, speeches);
     let TurnServed {
         done,
         failed,
         entries,
         seats,
-    } = serve_turn(rt, alloc, lobby, &hall, seats, shelves);
-    ((done, failed, entries), counts_of(seats.as_slice()))
+    } = serve_turn(rt, rt.alloc(), &mut lobby, &hall, seats, shelves);
+    Outcome {
+        counts: (done, failed, entries),
+        of_seats: counts_of(seats.as_slice()),
+        saved: counted(&saved),
+    }
 }
 
-// a lobby of these two sessions
-fn lobby_of<'a, C: Clock + Drop>(
-    rt: &(impl Abort + AllocGlobal),
-    first: Option<HeldReader<'a, C>>,
-    second: Option<HeldReader<'a, C>>,
-) -> HeldLobby<'a, C> {
-    let mut readers = Vec::new(rt.alloc());
-    assert!(rt; readers.push(second).is_ok());
-    assert!(rt; readers.push(first).is_ok());
-    HeldLobby { readers }
+// none of them saved
+fn without_saves(counts: (u32, u32, u32), of_seats: [u32; 3]) -> Outcome {
+    Outcome {
+        counts,
+        of_seats,
+        saved: [0, 0, 0],
+    }
 }
 
 /// Seat 1 speaks between the two lines of seat 0: sessions that run one after the other meet the limit.
 #[test]
 fn turn_sessions_interleave(rt: HostRuntime) {
     let stage = Stage::new();
-    let second = second_session(rt, &stage, Some(&stage.first.told), b"put 4 0 1 1\n");
-    let mut lobby = lobby_of(&rt, Some(first_session(rt, &stage)), Some(second));
-    let served = serve_two(&rt, rt.alloc(), &mut lobby);
-    assert_eq!(rt; served, ((2, 0, 3), [2, 1]));
-    assert!(rt; !stage.met_limit.load(Ordering::SeqCst));
-    assert!(rt; shows(&stage.first.page, b"OK 0\nOK 2\n"));
-    assert!(rt; shows(&stage.second.page, b"OK 1\n"));
+    let first = Speech {
+        second: Some(Text {
+            after: Some(1),
+            text: b"put 2 0 1 1\n",
+        }),
+        told: b"OK 0\n",
+        ..Speech::of(b"put 0 0 1 1\n")
+    };
+    let second = Speech {
+        first: Text {
+            after: Some(0),
+            text: b"put 4 0 1 1\n",
+        },
+        told: b"OK 1\n",
+        ..Speech::of(b"")
+    };
+    let found = serve_speeches(&rt, &stage, &[Some(first), Some(second)]);
+    assert!(rt; found == without_saves((2, 0, 3), [2, 1, 0]));
+    assert!(rt; !stage.met_limit());
+    assert!(rt; stage.shows(0, b"OK 0\nOK 2\n"));
+    assert!(rt; stage.shows(1, b"OK 1\n"));
 }
 
 #[test]
 fn turn_failed_accept(rt: HostRuntime) {
     let stage = Stage::new();
-    let second = second_session(rt, &stage, None, b"put 0 0 1 1\nquit\n");
-    let mut lobby = lobby_of(&rt, None, Some(second));
-    let served = serve_two(&rt, rt.alloc(), &mut lobby);
-    assert_eq!(rt; served, ((1, 1, 1), [0, 1]));
-    assert!(rt; shows(&stage.first.page, b""));
-    assert!(rt; shows(&stage.second.page, b"OK 0\nBYE\n"));
+    let second = Speech::of(b"put 0 0 1 1\nquit\n");
+    let found = serve_speeches(&rt, &stage, &[None, Some(second)]);
+    assert!(rt; found == without_saves((1, 1, 1), [0, 1, 0]));
+    assert!(rt; stage.shows(0, b""));
+    assert!(rt; stage.shows(1, b"OK 0\nBYE\n"));
+}
+
+/// One session's reader fails in the middle of a line, another's page takes nothing, and the first goes on after the one
+/// was told its reply.
+#[test]
+fn turn_faults_beside_others(rt: HostRuntime) {
+    let stage = Stage::with_full_page();
+    let first = Speech {
+        first: Text {
+            after: Some(1),
+            text: b"put 0 0 1 1\ntally\n",
+        },
+        told: b"OK 1\nTALLY 0 2 2 2\n",
+        ..Speech::of(b"")
+    };
+    let failing = Speech {
+        fails: true,
+        told: b"OK 0\n",
+        ..Speech::of(b"put 2 0 1 1\nput 6 0 1")
+    };
+    let unheard = Speech {
+        first: Text {
+            after: Some(0),
+            text: b"put 4 0 1 1\nput 8 0 1 1\n",
+        },
+        ..Speech::of(b"")
+    };
+    let found = serve_speeches(&rt, &stage, &[Some(first), Some(failing), Some(unheard)]);
+    assert!(rt; found.counts == (3, 0, 3));
+    assert!(rt; found.of_seats == [1, 1, 1]);
+    assert!(rt; stage.shows(0, b"OK 1\nTALLY 0 2 2 2\n"));
+    assert!(rt; stage.shows(1, b"OK 0\n"));
+    assert!(rt; stage.shows(2, b""));
+}
+
+#[test]
+fn turn_sessions_save_on_their_own_shelves(rt: HostRuntime) {
+    let stage = Stage::new();
+    let speeches = [
+        Some(Speech::of(b"save\nsave\nquit\n")),
+        Some(Speech::of(b"save\nquit\n")),
+        Some(Speech::of(b"quit\n")),
+    ];
+    let found = serve_speeches(&rt, &stage, &speeches);
+    assert!(rt; found.counts == (3, 0, 0));
+    assert!(rt; found.saved == [2, 1, 0]);
+    assert!(rt; stage.shows(0, b"SAVED 0 1558\nSAVED 0 1558\nBYE\n"));
+    assert!(rt; stage.shows(1, b"SAVED 0 1558\nBYE\n"));
 }

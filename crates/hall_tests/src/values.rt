@@ -3,10 +3,11 @@
 ghost use Rattle.std.specs.Prelude.{◌≡◌, [], IfSome};
 
 use gas_lab::{Answer, Gas, Lab, Serial};
-use gas_snapshot::NoShelf;
 use gas_terms::{Command, Entry, Refusal, Size, Sums};
 use std::alloc::{AllocError, Global};
 use std::process::Abort;
+use std::sync::atomic::{AtomicU32, Ordering};
+use test_types::faults::Counter;
 
 /// An empty laboratory of 64 by 64.
 pub fn small_lab(alloc: Global) -> Option<Lab<Serial>>
@@ -24,13 +25,34 @@ pub fn empty_lab(alloc: Global, width: u32) -> Option<Lab<Serial>>
     Lab::open(alloc, gas, 1024, Serial).ok()
 }
 
-/// So many shelves that take nothing.
-pub fn no_shelves(alloc: Global, count: usize) -> Result<Vec<NoShelf>, AllocError> {
+/// So many shelves, each of which counts what it takes in its own place, and in the last place where there are no more.
+pub fn counters<'a>(
+    alloc: Global,
+    puts: &'a [AtomicU32],
+    count: usize,
+) -> Result<Vec<Counter<'a>>, AllocError> {
     let mut shelves = Vec::new(alloc);
-    for _ in 0..count {
-        shelves.push(NoShelf::new())?;
+    for i in 0..count {
+        if let Some(own) = puts.get(i).or_else(|| puts.last()) {
+            shelves.push(Counter::new(own))?;
+        }
     }
     Ok(shelves)
+}
+
+/// A place for each of three shelves to count in.
+pub fn no_puts() -> [AtomicU32; 3] {
+    [AtomicU32::new(0), AtomicU32::new(0), AtomicU32::new(0)]
+}
+
+/// What they counted.
+pub fn counted(puts: &[AtomicU32; 3]) -> [u32; 3] {
+    let [first, second, third] = puts;
+    [
+        first.load(Ordering::SeqCst),
+        second.load(Ordering::SeqCst),
+        third.load(Ordering::SeqCst),
+    ]
 }
 
 /// Whether it puts one cell of row 0, in this column.

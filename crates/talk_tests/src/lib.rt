@@ -11,6 +11,8 @@ mod reading;
 #[cfg(test)]
 mod sessions;
 #[cfg(test)]
+mod shelves;
+#[cfg(test)]
 mod snapshots;
 #[cfg(test)]
 mod texts;
