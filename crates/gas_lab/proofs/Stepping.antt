@@ -2,24 +2,22 @@
 use Rattle.std.proofs.Common.{◌≡◌, ℕ, zero, suc, ◌+◌, ℤ, pos, ◌+ℤ◌, ◌-ℤ◌, sym, ap, ap₂, subst, ◌∙◌, arith, add-one}
 use Rattle.std.proofs.lemmas.Int.{ints}
 use Rattle.std.specs.Fn.{iterate}
-use Rattle.gas_terms.specs.Velocity.{parity}
 use Rattle.gas_terms.specs.Cells.{Cells, extent, HasSidesOf, IsEvenTorus}
-use Rattle.gas_terms.specs.Gas.{Gas, streamed, unstreamed, solid, act, forward, back}
-use Rattle.gas_terms.specs.Accounts.{plus, taken, with_taken, with_given_back, gas_taken, FitsI64, SumsFit}
+use Rattle.gas_terms.specs.Gas.{Gas, act, HasNoPorts}
+use Rattle.gas_terms.specs.Accounts.{plus, with_taken, with_given_back, FitsI64, SumsFit}
 use Rattle.gas_terms.specs.BookedGas.{BookedGas, changed, moved, stepped, stepped_back}
 use Rattle.gas_terms.specs.declared.accounts.Ledger.{Ledger}
 use Rattle.gas_terms.specs.declared.accounts.Took.{Took}
 use Rattle.gas_terms.proofs.AccountBounds.{size-even}
 use Rattle.gas_terms.proofs.Iterate.{iterate_last}
-use Rattle.gas_terms.proofs.Steps.{unstreamed-streamed}
-use Rattle.gas_terms.proofs.StoppedTotals.{taken-streamed}
 use Rattle.gas_terms.proofs.Stretches.{stepped-plain}
 use Rattle.gas_plane.specs.Planes.{IsLattice}
 use Rattle.gas_ledger.specs.PortLists.{PortLists, no_ports}
-use Rattle.gas_ledger.specs.Gases.{ports_of, ahead_with, behind_with}
+use Rattle.phase_step.specs.Runs.{gas_after, takes_after, gas_before, takes_before, ran, ran_back}
+use Rattle.gas_ledger.specs.Gases.{ports_of}
 use Rattle.gas_ledger.specs.Moves.{moved_by}
 use Rattle.gas_ledger.specs.declared.moved.Moved.{Moved}
-use Rattle.gas_lab.specs.Labs.{with_moved}
+use Rattle.gas_lab.specs.Labs.{with_moved, TakesFit}
 
 abbrev pub pair : Gas → Ledger → BookedGas
 pair g l = record { gas = g; ledger = l }
@@ -27,14 +25,23 @@ pair g l = record { gas = g; ledger = l }
 pub torus_of : (cells : Cells) → IsLattice cells → IsEvenTorus cells
 torus_of cells ok = record { sides = size-even (extent cells) ok.sized; full = ok.full }
 
--- The particles have moved on, and what was taken is booked.
-pub moved_on : (g g' : Gas) (l l' : Ledger) (p : ℕ) (cells : Cells) (took : Took) → p ≡ parity g.tick →
-    cells ≡ streamed p g.particles (solid g) → took ≡ taken p g.particles g.walls g.obstacles →
-    g' ≡ ahead_with g cells → l' ≡ with_taken l took → pair g' l' ≡ moved (pair g l)
-moved_on g g' l l' p cells took here out took_is gas_is ledger_is =
-    let after : g' ≡ forward g = gas_is ∙ ap (ahead_with g) (out ∙ ap (λ p. streamed p g.particles (solid g)) here) in
-    let booked : l' ≡ with_taken l (gas_taken g) = ledger_is ∙ ap (with_taken l) (took_is ∙ ap (λ p. taken p g.particles g.walls g.obstacles) here) in
-    ap₂ pair after booked
+-- A run forward, with what was taken.
+pub ran_on : (b : BookedGas) (g : Gas) (l : Ledger) (took : Took) (n : ℕ) → g ≡ gas_after n b.gas → took ≡ takes_after n b.gas →
+    l ≡ with_taken b.ledger took → pair g l ≡ ran n b
+ran_on b g l took n gas_is took_is ledger_is = ap₂ pair gas_is (ledger_is ∙ ap (with_taken b.ledger) took_is)
+
+pub taken_fits : (b : BookedGas) (took : Took) (n : ℕ) → took ≡ takes_after n b.gas → TakesFit (ran n b).ledger → TakesFit (with_taken b.ledger took)
+taken_fits b took n took_is fits = subst (λ t. TakesFit (with_taken b.ledger t)) (sym took_is) fits
+
+-- A run back, with what was given back.
+pub ran_back_to : (b : BookedGas) (g : Gas) (l : Ledger) (took : Took) (n : ℕ) → g ≡ gas_before n b.gas → took ≡ takes_before n b.gas →
+    l ≡ with_given_back b.ledger took → pair g l ≡ ran_back n b
+ran_back_to b g l took n gas_is took_is ledger_is = ap₂ pair gas_is (ledger_is ∙ ap (with_given_back b.ledger) took_is)
+
+pub given_fits : (b : BookedGas) (took : Took) (n : ℕ) → took ≡ takes_before n b.gas → iterate stepped_back n b ≡ ran_back n b →
+    FitsI64 (iterate stepped_back n b).ledger → FitsI64 (with_given_back b.ledger took)
+given_fits b took n took_is whole fits =
+    subst (λ t. FitsI64 (with_given_back b.ledger t)) (sym took_is) (subst (λ (c : BookedGas). FitsI64 c.ledger) whole fits)
 
 -- The ports have acted, and what they moved is booked.
 pub acted : (g g' : Gas) (l : Ledger) (m : Moved) (b : BookedGas) → pair g l ≡ moved b →
@@ -45,42 +52,23 @@ acted g g' l m b before gas_is moved_is =
     ap (λ m. pair g' (with_moved l m)) moved_is ∙ ap F gas_is ∙ ap Act before
 
 -- Without ports there is nothing to act.
-pub not_acted : (g g' : Gas) (l l' : Ledger) (ports : PortLists) → IsEvenTorus g.particles → pair g' l' ≡ moved (pair g l) →
-    ports ≡ ports_of g' → ports ≡ no_ports → pair g' l' ≡ stepped (pair g l)
-not_acted g g' l l' ports torus before same none =
-    let idle : ports_of g ≡ no_ports = ap (λ (b : BookedGas). ports_of b.gas) (sym before) ∙ sym same ∙ none in
+pub idle : (g : Gas) (ports : PortLists) → ports ≡ ports_of g → ports ≡ no_ports → HasNoPorts g
+idle g ports same none =
+    let e : ports_of g ≡ no_ports = sym same ∙ none in
+    record { no_drains = ap (λ (p : PortLists). p.drains) e; no_sources = ap (λ (p : PortLists). p.sources) e }
+
+pub not_acted : (b b' : BookedGas) (ports : PortLists) → IsEvenTorus b.gas.particles → b' ≡ moved b →
+    ports ≡ ports_of b'.gas → ports ≡ no_ports → b' ≡ stepped b
+not_acted b b' ports torus before same none =
+    let here : ports_of b.gas ≡ no_ports = ap (λ (c : BookedGas). ports_of c.gas) (sym before) ∙ sym same ∙ none in
     before
-    ∙ sym (stepped-plain (pair g l) (record { torus = torus; no_ports = record { no_drains = ap (λ (p : PortLists). p.drains) idle; no_sources = ap (λ (p : PortLists). p.sources) idle } }))
+    ∙ sym (stepped-plain b (record { torus = torus; no_ports = record { no_drains = ap (λ (p : PortLists). p.drains) here; no_sources = ap (λ (p : PortLists). p.sources) here } }))
 
 pub moved_fits : (g : Gas) (l : Ledger) (m : Moved) (b : BookedGas) → pair g (with_moved l m) ≡ stepped b → FitsI64 (stepped b).ledger →
     SumsFit (plus l.injected m.injected) × SumsFit (plus l.drained m.drained)
 moved_fits g l m b same fits =
     let all : FitsI64 (with_moved l m) = subst (λ (c : BookedGas). FitsI64 c.ledger) (sym same) fits in
     (all.injected, all.drained)
-
--- A step back applies the rule again, and so what is given back is what the rule takes now.
-back_there : (g : Gas) (t : ℤ) → IsEvenTorus g.particles → unstreamed (parity t) g.particles (solid g) ≡ streamed (parity t) g.particles (solid g)
-back_there g t torus = unstreamed-streamed (parity t) g.particles (solid g) torus.sides
-
-back_took : (g : Gas) (t : ℤ) → IsEvenTorus g.particles →
-    taken (parity t) (unstreamed (parity t) g.particles (solid g)) g.walls g.obstacles ≡ taken (parity t) g.particles g.walls g.obstacles
-back_took g t torus = ap (λ c. taken (parity t) c g.walls g.obstacles) (back_there g t torus) ∙ taken-streamed t g.particles g.walls g.obstacles torus.sides
-
-pub given_back : (g : Gas) (p : ℕ) (took : Took) → IsEvenTorus g.particles → p ≡ parity (g.tick -ℤ pos 1) →
-    took ≡ taken p g.particles g.walls g.obstacles → took ≡ gas_taken (back g)
-given_back g p took torus here took_is =
-    took_is ∙ ap (λ p. taken p g.particles g.walls g.obstacles) here ∙ sym (back_took g (g.tick -ℤ pos 1) torus)
-
-pub back_fits : (g : Gas) (l : Ledger) (took : Took) → took ≡ gas_taken (back g) → FitsI64 (stepped_back (pair g l)).ledger → FitsI64 (with_given_back l took)
-back_fits g l took same fits = subst (λ s. FitsI64 (with_given_back l s)) (sym same) fits
-
-pub moved_back : (g g' : Gas) (l l' : Ledger) (p : ℕ) (cells : Cells) (took : Took) → IsEvenTorus g.particles → p ≡ parity (g.tick -ℤ pos 1) →
-    cells ≡ streamed p g.particles (solid g) → took ≡ gas_taken (back g) →
-    g' ≡ behind_with g cells → l' ≡ with_given_back l took → pair g' l' ≡ stepped_back (pair g l)
-moved_back g g' l l' p cells took torus here out took_is gas_is ledger_is =
-    let before : g' ≡ back g =
-    gas_is ∙ ap (behind_with g) (out ∙ ap (λ p. streamed p g.particles (solid g)) here ∙ sym (back_there g (g.tick -ℤ pos 1) torus)) in
-    ap₂ pair before (ledger_is ∙ ap (with_given_back l) took_is)
 
 -- What holds after some of many steps.
 pub record IsAfter (step : BookedGas → BookedGas) (n : ℕ) (was b : BookedGas) (others : Cells) : Type 0 where
@@ -98,18 +86,9 @@ stepped_tick : (n : ℕ) (b : BookedGas) → (iterate stepped n b).gas.tick ≡ 
 stepped_tick zero b = omega (arith, ints)
 stepped_tick (suc n) b = stepped_tick n (stepped b) ∙ (let e : b.gas.tick +ℤ pos 1 +ℤ pos n ≡ b.gas.tick +ℤ pos (suc n) = omega (arith, ints) in e)
 
-stepped_back_tick : (n : ℕ) (b : BookedGas) → (iterate stepped_back n b).gas.tick ≡ b.gas.tick -ℤ pos n
-stepped_back_tick zero b = omega (arith, ints)
-stepped_back_tick (suc n) b = stepped_back_tick n (stepped_back b) ∙ (let e : b.gas.tick -ℤ pos 1 -ℤ pos n ≡ b.gas.tick -ℤ pos (suc n) = omega (arith, ints) in e)
-
 pub next_tick : (n : ℕ) (was b : BookedGas) (spare : Cells) → IsAfter stepped n was b spare → b.gas.tick +ℤ pos 1 ≡ was.gas.tick +ℤ pos (n + 1)
 next_tick n was b spare ok =
     let here : b.gas.tick ≡ was.gas.tick +ℤ pos n = ap (λ (c : BookedGas). c.gas.tick) ok.booked ∙ stepped_tick n was in
-    omega (arith, ints, here)
-
-pub last_tick : (n : ℕ) (was b : BookedGas) (spare : Cells) → IsAfter stepped_back n was b spare → b.gas.tick -ℤ pos 1 ≡ was.gas.tick -ℤ pos (n + 1)
-last_tick n was b spare ok =
-    let here : b.gas.tick ≡ was.gas.tick -ℤ pos n = ap (λ (c : BookedGas). c.gas.tick) ok.booked ∙ stepped_back_tick n was in
     omega (arith, ints, here)
 
 pub next_fits : (step : BookedGas → BookedGas) (n : ℕ) (was b : BookedGas) (spare : Cells) → IsAfter step n was b spare →

@@ -1,7 +1,7 @@
 use Rattle.std.specs.Prelude.{◌≡◌, ◌≤◌, ℕ, Bool, true, false, length, Result, Ok, Err, ◌⊎◌, ℤ, pos, ◌+ℤ◌, ◌-ℤ◌}
 use Rattle.gas_terms.specs.Cells.{Cells, HasSidesOf}
 use Rattle.gas_terms.specs.Gas.{Gas}
-use Rattle.gas_terms.specs.Accounts.{plus, FitsI64}
+use Rattle.gas_terms.specs.Accounts.{plus, FitsI64, TakenFits}
 use Rattle.gas_terms.specs.Commands.{is_tick}
 use Rattle.gas_terms.specs.BookedGas.{BookedGas, book, changes}
 use Rattle.gas_terms.specs.Laboratory.{Laboratory, accepted, IsSound}
@@ -37,6 +37,10 @@ abbrev pub TicksHold : ℤ → Command → Type 0
 TicksHold t (Step n) = (k : ℕ) → k ≤ n → is_tick (t +ℤ pos k) ≡ true
 TicksHold t (Back n) = (k : ℕ) → k ≤ n → is_tick (t -ℤ pos k) ≡ true
 TicksHold t _ = Unit {0}
+
+-- what walls and obstacles took fits 64 bits
+abbrev pub TakesFit : Ledger → Type 0
+TakesFit l = TakenFits l.walls × TakenFits l.obstacles
 
 -- the accounts stay within 64 bits whatever the next command is
 abbrev pub Affords : BookedGas → Type 0

@@ -2,22 +2,21 @@
 
 ghost use Rattle.std.specs.Prelude.{◌≡◌, ◌≤◌, ◌<◌, ℕ, true, false, ◌+ℤ◌, ◌-ℤ◌, pos};
 ghost use Rattle.std.specs.Fn.{iterate};
-ghost use Rattle.gas_terms.specs.Velocity.{parity};
 ghost use Rattle.gas_terms.specs.Cells.{extent, HasSidesOf};
-ghost use Rattle.gas_terms.specs.Gas.{streamed, solid};
-ghost use Rattle.gas_terms.specs.Accounts.{taken, FitsI64, SumsFit, plus};
+ghost use Rattle.gas_terms.specs.Accounts.{FitsI64, SumsFit, plus};
 ghost use Rattle.gas_terms.specs.Commands.{enact, fits, is_move, is_tick};
 ghost use Rattle.gas_terms.specs.BookedGas.{stepped, stepped_back, book};
 ghost use Rattle.gas_terms.specs.Laboratory.{has_all_ports};
 ghost use Rattle.gas_plane.specs.Planes.{IsLattice};
+ghost use Rattle.phase_step.specs.Runs.{ran};
 ghost use Rattle.gas_ledger.specs.Gases.{ports_of};
 ghost use Rattle.gas_ledger.specs.Moves.{moved_by};
 ghost use Rattle.gas_ledger.specs.PortLists.{adding, has_all};
-ghost use Rattle.gas_lab.specs.Labs.{books_of, with_moved, leaves_particles, TicksHold, Affords};
+ghost use Rattle.gas_lab.specs.Labs.{books_of, with_moved, leaves_particles, TicksHold, TakesFit, Affords};
 
 use gas_ledger::{Gas, Moved, Port};
 use gas_plane::Plane;
-use gas_terms::{Command, Ledger, Sums, Took};
+use gas_terms::{Command, Ledger, Sums};
 use phase_step::Stepper;
 
 const NOTHING: Moved = Moved {
@@ -53,34 +52,19 @@ fn with_moved(ledger: Ledger, moved: Moved) -> Ledger
     }
 }
 
-// turns the blocks of a parity: what comes out goes into the spare plane
-fn turned<S: Stepper>(gas: &Gas, parity: u8, spare: &mut Plane, stepper: &mut S) -> Took
-    requires parity { parity < 2 }
-    requires spare { HasSidesOf spare.old gas.now.particles }
-    ensures out { spare.new ≡ streamed parity gas.now.particles (solid gas.now) }
-    ensures took { result ≡ taken parity gas.now.particles gas.now.walls gas.now.obstacles }
-    ensures lattice { IsLattice gas.now.particles }
-{
-    let _ = gas.size();
-    stepper.phase(gas.particles(), gas.walls(), gas.obstacles(), parity, spare)
-}
-
-fn parity_now(gas: &Gas) -> u8
-    ensures parity { result ≡ parity gas.now.tick }
-    ensures small { result < 2 }
-{
-    gas.tick().parity()
-}
-
-fn parity_before(gas: &Gas) -> u8
-    requires { is_tick (gas.now.tick -ℤ pos 1) ≡ true }
-    ensures parity { result ≡ parity (gas.now.tick -ℤ pos 1) }
-    ensures small { result < 2 }
-{
-    gas.tick().behind(1).unwrap().parity()
-}
-
 impl Books {
+    // steps forward on which no port acts: walls and obstacles take their part
+    fn run<S: Stepper>(&mut self, n: u16, spare: &mut Plane, stepper: &mut S)
+        requires tick { is_tick (self.old.gas.tick +ℤ pos n) ≡ true }
+        requires spare { HasSidesOf spare.old self.old.gas.particles }
+        requires fits { TakesFit (ran n (books_of self.old)).ledger }
+        ensures booked { books_of self.new ≡ ran n (books_of self.old) }
+        ensures spare { HasSidesOf spare.new self.new.gas.particles }
+    {
+        let took = self.gas.run_ahead(n, spare, stepper);
+        self.ledger = self.ledger.with_taken(took);
+    }
+
     /// A step forward: walls and obstacles take their part, and the ports act at the new tick.
     pub fn step<S: Stepper>(&mut self, spare: &mut Plane, stepper: &mut S)
         requires tick { is_tick (self.old.gas.tick +ℤ pos 1) ≡ true }
@@ -89,29 +73,17 @@ impl Books {
         ensures booked { books_of self.new ≡ stepped (books_of self.old) }
         ensures spare { HasSidesOf spare.new self.new.gas.particles }
     {
-        let took = turned(&self.gas, parity_now(&self.gas), spare, stepper);
-        self.gas.advance(spare);
-        self.ledger = self.ledger.with_taken(took);
+        // its sides are a lattice's
+        let _ = self.gas.size();
+        phase_step::laws::runs_are_steps();
+        self.run(1, spare, stepper);
         if self.gas.ports().any() {
             let moved = self.gas.act();
             self.ledger = with_moved(self.ledger, moved);
         }
     }
 
-    /// A step back: walls and obstacles give back what they take in the step from the gas before.
-    pub fn step_back<S: Stepper>(&mut self, spare: &mut Plane, stepper: &mut S)
-        requires tick { is_tick (self.old.gas.tick -ℤ pos 1) ≡ true }
-        requires spare { HasSidesOf spare.old self.old.gas.particles }
-        requires fits { FitsI64 (stepped_back (books_of self.old)).ledger }
-        ensures booked { books_of self.new ≡ stepped_back (books_of self.old) }
-        ensures spare { HasSidesOf spare.new self.new.gas.particles }
-    {
-        let took = turned(&self.gas, parity_before(&self.gas), spare, stepper);
-        self.gas.retreat(spare);
-        self.ledger = self.ledger.with_given_back(took);
-    }
-
-    /// Steps forward, one after another.
+    /// Steps forward, one after another: in a single run where there are no ports.
     pub fn steps<S: Stepper>(&mut self, n: u16, spare: &mut Plane, stepper: &mut S)
         requires ticks { (k : ℕ) → k ≤ n → is_tick (self.old.gas.tick +ℤ pos k) ≡ true }
         requires spare { HasSidesOf spare.old self.old.gas.particles }
@@ -119,12 +91,19 @@ impl Books {
         ensures booked { books_of self.new ≡ iterate stepped n (books_of self.old) }
         ensures spare { HasSidesOf spare.new self.new.gas.particles }
     {
+        // its sides are a lattice's
+        let _ = self.gas.size();
+        phase_step::laws::runs_are_steps();
+        if !self.gas.ports().any() {
+            self.run(n, spare, stepper);
+            return;
+        }
         for i in 0..n {
             self.step(spare, stepper);
         }
     }
 
-    /// Steps back, one after another.
+    /// Steps back, one after another, in a single run: walls and obstacles give back what they took on the way.
     pub fn steps_back<S: Stepper>(&mut self, n: u16, spare: &mut Plane, stepper: &mut S)
         requires ticks { (k : ℕ) → k ≤ n → is_tick (self.old.gas.tick -ℤ pos k) ≡ true }
         requires spare { HasSidesOf spare.old self.old.gas.particles }
@@ -132,9 +111,11 @@ impl Books {
         ensures booked { books_of self.new ≡ iterate stepped_back n (books_of self.old) }
         ensures spare { HasSidesOf spare.new self.new.gas.particles }
     {
-        for i in 0..n {
-            self.step_back(spare, stepper);
-        }
+        // its sides are a lattice's
+        let _ = self.gas.size();
+        phase_step::laws::runs_are_steps();
+        let took = self.gas.run_back(n, spare, stepper);
+        self.ledger = self.ledger.with_given_back(took);
     }
 
     /// A change: an edit, which is booked as one change of the particles, or steps.

@@ -2,3 +2,4 @@ pub mod Counting
 pub mod Exchanging
 pub mod Strips
 pub mod Moving
+pub mod Running

@@ -5,6 +5,7 @@ ghost use Rattle.gas_terms.specs.Cells.{extent, lies_within, HasSidesOf};
 ghost use Rattle.gas_terms.specs.Gas.{act};
 ghost use Rattle.gas_terms.specs.Commands.{enact, fits, is_tick};
 ghost use Rattle.gas_terms.specs.declared.command.Command.TheVariants.{Put, Erase, Row, Wall, Block, Unwall, Unport};
+ghost use Rattle.phase_step.specs.Runs.{gas_after, gas_before, takes_after, takes_before};
 ghost use Rattle.gas_ledger.specs.PortLists.{adding, has_all};
 ghost use Rattle.gas_ledger.specs.Gases.{FitTogether, IsSoundGas, gas_of, ports_of, empty_gas, ahead_with, behind_with};
 ghost use Rattle.gas_ledger.specs.Moves.{moved_by};
@@ -16,7 +17,8 @@ use crate::port::{Full, Port};
 use crate::ports::Ports;
 use crate::sums::probe;
 use gas_plane::Plane;
-use gas_terms::{NoMemory, Rect, Size, Sums, Tick};
+use gas_terms::{NoMemory, Rect, Size, Sums, Tick, Took};
+use phase_step::Stepper;
 use std::alloc::Global;
 use std::marker::Model;
 use std::mem;
@@ -250,6 +252,36 @@ impl Gas {
     {
         self.tick = self.tick.behind(1).unwrap();
         mem::swap(&mut self.particles, last);
+    }
+
+    /// Goes n ticks on in a run of phases, on which no port acts, and says what walls and obstacles took.
+    pub fn run_ahead<S: Stepper>(&mut self, n: u16, spare: &mut Plane, stepper: &mut S) -> Took
+        requires tick { is_tick (self.old.tick +ℤ pos n) ≡ true }
+        requires spare { HasSidesOf spare.old self.old.particles }
+        ensures gas { self.new ≡ gas_after n self.old }
+        ensures spare { HasSidesOf spare.new self.new.particles }
+        ensures took { result ≡ takes_after n self.old }
+    {
+        let first = self.tick.parity();
+        let tick = &mut self.tick;
+        *tick = tick.ahead(n).unwrap();
+        let particles = &mut self.particles;
+        stepper.run(particles, &self.walls, &self.obstacles, first, n, spare)
+    }
+
+    /// Goes n ticks back in a run of phases, and says what walls and obstacles took on the way from there.
+    pub fn run_back<S: Stepper>(&mut self, n: u16, spare: &mut Plane, stepper: &mut S) -> Took
+        requires tick { is_tick (self.old.tick -ℤ pos n) ≡ true }
+        requires spare { HasSidesOf spare.old self.old.particles }
+        ensures gas { self.new ≡ gas_before n self.old }
+        ensures spare { HasSidesOf spare.new self.new.particles }
+        ensures took { result ≡ takes_before n self.old }
+    {
+        let first = 1 - self.tick.parity();
+        let tick = &mut self.tick;
+        *tick = tick.behind(n).unwrap();
+        let particles = &mut self.particles;
+        stepper.run(particles, &self.walls, &self.obstacles, first, n, spare)
     }
 
     /// The ports act at the present tick, and it says what came in and what went.

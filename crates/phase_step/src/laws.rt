@@ -1,15 +1,18 @@
 //! What a phase means. Each function does nothing: its contract is the law.
 
 ghost use Rattle.std.specs.Prelude.{◌≡◌, ℕ, ℤ, ◌+◌, ◌≤◌, pos, ◌-ℤ◌};
+ghost use Rattle.std.specs.Fn.{iterate};
 ghost use Rattle.bit_tile.specs.declared.Tile.{Tile};
 ghost use Rattle.tile_border.specs.declared.Border.{Border};
-ghost use Rattle.gas_terms.specs.Cells.{Cells, HasEvenSides};
+ghost use Rattle.gas_terms.specs.Cells.{Cells, HasEvenSides, IsEvenTorus};
 ghost use Rattle.gas_terms.specs.Velocity.{parity};
-ghost use Rattle.gas_terms.specs.Gas.{Gas, streamed, solid, forward, back};
+ghost use Rattle.gas_terms.specs.Gas.{Gas, streamed, solid, forward, back, HasNoPorts};
 ghost use Rattle.gas_terms.specs.Accounts.{taken, gas_taken};
+ghost use Rattle.gas_terms.specs.BookedGas.{BookedGas, moved, stepped, stepped_back};
 ghost use Rattle.gas_plane.specs.Planes.{IsTileFrom, IsRingRound};
 ghost use Rattle.block_rule.specs.Around.{around};
 ghost use Rattle.block_rule.specs.Windows.{IsWindow};
+ghost use Rattle.phase_step.specs.Runs.{ran, ran_back};
 
 /// A plane's tile and its border are a window of the torus.
 pub fn tile_and_border_are_a_window()
@@ -31,3 +34,12 @@ pub fn phases_are_steps()
     gas_terms::laws::rule_is_its_own_inverse();
     gas_terms::account_laws::taken_both_ways();
 }
+
+/// A run of phases is as many steps, tick and ledger included: forward without the action of the ports, and back.
+pub fn runs_are_steps()
+    ensures forward { (n : ℕ) (b : BookedGas) → iterate moved n b ≡ ran n b }
+    ensures whole { (n : ℕ) (b : BookedGas) → IsEvenTorus b.gas.particles → HasNoPorts b.gas →
+        iterate stepped n b ≡ ran n b }
+    ensures back { (n : ℕ) (b : BookedGas) → HasEvenSides b.gas.particles.width b.gas.particles.height →
+        iterate stepped_back n b ≡ ran_back n b }
+{}

@@ -5,12 +5,14 @@ ghost use Rattle.std.specs.Prelude.{◌≡◌, ◌<◌};
 ghost use Rattle.gas_terms.specs.Cells.{joined, HasSidesOf};
 ghost use Rattle.gas_terms.specs.Gas.{streamed};
 ghost use Rattle.gas_terms.specs.Accounts.{taken};
+ghost use Rattle.phase_step.specs.Runs.{parity_at, after, run_takes};
 
 pub mod laws;
 mod tiles;
 
 use gas_plane::Plane;
 use gas_terms::Took;
+use std::mem;
 use tiles::NOTHING;
 pub use tiles::{Borders, NO_BORDERS, turn_tile_at};
 
@@ -32,6 +34,45 @@ pub trait Stepper: Drop {
         requires out { HasSidesOf out.old old.now }
         ensures out { out.new ≡ streamed parity old.now (joined walls.now obstacles.now) }
         ensures took { result ≡ taken parity old.now walls.now obstacles.now };
+
+    /// A run of n phases whose parities take turns, from the given one on: `particles` become those after the run, and the
+    /// answer is what walls and obstacles took in all of it. The spare plane is written to, and what it holds does not matter.
+    fn run(
+        &mut self,
+        particles: &mut Plane,
+        walls: &Plane,
+        obstacles: &Plane,
+        parity: u8,
+        n: u16,
+        spare: &mut Plane,
+    ) -> Took
+        requires parity { parity < 2 }
+        requires walls { HasSidesOf walls.now particles.old }
+        requires obstacles { HasSidesOf obstacles.now particles.old }
+        requires spare { HasSidesOf spare.old particles.old }
+        ensures particles { particles.new ≡ after parity (joined walls.now obstacles.now) particles.old n }
+        ensures spare { HasSidesOf spare.new particles.old }
+        ensures took { result ≡ run_takes parity walls.now obstacles.now particles.old n }
+    {
+        let _ = particles.size();
+        let mut took = NOTHING;
+        for k in 0..n {
+            let turn = parity_at(parity, k);
+            let more = self.phase(particles, walls, obstacles, turn, spare);
+            took = took.plus(more);
+            mem::swap(particles, spare);
+        }
+        took
+    }
+}
+
+/// The parity of phase k of a run whose first phase has the given one.
+pub fn parity_at(parity: u8, k: u16) -> u8
+    requires { parity < 2 }
+    ensures parity { result ≡ parity_at parity k }
+    ensures small { result < 2 }
+{
+    ((u32::from(parity) + u32::from(k)) % 2) as u8
 }
 
 /// Turns one tile after another on the calling thread.

@@ -1,8 +1,8 @@
-use Rattle.std.proofs.Common.{◌≡◌, ◌+◌, true, subst, sym, arith}
+use Rattle.std.proofs.Common.{◌≡◌, ◌+◌, ◌∙◌, true, subst, sym, arith}
 use Rattle.gas_terms.specs.Commands.{is_tick}
-use Rattle.gas_terms.specs.BookedGas.{stepped}
-use Rattle.gas_lab.specs.Labs.{books_of}
-use Rattle.gas_lab.proofs.Stepping.{after_one_more, next_tick, next_fits}
+use Rattle.gas_terms.specs.BookedGas.{BookedGas, stepped}
+use Rattle.gas_lab.specs.Labs.{books_of, TakesFit}
+use Rattle.gas_lab.proofs.Stepping.{torus_of, idle, after_one_more, next_tick, next_fits}
 use Rattle.gas_lab.proofs.books.Books.steps.Goals as goal
 
 pub step-requires-clause-tick : goal.step-requires-clause-tick
@@ -19,3 +19,16 @@ step-requires-clause-fits g c =
 pub loop-i-preserved : goal.loop-i-preserved
 loop-i-preserved g c =
     after_one_more stepped c.loop-i.i _ (books_of c.loop-i.self) _ c.loop-i.spare _ c.loop-i.invariant c.step.ensures.booked c.step.ensures.spare
+
+pub run-requires-clause-fits : goal.run-requires-clause-fits
+run-requires-clause-fits g c =
+    let b = books_of c.args.self.now in
+    let none = idle b.gas c.ports.result.now c.ports.ensures (c.any.ensures.none c.if-not-any.true) in
+    let fits = c.requires.fits c.args.n (omega arith) in
+    subst (λ (b : BookedGas). TakesFit b.ledger) (c.runs_are_steps.ensures.whole c.args.n b (torus_of b.gas.particles c.size.ensures.sound.particles) none) (fits.walls, fits.obstacles)
+
+pub returns-then-not-any-clause-booked : goal.returns-then-not-any-clause-booked
+returns-then-not-any-clause-booked g c =
+    let b = books_of c.args.self.now in
+    let none = idle b.gas c.ports.result.now c.ports.ensures (c.any.ensures.none c.if-not-any.true) in
+    c.run.ensures.booked ∙ sym (c.runs_are_steps.ensures.whole c.args.n b (torus_of b.gas.particles c.size.ensures.sound.particles) none)

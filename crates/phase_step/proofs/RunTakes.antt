@@ -1,0 +1,282 @@
+-- What tiles take, in one phase and in many.
+use Rattle.std.proofs.Common.{◌≡◌, ℕ, zero, suc, ◌+◌, ◌-◌, ◌*◌, ◌/◌, ◌%◌, ◌<◌, ◌≤◌, ◌^◌, true, ℤ, pos, ◌+ℤ◌, ◌*ℤ◌, nat_abs, w64, FitsSigned, refl, sym, ap, ap₂, ◌∙◌, subst, arith, add-one}
+use Rattle.std.proofs.lemmas.Int.{ints}
+use Rattle.std.proofs.lemmas.Nat.{mul-le}
+use Rattle.gas_terms.specs.Cells.{Cells, HasSidesOf, joined, extent, is_size, tile_count, tile_rectangle}
+use Rattle.gas_terms.specs.Gas.{streamed, takes_for_walls, takes_for_obstacles}
+use Rattle.gas_terms.specs.Velocity.{parity}
+use Rattle.gas_terms.specs.Accounts.{taken, took_plus, pair_plus, TakenFits, total_in, stopped}
+use Rattle.gas_terms.specs.declared.accounts.Sums.{Sums}
+use Rattle.gas_terms.specs.declared.accounts.Pair.{Pair}
+use Rattle.gas_terms.specs.declared.accounts.Took.{Took}
+use Rattle.gas_terms.proofs.StoppedTotals.{taken-stopped}
+use Rattle.gas_terms.proofs.TileTotals.{total-tiles}
+use Rattle.gas_terms.proofs.RectangleTotals.{parity_count-small, total_in-parities}
+use Rattle.block_rule.specs.Windows.{taken_in}
+use Rattle.phase_step.proofs.TakenSums.{IsSmall, small_tile, took_below, took_next, took_all}
+use Rattle.phase_step.specs.Runs.{parity_at, after, nothing, run_takes, tiles_take, tiles_take_in_run}
+
+-- no component is above k
+pub record IsWithin (k : ℕ) (t : Took) : Type 0 where
+  pub wx : nat_abs t.walls.x ≤ k
+  pub wy : nat_abs t.walls.y ≤ k
+  pub ox : nat_abs t.obstacles.x ≤ k
+  pub oy : nat_abs t.obstacles.y ≤ k
+
+pub within_nothing : (k : ℕ) → IsWithin k nothing
+within_nothing k = record { wx = omega arith; wy = omega arith; ox = omega arith; oy = omega arith }
+
+small_sum : (a b : ℤ) (m n : ℕ) → nat_abs a ≤ m → nat_abs b ≤ n → nat_abs (a +ℤ b) ≤ m + n
+small_sum a b m n p q = omega (arith, ints)
+
+pub within_plus : (a b : Took) (m n : ℕ) → IsWithin m a → IsWithin n b → IsWithin (m + n) (took_plus a b)
+within_plus a b m n p q = record {
+  wx = small_sum a.walls.x b.walls.x m n p.wx q.wx;
+  wy = small_sum a.walls.y b.walls.y m n p.wy q.wy;
+  ox = small_sum a.obstacles.x b.obstacles.x m n p.ox q.ox;
+  oy = small_sum a.obstacles.y b.obstacles.y m n p.oy q.oy;
+}
+
+fits : (z : ℤ) (k : ℕ) → nat_abs z ≤ k → k ≤ 2 ^ 48 → FitsSigned w64 z
+fits z k h few = omega (arith, ints)
+
+-- two amounts of which the sum may be made
+pub within_fits : (a b : Took) (m n : ℕ) → IsWithin m a → IsWithin n b → m + n ≤ 2 ^ 48
+    → TakenFits (pair_plus a.walls b.walls) × TakenFits (pair_plus a.obstacles b.obstacles)
+within_fits a b m n p q few =
+    let all = within_plus a b m n p q in
+    ((fits _ (m + n) all.wx few, fits _ (m + n) all.wy few), (fits _ (m + n) all.ox few, fits _ (m + n) all.oy few))
+
+twice : (z : ℤ) → nat_abs z ≤ 8192 → nat_abs (pos 2 *ℤ z) ≤ 16384
+twice z h = omega (arith, ints)
+
+pub tile_within : (p : ℕ) (c w o : Cells) (i : ℕ) → IsWithin 16384 (taken_in (pos p) c w o (tile_rectangle c i))
+tile_within p c w o i =
+    let of_walls = small_tile (pos p) (stopped (parity (pos p)) c (takes_for_walls w o)) i parity_count-small total_in-parities in
+    let of_obstacles = small_tile (pos p) (stopped (parity (pos p)) c (takes_for_obstacles w o)) i parity_count-small total_in-parities in
+    let s = total_in (pos p) (stopped (parity (pos p)) c (takes_for_walls w o)) (tile_rectangle c i) in
+    let t = total_in (pos p) (stopped (parity (pos p)) c (takes_for_obstacles w o)) (tile_rectangle c i) in
+    record { wx = twice s.px of_walls.x; wy = twice s.py of_walls.y; ox = twice t.px of_obstacles.x; oy = twice t.py of_obstacles.y }
+
+pub tiles_within : (p : ℕ) (c w o : Cells) (first n : ℕ) → IsWithin (16384 * n) (tiles_take p c w o first n)
+tiles_within p c w o first zero = within_nothing (16384 * 0)
+tiles_within p c w o first (suc n) =
+    let e : 16384 * n + 16384 ≡ 16384 * suc n = omega arith in
+    subst (λ k. IsWithin k (tiles_take p c w o first (suc n))) e
+    (within_plus _ _ (16384 * n) 16384 (tiles_within p c w o first n) (tile_within p c w o (first + n)))
+
+pub run_within : (p : ℕ) (w o c : Cells) (first n k : ℕ) → IsWithin (16384 * n * k) (tiles_take_in_run p w o c first n k)
+run_within p w o c first n zero = within_nothing (16384 * n * 0)
+run_within p w o c first n (suc k) =
+    let e : 16384 * n * k + 16384 * n ≡ 16384 * n * suc k = omega arith in
+    subst (λ m. IsWithin m (tiles_take_in_run p w o c first n (suc k))) e
+    (within_plus _ _ (16384 * n * k) (16384 * n) (run_within p w o c first n k) (tiles_within (parity_at p k) (after p (joined w o) c k) w o first n))
+
+-- amounts by their components
+pub pair_made : (a b c d : ℤ) → a ≡ c → b ≡ d → (let p : Pair = record { x = a; y = b } in p) ≡ (let q : Pair = record { x = c; y = d } in q)
+pair_made a b c d e f = ap₂ (λ x y. let p : Pair = record { x = x; y = y } in p) e f
+
+took_made : (a b c d : Pair) → a ≡ c → b ≡ d → (let p : Took = record { walls = a; obstacles = b } in p) ≡ (let q : Took = record { walls = c; obstacles = d } in q)
+took_made a b c d e f = ap₂ (λ x y. let p : Took = record { walls = x; obstacles = y } in p) e f
+
+four : (a b c d : ℤ) → (a +ℤ b) +ℤ (c +ℤ d) ≡ (a +ℤ c) +ℤ (b +ℤ d)
+four a b c d = omega (arith, ints)
+
+-- two sums of two
+pub crossed : (a b c d : Took) → took_plus (took_plus a b) (took_plus c d) ≡ took_plus (took_plus a c) (took_plus b d)
+crossed a b c d =
+    took_made _ _ _ _
+    (pair_made _ _ _ _ (four a.walls.x b.walls.x c.walls.x d.walls.x) (four a.walls.y b.walls.y c.walls.y d.walls.y))
+    (pair_made _ _ _ _ (four a.obstacles.x b.obstacles.x c.obstacles.x d.obstacles.x) (four a.obstacles.y b.obstacles.y c.obstacles.y d.obstacles.y))
+
+three : (a b c : ℤ) → (a +ℤ b) +ℤ c ≡ a +ℤ (b +ℤ c)
+three a b c = omega (arith, ints)
+
+pub regrouped : (a b c : Took) → took_plus (took_plus a b) c ≡ took_plus a (took_plus b c)
+regrouped a b c =
+    took_made _ _ _ _
+    (pair_made _ _ _ _ (three a.walls.x b.walls.x c.walls.x) (three a.walls.y b.walls.y c.walls.y))
+    (pair_made _ _ _ _ (three a.obstacles.x b.obstacles.x c.obstacles.x) (three a.obstacles.y b.obstacles.y c.obstacles.y))
+
+none : (a : ℤ) → a ≡ a +ℤ pos 0
+none a = omega (arith, ints)
+
+pub plus_nothing : (a : Took) → a ≡ took_plus a nothing
+plus_nothing a =
+    took_made _ _ _ _ (pair_made _ _ _ _ (none a.walls.x) (none a.walls.y)) (pair_made _ _ _ _ (none a.obstacles.x) (none a.obstacles.y))
+
+-- tiles one after another
+pub tiles_split : (p : ℕ) (c w o : Cells) (first a b : ℕ) → tiles_take p c w o first (a + b) ≡ took_plus (tiles_take p c w o first a) (tiles_take p c w o (first + a) b)
+tiles_split p c w o first a zero = ap (tiles_take p c w o first) (let e : a + 0 ≡ a = omega arith in e) ∙ plus_nothing (tiles_take p c w o first a)
+tiles_split p c w o first a (suc b) =
+    ap (tiles_take p c w o first) (let e : a + suc b ≡ suc (a + b) = omega arith in e)
+    ∙ (ap₂ (λ t i. took_plus t (taken_in (pos p) c w o (tile_rectangle c i))) (tiles_split p c w o first a b) (let e : first + (a + b) ≡ first + a + b = omega arith in e)
+    ∙ regrouped (tiles_take p c w o first a) (tiles_take p c w o (first + a) b) (taken_in (pos p) c w o (tile_rectangle c (first + a + b))))
+
+pub run_split : (p : ℕ) (w o c : Cells) (first a b k : ℕ) → tiles_take_in_run p w o c first (a + b) k ≡ took_plus (tiles_take_in_run p w o c first a k) (tiles_take_in_run p w o c (first + a) b k)
+run_split p w o c first a b zero = refl
+run_split p w o c first a b (suc k) =
+    let now = after p (joined w o) c k in
+    ap₂ took_plus (run_split p w o c first a b k) (tiles_split (parity_at p k) now w o first a b)
+    ∙ crossed (tiles_take_in_run p w o c first a k) (tiles_take_in_run p w o c (first + a) b k) (tiles_take (parity_at p k) now w o first a) (tiles_take (parity_at p k) now w o (first + a) b)
+
+-- all tiles take what the lattice takes
+tiles_below : (p : ℕ) (c w o : Cells) (n : ℕ) → tiles_take p c w o 0 n ≡ took_below (pos p) c w o n
+tiles_below p c w o zero = refl
+tiles_below p c w o (suc n) =
+    ap₂ (λ t i. took_plus t (taken_in (pos p) c w o (tile_rectangle c i))) (tiles_below p c w o n) (let e : 0 + n ≡ n = omega arith in e)
+    ∙ (took_next (pos p) c w o n (took_below (pos p) c w o n) (taken_in (pos p) c w o (tile_rectangle c n)) refl refl
+    ∙ ap (took_below (pos p) c w o) (add-one n))
+
+pub all_take : (p : ℕ) (c w o : Cells) → p < 2 → is_size (extent c) ≡ true → tiles_take p c w o 0 (tile_count c) ≡ taken p c w o
+all_take p c w o small sized =
+    tiles_below p c w o (tile_count c)
+    ∙ took_all p c w o small sized (λ tick particles walls obstacles. taken-stopped tick particles (takes_for_walls walls obstacles))
+    (λ tick particles walls obstacles. taken-stopped tick particles (takes_for_obstacles walls obstacles)) total-tiles
+
+pub taken_within : (p : ℕ) (c w o : Cells) → p < 2 → is_size (extent c) ≡ true → tile_count c ≤ 4096 → IsWithin (2 ^ 26) (taken p c w o)
+taken_within p c w o small sized few =
+    let all = subst (IsWithin (16384 * tile_count c)) (all_take p c w o small sized) (tiles_within p c w o 0 (tile_count c)) in
+    let wx = all.wx in let wy = all.wy in let ox = all.ox in let oy = all.oy in
+    record { wx = omega arith; wy = omega arith; ox = omega arith; oy = omega arith }
+
+-- the sides stay
+pub sides_after : (p : ℕ) (solid c : Cells) (k : ℕ) → HasSidesOf (after p solid c k) c
+sides_after p solid c zero = record { wide = refl; high = refl }
+sides_after p solid c (suc k) = let before = sides_after p solid c k in record { wide = before.wide; high = before.high }
+
+pub sized_after : (p : ℕ) (solid c : Cells) (k : ℕ) → is_size (extent c) ≡ true → is_size (extent (after p solid c k)) ≡ true
+sized_after p solid c zero sized = sized
+sized_after p solid c (suc k) sized = sized_after p solid c k sized
+
+pub count_after : (p : ℕ) (solid c : Cells) (k : ℕ) → tile_count (after p solid c k) ≡ tile_count c
+count_after p solid c k = let same = sides_after p solid c k in ap₂ (λ w h. w / 64 * (h / 64)) same.wide same.high
+
+two : (n : ℕ) → n % 2 < 2
+two n = omega arith
+
+pub run_takes_within : (p : ℕ) (w o c : Cells) (k : ℕ) → is_size (extent c) ≡ true → tile_count c ≤ 4096 → IsWithin (2 ^ 26 * k) (run_takes p w o c k)
+run_takes_within p w o c zero sized few = within_nothing (2 ^ 26 * 0)
+run_takes_within p w o c (suc k) sized few =
+    let now = after p (joined w o) c k in
+    let few' : tile_count now ≤ 4096 = let e = count_after p (joined w o) c k in omega arith in
+    let e : 2 ^ 26 * k + 2 ^ 26 ≡ 2 ^ 26 * suc k = omega arith in
+    subst (λ m. IsWithin m (run_takes p w o c (suc k))) e
+    (within_plus _ _ (2 ^ 26 * k) (2 ^ 26) (run_takes_within p w o c k sized few) (taken_within (parity_at p k) now w o (two (p + k)) (sized_after p (joined w o) c k sized) few'))
+
+pub run_all : (p : ℕ) (w o c : Cells) (k : ℕ) → is_size (extent c) ≡ true → tiles_take_in_run p w o c 0 (tile_count c) k ≡ run_takes p w o c k
+run_all p w o c zero sized = refl
+run_all p w o c (suc k) sized =
+    let now = after p (joined w o) c k in
+    ap₂ took_plus (run_all p w o c k sized)
+    (ap (tiles_take (parity_at p k) now w o 0) (sym (count_after p (joined w o) c k)) ∙ all_take (parity_at p k) now w o (two (p + k)) (sized_after p (joined w o) c k sized))
+
+-- one phase more
+pub after_next : (p q k : ℕ) (solid c now next : Cells) → now ≡ after p solid c k → q ≡ parity_at p k → next ≡ streamed q now solid → next ≡ after p solid c (k + 1)
+after_next p q k solid c now next so_far e step =
+    step ∙ (ap₂ (λ q (now : Cells). streamed q now solid) e so_far ∙ ap (after p solid c) (sym (add-one k)))
+
+pub takes_next : (p q k : ℕ) (w o c now : Cells) (took here : Took) → now ≡ after p (joined w o) c k → q ≡ parity_at p k → took ≡ run_takes p w o c k → here ≡ taken q now w o
+    → took_plus took here ≡ run_takes p w o c (k + 1)
+takes_next p q k w o c now took here so_far e taken_before step =
+    ap₂ took_plus taken_before (step ∙ ap₂ (λ q (now : Cells). taken q now w o) e so_far) ∙ ap (run_takes p w o c) (sym (add-one k))
+
+pub takes_fit : (p q k : ℕ) (w o c now : Cells) (took here : Took) → now ≡ after p (joined w o) c k → q ≡ parity_at p k → took ≡ run_takes p w o c k → here ≡ taken q now w o
+    → k < 65536 → is_size (extent c) ≡ true → tile_count c ≤ 4096 → TakenFits (pair_plus took.walls here.walls) × TakenFits (pair_plus took.obstacles here.obstacles)
+takes_fit p q k w o c now took here so_far e taken_before step few sized tiles =
+    let there = after p (joined w o) c k in
+    let tiles' : tile_count there ≤ 4096 = let n = count_after p (joined w o) c k in omega arith in
+    within_fits took here (2 ^ 26 * k) (2 ^ 26) (subst (IsWithin (2 ^ 26 * k)) (sym taken_before) (run_takes_within p w o c k sized tiles))
+    (subst (IsWithin (2 ^ 26)) (sym (step ∙ ap₂ (λ q (now : Cells). taken q now w o) e so_far)) (taken_within (parity_at p k) there w o (two (p + k)) (sized_after p (joined w o) c k sized) tiles'))
+    (omega arith)
+
+-- the same of tiles
+pub tiles_next : (p q k : ℕ) (w o c now : Cells) (first n : ℕ) (took here : Took) → now ≡ after p (joined w o) c k → q ≡ parity_at p k → took ≡ tiles_take_in_run p w o c first n k → here ≡ tiles_take q now w o first n
+    → took_plus took here ≡ tiles_take_in_run p w o c first n (k + 1)
+tiles_next p q k w o c now first n took here so_far e taken_before step =
+    ap₂ took_plus taken_before (step ∙ ap₂ (λ q (now : Cells). tiles_take q now w o first n) e so_far) ∙ ap (tiles_take_in_run p w o c first n) (sym (add-one k))
+
+pub tiles_fit : (p q k : ℕ) (w o c now : Cells) (first n : ℕ) (took here : Took) → now ≡ after p (joined w o) c k → q ≡ parity_at p k → took ≡ tiles_take_in_run p w o c first n k → here ≡ tiles_take q now w o first n
+    → k < 65536 → n ≤ 4096 → TakenFits (pair_plus took.walls here.walls) × TakenFits (pair_plus took.obstacles here.obstacles)
+tiles_fit p q k w o c now first n took here so_far e taken_before step few tiles =
+    let there = after p (joined w o) c k in
+    let most : 16384 * n * k ≤ 2 ^ 42 = let a : 16384 * n ≤ 2 ^ 26 = omega arith in let b : k ≤ 2 ^ 16 = omega arith in mul-le (16384 * n) k (2 ^ 26) (2 ^ 16) a b in
+    within_fits took here (16384 * n * k) (16384 * n) (subst (IsWithin (16384 * n * k)) (sym taken_before) (run_within p w o c first n k))
+    (subst (IsWithin (16384 * n)) (sym (step ∙ ap₂ (λ q (now : Cells). tiles_take q now w o first n) e so_far)) (tiles_within (parity_at p k) there w o first n))
+    (omega arith)
+
+-- what has the sides of the start has those of the particles now
+pub sides_as : (p : ℕ) (solid c now other : Cells) (k : ℕ) → now ≡ after p solid c k → HasSidesOf other c → HasSidesOf other now
+sides_as p solid c now other k e same =
+    let there = sides_after p solid c k in
+    record {
+      wide = same.wide ∙ sym (ap (λ (c : Cells). c.width) e ∙ there.wide);
+      high = same.high ∙ sym (ap (λ (c : Cells). c.height) e ∙ there.high);
+    }
+
+-- the own tiles of a strip, by its sides at the start
+pub own_as : (p : ℕ) (solid c now w o : Cells) (k q : ℕ) (here : Took) → now ≡ after p solid c k
+    → here ≡ tiles_take q now w o (now.width / 64) (tile_count now - 2 * (now.width / 64)) → here ≡ tiles_take q now w o (c.width / 64) (tile_count c - 2 * (c.width / 64))
+own_as p solid c now w o k q here e took =
+    let there = sides_after p solid c k in
+    let wide : now.width ≡ c.width = ap (λ (c : Cells). c.width) e ∙ there.wide in
+    let high : now.height ≡ c.height = ap (λ (c : Cells). c.height) e ∙ there.high in
+    took ∙ ap₂ (λ a b. tiles_take q now w o (a / 64) (a / 64 * (b / 64) - 2 * (a / 64))) wide high
+
+pub rows_as : (p : ℕ) (solid c now : Cells) (k : ℕ) → now ≡ after p solid c k → 2 ≤ c.height / 64 → 2 ≤ now.height / 64
+rows_as p solid c now k e rows =
+    subst (λ h. 2 ≤ h / 64) (sym (ap (λ (c : Cells). c.height) e ∙ (sides_after p solid c k).high)) rows
+
+-- a strip's own tiles one after another
+pub own_more : (p : ℕ) (c w o : Cells) (across end i : ℕ) (took here : Took) → across ≤ i → i < end → took ≡ tiles_take p c w o across (i - across - (i - end)) → here ≡ taken_in (pos p) c w o (tile_rectangle c i)
+    → took_plus took here ≡ tiles_take p c w o across (i + 1 - across - (i + 1 - end))
+own_more p c w o across end i took here low high so_far e =
+    let n = i - across - (i - end) in
+    let place : i ≡ across + n = omega arith in
+    let next : suc n ≡ i + 1 - across - (i + 1 - end) = omega arith in
+    ap₂ took_plus so_far (e ∙ ap (λ i. taken_in (pos p) c w o (tile_rectangle c i)) place) ∙ ap (tiles_take p c w o across) next
+
+pub own_fits : (p : ℕ) (c w o : Cells) (first n i : ℕ) (took here : Took) → n ≤ 4096 → took ≡ tiles_take p c w o first n → here ≡ taken_in (pos p) c w o (tile_rectangle c i)
+    → TakenFits (pair_plus took.walls here.walls) × TakenFits (pair_plus took.obstacles here.obstacles)
+own_fits p c w o first n i took here few so_far e =
+    within_fits took here (16384 * n) 16384 (subst (IsWithin (16384 * n)) (sym so_far) (tiles_within p c w o first n)) (subst (IsWithin 16384) (sym e) (tile_within p c w o i)) (omega arith)
+
+pub none_take : (p : ℕ) (w o c : Cells) (first k : ℕ) → nothing ≡ tiles_take_in_run p w o c first 0 k
+none_take p w o c first zero = refl
+none_take p w o c first (suc k) = ap (λ t. took_plus t nothing) (none_take p w o c first k)
+
+-- a run in two parts
+parity_parts : (p m k : ℕ) → parity_at p (m + k) ≡ parity_at (parity_at p m) k
+parity_parts p m k = omega arith
+
+pub after_parts : (p : ℕ) (solid c : Cells) (m n : ℕ) → after p solid c (m + n) ≡ after (parity_at p m) solid (after p solid c m) n
+after_parts p solid c m zero = ap (after p solid c) (let e : m + 0 ≡ m = omega arith in e)
+after_parts p solid c m (suc n) =
+    ap (after p solid c) (let e : m + suc n ≡ suc (m + n) = omega arith in e)
+    ∙ ap₂ (λ q (now : Cells). streamed q now solid) (parity_parts p m n) (after_parts p solid c m n)
+
+pub takes_parts : (p : ℕ) (w o c : Cells) (m n : ℕ) → run_takes p w o c (m + n) ≡ took_plus (run_takes p w o c m) (run_takes (parity_at p m) w o (after p (joined w o) c m) n)
+takes_parts p w o c m zero = ap (run_takes p w o c) (let e : m + 0 ≡ m = omega arith in e) ∙ plus_nothing (run_takes p w o c m)
+takes_parts p w o c m (suc n) =
+    ap (run_takes p w o c) (let e : m + suc n ≡ suc (m + n) = omega arith in e)
+    ∙ (ap₂ took_plus (takes_parts p w o c m n) (ap₂ (λ q (now : Cells). taken q now w o) (parity_parts p m n) (after_parts p (joined w o) c m n))
+    ∙ regrouped (run_takes p w o c m) (run_takes (parity_at p m) w o (after p (joined w o) c m) n) (taken (parity_at (parity_at p m) n) (after (parity_at p m) (joined w o) (after p (joined w o) c m) n) w o))
+
+-- the next part of a run
+pub part_after : (p q m n : ℕ) (solid c now next : Cells) → now ≡ after p solid c m → q ≡ parity_at p m → next ≡ after q solid now n → next ≡ after p solid c (m + n)
+part_after p q m n solid c now next so_far e step =
+    step ∙ (ap₂ (λ q (now : Cells). after q solid now n) e so_far ∙ sym (after_parts p solid c m n))
+
+pub part_takes : (p q m n : ℕ) (w o c now : Cells) (took here : Took) → now ≡ after p (joined w o) c m → q ≡ parity_at p m → took ≡ run_takes p w o c m → here ≡ run_takes q w o now n
+    → took_plus took here ≡ run_takes p w o c (m + n)
+part_takes p q m n w o c now took here so_far e before step =
+    ap₂ took_plus before (step ∙ ap₂ (λ q (now : Cells). run_takes q w o now n) e so_far) ∙ sym (takes_parts p w o c m n)
+
+pub part_fits : (p q m n : ℕ) (w o c now : Cells) (took here : Took) → now ≡ after p (joined w o) c m → q ≡ parity_at p m → took ≡ run_takes p w o c m → here ≡ run_takes q w o now n
+    → m ≤ 65535 → n ≤ 65535 → is_size (extent c) ≡ true → tile_count c ≤ 4096 → TakenFits (pair_plus took.walls here.walls) × TakenFits (pair_plus took.obstacles here.obstacles)
+part_fits p q m n w o c now took here so_far e before step few more sized tiles =
+    let there = after p (joined w o) c m in
+    let tiles' : tile_count there ≤ 4096 = let k = count_after p (joined w o) c m in omega arith in
+    within_fits took here (2 ^ 26 * m) (2 ^ 26 * n) (subst (IsWithin (2 ^ 26 * m)) (sym before) (run_takes_within p w o c m sized tiles))
+    (subst (IsWithin (2 ^ 26 * n)) (sym (step ∙ ap₂ (λ q (now : Cells). run_takes q w o now n) e so_far)) (run_takes_within (parity_at p m) w o there n (sized_after p (joined w o) c m sized) tiles'))
+    (omega arith)

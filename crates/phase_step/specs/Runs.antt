@@ -1,0 +1,61 @@
+-- Runs of phases, one after another, whose parities take turns.
+use Rattle.std.specs.Prelude.{ℕ, zero, suc, ◌+◌, ◌%◌, pos, ◌+ℤ◌, ◌-ℤ◌}
+use Rattle.gas_terms.specs.Velocity.{parity}
+use Rattle.gas_terms.specs.Cells.{Cells, joined, tile_rectangle}
+use Rattle.gas_terms.specs.Gas.{Gas, streamed, solid}
+use Rattle.gas_terms.specs.Accounts.{taken, took_plus, with_taken, with_given_back}
+use Rattle.gas_terms.specs.BookedGas.{BookedGas}
+use Rattle.gas_terms.specs.declared.accounts.Took.{Took}
+use Rattle.block_rule.specs.Windows.{taken_in}
+
+-- the parity of phase k of a run whose first phase has parity p
+abbrev pub parity_at : ℕ → ℕ → ℕ
+parity_at p k = (p + k) % 2
+
+-- the particles after so many phases
+abbrev pub after : ℕ → Cells → Cells → ℕ → Cells
+after p solid particles zero = particles
+after p solid particles (suc k) = streamed (parity_at p k) (after p solid particles k) solid
+
+abbrev pub nothing : Took
+nothing = record { walls = record { x = pos 0; y = pos 0 }; obstacles = record { x = pos 0; y = pos 0 } }
+
+-- what walls and obstacles take in so many phases
+abbrev pub run_takes : ℕ → Cells → Cells → Cells → ℕ → Took
+run_takes p walls obstacles particles zero = nothing
+run_takes p walls obstacles particles (suc k) =
+    took_plus (run_takes p walls obstacles particles k) (taken (parity_at p k) (after p (joined walls obstacles) particles k) walls obstacles)
+
+-- what they take in a phase of parity p, of the particles of n tiles from tile `first` on
+abbrev pub tiles_take : ℕ → Cells → Cells → Cells → ℕ → ℕ → Took
+tiles_take p particles walls obstacles first zero = nothing
+tiles_take p particles walls obstacles first (suc n) =
+    took_plus (tiles_take p particles walls obstacles first n) (taken_in (pos p) particles walls obstacles (tile_rectangle particles (first + n)))
+
+-- and in so many phases
+abbrev pub tiles_take_in_run : ℕ → Cells → Cells → Cells → ℕ → ℕ → ℕ → Took
+tiles_take_in_run p walls obstacles particles first n zero = nothing
+tiles_take_in_run p walls obstacles particles first n (suc k) =
+    took_plus (tiles_take_in_run p walls obstacles particles first n k)
+    (tiles_take (parity_at p k) (after p (joined walls obstacles) particles k) walls obstacles first n)
+
+-- a gas n ticks later, on which no port acted, and what walls and obstacles took on the way
+abbrev pub gas_after : ℕ → Gas → Gas
+gas_after n g = record g { tick = g.tick +ℤ pos n; particles = after (parity g.tick) (solid g) g.particles n }
+
+abbrev pub takes_after : ℕ → Gas → Took
+takes_after n g = run_takes (parity g.tick) g.walls g.obstacles g.particles n
+
+-- a gas n ticks earlier, and what walls and obstacles took on the way from there
+abbrev pub gas_before : ℕ → Gas → Gas
+gas_before n g = record g { tick = g.tick -ℤ pos n; particles = after (parity (g.tick -ℤ pos 1)) (solid g) g.particles n }
+
+abbrev pub takes_before : ℕ → Gas → Took
+takes_before n g = run_takes (parity (g.tick -ℤ pos 1)) g.walls g.obstacles g.particles n
+
+-- a run forward with its account, and one back
+abbrev pub ran : ℕ → BookedGas → BookedGas
+ran n b = record { gas = gas_after n b.gas; ledger = with_taken b.ledger (takes_after n b.gas) }
+
+abbrev pub ran_back : ℕ → BookedGas → BookedGas
+ran_back n b = record { gas = gas_before n b.gas; ledger = with_given_back b.ledger (takes_before n b.gas) }
