@@ -3,3 +3,8 @@ pub mod Takings
 pub mod Places
 pub mod DrawnNumbers
 pub mod Closing
+pub mod Locality
+pub mod Windows
+pub mod Transport
+pub mod Turned
+pub mod Gathered

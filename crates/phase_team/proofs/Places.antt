@@ -35,6 +35,17 @@ all_push P xs y all one k d lt =
     (λ e. subst P (sym (get_or_push xs y d k (sym e))) one)
     (λ other. subst P (sym (get_or_append_left xs (y ∷ []) d k (omega arith))) (all k d (omega arith)))
 
+-- and of each before, and of the last
+pub all_before : {A : Type 0} (P : A → Type 0) (xs ys : List A) (y : A) → xs ≡ ys ++ y ∷ [] → All P xs → All P ys
+all_before P xs ys y e all k d lt =
+    let long = length_push ys y in
+    subst P (get_or_append_left ys (y ∷ []) d k (omega arith)) (subst (All P) e all k d (omega arith))
+
+pub all_last : {A : Type 0} (P : A → Type 0) (xs ys : List A) (y : A) → xs ≡ ys ++ y ∷ [] → All P xs → P y
+all_last P xs ys y e all =
+    let long = length_push ys y in
+    subst P (get_or_push ys y y (length ys) refl) (subst (All P) e all (length ys) y (omega arith))
+
 -- a list that was lent whole, as it is afterwards
 pub all_lent : {A : Type 0} (P : A → Type 0) (n : ℕ) (new old : List A) → n ≡ length new → All P new → All P (take n (new ++ drop (length new) old))
 all_lent P n new old e all = subst (All P) (sym (ap (λ k. take k (new ++ drop (length new) old)) e ∙ take-append_seam new (drop (length new) old))) all

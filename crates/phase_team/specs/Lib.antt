@@ -1,2 +1,4 @@
 pub mod Tiles
 pub mod Teamwork
+pub mod Strips
+pub mod Work

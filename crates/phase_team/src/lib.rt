@@ -1,7 +1,11 @@
 //! The step over a plane by several threads, which draw its tiles one by one.
 #![tactic(auto)]
 
+mod course;
 mod gate;
+pub mod laws;
+mod runs;
+mod strip;
 mod task;
 mod team;
 #[cfg(test)]

@@ -10,7 +10,9 @@ ghost use Rattle.claim_desk.specs.Draws.{times};
 ghost use Rattle.phase_team.specs.Tiles.{tiles_take};
 ghost use Rattle.phase_team.specs.Teamwork.{IsReady, IsTurned, HasWorked, HasTurned, IsRight, drawn};
 
+use crate::course::Run;
 use crate::gate::{Gate, NoGate};
+use crate::runs::{Strips, is_worth_strips, run_by, strips_for};
 use crate::task::Task;
 use crate::worker::{NOTHING, Turned, Worker, work_on};
 use claim_desk::{Desk, DeskSeat};
@@ -248,6 +250,7 @@ pub struct Team<R: Threads + Drop, G: Gate + Drop> {
     workers: u8,
     gate: G,
     rooms: Vec<Vec<Turned>>,
+    strips: Option<Strips>,
 }
 
 impl<R: Threads + Drop, G: Gate + Drop> Model for Team<R, G> {
@@ -273,6 +276,7 @@ impl<R: Threads + Drop, G: Gate + Drop> Team<R, G> {
             workers,
             gate,
             rooms: Vec::new(alloc),
+            strips: None,
         }
     }
 
@@ -327,5 +331,38 @@ impl<R: Threads + Drop> Stepper for Team<R, NoGate> {
             return Serial.phase(old, walls, obstacles, parity, out);
         }
         self.phase(old, walls, obstacles, parity, out)
+    }
+
+    fn run(
+        &mut self,
+        particles: &mut Plane,
+        walls: &Plane,
+        obstacles: &Plane,
+        parity: u8,
+        n: u16,
+        spare: &mut Plane,
+    ) -> Took {
+        let size = particles.size();
+        if !is_worth_strips(size, self.workers, n) {
+            return Serial.run(particles, walls, obstacles, parity, n, spare);
+        }
+        let (alloc, workers) = (self.alloc, self.workers);
+        let Team {
+            rt,
+            strips: kept,
+            ..
+        } = self;
+        let Some(mut strips) = strips_for(kept, alloc, size, workers) else {
+            return Serial.run(particles, walls, obstacles, parity, n, spare);
+        };
+        let run = Run {
+            walls,
+            obstacles,
+            parity,
+            n,
+        };
+        let took = run_by(rt, &mut strips, run, particles, spare);
+        *kept = Some(strips);
+        took
     }
 }

@@ -1,0 +1,30 @@
+//! What a run starts from.
+
+ghost use Rattle.std.specs.Prelude.{◌<◌, ◌≤◌};
+ghost use Rattle.gas_terms.specs.Cells.{HasSidesOf};
+
+use gas_plane::Plane;
+
+/// Particles, walls and obstacles, the parity of the first phase, and how many phases there are: no more than a strip can
+/// make alone.
+#[derive(Clone, Copy)]
+pub struct Course<'a> {
+    pub cells: &'a Plane,
+    pub walls: &'a Plane,
+    pub obstacles: &'a Plane,
+    pub parity: u8,
+    pub phases: u16,
+    pub ghost parity_is: { parity < 2 },
+    pub ghost few: { phases ≤ 64 },
+    pub ghost of_walls: { HasSidesOf walls.now cells.now },
+    pub ghost of_obstacles: { HasSidesOf obstacles.now cells.now },
+}
+
+/// What a run is given besides the particles: n phases, the first of this parity.
+#[derive(Clone, Copy)]
+pub struct Run<'a> {
+    pub walls: &'a Plane,
+    pub obstacles: &'a Plane,
+    pub parity: u8,
+    pub n: u16,
+}
