@@ -50,7 +50,7 @@ no_entry : (lab : Laboratory) (command : Command) → is_change command ≡ true
 no_entry lab (EntryAt k) change = cc
 no_entry lab _ change = refl
 
-same_ports : (lab : Laboratory) (seat cap : ℕ) (command : Command) → has_all_ports (made_alone seat cap lab) command ≡ has_all_ports lab command
+same_ports : (lab : Laboratory) (seat cap : ℕ) (command : Command) → has_all_ports (made_alone seat cap lab).gas command ≡ has_all_ports lab.gas command
 same_ports lab seat cap (Source r period) = refl
 same_ports lab seat cap (Drain r) = refl
 same_ports lab seat cap _ = refl
