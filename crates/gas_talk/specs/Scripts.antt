@@ -31,9 +31,9 @@ taken_from k (entry ∷ journal) =
     record { item = text (command_text entry.command); reply = Answered (Taken k); put = no_put } ∷ taken_from (k + 1) journal
 
 -- the entries, made by one seat
-abbrev pub made_by : ℕ → List Entry → List Entry
-made_by seat journal = map (λ e. record { seat = seat; command = e.command }) journal
+abbrev pub with_seat : ℕ → List Entry → List Entry
+with_seat seat journal = map (λ e. record { seat = seat; command = e.command }) journal
 
 -- the laboratory with all its entries made by one seat, and room for cap of them
 abbrev pub made_alone : ℕ → ℕ → Laboratory → Laboratory
-made_alone seat cap lab = record lab { cap = cap; journal = made_by seat lab.journal }
+made_alone seat cap lab = record lab { cap = cap; journal = with_seat seat lab.journal }
