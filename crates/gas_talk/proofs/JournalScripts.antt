@@ -78,7 +78,7 @@ no_cause_there lab seat cap command change none room =
     let one : Entry → Entry = λ e. record { seat = seat; command = e.command } in
     let spare : length there.journal < cap = omega (arith, length-map lab.journal one, room) in
     rw (no_entry there command change, same_ports lab seat cap command, same_way lab seat cap command, same_ticks lab seat cap command)
-    (none_by_tests (lacks_entry lab command) (has_all_ports lab command) (bars_way_back lab command) (leaves_ticks lab command) (lacks_room lab command) (lacks_room there command)
+    (none_by_tests (lacks_entry lab command) (has_all_ports lab.gas command) (bars_way_back lab command) (leaves_ticks lab command) (lacks_room lab command) (lacks_room there command)
     NoEntry Full Ports Tick Journal none (some_room (is_change command) cap (length there.journal) spare))
 
 taken_answer : (lab : Laboratory) (command : Command) → is_change command ≡ true → answer lab command ≡ Taken (length lab.journal)
