@@ -46,6 +46,15 @@ ports_take size n bytes x fits e =
 abbrev pub made_head : Version → Extent → ℤ → PortLists → Head
 made_head version size tick ports = record { version = version; size = size; tick = tick; ports = ports }
 
+both_counts : (n : ℕ × ℕ) (ports : PortLists) → length ports.drains ≡ n.0 → length ports.sources ≡ n.1 → n ≡ (length ports.drains, length ports.sources)
+both_counts n ports drains sources = λ i. (sym drains i, sym sources i)
+
+with_counts : (bytes rest : List ℕ) (n m : ℕ × ℕ) → n ≡ m → Takes bytes (counts n.0 n.1) rest → Takes bytes (counts m.0 m.1) rest
+with_counts bytes rest n m same = subst (λ (y : ℕ × ℕ). Takes bytes (counts y.0 y.1) rest) same
+
+with_few : (n m : ℕ × ℕ) → n ≡ m → are_few n ≡ true → are_few m ≡ true
+with_few n m same = subst (λ (y : ℕ × ℕ). are_few y ≡ true) same
+
 pub head_takes : (bytes : List ℕ) (x : Head × List ℕ) → IsBytes bytes → head_at bytes ≡ Ok x → Takes bytes (head_text x.0) x.1 × HeadFits x.0
 unfolding head_at
 head_takes bytes x fits e =
@@ -64,15 +73,15 @@ head_takes bytes x fits e =
     let t3 = tick_takes s.1 t t2.0.rest_fits d.1 in
     let t4 = counts_takes t.1 n t3.0.rest_fits f.1 in
     let t5 = ports_take s.0 n.0 n.1 p t4.0.rest_fits g.1 in
-    let same : n.0 ≡ (length p.0.drains, length p.0.sources) = ap (λ (i : ℕ). (i, n.0.1)) (sym t5.2) ∙ ap (λ (j : ℕ). (length p.0.drains, j)) (sym t5.3) in
-    let c4 : Takes t.1 (counts (length p.0.drains) (length p.0.sources)) n.1 = subst (λ (y : ℕ × ℕ). Takes t.1 (counts y.0 y.1) n.1) same t4.0 in
+    let same = both_counts n.0 p.0 t5.2 t5.3 in
+    let c4 = with_counts t.1 n.1 n.0 (length p.0.drains, length p.0.sources) same t4.0 in
     let u4 = then_takes t.1 (counts (length p.0.drains) (length p.0.sources)) n.1 (port_text p.0) p.1 c4 t5.0 in
     let u3 = then_takes s.1 (moment t.0) t.1 (counts (length p.0.drains) (length p.0.sources) ++ port_text p.0) p.1 t3.0 u4 in
     let u2 = then_takes v.1 (sides s.0) s.1 (moment t.0 ++ (counts (length p.0.drains) (length p.0.sources) ++ port_text p.0)) p.1 t2.0 u3 in
     let u1 = then_takes bytes (magic v.0) v.1 (sides s.0 ++ (moment t.0 ++ (counts (length p.0.drains) (length p.0.sources) ++ port_text p.0))) p.1 t1 u2 in
     let made : Head × List ℕ = (made_head v.0 s.0 t.0 p.0, p.1) in
     subst (λ (y : Head × List ℕ). Takes bytes (head_text y.0) y.1 × HeadFits y.0) (ok_is made x g.2)
-    (u1, record { sized = t2.1; tick = t3.1; few = subst (λ (y : ℕ × ℕ). are_few y ≡ true) same t4.1; ports = t5.1 })
+    (u1, record { sized = t2.1; tick = t3.1; few = with_few n.0 (length p.0.drains, length p.0.sources) same t4.1; ports = t5.1 })
 
 -- ---- again
 

@@ -1,7 +1,6 @@
 //! Command lines: what they are read as, and the texts that teach.
 
-use gaslab::command_line::plan;
-use gaslab::setup::{Plan, PlanFault, Service};
+use gaslab::{Plan, PlanFault, Service, plan};
 use std::net::{IpAddr, Ipv4Addr, SocketAddr};
 use std::process::Abort;
 use std::thread::Threads;

@@ -1,7 +1,7 @@
 //! Loads from readers that give a snapshot in pieces, fail, or never end.
 
 use gas_snapshot::{SnapFault, encode};
-use gaslab::load::{LoadFault, load_from};
+use gaslab::{LoadFault, load_from};
 use std::io;
 use std::io::Read;
 use std::process::Abort;

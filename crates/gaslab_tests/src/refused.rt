@@ -3,9 +3,7 @@
 use crate::loads::{Padded, WITH_PORTS};
 use crate::script::{Room, SMALL, status_on};
 use gas_snapshot::{Shelf, ShelfFault, SnapFault};
-use gaslab::command_line::plan;
-use gaslab::load::{LoadFault, load_from};
-use gaslab::setup::PlanFault;
+use gaslab::{LoadFault, PlanFault, load_from, plan};
 use std::process::Abort;
 use std::thread::Threads;
 use test_types::faults::FaultAt;

@@ -3,27 +3,30 @@
 use crate::script::{LARGE, Room, SMALL};
 use crate::snapshots::snapshot;
 use gas_ledger::Gas;
-use gas_snapshot::{FileShelf, MaybeShelf, NoShelf, decode};
+use gas_snapshot::{FileShelf, MaybeShelf, NoShelf, Shelf, decode};
 use gas_terms::Size;
-use gaslab::serving::serve_on;
-use gaslab::setup::Setup;
+use gaslab::{Setup, serve_on};
 use std::process::Abort;
-use std::rt::Files;
+use std::rt::Files as HasFiles;
+use std::sync::Wait;
+use std::thread::Threads;
+use std::time::Clock;
 use std::{fs, process};
 use test_types::pages::Page;
 use test_types::stage::{Speakers, Speech, Stage, Text};
 
-type Shelves = Vec<MaybeShelf<FileShelf<HostRuntime>>>;
+// A shelf that is a file, or none: all tests of servers have shelves of this type.
+type Files<R> = MaybeShelf<FileShelf<R>>;
 
 // What a server begins with.
-struct Opening {
+struct Opening<K> {
     room: Room,
     start: Option<Gas>,
-    shelves: Shelves,
+    shelves: Vec<K>,
 }
 
 // no shelf for each of so many sessions
-fn no_shelves(rt: &HostRuntime, count: usize) -> Option<Shelves> {
+fn no_shelves<R: HasFiles + AllocGlobal + Drop>(rt: &R, count: usize) -> Option<Vec<Files<R>>> {
     let mut shelves = Vec::with_capacity(rt.alloc(), 4).ok()?;
     for _ in 0..count {
         shelves.push(MaybeShelf::Nothing(NoShelf::new())).ok()?;
@@ -32,7 +35,11 @@ fn no_shelves(rt: &HostRuntime, count: usize) -> Option<Shelves> {
 }
 
 // an empty laboratory, and no shelf for so many sessions
-fn empty(rt: &HostRuntime, room: Room, count: usize) -> Opening {
+fn empty<R: Abort + HasFiles + AllocGlobal + Drop>(
+    rt: &R,
+    room: Room,
+    count: usize,
+) -> Opening<Files<R>> {
     Opening {
         room,
         start: None,
@@ -41,9 +48,12 @@ fn empty(rt: &HostRuntime, room: Room, count: usize) -> Opening {
 }
 
 // The status of a server with a session for each speech.
-fn status_of(
-    rt: &HostRuntime,
-    opening: Opening,
+fn status_of<
+    R: Abort + Threads + Wait + Sync + Clock + Copy + Drop + Send + AllocGlobal,
+    K: Shelf + Drop + Send,
+>(
+    rt: &R,
+    opening: Opening<K>,
     stage: &Stage,
     speeches: &[Option<Speech<'_>>],
     said: &mut Page,
@@ -170,8 +180,9 @@ fn server_from_a_snapshot(rt: HostRuntime) {
     let mut said = Page::new();
     let gas = decode(rt.alloc(), snapshot(&rt, 22, 0x80).as_slice()).expect(&rt, "a gas");
     let opening = Opening {
+        room: LARGE,
         start: Some(gas),
-        ..empty(&rt, LARGE, 1)
+        shelves: no_shelves(&rt, 1).expect(&rt, "memory"),
     };
     let speeches = [Some(Speech::of(b"tally\nread 0\nquit\n"))];
     assert_eq!(rt; status_of(&rt, opening, &stage, &speeches, &mut said), 0);
@@ -180,17 +191,17 @@ fn server_from_a_snapshot(rt: HostRuntime) {
 }
 
 // a shelf that is a file of this folder
-fn file_shelf(
-    rt: &HostRuntime,
+fn file_shelf<R: Abort + HasFiles + AllocGlobal + Copy + Drop>(
+    rt: &R,
     folder: &str,
     name: &str,
     seat: u16,
-) -> MaybeShelf<FileShelf<HostRuntime>> {
+) -> Files<R> {
     let path = format!(in rt.alloc(); "{folder}/{name}").expect(rt, "memory");
     MaybeShelf::Shelf(FileShelf::new(rt.alloc(), *rt, path.as_str(), seat).expect(rt, "memory"))
 }
 
-fn file_holds(rt: &(impl Abort + AllocGlobal + Files), folder: &str, name: &str, bytes: &[u8]) {
+fn file_holds(rt: &(impl Abort + AllocGlobal + HasFiles), folder: &str, name: &str, bytes: &[u8]) {
     let path = format!(in rt.alloc(); "{folder}/{name}").expect(rt, "memory");
     let read = fs::read(rt, path.as_str()).expect(rt, "a file");
     assert!(rt; read.as_slice() == bytes);

@@ -4,7 +4,7 @@ use crate::loads::{Padded, WITH_PORTS};
 use crate::script::{ALL, SMALL, answers, lines, status_on};
 use gas_ledger::Gas;
 use gas_snapshot::{MaybeShelf, NoShelf, Shelf, decode};
-use gaslab::load::load_from;
+use gaslab::load_from;
 use std::process::Abort;
 use std::thread::Threads;
 use test_types::faults::{FaultAt, Sink, Source, Store};
