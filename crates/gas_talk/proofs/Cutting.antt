@@ -7,7 +7,7 @@ use Rattle.std.specs.List.{slice_split, position_or_len, before_first, after_fir
 use Rattle.gas_talk.specs.Lines.{text, bad, line_limit, is_newline, line_text, is_good, items_of, lines}
 
 -- with a part after it, the first part is a line
-items_of_line : (line : List ℕ) (parts : List (List ℕ)) → 0 < length parts → items_of (line ∷ parts) ≡ cond (is_good line) (text (line_text line) ∷ items_of parts) (bad ∷ [])
+pub items_of_line : (line : List ℕ) (parts : List (List ℕ)) → 0 < length parts → items_of (line ∷ parts) ≡ cond (is_good line) (text (line_text line) ∷ items_of parts) (bad ∷ [])
 items_of_line line [] h = absurd (omega arith)
 items_of_line line (next ∷ parts) h = refl
 

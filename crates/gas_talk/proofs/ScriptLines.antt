@@ -1,5 +1,5 @@
 -- The text of a command is a line.
-use Rattle.std.proofs.Common.{◌≡◌, ℕ, ◌+◌, ◌*◌, ◌^◌, ◌<◌, ◌≤◌, ◌==◌, nat_le, nat_lt, Bool, true, false, ◌&&◌, cond, List, [], ◌∷◌, ◌++◌, length, map, All, refl, ap, ◌∙◌, arith, length-append}
+use Rattle.std.proofs.Common.{◌≡◌, ℕ, ◌+◌, ◌*◌, ◌^◌, ◌<◌, ◌≤◌, ◌==◌, nat_le, nat_lt, Bool, true, false, ◌&&◌, List, [], ◌∷◌, ◌++◌, length, map, All, refl, ap, ◌∙◌, arith, length-append}
 use Rattle.std.proofs.lemmas.Bool.Decides.{nat_tests}
 use Rattle.std.proofs.lemmas.Bool.{and_parts}
 use Rattle.std.proofs.lemmas.Fmt.{length-decimal-le}
@@ -21,7 +21,8 @@ use Rattle.gas_terms.specs.declared.command.Command.{Command}
 use Rattle.gas_terms.specs.declared.command.Command.TheVariants as commands
 use Rattle.gas_talk.proofs.Canonical.{digits_of_number}
 use Rattle.gas_talk.proofs.CanonicalCommands.{AreSmall, area_small, count_small, row_small, period_small}
-use Rattle.gas_talk.specs.Lines.{text, bad, line_limit, is_newline, line_text, is_good, items_of, lines}
+use Rattle.gas_talk.proofs.Cutting.{items_of_line}
+use Rattle.gas_talk.specs.Lines.{text, line_limit, is_newline, line_text, is_good, items_of, lines}
 use Rattle.gas_talk.specs.Texts.{area_numbers, parted, command_text, IsTyped}
 use Rattle.gas_talk.specs.Verbs.{verb_word}
 use Rattle.gas_talk.specs.declared.verb.Verb.{Verb}
@@ -59,15 +60,11 @@ plain_is_good line h short =
     let utf8 : is_utf8 line ≡ true = is_utf8-from_IsUtf8 line (IsUtf8-from_ascii line (IsAscii-from_all line (all_of (λ b. b < 128) ascii line h))) in
     rw (text_stays line h, utf8) (grind (arith, nat_tests))
 
-items_of_more : (line : List ℕ) (parts : List (List ℕ)) → 0 < length parts → items_of (line ∷ parts) ≡ cond (is_good line) (text (line_text line) ∷ items_of parts) (bad ∷ [])
-items_of_more line [] h = absurd (omega arith)
-items_of_more line (next ∷ parts) h = refl
-
 pub line_first : (line rest : List ℕ) → are_plain line ≡ true → length line ≤ line_limit → lines (line ++ 10 ∷ rest) ≡ text line ∷ lines rest
 unfolding lines
 line_first line rest h short =
     ap items_of (slice_split_at is_newline line 10 rest (all_of (λ b. is_newline b ≡ false) no_newline line h) refl)
-    ∙ items_of_more line (slice_split is_newline rest) (omega (arith, length-slice_split is_newline rest))
+    ∙ items_of_line line (slice_split is_newline rest) (omega (arith, length-slice_split is_newline rest))
     ∙ rw (plain_is_good line h short, text_stays line h) refl
 
 -- ---- words
