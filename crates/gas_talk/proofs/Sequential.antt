@@ -3,7 +3,7 @@ use Rattle.std.proofs.Common.{◌≡◌, ℕ, Bool, true, false, cond, not, ◌&
 use Rattle.std.specs.List.{FoldsTo}
 use Rattle.std.specs.declared.alloc.AllocError.{AllocError as NoMemory}
 use Rattle.gas_terms.specs.Cells.{Extent, extent}
-use Rattle.gas_terms.specs.Commands.{is_change}
+use Rattle.gas_terms.specs.Commands.{is_change, is_row}
 use Rattle.gas_terms.specs.Laboratory.{Laboratory, Applies, accepted, takes_memory, cause}
 use Rattle.gas_terms.specs.declared.command.Command.{Command}
 use Rattle.gas_terms.specs.declared.command.Command.TheVariants.{Row}
@@ -22,7 +22,7 @@ use Rattle.gas_talk.specs.Requests.{request_of, Reads, IsRow}
 use Rattle.gas_talk.specs.Lines.{Item, text, bad, lines}
 use Rattle.gas_talk.specs.Talk.{Put, no_put, Turn, Saves, Answers, Replies, Takes}
 use Rattle.gas_talk.specs.Ends.{until_end, failed_puts, failures_after, shelved_by, EndsAs, Place, IsSession}
-use Rattle.gas_talk.specs.LabTalk.{Copies, Outcome, plain, memory, shelf, is_row, wants_memory, told, answered, saved, requested, taken_at, talk, IsTalk}
+use Rattle.gas_talk.specs.LabTalk.{Copies, Outcome, plain, memory, shelf, wants_memory, told, answered, saved, requested, taken_at, talk, IsTalk}
 
 start_of : (b : Bool) (some other : Laboratory) → some.start ≡ other.start → (cond b some other).start ≡ other.start
 start_of true some other same = same

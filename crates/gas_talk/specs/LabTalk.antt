@@ -3,9 +3,9 @@ use Rattle.std.specs.Prelude.{◌≡◌, ℕ, Bool, true, false, not, ◌&&◌, 
 use Rattle.std.specs.Io.KnownBytes.{Consumes, Appends, IsAtEnd}
 use Rattle.std.specs.declared.alloc.AllocError.{AllocError as NoMemory}
 use Rattle.gas_terms.specs.Cells.{Extent, extent}
+use Rattle.gas_terms.specs.Commands.{is_row}
 use Rattle.gas_terms.specs.Laboratory.{Laboratory, Applies, event, reply, cause, takes_memory}
 use Rattle.gas_terms.specs.declared.command.Command.{Command}
-use Rattle.gas_terms.specs.declared.command.Command.TheVariants.{Row}
 use Rattle.gas_terms.specs.declared.command.Entry.{Entry}
 use Rattle.gas_terms.specs.declared.answer.Answer.{Answer}
 use Rattle.gas_terms.specs.declared.refusal.Refusal.{Refusal}
@@ -41,10 +41,6 @@ abbrev pub is_memory : Outcome → Bool
 is_memory plain = false
 is_memory memory = true
 is_memory shelf = false
-
-abbrev pub is_row : Command → Bool
-is_row (Row y bits) = true
-is_row _ = false
 
 -- whether a command may want memory: a row as it is read, and any other where nothing else stands against it
 abbrev pub wants_memory : Laboratory → Command → Bool
