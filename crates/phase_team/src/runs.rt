@@ -19,17 +19,21 @@ use std::{mem, thread};
 /// So many phases a strip can make alone: each takes a row from what it has of its neighbors.
 const AT_ONCE: u16 = 64;
 
-/// Fewer phases of a tile than these are made sooner by one thread than threads are started.
+/// Threads are started, and strips filled and put together, once in a stretch. That costs some 60 microseconds and as much as
+/// a few phases of each tile, so that shorter stretches, and stretches of fewer phases of a tile, are left to one thread.
+const SHORTEST: u16 = 16;
+
 const LEAST: u32 = 16_384;
 
-/// Whether strips are worth their margins, and a run its threads.
+/// Whether a run is long enough, and the strips so high that their margins leave a gain of a third.
 pub fn is_worth_strips(size: Size, workers: u8, n: u16) -> bool
     requires { 0 < workers }
 {
     let down = u32::from(size.height() / 64);
     let workers = u32::from(workers);
     let rows = (down + workers - 1) / workers;
-    4 * (rows + 2) <= 3 * down && LEAST <= size.tiles() * u32::from(n.min(AT_ONCE))
+    let work = size.tiles() * u32::from(n.min(AT_ONCE));
+    SHORTEST <= n && LEAST <= work && 4 * (rows + 2) <= 3 * down
 }
 
 // Puts a strip's own rows into `out`, whose tiles before them are those after the course.

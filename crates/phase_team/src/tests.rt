@@ -2,10 +2,12 @@
 
 ghost use Rattle.std.specs.Prelude.{◌≡◌, ◌<◌, ◌≤◌};
 
+use crate::course::Run;
+use crate::runs::{Strips, run_by};
 use crate::{Gate, NoGate, Team};
 use gas_plane::Plane;
 use gas_terms::{Pair, Rect, Size, Took};
-use phase_step::{Serial, Stepper};
+use phase_step::{Serial, Stepper, parity_at};
 use std::process::Abort;
 use std::sync::atomic::{AtomicBool, AtomicU64, Ordering};
 use std::thread;
@@ -191,12 +193,16 @@ impl Gate for &Counts {
     }
 }
 
-// cells by a linear congruence, about one in `every`
 fn scattered(rt: &(impl Abort + AllocGlobal), seed: u32, every: u32) -> Plane {
-    let size = Size::new(256, 192).expect(rt, "a size");
+    scattered_over(rt, seed, every, 192)
+}
+
+// cells by a linear congruence, about one in `every`
+fn scattered_over(rt: &(impl Abort + AllocGlobal), seed: u32, every: u32, height: u32) -> Plane {
+    let size = Size::new(256, height).expect(rt, "a size");
     let mut plane = Plane::empty(rt.alloc(), size).expect(rt, "memory");
     let mut state = seed;
-    for y in 0..192 {
+    for y in 0..height {
         for x in 0..256 {
             state = state.wrapping_mul(1664525).wrapping_add(1013904223);
             if every > 0 && (state / 65536) % every == 0 {
@@ -287,4 +293,181 @@ fn refused_team_without_memory(rt: HostRuntime) {
     let mut alone = plane(&rt, 128, 128, &[]);
     let by_one = step(&rt, &mut Serial, &old, &walls, &none, 1, &mut alone);
     assert!(rt; are_same(&out, &alone, 128, 128) && took == by_one);
+}
+
+// a run by strips, however short and low
+fn by_strips<R: Threads + Abort + AllocGlobal>(
+    rt: &R,
+    workers: u8,
+    run: Run<'_>,
+    particles: &mut Plane,
+    spare: &mut Plane,
+) -> Took {
+    let size = particles.size();
+    assert!(rt; 0 < workers && workers <= 16);
+    assert!(rt; run.parity < 2);
+    assert!(rt; run.walls.size() == size);
+    assert!(rt; run.obstacles.size() == size);
+    assert!(rt; spare.size() == size);
+    let mut strips = Strips::new(rt.alloc(), size, workers).expect(rt, "memory");
+    run_by(rt, &mut strips, run, particles, spare)
+}
+
+// the same on one thread, phase by phase
+fn by_phases(rt: &impl Abort, run: Run<'_>, particles: &mut Plane, spare: &mut Plane) -> Took {
+    assert!(rt; run.parity < 2);
+    let mut took = [0i64; 4];
+    for k in 0..run.n {
+        let turn = parity_at(run.parity, k);
+        let Took { walls, obstacles } = step(
+            rt,
+            &mut Serial,
+            particles,
+            run.walls,
+            run.obstacles,
+            turn,
+            spare,
+        );
+        for (sum, more) in took
+            .iter_mut()
+            .zip([walls.x, walls.y, obstacles.x, obstacles.y])
+        {
+            *sum = sum.wrapping_add(more);
+        }
+        std::mem::swap(particles, spare);
+    }
+    let [x, y, u, v] = took;
+    Took {
+        walls: Pair { x, y },
+        obstacles: Pair { x: u, y: v },
+    }
+}
+
+#[test]
+fn runs_by_strips_are_the_phases(rt: HostRuntime) {
+    for height in [64, 128] {
+        let walls = scattered_over(&rt, 2, 400, height);
+        let obstacles = scattered_over(&rt, 3, 700, height);
+        for n in [1, 31, 32, 33, 63, 64, 65] {
+            let run = Run {
+                walls: &walls,
+                obstacles: &obstacles,
+                parity: (n / 32 % 2) as u8,
+                n,
+            };
+            let mut alone = scattered_over(&rt, 1, 3, height);
+            let mut spare = scattered_over(&rt, 4, 2, height);
+            let by_one = by_phases(&rt, run, &mut alone, &mut spare);
+            for workers in [1, 2, 3, 5] {
+                let mut now = scattered_over(&rt, 1, 3, height);
+                let took = by_strips(&rt, workers, run, &mut now, &mut spare);
+                assert!(rt; took == by_one && are_same(&now, &alone, 256, height));
+            }
+        }
+    }
+}
+
+// how many cells a plane has, and the sum of their places, row by row
+fn places(plane: &Plane, height: u32) -> (u64, u64) {
+    let mut sums = (0u64, 0u64);
+    for y in 0..height {
+        for x in 0..256u32 {
+            if holds(plane, x, y) {
+                let place = u64::from(x) + 256 * u64::from(y);
+                sums = (sums.0.wrapping_add(1), sums.1.wrapping_add(place));
+            }
+        }
+    }
+    sums
+}
+
+// the sums are those of tools/channel_gas.py
+#[test]
+fn run_of_sixty_five_by_two_strips(rt: HostRuntime) {
+    let walls = scattered_over(&rt, 2, 400, 128);
+    let obstacles = scattered_over(&rt, 3, 700, 128);
+    let mut now = scattered_over(&rt, 1, 3, 128);
+    let mut spare = scattered_over(&rt, 4, 2, 128);
+    let run = Run {
+        walls: &walls,
+        obstacles: &obstacles,
+        parity: 0,
+        n: 65,
+    };
+    let took = by_strips(&rt, 2, run, &mut now, &mut spare);
+    assert!(rt; took.walls == Pair { x: -82, y: 18 });
+    assert!(rt; took.obstacles == Pair { x: 0, y: -80 });
+    assert!(rt; places(&now, 128) == (10959, 179345058));
+}
+
+// a run as a laboratory makes it
+fn make<S: Stepper>(
+    rt: &impl Abort,
+    stepper: &mut S,
+    run: Run<'_>,
+    particles: &mut Plane,
+    spare: &mut Plane,
+) -> Took {
+    let size = particles.size();
+    assert!(rt; run.parity < 2);
+    assert!(rt; run.walls.size() == size);
+    assert!(rt; run.obstacles.size() == size);
+    assert!(rt; spare.size() == size);
+    stepper.run(
+        particles,
+        run.walls,
+        run.obstacles,
+        run.parity,
+        run.n,
+        spare,
+    )
+}
+
+// rows of shifted and mixed words, of which so many are put together by `and`
+fn seeded(rt: &(impl Abort + AllocGlobal), seed: u64, words: u32) -> Plane {
+    let size = Size::new(2048, 512).expect(rt, "a size");
+    let mut plane = Plane::empty(rt.alloc(), size).expect(rt, "memory");
+    let mut word = seed;
+    for i in 0..size.tiles() {
+        assert!(rt; i < plane.size().tiles());
+        let tile = plane.tile_mut(i);
+        for y in 0..64 {
+            let mut row = u64::MAX;
+            for _ in 0..words {
+                word ^= word << 13;
+                word ^= word >> 7;
+                word ^= word << 17;
+                row &= word;
+            }
+            tile.rows[y] = row;
+        }
+    }
+    plane
+}
+
+fn have_same_rows(some: &Plane, others: &Plane) -> bool {
+    let tiles = some.size().tiles().min(others.size().tiles());
+    (0..tiles).all(|i| some.tile(i).rows == others.tile(i).rows)
+}
+
+#[test]
+fn team_runs_as_one_thread(rt: HostRuntime) {
+    let walls = seeded(&rt, 77172645463325252, 7);
+    let obstacles = seeded(&rt, 66172645463325252, 10);
+    let mut now = seeded(&rt, 88172645463325252, 1);
+    let mut alone = seeded(&rt, 88172645463325252, 1);
+    let mut spare = seeded(&rt, 1, 1);
+    let mut team = team(&rt, rt, rt.alloc(), 4, NoGate);
+    // the strips of the first run serve the second, of which the second stretch is of one phase
+    for (n, parity) in [(64, 0), (65, 1)] {
+        let run = Run {
+            walls: &walls,
+            obstacles: &obstacles,
+            parity,
+            n,
+        };
+        let took = make(&rt, &mut team, run, &mut now, &mut spare);
+        let by_one = make(&rt, &mut Serial, run, &mut alone, &mut spare);
+        assert!(rt; took == by_one && have_same_rows(&now, &alone));
+    }
 }
