@@ -26,6 +26,7 @@ pub fn bytes_spell_one_gas()
 
 /// What is read of bytes is the gas that they spell, and what they spell is read. So memory is wanted for a snapshot alone.
 pub fn reading_is_spelling()
-    ensures read { (bytes : List ℕ) (g : Gas) → All (λ b. b < 256) bytes → reading bytes ≡ Ok g → Spells bytes g }
+    ensures read { (bytes : List ℕ) (g : Gas) → All (λ b. b < 256) bytes →
+        reading bytes ≡ Ok g → Spells bytes g }
     ensures spelled { (bytes : List ℕ) (g : Gas) → Spells bytes g → reading bytes ≡ Ok g }
 {}

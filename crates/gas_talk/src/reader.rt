@@ -79,7 +79,8 @@ impl LineReader {
             × ((unread : List ℕ) → Keeps self.old unread → Keeps self.new (unread ++ more))) }
         ensures short { IfOk result (λ n. n ≤ 4096) }
         ensures end { IfOk result (λ n. n ≡ 0 → IsAtEnd (R.remaining reads.new.reader.now)) }
-        ensures err { OnErr result (KeepsBytes (R.remaining reads.old.reader.now) (R.remaining reads.new.reader.now)) }
+        ensures err { OnErr result (KeepsBytes (R.remaining reads.old.reader.now)
+            (R.remaining reads.new.reader.now)) }
         ensures kept { OnErr result ((unread : List ℕ) → Keeps self.old unread → Keeps self.new unread) }
     {
         if self.buffer.reserve(READ_LIMIT).is_err() {

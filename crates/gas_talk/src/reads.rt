@@ -47,7 +47,8 @@ impl<'a, R: Read> SessionReads<'a, R> {
         ensures same { self.new.reader.ghost_name ≡ self.old.reader.ghost_name }
         ensures left { self.new.left + 1 ≡ self.old.left }
         ensures bound { ReadsAtMost result page.new }
-        ensures bytes { ReadConsumes (R.remaining self.old.reader.now) (R.remaining self.new.reader.now) result page.new }
+        ensures bytes { ReadConsumes (R.remaining self.old.reader.now)
+            (R.remaining self.new.reader.now) result page.new }
     {
         self.left -= 1;
         self.reader.read(page)

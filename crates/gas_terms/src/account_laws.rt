@@ -109,7 +109,8 @@ pub fn accounts_are_bounded()
     ensures by_limits { (g : Gas) (commands : List Command) → is_size (extent g.particles) ≡ true →
         length commands ≤ 65536 → All (λ c. changes c ≤ 4096) commands →
         IsLedgerOfAtMost (2 ^ 52) (book_all (opened g) commands).ledger }
-    ensures start { (g : Gas) (commands : List Command) → (book_all (opened g) commands).ledger.start ≡ gas_total g }
+    ensures start { (g : Gas) (commands : List Command) →
+        (book_all (opened g) commands).ledger.start ≡ gas_total g }
     ensures fits { (n : ℕ) (l : Ledger) → n < 2 ^ 62 → IsLedgerOfAtMost n l → FitsI64 l }
 {}
 
@@ -138,7 +139,8 @@ pub fn small_runs()
     ensures filled_once { on_a_wall.ledger.injected ≡ sums (pos 1) (negsuc 0) (negsuc 0) }
     ensures drained { drained.ledger.drained ≡ sums (pos 1) (pos 1) (pos 1) }
     ensures drain_waits_for_a_step { gas_total drain_on_a_particle.gas ≡ sums (pos 1) (pos 1) (pos 1) }
-    ensures two_drains { (gas_total two_drains.gas ≡ nothing) × (two_drains.ledger.drained ≡ sums (pos 2) (pos 2) (pos 2)) }
+    ensures two_drains { (gas_total two_drains.gas ≡ nothing)
+        × (two_drains.ledger.drained ≡ sums (pos 2) (pos 2) (pos 2)) }
     ensures neither_side { drained_and_filled.ledger.drained ≡ sums (pos 0) (pos 0) (pos 0) }
     ensures kept { gas_total drained_and_filled.gas ≡ sums (pos 1) (pos 1) (pos 1) }
     ensures obstructed { gas_total obstructed.gas ≡ sums (pos 1) (negsuc 0) (negsuc 0) }
