@@ -1,18 +1,39 @@
 -- What the workers have to do, and have done.
-use Rattle.std.specs.Prelude.{◌≡◌, ℕ, ◌+◌, ◌*◌, ◌/◌, ◌<◌, ◌≤◌}
-use Rattle.gas_terms.specs.Cells.{Cells, Extent, extent, has, joined, HasSidesOf}
+use Rattle.std.specs.Prelude.{◌≡◌, ℕ, ◌+◌, ◌-◌, ◌*◌, ◌/◌, ◌<◌, ◌≤◌}
+use Rattle.gas_terms.specs.Cells.{Cells, Extent, extent, has, joined, tile_count, HasSidesOf}
 use Rattle.gas_plane.specs.Planes.{swept}
 use Rattle.gas_terms.specs.declared.accounts.Took.{Took}
-use Rattle.phase_step.specs.Runs.{after, tiles_take_in_run}
+use Rattle.phase_step.specs.Runs.{after, run_takes, tiles_take, tiles_take_in_run}
 use Rattle.phase_team.specs.Strips.{IsStrip, shift_of}
 use Rattle.phase_team.specs.declared.course.Course.{Course}
+use Rattle.phase_team.specs.declared.course.Run.{Run}
 use Rattle.phase_team.specs.declared.strip.Strip.{Strip}
 
 -- the particles after the course
 abbrev pub result_of : Course → Cells
 result_of course = after course.parity (joined course.walls.now course.obstacles.now) course.cells.now course.phases
 
--- what is taken in it of the particles of n tiles from tile `first` on
+-- what is taken in it
+abbrev pub takes_of : Course → Took
+takes_of course = run_takes course.parity course.walls.now course.obstacles.now course.cells.now course.phases
+
+-- the particles after a run, and what is taken in it
+abbrev pub after_run : Run → Cells → Cells
+after_run run particles = after run.parity (joined run.walls.now run.obstacles.now) particles run.n
+
+abbrev pub takes_in : Run → Cells → Took
+takes_in run particles = run_takes run.parity run.walls.now run.obstacles.now particles run.n
+
+-- what is taken in the tiles of a strip between its first row of tiles and its last, in a phase and in so many
+abbrev pub own_take : ℕ → Cells → Cells → Cells → Took
+own_take p strip walls obstacles =
+    tiles_take p strip walls obstacles (strip.width / 64) (tile_count strip - 2 * (strip.width / 64))
+
+abbrev pub own_take_in_run : ℕ → Cells → Cells → Cells → ℕ → Took
+own_take_in_run p walls obstacles strip n =
+    tiles_take_in_run p walls obstacles strip (strip.width / 64) (tile_count strip - 2 * (strip.width / 64)) n
+
+-- what is taken in the course of the particles of n tiles from tile `first` on
 abbrev pub tiles_give : Course → ℕ → ℕ → Took
 tiles_give course first n = tiles_take_in_run course.parity course.walls.now course.obstacles.now course.cells.now first n course.phases
 

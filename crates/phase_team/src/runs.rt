@@ -1,10 +1,9 @@
 //! Runs of many phases, each worker on a strip of the lattice.
 
 ghost use Rattle.std.specs.Prelude.{◌≡◌, ◌+◌, ◌*◌, ◌/◌, ◌<◌, ◌≤◌, All, IfSome};
-ghost use Rattle.gas_terms.specs.Cells.{Cells, joined, extent, HasSidesOf};
+ghost use Rattle.gas_terms.specs.Cells.{Cells, extent, HasSidesOf};
 ghost use Rattle.gas_plane.specs.Planes.{IsLattice};
-ghost use Rattle.phase_step.specs.Runs.{after, run_takes};
-ghost use Rattle.phase_team.specs.Work.{result_of, filled_up, IsOf, IsFor, IsDone};
+ghost use Rattle.phase_team.specs.Work.{result_of, takes_of, after_run, takes_in, filled_up, IsOf, IsFor, IsDone};
 
 use crate::course::{Course, Run};
 use crate::strip::Strip;
@@ -58,7 +57,7 @@ fn gather(course: Course<'_>, strips: &[Strip], out: &mut Plane) -> Option<Took>
     requires out { HasSidesOf out.old course.cells.now }
     ensures out { IfSome result (λ _. out.new ≡ result_of course.entry) }
     ensures sides { HasSidesOf out.new course.entry.cells.now }
-    ensures took { IfSome result (λ took. took ≡ run_takes course.entry.parity course.entry.walls.now course.entry.obstacles.now course.entry.cells.now course.entry.phases) }
+    ensures took { IfSome result (λ took. took ≡ takes_of course.entry) }
 {
     let _ = out.size();
     let down = u32::from(course.cells.size().height() / 64);
@@ -93,7 +92,8 @@ fn turn_all<R: Threads>(rt: &R, course: Course<'_>, strips: &mut [Strip], own: &
             ensures { IsDone course.entry last.exit.now }
         { last.turn(course) },
         &mut ||
-            requires { All (IsOf (extent course.cells.now)) rest.now × IsOf (extent course.cells.now) own.now }
+            requires { All (IsOf (extent course.cells.now)) rest.now
+                × IsOf (extent course.cells.now) own.now }
             ensures { All (IsDone course.entry) rest.exit.now × IsDone course.entry own.exit.now }
         { turn_all(rt, course, rest, own) },
     );
@@ -111,7 +111,7 @@ fn round<R: Threads>(
     ensures strips { All (IsFor course.entry) strips.new }
     ensures out { IfSome result (λ _. out.new ≡ result_of course.entry) }
     ensures sides { HasSidesOf out.new course.entry.cells.now }
-    ensures took { IfSome result (λ took. took ≡ run_takes course.entry.parity course.entry.walls.now course.entry.obstacles.now course.entry.cells.now course.entry.phases) }
+    ensures took { IfSome result (λ took. took ≡ takes_of course.entry) }
 {
     turn_strips(rt, course, strips);
     gather(course, strips, out)
@@ -218,9 +218,9 @@ fn stretch<R: Threads>(
     requires obstacles { HasSidesOf run.obstacles.now particles.old }
     requires spare { HasSidesOf spare.old particles.old }
     ensures size { strips.new.size ≡ strips.old.size }
-    ensures particles { particles.new ≡ after run.entry.parity (joined run.entry.walls.now run.entry.obstacles.now) particles.old run.entry.n }
+    ensures particles { particles.new ≡ after_run run.entry particles.old }
     ensures spare { HasSidesOf spare.new particles.old }
-    ensures took { result ≡ run_takes run.entry.parity run.entry.walls.now run.entry.obstacles.now particles.old run.entry.n }
+    ensures took { result ≡ takes_in run.entry particles.old }
 {
     let course = Course {
         cells: &*particles,
@@ -259,9 +259,9 @@ pub fn run_by<R: Threads>(
     requires walls { HasSidesOf run.walls.now particles.old }
     requires obstacles { HasSidesOf run.obstacles.now particles.old }
     requires spare { HasSidesOf spare.old particles.old }
-    ensures particles { particles.new ≡ after run.entry.parity (joined run.entry.walls.now run.entry.obstacles.now) particles.old run.entry.n }
+    ensures particles { particles.new ≡ after_run run.entry particles.old }
     ensures spare { HasSidesOf spare.new particles.old }
-    ensures took { result ≡ run_takes run.entry.parity run.entry.walls.now run.entry.obstacles.now particles.old run.entry.n }
+    ensures took { result ≡ takes_in run.entry particles.old }
 {
     let _ = particles.size();
     let mut took = NOTHING;

@@ -1,11 +1,11 @@
 //! Some rows of tiles of a lattice, with a row of tiles above and below, as a lattice of their own.
 
 ghost use Rattle.std.specs.Prelude.{◌≡◌, ℕ, ◌+◌, ◌-◌, ◌*◌, ◌/◌, ◌%◌, ◌^◌, ◌<◌, ◌≤◌, IfOk, IsTrue, false};
-ghost use Rattle.gas_terms.specs.Cells.{joined, tile_count, HasSidesOf};
+ghost use Rattle.gas_terms.specs.Cells.{joined, HasSidesOf};
 ghost use Rattle.gas_terms.specs.Gas.{streamed};
-ghost use Rattle.phase_step.specs.Runs.{after, tiles_take, tiles_take_in_run};
+ghost use Rattle.phase_step.specs.Runs.{after};
 ghost use Rattle.phase_team.specs.Strips.{window, shift_of};
-ghost use Rattle.phase_team.specs.Work.{IsFor, IsDone};
+ghost use Rattle.phase_team.specs.Work.{own_take, own_take_in_run, IsFor, IsDone};
 
 use crate::course::Course;
 use crate::worker::NOTHING;
@@ -77,7 +77,7 @@ fn phase_of(old: &Plane, walls: &Plane, obstacles: &Plane, parity: u8, out: &mut
     requires out { HasSidesOf out.old old.now }
     requires rows { 2 ≤ old.now.height / 64 }
     ensures out { out.new ≡ streamed parity old.now (joined walls.now obstacles.now) }
-    ensures took { result ≡ tiles_take parity old.now walls.now obstacles.now (old.now.width / 64) (tile_count old.now - 2 * (old.now.width / 64)) }
+    ensures took { result ≡ own_take parity old.now walls.now obstacles.now }
 {
     let _ = out.size();
     let across = u32::from(old.size().width() / 64);
@@ -111,7 +111,7 @@ fn make(
     requires spare { HasSidesOf spare.old cells.old }
     ensures cells { cells.new ≡ after parity (joined walls.now obstacles.now) cells.old phases }
     ensures spare { HasSidesOf spare.new cells.old }
-    ensures took { result ≡ tiles_take_in_run parity walls.now obstacles.now cells.old (cells.old.width / 64) (tile_count cells.old - 2 * (cells.old.width / 64)) phases }
+    ensures took { result ≡ own_take_in_run parity walls.now obstacles.now cells.old phases }
 {
     let _ = cells.size();
     let mut took = NOTHING;
@@ -126,7 +126,8 @@ fn make(
 
 impl Strip {
     pub fn new(alloc: Global, size: Size, first: u32, rows: u32) -> Result<Strip, NoMemory>
-        ensures { IfOk result (λ s. (s.first ≡ first) × (s.rows ≡ rows) × (s.cells.width ≡ size.width) × (s.cells.height ≡ size.height)
+        ensures { IfOk result (λ s. (s.first ≡ first) × (s.rows ≡ rows)
+            × (s.cells.width ≡ size.width) × (s.cells.height ≡ size.height)
             × HasSidesOf s.spare s.cells × HasSidesOf s.walls s.cells × HasSidesOf s.obstacles s.cells) }
     {
         Ok(Strip {
