@@ -1,11 +1,7 @@
 -- The strips' own rows are put together.
-use Rattle.std.proofs.Common.{◌≡◌, ℕ, zero, suc, ◌+◌, ◌-◌, ◌*◌, ◌/◌, ◌%◌, ◌<◌, ◌≤◌, ◌^◌, true, refl, sym, ap, ap₂, ◌∙◌, subst, arith, add-one, length}
+use Rattle.std.proofs.Common.{◌≡◌, ℕ, zero, suc, ◌+◌, ◌-◌, ◌*◌, ◌/◌, ◌%◌, ◌<◌, ◌≤◌, ◌^◌, true, sym, ap, ap₂, ◌∙◌, subst, arith}
 use Rattle.std.proofs.Math.Nat.{mod-lt}
 use Rattle.std.proofs.lemmas.Nat.{mod-mul-add, div-mul-add, div-add-mod', row-Below, mul-le}
-use Rattle.std.proofs.Common.{List, [], ◌∷◌, ◌++◌, All}
-use Rattle.std.proofs.lemmas.List.{get_or_push, get_or_append_left, length_push}
-use mathlib.Core.Logic.{dite}
-use native.Mathlib.Decide.{ℕ_discrete}
 use Rattle.bit_tile.specs.Tile as tile
 use Rattle.bit_tile.specs.declared.Tile.{Tile}
 use Rattle.gas_terms.specs.Cells.{Cells, HasSidesOf, IsFull, has, cells_where, joined, extent, is_size, tile_count, tile_rectangle}
@@ -14,12 +10,12 @@ use Rattle.gas_terms.specs.Velocity.{velocity_at}
 use Rattle.gas_terms.specs.Accounts.{took_plus, pair_plus, TakenFits}
 use Rattle.gas_terms.specs.declared.accounts.Took.{Took}
 use Rattle.gas_terms.proofs.Cells.{has-cells_where, full-cells_where, same_cells}
-use Rattle.gas_plane.specs.Planes.{IsLattice, IsTileFrom, with_tile, swept}
+use Rattle.gas_plane.specs.Planes.{IsLattice, IsTileFrom, with_tile}
 use Rattle.gas_plane.proofs.Places.{wide, high, cell_below}
 use Rattle.gas_plane.proofs.Sweeps.{left_of, top_of, sweep_tile, sweep_is_whole}
-use Rattle.phase_step.specs.Runs.{parity_at, after, run_takes, tiles_take_in_run}
-use Rattle.phase_team.specs.Strips.{IsStrip, shift_of}
-use Rattle.phase_team.specs.Work.{result_of, tiles_give, filled_up, IsFor, IsDone}
+use Rattle.phase_step.specs.Runs.{parity_at, after, run_takes}
+use Rattle.phase_team.specs.Strips.{shift_of}
+use Rattle.phase_team.specs.Work.{result_of, tiles_give, filled_up, IsDone}
 use Rattle.phase_team.specs.declared.course.Course.{Course}
 use Rattle.phase_team.specs.declared.strip.Strip.{Strip}
 use Rattle.phase_team.proofs.Windows.{row_turns}

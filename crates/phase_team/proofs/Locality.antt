@@ -1,5 +1,5 @@
 -- What a phase makes of a row depends on that row and the two beside it.
-use Rattle.std.proofs.Common.{◌≡◌, ℕ, zero, suc, ◌+◌, ◌-◌, ◌*◌, ◌/◌, ◌%◌, ◌<◌, ◌≤◌, ◌⊎◌, Bool, true, false, ◌||◌, refl, sym, ap, ap₂, ◌∙◌, subst, arith, cond, inl, inr}
+use Rattle.std.proofs.Common.{◌≡◌, ℕ, ◌+◌, ◌-◌, ◌*◌, ◌/◌, ◌%◌, ◌<◌, ◌≤◌, ◌⊎◌, Bool, ◌||◌, refl, sym, ap, ap₂, ◌∙◌, subst, arith, inl, inr}
 use Rattle.std.proofs.Math.Nat.{mod-lt, add-mod_right, mod-add-mod}
 use Rattle.std.proofs.lemmas.Nat.{div-add-mod'}
 use Rattle.std.proofs.lemmas.Bool.{cases_eq}

@@ -1,10 +1,10 @@
 -- What a strip does as a torus of its own, its own rows do in the lattice.
-use Rattle.std.proofs.Common.{◌≡◌, ℕ, zero, suc, ◌+◌, ◌-◌, ◌*◌, ◌/◌, ◌%◌, ◌<◌, ◌≤◌, ◌==◌, Bool, true, false, not, ◌&&◌, ◌||◌, if◌then◌else◌, List, [], ◌∷◌, ◌++◌, pos, refl, sym, ap, ap₂, ◌∙◌, subst, arith, add-one}
+use Rattle.std.proofs.Common.{◌≡◌, ℕ, zero, suc, ◌+◌, ◌-◌, ◌*◌, ◌/◌, ◌%◌, ◌<◌, ◌≤◌, ◌==◌, Bool, not, ◌&&◌, ◌||◌, if◌then◌else◌, List, [], ◌∷◌, ◌++◌, pos, refl, sym, ap, ap₂, ◌∙◌, subst, arith, add-one}
 use Rattle.std.specs.List.{range_with_len, flat_map}
 use Rattle.std.proofs.Math.Nat.{mod-lt}
 use Rattle.std.proofs.lemmas.Nat.{mod-mul-add, div-mul-add, div-add-mod', row-Below}
 use Rattle.gas_terms.specs.Velocity.{Velocity, velocity_at, has_parity, parity}
-use Rattle.gas_terms.specs.Cells.{Cells, Rectangle, HasSidesOf, HasEvenSides, has, cells_where, joined, tile_rectangle}
+use Rattle.gas_terms.specs.Cells.{Cells, HasEvenSides, has, joined, tile_rectangle}
 use Rattle.gas_terms.specs.Gas.{is_walled, is_obstructed, site_of, takes_for_walls, takes_for_obstacles}
 use Rattle.gas_terms.specs.Accounts.{total_in, stopped, sums_of, twice_momentum, took_plus}
 use Rattle.gas_terms.specs.declared.accounts.Pair.{Pair}
@@ -12,7 +12,7 @@ use Rattle.gas_terms.specs.declared.accounts.Took.{Took}
 use Rattle.gas_terms.proofs.Cells.{has-cells_where}
 use Rattle.block_rule.specs.Windows.{square, taken_in}
 use Rattle.phase_step.specs.Runs.{parity_at, after, tiles_take, tiles_take_in_run}
-use Rattle.phase_team.specs.Strips.{IsStrip, window}
+use Rattle.phase_team.specs.Strips.{IsStrip}
 use Rattle.phase_team.proofs.Locality.{phase_keeps, walled_same}
 use Rattle.phase_step.proofs.RunTakes.{sides_after}
 use Rattle.phase_team.proofs.Windows.{row_turns}

@@ -1,15 +1,15 @@
 -- A strip's planes are filled with a window of the lattice.
-use Rattle.std.proofs.Common.{◌≡◌, ℕ, ◌+◌, ◌-◌, ◌*◌, ◌/◌, ◌%◌, ◌<◌, ◌≤◌, Bool, true, refl, sym, ap, ap₂, ◌∙◌, subst, arith}
-use Rattle.std.proofs.Math.Nat.{mod-lt, mod-add-mod}
-use Rattle.std.proofs.lemmas.Nat.{mul-add-lt, mod-mul-add, div-mul-add, div-add-mod', row-Below}
+use Rattle.std.proofs.Common.{◌≡◌, ℕ, ◌+◌, ◌-◌, ◌*◌, ◌/◌, ◌%◌, ◌<◌, Bool, true, sym, ap, ap₂, ◌∙◌, subst, arith}
+use Rattle.std.proofs.Math.Nat.{mod-lt}
+use Rattle.std.proofs.lemmas.Nat.{mul-add-lt, mod-mul-add, div-mul-add, div-add-mod'}
 use Rattle.bit_tile.specs.Tile as tile
 use Rattle.bit_tile.specs.Tile.{HasCells}
 use Rattle.bit_tile.specs.declared.Tile.{Tile}
-use Rattle.gas_terms.specs.Cells.{Cells, has, cells_where, extent, is_size, tile_count, tile_rectangle}
+use Rattle.gas_terms.specs.Cells.{Cells, has, extent, is_size, tile_count, tile_rectangle}
 use Rattle.gas_plane.specs.Planes.{IsLattice, IsTileFrom, with_tile}
-use Rattle.gas_plane.proofs.Places.{IsWholeTiles, wide, high}
+use Rattle.gas_plane.proofs.Places.{wide, high}
 use Rattle.gas_plane.proofs.Sweeps.{swept, left_of, top_of, sweep_tile, sweep_past, sweep_reads}
-use Rattle.phase_team.specs.Strips.{window, shift_of}
+use Rattle.phase_team.specs.Strips.{shift_of}
 
 -- a row of the torus by its row of tiles
 pub row_turns : (a k d y : ℕ) → 0 < d → y < 64 → (a * 64 + (k * 64 + y)) % (d * 64) ≡ (a + k) % d * 64 + y

@@ -1,6 +1,5 @@
-use Rattle.std.proofs.Common.{rules, ◌≡◌, ◌<◌, ◌≤◌, ◌+◌, ◌*◌, ◌/◌, refl, sym, ap, ap₂, ◌∙◌, subst, arith}
-use Rattle.gas_terms.specs.Cells.{Cells, Extent, HasSidesOf, tile_count}
-use Rattle.gas_plane.specs.Planes.{swept}
+use Rattle.std.proofs.Common.{rules, ◌≡◌, ◌+◌, ◌*◌, ◌/◌, refl, sym, ap, ◌∙◌, arith}
+use Rattle.gas_terms.specs.Cells.{Extent, tile_count}
 use Rattle.gas_plane.proofs.Places.{wide, high}
 use Rattle.gas_plane.proofs.Sweeps.{sweep_begins}
 use Rattle.phase_step.proofs.PhaseSweeps.{tiles_as}

@@ -1,7 +1,6 @@
-use Rattle.std.proofs.Common.{rules, ◌≡◌, ◌<◌, ◌≤◌, ◌+◌, ◌-◌, ◌*◌, refl, sym, ap, ap₂, ◌∙◌, subst, arith}
-use Rattle.gas_terms.specs.Cells.{Cells, Extent, extent, joined, tile_count, HasSidesOf}
+use Rattle.std.proofs.Common.{rules, refl, sym, ap, ap₂, ◌∙◌, arith}
+use Rattle.gas_terms.specs.Cells.{Cells, Extent, joined, tile_count}
 use Rattle.gas_plane.proofs.PlaneCounts.{few_tiles}
-use Rattle.phase_step.specs.Runs.{parity_at, after, run_takes}
 use Rattle.phase_step.proofs.RunTakes.{sides_after, sides_as, part_after, part_takes, part_fits}
 use Rattle.phase_team.proofs.runs.run_by.Goals as goal
 

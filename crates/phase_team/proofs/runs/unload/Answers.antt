@@ -1,5 +1,5 @@
-use Rattle.std.proofs.Common.{rules, ◌≡◌, ◌<◌, ◌+◌, ◌*◌, ◌/◌, refl, sym, ap, ap₂, ◌∙◌, subst, arith}
-use Rattle.gas_terms.specs.Cells.{Cells, Extent, HasSidesOf, tile_count, tile_rectangle}
+use Rattle.std.proofs.Common.{◌≡◌, ◌<◌, ◌+◌, ◌*◌, ◌/◌, sym, ap, ap₂, ◌∙◌, subst, arith}
+use Rattle.gas_terms.specs.Cells.{Extent, tile_count, tile_rectangle}
 use Rattle.gas_plane.specs.Planes.{with_tile, IsTileFrom}
 use Rattle.phase_team.specs.Work.{filled_up}
 use Rattle.phase_team.proofs.Gathered.{one_more, unload_within}

@@ -1,5 +1,5 @@
-use Rattle.std.proofs.Common.{◌≡◌, ◌<◌, ◌+◌, ◌*◌, ◌/◌, ◌%◌, refl, sym, ap, ap₂, ◌∙◌, subst, arith}
-use Rattle.gas_terms.specs.Cells.{Cells, Extent, cells_where, tile_count, tile_rectangle}
+use Rattle.std.proofs.Common.{◌≡◌, ◌<◌, ◌/◌, refl, sym, ap, ◌∙◌, subst, arith}
+use Rattle.gas_terms.specs.Cells.{Extent, cells_where, tile_count, tile_rectangle}
 use Rattle.gas_plane.specs.Planes.{with_tile, swept, IsTileFrom}
 use Rattle.gas_plane.proofs.Sweeps.{sweep_begins, sweep_is_whole, sweep_within}
 use Rattle.phase_step.proofs.PhaseSweeps.{tiles_are}

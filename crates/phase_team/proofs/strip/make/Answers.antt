@@ -1,7 +1,6 @@
-use Rattle.std.proofs.Common.{◌≡◌, ◌≤◌, ◌+◌, ◌-◌, ◌*◌, ◌/◌, ◌^◌, refl, sym, ap, ap₂, ◌∙◌, subst, arith, add-one}
+use Rattle.std.proofs.Common.{◌-◌, ◌*◌, ◌/◌, refl, sym, ◌∙◌, subst, arith}
 use Rattle.gas_terms.specs.Cells.{Cells, joined, HasSidesOf, tile_count}
 use Rattle.gas_plane.proofs.PlaneCounts.{few_tiles}
-use Rattle.phase_step.specs.Runs.{parity_at, after}
 use Rattle.phase_step.proofs.RunTakes.{sides_after, sides_as, after_next, tiles_next, tiles_fit, own_as, rows_as}
 use Rattle.phase_team.proofs.strip.make.Goals as goal
 

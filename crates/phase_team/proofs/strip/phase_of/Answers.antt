@@ -1,5 +1,5 @@
-use Rattle.std.proofs.Common.{◌≡◌, ◌≤◌, ◌-◌, ◌+◌, ◌*◌, ◌/◌, pos, refl, sym, ap, ap₂, ◌∙◌, arith}
-use Rattle.gas_terms.specs.Cells.{Cells, Extent, tile_count}
+use Rattle.std.proofs.Common.{◌≡◌, ◌-◌, ◌*◌, ◌/◌, refl, sym, ap, ap₂, ◌∙◌, arith}
+use Rattle.gas_terms.specs.Cells.{Extent, tile_count}
 use Rattle.gas_terms.proofs.Cells.{has-cells_where, full-cells_where, same_cells}
 use Rattle.gas_plane.specs.Planes.{with_tile}
 use Rattle.gas_plane.proofs.PlaneCounts.{few_tiles}

@@ -1,6 +1,6 @@
 use Rattle.std.proofs.Common.{ap, sym, subst, ◌∙◌}
 use Rattle.gas_terms.specs.BookedGas.{BookedGas}
-use Rattle.gas_lab.specs.Labs.{books_of, with_moved, TakesFit}
+use Rattle.gas_lab.specs.Labs.{books_of, TakesFit}
 use Rattle.gas_lab.proofs.Stepping.{pair, torus_of, acted, not_acted, moved_fits}
 use Rattle.gas_lab.proofs.books.Books.step.Goals as goal
 

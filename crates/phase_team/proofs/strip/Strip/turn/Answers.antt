@@ -1,5 +1,5 @@
-use Rattle.std.proofs.Common.{◌≡◌, ◌<◌, ◌≤◌, ◌+◌, ◌-◌, ◌*◌, ◌/◌, refl, sym, ap, ap₂, ◌∙◌, subst, arith}
-use Rattle.gas_terms.specs.Cells.{Cells, HasSidesOf, joined, tile_count}
+use Rattle.std.proofs.Common.{◌≡◌, ◌+◌, ◌-◌, ◌*◌, ◌/◌, sym, ap, ap₂, ◌∙◌, subst, arith}
+use Rattle.gas_terms.specs.Cells.{Cells, joined, tile_count}
 use Rattle.phase_step.specs.Runs.{after, tiles_take_in_run}
 use Rattle.phase_team.specs.Strips.{IsStrip, window, shift_of}
 use Rattle.phase_step.proofs.RunTakes.{sides_after}
