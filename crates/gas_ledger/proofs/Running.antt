@@ -1,6 +1,6 @@
 -- A run leaves the sides of the particles.
 use Rattle.std.proofs.Common.{◌≡◌, ℕ, sym, ap, ap₂, ◌∙◌, subst}
-use Rattle.gas_terms.specs.Cells.{Cells, Extent, extent, HasSidesOf}
+use Rattle.gas_terms.specs.Cells.{Cells, Extent}
 use Rattle.phase_step.specs.Runs.{after}
 use Rattle.phase_step.proofs.RunTakes.{sides_after, sides_as}
 use Rattle.gas_ledger.specs.PortLists.{PortLists, LieWithin}

@@ -1,11 +1,11 @@
 -- A run of phases is as many steps.
-use Rattle.std.proofs.Common.{◌≡◌, ℕ, zero, suc, ◌+◌, ◌-◌, ◌%◌, ◌<◌, ℤ, pos, ◌+ℤ◌, ◌-ℤ◌, refl, sym, ap, ap₂, ◌∙◌, arith}
+use Rattle.std.proofs.Common.{◌≡◌, ℕ, zero, suc, ◌+◌, ◌-◌, ◌%◌, ◌<◌, ℤ, pos, ◌+ℤ◌, ◌-ℤ◌, refl, ap, ap₂, ◌∙◌, arith}
 use Rattle.std.specs.Fn.{iterate}
 use Rattle.std.proofs.lemmas.Int.{ints}
 use Rattle.gas_terms.specs.Velocity.{parity}
 use Rattle.gas_terms.specs.Cells.{Cells, HasEvenSides}
-use Rattle.gas_terms.specs.Gas.{Gas, streamed, unstreamed, solid, forward, back}
-use Rattle.gas_terms.specs.Accounts.{taken, took_plus, pair_plus, pair_minus, with_taken, with_given_back, gas_taken}
+use Rattle.gas_terms.specs.Gas.{streamed, unstreamed, solid}
+use Rattle.gas_terms.specs.Accounts.{taken, took_plus, pair_plus, pair_minus, with_taken, with_given_back}
 use Rattle.gas_terms.specs.BookedGas.{BookedGas, moved, stepped, stepped_back}
 use Rattle.gas_terms.specs.declared.accounts.Ledger.{Ledger}
 use Rattle.gas_terms.specs.declared.accounts.Pair.{Pair}
@@ -15,7 +15,7 @@ use Rattle.gas_terms.proofs.Parity.{parity-small, parity-next, parity-last}
 use Rattle.gas_terms.proofs.Steps.{unstreamed-streamed}
 use Rattle.gas_terms.proofs.Stretches.{IsReady, stepped-ready, stepped-plain}
 use Rattle.gas_terms.proofs.StoppedTotals.{taken-streamed}
-use Rattle.phase_step.specs.Runs.{parity_at, after, run_takes, nothing, gas_after, gas_before, takes_after, takes_before, ran, ran_back}
+use Rattle.phase_step.specs.Runs.{parity_at, after, nothing, takes_after, takes_before, ran, ran_back}
 use Rattle.phase_step.proofs.RunTakes.{pair_made, sides_after}
 
 -- the parity so many ticks later

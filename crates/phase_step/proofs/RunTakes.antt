@@ -6,14 +6,13 @@ use Rattle.gas_terms.specs.Cells.{Cells, HasSidesOf, joined, extent, is_size, ti
 use Rattle.gas_terms.specs.Gas.{streamed, takes_for_walls, takes_for_obstacles}
 use Rattle.gas_terms.specs.Velocity.{parity}
 use Rattle.gas_terms.specs.Accounts.{taken, took_plus, pair_plus, TakenFits, total_in, stopped}
-use Rattle.gas_terms.specs.declared.accounts.Sums.{Sums}
 use Rattle.gas_terms.specs.declared.accounts.Pair.{Pair}
 use Rattle.gas_terms.specs.declared.accounts.Took.{Took}
 use Rattle.gas_terms.proofs.StoppedTotals.{taken-stopped}
 use Rattle.gas_terms.proofs.TileTotals.{total-tiles}
 use Rattle.gas_terms.proofs.RectangleTotals.{parity_count-small, total_in-parities}
 use Rattle.block_rule.specs.Windows.{taken_in}
-use Rattle.phase_step.proofs.TakenSums.{IsSmall, small_tile, took_below, took_next, took_all}
+use Rattle.phase_step.proofs.TakenSums.{small_tile, took_below, took_next, took_all}
 use Rattle.phase_step.specs.Runs.{parity_at, after, nothing, run_takes, tiles_take, tiles_take_in_run}
 
 -- no component is above k

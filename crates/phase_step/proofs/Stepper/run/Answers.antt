@@ -1,7 +1,6 @@
-use Rattle.std.proofs.Common.{◌≡◌, ◌≤◌, ◌+◌, ◌*◌, ◌/◌, ◌^◌, refl, sym, ap, ap₂, ◌∙◌, subst, arith, add-one}
+use Rattle.std.proofs.Common.{refl, sym, ◌∙◌, subst, arith}
 use Rattle.gas_terms.specs.Cells.{Cells, joined, HasSidesOf, tile_count}
 use Rattle.gas_plane.proofs.PlaneCounts.{few_tiles}
-use Rattle.phase_step.specs.Runs.{parity_at, after, run_takes}
 use Rattle.phase_step.proofs.RunTakes.{sides_after, sides_as, after_next, takes_next, takes_fit}
 use Rattle.phase_step.proofs.Stepper.run.Goals as goal
 
