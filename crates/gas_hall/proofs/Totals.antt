@@ -7,7 +7,8 @@ use Rattle.std.proofs.lemmas.List.Sums.{sum_by-cons}
 use Rattle.gas_terms.specs.declared.command.Entry.{Entry}
 use Rattle.gas_terms.specs.Laboratory.{Laboratory, IsPrefix}
 use Rattle.atomic_table.specs.Seated.{TableId}
-use Rattle.gas_hall.specs.TurnSeats.{SeatView, made_by, but_for_seen, opening_seat}
+use Rattle.gas_hall.specs.TurnSeats.{SeatView, but_for_seen, opening_seat}
+use Rattle.gas_terms.specs.Laboratory.{made_by}
 use Rattle.gas_hall.proofs.Numbered.{all_of_rule}
 use Rattle.gas_hall.proofs.Turns.{all_same, same_through}
 

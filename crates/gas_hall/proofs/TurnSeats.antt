@@ -14,7 +14,8 @@ use Rattle.gas_terms.specs.declared.refusal.Refusal.{Refusal}
 use Rattle.gas_talk.specs.declared.door.Copied.{Copied}
 use Rattle.gas_talk.specs.LabTalk.{Copies}
 use Rattle.gas_hall.specs.Seats.{taken}
-use Rattle.gas_hall.specs.TurnSeats.{SeatView, made_by, Continues, AsksInTurn, CopiesInTurn}
+use Rattle.gas_hall.specs.TurnSeats.{SeatView, Continues, AsksInTurn, CopiesInTurn}
+use Rattle.gas_terms.specs.Laboratory.{made_by}
 use Rattle.gas_hall.proofs.Events.{applies_extends}
 
 abbrev is_by : ℕ → Entry → Bool

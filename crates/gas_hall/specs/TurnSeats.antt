@@ -2,10 +2,9 @@
 use Rattle.std.specs.Prelude.{◌≡◌, ℕ, List, [], Option, Some, Result}
 use Rattle.std.specs.declared.alloc.AllocError.{AllocError as NoMemory}
 use Rattle.atomic_table.specs.Seated.{TableId}
-use Rattle.turn_lock.specs.Turns.{entries_by}
 use Rattle.gas_terms.specs.Cells.{Extent, extent}
 use Rattle.gas_terms.specs.Gas.{Gas}
-use Rattle.gas_terms.specs.Laboratory.{Laboratory, IsSound, IsPrefix, Applies}
+use Rattle.gas_terms.specs.Laboratory.{made_by, Laboratory, IsSound, IsPrefix, Applies}
 use Rattle.gas_terms.specs.declared.command.Command.{Command}
 use Rattle.gas_terms.specs.declared.command.Entry.{Entry}
 use Rattle.gas_terms.specs.declared.answer.Answer.{Answer}
@@ -25,10 +24,6 @@ pub record SeatView : Type 0 where
 -- the seat without what it has seen
 abbrev pub but_for_seen : SeatView → SeatView
 but_for_seen seat = record seat { seen = [] }
-
--- the entries that a seat of this number made
-abbrev pub made_by : ℕ → List Entry → List Entry
-made_by number entries = entries_by (λ (e : Entry). e.seat) number entries
 
 -- The laboratory that a seat finds: it keeps its invariant and opened as the seat knows; its journal goes on from what the
 -- seat has seen, and has no other entry of the seat's.

@@ -3,7 +3,8 @@
 ghost use Rattle.std.specs.Prelude.{◌≡◌, ℕ, ◌+◌, ◌<◌, ◌≤◌, [], All, IfSome, Some, length, slice_get, vec_len};
 ghost use Rattle.std.specs.List.{sum_by};
 ghost use Rattle.gas_terms.specs.Gas.{Gas};
-ghost use Rattle.gas_hall.specs.TurnSeats.{SeatView, made_by};
+ghost use Rattle.gas_hall.specs.TurnSeats.{SeatView};
+ghost use Rattle.gas_terms.specs.Laboratory.{made_by};
 
 use crate::serving::{Lobby, TurnServed, serve_turn};
 use crate::turn_hall::{TurnHall, TurnNote, TurnSeat};

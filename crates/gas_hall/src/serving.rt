@@ -3,7 +3,8 @@
 ghost use Rattle.std.specs.Prelude.{◌≡◌, ℕ, ◌+◌, ◌≤◌, ⊤, All, IfOk, IfErr, length, map, vec_len, vec_capacity};
 ghost use Rattle.std.specs.List.{sum_by};
 ghost use Rattle.gas_hall.specs.Seats.{Seat};
-ghost use Rattle.gas_hall.specs.TurnSeats.{SeatView, made_by, but_for_seen};
+ghost use Rattle.gas_hall.specs.TurnSeats.{SeatView, but_for_seen};
+ghost use Rattle.gas_terms.specs.Laboratory.{made_by};
 
 use crate::gate::HallGate;
 use crate::hall::{Hall, HallDoor};

@@ -4,7 +4,8 @@ ghost use Rattle.std.specs.Prelude.{◌≡◌, ℕ, ◌<◌, ◌≤◌, ◌⊎�
 ghost use Rattle.gas_terms.specs.Cells.{extent};
 ghost use Rattle.gas_terms.specs.Commands.{fits};
 ghost use Rattle.gas_terms.specs.Laboratory.{IsPrefix};
-ghost use Rattle.gas_hall.specs.TurnSeats.{SeatView, NoteView, made_by, opening_seat, AsksInTurn, CopiesInTurn};
+ghost use Rattle.gas_hall.specs.TurnSeats.{SeatView, NoteView, opening_seat, AsksInTurn, CopiesInTurn};
+ghost use Rattle.gas_terms.specs.Laboratory.{made_by};
 
 use crate::held::entries_of;
 use crate::in_turn::{Asked, CopyAsked, InTurn};
@@ -46,7 +47,8 @@ pub struct TurnSeat<S: Stepper> {
 impl<S: Stepper> Model for TurnSeat<S> {
     ghost use Rattle.std.specs.Prelude.{◌≡◌, ◌≤◌, IfSome, length};
     ghost use Rattle.gas_terms.specs.Cells.{extent};
-    ghost use Rattle.gas_hall.specs.TurnSeats.{SeatView, made_by};
+    ghost use Rattle.gas_hall.specs.TurnSeats.{SeatView};
+    ghost use Rattle.gas_terms.specs.Laboratory.{made_by};
 
     ghost Value = { SeatView };
 

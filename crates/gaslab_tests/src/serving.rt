@@ -186,7 +186,7 @@ fn server_from_a_snapshot(rt: HostRuntime) {
     };
     let speeches = [Some(Speech::of(b"tally\nread 0\nquit\n"))];
     assert_eq!(rt; status_of(&rt, opening, &stage, &speeches, &mut said), 0);
-    assert!(rt; stage.shows(0, b"TALLY 0 1 1 1\nROW 0 8000000000000000\nBYE\n"));
+    assert!(rt; stage.shows(0, b"TALLY 0 1 1 1\nROW 8000000000000000\nBYE\n"));
     assert_eq!(rt; said.text(), b"SERVED 1 0 0\n".as_slice());
 }
 
@@ -214,8 +214,16 @@ fn each_session_saves_in_its_own_file(rt: HostRuntime) {
     let folder = format!(in rt.alloc(); "/tmp/gaslab_served_{id}").expect(&rt, "memory");
     fs::create_dir_all(&rt, folder.as_str()).expect(&rt, "a new folder");
     let mut shelves = Vec::new(rt.alloc());
-    assert!(rt; shelves.push(file_shelf(&rt, folder.as_str(), "first", 0)).is_ok());
-    assert!(rt; shelves.push(file_shelf(&rt, folder.as_str(), "second", 1)).is_ok());
+    assert!(rt;
+        shelves
+            .push(file_shelf(&rt, folder.as_str(), "first", 0))
+            .is_ok()
+    );
+    assert!(rt;
+        shelves
+            .push(file_shelf(&rt, folder.as_str(), "second", 1))
+            .is_ok()
+    );
     let opening = Opening {
         room: SMALL,
         start: None,
@@ -234,10 +242,23 @@ fn each_session_saves_in_its_own_file(rt: HostRuntime) {
     };
     let stage = Stage::new();
     let speeches = [Some(first), Some(second)];
-    assert_eq!(rt; status_of(&rt, opening, &stage, &speeches, &mut Page::new()), 0);
+    assert_eq!(rt;
+        status_of(&rt, opening, &stage, &speeches, &mut Page::new()),
+        0
+    );
     assert!(rt; stage.shows(1, b"SAVED 1 1558\nBYE\n"));
-    file_holds(&rt, folder.as_str(), "first", snapshot(&rt, 22, 0).as_slice());
-    file_holds(&rt, folder.as_str(), "second", snapshot(&rt, 22, 0x80).as_slice());
+    file_holds(
+        &rt,
+        folder.as_str(),
+        "first",
+        snapshot(&rt, 22, 0).as_slice(),
+    );
+    file_holds(
+        &rt,
+        folder.as_str(),
+        "second",
+        snapshot(&rt, 22, 0x80).as_slice(),
+    );
     fs::remove_dir_all(&rt, folder.as_str()).expect(&rt, "no folder");
 }
 
@@ -262,8 +283,7 @@ fn refused_serve_on(rt: HostRuntime) {
         assert!(rt; stage.shows(1, b""));
     }
     let made = stage.shows(1, b"OK 0\nBYE\n") || stage.shows(1, b"OK 0\nERR 14 memory\n");
-    let refused =
-        stage.shows(1, b"ERR 14 memory\nBYE\n") || stage.shows(1, b"ERR 14 memory\n");
+    let refused = stage.shows(1, b"ERR 14 memory\nBYE\n") || stage.shows(1, b"ERR 14 memory\n");
     let unserved = stage.shows(1, b"");
     assert!(rt; stage.shows(0, b""));
     match said.text() {

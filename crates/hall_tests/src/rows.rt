@@ -101,7 +101,13 @@ fn failed_accept_is_counted(rt: HostRuntime) {
         tally: (1, 1, 1),
         saved: [0, 0, 0],
     };
-    serves(&rt, &TestGate::open(rt), all_end(&inputs), &pages[..2], wanted);
+    serves(
+        &rt,
+        &TestGate::open(rt),
+        all_end(&inputs),
+        &pages[..2],
+        wanted,
+    );
     assert!(rt; shows(&pages[0], b""));
     assert!(rt; shows(&pages[1], b"OK 0\nBYE\n"));
 }
@@ -196,7 +202,11 @@ fn failed_reader_beside_others(rt: HostRuntime) {
 #[test]
 fn each_session_saves_on_its_own_shelf(rt: HostRuntime) {
     let pages = empty_pages();
-    let inputs: [Option<&[u8]>; 3] = [Some(b"save\nsave\nquit\n"), Some(b"save\nquit\n"), Some(b"quit\n")];
+    let inputs: [Option<&[u8]>; 3] = [
+        Some(b"save\nsave\nquit\n"),
+        Some(b"save\nquit\n"),
+        Some(b"quit\n"),
+    ];
     let wanted = Outcome {
         counts: (3, 0, 0),
         of_seats: [0, 0, 0, 0],

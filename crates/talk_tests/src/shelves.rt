@@ -24,7 +24,9 @@ fn speak(rt: &impl AllocGlobal, input: &[u8], lab: &mut Lab<Serial>, store: &mut
 
 // The empty gas of 64 by 64, but for its first cell.
 fn is_one_particle(bytes: &[u8]) -> bool {
-    let head = [0x48, 0x50, 0x50, 0x47, 0x41, 0x53, 0x32, 0x0a, 0, 0x40, 0, 0x40];
+    let head = [
+        0x48, 0x50, 0x50, 0x47, 0x41, 0x53, 0x32, 0x0a, 0, 0x40, 0, 0x40,
+    ];
     bytes.len() == 1558 && bytes.starts_with(&head) && bytes.get(22) == Some(&0x80)
 }
 
