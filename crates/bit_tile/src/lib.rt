@@ -1,7 +1,7 @@
 //! Cells in tiles of 64 by 64, a bit each.
 #![tactic(auto)]
 
-ghost use Rattle.std.specs.Prelude.{◌≡◌, ℕ, ◌+◌, ◌*◌, ◌<◌, ◌≤◌, Bool, true, false, not, ◌&&◌, ◌||◌, ◌==◌, ◌%◌, nat_lt, nat_le, if◌then◌else◌, slice_index};
+ghost use Rattle.std.specs.Prelude.{◌≡◌, ℕ, ◌+◌, ◌*◌, ◌<◌, ◌≤◌, Bool, true, false, not, ◌&&◌, ◌||◌, ◌==◌, ◌%◌, nat_lt, nat_le, if◌then◌else◌, slice_index, IsTrue};
 ghost use Rattle.bit_tile.specs.Bit.{bit};
 
 const EVEN_COLUMNS: u64 = 0x5555_5555_5555_5555;
@@ -88,6 +88,22 @@ impl Tile {
         for y in 0..64usize {
             self.rows[y] &= !other.rows[y];
         }
+    }
+
+    /// Whether there are no cells.
+    pub fn is_empty(&self) -> bool
+        ensures empty { IsTrue result → HasCells self.now (λ _ _. false) }
+        ensures known { HasCells self.now (λ _ _. false) → IsTrue result }
+    {
+        // most tiles with cells have some in their first row
+        if self.rows[0] != 0 {
+            return false;
+        }
+        let mut all = 0;
+        for y in 0..64usize {
+            all |= self.rows[y];
+        }
+        all == 0
     }
 
     /// How many cells there are.

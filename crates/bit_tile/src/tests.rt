@@ -58,3 +58,15 @@ fn tiles_are_joined_cut_and_met(rt: HostRuntime) {
     assert_eq!(rt; cut.count(), 12);
     assert!(rt; cut.get(0, 0) && cut.get(1, 3) && !cut.get(2, 2) && !cut.get(5, 5));
 }
+
+#[test]
+fn knows_whether_it_is_empty(rt: HostRuntime) {
+    assert!(rt; Tile::empty().is_empty());
+    for (x, y) in [(0, 0), (63, 0), (5, 31), (0, 63), (63, 63)] {
+        let mut tile = Tile::empty();
+        tile.set(x, y, true);
+        assert!(rt; !tile.is_empty(), "at {x} {y}");
+        tile.set(x, y, false);
+        assert!(rt; tile.is_empty(), "again at {x} {y}");
+    }
+}

@@ -63,6 +63,20 @@ word_set cells column row word t made is p long e from =
     absurd (clash (tile_of cells x y == k) (eq-eqb (tile_of cells x y) k here) elsewhere))
     (λ neither. refl)))))
 
+-- a word is put where it stands
+pub word_same : (cells : Cells) (column row word : ℕ) → IsLattice cells → ((x : ℕ) → x < 64 → bit word x ≡ has cells (column * 64 + x) row) → cells ≡ with_word cells column row word
+word_same cells column row word is bits =
+    let test : ℕ → ℕ → Bool = λ x y. if (x / 64 == column) && (y == row) then bit word (x % 64) else has cells x y in
+    same_cells cells (cells_where cells.width cells.height test) is.full (full-cells_where cells.width cells.height test) refl refl
+    (λ x y p q.
+    choose_same ((x / 64 == column) && (y == row)) (bit word (x % 64)) (has cells x y) (has cells x y)
+    (λ both.
+    let at = both_true (x / 64) column y row both in
+    let across : x ≡ column * 64 + x % 64 = omega (arith, at.0) in
+    ap₂ (has cells) across at.1 ∙ sym (bits (x % 64) (omega arith)))
+    (λ neither. refl)
+    ∙ sym (has-cells_where cells.width cells.height test x y p q))
+
 -- the row's words before a column are replaced
 abbrev pub rowed : Cells → ℕ → List ℕ → ℕ → Cells
 rowed cells row bytes column = cells_where cells.width cells.height (λ x y. if nat_lt (x / 64) column && (y == row) then row_has bytes x else has cells x y)

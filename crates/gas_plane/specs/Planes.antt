@@ -19,6 +19,22 @@ pub record IsTileFrom (t : Tile) (cells : Cells) (x0 y0 : ℕ) : Type 0 where
 pub record IsRingRound (b : Border) (cells : Cells) (x0 y0 : ℕ) : Type 0 where
   pub cell : (i j : ℕ) → IsOnRing i j → ring b i j ≡ has cells ((x0 + i + cells.width - 1) % cells.width) ((y0 + j + cells.height - 1) % cells.height)
 
+-- none of the 64 by 64 cells from the place (x0, y0) on is in the set
+pub record IsBare (cells : Cells) (x0 y0 : ℕ) : Type 0 where
+  pub cell : (x y : ℕ) → x < 64 → y < 64 → has cells (x0 + x) (y0 + y) ≡ false
+
+-- none of the 192 by 192 cells of the torus that have these in their midst
+pub record IsBareFarRound (cells : Cells) (x0 y0 : ℕ) : Type 0 where
+  pub cell : (i j : ℕ) → i < 192 → j < 192 → has cells ((x0 + i + cells.width - 64) % cells.width) ((y0 + j + cells.height - 64) % cells.height) ≡ false
+
+-- round a circle of n places, the one before place k, itself and the one after it, for d = 0, 1 and 2
+abbrev pub place_by : ℕ → ℕ → ℕ → ℕ
+place_by k d n = (k + d + n - 1) % n
+
+-- none of three tiles' cells is in the set: of the one in this column and row of tiles, and of the two beside it
+pub record AreThreeBare (cells : Cells) (column row : ℕ) : Type 0 where
+  pub each : (d : ℕ) → d ≤ 2 → IsBare cells (place_by column d (cells.width / 64) * 64) (row * 64)
+
 -- none of the 64 by 64 cells from the place (x0, y0) on, and none of the ring round them on the torus, is in the set
 pub record IsBareRound (cells : Cells) (x0 y0 : ℕ) : Type 0 where
   pub cell : (i j : ℕ) → i ≤ 65 → j ≤ 65 → has cells ((x0 + i + cells.width - 1) % cells.width) ((y0 + j + cells.height - 1) % cells.height) ≡ false

@@ -7,7 +7,7 @@ ghost use Rattle.bit_tile.specs.Bit.{bit};
 ghost use Rattle.gas_terms.specs.Cells.{Cells, HasSidesOf, has, cells_where, extent, tile_count, tile_rectangle, Rectangle, is_inside, filled, cleared, lies_within};
 ghost use Rattle.gas_terms.specs.Accounts.{parity_count};
 ghost use Rattle.gas_terms.specs.Rows.{row_has, row_replaced, row_bytes};
-ghost use Rattle.gas_plane.specs.Planes.{IsLattice, IsTileFrom, IsRingRound, IsBareRound, tile_of, with_tile, with_word, painted_where};
+ghost use Rattle.gas_plane.specs.Planes.{IsLattice, IsTileFrom, IsRingRound, IsBare, IsBareRound, IsBareFarRound, AreThreeBare, tile_of, with_tile, with_word, painted_where};
 ghost use Rattle.gas_plane.specs.Lending.{LendsTile};
 ghost use Rattle.bit_tile.specs.Tile.{HasCells};
 ghost use Rattle.tile_border.specs.Ring.{IsBorderOf};
@@ -19,7 +19,7 @@ mod marks;
 
 pub use bit_tile::Tile;
 use gas_terms::{NoMemory, Rect, Size};
-use marks::{after, before, hold};
+use marks::{after, before, settle};
 use std::alloc::Global;
 use std::marker::Model;
 use tile_border::{Border, NO_BORDER, Round};
@@ -39,10 +39,10 @@ pub struct Plane {
     size: Size,
     // row by row
     tiles: Vec<Tile>,
-    // a tile that is marked here has no cell
+    // whether a tile has no cell, of each but the one that was lent last: that one may have been written to since
     bare: Vec<bool>,
-    // and a tile that is marked here none in it or in the eight tiles round it: the step asks for it at each tile
-    bare_round: Vec<bool>,
+    // its number, or how many tiles there are
+    lent: u32,
 }
 
 impl Model for Plane {
@@ -54,7 +54,7 @@ impl Model for Plane {
 
     ghost view = { λ p. cells_where p.size.width p.size.height (tiles_have p.tiles.items (p.size.width / 64)) };
 
-    ghost invariant = { λ p. IsMarked p.tiles.items p.bare.items p.bare_round.items p.size };
+    ghost invariant = { λ p. IsMarked p.tiles.items p.bare.items p.lent p.size };
 }
 
 impl Plane {
@@ -64,12 +64,11 @@ impl Plane {
     {
         let tiles = vec![in alloc; Tile::empty(); size.tiles() as usize]?;
         let bare = vec![in alloc; true; size.tiles() as usize]?;
-        let bare_round = vec![in alloc; true; size.tiles() as usize]?;
         Ok(Plane {
             size,
             tiles,
             bare,
-            bare_round,
+            lent: size.tiles(),
         })
     }
 
@@ -79,12 +78,11 @@ impl Plane {
     {
         let tiles = Vec::from_slice(alloc, self.tiles.as_slice())?;
         let bare = Vec::from_slice(alloc, self.bare.as_slice())?;
-        let bare_round = Vec::from_slice(alloc, self.bare_round.as_slice())?;
         Ok(Plane {
             size: self.size,
             tiles,
             bare,
-            bare_round,
+            lent: self.lent,
         })
     }
 
@@ -100,9 +98,7 @@ impl Plane {
         self.bare
             .as_mut_slice()
             .copy_from_slice(other.bare.as_slice());
-        self.bare_round
-            .as_mut_slice()
-            .copy_from_slice(other.bare_round.as_slice());
+        self.lent = other.lent;
     }
 
     /// How wide and high the lattice is.
@@ -134,14 +130,14 @@ impl Plane {
         &self.tiles[i as usize]
     }
 
-    /// The same cells as tile i. Where the tile is known to have none they are read from an empty tile that all planes share,
-    /// which stays near while others are read.
+    /// The same cells as tile i. Where the tile has none they are read from an empty tile that all planes share, which stays
+    /// near while others are read.
     #[inline]
     pub fn tile_or_bare(&self, i: u32) -> &Tile
         requires { i < tile_count self.now }
         ensures { let r = tile_rectangle self.now i in IsTileFrom result.now self.now r.x r.y }
     {
-        if self.bare[i as usize] {
+        if self.is_bare(i) {
             &NO_CELLS
         } else {
             self.tile(i)
@@ -163,23 +159,55 @@ impl Plane {
         ensures* writes_back { sem 𝓛 (LendsTile self.entry i result) }
         ensures tile { let r = tile_rectangle self.old i in IsTileFrom result.now self.old r.x r.y }
     {
-        hold(
-            self.bare.as_mut_slice(),
-            self.bare_round.as_mut_slice(),
-            self.size,
-            i,
-        );
+        settle(self.bare.as_mut_slice(), self.tiles.as_slice(), self.lent);
+        self.lent = i;
         &mut self.tiles[i as usize]
     }
 
-    /// Whether tile i is known to have no cell in it and none round it. A write to the tile or to one of the eight round it
-    /// that may add cells ends that knowledge, and a `clear` does not bring it back.
+    /// Whether tile i has no cell. The plane keeps that for each tile, whatever was written.
+    #[inline]
+    pub fn is_bare(&self, i: u32) -> bool
+        requires { i < tile_count self.now }
+        ensures bare { let r = tile_rectangle self.now i in IsTrue result → IsBare self.now r.x r.y }
+        ensures known { let r = tile_rectangle self.now i in IsBare self.now r.x r.y → IsTrue result }
+    {
+        if i == self.lent {
+            self.tile(i).is_empty()
+        } else {
+            self.bare[i as usize]
+        }
+    }
+
+    /// Whether neither tile i nor any of the eight tiles round it has a cell.
     #[inline]
     pub fn is_bare_round(&self, i: u32) -> bool
         requires { i < tile_count self.now }
-        ensures { let r = tile_rectangle self.now i in IsTrue result → IsBareRound self.now r.x r.y }
+        ensures bare { let r = tile_rectangle self.now i in IsTrue result → IsBareRound self.now r.x r.y }
+        ensures known { let r = tile_rectangle self.now i in IsBareFarRound self.now r.x r.y → IsTrue result }
     {
-        self.bare_round[i as usize]
+        let across = self.across();
+        let down = self.down();
+        let column = i % across;
+        let row = i / across;
+        let above = self.are_three_bare(column, before(row, down));
+        let here = self.are_three_bare(column, row);
+        let below = self.are_three_bare(column, after(row, down));
+        above & here & below
+    }
+
+    // whether the tile in this column and row of tiles has no cell, nor one of the two beside it
+    #[inline]
+    fn are_three_bare(&self, column: u32, row: u32) -> bool
+        requires column { column < self.now.width / 64 }
+        requires row { row < self.now.height / 64 }
+        ensures bare { IsTrue result → AreThreeBare self.now column row }
+        ensures known { AreThreeBare self.now column row → IsTrue result }
+    {
+        let across = self.across();
+        let left = self.is_bare(row * across + before(column, across));
+        let here = self.is_bare(row * across + column);
+        let right = self.is_bare(row * across + after(column, across));
+        left & here & right
     }
 
     /// The eight tiles round tile i: the lattice is a torus.
@@ -267,17 +295,18 @@ impl Plane {
         }
     }
 
-    // puts the part's cells into tile i, or takes them out: then it keeps its marks
+    // puts the part's cells into tile i, or takes them out
     fn paint_tile(&mut self, i: u32, part: &Tile, held: bool)
         requires { i < tile_count self.old }
         ensures { self.new ≡ painted_where self.old (λ x y. (tile_of self.old x y == i) && in_tile.has part.now (x % 64) (y % 64)) held }
     {
         // its sides are whole tiles
         let _ = &self.size;
+        let tile = self.tile_mut(i);
         if held {
-            self.tile_mut(i).join(part);
+            tile.join(part);
         } else {
-            self.tiles[i as usize].cut(part);
+            tile.cut(part);
         }
     }
 
@@ -324,8 +353,11 @@ impl Plane {
         ensures { self.new ≡ with_word self.old column y word }
     {
         let across = self.across();
-        let tile = self.tile_mut(y / 64 * across + column);
-        tile.rows[(y % 64) as usize] = word;
+        // rows that are loaded are mostly as they were, and then the tile is not lent
+        if self.word(column, y) != word {
+            let tile = self.tile_mut(y / 64 * across + column);
+            tile.rows[(y % 64) as usize] = word;
+        }
     }
 
     /// How many cells the rectangle has in each class of columns and rows: even column and even row, odd and even,

@@ -1,44 +1,21 @@
-//! The marks of tiles that are known to have no cell.
+//! The marks of tiles that have no cell.
 
-ghost use Rattle.std.specs.Prelude.{◌≡◌, ℕ, ◌+◌, ◌-◌, ◌*◌, ◌/◌, ◌%◌, ◌^◌, ◌<◌, ◌≤◌, ◌≢◌, true, length, slice_set};
-ghost use Rattle.gas_plane.specs.Tiles.{AreBareRound, is_set};
+ghost use Rattle.std.specs.Prelude.{◌≡◌, ℕ, ◌+◌, ◌-◌, ◌%◌, ◌<◌, length};
+ghost use Rattle.gas_plane.specs.Tiles.{AreMarked};
 
-use gas_terms::Size;
+use bit_tile::Tile;
 
-/// Tile i may have cells from now on: its mark goes, and those of the tiles round it that were bare round.
+/// The tile that was lent last is marked as it is now.
 #[inline]
-pub fn hold(bare: &mut [bool], bare_round: &mut [bool], size: Size, i: u32)
-    requires tile { i < size.width / 64 * (size.height / 64) }
-    requires bare { length bare.old ≡ size.width / 64 * (size.height / 64) }
-    requires bare_round { length bare_round.old ≡ size.width / 64 * (size.height / 64) }
-    requires marked { AreBareRound bare.old bare_round.old size }
-    ensures marked { AreBareRound bare.new bare_round.new size }
-    ensures held { (k : ℕ) → is_set bare.new k ≡ true → (is_set bare.old k ≡ true) × (k ≢ i) }
+pub fn settle(bare: &mut [bool], tiles: &[Tile], lent: u32)
+    requires each { length bare.old ≡ length tiles.now }
+    requires marked { AreMarked tiles.now bare.old lent }
+    ensures { (other : ℕ) → AreMarked tiles.now bare.new other }
 {
-    if bare[i as usize] {
-        bare[i as usize] = false;
-        let across = (size.width() / 64) as u32;
-        let down = (size.height() / 64) as u32;
-        let column = i % across;
-        let row = i / across;
-        unmark_three(bare_round, before(row, down), column, across);
-        unmark_three(bare_round, row, column, across);
-        unmark_three(bare_round, after(row, down), column, across);
+    let i = lent as usize;
+    if i < tiles.len() {
+        bare[i] = tiles[i].is_empty();
     }
-}
-
-// takes the marks away at the place in the row and at those beside it
-fn unmark_three(flags: &mut [bool], row: u32, column: u32, across: u32)
-    requires column { column < across }
-    requires row { row * across + across < length flags.old + 1 }
-    requires few { length flags.old < 2 ^ 20 }
-    ensures { (k : ℕ) → is_set flags.new k ≡ true → (is_set flags.old k ≡ true) ×
-        (k ≢ row * across + (column + across - 1) % across) × (k ≢ row * across + column) × (k ≢ row * across + (column + 1) % across) }
-{
-    let first = row as usize * across as usize;
-    flags[first + before(column, across) as usize] = false;
-    flags[first + column as usize] = false;
-    flags[first + after(column, across) as usize] = false;
 }
 
 /// Round a circle of n places, the one before place k.

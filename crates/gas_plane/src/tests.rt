@@ -182,22 +182,54 @@ fn is_as_wide_as_a_lattice_may_be(rt: HostRuntime) {
     assert!(rt; row[502] == 0 && row[503] == 0x03 && row[504] == 0xff && row[511] == 0xfe);
 }
 
+fn is_bare(plane: &Plane, i: u32) -> bool {
+    i < plane.size().tiles() && plane.is_bare(i)
+}
+
 fn is_bare_round(plane: &Plane, i: u32) -> bool {
     i < plane.size().tiles() && plane.is_bare_round(i)
+}
+
+// A plane of five by five tiles with a cell in tile 0: over the seams it stands beside tiles 1, 4, 5, 6, 9, 20, 21 and 24.
+fn five_by_five(rt: &(impl Abort + AllocGlobal)) -> Plane {
+    let size = Size::new(320, 320).expect(rt, "a size");
+    let mut plane = Plane::empty(rt.alloc(), size).expect(rt, "memory");
+    plane.fill(area(rt, &plane, 5, 5, 1, 1));
+    plane
+}
+
+const NEAR: [u32; 9] = [0, 1, 4, 5, 6, 9, 20, 21, 24];
+
+fn assert_bare_but_near(rt: &impl Abort, plane: &Plane, name: &str) {
+    for i in 0..25u32 {
+        assert_eq!(rt; is_bare(plane, i), i > 0, "{name}, tile {i}");
+        assert_eq!(rt;
+            is_bare_round(plane, i),
+            !NEAR.contains(&i),
+            "{name}, round {i}"
+        );
+    }
+}
+
+fn assert_bare(rt: &impl Abort, plane: &Plane, name: &str) {
+    for i in 0..25u32 {
+        assert!(rt;
+            is_bare(plane, i) && is_bare_round(plane, i),
+            "{name}, tile {i}"
+        );
+    }
 }
 
 #[test]
 fn knows_where_it_has_no_cells(rt: HostRuntime) {
     let size = Size::new(320, 320).expect(&rt, "a size");
-    let mut plane = Plane::empty(rt.alloc(), size).expect(&rt, "memory");
-    for i in 0..25 {
-        assert!(rt; is_bare_round(&plane, i), "at {i}");
-    }
-    // a cell of tile 0: over the seams it stands beside tiles 1, 4, 5, 6, 9, 20, 21 and 24
-    plane.fill(area(&rt, &plane, 5, 5, 1, 1));
-    let held = [0, 1, 4, 5, 6, 9, 20, 21, 24];
+    let empty = Plane::empty(rt.alloc(), size).expect(&rt, "memory");
+    assert_bare(&rt, &empty, "empty");
+    let plane = five_by_five(&rt);
+    assert_bare_but_near(&rt, &plane, "with a cell");
     let copy = plane.copy(rt.alloc()).expect(&rt, "memory");
-    let mut other = Plane::empty(rt.alloc(), size).expect(&rt, "memory");
+    assert_bare_but_near(&rt, &copy, "its copy");
+    let mut other = empty;
     let sides = other.size();
     let sides_of_plane = plane.size();
     assert!(rt;
@@ -205,13 +237,62 @@ fn knows_where_it_has_no_cells(rt: HostRuntime) {
     );
     other.copy_from(&plane);
     assert!(rt; holds(&other, 5, 5));
+    assert_bare_but_near(&rt, &other, "made the same");
+}
+
+#[test]
+fn knows_again_what_was_cleared(rt: HostRuntime) {
+    let mut plane = five_by_five(&rt);
+    plane.clear(area(&rt, &plane, 64, 0, 256, 320));
+    plane.clear(area(&rt, &plane, 0, 6, 320, 20));
+    assert_bare_but_near(&rt, &plane, "cleared elsewhere");
+    plane.clear(area(&rt, &plane, 5, 5, 1, 1));
+    assert_bare(&rt, &plane, "cleared there");
+    plane.fill(area(&rt, &plane, 0, 0, 320, 320));
     plane.clear(area(&rt, &plane, 0, 0, 320, 320));
-    for i in 0..25u32 {
-        let apart = !held.contains(&i);
-        assert_eq!(rt; is_bare_round(&copy, i), apart, "of the copy at {i}");
-        assert_eq!(rt; is_bare_round(&other, i), apart, "of the other at {i}");
-        assert_eq!(rt; is_bare_round(&plane, i), apart, "after a clear at {i}");
+    assert_bare(&rt, &plane, "filled and cleared");
+}
+
+#[test]
+fn knows_what_rows_leave(rt: HostRuntime) {
+    let mut plane = five_by_five(&rt);
+    for y in 0..320u32 {
+        let sides = plane.size();
+        assert!(rt; sides.width() == 320 && sides.height() == 320);
+        let mut row = [0; 40];
+        plane.row_bytes(y, &mut row);
+        plane.set_row(y, &row);
+        assert_bare_but_near(&rt, &plane, "rows as they were");
     }
+    let sides = plane.size();
+    assert!(rt; sides.width() == 320 && sides.height() == 320);
+    plane.set_row(5, &[0; 40]);
+    assert_bare(&rt, &plane, "a row of zeros");
+    let mut row = [0; 40];
+    row[0] = 0x01;
+    let sides = plane.size();
+    assert!(rt; sides.width() == 320 && sides.height() == 320);
+    plane.set_row(63, &row);
+    assert_bare_but_near(&rt, &plane, "a row with a cell");
+}
+
+#[test]
+fn knows_what_tiles_leave(rt: HostRuntime) {
+    let mut plane = five_by_five(&rt);
+    for i in 1..25u32 {
+        assert!(rt; plane.size().tiles() == 25);
+        plane.set_tile(i, Tile::empty());
+    }
+    assert_bare_but_near(&rt, &plane, "tiles without cells");
+    assert!(rt; plane.size().tiles() == 25);
+    plane.tile_mut(12).set(63, 0, true);
+    assert!(rt; !is_bare(&plane, 12) && !is_bare(&plane, 0) && is_bare(&plane, 11));
+    assert!(rt; plane.size().tiles() == 25);
+    plane.tile_mut(12).set(63, 0, false);
+    assert_bare_but_near(&rt, &plane, "a tile that was lent");
+    assert!(rt; plane.size().tiles() == 25);
+    plane.set_tile(0, Tile::empty());
+    assert_bare(&rt, &plane, "the last one's tile");
 }
 
 #[test]

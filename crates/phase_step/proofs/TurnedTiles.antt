@@ -1,10 +1,11 @@
 -- What a plane's tiles show of the torus.
-use Rattle.std.proofs.Common.{◌≡◌, ℕ, ◌+◌, ◌*◌, ◌/◌, ◌%◌, ◌<◌, ◌≤◌, subst, sym, arith}
+use Rattle.std.proofs.Common.{◌≡◌, ℕ, ◌+◌, ◌*◌, ◌/◌, ◌%◌, ◌<◌, ◌≤◌, ◌-◌, ◌∙◌, ap, ap₂, subst, sym, arith}
+use Rattle.std.proofs.lemmas.Nat.{mod-mul-add}
 use Rattle.bit_tile.specs.Tile.{HasCells}
 use Rattle.bit_tile.specs.declared.Tile.{Tile}
 use Rattle.tile_border.specs.declared.Border.{Border}
 use Rattle.gas_terms.specs.Cells.{Cells, HasSidesOf, has, tile_rectangle}
-use Rattle.gas_plane.specs.Planes.{IsTileFrom, IsRingRound, IsBareRound}
+use Rattle.gas_plane.specs.Planes.{IsTileFrom, IsRingRound, IsBare, IsBareRound}
 use Rattle.block_rule.specs.Around.{around, none}
 use Rattle.block_rule.specs.Windows.{IsView, IsWindow}
 use Rattle.phase_step.proofs.Rings.{window_is}
@@ -14,6 +15,25 @@ pub bare_view : (p i : ℕ) (cells others : Cells) → p < 2 → cells.width ≡
 bare_view p i cells others small wide bare =
     let here : IsBareRound cells (i % (others.width / 64) * 64) (i / (others.width / 64) * 64) = subst (λ w. IsBareRound cells (i % (w / 64) * 64) (i / (w / 64) * 64)) wide bare in
     record { cell = λ u v (_, right) (_, down). sym (here.cell u v (omega arith) (omega arith)) }
+
+inside : (n x i : ℕ) → x + 64 ≤ n → 1 ≤ i + 0 → i ≤ 64 + 0 → (x + i + n - 1) % n ≡ x + (i - 1)
+inside n x i fits low high =
+    let f : x + i + n - 1 ≡ 1 * n + (x + (i - 1)) = omega arith in
+    ap (λ m. m % n) f ∙ mod-mul-add 1 n (x + (i - 1)) (omega arith)
+
+-- at even parity the tile itself is enough
+pub bare_inside : (i : ℕ) (cells others : Cells) → HasSidesOf cells others → (tile_rectangle others i).x + 64 ≤ others.width → (tile_rectangle others i).y + 64 ≤ others.height
+    → IsBare cells (tile_rectangle cells i).x (tile_rectangle cells i).y → IsView 0 none cells (tile_rectangle others i).x (tile_rectangle others i).y
+bare_inside i cells others of right bottom bare =
+    let x0 : ℕ = i % (others.width / 64) * 64 in
+    let y0 : ℕ = i / (others.width / 64) * 64 in
+    let here : IsBare cells x0 y0 = subst (λ w. IsBare cells (i % (w / 64) * 64) (i / (w / 64) * 64)) of.wide bare in
+    record {
+      cell = λ u v (left, right_of) (up, down).
+          sym
+          (ap₂ (has cells) (inside cells.width x0 u (subst (λ w. x0 + 64 ≤ w) (sym of.wide) right) left right_of) (inside cells.height y0 v (subst (λ h. y0 + 64 ≤ h) (sym of.high) bottom) up down)
+          ∙ here.cell (u - 1) (v - 1) (omega arith) (omega arith));
+    }
 
 pub tile_cells : (i : ℕ) (cells others : Cells) (t : Tile) → cells.width ≡ others.width → IsTileFrom t cells (tile_rectangle cells i).x (tile_rectangle cells i).y → HasCells t (λ x y. has cells ((tile_rectangle others i).x + x) ((tile_rectangle others i).y + y))
 tile_cells i cells others t wide from =

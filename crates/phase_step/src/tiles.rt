@@ -2,7 +2,7 @@
 
 ghost use Rattle.std.specs.Prelude.{◌≡◌, ◌<◌, IsTrue, pos};
 ghost use Rattle.gas_terms.specs.Cells.{tile_count, tile_rectangle, HasSidesOf};
-ghost use Rattle.gas_plane.specs.Planes.{IsBareRound};
+ghost use Rattle.gas_plane.specs.Planes.{IsBare, IsBareRound};
 ghost use Rattle.block_rule.specs.Windows.{IsTilePlace, taken_in};
 ghost use Rattle.phase_step.specs.Turns.{IsTileAfter};
 
@@ -68,7 +68,7 @@ fn turn_even(old: &Plane, walls: &Plane, obstacles: &Plane, i: u32, out: &mut Ti
     block_rule::laws::tiles_see_the_torus();
     block_rule::laws::tiles_turn_as_the_torus();
     block_rule::laws::tiles_take_as_the_torus();
-    if is_free(walls, obstacles, i) {
+    if is_free_inside(walls, obstacles, i) {
         turn_free_tile_even(old.tile(i), out);
         NOTHING
     } else {
@@ -116,7 +116,17 @@ fn turn_odd(
     }
 }
 
-// whether it is known that neither the tile nor what is round it has a wall or an obstacle
+// whether the tile has neither walls nor obstacles
+fn is_free_inside(walls: &Plane, obstacles: &Plane, i: u32) -> bool
+    requires walls { i < tile_count walls.now }
+    requires obstacles { i < tile_count obstacles.now }
+    ensures walls { let r = tile_rectangle walls.now i in IsTrue result → IsBare walls.now r.x r.y }
+    ensures obstacles { let r = tile_rectangle obstacles.now i in IsTrue result → IsBare obstacles.now r.x r.y }
+{
+    walls.is_bare(i) && obstacles.is_bare(i)
+}
+
+// whether neither the tile nor those round it have any
 fn is_free(walls: &Plane, obstacles: &Plane, i: u32) -> bool
     requires walls { i < tile_count walls.now }
     requires obstacles { i < tile_count obstacles.now }

@@ -1,5 +1,39 @@
-use Rattle.gas_plane.proofs.BareTiles.{bare_round_read}
+use Rattle.std.proofs.Common.{◌≡◌, ◌+◌, ◌-◌, ◌/◌, ◌%◌, ◌<◌, ◌∙◌, ap, arith}
+use Rattle.std.proofs.lemmas.Nat.{row-Below}
+use Rattle.std.proofs.Math.Nat.{mod-lt}
+use Rattle.gas_terms.specs.Cells.{extent}
+use Rattle.gas_plane.specs.Planes.{AreThreeBare}
+use Rattle.gas_plane.proofs.Places.{wide, high}
+use Rattle.gas_plane.proofs.BareTiles.{all_three, three_all, by_places, from_places, nine_are_round, nine_are_known}
 use Rattle.gas_plane.proofs.Plane.is_bare_round.Goals as goal
 
-pub returns : goal.returns
-returns c = bare_round_read c.self.inside.tiles.items c.self.inside.bare.items c.self.inside.bare_round.items c.self.inside.size c.args.self.now c.self.invariant c.self.view_is c.args.i c.index.result.now c.requires c.index.ensures
+pub returns-clause-bare : goal.returns-clause-bare
+returns-clause-bare c = λ all.
+    let cells = c.args.self.now in
+    let is = c.across-across.ensures.lattice in
+    let across : c.across-across.result ≡ cells.width / 64 = c.across-across.ensures.across in
+    let down : c.down-down.result ≡ cells.height / 64 = c.down-down.ensures.down in
+    let column : c.args.i % c.across-across.result < cells.width / 64 = rw (← across) (mod-lt c.args.i (rw across c.across-across.ensures.positive)) in
+    let row : c.args.i / c.across-across.result < cells.height / 64 = rw across ((row-Below c.args.i (cells.width / 64) (cells.width / 64) (cells.height / 64) c.requires (omega arith)).1) in
+    let three = all_three c.are_three_bare-above.result c.are_three_bare-here.result c.are_three_bare-below.result all in
+    rw (← across)
+    (nine_are_round cells (c.args.i % c.across-across.result) (c.args.i / c.across-across.result) (wide (extent cells) is.sized) (high (extent cells) is.sized) column row
+    (by_places (AreThreeBare cells (c.args.i % c.across-across.result)) (cells.height / 64) (c.args.i / c.across-across.result) c.before-2.result c.after.result row
+    (c.before-2.ensures.place ∙ ap (λ n. (c.args.i / c.across-across.result + n - 1) % n) down)
+    (c.after.ensures.place ∙ ap (λ n. (c.args.i / c.across-across.result + 1) % n) down)
+    (c.are_three_bare-above.ensures.bare three.0) (c.are_three_bare-here.ensures.bare three.1) (c.are_three_bare-below.ensures.bare three.2)))
+
+pub returns-clause-known : goal.returns-clause-known
+returns-clause-known c = λ far.
+    let cells = c.args.self.now in
+    let is = c.across-across.ensures.lattice in
+    let across : c.across-across.result ≡ cells.width / 64 = c.across-across.ensures.across in
+    let down : c.down-down.result ≡ cells.height / 64 = c.down-down.ensures.down in
+    let column : c.args.i % c.across-across.result < cells.width / 64 = rw (← across) (mod-lt c.args.i (rw across c.across-across.ensures.positive)) in
+    let row : c.args.i / c.across-across.result < cells.height / 64 = rw across ((row-Below c.args.i (cells.width / 64) (cells.width / 64) (cells.height / 64) c.requires (omega arith)).1) in
+    let all = from_places (AreThreeBare cells (c.args.i % c.across-across.result)) (cells.height / 64) (c.args.i / c.across-across.result) c.before-2.result c.after.result row
+    (c.before-2.ensures.place ∙ ap (λ n. (c.args.i / c.across-across.result + n - 1) % n) down)
+    (c.after.ensures.place ∙ ap (λ n. (c.args.i / c.across-across.result + 1) % n) down)
+    (nine_are_known cells (c.args.i % c.across-across.result) (c.args.i / c.across-across.result) (wide (extent cells) is.sized) (high (extent cells) is.sized) column row (rw (← across) at far)) in
+    three_all c.are_three_bare-above.result c.are_three_bare-here.result c.are_three_bare-below.result
+    (c.are_three_bare-above.ensures.known all.0) (c.are_three_bare-here.ensures.known all.1) (c.are_three_bare-below.ensures.known all.2)

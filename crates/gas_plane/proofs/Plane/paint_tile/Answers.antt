@@ -1,24 +1,16 @@
 use Rattle.std.proofs.Common.{◌∙◌, sym, true, false}
-use Rattle.gas_plane.proofs.BareTiles.{marked_cut}
 use Rattle.gas_plane.proofs.Painting.{tile_painted, put_in, taken_out, painted_as}
-use Rattle.gas_plane.proofs.Tilings.{lattice_of, tiled_set, tile_is, tile_there}
+use Rattle.gas_plane.proofs.Tilings.{lattice_of}
 use Rattle.gas_plane.proofs.Plane.paint_tile.Goals as goal
 
 pub returns-then-held : goal.returns-then-held
 returns-then-held c =
-    tile_painted c.args.self.now c.args.i c.tile_mut.result.now c.args.part.now c.join.new.self true (lattice_of c.self.inside.tiles.items c.self.inside.size c.args.self.now c.self.invariant.cover c.self.view_is) c.tile_mut.ensures.tile
-    (put_in c.tile_mut.result.now c.args.part.now c.join.new.self c.join.ensures)
+    tile_painted c.args.self.now c.args.i c.tile_mut-tile.result.now c.args.part.now c.join.new.self true (lattice_of c.self.inside.tiles.items c.self.inside.size c.args.self.now c.self.invariant.cover c.self.view_is) c.tile_mut-tile.ensures.tile
+    (put_in c.tile_mut-tile.result.now c.args.part.now c.join.new.self c.join.ensures)
     ∙ painted_as c.args.self.now c.args.i c.args.part.now true c.args.held (sym c.if-held.true)
-
-pub invariant_of-self : goal.invariant_of-self
-invariant_of-self c =
-    marked_cut c.self.inside.tiles.items c.self.inside.bare.items c.self.inside.bare_round.items c.self.inside.size c.args.i c.index_mut.result.now c.args.part.now c.cut.new.self c.self.invariant
-    (tile_there c.self.inside.tiles.items c.self.inside.size c.args.self.now c.args.i c.self.invariant.cover c.self.view_is c.requires) c.index_mut.ensures.value c.cut.ensures
 
 pub returns-else-held : goal.returns-else-held
 returns-else-held c =
-    tiled_set c.self.inside.tiles.items c.self.inside.size c.args.self.now c.args.i c.cut.new.self c.requires c.self.invariant.cover c.self.view_is
-    ∙ (tile_painted c.args.self.now c.args.i c.index_mut.result.now c.args.part.now c.cut.new.self false (lattice_of c.self.inside.tiles.items c.self.inside.size c.args.self.now c.self.invariant.cover c.self.view_is)
-    (tile_is c.self.inside.tiles.items c.self.inside.size c.args.self.now c.args.i c.index_mut.result.now c.self.invariant.cover c.self.view_is c.requires c.index_mut.ensures.value)
-    (taken_out c.index_mut.result.now c.args.part.now c.cut.new.self c.cut.ensures)
-    ∙ painted_as c.args.self.now c.args.i c.args.part.now false c.args.held (sym c.if-held.false))
+    tile_painted c.args.self.now c.args.i c.tile_mut-tile.result.now c.args.part.now c.cut.new.self false (lattice_of c.self.inside.tiles.items c.self.inside.size c.args.self.now c.self.invariant.cover c.self.view_is) c.tile_mut-tile.ensures.tile
+    (taken_out c.tile_mut-tile.result.now c.args.part.now c.cut.new.self c.cut.ensures)
+    ∙ painted_as c.args.self.now c.args.i c.args.part.now false c.args.held (sym c.if-held.false)
