@@ -1,5 +1,5 @@
 -- Cells that go out and come in, tile by tile.
-use Rattle.std.proofs.Common.{◌≡◌, ℕ, ◌+◌, ◌*◌, ◌/◌, ◌%◌, ◌<◌, ◌≤◌, ◌==◌, ◌&&◌, ◌||◌, not, Bool, true, false, List, nat_lt, nat_le, [], ◌∷◌, length, add-one, refl, sym, subst, ◌∙◌, ap, ap₂, arith}
+use Rattle.std.proofs.Common.{◌≡◌, ℕ, ◌+◌, ◌*◌, ◌/◌, ◌%◌, ◌<◌, ◌≤◌, ◌==◌, ◌&&◌, ◌||◌, not, Bool, true, false, List, nat_lt, nat_le, [], ◌∷◌, length, refl, sym, subst, ◌∙◌, ap, ap₂, arith}
 use Rattle.std.proofs.Math.Nat.{mod-lt}
 use Rattle.std.proofs.lemmas.Nat.{row-Below, mul-add-lt, div-mul-add}
 use Rattle.std.proofs.lemmas.Bool.Decides.{nat_tests}
@@ -155,6 +155,14 @@ unmet_stays cells drains sources x y e f = stays (has cells x y) (is_in_any drai
 pub exchange_past : (cells now : Cells) (drains sources : List Rectangle) (i : ℕ) → IsLattice cells → now ≡ swept cells (exchanging cells drains sources) i
     → ((x y : ℕ) → x < 64 → y < 64 → exchanging cells drains sources (left_of cells i + x) (top_of cells i + y) ≡ has cells (left_of cells i + x) (top_of cells i + y)) → now ≡ swept cells (exchanging cells drains sources) (i + 1)
 exchange_past cells now drains sources i is so_far same = so_far ∙ sweep_past cells (exchanging cells drains sources) i is same
+
+-- a tile that is made of the cells that it has stays
+pub unchanged : (cells : Cells) (drains sources : List Rectangle) (i : ℕ) (old new : Tile) → ((x y : ℕ) → x < 64 → y < 64 → tile.has old x y ≡ has cells (left_of cells i + x) (top_of cells i + y))
+    → ((x y : ℕ) → x < 64 → y < 64 → tile.has new x y ≡ exchanging cells drains sources (left_of cells i + x) (top_of cells i + y)) → new.rows ≡ old.rows
+    → (x y : ℕ) → x < 64 → y < 64 → exchanging cells drains sources (left_of cells i + x) (top_of cells i + y) ≡ has cells (left_of cells i + x) (top_of cells i + y)
+unchanged cells drains sources i old new was becomes e x y p q =
+    let rows : tile.has new x y ≡ tile.has old x y = ap (λ (rows : List ℕ). let t : Tile = record { rows = rows } in tile.has t x y) e in
+    sym (becomes x y p q) ∙ (rows ∙ was x y p q)
 
 -- nothing is counted in a tile without cells
 blank : (cells : Cells) (f : ℕ → ℕ → Bool) (a b i : ℕ) → IsLattice cells → i < tile_count cells → ((x y : ℕ) → x < 64 → y < 64 → left_of cells i + x < cells.width → top_of cells i + y < cells.height → f (left_of cells i + x) (top_of cells i + y) ≡ false)

@@ -1,9 +1,9 @@
 //! The port action.
 
-ghost use Rattle.std.specs.Prelude.{◌≡◌, true, ℕ, ◌<◌, ◌≤◌, ◌/◌, ◌+◌, ◌||◌, ◌&&◌, not};
-ghost use Rattle.bit_tile.specs.Tile.{HasCells};
+ghost use Rattle.std.specs.Prelude.{◌≡◌, true, ℕ, ◌<◌, ◌≤◌, ◌/◌, ◌+◌, ◌||◌, ◌&&◌, ◌*◌, ◌%◌, ◌==◌, not, IsTrue, slice_index};
+ghost use Rattle.bit_tile.specs.Tile.{HasCells, count_cells};
 ghost use Rattle.bit_tile.specs.Tile as in_tile;
-ghost use Rattle.gas_terms.specs.Cells.{whole, without};
+ghost use Rattle.gas_terms.specs.Cells.{is_inside, whole, without};
 ghost use Rattle.gas_ledger.specs.PortLists.{ported_by};
 ghost use Rattle.gas_ledger.specs.Moves.{moved_by};
 ghost use Rattle.gas_ledger.specs.Counts.{AreCounts};
@@ -46,9 +46,12 @@ fn exchange(plane: &mut Plane, drains: &[Rect], sources: &[Rect]) -> Change
             continue;
         }
         let old = *plane.tile(i);
-        let new = exchanged_tile(old, drains, sources, i % across * 64, i / across * 64);
-        let more = sums(gained, only_in(new, &old).count_by_parity());
-        let less = sums(lost, only_in(old, &new).count_by_parity());
+        let new = exchanged_tile(&old, drains, sources, i % across * 64, i / across * 64);
+        if has_same_cells(&new, &old) {
+            continue;
+        }
+        let more = sums(gained, counts_of(&only_in(&new, &old)));
+        let less = sums(lost, counts_of(&only_in(&old, &new)));
         plane.set_tile(i, new);
         gained = more;
         lost = less;
@@ -88,33 +91,98 @@ fn tiles_along(start: u16, len: u16) -> (u32, u32)
     (first, end - first)
 }
 
-fn exchanged_tile(old: Tile, drains: &[Rect], sources: &[Rect], left: u32, top: u32) -> Tile
-    ensures { HasCells result (λ x y. (in_tile.has old x y && not (is_in_any drains.now (left + x) (top + y))) || is_in_any sources.now (left + x) (top + y)) }
+// what is left of a tile: where one rectangle has all of it, no further one is asked for
+fn exchanged_tile(old: &Tile, drains: &[Rect], sources: &[Rect], left: u32, top: u32) -> Tile
+    ensures { HasCells result (λ x y. (in_tile.has old.now x y && not (is_in_any drains.now (left + x) (top + y))) || is_in_any sources.now (left + x) (top + y)) }
 {
-    let mut new = old;
-    new.cut(&parts_of(drains, left, top));
-    new.join(&parts_of(sources, left, top));
+    if one_covers(sources, left, top) {
+        return whole_tile();
+    }
+    let mut new = drained(old, drains, left, top);
+    fill(&mut new, sources, left, top);
     new
 }
 
-// the cells that one tile has and another lacks
-fn only_in(tile: Tile, other: &Tile) -> Tile
-    ensures { HasCells result (λ x y. in_tile.has tile x y && not (in_tile.has other.now x y)) }
+// the tile without the cells of any rectangle
+fn drained(old: &Tile, areas: &[Rect], left: u32, top: u32) -> Tile
+    ensures { HasCells result (λ x y. in_tile.has old.now x y && not (is_in_any areas.now (left + x) (top + y))) }
 {
-    let mut only = tile;
+    if one_covers(areas, left, top) {
+        return Tile::empty();
+    }
+    let mut new = *old;
+    for area in areas {
+        if let Some(part) = part_of(*area, left, top) {
+            new.cut(&part);
+        }
+    }
+    new
+}
+
+// puts the cells of all rectangles into a tile
+fn fill(tile: &mut Tile, areas: &[Rect], left: u32, top: u32)
+    ensures { HasCells tile.new (λ x y. in_tile.has tile.old x y || is_in_any areas.now (left + x) (top + y)) }
+{
+    for area in areas {
+        if let Some(part) = part_of(*area, left, top) {
+            tile.join(&part);
+        }
+    }
+}
+
+fn whole_tile() -> Tile
+    ensures { HasCells result (λ _ _. true) }
+{
+    Tile {
+        rows: [u64::MAX; 64],
+    }
+}
+
+// whether one of the rectangles has all the 64 by 64 cells from the place (left, top) on
+fn one_covers(areas: &[Rect], left: u32, top: u32) -> bool
+    ensures { IsTrue result → (x y : ℕ) → x < 64 → y < 64 → is_in_any areas.now (left + x) (top + y) ≡ true }
+{
+    for area in areas {
+        if covers(*area, left, top) {
+            return true;
+        }
+    }
+    false
+}
+
+fn covers(area: Rect, left: u32, top: u32) -> bool
+    ensures { IsTrue result → (x y : ℕ) → x < 64 → y < 64 → is_inside area (left + x) (top + y) ≡ true }
+{
+    spans(area.x(), area.w(), left) && spans(area.y(), area.h(), top)
+}
+
+// whether the `len` places from `start` on have all 64 from `from` on
+fn spans(start: u16, len: u16, from: u32) -> bool
+    ensures { IsTrue result → (start ≤ from) × (from + 64 ≤ start + len) }
+{
+    let start = u32::from(start);
+    start <= from && 64 <= (start + u32::from(len)).saturating_sub(from)
+}
+
+fn has_same_cells(tile: &Tile, other: &Tile) -> bool
+    ensures { IsTrue result → tile.now.rows ≡ other.now.rows }
+{
+    tile.rows == other.rows
+}
+
+// the cells that one tile has and another lacks
+fn only_in(tile: &Tile, other: &Tile) -> Tile
+    ensures { HasCells result (λ x y. in_tile.has tile.now x y && not (in_tile.has other.now x y)) }
+{
+    let mut only = *tile;
     only.cut(other);
     only
 }
 
-// the cells of some rectangle among the 64 by 64 from the place (left, top) on
-fn parts_of(areas: &[Rect], left: u32, top: u32) -> Tile
-    ensures { HasCells result (λ x y. is_in_any areas.now (left + x) (top + y)) }
+// a tile's cells by class: quick where it has few
+fn counts_of(tile: &Tile) -> [u32; 4]
+    ensures counts { (i j : ℕ) → i < 2 → j < 2 → slice_index result (2 * j + i) ≡ count_cells (λ x y. in_tile.has tile.now x y && x % 2 == i && y % 2 == j) }
+    ensures bound { (k : ℕ) → slice_index result k ≤ 2048 }
 {
-    let mut parts = Tile::empty();
-    for area in areas {
-        if let Some(part) = part_of(*area, left, top) {
-            parts.join(&part);
-        }
-    }
-    parts
+    tile.count_both_by_parity(tile)
 }

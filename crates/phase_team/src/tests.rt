@@ -343,28 +343,42 @@ fn by_phases(rt: &impl Abort, run: Run<'_>, particles: &mut Plane, spare: &mut P
     }
 }
 
+// a run ends the same by strips of so many workers each and phase by phase
+fn strips_agree<R: Threads + Abort + AllocGlobal>(rt: &R, size: Size, n: u16, workers: &[u8]) {
+    let walls = seeded(rt, size, 77172645463325252, 7);
+    let obstacles = seeded(rt, size, 66172645463325252, 8);
+    let run = Run {
+        walls: &walls,
+        obstacles: &obstacles,
+        parity: (n / 32 % 2) as u8,
+        n,
+    };
+    let mut alone = seeded(rt, size, 88172645463325252, 1);
+    let mut spare = seeded(rt, size, 1, 1);
+    let by_one = by_phases(rt, run, &mut alone, &mut spare);
+    for workers in workers {
+        let mut now = seeded(rt, size, 88172645463325252, 1);
+        let took = by_strips(rt, *workers, run, &mut now, &mut spare);
+        assert!(rt; took == by_one && have_same_rows(&now, &alone));
+    }
+}
+
 #[test]
 fn runs_by_strips_are_the_phases(rt: HostRuntime) {
     for height in [64, 128] {
-        let walls = scattered_over(&rt, 2, 400, height);
-        let obstacles = scattered_over(&rt, 3, 700, height);
+        let size = Size::new(128, height).expect(&rt, "a size");
         for n in [1, 31, 32, 33, 63, 64, 65] {
-            let run = Run {
-                walls: &walls,
-                obstacles: &obstacles,
-                parity: (n / 32 % 2) as u8,
-                n,
-            };
-            let mut alone = scattered_over(&rt, 1, 3, height);
-            let mut spare = scattered_over(&rt, 4, 2, height);
-            let by_one = by_phases(&rt, run, &mut alone, &mut spare);
-            for workers in [1, 2, 3, 5] {
-                let mut now = scattered_over(&rt, 1, 3, height);
-                let took = by_strips(&rt, workers, run, &mut now, &mut spare);
-                assert!(rt; took == by_one && are_same(&now, &alone, 256, height));
-            }
+            strips_agree(&rt, size, n, &[1, 2, 5]);
         }
     }
+}
+
+#[test]
+fn long_and_high_runs_by_strips_are_the_phases(rt: HostRuntime) {
+    let low = Size::new(64, 128).expect(&rt, "a size");
+    strips_agree(&rt, low, 4096, &[2]);
+    let high = Size::new(64, 4096).expect(&rt, "a size");
+    strips_agree(&rt, high, 65, &[3, 16]);
 }
 
 // how many cells a plane has, and the sum of their places, row by row
@@ -424,8 +438,7 @@ fn make<S: Stepper>(
 }
 
 // rows of shifted and mixed words, of which so many are put together by `and`
-fn seeded(rt: &(impl Abort + AllocGlobal), seed: u64, words: u32) -> Plane {
-    let size = Size::new(2048, 512).expect(rt, "a size");
+fn seeded(rt: &(impl Abort + AllocGlobal), size: Size, seed: u64, words: u32) -> Plane {
     let mut plane = Plane::empty(rt.alloc(), size).expect(rt, "memory");
     let mut word = seed;
     for i in 0..size.tiles() {
@@ -452,11 +465,12 @@ fn have_same_rows(some: &Plane, others: &Plane) -> bool {
 
 #[test]
 fn team_runs_as_one_thread(rt: HostRuntime) {
-    let walls = seeded(&rt, 77172645463325252, 7);
-    let obstacles = seeded(&rt, 66172645463325252, 10);
-    let mut now = seeded(&rt, 88172645463325252, 1);
-    let mut alone = seeded(&rt, 88172645463325252, 1);
-    let mut spare = seeded(&rt, 1, 1);
+    let size = Size::new(2048, 512).expect(&rt, "a size");
+    let walls = seeded(&rt, size, 77172645463325252, 7);
+    let obstacles = seeded(&rt, size, 66172645463325252, 10);
+    let mut now = seeded(&rt, size, 88172645463325252, 1);
+    let mut alone = seeded(&rt, size, 88172645463325252, 1);
+    let mut spare = seeded(&rt, size, 1, 1);
     let mut team = team(&rt, rt, rt.alloc(), 4, NoGate);
     // the strips of the first run serve the second, of which the second stretch is of one phase
     for (n, parity) in [(64, 0), (65, 1)] {

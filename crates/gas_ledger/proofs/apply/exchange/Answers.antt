@@ -6,7 +6,7 @@ use Rattle.gas_plane.proofs.Sweeps.{sweep_within, sweep_next, swept, left_of, to
 use Rattle.gas_plane.proofs.PlaneCounts.{counts_next, class_place, few_tiles, tile_counted, sum_past}
 use Rattle.gas_plane.specs.Planes.{IsLattice}
 use Rattle.gas_ledger.specs.Exchanges.{exchanged}
-use Rattle.gas_ledger.proofs.Exchanging.{exchanging, made, came, went, came_count, went_count, exchange_makes, exchange_was, exchange_starts, exchange_ends, all_counted, unmet, unmet_stays, exchange_past, nothing_came, nothing_went, idle_exchange, idle_counts}
+use Rattle.gas_ledger.proofs.Exchanging.{exchanging, made, came, went, came_count, went_count, exchange_makes, exchange_was, exchange_starts, exchange_ends, all_counted, unmet, unmet_stays, exchange_past, unchanged, nothing_came, nothing_went, idle_exchange, idle_counts}
 use Rattle.gas_ledger.proofs.apply.exchange.Goals as goal
 
 all_tiles : (cells : Cells) (size : Extent) (n : ℕ) → n ≡ size.width / 64 * (size.height / 64) → size ≡ record { width = cells.width; height = cells.height } → n ≡ tile_count cells
@@ -41,12 +41,12 @@ few cells i n is e h = few_tiles cells i is (omega arith)
 pub sums-more-requires : goal.sums-more-requires
 sums-more-requires c = λ k h.
     let all = all_tiles c.args.plane.now c.size-2.result c.tiles-end.result c.tiles-end.ensures.tiles c.size-2.ensures.extent in
-    omega (arith, c.loop-i.invariant.few_gained k h, c.count_by_parity.ensures.bound k, few c.args.plane.now c.loop-i.i c.tiles-end.result c.size.ensures.lattice all c.loop-i-test.true)
+    omega (arith, c.loop-i.invariant.few_gained k h, c.counts_of.ensures.bound k, few c.args.plane.now c.loop-i.i c.tiles-end.result c.size.ensures.lattice all c.loop-i-test.true)
 
 pub sums-less-requires : goal.sums-less-requires
 sums-less-requires c = λ k h.
     let all = all_tiles c.args.plane.now c.size-2.result c.tiles-end.result c.tiles-end.ensures.tiles c.size-2.ensures.extent in
-    omega (arith, c.loop-i.invariant.few_lost k h, c.count_by_parity-in-loop-i.ensures.bound k, few c.args.plane.now c.loop-i.i c.tiles-end.result c.size.ensures.lattice all c.loop-i-test.true)
+    omega (arith, c.loop-i.invariant.few_lost k h, c.counts_of-in-loop-i.ensures.bound k, few c.args.plane.now c.loop-i.i c.tiles-end.result c.size.ensures.lattice all c.loop-i-test.true)
 
 pub loop-i-preserved : goal.loop-i-preserved
 loop-i-preserved c =
@@ -65,15 +65,15 @@ loop-i-preserved c =
     record {
       cells = sweep_next cells c.loop-i.plane c.set_tile.new.self (exchanging cells drains sources) i old new is within c.loop-i.invariant.cells c.tile.ensures c.set_tile.ensures makes;
       gained = λ a b p q.
-          counts_next (tile_counted (came cells (exchanging cells drains sources)) (whole cells) a b) i (get_or c.loop-i.gained (2 * b + a) 0) (get_or c.count_by_parity.result (2 * b + a) 0) (get_or c.sums-more.result (2 * b + a) 0) (c.loop-i.invariant.gained a b p q)
-          (c.count_by_parity.ensures.counts a b p q ∙ came_count cells (exchanging cells drains sources) a b i old new c.only_in.result is within was (λ x y r s. makes x y r s (was x y r s)) c.only_in.ensures)
+          counts_next (tile_counted (came cells (exchanging cells drains sources)) (whole cells) a b) i (get_or c.loop-i.gained (2 * b + a) 0) (get_or c.counts_of.result (2 * b + a) 0) (get_or c.sums-more.result (2 * b + a) 0) (c.loop-i.invariant.gained a b p q)
+          (c.counts_of.ensures.counts a b p q ∙ came_count cells (exchanging cells drains sources) a b i old new c.only_in.result is within was (λ x y r s. makes x y r s (was x y r s)) c.only_in.ensures)
           (c.sums-more.ensures (2 * b + a) (class_place a b p q));
       lost = λ a b p q.
-          counts_next (tile_counted (went cells (exchanging cells drains sources)) (whole cells) a b) i (get_or c.loop-i.lost (2 * b + a) 0) (get_or c.count_by_parity-in-loop-i.result (2 * b + a) 0) (get_or c.sums-less.result (2 * b + a) 0) (c.loop-i.invariant.lost a b p q)
-          (c.count_by_parity-in-loop-i.ensures.counts a b p q ∙ went_count cells (exchanging cells drains sources) a b i old new c.only_in-in-loop-i.result is within was (λ x y r s. makes x y r s (was x y r s)) c.only_in-in-loop-i.ensures)
+          counts_next (tile_counted (went cells (exchanging cells drains sources)) (whole cells) a b) i (get_or c.loop-i.lost (2 * b + a) 0) (get_or c.counts_of-in-loop-i.result (2 * b + a) 0) (get_or c.sums-less.result (2 * b + a) 0) (c.loop-i.invariant.lost a b p q)
+          (c.counts_of-in-loop-i.ensures.counts a b p q ∙ went_count cells (exchanging cells drains sources) a b i old new c.only_in-in-loop-i.result is within was (λ x y r s. makes x y r s (was x y r s)) c.only_in-in-loop-i.ensures)
           (c.sums-less.ensures (2 * b + a) (class_place a b p q));
-      few_gained = λ k h. omega (arith, c.sums-more.ensures k h, c.loop-i.invariant.few_gained k h, c.count_by_parity.ensures.bound k);
-      few_lost = λ k h. omega (arith, c.sums-less.ensures k h, c.loop-i.invariant.few_lost k h, c.count_by_parity-in-loop-i.ensures.bound k);
+      few_gained = λ k h. omega (arith, c.sums-more.ensures k h, c.loop-i.invariant.few_gained k h, c.counts_of.ensures.bound k);
+      few_lost = λ k h. omega (arith, c.sums-less.ensures k h, c.loop-i.invariant.few_lost k h, c.counts_of-in-loop-i.ensures.bound k);
     }
 
 pub loop-i-preserved-then-not-get : goal.loop-i-preserved-then-not-get
@@ -92,6 +92,33 @@ loop-i-preserved-then-not-get c =
     unmet_stays cells drains sources (left_of cells i + x) (top_of cells i + y)
     (unmet cells drains c.tiles_met-met.result i (c.width.result / 64) is across within c.tiles_met-met.ensures.drains missed x y p q)
     (unmet cells sources c.tiles_met-met.result i (c.width.result / 64) is across within c.tiles_met-met.ensures.sources missed x y p q) in
+    record {
+      cells = exchange_past cells c.loop-i.plane drains sources i is c.loop-i.invariant.cells same;
+      gained = λ a b p q.
+          sum_past (tile_counted (came cells (exchanging cells drains sources)) (whole cells) a b) i (get_or c.loop-i.gained (2 * b + a) 0) (c.loop-i.invariant.gained a b p q)
+          (nothing_came cells (exchanging cells drains sources) a b i is within same);
+      lost = λ a b p q.
+          sum_past (tile_counted (went cells (exchanging cells drains sources)) (whole cells) a b) i (get_or c.loop-i.lost (2 * b + a) 0) (c.loop-i.invariant.lost a b p q)
+          (nothing_went cells (exchanging cells drains sources) a b i is within same);
+      few_gained = λ k h. omega (arith, c.loop-i.invariant.few_gained k h);
+      few_lost = λ k h. omega (arith, c.loop-i.invariant.few_lost k h);
+    }
+
+pub loop-i-preserved-then-has_same_cells : goal.loop-i-preserved-then-has_same_cells
+loop-i-preserved-then-has_same_cells c =
+    let cells = c.args.plane.now in
+    let drains = c.args.drains.now in
+    let sources = c.args.sources.now in
+    let i = c.loop-i.i in
+    let is = c.size.ensures.lattice in
+    let all = all_tiles cells c.size-2.result c.tiles-end.result c.tiles-end.ensures.tiles c.size-2.ensures.extent in
+    let within : c.loop-i.i < tile_count c.args.plane.now = omega (arith, all) in
+    let across = row_of_tiles cells c.size.result c.width.result c.width.ensures c.size.ensures.extent in
+    let old = c.tile.result.now in
+    let new = c.exchanged_tile-new.result in
+    let was = exchange_was cells c.loop-i.plane drains sources i old is within c.loop-i.invariant.cells c.tile.ensures in
+    let makes = exchange_makes cells drains sources i (c.width.result / 64) old new across c.exchanged_tile-new.ensures in
+    let same = unchanged cells drains sources i old new was (λ x y p q. makes x y p q (was x y p q)) (c.has_same_cells.ensures c.if-has_same_cells.true) in
     record {
       cells = exchange_past cells c.loop-i.plane drains sources i is c.loop-i.invariant.cells same;
       gained = λ a b p q.
