@@ -2,3 +2,4 @@ pub mod Loading
 pub mod Plans
 pub mod Running
 pub mod Serving
+pub mod Statuses

@@ -4,8 +4,10 @@ ghost use Rattle.std.specs.Prelude.{◌≡◌, ◌≤◌, IfOk};
 ghost use Rattle.gas_terms.specs.Laboratory.{opening};
 ghost use Rattle.gaslab.specs.Plans.{IsInRange};
 ghost use Rattle.gaslab.specs.Running.{Runs, status_of, start_of};
+ghost use Rattle.gaslab.specs.Statuses.{number_of};
 
 use crate::setup::Setup;
+use crate::status::Status;
 use gas_lab::Lab;
 use gas_ledger::Gas;
 use gas_snapshot::Shelf;
@@ -18,14 +20,14 @@ use std::io::{Read, Write};
 use std::thread::Threads;
 
 /// What the program exits with after a session that ended so.
-fn status_of(end: SessionEnd) -> u8
-    ensures { result ≡ status_of end }
+fn status_of(end: SessionEnd) -> Status
+    ensures { number_of result ≡ status_of end }
 {
     match end {
-        SessionEnd::Quit | SessionEnd::InputEnd => 0,
-        SessionEnd::ReadFault | SessionEnd::WriteFault | SessionEnd::TooManyReads => 1,
-        SessionEnd::Memory => 4,
-        SessionEnd::BadLine => 5,
+        SessionEnd::Quit | SessionEnd::InputEnd => Status::Done,
+        SessionEnd::ReadFault | SessionEnd::WriteFault | SessionEnd::TooManyReads => Status::Failed,
+        SessionEnd::Memory => Status::NoMemory,
+        SessionEnd::BadLine => Status::BadLine,
     }
 }
 
@@ -65,7 +67,7 @@ pub fn run_on<T: Threads + Drop, R: Read, W: Write, K: Shelf>(
 {
     let team = Team::new(rt, alloc, setup.workers, NoGate);
     let Ok(mut lab) = opened(alloc, setup, start, team) else {
-        return 4;
+        return Status::NoMemory.number();
     };
-    status_of(serve_alone(alloc, reader, writer, &mut lab, 0, shelf))
+    status_of(serve_alone(alloc, reader, writer, &mut lab, 0, shelf)).number()
 }

@@ -7,6 +7,7 @@ ghost use Rattle.gaslab.specs.Serving.{Serves, served_line};
 
 use crate::run::opened;
 use crate::setup::Setup;
+use crate::status::Status;
 use gas_hall::{Counts, Lobby, serve_lab};
 use gas_ledger::Gas;
 use gas_snapshot::Shelf;
@@ -68,11 +69,12 @@ pub fn serve_on<T: Threads + Wait + Sync, L: Lobby, K: Shelf + Drop + Send, W: W
 {
     let team = Team::new(rt, alloc, setup.workers, NoGate);
     let Ok(lab) = opened(alloc, setup, start, team) else {
-        return 4;
+        return Status::NoMemory.number();
     };
-    match serve_lab(rt, alloc, lab, lobby, shelves) {
-        Some(counts) if tell(writer, counts) => 0,
-        Some(_) => 1,
-        None => 4,
-    }
+    let status = match serve_lab(rt, alloc, lab, lobby, shelves) {
+        Some(counts) if tell(writer, counts) => Status::Done,
+        Some(_) => Status::Failed,
+        None => Status::NoMemory,
+    };
+    status.number()
 }

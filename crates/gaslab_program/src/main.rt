@@ -7,7 +7,9 @@ ghost use Rattle.gaslab.specs.Plans.{IsInRange, HasSessions};
 use gas_hall::TcpLobby;
 use gas_ledger::Gas;
 use gas_snapshot::{FileShelf, MaybeShelf, NoShelf, Shelf, SnapFault};
-use gaslab::{LoadFault, Plan, PlanFault, Service, Setup, load_from, plan, run_on, serve_on};
+use gaslab::{
+    LoadFault, Plan, PlanFault, Service, Setup, Status, load_from, plan, run_on, serve_on,
+};
 use std::alloc::AllocError;
 use std::env::Env;
 use std::net::{Net, SocketAddr, TcpListener, TcpStream};
@@ -16,14 +18,6 @@ use std::rt::Files;
 use std::sync::Wait;
 use std::thread::Threads;
 use std::{env, fs, io};
-
-const FAILED: u8 = 1;
-
-const REFUSED_LINE: u8 = 2;
-
-const NOT_LOADED: u8 = 3;
-
-const NO_MEMORY: u8 = 4;
 
 // the gas of the snapshot in the file
 fn load(rt: &(impl Files + AllocGlobal), path: &str) -> Result<Gas, LoadFault> {
@@ -37,17 +31,17 @@ fn load(rt: &(impl Files + AllocGlobal), path: &str) -> Result<Gas, LoadFault> {
 fn start_of(
     rt: &(impl Eprint + Files + AllocGlobal),
     load_path: Option<&str>,
-) -> Result<Option<Gas>, u8> {
+) -> Result<Option<Gas>, Status> {
     let Some(path) = load_path else {
         return Ok(None);
     };
     match load(rt, path) {
         Ok(gas) => Ok(Some(gas)),
-        Err(LoadFault::Snap(SnapFault::Memory)) => Err(NO_MEMORY),
+        Err(LoadFault::Snap(SnapFault::Memory)) => Err(Status::NoMemory),
         Err(fault) => {
             // the status tells of the fault, whether or not this can be written
             let _ = eprintln!(rt; "load: {fault}");
-            Err(NOT_LOADED)
+            Err(Status::NotLoaded)
         }
     }
 }
@@ -89,7 +83,7 @@ fn run(
     requires { IsInRange setup }
 {
     let Ok(mut shelf) = shelf_of(rt, save, 0) else {
-        return NO_MEMORY;
+        return Status::NoMemory.number();
     };
     run_on(
         rt,
@@ -131,7 +125,7 @@ fn serve<K: Shelf + Drop + Send>(
     requires shelves { (0 < vec_len shelves) × (vec_len shelves ≤ 64) }
 {
     let Ok(mut lobby) = listen(rt, address) else {
-        return FAILED;
+        return Status::Failed.number();
     };
     serve_on(
         rt,
@@ -145,25 +139,25 @@ fn serve<K: Shelf + Drop + Send>(
 }
 
 // what the words ask for, or else what the program exits with
-fn plan_of<'a>(rt: &(impl Eprint + AllocGlobal), words: &'a [String]) -> Result<Plan<'a>, u8>
+fn plan_of<'a>(rt: &(impl Eprint + AllocGlobal), words: &'a [String]) -> Result<Plan<'a>, Status>
     ensures { IfOk result (λ plan. IsInRange plan.setup × HasSessions plan.service) }
 {
     match plan(rt.alloc(), words) {
         Ok(plan) => Ok(plan),
-        Err(PlanFault::Memory) => Err(NO_MEMORY),
+        Err(PlanFault::Memory) => Err(Status::NoMemory),
         Err(PlanFault::Line(text)) => {
             let _ = eprint!(rt; "{text}");
-            Err(REFUSED_LINE)
+            Err(Status::NoPlan)
         }
     }
 }
 
 // the words of the command line, or else what the program exits with
-fn words_of(rt: &(impl Env + AllocGlobal)) -> Result<Vec<String>, u8> {
+fn words_of(rt: &(impl Env + AllocGlobal)) -> Result<Vec<String>, Status> {
     match env::args(rt) {
-        Ok(words) => words.collect(rt.alloc()).map_err(|_| NO_MEMORY),
-        Err(fault) if fault.kind() == io::ErrorKind::OutOfMemory => Err(NO_MEMORY),
-        Err(_) => Err(REFUSED_LINE),
+        Ok(words) => words.collect(rt.alloc()).map_err(|_| Status::NoMemory),
+        Err(fault) if fault.kind() == io::ErrorKind::OutOfMemory => Err(Status::NoMemory),
+        Err(_) => Err(Status::NoPlan),
     }
 }
 
@@ -171,7 +165,7 @@ fn words_of(rt: &(impl Env + AllocGlobal)) -> Result<Vec<String>, u8> {
 fn prepare<'a>(
     rt: &(impl Eprint + Files + AllocGlobal),
     words: &'a [String],
-) -> Result<(Plan<'a>, Option<Gas>), u8>
+) -> Result<(Plan<'a>, Option<Gas>), Status>
     ensures { IfOk result (λ found. IsInRange found.0.setup × HasSessions found.0.service) }
 {
     let plan = match plan_of(rt, words) {
@@ -187,17 +181,17 @@ fn prepare<'a>(
 fn main(rt: HostRuntime) -> ExitCode {
     let words = match words_of(&rt) {
         Ok(words) => words,
-        Err(status) => return ExitCode::from(status),
+        Err(status) => return ExitCode::from(status.number()),
     };
     let (plan, start) = match prepare(&rt, words.as_slice()) {
         Ok(found) => found,
-        Err(status) => return ExitCode::from(status),
+        Err(status) => return ExitCode::from(status.number()),
     };
     let status = match plan.service {
         Service::Run => run(&rt, plan.setup, start, plan.save),
         Service::Serve { address, sessions } => match shelves_of(&rt, plan.save, sessions) {
             Ok(shelves) => serve(&rt, plan.setup, start, address, shelves),
-            Err(_) => NO_MEMORY,
+            Err(_) => Status::NoMemory.number(),
         },
     };
     ExitCode::from(status)

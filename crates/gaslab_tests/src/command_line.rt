@@ -1,6 +1,6 @@
 //! Command lines: what they are read as, and the texts that teach.
 
-use gaslab::{Plan, PlanFault, Service, plan};
+use gaslab::{Plan, PlanFault, Service, Status, plan};
 use std::net::{IpAddr, Ipv4Addr, SocketAddr};
 use std::process::Abort;
 use std::thread::Threads;
@@ -371,4 +371,19 @@ fn help_teaches(rt: HostRuntime) {
     );
     let nothing: [&str; 0] = [];
     teaches(&rt, &nothing, &["gaslab"]);
+}
+
+#[test]
+fn numbers_of_statuses(rt: HostRuntime) {
+    let statuses = [
+        (Status::Done, 0),
+        (Status::Failed, 1),
+        (Status::NoPlan, 2),
+        (Status::NotLoaded, 3),
+        (Status::NoMemory, 4),
+        (Status::BadLine, 5),
+    ];
+    for (status, number) in statuses {
+        assert_eq!(rt; status.number(), number);
+    }
 }

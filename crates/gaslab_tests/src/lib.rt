@@ -8,6 +8,8 @@ mod examples;
 #[cfg(test)]
 mod failing;
 #[cfg(test)]
+mod files;
+#[cfg(test)]
 mod lines;
 #[cfg(test)]
 mod loads;

@@ -1,9 +1,10 @@
 //! Servers over sessions in memory.
 
+use crate::files::{Files, file_holds, file_of, new_folder};
 use crate::script::{LARGE, Room, SMALL};
 use crate::snapshots::snapshot;
 use gas_ledger::Gas;
-use gas_snapshot::{FileShelf, MaybeShelf, NoShelf, Shelf, decode};
+use gas_snapshot::{MaybeShelf, NoShelf, Shelf, decode};
 use gas_terms::Size;
 use gaslab::{Setup, serve_on};
 use std::process::Abort;
@@ -13,10 +14,7 @@ use std::thread::Threads;
 use std::time::Clock;
 use std::{fs, process};
 use test_types::pages::Page;
-use test_types::stage::{Speakers, Speech, Stage, Text};
-
-// A shelf that is a file, or none: all tests of servers have shelves of this type.
-type Files<R> = MaybeShelf<FileShelf<R>>;
+use test_types::stage::{Speakers, Speech, Stage, Text, interleaved};
 
 // What a server begins with.
 struct Opening<K> {
@@ -97,24 +95,8 @@ fn serve_on_a_lobby(rt: HostRuntime) {
 fn served_sessions_take_turns(rt: HostRuntime) {
     let stage = Stage::new();
     let mut said = Page::new();
-    let first = Speech {
-        second: Some(Text {
-            after: Some(1),
-            text: b"put 2 0 1 1\n",
-        }),
-        told: b"OK 0\n",
-        ..Speech::of(b"put 0 0 1 1\n")
-    };
-    let second = Speech {
-        first: Text {
-            after: Some(0),
-            text: b"put 4 0 1 1\n",
-        },
-        told: b"OK 1\n",
-        ..Speech::of(b"")
-    };
-    let speeches = [Some(first), Some(second)];
-    let status = status_of(&rt, empty(&rt, SMALL, 2), &stage, &speeches, &mut said);
+    let opening = empty(&rt, SMALL, 2);
+    let status = status_of(&rt, opening, &stage, &interleaved(), &mut said);
     assert_eq!(rt; status, 0);
     assert_eq!(rt; said.text(), b"SERVED 2 0 3\n".as_slice());
     assert!(rt; !stage.met_limit());
@@ -190,45 +172,20 @@ fn server_from_a_snapshot(rt: HostRuntime) {
     assert_eq!(rt; said.text(), b"SERVED 1 0 0\n".as_slice());
 }
 
-// a shelf that is a file of this folder
-fn file_shelf<R: Abort + HasFiles + AllocGlobal + Copy + Drop>(
+// Shelves of two seats, each a file of this folder with the seat's number.
+fn two_files<R: Abort + HasFiles + AllocGlobal + Copy + Drop>(
     rt: &R,
     folder: &str,
-    name: &str,
-    seat: u16,
-) -> Files<R> {
-    let path = format!(in rt.alloc(); "{folder}/{name}").expect(rt, "memory");
-    MaybeShelf::Shelf(FileShelf::new(rt.alloc(), *rt, path.as_str(), seat).expect(rt, "memory"))
-}
-
-fn file_holds(rt: &(impl Abort + AllocGlobal + HasFiles), folder: &str, name: &str, bytes: &[u8]) {
-    let path = format!(in rt.alloc(); "{folder}/{name}").expect(rt, "memory");
-    let read = fs::read(rt, path.as_str()).expect(rt, "a file");
-    assert!(rt; read.as_slice() == bytes);
-}
-
-/// Seat 0 saves the empty gas, and then puts a particle, which seat 1 saves.
-#[test]
-fn each_session_saves_in_its_own_file(rt: HostRuntime) {
-    let id = process::id(rt.process());
-    let folder = format!(in rt.alloc(); "/tmp/gaslab_served_{id}").expect(&rt, "memory");
-    fs::create_dir_all(&rt, folder.as_str()).expect(&rt, "a new folder");
+) -> Vec<Files<R>> {
     let mut shelves = Vec::new(rt.alloc());
-    assert!(rt;
-        shelves
-            .push(file_shelf(&rt, folder.as_str(), "first", 0))
-            .is_ok()
-    );
-    assert!(rt;
-        shelves
-            .push(file_shelf(&rt, folder.as_str(), "second", 1))
-            .is_ok()
-    );
-    let opening = Opening {
-        room: SMALL,
-        start: None,
-        shelves,
-    };
+    for seat in 0..2 {
+        shelves.push(file_of(rt, folder, seat)).expect(rt, "memory");
+    }
+    shelves
+}
+
+// Seat 0 saves the empty gas, and then puts a particle, which seat 1 saves.
+fn saves_of_two() -> [Option<Speech<'static>>; 2] {
     let first = Speech {
         told: b"SAVED 0 1558\nOK 0\n",
         ..Speech::of(b"save\nput 0 0 1 1\n")
@@ -240,25 +197,26 @@ fn each_session_saves_in_its_own_file(rt: HostRuntime) {
         },
         ..Speech::of(b"")
     };
+    [Some(first), Some(second)]
+}
+
+#[test]
+fn each_session_saves_in_its_own_file(rt: HostRuntime) {
+    let folder = new_folder(&rt, "served", process::id(rt.process()));
+    let opening = Opening {
+        room: SMALL,
+        start: None,
+        shelves: two_files(&rt, folder.as_str()),
+    };
     let stage = Stage::new();
-    let speeches = [Some(first), Some(second)];
-    assert_eq!(rt;
-        status_of(&rt, opening, &stage, &speeches, &mut Page::new()),
-        0
-    );
+    let mut said = Page::new();
+    let status = status_of(&rt, opening, &stage, &saves_of_two(), &mut said);
+    assert_eq!(rt; status, 0);
     assert!(rt; stage.shows(1, b"SAVED 1 1558\nBYE\n"));
-    file_holds(
-        &rt,
-        folder.as_str(),
-        "first",
-        snapshot(&rt, 22, 0).as_slice(),
-    );
-    file_holds(
-        &rt,
-        folder.as_str(),
-        "second",
-        snapshot(&rt, 22, 0x80).as_slice(),
-    );
+    let empty = snapshot(&rt, 22, 0);
+    file_holds(&rt, folder.as_str(), 0, empty.as_slice());
+    let with_a_particle = snapshot(&rt, 22, 0x80);
+    file_holds(&rt, folder.as_str(), 1, with_a_particle.as_slice());
     fs::remove_dir_all(&rt, folder.as_str()).expect(&rt, "no folder");
 }
 

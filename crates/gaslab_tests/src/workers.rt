@@ -1,12 +1,16 @@
 //! A gas that looks random, stepped by any number of workers.
 
-use crate::script::{ALL, Room, status_on};
+use crate::script::{ALL, Room, gives_on, status_on};
 use std::io::Write;
 use std::process::Abort;
+use std::rt::Files;
+use std::sync::atomic::{AtomicBool, Ordering};
 use std::thread::Threads;
+use std::{fs, thread};
 use test_types::faults::{FaultAt, Sink, Source, Store};
 
-fn next(state: &mut u64) -> u64 {
+/// The next of a sequence of words that look random.
+pub fn next(state: &mut u64) -> u64 {
     let mut bits = *state;
     bits ^= bits << 13;
     bits ^= bits >> 7;
@@ -63,4 +67,65 @@ fn random_gas_by_any_number_of_workers(rt: HostRuntime) {
         let by_more = saved_by(&rt, script.as_slice(), workers);
         assert_eq!(rt; by_more.as_slice(), by_one.as_slice());
     }
+}
+
+// how many threads this process has, as the system tells
+fn threads_now(rt: &(impl Files + AllocGlobal)) -> u32 {
+    let Ok(told) = fs::read_to_string(rt, "/proc/self/status") else {
+        return 0;
+    };
+    for line in told.lines() {
+        if let Some(count) = line.strip_prefix("Threads:") {
+            return count.trim().parse().unwrap_or(0);
+        }
+    }
+    0
+}
+
+// the most threads that were there at once, looked at again and again until the flag is set
+fn most_until(rt: &(impl Files + AllocGlobal), is_over: &AtomicBool) -> u32 {
+    let mut most = 0;
+    for _ in 0..1_000_000u32 {
+        most = most.max(threads_now(rt));
+        if is_over.load(Ordering::SeqCst) {
+            return most;
+        }
+    }
+    most
+}
+
+// The most threads at once while this many workers make 256 steps: that which looks is one of them.
+fn most_threads<R: Abort + AllocGlobal + Files + Threads + Sync>(rt: &R, workers: u8) -> u32 {
+    let room = Room {
+        width: 1024,
+        height: 1024,
+        workers,
+        cap: 1,
+    };
+    let is_over = AtomicBool::new(false);
+    let (most, ()) = thread::join(
+        rt,
+        || most_until(rt, &is_over),
+        || {
+            gives_on(rt, room, "step 256", "OK 0");
+            is_over.store(true, Ordering::SeqCst);
+        },
+    );
+    most
+}
+
+// Whether a thread for each worker was seen, in one of some runs: a run may be over before anybody looks.
+fn are_threads<R: Abort + AllocGlobal + Files + Threads + Sync>(rt: &R, workers: u8) -> bool {
+    for _ in 0..10u32 {
+        if most_threads(rt, workers) == workers as u32 + 1 {
+            return true;
+        }
+    }
+    false
+}
+
+#[test]
+fn workers_are_threads(rt: HostRuntime) {
+    assert_eq!(rt; most_threads(&rt, 1), 2);
+    assert!(rt; are_threads(&rt, 2));
 }

@@ -7,7 +7,7 @@ use std::process::Abort;
 use std::sync::Wait;
 use std::thread::Threads;
 use std::time::Clock;
-use test_types::stage::{Speakers, Speech, Stage, Text};
+use test_types::stage::{Speakers, Speech, Stage, Text, interleaved};
 
 /// What became of the seats: how many were served and how many not, and the entries of all; the entries of each, and how
 /// often each saved.
@@ -68,23 +68,7 @@ fn without_saves(counts: (u32, u32, u32), of_seats: [u32; 3]) -> Outcome {
 #[test]
 fn turn_sessions_interleave(rt: HostRuntime) {
     let stage = Stage::new();
-    let first = Speech {
-        second: Some(Text {
-            after: Some(1),
-            text: b"put 2 0 1 1\n",
-        }),
-        told: b"OK 0\n",
-        ..Speech::of(b"put 0 0 1 1\n")
-    };
-    let second = Speech {
-        first: Text {
-            after: Some(0),
-            text: b"put 4 0 1 1\n",
-        },
-        told: b"OK 1\n",
-        ..Speech::of(b"")
-    };
-    let found = serve_speeches(&rt, &stage, &[Some(first), Some(second)]);
+    let found = serve_speeches(&rt, &stage, &interleaved());
     assert!(rt; found == without_saves((2, 0, 3), [2, 1, 0]));
     assert!(rt; !stage.met_limit());
     assert!(rt; stage.shows(0, b"OK 0\nOK 2\n"));

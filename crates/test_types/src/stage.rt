@@ -95,6 +95,27 @@ impl<'a> Speech<'a> {
     }
 }
 
+/// Two sessions of which the second puts a particle between the two puts of the first.
+pub fn interleaved() -> [Option<Speech<'static>>; 2] {
+    let first = Speech {
+        second: Some(Text {
+            after: Some(1),
+            text: b"put 2 0 1 1\n",
+        }),
+        told: b"OK 0\n",
+        ..Speech::of(b"put 0 0 1 1\n")
+    };
+    let second = Speech {
+        first: Text {
+            after: Some(0),
+            text: b"put 4 0 1 1\n",
+        },
+        told: b"OK 1\n",
+        ..Speech::of(b"")
+    };
+    [Some(first), Some(second)]
+}
+
 /// A session that says its speech.
 #[derive(Drop)]
 pub struct Speaker<'a, C: Clock> {
