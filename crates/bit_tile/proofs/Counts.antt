@@ -1,14 +1,10 @@
-use Rattle.std.proofs.Common.{◌≡◌, ℕ, ◌+◌, ◌*◌, ◌%◌, ◌^◌, ◌<◌, ◌==◌, Bool, true, false, not, ◌&&◌, if◌then◌else◌, zero, suc, List, [], ◌∷◌, get_or, refl, bit_or, sym, ◌∙◌, ap, arith, inl, inr}
-use Rattle.std.specs.Prelude.{bit_and}
+use Rattle.std.proofs.Common.{◌≡◌, ℕ, ◌+◌, ◌*◌, ◌%◌, ◌/◌, ◌^◌, ◌<◌, ◌==◌, Bool, true, false, not, ◌&&◌, if◌then◌else◌, zero, suc, List, [], ◌∷◌, get_or, refl, ◌∙◌, ap, arith, inl, inr}
 use Rattle.std.specs.Int.RustNames.{count_ones}
-use Rattle.std.specs.Int.Count.{ones-ones}
-use Rattle.std.specs.Int.Bits.{and_zero_l, and_zero_r}
-use Rattle.std.proofs.lemmas.Nat.{and_le_l, le_or_l, le_or_r}
 use Rattle.std.proofs.lemmas.Bool.{cases_eq, eq-eqb, ne_eqb}
 use Rattle.bit_tile.specs.Bit.{bit}
 use Rattle.bit_tile.specs.Sums.{sum_below, count_below}
-use Rattle.bit_tile.proofs.Bits.{bit-and, bits_cases}
-use Rattle.bit_tile.proofs.Sums.{sum_below-zero, sum_below-suc, sum_below-more, sum_below-same, sum_below-bound, count_below-zero, count_below-suc, count_below-same, count_below-none, ones_are_bits}
+use Rattle.bit_tile.proofs.Bits.{bit-shr, bits_cases}
+use Rattle.bit_tile.proofs.Sums.{sum_below-zero, sum_below-suc, sum_below-more, sum_below-same, sum_below-bound, count_below-zero, count_below-suc, count_below-same, count_below-none, count_below-more, ones_are_bits}
 
 pub cells_with_row : (rows : List ℕ) (y n : ℕ) → n ≡ sum_below y (λ y. count_below 64 (bit (get_or rows y 0))) → get_or rows y 0 < 2 ^ 64 → n + count_ones (get_or rows y 0) ≡ sum_below (y + 1) (λ y. count_below 64 (bit (get_or rows y 0)))
 cells_with_row rows y n so_far fits =
@@ -23,22 +19,63 @@ and_false : (b : Bool) → (b && false) ≡ false
 and_false true = refl
 and_false false = refl
 
--- the cells of row y in these columns, if the row has the parity
-abbrev pub row_among : (ℕ → ℕ) → ℕ → ℕ → ℕ → ℕ
-row_among row columns parity y = count_below 64 (λ x. bit (row y) x && bit columns x && y % 2 == parity)
+abbrev one : Bool → ℕ
+one b = if b then 1 else 0
 
-row_of_parity : (row : ℕ → ℕ) (columns parity y : ℕ) → y % 2 ≡ parity → row y < 2 ^ 64 → row_among row columns parity y ≡ count_ones (bit_and (row y) columns)
-row_of_parity row columns parity y same fits =
-    count_below-same 64 _ (bit (bit_and (row y) columns))
-    (λ x _.
-    rw (eq-eqb (y % 2) parity same)
-    (and_true (bit (row y) x && bit columns x) ∙ sym (bit-and (row y) columns x)))
-    ∙ sym (ones_are_bits (bit_and (row y) columns) 64 (omega (arith, and_le_l (row y) columns)))
+-- columns two by two
+pairs : (n : ℕ) (p q r : ℕ → Bool) → ((j : ℕ) → j < n → one (p (2 * j)) + one (p (2 * j + 1)) ≡ (one (q (2 * j)) + one (q (2 * j + 1))) + (one (r (2 * j)) + one (r (2 * j + 1)))) → count_below (2 * n) p ≡ count_below (2 * n) q + count_below (2 * n) r
+pairs zero p q r each = omega (arith, count_below-zero p, count_below-zero q, count_below-zero r)
+pairs (suc n) p q r each =
+    let e : 2 * suc n ≡ (2 * n + 1) + 1 = omega arith in
+    let two = λ (t : ℕ → Bool). ap (λ m. count_below m t) e ∙ (count_below-more (2 * n + 1) t ∙ ap (λ m. m + one (t (2 * n + 1))) (count_below-more (2 * n) t)) in
+    omega (arith, two p, two q, two r, pairs n p q r (λ j h. each j (omega arith)), each n (omega arith))
 
-row_of_other : (row : ℕ → ℕ) (columns parity y : ℕ) → (y % 2 ≡ parity → ⊥) → row_among row columns parity y ≡ 0
-row_of_other row columns parity y other =
+-- the cells of a row in the columns of a parity
+abbrev pub in_class : ℕ → ℕ → ℕ → Bool
+in_class row column x = bit row x && x % 2 == column
+
+pub even_and : (b : Bool) (j : ℕ) → (b && 2 * j % 2 == 0) ≡ b
+even_and b j = let e : 2 * j % 2 ≡ 0 = omega arith in rw (eq-eqb (2 * j % 2) 0 e) (and_true b)
+
+odd_and : (b : Bool) (j : ℕ) → (b && (2 * j + 1) % 2 == 1) ≡ b
+odd_and b j = let e : (2 * j + 1) % 2 ≡ 1 = omega arith in rw (eq-eqb ((2 * j + 1) % 2) 1 e) (and_true b)
+
+even_not : (b : Bool) (j : ℕ) → (b && 2 * j % 2 == 1) ≡ false
+even_not b j = rw (ne_eqb (2 * j % 2) 1 (λ h. omega arith)) (and_false b)
+
+pub odd_not : (b : Bool) (j : ℕ) → (b && (2 * j + 1) % 2 == 0) ≡ false
+odd_not b j = rw (ne_eqb ((2 * j + 1) % 2) 0 (λ h. omega arith)) (and_false b)
+
+-- two columns of a row have one of each class
+pair_of : (row column j : ℕ) → column < 2 → one (in_class row column (2 * j)) + one (in_class row column (2 * j + 1)) ≡ one (bit (row / 2 ^ column) (2 * j))
+pair_of row column j two =
+    bits_cases (λ column. one (in_class row column (2 * j)) + one (in_class row column (2 * j + 1)) ≡ one (bit (row / 2 ^ column) (2 * j)))
+    (let e : row / 2 ^ 0 ≡ row = omega arith in
+    omega (arith, ap one (even_and (bit row (2 * j)) j), ap one (odd_not (bit row (2 * j + 1)) j), ap (λ n. one (bit n (2 * j))) e))
+    (let e : 1 + 2 * j ≡ 2 * j + 1 = omega arith in
+    omega (arith, ap one (even_not (bit row (2 * j)) j), ap one (odd_and (bit row (2 * j + 1)) j), ap one (bit-shr row 1 (2 * j) ∙ ap (bit row) e)))
+    column two
+
+-- a word that has two rows' columns of a parity side by side
+pub both_rows : (word first second column : ℕ) → column < 2 → word < 2 ^ 64 → ((i : ℕ) → i < 32 → bit word (2 * i) ≡ bit (first / 2 ^ column) (2 * i)) → ((i : ℕ) → i < 32 → bit word (2 * i + 1) ≡ bit (second / 2 ^ column) (2 * i))
+    → count_ones word ≡ count_below 64 (in_class first column) + count_below 64 (in_class second column)
+both_rows word first second column two fits evens odds =
+    ones_are_bits word 64 fits
+    ∙ pairs 32 (bit word) (in_class first column) (in_class second column)
+    (λ j h. omega (arith, ap one (evens j h), ap one (odds j h), pair_of first column j two, pair_of second column j two))
+
+-- the cells of row y in the columns of a parity, if the row has a parity too
+abbrev pub row_class : (ℕ → ℕ) → ℕ → ℕ → ℕ → ℕ
+row_class row column parity y = count_below 64 (λ x. bit (row y) x && x % 2 == column && y % 2 == parity)
+
+row_of_parity : (row : ℕ → ℕ) (column parity y : ℕ) → y % 2 ≡ parity → row_class row column parity y ≡ count_below 64 (in_class (row y) column)
+row_of_parity row column parity y same =
+    count_below-same 64 _ _ (λ x _. rw (eq-eqb (y % 2) parity same) (and_true (bit (row y) x && x % 2 == column)))
+
+row_of_other : (row : ℕ → ℕ) (column parity y : ℕ) → (y % 2 ≡ parity → ⊥) → row_class row column parity y ≡ 0
+row_of_other row column parity y other =
     count_below-same 64 _ (λ _. false)
-    (λ x _. rw (ne_eqb (y % 2) parity other) (and_false (bit (row y) x && bit columns x)))
+    (λ x _. rw (ne_eqb (y % 2) parity other) (and_false (bit (row y) x && x % 2 == column)))
     ∙ count_below-none 64
 
 -- the two rows from an even one add what the one of the parity has
@@ -56,10 +93,23 @@ two_rows f parity j n here two so_far same other =
           omega (arith, other (2 * j) (λ h. omega arith))
     ]
 
-pub cells_with_rows_among : (row : ℕ → ℕ) (columns parity j n : ℕ) → parity < 2 → n ≡ sum_below (2 * j) (row_among row columns parity) → row (2 * j + parity) < 2 ^ 64 → n + count_ones (bit_and (row (2 * j + parity)) columns) ≡ sum_below (2 * (j + 1)) (row_among row columns parity)
-cells_with_rows_among row columns parity j n two so_far fits =
-    two_rows (row_among row columns parity) parity j n _ two so_far (row_of_parity row columns parity (2 * j + parity) (omega arith) fits)
-    (row_of_other row columns parity)
+-- four rows more
+pub class_with_rows : (row : ℕ → ℕ) (column parity j n here : ℕ) → parity < 2 → n ≡ sum_below (4 * j) (row_class row column parity)
+    → here ≡ count_below 64 (in_class (row (4 * j + parity)) column) + count_below 64 (in_class (row (4 * j + 2 + parity)) column) → n + here ≡ sum_below (4 * (j + 1)) (row_class row column parity)
+class_with_rows row column parity j n here two so_far is =
+    let f : ℕ → ℕ = row_class row column parity in
+    let other = row_of_other row column parity in
+    let u : ℕ = count_below 64 (in_class (row (4 * j + parity)) column) in
+    let v : ℕ = count_below 64 (in_class (row (4 * j + 2 + parity)) column) in
+    let first_place : 2 * (2 * j) + parity ≡ 4 * j + parity = omega arith in
+    let second_place : 2 * (2 * j + 1) + parity ≡ 4 * j + 2 + parity = omega arith in
+    let before : n ≡ sum_below (2 * (2 * j)) f = so_far ∙ ap (λ m. sum_below m f) (omega arith) in
+    let first : n + u ≡ sum_below (2 * (2 * j + 1)) f =
+    two_rows f parity (2 * j) n u two before (ap f first_place ∙ row_of_parity row column parity (4 * j + parity) (omega arith)) other in
+    let second : (n + u) + v ≡ sum_below (2 * (2 * j + 1 + 1)) f =
+    two_rows f parity (2 * j + 1) (n + u) v two first (ap f second_place ∙ row_of_parity row column parity (4 * j + 2 + parity) (omega arith)) other in
+    let end : sum_below (2 * (2 * j + 1 + 1)) f ≡ sum_below (4 * (j + 1)) f = ap (λ m. sum_below m f) (omega arith) in
+    omega (arith, is, second, end)
 
 -- two tests that agree at each cell count the same
 pub cells_same : (p q : ℕ → ℕ → Bool) → ((x y : ℕ) → x < 64 → y < 64 → p x y ≡ q x y) → sum_below 64 (λ y. count_below 64 (λ x. p x y)) ≡ sum_below 64 (λ y. count_below 64 (λ x. q x y))
@@ -128,26 +178,3 @@ in_rows has j =
     ∙ (ap (λ n. n + cells_counted (λ x y. has x y && y % 2 == j && not (x % 2 == 0))) (cells_same _ _ (λ x y _ _. and_swapped (has x y) (y % 2 == j) (x % 2 == 0)))
     ∙ ap (λ n. class has 0 j + n)
     (cells_same _ _ (λ x y _ _. ap (λ b. has x y && y % 2 == j && b) (not_one x) ∙ and_swapped (has x y) (y % 2 == j) (x % 2 == 1))))
-
--- two words without a one add nothing
-pub none_in_first : (n own first second columns : ℕ) → bit_or first second ≡ 0 → n ≡ n + count_ones (bit_and (bit_and own first) columns)
-none_in_first n own first second columns empty =
-    let e : first ≡ 0 = omega (arith, le_or_l first second) in
-    rw (e, and_zero_r own, and_zero_l columns) (omega (arith, ones-ones 0))
-
-pub none_in_second : (n own first second columns : ℕ) → bit_or first second ≡ 0 → n ≡ n + count_ones (bit_and (bit_and own second) columns)
-none_in_second n own first second columns empty =
-    let e : second ≡ 0 = omega (arith, le_or_r first second) in
-    rw (e, and_zero_r own, and_zero_l columns) (omega (arith, ones-ones 0))
-
--- both sets of cells, by the words of both
-pub both_among : (own other : List ℕ) (columns i parity : ℕ) → ((x : ℕ) → x < 64 → bit columns x ≡ (x % 2 == i)) → sum_below 64 (row_among (λ y. bit_and (get_or own y 0) (get_or other y 0)) columns parity) ≡ class (λ x y. bit (get_or own y 0) x && bit (get_or other y 0) x) i parity
-both_among own other columns i parity is_columns =
-    cells_same _ _ (λ x y in_row _.
-    ap (λ b. b && bit columns x && y % 2 == parity) (bit-and (get_or own y 0) (get_or other y 0) x)
-    ∙ ap (λ b. (bit (get_or own y 0) x && bit (get_or other y 0) x) && b && y % 2 == parity) (is_columns x in_row))
-
-pub cells_with_rows_at : (row : ℕ → ℕ) (columns parity j n k : ℕ) → k ≡ 2 * j + parity → parity < 2 → n ≡ sum_below (2 * j) (row_among row columns parity) → row k < 2 ^ 64 → n + count_ones (bit_and (row k) columns) ≡ sum_below (2 * (j + 1)) (row_among row columns parity)
-cells_with_rows_at row columns parity j n k e two so_far fits =
-    let there : row (2 * j + parity) < 2 ^ 64 = rw e at fits in
-    rw e (cells_with_rows_among row columns parity j n two so_far there)

@@ -6,8 +6,6 @@ ghost use Rattle.bit_tile.specs.Bit.{bit};
 
 const EVEN_COLUMNS: u64 = 0x5555_5555_5555_5555;
 
-const ODD_COLUMNS: u64 = 0xaaaa_aaaa_aaaa_aaaa;
-
 /// 64 by 64 cells. Row y is a word, and its bit x is column x.
 #[derive(Clone, Copy)]
 pub struct Tile {
@@ -124,49 +122,36 @@ impl Tile {
         ensures bound { (k : ℕ) → slice_index result k ≤ 2048 }
     {
         [
-            self.count_among(EVEN_COLUMNS, 0),
-            self.count_among(ODD_COLUMNS, 0),
-            self.count_among(EVEN_COLUMNS, 1),
-            self.count_among(ODD_COLUMNS, 1),
+            self.count_class(0, 0),
+            self.count_class(1, 0),
+            self.count_class(0, 1),
+            self.count_class(1, 1),
         ]
     }
 
-    /// The same of the cells that are in both tiles: quick where the other has few.
-    pub fn count_both_by_parity(&self, other: &Tile) -> [u32; 4]
-        ensures counts { (i j : ℕ) → i < 2 → j < 2 → slice_index result (2 * j + i) ≡ count_cells (λ x y. (has self.now x y && has other.now x y) && x % 2 == i && y % 2 == j) }
-        ensures bound { (k : ℕ) → slice_index result k ≤ 2048 }
-    {
-        let mut even_even = 0;
-        let mut odd_even = 0;
-        let mut even_odd = 0;
-        let mut odd_odd = 0;
-        for j in 0..32usize {
-            let first = other.rows[2 * j];
-            let second = other.rows[2 * j + 1];
-            if first | second != 0 {
-                let upper = self.rows[2 * j] & first;
-                let lower = self.rows[2 * j + 1] & second;
-                even_even += (upper & EVEN_COLUMNS).count_ones();
-                odd_even += (upper & ODD_COLUMNS).count_ones();
-                even_odd += (lower & EVEN_COLUMNS).count_ones();
-                odd_odd += (lower & ODD_COLUMNS).count_ones();
-            }
-        }
-        [even_even, odd_even, even_odd, odd_odd]
-    }
-
-    // the cells in these columns and in the rows of this parity
-    fn count_among(&self, columns: u64, parity: usize) -> u32
-        requires { parity < 2 }
-        ensures count { result ≡ count_cells (λ x y. has self.now x y && bit columns x && y % 2 == parity) }
+    // the cells in the columns of one parity and in the rows of another: those of two rows fill a word
+    fn count_class(&self, column: u32, row: usize) -> u32
+        requires column { column < 2 }
+        requires row { row < 2 }
+        ensures count { result ≡ count_cells (λ x y. has self.now x y && x % 2 == column && y % 2 == row) }
         ensures bound { result ≤ 2048 }
     {
         let mut n = 0;
-        for j in 0..32usize {
-            n += (self.rows[2 * j + parity] & columns).count_ones();
+        for j in 0..16usize {
+            let first = self.rows[4 * j + row] >> column;
+            let second = self.rows[4 * j + 2 + row] >> column;
+            n += side_by_side(first, second).count_ones();
         }
         n
     }
+}
+
+// the even columns of two words in one
+fn side_by_side(first: u64, second: u64) -> u64
+    ensures first { (i : ℕ) → i < 32 → bit result (2 * i) ≡ bit first (2 * i) }
+    ensures second { (i : ℕ) → i < 32 → bit result (2 * i + 1) ≡ bit second (2 * i) }
+{
+    (first & EVEN_COLUMNS) | ((second & EVEN_COLUMNS) << 1)
 }
 
 // the columns from x to x + w - 1

@@ -43,10 +43,7 @@ fn tiles_are_joined_cut_and_met(rt: HostRuntime) {
     let both = some.meet(&others);
     assert_eq!(rt; both.count(), 4);
     assert!(rt; both.get(2, 3) && !both.get(1, 3) && !both.get(4, 3));
-    assert_eq!(rt;
-        some.count_both_by_parity(&others).as_slice(),
-        [1, 1, 1, 1].as_slice()
-    );
+    assert_eq!(rt; both.count_by_parity().as_slice(), [1, 1, 1, 1].as_slice());
 
     let mut joined = some;
     joined.join(&others);

@@ -134,15 +134,18 @@ tile_sum test =
 same_parity : (k x a : ℕ) → (x % 2 == a) ≡ ((k * 64 + x) % 2 == a)
 same_parity k x a = ap (λ n. n == a) (let e : x % 2 ≡ (k * 64 + x) % 2 = omega arith in e)
 
-pub tile_counts_by : (cells : Cells) (r : Rectangle) (a b i : ℕ) (t : Tile) → ((x y : ℕ) → x < 64 → y < 64 → tile.has t x y ≡ (has cells (left_of cells i + x) (top_of cells i + y) && is_inside r (left_of cells i + x) (top_of cells i + y))) → count_cells (λ x y. tile.has t x y && x % 2 == a && y % 2 == b) ≡ tile_counted cells r a b i
-tile_counts_by cells r a b i t same =
-    tile_sum (λ x y. tile.has t x y && x % 2 == a && y % 2 == b)
-    ∙ cell_sum-cong 64 64 (λ x y. cond (tile.has t x y && x % 2 == a && y % 2 == b) 1 0) (λ x y. counted cells r a b (left_of cells i + x) (top_of cells i + y))
+class_counts_by : (cells : Cells) (r : Rectangle) (a b i : ℕ) (test : ℕ → ℕ → Bool) → ((x y : ℕ) → x < 64 → y < 64 → test x y ≡ (has cells (left_of cells i + x) (top_of cells i + y) && is_inside r (left_of cells i + x) (top_of cells i + y))) → count_cells (λ x y. test x y && x % 2 == a && y % 2 == b) ≡ tile_counted cells r a b i
+class_counts_by cells r a b i test same =
+    tile_sum (λ x y. test x y && x % 2 == a && y % 2 == b)
+    ∙ cell_sum-cong 64 64 (λ x y. cond (test x y && x % 2 == a && y % 2 == b) 1 0) (λ x y. counted cells r a b (left_of cells i + x) (top_of cells i + y))
     (λ x y p q.
     ap (λ v. cond v 1 0)
     (ap₂ (λ u v. u && v)
     (ap₂ (λ u v. u && v) (same x y p q) (same_parity (i % (cells.width / 64)) x a))
     (same_parity (i / (cells.width / 64)) y b)))
+
+pub tile_counts_by : (cells : Cells) (r : Rectangle) (a b i : ℕ) (t : Tile) → ((x y : ℕ) → x < 64 → y < 64 → tile.has t x y ≡ (has cells (left_of cells i + x) (top_of cells i + y) && is_inside r (left_of cells i + x) (top_of cells i + y))) → count_cells (λ x y. tile.has t x y && x % 2 == a && y % 2 == b) ≡ tile_counted cells r a b i
+tile_counts_by cells r a b i t same = class_counts_by cells r a b i (λ x y. tile.has t x y) same
 
 pub counts_next : (f : ℕ → ℕ) (i count here next : ℕ) → count ≡ sum_below i f → here ≡ f i → next ≡ count + here → next ≡ sum_below (i + 1) f
 counts_next f i count here next e h n = let s : sum_below (i + 1) f ≡ sum_below i f + f i = ap (λ n. sum_below n f) (add-one i) in omega arith
@@ -160,22 +163,17 @@ in_row n row column p = div-mul-add row n column p
 inside_at : (r : Rectangle) (n row column x y : ℕ) → column < n → is_inside r ((row * n + column) % n * 64 + x) ((row * n + column) / n * 64 + y) ≡ is_inside r (column * 64 + x) (row * 64 + y)
 inside_at r n row column x y p = ap₂ (λ c d. is_inside r (c * 64 + x) (d * 64 + y)) (in_column n row column p) (in_row n row column p)
 
-pub tile_counts : (cells : Cells) (r : Rectangle) (a b row column across : ℕ) (t part both : Tile) → across ≡ cells.width / 64 → column < across → IsTileFrom t cells (left_of cells (row * across + column)) (top_of cells (row * across + column)) → HasCells part (λ x y. is_inside r (column * 64 + x) (row * 64 + y)) → HasCells both (λ x y. tile.has t x y && tile.has part x y)
-    → count_cells (λ x y. tile.has both x y && x % 2 == a && y % 2 == b) ≡ tile_counted cells r a b (row * across + column)
-tile_counts cells r a b row column across t part both e less from of_part met =
-    tile_counts_by cells r a b (row * across + column) both
+pub tile_counts : (cells : Cells) (r : Rectangle) (a b row column across : ℕ) (t : Tile) → across ≡ cells.width / 64 → column < across → IsTileFrom t cells (left_of cells (row * across + column)) (top_of cells (row * across + column))
+    → count_cells (λ x y. (tile.has t x y && is_inside r (column * 64 + x) (row * 64 + y)) && x % 2 == a && y % 2 == b) ≡ tile_counted cells r a b (row * across + column)
+tile_counts cells r a b row column across t e less from =
+    class_counts_by cells r a b (row * across + column) (λ x y. tile.has t x y && is_inside r (column * 64 + x) (row * 64 + y))
     (λ x y p q.
     let here : is_inside r ((row * across + column) % across * 64 + x) ((row * across + column) / across * 64 + y) ≡ is_inside r (left_of cells (row * across + column) + x) (top_of cells (row * across + column) + y) = ap (λ n. is_inside r ((row * across + column) % n * 64 + x) ((row * across + column) / n * 64 + y)) e in
-    met x y p q ∙ ap₂ (λ u v. u && v) (from.cell x y p q) (of_part x y p q ∙ (sym (inside_at r across row column x y less) ∙ here)))
+    ap₂ (λ u v. u && v) (from.cell x y p q) (sym (inside_at r across row column x y less) ∙ here))
 
 blank_in_row : (cells : Cells) (r : Rectangle) (a b row column : ℕ) → column < cells.width / 64 → ((x y : ℕ) → x < 64 → y < 64 → is_inside r (column * 64 + x) (row * 64 + y) ≡ false) → tile_counted cells r a b (row * (cells.width / 64) + column) ≡ 0
 blank_in_row cells r a b row column less none =
     blank_tile cells r a b (row * (cells.width / 64) + column) (λ x y p q. inside_at r (cells.width / 64) row column x y less ∙ none x y p q)
-
-pub counts_past : (cells : Cells) (r : Rectangle) (a b row column count : ℕ) → column < cells.width / 64 → count ≡ sum_below (row * (cells.width / 64) + column) (tile_counted cells r a b) → ((x y : ℕ) → x < 64 → y < 64 → is_inside r (column * 64 + x) (row * 64 + y) ≡ false) → count ≡ sum_below (row * (cells.width / 64) + (column + 1)) (tile_counted cells r a b)
-counts_past cells r a b row column count less so_far none =
-    sum_past (tile_counted cells r a b) (row * (cells.width / 64) + column) count so_far (blank_in_row cells r a b row column less none)
-    ∙ ap (λ i. sum_below i (tile_counted cells r a b)) (add_assoc (row * (cells.width / 64)) column 1)
 
 -- columns of tiles that the rectangle does not meet count nothing
 pub blank_columns : (cells : Cells) (r : Rectangle) (a b row column k : ℕ) → column + k ≤ cells.width / 64 → ((c x y : ℕ) → column ≤ c → c < column + k → x < 64 → is_inside r (c * 64 + x) y ≡ false)

@@ -9,7 +9,7 @@ ghost use Rattle.gas_terms.specs.Accounts.{parity_count};
 ghost use Rattle.gas_terms.specs.Rows.{row_has, row_replaced, row_bytes};
 ghost use Rattle.gas_plane.specs.Planes.{IsLattice, IsTileFrom, IsRingRound, IsBare, IsBareRound, IsBareFarRound, AreThreeBare, tile_of, with_tile, with_word, painted_where};
 ghost use Rattle.gas_plane.specs.Lending.{LendsTile};
-ghost use Rattle.bit_tile.specs.Tile.{HasCells};
+ghost use Rattle.bit_tile.specs.Tile.{HasCells, count_cells};
 ghost use Rattle.tile_border.specs.Ring.{IsBorderOf};
 ghost use Rattle.tile_border.specs.declared.Border.{Border as RingCells};
 ghost use Rattle.bit_tile.specs.Tile as in_tile;
@@ -372,14 +372,10 @@ impl Plane {
         let mut counts = [0; 4];
         for row in top..bottom {
             for column in left..right {
-                if let Some(part) = part_of(area, column * 64, row * 64) {
-                    let here = self
-                        .tile(row * across + column)
-                        .meet(&part)
-                        .count_by_parity();
-                    let more = sums(counts, here);
-                    counts = more;
-                }
+                let tile = self.tile(row * across + column);
+                let here = counts_of(tile, area, column * 64, row * 64);
+                let more = sums(counts, here);
+                counts = more;
             }
         }
         counts
@@ -435,6 +431,36 @@ pub fn part_of(area: Rect, left: u32, top: u32) -> Option<Tile>
         return None;
     }
     Some(Tile::rect(x, y, w, h))
+}
+
+// whether the rectangle has all of the 64 by 64 cells from the place (left, top) on
+fn is_covered(area: Rect, left: u32, top: u32) -> bool
+    requires left { left < 2 ^ 31 }
+    requires top { top < 2 ^ 31 }
+    ensures { IsTrue result → (x y : ℕ) → x < 64 → y < 64 → is_inside area (left + x) (top + y) ≡ true }
+{
+    let right = area.x() as u32 + area.w() as u32;
+    let bottom = area.y() as u32 + area.h() as u32;
+    let across = area.x() as u32 <= left && left + 64 <= right;
+    let down = area.y() as u32 <= top && top + 64 <= bottom;
+    across & down
+}
+
+// how many of a tile's cells the rectangle has in each class, where the tile begins at the place (left, top)
+fn counts_of(tile: &Tile, area: Rect, left: u32, top: u32) -> [u32; 4]
+    requires left { left < 2 ^ 31 }
+    requires top { top < 2 ^ 31 }
+    ensures counts { (a b : ℕ) → a < 2 → b < 2 → slice_index result (2 * b + a) ≡
+        count_cells (λ x y. (in_tile.has tile.now x y && is_inside area (left + x) (top + y)) && x % 2 == a && y % 2 == b) }
+    ensures bound { (k : ℕ) → slice_index result k ≤ 2048 }
+{
+    if is_covered(area, left, top) {
+        return tile.count_by_parity();
+    }
+    match part_of(area, left, top) {
+        Some(part) => tile.meet(&part).count_by_parity(),
+        None => [0; 4],
+    }
 }
 
 // what `len` places from `start` on have in common with the 64 from `from` on: where that begins there, and how many

@@ -1,12 +1,11 @@
-use Rattle.std.proofs.Common.{◌<◌, ◌≤◌, ◌+◌, ◌*◌, ◌/◌, ◌∙◌, ℕ, ap, sym, arith, get_or, List}
+use Rattle.std.proofs.Common.{◌<◌, ◌≤◌, ◌+◌, ◌*◌, ◌/◌, ◌∙◌, ℕ, sym, arith, get_or}
 use Rattle.std.proofs.lemmas.Nat.{mul-le}
 use Rattle.bit_tile.proofs.Bits.{get_or-replicate_zero}
 use Rattle.gas_terms.specs.Cells.{extent}
 use Rattle.gas_plane.proofs.Places.{wide, high, tile_below}
 use Rattle.gas_plane.proofs.Painting.{outside_columns, outside_rows}
-use Rattle.gas_plane.proofs.PlaneCounts.{counts_start, counts_past, counts_end, count_more, tile_counts, class_place, few_tiles, row_begins, row_closes, above_rows, below_rows, rows_within, columns_within, small_row, small_column, small_next}
+use Rattle.gas_plane.proofs.PlaneCounts.{counts_start, counts_end, count_more, tile_counts, class_place, few_tiles, row_begins, row_closes, above_rows, below_rows, rows_within, columns_within, small_row, small_column, small_next}
 use Rattle.gas_plane.proofs.Plane.counts_in.Goals as goal
-use Rattle.gas_plane.proofs.Plane.counts_in.Goals.{in-Some, in_default}
 
 pub loop-row-init : goal.loop-row-init
 loop-row-init c =
@@ -29,8 +28,8 @@ loop-column-init c =
       small = λ k h. small_column (c.args.self.now.width / 64) c.loop-row.row c.tiles_met-left.result.0 (get_or c.loop-row.counts k 0) (c.loop-row.invariant.small k h);
     }
 
-pub tile-requires : goal.tile-requires
-tile-requires c =
+pub tile-tile-requires : goal.tile-tile-requires
+tile-tile-requires c =
     let row : c.loop-row.row < c.args.self.now.height / 64 = omega (arith, c.tiles_met-top.ensures.within, c.down.ensures.down) in
     let column : c.loop-column.column + 1 ≤ c.args.self.now.width / 64 = omega (arith, c.tiles_met-left.ensures.within, c.across-across.ensures.across) in
     rw c.across-across.ensures.across (omega (arith, columns_within c.args.self.now c.loop-row.row (c.loop-column.column + 1) row column))
@@ -40,7 +39,7 @@ sums-more-requires c = λ k h.
     let row : c.loop-row.row < c.args.self.now.height / 64 = omega (arith, c.tiles_met-top.ensures.within, c.down.ensures.down) in
     let column : c.loop-column.column ≤ c.args.self.now.width / 64 = omega (arith, c.tiles_met-left.ensures.within, c.across-across.ensures.across) in
     let few = few_tiles c.args.self.now (c.loop-row.row * (c.args.self.now.width / 64) + c.loop-column.column) c.across-across.ensures.lattice (columns_within c.args.self.now c.loop-row.row c.loop-column.column row column) in
-    omega (arith, c.loop-column.invariant.small k h, c.count_by_parity-here.ensures.bound k, few)
+    omega (arith, c.loop-column.invariant.small k h, c.counts_of-here.ensures.bound k, few)
 
 pub loop-column-preserved : goal.loop-column-preserved
 loop-column-preserved c =
@@ -49,23 +48,14 @@ loop-column-preserved c =
     let column = c.loop-column.column in
     let less : c.loop-column.column < c.across-across.result = omega (arith, c.tiles_met-left.ensures.within) in
     let within : c.loop-column.column < c.args.self.now.width / 64 = omega (arith, c.across-across.ensures.across) in
-    elim c.match-part_of.branch [
-      | in-Some w ↦
-          let next = λ (k : ℕ) (h : k < 4). ap (λ (counts : List ℕ). get_or counts k 0) w.counts-is ∙ w.sums-more.ensures k h in
-          record {
-            so_far = λ a b p q.
-                count_more cells c.args.area a b row column c.across-across.result (get_or c.loop-column.counts (2 * b + a) 0) (get_or w.count_by_parity-here.result (2 * b + a) 0) (get_or c.match-part_of.counts (2 * b + a) 0) c.across-across.ensures.across (c.loop-column.invariant.so_far a b p q)
-                (w.count_by_parity-here.ensures.counts a b p q ∙ tile_counts cells c.args.area a b row column c.across-across.result w.tile.result.now w.in-Some.part w.meet.result c.across-across.ensures.across less w.tile.ensures w.in-Some.ensures w.meet.ensures)
-                (next (2 * b + a) (class_place a b p q));
-            small = λ k h. small_next (row * (c.args.self.now.width / 64)) column (get_or c.loop-column.counts k 0) (get_or w.count_by_parity-here.result k 0) (get_or c.match-part_of.counts k 0) (next k h) (c.loop-column.invariant.small k h) (w.count_by_parity-here.ensures.bound k);
-          }
-      | in_default w ↦
-          let same = λ (k : ℕ). ap (λ (counts : List ℕ). get_or counts k 0) w.counts-is in
-          record {
-            so_far = λ a b p q. same (2 * b + a) ∙ counts_past cells c.args.area a b row column (get_or c.loop-column.counts (2 * b + a) 0) within (c.loop-column.invariant.so_far a b p q) w.in_default.ensures;
-            small = λ k h. omega (arith, same k, c.loop-column.invariant.small k h);
-          }
-    ]
+    let next = λ (k : ℕ) (h : k < 4). c.sums-more.ensures k h in
+    record {
+      so_far = λ a b p q.
+          count_more cells c.args.area a b row column c.across-across.result (get_or c.loop-column.counts (2 * b + a) 0) (get_or c.counts_of-here.result (2 * b + a) 0) (get_or c.sums-more.result (2 * b + a) 0) c.across-across.ensures.across (c.loop-column.invariant.so_far a b p q)
+          (c.counts_of-here.ensures.counts a b p q ∙ tile_counts cells c.args.area a b row column c.across-across.result c.tile-tile.result.now c.across-across.ensures.across less c.tile-tile.ensures)
+          (next (2 * b + a) (class_place a b p q));
+      small = λ k h. small_next (row * (c.args.self.now.width / 64)) column (get_or c.loop-column.counts k 0) (get_or c.counts_of-here.result k 0) (get_or c.sums-more.result k 0) (next k h) (c.loop-column.invariant.small k h) (c.counts_of-here.ensures.bound k);
+    }
 
 pub loop-row-preserved : goal.loop-row-preserved
 loop-row-preserved c =
