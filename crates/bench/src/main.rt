@@ -1,24 +1,30 @@
 //! Times the laboratory's work.
 //!
 //! Without words it makes a short run on a small lattice. With `full` it steps 2,048 by 2,048 cells a thousand times, and
-//! the laboratory 4,096 times. The figures go to standard error, and what was done to standard output.
+//! laboratories of four sizes by 1, 2 and 4 workers. The figures go to standard error, and what was done to standard output.
 #![tactic(auto)]
 
-mod laboratory;
+mod cells;
 mod lattice;
+mod runs;
 mod sessions;
 mod snapshots;
-mod workers;
+mod watch;
 
 use lattice::Scale;
+use std::time::Instant;
 use std::{env, io};
 
-fn main(rt: HostRuntime) -> io::Result<()> {
+fn is_full(rt: &HostRuntime) -> io::Result<bool> {
     let mut full = false;
-    for word in env::args(&rt)? {
+    for word in env::args(rt)? {
         full |= word.as_str() == "full";
     }
-    let scale = if full {
+    Ok(full)
+}
+
+fn main(rt: HostRuntime) -> io::Result<()> {
+    let scale = if is_full(&rt)? {
         Scale {
             side: 2048,
             steps: 1000,
@@ -26,10 +32,10 @@ fn main(rt: HostRuntime) -> io::Result<()> {
     } else {
         Scale { side: 64, steps: 4 }
     };
-    lattice::run(&rt, scale)?;
-    laboratory::run(&rt, scale)?;
-    snapshots::run(&rt, scale)?;
-    sessions::run(&rt, scale)?;
-    workers::run(&rt, scale)?;
+    let start = Instant::now(&rt)?;
+    lattice::run(&rt, start, scale)?;
+    snapshots::run(&rt, start, scale)?;
+    sessions::run(&rt, start, scale)?;
+    runs::run(&rt, start, scale)?;
     println!(rt; "done")
 }

@@ -1,11 +1,17 @@
 //! Lines of commands, from memory and into memory.
 
-use crate::lattice::{Scale, report_of, size_of};
-use gas_lab::{Gas, Lab, Serial};
+use crate::cells::size_of;
+use crate::lattice::Scale;
+use crate::watch::{report, since};
+use gas_lab::{Gas, Lab, Stepper};
 use gas_snapshot::NoShelf;
-use gas_talk::{SessionEnd, serve_alone};
+use gas_talk::serve_alone;
+use gas_terms::NoMemory;
+use phase_team::{NoGate, Team};
+use std::alloc::Global;
 use std::io;
 use std::rt::Clock;
+use std::thread::Threads;
 use std::time::Instant;
 
 const PROBE: &[u8] = b"probe 0 0 8 8\n";
@@ -13,44 +19,46 @@ const PROBE: &[u8] = b"probe 0 0 8 8\n";
 const PUT: &[u8] = b"put 0 0 8 8\n";
 
 /// Feeds a session a thousand probes for each step, and 60 puts.
-pub fn run(rt: &(impl Clock + Eprint + AllocGlobal), scale: Scale) -> io::Result<()> {
-    let steps = scale.steps.min(1000);
-    fed(rt, scale, "probes", PROBE, steps.saturating_mul(1000))?;
-    fed(rt, scale, "puts", PUT, steps.saturating_mul(60))
+pub fn run(
+    rt: &(impl Threads + Clock + Eprint + AllocGlobal),
+    start: Instant,
+    scale: Scale,
+) -> io::Result<()> {
+    let probes = u64::from(scale.steps) * 1000;
+    let nanos = fed(rt, start, scale, PROBE, probes)?;
+    report(rt, "probes", nanos, probes, "lines")?;
+    let puts = u64::from(scale.steps) * 60;
+    let nanos = fed(rt, start, scale, PUT, puts)?;
+    report(rt, "puts", nanos, puts, "lines")
 }
 
-fn repeated(rt: &impl AllocGlobal, line: &[u8], times: u32) -> io::Result<Vec<u8>> {
-    let mut text = Vec::new(rt.alloc());
+fn repeated(alloc: Global, line: &[u8], times: u64) -> Result<Vec<u8>, NoMemory> {
+    let mut text = Vec::new(alloc);
     for _ in 0..times {
         text.extend_from_slice(line)?;
     }
     Ok(text)
 }
 
+// how long a session takes
 fn fed(
-    rt: &(impl Clock + Eprint + AllocGlobal),
+    rt: &(impl Threads + Clock + AllocGlobal),
+    start: Instant,
     scale: Scale,
-    name: &str,
     line: &[u8],
-    times: u32,
-) -> io::Result<()> {
-    let input = repeated(rt, line, times)?;
-    let mut output = Vec::new(rt.alloc());
-    let gas = Gas::empty(rt.alloc(), size_of(scale))?;
-    let mut lab = Lab::open(rt.alloc(), gas, 65_536, Serial)?;
-    let mut reader = input.as_slice();
-    let start = Instant::now(rt)?;
-    let end = serve_alone(
-        rt.alloc(),
-        &mut reader,
-        &mut output,
-        &mut lab,
-        0,
-        &mut NoShelf::new(),
-    );
-    report_of(rt, name, &start, times as u64, "lines")?;
-    let entries = lab.journal().len();
-    let answered = output.as_slice().iter().filter(|b| **b == b'\n').count();
-    let is_whole = end == SessionEnd::InputEnd;
-    eprintln!(rt; "answered {answered} lines, {entries} entries, to the end: {is_whole}")
+    times: u64,
+) -> Result<u64, NoMemory> {
+    let alloc = rt.alloc();
+    let input = repeated(alloc, line, times)?;
+    let gas = Gas::empty(alloc, size_of(scale.side))?;
+    let mut lab = Lab::open(alloc, gas, 65_536, Team::new(rt, alloc, 1, NoGate))?;
+    let before = since(rt, start);
+    answered(alloc, input.as_slice(), &mut lab);
+    Ok(since(rt, start).saturating_sub(before))
+}
+
+fn answered<S: Stepper>(alloc: Global, input: &[u8], lab: &mut Lab<S>) {
+    let mut reader = input;
+    let mut output = Vec::new(alloc);
+    let _ = serve_alone(alloc, &mut reader, &mut output, lab, 0, &mut NoShelf::new());
 }

@@ -1,51 +1,71 @@
 //! A gas as bytes and back.
 
-use crate::laboratory::gas_of;
-use crate::lattice::{Scale, report_of, seeded, size_of};
+use crate::cells::size_of;
+use crate::lattice::{Scale, cells_of};
+use crate::runs::gas_of;
+use crate::watch::{report, since};
 use gas_ledger::Gas;
 use gas_snapshot::{decode, encode, write_to};
+use gas_terms::NoMemory;
+use std::alloc::Global;
 use std::io;
 use std::rt::Clock;
 use std::time::Instant;
 
 /// Encodes, decodes and writes a gas.
-pub fn run(rt: &(impl Clock + Eprint + AllocGlobal), scale: Scale) -> io::Result<()> {
-    let size = size_of(scale);
+pub fn run(
+    rt: &(impl Clock + Eprint + AllocGlobal),
+    start: Instant,
+    scale: Scale,
+) -> io::Result<()> {
     let times = scale.steps / 10 + 1;
-    let gas = gas_of(rt, seeded(rt.alloc(), size)?)?;
-    encoded(rt, &gas, times)?;
-    written(rt, &gas, times)
+    let cells = cells_of(size_of(scale.side), times);
+    let [encoded, decoded, written] = all(rt, start, scale, times)?;
+    report(rt, "encode", encoded, cells, "cells")?;
+    report(rt, "decode", decoded, cells, "cells")?;
+    report(rt, "write", written, cells, "cells")
 }
 
-fn encoded(rt: &(impl Clock + Eprint + AllocGlobal), gas: &Gas, times: u32) -> io::Result<()> {
-    let start = Instant::now(rt)?;
-    let mut bytes = Vec::new(rt.alloc());
-    for _ in 0..times {
-        bytes = encode(rt.alloc(), gas)?;
-    }
-    let all = (bytes.len() as u64).wrapping_mul(times as u64);
-    report_of(rt, "encode", &start, all, "bytes")?;
-    let start = Instant::now(rt)?;
-    let mut read = 0u32;
-    for _ in 0..times {
-        if decode(rt.alloc(), bytes.as_slice()).is_ok() {
-            read = read.wrapping_add(1);
-        }
-    }
-    report_of(rt, "decode", &start, all, "bytes")?;
-    eprintln!(rt; "read {read} times")
+// how long each takes
+fn all(
+    rt: &(impl Clock + AllocGlobal),
+    start: Instant,
+    scale: Scale,
+    times: u16,
+) -> Result<[u64; 3], NoMemory> {
+    let alloc = rt.alloc();
+    let gas = gas_of(alloc, size_of(scale.side), true)?;
+    let bytes = encode(alloc, &gas)?;
+    let first = since(rt, start);
+    encode_often(alloc, &gas, times);
+    let second = since(rt, start);
+    decode_often(alloc, bytes.as_slice(), times);
+    let third = since(rt, start);
+    write_often(alloc, &gas, times);
+    let fourth = since(rt, start);
+    Ok([
+        second.saturating_sub(first),
+        third.saturating_sub(second),
+        fourth.saturating_sub(third),
+    ])
 }
 
-fn written(rt: &(impl Clock + Eprint + AllocGlobal), gas: &Gas, times: u32) -> io::Result<()> {
-    // room for the longest snapshot
-    let mut page = Vec::with_capacity(rt.alloc(), 6_291_766)?;
-    let mut all = 0u64;
-    let start = Instant::now(rt)?;
+fn encode_often(alloc: Global, gas: &Gas, times: u16) {
+    for _ in 0..times {
+        let _ = encode(alloc, gas);
+    }
+}
+
+fn decode_often(alloc: Global, bytes: &[u8], times: u16) {
+    for _ in 0..times {
+        let _ = decode(alloc, bytes);
+    }
+}
+
+fn write_often(alloc: Global, gas: &Gas, times: u16) {
+    let mut page = Vec::new(alloc);
     for _ in 0..times {
         page.clear();
-        if let Ok(len) = write_to(gas, &mut page) {
-            all = all.wrapping_add(len);
-        }
+        let _ = write_to(gas, &mut page);
     }
-    report_of(rt, "write", &start, all, "bytes")
 }
