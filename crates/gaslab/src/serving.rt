@@ -71,10 +71,9 @@ pub fn serve_on<T: Threads + Wait + Sync, L: Lobby, K: Shelf + Drop + Send, W: W
     let Ok(lab) = opened(alloc, setup, start, team) else {
         return Status::NoMemory.number();
     };
-    let status = match serve_lab(rt, alloc, lab, lobby, shelves) {
-        Some(counts) if tell(writer, counts) => Status::Done,
-        Some(_) => Status::Failed,
-        None => Status::NoMemory,
-    };
-    status.number()
+    match serve_lab(rt, alloc, lab, lobby, shelves) {
+        Some(counts) if tell(writer, counts) => Status::Done.number(),
+        Some(_) => Status::Failed.number(),
+        None => Status::NoMemory.number(),
+    }
 }

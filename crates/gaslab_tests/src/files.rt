@@ -97,6 +97,14 @@ fn load_from_a_file_of_seat_0(rt: HostRuntime) {
     let gas = load_from(rt.alloc(), &mut file).expect(&rt, "a gas");
     let asked = asked(&rt);
     let told = told(&rt);
-    answers(&rt, SMALL, Some(gas), asked.as_slice(), ALL, told.as_slice(), 0);
+    answers(
+        &rt,
+        SMALL,
+        Some(gas),
+        asked.as_slice(),
+        ALL,
+        told.as_slice(),
+        0,
+    );
     fs::remove_dir_all(&rt, folder.as_str()).expect(&rt, "no folder");
 }
