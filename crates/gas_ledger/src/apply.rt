@@ -1,7 +1,7 @@
 //! The port action.
 
-ghost use Rattle.std.specs.Prelude.{◌≡◌, true, ℕ, ◌<◌, ◌≤◌, ◌/◌, ◌+◌, ◌||◌, ◌&&◌, ◌*◌, ◌%◌, ◌==◌, not, IsTrue, slice_index};
-ghost use Rattle.bit_tile.specs.Tile.{HasCells, count_cells};
+ghost use Rattle.std.specs.Prelude.{◌≡◌, true, ℕ, ◌<◌, ◌≤◌, ◌/◌, ◌+◌, ◌||◌, ◌&&◌, not, IsTrue};
+ghost use Rattle.bit_tile.specs.Tile.{HasCells};
 ghost use Rattle.bit_tile.specs.Tile as in_tile;
 ghost use Rattle.gas_terms.specs.Cells.{is_inside, whole, without};
 ghost use Rattle.gas_ledger.specs.PortLists.{ported_by};
@@ -50,8 +50,8 @@ fn exchange(plane: &mut Plane, drains: &[Rect], sources: &[Rect]) -> Change
         if has_same_cells(&new, &old) {
             continue;
         }
-        let more = sums(gained, counts_of(&only_in(&new, &old)));
-        let less = sums(lost, counts_of(&only_in(&old, &new)));
+        let more = sums(gained, only_in(&new, &old).count_by_parity());
+        let less = sums(lost, only_in(&old, &new).count_by_parity());
         plane.set_tile(i, new);
         gained = more;
         lost = less;
@@ -177,12 +177,4 @@ fn only_in(tile: &Tile, other: &Tile) -> Tile
     let mut only = *tile;
     only.cut(other);
     only
-}
-
-// a tile's cells by class: quick where it has few
-fn counts_of(tile: &Tile) -> [u32; 4]
-    ensures counts { (i j : ℕ) → i < 2 → j < 2 → slice_index result (2 * j + i) ≡ count_cells (λ x y. in_tile.has tile.now x y && x % 2 == i && y % 2 == j) }
-    ensures bound { (k : ℕ) → slice_index result k ≤ 2048 }
-{
-    tile.count_both_by_parity(tile)
 }

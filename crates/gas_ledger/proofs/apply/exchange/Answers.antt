@@ -41,12 +41,12 @@ few cells i n is e h = few_tiles cells i is (omega arith)
 pub sums-more-requires : goal.sums-more-requires
 sums-more-requires c = λ k h.
     let all = all_tiles c.args.plane.now c.size-2.result c.tiles-end.result c.tiles-end.ensures.tiles c.size-2.ensures.extent in
-    omega (arith, c.loop-i.invariant.few_gained k h, c.counts_of.ensures.bound k, few c.args.plane.now c.loop-i.i c.tiles-end.result c.size.ensures.lattice all c.loop-i-test.true)
+    omega (arith, c.loop-i.invariant.few_gained k h, c.count_by_parity.ensures.bound k, few c.args.plane.now c.loop-i.i c.tiles-end.result c.size.ensures.lattice all c.loop-i-test.true)
 
 pub sums-less-requires : goal.sums-less-requires
 sums-less-requires c = λ k h.
     let all = all_tiles c.args.plane.now c.size-2.result c.tiles-end.result c.tiles-end.ensures.tiles c.size-2.ensures.extent in
-    omega (arith, c.loop-i.invariant.few_lost k h, c.counts_of-in-loop-i.ensures.bound k, few c.args.plane.now c.loop-i.i c.tiles-end.result c.size.ensures.lattice all c.loop-i-test.true)
+    omega (arith, c.loop-i.invariant.few_lost k h, c.count_by_parity-in-loop-i.ensures.bound k, few c.args.plane.now c.loop-i.i c.tiles-end.result c.size.ensures.lattice all c.loop-i-test.true)
 
 pub loop-i-preserved : goal.loop-i-preserved
 loop-i-preserved c =
@@ -65,15 +65,15 @@ loop-i-preserved c =
     record {
       cells = sweep_next cells c.loop-i.plane c.set_tile.new.self (exchanging cells drains sources) i old new is within c.loop-i.invariant.cells c.tile.ensures c.set_tile.ensures makes;
       gained = λ a b p q.
-          counts_next (tile_counted (came cells (exchanging cells drains sources)) (whole cells) a b) i (get_or c.loop-i.gained (2 * b + a) 0) (get_or c.counts_of.result (2 * b + a) 0) (get_or c.sums-more.result (2 * b + a) 0) (c.loop-i.invariant.gained a b p q)
-          (c.counts_of.ensures.counts a b p q ∙ came_count cells (exchanging cells drains sources) a b i old new c.only_in.result is within was (λ x y r s. makes x y r s (was x y r s)) c.only_in.ensures)
+          counts_next (tile_counted (came cells (exchanging cells drains sources)) (whole cells) a b) i (get_or c.loop-i.gained (2 * b + a) 0) (get_or c.count_by_parity.result (2 * b + a) 0) (get_or c.sums-more.result (2 * b + a) 0) (c.loop-i.invariant.gained a b p q)
+          (c.count_by_parity.ensures.counts a b p q ∙ came_count cells (exchanging cells drains sources) a b i old new c.only_in.result is within was (λ x y r s. makes x y r s (was x y r s)) c.only_in.ensures)
           (c.sums-more.ensures (2 * b + a) (class_place a b p q));
       lost = λ a b p q.
-          counts_next (tile_counted (went cells (exchanging cells drains sources)) (whole cells) a b) i (get_or c.loop-i.lost (2 * b + a) 0) (get_or c.counts_of-in-loop-i.result (2 * b + a) 0) (get_or c.sums-less.result (2 * b + a) 0) (c.loop-i.invariant.lost a b p q)
-          (c.counts_of-in-loop-i.ensures.counts a b p q ∙ went_count cells (exchanging cells drains sources) a b i old new c.only_in-in-loop-i.result is within was (λ x y r s. makes x y r s (was x y r s)) c.only_in-in-loop-i.ensures)
+          counts_next (tile_counted (went cells (exchanging cells drains sources)) (whole cells) a b) i (get_or c.loop-i.lost (2 * b + a) 0) (get_or c.count_by_parity-in-loop-i.result (2 * b + a) 0) (get_or c.sums-less.result (2 * b + a) 0) (c.loop-i.invariant.lost a b p q)
+          (c.count_by_parity-in-loop-i.ensures.counts a b p q ∙ went_count cells (exchanging cells drains sources) a b i old new c.only_in-in-loop-i.result is within was (λ x y r s. makes x y r s (was x y r s)) c.only_in-in-loop-i.ensures)
           (c.sums-less.ensures (2 * b + a) (class_place a b p q));
-      few_gained = λ k h. omega (arith, c.sums-more.ensures k h, c.loop-i.invariant.few_gained k h, c.counts_of.ensures.bound k);
-      few_lost = λ k h. omega (arith, c.sums-less.ensures k h, c.loop-i.invariant.few_lost k h, c.counts_of-in-loop-i.ensures.bound k);
+      few_gained = λ k h. omega (arith, c.sums-more.ensures k h, c.loop-i.invariant.few_gained k h, c.count_by_parity.ensures.bound k);
+      few_lost = λ k h. omega (arith, c.sums-less.ensures k h, c.loop-i.invariant.few_lost k h, c.count_by_parity-in-loop-i.ensures.bound k);
     }
 
 pub loop-i-preserved-then-not-get : goal.loop-i-preserved-then-not-get
