@@ -6,6 +6,8 @@ ghost use Rattle.bit_tile.specs.Bit.{bit};
 
 const EVEN_COLUMNS: u64 = 0x5555_5555_5555_5555;
 
+static NO_CELLS: Tile = Tile { rows: [0; 64] };
+
 /// 64 by 64 cells. Row y is a word, and its bit x is column x.
 #[derive(Clone, Copy)]
 pub struct Tile {
@@ -20,6 +22,23 @@ impl Tile {
         ensures { HasCells result (λ _ _. false) }
     {
         Tile { rows: [0; 64] }
+    }
+
+    /// No cells, in one place for all who read: it stays near while other tiles are read.
+    #[inline]
+    pub fn shared_empty() -> &'static Tile
+        ensures { HasCells result.now (λ _ _. false) }
+    {
+        &NO_CELLS
+    }
+
+    /// All cells.
+    pub fn full() -> Tile
+        ensures { HasCells result (λ _ _. true) }
+    {
+        Tile {
+            rows: [u64::MAX; 64],
+        }
     }
 
     /// The cells of the rectangle that is w wide and h high from (x, y).
@@ -57,6 +76,25 @@ impl Tile {
         } else {
             row & !(1 << x)
         };
+    }
+
+    /// The cells of row y: bit x is column x.
+    #[inline]
+    pub fn row(&self, y: usize) -> u64
+        requires { y < 64 }
+        ensures { (x : ℕ) → x < 64 → bit result x ≡ has self.now x y }
+    {
+        let Tile { rows } = self;
+        rows[y]
+    }
+
+    /// Makes the bits of the word the cells of row y.
+    #[inline]
+    pub fn set_row(&mut self, y: usize, word: u64)
+        requires { y < 64 }
+        ensures { HasCells self.new (λ i j. if j == y then bit word i else has self.old i j) }
+    {
+        self.rows[y] = word;
     }
 
     /// The cells of both.
@@ -102,6 +140,19 @@ impl Tile {
             all |= self.rows[y];
         }
         all == 0
+    }
+
+    /// Whether the other has the same cells.
+    pub fn has_same_cells(&self, other: &Tile) -> bool
+        ensures same { IsTrue result → HasCells self.now (has other.now) }
+        ensures known { HasCells self.now (has other.now) → IsTrue result }
+    {
+        for y in 0..64usize {
+            if self.rows[y] != other.rows[y] {
+                return false;
+            }
+        }
+        true
     }
 
     /// How many cells there are.

@@ -67,3 +67,31 @@ fn knows_whether_it_is_empty(rt: HostRuntime) {
         assert!(rt; tile.is_empty(), "again at {x} {y}");
     }
 }
+
+#[test]
+fn rows_are_words(rt: HostRuntime) {
+    let mut tile = Tile::rect(62, 1, 2, 3);
+    assert_eq!(rt; tile.row(0), 0);
+    assert_eq!(rt; tile.row(1), 0xc000_0000_0000_0000);
+    // columns 0, 2 and 63
+    tile.set_row(1, 0x8000_0000_0000_0005);
+    assert!(rt; tile.get(0, 1) && tile.get(2, 1) && tile.get(63, 1));
+    assert!(rt; !tile.get(1, 1) && !tile.get(62, 1) && tile.get(62, 2));
+    assert_eq!(rt; tile.row(1), 0x8000_0000_0000_0005);
+    assert_eq!(rt; tile.count(), 7);
+    tile.set_row(63, 1);
+    assert!(rt; tile.get(0, 63) && !tile.get(63, 63) && !tile.get(0, 62));
+}
+
+#[test]
+fn whole_and_empty_tiles(rt: HostRuntime) {
+    assert_eq!(rt; Tile::full().count(), 4096);
+    assert_eq!(rt; Tile::shared_empty().count(), 0);
+    assert!(rt; Tile::full().has_same_cells(&Tile::rect(0, 0, 64, 64)));
+    assert!(rt; Tile::shared_empty().has_same_cells(&Tile::empty()));
+    for (x, y) in [(0, 0), (63, 0), (5, 31), (0, 63), (63, 63)] {
+        let mut tile = Tile::full();
+        tile.set(x, y, false);
+        assert!(rt; !tile.has_same_cells(&Tile::full()), "at {x} {y}");
+    }
+}

@@ -158,11 +158,9 @@ exchange_past cells now drains sources i is so_far same = so_far ∙ sweep_past 
 
 -- a tile that is made of the cells that it has stays
 pub unchanged : (cells : Cells) (drains sources : List Rectangle) (i : ℕ) (old new : Tile) → ((x y : ℕ) → x < 64 → y < 64 → tile.has old x y ≡ has cells (left_of cells i + x) (top_of cells i + y))
-    → ((x y : ℕ) → x < 64 → y < 64 → tile.has new x y ≡ exchanging cells drains sources (left_of cells i + x) (top_of cells i + y)) → new.rows ≡ old.rows
+    → ((x y : ℕ) → x < 64 → y < 64 → tile.has new x y ≡ exchanging cells drains sources (left_of cells i + x) (top_of cells i + y)) → tile.HasCells new (tile.has old)
     → (x y : ℕ) → x < 64 → y < 64 → exchanging cells drains sources (left_of cells i + x) (top_of cells i + y) ≡ has cells (left_of cells i + x) (top_of cells i + y)
-unchanged cells drains sources i old new was becomes e x y p q =
-    let rows : tile.has new x y ≡ tile.has old x y = ap (λ (rows : List ℕ). let t : Tile = record { rows = rows } in tile.has t x y) e in
-    sym (becomes x y p q) ∙ (rows ∙ was x y p q)
+unchanged cells drains sources i old new was becomes same x y p q = sym (becomes x y p q) ∙ (same x y p q ∙ was x y p q)
 
 -- nothing is counted in a tile without cells
 blank : (cells : Cells) (f : ℕ → ℕ → Bool) (a b i : ℕ) → IsLattice cells → i < tile_count cells → ((x y : ℕ) → x < 64 → y < 64 → left_of cells i + x < cells.width → top_of cells i + y < cells.height → f (left_of cells i + x) (top_of cells i + y) ≡ false)

@@ -47,7 +47,7 @@ fn exchange(plane: &mut Plane, drains: &[Rect], sources: &[Rect]) -> Change
         }
         let old = *plane.tile(i);
         let new = exchanged_tile(&old, drains, sources, i % across * 64, i / across * 64);
-        if has_same_cells(&new, &old) {
+        if new.has_same_cells(&old) {
             continue;
         }
         let more = sums(gained, only_in(&new, &old).count_by_parity());
@@ -96,7 +96,7 @@ fn exchanged_tile(old: &Tile, drains: &[Rect], sources: &[Rect], left: u32, top:
     ensures { HasCells result (λ x y. (in_tile.has old.now x y && not (is_in_any drains.now (left + x) (top + y))) || is_in_any sources.now (left + x) (top + y)) }
 {
     if one_covers(sources, left, top) {
-        return whole_tile();
+        return Tile::full();
     }
     let mut new = drained(old, drains, left, top);
     fill(&mut new, sources, left, top);
@@ -130,14 +130,6 @@ fn fill(tile: &mut Tile, areas: &[Rect], left: u32, top: u32)
     }
 }
 
-fn whole_tile() -> Tile
-    ensures { HasCells result (λ _ _. true) }
-{
-    Tile {
-        rows: [u64::MAX; 64],
-    }
-}
-
 // whether one of the rectangles has all the 64 by 64 cells from the place (left, top) on
 fn one_covers(areas: &[Rect], left: u32, top: u32) -> bool
     ensures { IsTrue result → (x y : ℕ) → x < 64 → y < 64 → is_in_any areas.now (left + x) (top + y) ≡ true }
@@ -162,12 +154,6 @@ fn spans(start: u16, len: u16, from: u32) -> bool
 {
     let start = u32::from(start);
     start <= from && 64 <= (start + u32::from(len)).saturating_sub(from)
-}
-
-fn has_same_cells(tile: &Tile, other: &Tile) -> bool
-    ensures { IsTrue result → tile.now.rows ≡ other.now.rows }
-{
-    tile.rows == other.rows
 }
 
 // the cells that one tile has and another lacks

@@ -1,5 +1,5 @@
 -- Marks of tiles that have no cell.
-use Rattle.std.proofs.Common.{◌≡◌, ℕ, ◌+◌, ◌-◌, ◌*◌, ◌/◌, ◌%◌, ◌<◌, ◌≤◌, ◌&&◌, Bool, true, false, IsTrue, List, length, set, replicate, sym, ◌∙◌, ap, ap₂, subst, arith, inl, inr, get_or-set_other, length-set, mul_assoc}
+use Rattle.std.proofs.Common.{◌≡◌, ℕ, ◌+◌, ◌-◌, ◌*◌, ◌/◌, ◌%◌, ◌<◌, ◌≤◌, ◌≢◌, ◌&&◌, Bool, true, false, IsTrue, List, length, set, replicate, sym, ◌∙◌, ap, ap₂, subst, arith, inl, inr, get_or-set_other, get_or-set_same, length-set, mul_assoc}
 use Rattle.std.proofs.lemmas.List.{get_or-replicate, get_or_past, get_or_default, length-replicate}
 use Rattle.std.proofs.lemmas.Nat.{mod-mul-add, div-mul-add, div-add-mod'}
 use Rattle.std.proofs.Math.Nat.{mod-lt}
@@ -9,25 +9,33 @@ use Rattle.bit_tile.specs.declared.Tile.{Tile}
 use Rattle.gas_terms.specs.Cells.{Cells, Extent, has, tile_count, is_size}
 use Rattle.gas_plane.specs.Tiles.{no_cells, tile_at, is_set, AreMarked, IsMarked, Cover}
 use Rattle.gas_plane.specs.Planes.{IsTileFrom, IsBare, IsBareRound, IsBareFarRound, AreThreeBare, place_by}
-use Rattle.gas_plane.proofs.Places.{IsWholeTiles, ring_before, ring_after, ring_in, ring_cases, cell_below}
-use Rattle.gas_plane.proofs.Tilings.{tiled, tile_is, tile_there, set_covers}
+use Rattle.gas_plane.proofs.Places.{IsWholeTiles, wide, high, ring_before, ring_after, ring_in, ring_cases, cell_below}
+use Rattle.gas_plane.proofs.Tilings.{tiled, tile_is, tile_there, set_covers, nothing_there}
 
--- whatever is written to the tile that is lent
-pub marked_lent : (tiles : List Tile) (bare now : List Bool) (i : ℕ) (t : Tile) (size : Extent) → Cover tiles size → length bare ≡ length tiles → now ≡ bare → AreMarked tiles bare i → IsMarked (set tiles i t) now i size
-marked_lent tiles bare now i t size cover each e was =
+-- whatever is written to the tile that is lent, which has no mark
+pub marked_lent : (tiles : List Tile) (bare now : List Bool) (i : ℕ) (t : Tile) (size : Extent) → Cover tiles size → length bare ≡ length tiles → i < length tiles
+    → now ≡ set bare i false → AreMarked tiles bare i → IsMarked (set tiles i t) now i false size
+marked_lent tiles bare now i t size cover each low e was =
+    let same : length now ≡ length bare = ap length e ∙ length-set bare i false in
+    let own : is_set now i ≡ false = ap (λ (flags : List Bool). is_set flags i) e ∙ get_or-set_same bare i false false (omega (arith, low, each)) in
+    let others = λ (k : ℕ) (other : k ≢ i). ap (λ (flags : List Bool). is_set flags k) e ∙ get_or-set_other bare i k false false other in
     record {
       cover = set_covers tiles size i t cover;
-      each = ap length e ∙ (each ∙ sym (length-set tiles i t));
-      marks = subst (λ (bare : List Bool). AreMarked (set tiles i t) bare i) (sym e)
-          (record {
-            bare = λ k other e. subst (λ (t : Tile). HasCells t (λ _ _. false)) (sym (get_or-set_other tiles i k t no_cells other)) (was.bare k other e);
-            known = λ k other low none. was.known k other (omega (arith, low, length-set tiles i t)) (subst (λ (t : Tile). HasCells t (λ _ _. false)) (get_or-set_other tiles i k t no_cells other) none);
-          });
+      each = same ∙ (each ∙ sym (length-set tiles i t));
+      marks = record {
+        bare = λ k marked.
+            elim (cases_eq k i) [
+              | inl is_i ↦ let wrong : true ≡ false = sym marked ∙ (ap (is_set now) is_i ∙ own) in absurd (cc)
+              | inr other ↦ subst (λ (t : Tile). HasCells t (λ _ _. false)) (sym (get_or-set_other tiles i k t no_cells other)) (was.bare k (sym (others k other) ∙ marked))
+            ];
+        known = λ k other low none. others k other ∙ was.known k other (omega (arith, low, length-set tiles i t)) (subst (λ (t : Tile). HasCells t (λ _ _. false)) (get_or-set_other tiles i k t no_cells other) none);
+      };
+      none = λ e _ _. absurd (cc);
     }
 
 -- all tiles of an empty set
 pub marked_empty : (tiles : List Tile) (bare : List Bool) (size : Extent) (t : Tile) (n m lent : ℕ) → tiles ≡ replicate n t → bare ≡ replicate m true
-    → n ≡ size.width / 64 * (size.height / 64) → m ≡ size.width / 64 * (size.height / 64) → is_size size ≡ true → HasCells t (λ _ _. false) → IsMarked tiles bare lent size
+    → n ≡ size.width / 64 * (size.height / 64) → m ≡ size.width / 64 * (size.height / 64) → is_size size ≡ true → HasCells t (λ _ _. false) → IsMarked tiles bare lent true size
 marked_empty tiles bare size t n m lent all flags en em sized none =
     let long : length tiles ≡ n = ap length all ∙ length-replicate n t in
     let long_bare : length bare ≡ m = ap length flags ∙ length-replicate m true in
@@ -37,7 +45,7 @@ marked_empty tiles bare size t n m lent all flags en em sized none =
       cover = record { sized = sized; enough = long ∙ en };
       each = omega arith;
       marks = record {
-        bare = λ i _ e.
+        bare = λ i e.
             elim (cases_lt i m) [
               | inl less ↦ empty i (omega arith)
               | inr past ↦
@@ -47,6 +55,7 @@ marked_empty tiles bare size t n m lent all flags en em sized none =
             ];
         known = λ i _ low _. marked i (omega arith);
       };
+      none = λ _ i low. empty i (omega arith);
     }
 
 stays : (n k : ℕ) → k < n → k % n ≡ k
@@ -134,6 +143,13 @@ from_places P n k before after less is_before is_after all = (
   subst P (by_one n k less) (all 1 (omega arith)),
   subst P (by_two n k less ∙ sym is_after) (all 2 (omega arith)),
 )
+
+-- a plane whose tiles have no cell
+pub nothing_round : (tiles : List Tile) (size : Extent) (cells : Cells) (x0 y0 : ℕ) → Cover tiles size → tiled tiles size ≡ cells → ((i : ℕ) → i < length tiles → HasCells (tile_at tiles i) (λ _ _. false)) → IsBareRound cells x0 y0
+nothing_round tiles size cells x0 y0 cover e none =
+    let w : 0 < cells.width = rw (← (ap (λ (c : Cells). c.width) e)) (let is = wide size cover.sized in omega (arith, is.some)) in
+    let h : 0 < cells.height = rw (← (ap (λ (c : Cells). c.height) e)) (let is = high size cover.sized in omega (arith, is.some)) in
+    record { cell = λ i j _ _. nothing_there tiles size cells cover e none _ _ (mod-lt _ w) (mod-lt _ h) }
 
 -- round tile (column, row)
 module _ (cells : Cells) (column row : ℕ) (wide : IsWholeTiles cells.width) (high : IsWholeTiles cells.height) (in_row : column < cells.width / 64) (in_column : row < cells.height / 64) where

@@ -139,22 +139,22 @@ inside_as : (r : Rectangle) (column row x y : ℕ) → x / 64 ≡ column → y /
 inside_as r column row x y e f = ap₂ (is_inside r) (let a : column * 64 + x % 64 ≡ x = omega arith in a) (let b : row * 64 + y % 64 ≡ y = omega arith in b)
 
 -- what a tile has of the rectangle
-tile_part : (r : Rectangle) (n row column x y : ℕ) (part : Tile) → column < n → x / 64 < n → HasCells part (λ x y. is_inside r (column * 64 + x) (row * 64 + y)) → ((y / 64 * n + x / 64 == row * n + column) && tile.has part (x % 64) (y % 64)) ≡ ((y / 64 == row) && (x / 64 == column) && is_inside r x y)
+tile_part : (r : Rectangle) (n row column x y : ℕ) (part : ℕ → ℕ → Bool) → column < n → x / 64 < n → ((x y : ℕ) → x < 64 → y < 64 → part x y ≡ is_inside r (column * 64 + x) (row * 64 + y)) → ((y / 64 * n + x / 64 == row * n + column) && part (x % 64) (y % 64)) ≡ ((y / 64 == row) && (x / 64 == column) && is_inside r x y)
 tile_part r n row column x y part p q of =
     elim (cases_eq (y / 64 * n + x / 64) (row * n + column)) [
       | inl e ↦
           let (same_row, same_column) = same_from_place (y / 64) (x / 64) row column n q p e in
-          ap (λ b. b && tile.has part (x % 64) (y % 64)) (eq-eqb (y / 64 * n + x / 64) (row * n + column) e)
+          ap (λ b. b && part (x % 64) (y % 64)) (eq-eqb (y / 64 * n + x / 64) (row * n + column) e)
           ∙ (of (x % 64) (y % 64) (omega arith) (omega arith)
           ∙ (inside_as r column row x y same_column same_row
           ∙ sym (both (y / 64) row (x / 64) column (is_inside r x y) same_row same_column)))
       | inr ne ↦
-          ap (λ b. b && tile.has part (x % 64) (y % 64)) (ne_eqb (y / 64 * n + x / 64) (row * n + column) ne)
+          ap (λ b. b && part (x % 64) (y % 64)) (ne_eqb (y / 64 * n + x / 64) (row * n + column) ne)
           ∙ sym (ap (λ b. b && is_inside r x y) (apart (y / 64) row (x / 64) column (λ e f. ne (ap₂ (λ a b. a * n + b) e f))))
     ]
 
-pub row_next : (r : Rectangle) (n row column x y : ℕ) (part : Tile) → column < n → x / 64 < n → HasCells part (λ x y. is_inside r (column * 64 + x) (row * 64 + y))
-    → (in_row r row column x y || ((y / 64 * n + x / 64 == row * n + column) && tile.has part (x % 64) (y % 64))) ≡ in_row r row (column + 1) x y
+pub row_next : (r : Rectangle) (n row column x y : ℕ) (part : ℕ → ℕ → Bool) → column < n → x / 64 < n → ((x y : ℕ) → x < 64 → y < 64 → part x y ≡ is_inside r (column * 64 + x) (row * 64 + y))
+    → (in_row r row column x y || ((y / 64 * n + x / 64 == row * n + column) && part (x % 64) (y % 64))) ≡ in_row r row (column + 1) x y
 row_next r n row column x y part p q of =
     ap (λ b. in_row r row column x y || b) (tile_part r n row column x y part p q of) ∙ one_more (x / 64) column (y / 64 == row) (is_inside r x y)
 
@@ -200,15 +200,26 @@ tile_in_row cells now test held row column across so_far wide p q =
     let less : column < cells.width / 64 = rw (← wide) q in
     rw (so_far, wide) (mul-add-lt row (cells.width / 64) column (cells.height / 64) p less)
 
-pub row_more : (cells now next : Cells) (r : Rectangle) (held : Bool) (row column across : ℕ) (part : Tile) → IsLattice cells → across ≡ cells.width / 64 → column < across → now ≡ painted_where cells (in_row r row column) held → HasCells part (λ x y. is_inside r (column * 64 + x) (row * 64 + y))
-    → next ≡ painted_where now (λ x y. (tile_of now x y == row * across + column) && tile.has part (x % 64) (y % 64)) held → next ≡ painted_where cells (in_row r row (column + 1)) held
+pub row_more : (cells now next : Cells) (r : Rectangle) (held : Bool) (row column across : ℕ) (part : ℕ → ℕ → Bool) → IsLattice cells → across ≡ cells.width / 64 → column < across → now ≡ painted_where cells (in_row r row column) held → ((x y : ℕ) → x < 64 → y < 64 → part x y ≡ is_inside r (column * 64 + x) (row * 64 + y))
+    → next ≡ painted_where now (λ x y. (tile_of now x y == row * across + column) && part (x % 64) (y % 64)) held → next ≡ painted_where cells (in_row r row (column + 1)) held
 row_more cells now next r held row column across part is wide_is less so_far of put =
-    painted_more cells now next (in_row r row column) (λ x y. (tile_of now x y == row * across + column) && tile.has part (x % 64) (y % 64)) (in_row r row (column + 1)) held so_far put
+    painted_more cells now next (in_row r row column) (λ x y. (tile_of now x y == row * across + column) && part (x % 64) (y % 64)) (in_row r row (column + 1)) held so_far put
     (λ x y p q.
     let n : now.width / 64 ≡ cells.width / 64 = ap (λ w. w / 64) (same_wide cells now (in_row r row column) held so_far) in
     let within : x / 64 < cells.width / 64 = tile_below cells.width x (wide (extent cells) is.sized) p in
-    ap₂ (λ m a. in_row r row column x y || ((y / 64 * m + x / 64 == row * a + column) && tile.has part (x % 64) (y % 64))) n wide_is
+    ap₂ (λ m a. in_row r row column x y || ((y / 64 * m + x / 64 == row * a + column) && part (x % 64) (y % 64))) n wide_is
     ∙ row_next r (cells.width / 64) row column x y part (rw (← wide_is) less) within of)
+
+with_true : (b : Bool) → b ≡ (b && true)
+with_true true = refl
+with_true false = refl
+
+-- the same where the rectangle has the whole tile
+pub row_more_whole : (cells now next : Cells) (r : Rectangle) (held : Bool) (row column across : ℕ) → IsLattice cells → across ≡ cells.width / 64 → column < across → now ≡ painted_where cells (in_row r row column) held → ((x y : ℕ) → x < 64 → y < 64 → is_inside r (column * 64 + x) (row * 64 + y) ≡ true)
+    → next ≡ painted_where now (λ x y. tile_of now x y == row * across + column) held → next ≡ painted_where cells (in_row r row (column + 1)) held
+row_more_whole cells now next r held row column across is wide_is less so_far covered put =
+    row_more cells now next r held row column across (λ _ _. true) is wide_is less so_far (λ x y p q. sym (covered x y p q))
+    (put ∙ same_painted now (λ x y. tile_of now x y == row * across + column) (λ x y. (tile_of now x y == row * across + column) && true) held (λ x y p q. with_true (tile_of now x y == row * across + column)))
 
 pub row_same : (cells now : Cells) (r : Rectangle) (held : Bool) (row column : ℕ) → now ≡ painted_where cells (in_row r row column) held → ((x y : ℕ) → x < 64 → y < 64 → is_inside r (column * 64 + x) (row * 64 + y) ≡ false) → now ≡ painted_where cells (in_row r row (column + 1)) held
 row_same cells now r held row column so_far none = so_far ∙ same_painted cells (in_row r row column) (in_row r row (column + 1)) held (λ x y p q. row_past r row column x y none)

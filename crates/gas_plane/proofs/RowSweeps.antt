@@ -1,7 +1,7 @@
 -- A row's words are replaced one after another.
-use Rattle.std.proofs.Common.{◌≡◌, ℕ, ◌+◌, ◌-◌, ◌*◌, ◌/◌, ◌%◌, ◌^◌, ◌<◌, ◌≤◌, ◌==◌, ◌&&◌, ◌≢◌, Bool, true, false, nat_lt, if◌then◌else◌, List, length, get_or, set, refl, sym, ◌∙◌, ap, ap₂, arith, inl, inr, get_or-set_same, get_or-set_other, get_or-take, get_or-drop, take, drop}
+use Rattle.std.proofs.Common.{◌≡◌, ℕ, ◌+◌, ◌-◌, ◌*◌, ◌/◌, ◌%◌, ◌^◌, ◌<◌, ◌≤◌, ◌==◌, ◌&&◌, ◌≢◌, Bool, true, false, nat_lt, if◌then◌else◌, List, get_or, refl, sym, ◌∙◌, ap, ap₂, arith, inl, inr, get_or-take, get_or-drop, take, drop}
 use Rattle.std.proofs.lemmas.Nat.{same_from_place, mul-add-lt, div-mul-add, mod-mul-add}
-use Rattle.std.proofs.lemmas.Bool.{cases_eq, eq-eqb}
+use Rattle.std.proofs.lemmas.Bool.{cases_eq, eq-eqb, ne_eqb}
 use Rattle.std.proofs.lemmas.Bool.Decides.{nat_tests, Decides-eqb}
 use Rattle.bit_tile.specs.Tile as tile
 use Rattle.bit_tile.specs.Bit.{bit}
@@ -11,7 +11,7 @@ use Rattle.gas_terms.specs.Rows.{row_has, row_replaced}
 use Rattle.gas_terms.proofs.Cells.{has-cells_where, full-cells_where, same_cells_where, same_cells}
 use Rattle.gas_plane.specs.Planes.{IsLattice, IsTileFrom, tile_of, with_tile, with_word}
 use Rattle.gas_plane.proofs.Places.{wide, high, tile_below}
-use Rattle.gas_plane.proofs.Tilings.{choose_false}
+use Rattle.gas_plane.proofs.Tilings.{choose_true, choose_false}
 
 -- one word of one tile is replaced
 choose_same : (test a b v : Bool) → (test ≡ true → v ≡ a) → (test ≡ false → v ≡ b) → v ≡ (if test then a else b)
@@ -30,15 +30,14 @@ same_place a column row x y p q e = same_from_place (y / 64) (x / 64) (row / 64)
 clash : (b : Bool) → b ≡ true → b ≡ false → ⊥
 clash b e f = cc
 
-pub word_set : (cells : Cells) (column row word : ℕ) (t made : Tile) → IsLattice cells → column < cells.width / 64 → length t.rows ≡ 64 → made.rows ≡ set t.rows (row % 64) word → IsTileFrom t cells (column * 64) (row / 64 * 64) → with_tile cells (row / 64 * (cells.width / 64) + column) made ≡ with_word cells column row word
-word_set cells column row word t made is p long e from =
+pub word_set : (cells : Cells) (column row word : ℕ) (t made : Tile) → IsLattice cells → column < cells.width / 64 → tile.HasCells made (λ i j. if j == row % 64 then bit word i else tile.has t i j) → IsTileFrom t cells (column * 64) (row / 64 * 64) → with_tile cells (row / 64 * (cells.width / 64) + column) made ≡ with_word cells column row word
+word_set cells column row word t made is p makes from =
     let a : ℕ = cells.width / 64 in
     let k : ℕ = row / 64 * a + column in
-    let in_rows : row % 64 < length t.rows = omega arith in
     same_cells_where cells.width cells.height (λ x y. if tile_of cells x y == k then tile.has made (x % 64) (y % 64) else has cells x y) (λ x y. if (x / 64 == column) && (y == row) then bit word (x % 64) else has cells x y)
     (λ x y xw yh.
     let q : x / 64 < a = tile_below cells.width x (wide (extent cells) is.sized) xw in
-    let made_row : (r : ℕ) → tile.has made (x % 64) r ≡ bit (get_or (set t.rows (row % 64) word) r 0) (x % 64) = λ r. ap (λ (rows : List ℕ). bit (get_or rows r 0) (x % 64)) e in
+    let made_cell : tile.has made (x % 64) (y % 64) ≡ (if y % 64 == row % 64 then bit word (x % 64) else tile.has t (x % 64) (y % 64)) = makes (x % 64) (y % 64) (omega arith) (omega arith) in
     sym
     (choose_same (tile_of cells x y == k) (tile.has made (x % 64) (y % 64)) (has cells x y) (if (x / 64 == column) && (y == row) then bit word (x % 64) else has cells x y)
     (λ in_tile.
@@ -47,13 +46,13 @@ word_set cells column row word t made is p long e from =
     (choose_same ((x / 64 == column) && (y == row)) (bit word (x % 64)) (has cells x y) (tile.has made (x % 64) (y % 64))
     (λ both.
     let same_row : y % 64 ≡ row % 64 = ap (λ n. n % 64) (both_true (x / 64) column y row both).1 in
-    made_row (y % 64) ∙ ap (λ n. bit n (x % 64)) (ap (λ r. get_or (set t.rows (row % 64) word) r 0) same_row ∙ get_or-set_same t.rows (row % 64) word 0 in_rows))
+    made_cell ∙ sym (choose_true (y % 64 == row % 64) (bit word (x % 64)) (tile.has t (x % 64) (y % 64)) (bit word (x % 64)) (eq-eqb (y % 64) (row % 64) same_row) refl))
     (λ neither.
     let other_row : y ≢ row = not_both (x / 64) column y row neither place.1 in
     let other : y % 64 ≢ row % 64 = λ h. other_row (omega arith) in
     let across : column * 64 + x % 64 ≡ x = omega arith in
     let down : row / 64 * 64 + y % 64 ≡ y = omega arith in
-    made_row (y % 64) ∙ (ap (λ n. bit n (x % 64)) (get_or-set_other t.rows (row % 64) (y % 64) word 0 other) ∙ (from.cell (x % 64) (y % 64) (omega arith) (omega arith) ∙ ap₂ (has cells) across down)))))
+    made_cell ∙ (sym (choose_false (y % 64 == row % 64) (bit word (x % 64)) (tile.has t (x % 64) (y % 64)) _ (ne_eqb (y % 64) (row % 64) other) refl) ∙ (from.cell (x % 64) (y % 64) (omega arith) (omega arith) ∙ ap₂ (has cells) across down)))))
     (λ elsewhere.
     sym
     (choose_same ((x / 64 == column) && (y == row)) (bit word (x % 64)) (has cells x y) (has cells x y)

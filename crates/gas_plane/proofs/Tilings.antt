@@ -92,6 +92,17 @@ tiled_empty tiles size t n all enough sized none =
     let is : tile_at tiles i ≡ t = ap (λ (tiles : List Tile). tile_at tiles i) all ∙ get_or-replicate n i t no_cells k in
     ap (λ (t : Tile). tile.has t (x % 64) (y % 64)) is ∙ none (x % 64) (y % 64) (omega arith) (omega arith))
 
+pub nothing_there : (tiles : List Tile) (size : Extent) (cells : Cells) → Cover tiles size → tiled tiles size ≡ cells → ((i : ℕ) → i < length tiles → (x y : ℕ) → x < 64 → y < 64 → tile.has (tile_at tiles i) x y ≡ false) → (x y : ℕ) → x < cells.width → y < cells.height → has cells x y ≡ false
+unfolding tiles_have
+nothing_there tiles size cells cover e none x y =
+    subst (λ (cells : Cells). x < cells.width → y < cells.height → has cells x y ≡ false) e
+    (λ p q.
+    let a = tile_below size.width x (wide size cover.sized) p in
+    let b = tile_below size.height y (high size cover.sized) q in
+    let i : ℕ = y / 64 * (size.width / 64) + x / 64 in
+    let k : i < length tiles = omega (arith, cover.enough, mul-add-lt (y / 64) (size.width / 64) (x / 64) (size.height / 64) b a) in
+    has-cells_where size.width size.height (tiles_have tiles (size.width / 64)) x y p q ∙ none i k (x % 64) (y % 64) (omega arith) (omega arith))
+
 -- a tile that is put in a place
 pub tiled_set : (tiles : List Tile) (size : Extent) (cells : Cells) (i : ℕ) (t : Tile) → i < tile_count cells → Cover tiles size → tiled tiles size ≡ cells → tiled (set tiles i t) size ≡ with_tile cells i t
 unfolding tiles_have

@@ -4,7 +4,7 @@
 ghost use Rattle.std.specs.Borrow.{sem};
 ghost use Rattle.std.specs.Prelude.{◌≡◌, IsTrue, ℕ, ◌+◌, ◌*◌, ◌/◌, ◌%◌, ◌<◌, ◌≤◌, ◌-◌, ◌^◌, ◌==◌, ◌&&◌, nat_le, nat_lt, Bool, false, IfOk, MatchOption, if◌then◌else◌, length, true, slice_index};
 ghost use Rattle.bit_tile.specs.Bit.{bit};
-ghost use Rattle.gas_terms.specs.Cells.{Cells, HasSidesOf, has, cells_where, extent, tile_count, tile_rectangle, Rectangle, is_inside, filled, cleared, lies_within};
+ghost use Rattle.gas_terms.specs.Cells.{Cells, has, cells_where, extent, tile_count, tile_rectangle, Rectangle, is_inside, filled, cleared, lies_within};
 ghost use Rattle.gas_terms.specs.Accounts.{parity_count};
 ghost use Rattle.gas_terms.specs.Rows.{row_has, row_replaced, row_bytes};
 ghost use Rattle.gas_plane.specs.Planes.{IsLattice, IsTileFrom, IsRingRound, IsBare, IsBareRound, IsBareFarRound, AreThreeBare, tile_of, with_tile, with_word, painted_where};
@@ -30,8 +30,6 @@ const EVEN_PAIRS: u64 = 0x3333_3333_3333_3333;
 
 const LOW_HALVES: u64 = 0x0f0f_0f0f_0f0f_0f0f;
 
-static NO_CELLS: Tile = Tile { rows: [0; 64] };
-
 /// A set of cells of a lattice, which is a torus. Contracts see its width, its height and its cells; only `empty` and `copy`
 /// take memory.
 #[derive(Drop)]
@@ -39,10 +37,12 @@ pub struct Plane {
     size: Size,
     // row by row
     tiles: Vec<Tile>,
-    // whether a tile has no cell, of each but the one that was lent last: that one may have been written to since
+    // a tile that is marked has no cell; so is each that has none, but for the one that was lent last, which may be written to
     bare: Vec<bool>,
-    // its number, or how many tiles there are
+    // that one's number, or how many tiles there are
     lent: u32,
+    // whether no tile was ever lent: then no mark has to be read
+    fresh: bool,
 }
 
 impl Model for Plane {
@@ -54,7 +54,7 @@ impl Model for Plane {
 
     ghost view = { λ p. cells_where p.size.width p.size.height (tiles_have p.tiles.items (p.size.width / 64)) };
 
-    ghost invariant = { λ p. IsMarked p.tiles.items p.bare.items p.lent p.size };
+    ghost invariant = { λ p. IsMarked p.tiles.items p.bare.items p.lent p.fresh p.size };
 }
 
 impl Plane {
@@ -69,6 +69,7 @@ impl Plane {
             tiles,
             bare,
             lent: size.tiles(),
+            fresh: true,
         })
     }
 
@@ -83,22 +84,8 @@ impl Plane {
             tiles,
             bare,
             lent: self.lent,
+            fresh: self.fresh,
         })
-    }
-
-    /// Makes it the other plane, which has the same sides.
-    pub fn copy_from(&mut self, other: &Plane)
-        requires { HasSidesOf self.old other.now }
-        ensures { self.new ≡ other.now }
-    {
-        self.size = other.size;
-        self.tiles
-            .as_mut_slice()
-            .copy_from_slice(other.tiles.as_slice());
-        self.bare
-            .as_mut_slice()
-            .copy_from_slice(other.bare.as_slice());
-        self.lent = other.lent;
     }
 
     /// How wide and high the lattice is.
@@ -138,7 +125,7 @@ impl Plane {
         ensures { let r = tile_rectangle self.now i in IsTileFrom result.now self.now r.x r.y }
     {
         if self.is_bare(i) {
-            &NO_CELLS
+            Tile::shared_empty()
         } else {
             self.tile(i)
         }
@@ -160,7 +147,9 @@ impl Plane {
         ensures tile { let r = tile_rectangle self.old i in IsTileFrom result.now self.old r.x r.y }
     {
         settle(self.bare.as_mut_slice(), self.tiles.as_slice(), self.lent);
+        self.bare[i as usize] = false;
         self.lent = i;
+        self.fresh = false;
         &mut self.tiles[i as usize]
     }
 
@@ -171,11 +160,10 @@ impl Plane {
         ensures bare { let r = tile_rectangle self.now i in IsTrue result → IsBare self.now r.x r.y }
         ensures known { let r = tile_rectangle self.now i in IsBare self.now r.x r.y → IsTrue result }
     {
-        if i == self.lent {
-            self.tile(i).is_empty()
-        } else {
-            self.bare[i as usize]
+        if self.bare[i as usize] {
+            return true;
         }
+        i == self.lent && self.tile(i).is_empty()
     }
 
     /// Whether neither tile i nor any of the eight tiles round it has a cell.
@@ -185,6 +173,9 @@ impl Plane {
         ensures bare { let r = tile_rectangle self.now i in IsTrue result → IsBareRound self.now r.x r.y }
         ensures known { let r = tile_rectangle self.now i in IsBareFarRound self.now r.x r.y → IsTrue result }
     {
+        if self.fresh {
+            return true;
+        }
         let across = self.across();
         let down = self.down();
         let column = i % across;
@@ -289,10 +280,22 @@ impl Plane {
         let across = self.across();
         let (first, end) = tiles_met(area.x() as u32, area.w() as u32, across);
         for column in first..end {
-            if let Some(part) = part_of(area, column * 64, row * 64) {
-                self.paint_tile(row * across + column, &part, held);
+            let i = row * across + column;
+            if is_covered(area, column * 64, row * 64) {
+                self.paint_whole_tile(i, held);
+            } else if let Some(part) = part_of(area, column * 64, row * 64) {
+                self.paint_tile(i, &part, held);
             }
         }
+    }
+
+    // puts all cells into tile i, or takes them out
+    fn paint_whole_tile(&mut self, i: u32, held: bool)
+        requires { i < tile_count self.old }
+        ensures { self.new ≡ painted_where self.old (λ x y. tile_of self.old x y == i) held }
+    {
+        let tile = if held { Tile::full() } else { Tile::empty() };
+        self.set_tile(i, tile);
     }
 
     // puts the part's cells into tile i, or takes them out
@@ -344,7 +347,7 @@ impl Plane {
     {
         // the rows are whole tiles
         let _ = &self.size;
-        self.tile_in(column, y / 64).rows[(y % 64) as usize]
+        self.tile_in(column, y / 64).row((y % 64) as usize)
     }
 
     fn set_word(&mut self, column: u32, y: u32, word: u64)
@@ -356,7 +359,7 @@ impl Plane {
         // rows that are loaded are mostly as they were, and then the tile is not lent
         if self.word(column, y) != word {
             let tile = self.tile_mut(y / 64 * across + column);
-            tile.rows[(y % 64) as usize] = word;
+            tile.set_row((y % 64) as usize, word);
         }
     }
 

@@ -11,19 +11,23 @@ fn numbers(found: &Plan<'_>) -> [u32; 3] {
     [size.width() as u32, size.height() as u32, found.setup.cap]
 }
 
+// the plan of words that are understood
+fn planned<'a>(rt: &(impl Abort + AllocGlobal), words: &'a [&'a str]) -> Plan<'a> {
+    match plan(rt.alloc(), words) {
+        Ok(found) => found,
+        Err(_) => panic!(rt; "the words were not understood"),
+    }
+}
+
 // the words are read as this width, height and capacity, and nothing to load or save
 fn plans(
     rt: &(impl Abort + AllocGlobal + Threads + Copy + Drop),
     words: &[&str],
     wanted: [u32; 3],
 ) {
-    match plan(rt.alloc(), words) {
-        Ok(found) => {
-            assert_eq!(rt; numbers(&found), wanted);
-            assert!(rt; found.load.is_none() && found.save.is_none());
-        }
-        Err(_) => panic!(rt; "the words were not understood"),
-    }
+    let found = planned(rt, words);
+    assert_eq!(rt; numbers(&found), wanted);
+    assert!(rt; found.load.is_none() && found.save.is_none());
 }
 
 // the text where the words ask for something else
@@ -132,14 +136,10 @@ fn paths_of_a_plan(rt: HostRuntime) {
         "--cap",
         "7",
     ];
-    match plan(rt.alloc(), &words) {
-        Ok(found) => {
-            assert_eq!(rt; numbers(&found), [64, 64, 7]);
-            assert_eq!(rt; found.load, Some("start.gas"));
-            assert_eq!(rt; found.save, Some("end.gas"));
-        }
-        Err(_) => panic!(rt; "the words were not understood"),
-    }
+    let found = planned(&rt, &words);
+    assert_eq!(rt; numbers(&found), [64, 64, 7]);
+    assert_eq!(rt; found.load, Some("start.gas"));
+    assert_eq!(rt; found.save, Some("end.gas"));
 }
 
 // the snapshot's size then holds
@@ -155,22 +155,15 @@ fn sizes_beside_a_snapshot(rt: HostRuntime) {
         "--load",
         "start.gas",
     ];
-    match plan(rt.alloc(), &words) {
-        Ok(found) => {
-            assert_eq!(rt; numbers(&found), [64, 64, 1024]);
-            assert_eq!(rt; found.load, Some("start.gas"));
-            assert!(rt; found.save.is_none());
-        }
-        Err(_) => panic!(rt; "the words were not understood"),
-    }
+    let found = planned(&rt, &words);
+    assert_eq!(rt; numbers(&found), [64, 64, 1024]);
+    assert_eq!(rt; found.load, Some("start.gas"));
+    assert!(rt; found.save.is_none());
 }
 
 // how many workers the words give
 fn workers_of(rt: &(impl Abort + AllocGlobal), words: &[&str]) -> u8 {
-    match plan(rt.alloc(), words) {
-        Ok(found) => found.setup.workers,
-        Err(_) => panic!(rt; "the words were not understood"),
-    }
+    planned(rt, words).setup.workers
 }
 
 #[test]
@@ -199,10 +192,7 @@ fn options_that_are_not_there(rt: HostRuntime) {
 
 // where the words have it listen, and for how many sessions
 fn service_of(rt: &(impl Abort + AllocGlobal), words: &[&str]) -> Service {
-    match plan(rt.alloc(), words) {
-        Ok(found) => found.service,
-        Err(_) => panic!(rt; "the words were not understood"),
-    }
+    planned(rt, words).service
 }
 
 fn here(port: u16, sessions: u8) -> Service {

@@ -99,42 +99,62 @@ fn opened<R: Abort + AllocGlobal + Threads>(rt: &R) -> Lab<Team<&R, NoGate>> {
     Lab::open(rt.alloc(), gas, 1024, Team::new(rt, rt.alloc(), 1, NoGate)).expect(rt, "memory")
 }
 
+// what a session wrote, what its shelf took, and how it ended
+#[derive(Drop)]
+struct Session {
+    sink: Sink,
+    store: Store,
+    end: SessionEnd,
+}
+
+// a session on this laboratory
+fn sits<R: Abort + AllocGlobal + Threads>(
+    rt: &R,
+    lab: &mut Lab<Team<&R, NoGate>>,
+    input: &[u8],
+    failing: Failing,
+) -> Session {
+    let mut source = Source::new(input, failing.read_step, failing.reads);
+    let mut sink = Sink::new(rt.alloc(), failing.write_step, ALL, failing.writes);
+    let mut store = Store::new(rt.alloc(), FaultAt::never());
+    let end = serve_alone(rt.alloc(), &mut source, &mut sink, lab, 0, &mut store);
+    Session { sink, store, end }
+}
+
 // all that can be seen of a laboratory: its tick, accounts and journal, and its gas as a snapshot
 fn view_of<R: Abort + AllocGlobal + Threads>(rt: &R, lab: &mut Lab<Team<&R, NoGate>>) -> Vec<u8> {
     let questions = lines(
         rt,
         "tally; ledger; entry 0; entry 1; entry 2; entry 3; entry 4; entry 5; save",
     );
-    let mut source = Source::new(questions.as_slice(), ALL, FaultAt::never());
-    let mut sink = Sink::new(rt.alloc(), ALL, ALL, FaultAt::never());
-    let mut store = Store::new(rt.alloc(), FaultAt::never());
-    let end = serve_alone(rt.alloc(), &mut source, &mut sink, lab, 0, &mut store);
-    assert_eq!(rt; end, SessionEnd::InputEnd);
-    let mut view = Vec::from_slice(rt.alloc(), sink.taken()).expect(rt, "memory");
-    assert_eq!(rt; store.kept().len(), 1);
-    for bytes in store.kept() {
+    seen_by(rt, &sits(rt, lab, questions.as_slice(), no_fault()))
+}
+
+// what a session wrote, and the one snapshot that its shelf took
+fn seen_by(rt: &(impl Abort + AllocGlobal), session: &Session) -> Vec<u8> {
+    assert_eq!(rt; session.end, SessionEnd::InputEnd);
+    let mut view = Vec::from_slice(rt.alloc(), session.sink.taken()).expect(rt, "memory");
+    assert_eq!(rt; session.store.kept().len(), 1);
+    for bytes in session.store.kept() {
         view.extend_from_slice(bytes.as_slice())
             .expect(rt, "memory");
     }
     view
 }
 
-// a laboratory and a shelf after the lines
-fn after<'r, R: Abort + AllocGlobal + Threads>(
-    rt: &'r R,
+// a session on an empty laboratory, and what is then seen of that
+fn session_and_view(
+    rt: &(impl Abort + AllocGlobal + Threads),
     input: &[u8],
-) -> (Lab<Team<&'r R, NoGate>>, Store) {
+    failing: Failing,
+) -> (Session, Vec<u8>) {
     let mut lab = opened(rt);
-    let mut source = Source::new(input, ALL, FaultAt::never());
-    let mut sink = Sink::new(rt.alloc(), ALL, ALL, FaultAt::never());
-    let mut store = Store::new(rt.alloc(), FaultAt::never());
-    let end = serve_alone(rt.alloc(), &mut source, &mut sink, &mut lab, 0, &mut store);
-    assert_eq!(rt; end, SessionEnd::InputEnd);
-    (lab, store)
+    let session = sits(rt, &mut lab, input, failing);
+    (session, view_of(rt, &mut lab))
 }
 
-// both shelves have taken the same
-fn are_same(rt: &impl Abort, found: &[Vec<u8>], wanted: &[Vec<u8>]) {
+/// Both shelves have taken the same.
+pub fn are_same(rt: &impl Abort, found: &[Vec<u8>], wanted: &[Vec<u8>]) {
     assert_eq!(rt; found.len(), wanted.len());
     for (found, wanted) in found.iter().zip(wanted) {
         assert_eq!(rt; found.as_slice(), wanted.as_slice());
@@ -142,17 +162,16 @@ fn are_same(rt: &impl Abort, found: &[Vec<u8>], wanted: &[Vec<u8>]) {
 }
 
 // the laboratory is as after the lines, and the shelf has taken what it then has
-fn is_as_after<R: Abort + AllocGlobal + Threads>(
-    rt: &R,
-    lab: &mut Lab<Team<&R, NoGate>>,
+fn is_as_after(
+    rt: &(impl Abort + AllocGlobal + Threads),
+    found: &[u8],
     store: &Store,
     input: &[u8],
 ) {
-    let (mut other, kept) = after(rt, input);
-    let found = view_of(rt, lab);
-    let wanted = view_of(rt, &mut other);
-    assert_eq!(rt; found.as_slice(), wanted.as_slice());
-    are_same(rt, store.kept(), kept.kept());
+    let (session, wanted) = session_and_view(rt, input, no_fault());
+    assert_eq!(rt; session.end, SessionEnd::InputEnd);
+    assert_eq!(rt; found, wanted.as_slice());
+    are_same(rt, store.kept(), session.store.kept());
 }
 
 // the run goes like this
@@ -173,26 +192,6 @@ fn runs(
     );
 }
 
-// a session on this laboratory goes like this; what the shelf takes
-fn sits<R: Abort + AllocGlobal + Threads>(
-    rt: &R,
-    lab: &mut Lab<Team<&R, NoGate>>,
-    exchange: &Exchange,
-    failing: Failing,
-    wanted: Outcome,
-) -> Store {
-    let mut source = Source::new(exchange.input.as_slice(), failing.read_step, failing.reads);
-    let mut sink = Sink::new(rt.alloc(), failing.write_step, ALL, failing.writes);
-    let mut store = Store::new(rt.alloc(), FaultAt::never());
-    let end = serve_alone(rt.alloc(), &mut source, &mut sink, lab, 0, &mut store);
-    assert_eq!(rt; end, wanted.end);
-    assert_eq!(rt;
-        sink.taken(),
-        front(exchange.output.as_slice(), wanted.written)
-    );
-    store
-}
-
 // the run, and a session on a laboratory that is then looked at, go like this
 fn goes(
     rt: &(impl Abort + AllocGlobal + Threads),
@@ -201,14 +200,14 @@ fn goes(
     wanted: Outcome,
 ) {
     runs(rt, exchange, failing, wanted);
-    let mut lab = opened(rt);
-    let store = sits(rt, &mut lab, exchange, failing, wanted);
-    is_as_after(
-        rt,
-        &mut lab,
-        &store,
-        first_lines(exchange.input.as_slice(), wanted.asked),
+    let (session, found) = session_and_view(rt, exchange.input.as_slice(), failing);
+    assert_eq!(rt; session.end, wanted.end);
+    assert_eq!(rt;
+        session.sink.taken(),
+        front(exchange.output.as_slice(), wanted.written)
     );
+    let asked = first_lines(exchange.input.as_slice(), wanted.asked);
+    is_as_after(rt, found.as_slice(), &session.store, asked);
 }
 
 // so many bytes were read

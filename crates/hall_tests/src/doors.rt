@@ -3,7 +3,7 @@
 ghost use Rattle.std.specs.Prelude.{◌≡◌, [], vec_len};
 ghost use Rattle.gas_terms.specs.Cells.{extent};
 
-use crate::values::{are_puts, small_lab, tally};
+use crate::values::{look_at, small_lab, sums_of};
 use gas_hall::{Hall, HallGate, HallName, HallSeat};
 use gas_lab::{Lab, Serial, Stepper};
 use gas_snapshot::NoShelf;
@@ -87,6 +87,38 @@ fn come_back<N: HallName>(
     assert!(rt; seats.push(seat).is_ok());
 }
 
+// A hall with two seats, held by turns.
+fn open_two<'g, N: HallName, R: Wait + Clock + Abort>(
+    rt: &R,
+    alloc: Global,
+    blank: Blank,
+    lab: Lab<Serial>,
+    turns: &'g TestGate<R>,
+) -> (Hall<N, Serial, &'g TestGate<R>>, Vec<HallSeat<N>>)
+    requires name { blank.name ≡ N.name }
+    requires parts { (blank.parts ≡ N.parts) × (blank.parts ≡ 2) }
+    requires lab { (extent lab.start.particles ≡ N.size) × (lab.cap ≡ N.cap) × (lab.journal ≡ []) }
+{
+    match Hall::open(alloc, blank, lab, 2, turns) {
+        Ok(opened) => opened,
+        Err(_) => panic!(rt; "no memory"),
+    }
+}
+
+// Closes the hall after the two sessions.
+fn close_two<N: HallName, G: HallGate>(
+    rt: &impl Abort,
+    hall: Hall<N, Serial, G>,
+    seats: Vec<HallSeat<N>>,
+)
+    requires { N.parts ≡ 2 }
+{
+    assert!(rt; seats.len() == 2);
+    let seen = look_at(rt, hall.close(seats), &[(0, 0), (1, 4), (0, 2)]);
+    assert_eq!(rt; seen.tally, (3, 3, 3));
+    assert!(rt; seen.are_puts);
+}
+
 // The sessions, and the laboratory afterwards.
 fn both<N: HallName + Send + Sync, R: Threads + Wait + Clock + Abort + Sync + Copy + Send>(
     rt: &R,
@@ -99,26 +131,10 @@ fn both<N: HallName + Send + Sync, R: Threads + Wait + Clock + Abort + Sync + Co
     requires lab { (extent lab.start.particles ≡ N.size) × (lab.cap ≡ N.cap) × (lab.journal ≡ []) }
 {
     let turns = TestGate::turns(*rt);
-    let Ok((hall, seats)) = Hall::<N, Serial, &TestGate<R>>::open(alloc, blank, lab, 2, &turns)
-    else {
-        panic!(rt; "no memory")
-    };
+    let (hall, seats) = open_two::<N, R>(rt, alloc, blank, lab, &turns);
     let seats = take_turns(rt, alloc, &hall, seats);
     assert!(rt; !turns.met_limit());
-    assert!(rt; seats.len() == 2);
-    let mut lab = hall.close(seats);
-    assert_eq!(rt; tally(rt, &mut lab), (3, 3, 3));
-    assert!(rt; are_puts(lab.journal(), &[(0, 0), (1, 4), (0, 2)]));
-}
-
-// The sums of a copy's gas, and how many entries the journal had.
-fn sums_of(
-    rt: &(impl Abort + AllocGlobal),
-    copied: Result<Copied, NoMemory>,
-) -> ((i64, i64, i64), u32) {
-    let Copied { gas, entries } = copied.expect(rt, "memory");
-    let mut again = Lab::open(rt.alloc(), gas, 1, Serial).expect(rt, "memory");
-    (tally(rt, &mut again), entries)
+    close_two(rt, hall, seats);
 }
 
 fn copy_through<N: HallName, S: Stepper, G: HallGate, R: Wait>(
@@ -140,16 +156,13 @@ fn copied<
     requires lab { (extent lab.start.particles ≡ N.size) × (lab.cap ≡ N.cap) × (lab.journal ≡ []) }
 {
     let turns = TestGate::turns(*rt);
-    let Ok((hall, seats)) = Hall::<N, Serial, &TestGate<R>>::open(alloc, blank, lab, 2, &turns)
-    else {
-        panic!(rt; "no memory")
-    };
+    let (hall, seats) = open_two::<N, R>(rt, alloc, blank, lab, &turns);
     let mut seats = take_turns(rt, alloc, &hall, seats);
     let Some(seat) = seats.pop() else {
         panic!(rt; "no seats")
     };
     assert_eq!(rt; (seat.number(), seat.entries()), (1, 1));
-    sums_of(rt, copy_through(rt, &hall, seat))
+    sums_of(rt, alloc, copy_through(rt, &hall, seat))
 }
 
 // What a door's copy holds that is made between two changes of a session.
@@ -162,16 +175,13 @@ fn copied_between<
     requires lab { (extent lab.start.particles ≡ N.size) × (lab.cap ≡ N.cap) × (lab.journal ≡ []) }
 {
     let turns = TestGate::turns(*rt);
-    let Ok((hall, seats)) = Hall::<N, Serial, &TestGate<R>>::open(alloc, blank, lab, 2, &turns)
-    else {
-        panic!(rt; "no memory")
-    };
+    let (hall, seats) = open_two::<N, R>(rt, alloc, blank, lab, &turns);
     let copied = copy_between(rt, alloc, &hall, seats);
     assert!(rt; !turns.met_limit());
-    sums_of(rt, copied)
+    copied
 }
 
-// Seat 1 copies the gas between two changes of seat 0.
+// Seat 1 copies the gas between two changes of seat 0. Tells what the copy holds.
 fn copy_between<
     N: HallName + Send + Sync,
     G: HallGate + Sync,
@@ -181,7 +191,7 @@ fn copy_between<
     alloc: Global,
     hall: &Hall<N, Serial, G>,
     mut seats: Vec<HallSeat<N>>,
-) -> Result<Copied, NoMemory> {
+) -> ((i64, i64, i64), u32) {
     let (Some(second), Some(first)) = (seats.pop(), seats.pop()) else {
         panic!(rt; "no seats")
     };
@@ -197,7 +207,7 @@ fn copy_between<
             b"put 0 0 1 1\nput 2 0 1 1\n",
             on_page,
         ),
-        move || copy_through(rt, hall, second),
+        move || sums_of(rt, alloc, copy_through(rt, hall, second)),
     );
     assert!(rt; shows(&page, b"OK 0\nOK 1\n"));
     copied

@@ -1,7 +1,7 @@
 //! As many seats as a hall may have.
 
-use crate::served::{Closed, serve_lab};
-use crate::values::{counters, no_puts, small_lab, tally};
+use crate::served::serve_sessions;
+use crate::values::{no_puts, small_lab};
 use std::process::Abort;
 use std::sync::{Mutex, Wait};
 use std::thread::Threads;
@@ -28,15 +28,11 @@ fn serve_all<R: Threads + Wait + Clock + Sync + Abort + AllocGlobal>(
     let line: &[u8] = b"put 6 0 1 1\n";
     let inputs = [Some(line); SEATS];
     let mut lobby = Guests::new(&inputs, pages);
-    let saved = no_puts();
-    let shelves = counters(rt.alloc(), &saved, SEATS).expect(rt, "memory");
     let lab = small_lab(rt.alloc()).expect(rt, "memory");
-    let Closed {
-        counts,
-        of_seats,
-        mut lab,
-    } = serve_lab(rt, rt.alloc(), lab, gate, &mut lobby, shelves).expect(rt, "memory");
-    (counts, of_seats, tally(rt, &mut lab))
+    let saved = no_puts();
+    let left = serve_sessions(rt, lab, gate, &mut lobby, &saved, SEATS, &[]).expect(rt, "memory");
+    let of_seats = left.of_seats;
+    (left.counts, of_seats, left.lab.tally)
 }
 
 /// Sixty-four sessions run at once: each makes its change only when all have come to theirs.

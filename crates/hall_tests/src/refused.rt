@@ -5,9 +5,9 @@ ghost use Rattle.std.specs.Prelude.{◌≡◌, [], true};
 ghost use Rattle.gas_terms.specs.Cells.{extent};
 ghost use Rattle.gas_terms.specs.Commands.{fits};
 
-use crate::served::{Closed, serve_lab};
-use crate::values::{are_puts, counters, no_puts, small_lab, summed, taken, tally};
-use gas_hall::{Hall, HallDoor, HallName};
+use crate::served::{Left, serve_sessions};
+use crate::values::{look_at, no_puts, small_lab, summed, taken};
+use gas_hall::{Hall, HallGate, HallName, HallSeat};
 use gas_lab::{Lab, Serial};
 use gas_talk::{Copied, Door};
 use gas_terms::{Answer, Command, NoMemory, Rect, Refusal, Size};
@@ -16,11 +16,12 @@ use std::marker::Brand;
 use std::process::Abort;
 use std::sync::ledger::Blank;
 use std::sync::{Mutex, Wait};
+use std::thread::Threads;
 use std::time::Clock;
 use test_types::gates::TestGate;
 use test_types::pages::{Guests, Page, shows};
 
-// One particle at the upper left cell.
+/// One particle at the upper left cell.
 pub fn one_particle(rt: &impl Abort, size: Size) -> Command
     ensures { fits size result ≡ true }
 {
@@ -30,7 +31,7 @@ pub fn one_particle(rt: &impl Abort, size: Size) -> Command
     put
 }
 
-// How many entries the reply to the first put tells of. It can only be refused for want of memory.
+/// How many entries the reply to the first put tells of. It can only be refused for want of memory.
 pub fn made_by(rt: &impl Abort, reply: &Result<Answer, Refusal>) -> u32 {
     match taken(reply) {
         Ok(k) => {
@@ -45,7 +46,7 @@ pub fn made_by(rt: &impl Abort, reply: &Result<Answer, Refusal>) -> u32 {
 }
 
 // The entry can only be missing where none was made, or be refused for want of memory.
-pub fn entry_is_there(rt: &impl Abort, reply: &Result<Answer, Refusal>, made: u32) {
+fn entry_is_there(rt: &impl Abort, reply: &Result<Answer, Refusal>, made: u32) {
     match reply {
         Ok(_) => assert_eq!(rt; made, 1),
         Err(Refusal::Memory) => {}
@@ -53,14 +54,14 @@ pub fn entry_is_there(rt: &impl Abort, reply: &Result<Answer, Refusal>, made: u3
     }
 }
 
-pub fn is_answered_or_wants_memory(reply: &Result<Answer, Refusal>) -> bool {
+fn is_answered_or_wants_memory(reply: &Result<Answer, Refusal>) -> bool {
     match reply {
         Ok(_) => true,
         Err(refusal) => *refusal == Refusal::Memory,
     }
 }
 
-pub fn copied_entries(copied: &Result<Copied, NoMemory>) -> Option<u32> {
+fn copied_entries(copied: &Result<Copied, NoMemory>) -> Option<u32> {
     match copied {
         Ok(copied) => Some(copied.entries),
         Err(_) => None,
@@ -68,10 +69,7 @@ pub fn copied_entries(copied: &Result<Copied, NoMemory>) -> Option<u32> {
 }
 
 // A put and its entry, each answered or refused for want of memory. Tells how many entries there are.
-fn put_one<N: HallName, R: Wait + Clock + Abort>(
-    rt: &R,
-    door: &mut HallDoor<'_, N, Serial, &TestGate<R>, R>,
-) -> u32 {
+fn put_one<D: Door>(rt: &impl Abort, door: &mut D) -> u32 {
     let put = one_particle(rt, door.size());
     let made = made_by(rt, &door.ask(put));
     entry_is_there(rt, &door.ask(Command::Entry(0)), made);
@@ -79,11 +77,7 @@ fn put_one<N: HallName, R: Wait + Clock + Abort>(
 }
 
 // Readings and a copy, likewise, of a gas with so many particles and entries.
-fn read_all<N: HallName, R: Wait + Clock + Abort>(
-    rt: &R,
-    door: &mut HallDoor<'_, N, Serial, &TestGate<R>, R>,
-    made: u32,
-) {
+fn read_all<D: Door>(rt: &impl Abort, door: &mut D, made: u32) {
     let read = Command::Read(0);
     assert!(rt; read.fits(door.size()));
     assert!(rt; is_answered_or_wants_memory(&door.ask(read)));
@@ -91,6 +85,43 @@ fn read_all<N: HallName, R: Wait + Clock + Abort>(
     assert_eq!(rt; summed(rt, &door.ask(Command::Tally)), (all, all, all));
     let copied = copied_entries(&door.copy_gas());
     assert!(rt; copied.is_none() || copied == Some(made));
+}
+
+/// A put, readings and a copy, each answered or refused for want of memory. Tells how many entries there are.
+pub fn use_door<D: Door>(rt: &impl Abort, door: &mut D) -> u32 {
+    let made = put_one(rt, door);
+    read_all(rt, door, made);
+    made
+}
+
+/// No entry was made, and the gas is empty.
+pub fn is_untouched(rt: &impl Abort, back: Lab<Serial>) {
+    let seen = look_at(rt, back, &[]);
+    assert_eq!(rt; seen.entries, 0);
+    assert_eq!(rt; seen.tally, (0, 0, 0));
+}
+
+// The last seat uses its door, and then the hall is closed.
+fn use_and_close<N: HallName, G: HallGate, R: Wait + Abort>(
+    rt: &R,
+    hall: Hall<N, Serial, G>,
+    mut seats: Vec<HallSeat<N>>,
+)
+    requires { N.parts ≡ 2 }
+{
+    let Some(seat) = seats.pop() else {
+        panic!(rt; "no seats")
+    };
+    let mut door = hall.door(rt, seat);
+    let made = use_door(rt, &mut door);
+    let seat = door.end();
+    assert_eq!(rt; (seat.number(), seat.entries()), (1, made));
+    // there is room for the seat that was taken out
+    assert!(rt; seats.push(seat).is_ok());
+    assert!(rt; seats.len() == 2);
+    let seen = look_at(rt, hall.close(seats), &[(1, 0)]);
+    assert_eq!(rt; seen.are_puts, made == 1);
+    assert_eq!(rt; seen.entries, made as usize);
 }
 
 fn open_and_use<N: HallName, R: Wait + Clock + Abort + Copy>(
@@ -104,31 +135,10 @@ fn open_and_use<N: HallName, R: Wait + Clock + Abort + Copy>(
     requires lab { (extent lab.start.particles ≡ N.size) × (lab.cap ≡ N.cap) × (lab.journal ≡ []) }
 {
     let gate = TestGate::open(*rt);
-    let (hall, mut seats) = match Hall::<N, Serial, &TestGate<R>>::open(
-        alloc, blank, lab, 2, &gate,
-    ) {
-        Ok(opened) => opened,
-        Err(back) => {
-            let mut back = back;
-            assert!(rt; back.journal().is_empty());
-            assert_eq!(rt; tally(rt, &mut back), (0, 0, 0));
-            return;
-        }
-    };
-    let Some(seat) = seats.pop() else {
-        panic!(rt; "no seats")
-    };
-    let mut door = hall.door(rt, seat);
-    let made = put_one(rt, &mut door);
-    read_all(rt, &mut door, made);
-    let seat = door.end();
-    assert_eq!(rt; (seat.number(), seat.entries()), (1, made));
-    // there is room for the seat that was taken out
-    assert!(rt; seats.push(seat).is_ok());
-    assert!(rt; seats.len() == 2);
-    let lab = hall.close(seats);
-    assert_eq!(rt; are_puts(lab.journal(), &[(1, 0)]), made == 1);
-    assert_eq!(rt; lab.journal().len(), made as usize);
+    match Hall::<N, Serial, &TestGate<R>>::open(alloc, blank, lab, 2, &gate) {
+        Ok((hall, seats)) => use_and_close(rt, hall, seats),
+        Err(back) => is_untouched(rt, back),
+    }
 }
 
 #[test]
@@ -138,34 +148,40 @@ fn refused_memory_leaves_the_laboratory(rt: HostRuntime) {
     }
 }
 
-/// A seat whose thread was refused comes back unserved.
-#[test]
-fn refused_thread_serves_nobody(rt: HostRuntime) {
+// One session over the page, which puts a particle, where memory is not refused before.
+fn serve_one<R: Threads + Wait + Clock + Sync + Abort + AllocGlobal + Copy>(
+    rt: &R,
+    page: &[Mutex<Page>],
+) -> Option<Left> {
     let line: &[u8] = b"put 0 0 1 1\n";
     let inputs = [Some(line)];
-    let pages = [Mutex::new(Page::new())];
-    let mut lobby = Guests::new(&inputs, &pages);
-    let gate = TestGate::open(rt);
+    let mut lobby = Guests::new(&inputs, page);
+    let gate = TestGate::open(*rt);
+    let lab = small_lab(rt.alloc())?;
     let saved = no_puts();
-    let (Some(lab), Ok(shelves)) = (small_lab(rt.alloc()), counters(rt.alloc(), &saved, 1)) else {
-        return;
-    };
-    let Some(closed) = serve_lab(&rt, rt.alloc(), lab, &gate, &mut lobby, shelves) else {
-        return;
-    };
-    let Closed {
-        counts,
-        of_seats,
-        lab,
-    } = closed;
-    let wanted: &[u8] = match counts {
+    serve_sessions(rt, lab, &gate, &mut lobby, &saved, 1, &[(0, 0)])
+}
+
+// What the session was told, by the counts of its hall.
+fn told(rt: &impl Abort, counts: (u32, u32, u32)) -> &'static [u8] {
+    match counts {
         (1, 0, 1) => b"OK 0\n",
         (1, 0, 0) => b"ERR 14 memory\n",
         (0, 1, 0) => b"",
         _ => panic!(rt; "other counts"),
+    }
+}
+
+/// A seat whose thread was refused comes back unserved.
+#[test]
+fn refused_thread_serves_nobody(rt: HostRuntime) {
+    let page = [Mutex::new(Page::new())];
+    let Some(left) = serve_one(&rt, &page) else {
+        return;
     };
-    assert!(rt; shows(&pages[0], wanted));
-    assert_eq!(rt; of_seats, [counts.2, 0, 0, 0]);
-    assert_eq!(rt; are_puts(lab.journal(), &[(0, 0)]), counts.2 == 1);
-    assert_eq!(rt; lab.journal().len(), counts.2 as usize);
+    let entries = left.counts.2;
+    assert!(rt; shows(&page[0], told(&rt, left.counts)));
+    assert_eq!(rt; left.of_seats, [entries, 0, 0, 0]);
+    assert_eq!(rt; left.lab.are_puts, entries == 1);
+    assert_eq!(rt; left.lab.entries, entries as usize);
 }

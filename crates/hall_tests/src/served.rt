@@ -3,12 +3,15 @@
 ghost use Rattle.std.specs.Prelude.{◌≡◌, ◌+◌, ◌<◌, ◌≤◌, [], IfSome, length, vec_len};
 ghost use Rattle.gas_terms.specs.Cells.{extent};
 
+use crate::values::{Seen, counters, look_at};
 use gas_hall::{Hall, HallGate, HallName, HallSeat, Lobby, Served, serve};
-use gas_lab::{Lab, Stepper};
+use gas_lab::{Lab, Serial, Stepper};
 use gas_snapshot::Shelf;
 use std::alloc::Global;
 use std::marker::Brand;
+use std::process::Abort;
 use std::sync::Wait;
+use std::sync::atomic::AtomicU32;
 use std::sync::ledger::Blank;
 use std::thread::Threads;
 
@@ -27,6 +30,42 @@ fn first_counts<N: HallName>(seats: &[HallSeat<N>]) -> [u32; 4] {
         *count = seat.entries();
     }
     counts
+}
+
+// Serves each seat, and closes the hall.
+fn serve_and_close<
+    N: HallName + Send + Sync,
+    S: Stepper + Send,
+    G: HallGate + Sync,
+    L: Lobby,
+    K: Shelf + Drop + Send,
+    R: Threads + Wait + Sync,
+>(
+    rt: &R,
+    alloc: Global,
+    hall: Hall<N, S, G>,
+    seats: Vec<HallSeat<N>>,
+    lobby: &mut L,
+    shelves: Vec<K>,
+) -> Closed<S>
+    requires parts { N.parts ≡ vec_len shelves }
+    requires each { vec_len shelves ≡ vec_len seats }
+    requires seats { (0 < vec_len shelves) × (vec_len shelves ≤ 64) }
+    ensures count { result.counts.0 + result.counts.1 ≡ vec_len shelves }
+    ensures entries { length result.lab.journal ≡ result.counts.2 }
+{
+    let Served {
+        done,
+        failed,
+        entries,
+        seats,
+    } = serve(rt, alloc, lobby, &hall, seats, shelves);
+    let of_seats = first_counts(seats.as_slice());
+    Closed {
+        counts: (done, failed, entries),
+        of_seats,
+        lab: hall.close(seats),
+    }
 }
 
 fn serve_named<
@@ -56,18 +95,7 @@ fn serve_named<
     let Ok((hall, seats)) = Hall::<N, S, G>::open(alloc, blank, lab, count, gate) else {
         return None;
     };
-    let Served {
-        done,
-        failed,
-        entries,
-        seats,
-    } = serve(rt, alloc, lobby, &hall, seats, shelves);
-    let of_seats = first_counts(seats.as_slice());
-    Some(Closed {
-        counts: (done, failed, entries),
-        of_seats,
-        lab: hall.close(seats),
-    })
+    Some(serve_and_close(rt, alloc, hall, seats, lobby, shelves))
 }
 
 /// Serves as many seats as there are shelves on one laboratory.
@@ -85,4 +113,38 @@ pub fn serve_lab<
     }
     let blank = Blank::new(shelves.len() as u64);
     serve_named::<Brand, S, G, L, K, R>(rt, alloc, blank, lab, gate, lobby, shelves)
+}
+
+/// What is left of a hall: the counts of `Closed`, and what is seen of the laboratory.
+#[derive(Clone, Copy)]
+pub struct Left {
+    pub counts: (u32, u32, u32),
+    pub of_seats: [u32; 4],
+    pub lab: Seen,
+}
+
+/// Serves so many sessions of the lobby, each with a shelf that counts, and looks for these puts, or serves nobody where
+/// memory is refused.
+pub fn serve_sessions<G: HallGate + Sync, L: Lobby, R: Threads + Wait + Sync + Abort + AllocGlobal>(
+    rt: &R,
+    lab: Lab<Serial>,
+    gate: G,
+    lobby: &mut L,
+    saved: &[AtomicU32],
+    count: usize,
+    puts: &[(u16, u16)],
+) -> Option<Left>
+    requires lab { lab.journal ≡ [] }
+{
+    let shelves = counters(rt.alloc(), saved, count).ok()?;
+    let Closed {
+        counts,
+        of_seats,
+        lab,
+    } = serve_lab(rt, rt.alloc(), lab, gate, lobby, shelves)?;
+    Some(Left {
+        counts,
+        of_seats,
+        lab: look_at(rt, lab, puts),
+    })
 }

@@ -1,7 +1,7 @@
 //! Sessions over sockets.
 
-use crate::served::{Closed, serve_lab};
-use crate::values::{counters, empty_lab, no_puts};
+use crate::served::serve_sessions;
+use crate::values::{empty_lab, no_puts};
 use gas_hall::TcpLobby;
 use std::alloc::Global;
 use std::io::{ErrorKind, Read, Write};
@@ -15,24 +15,19 @@ use test_types::gates::TestGate;
 
 // Serves so many sessions of the listener on an empty laboratory of this width. Tells how many were served and how many
 // were not, the entries that all made, and those of each of the first four seats.
-fn serve_some<R: Threads + Wait + Clock + Sync + Copy>(
+fn serve_some<R: Threads + Wait + Clock + Sync + Abort + AllocGlobal + Copy>(
     rt: &R,
-    alloc: Global,
     listener: TcpListener,
     seats: usize,
     width: u32,
 ) -> Option<((u32, u32, u32), [u32; 4])> {
     let mut lobby = TcpLobby::over(listener);
-    let saved = no_puts();
-    let shelves = counters(alloc, &saved, seats).ok()?;
-    let lab = empty_lab(alloc, width)?;
+    let lab = empty_lab(rt.alloc(), width)?;
     let gate = TestGate::open(*rt);
-    let Closed {
-        counts,
-        of_seats,
-        lab: _,
-    } = serve_lab(rt, alloc, lab, &gate, &mut lobby, shelves)?;
-    Some((counts, of_seats))
+    let saved = no_puts();
+    let left = serve_sessions(rt, lab, &gate, &mut lobby, &saved, seats, &[])?;
+    let of_seats = left.of_seats;
+    Some((left.counts, of_seats))
 }
 
 // What the server wrote to this input until it closed the connection.
@@ -56,7 +51,7 @@ fn serve_over_a_socket(rt: HostRuntime) {
     let alloc = rt.alloc();
     let (served, replies) = thread::join(
         &rt,
-        || serve_some(&rt, alloc, listener, 1, 64),
+        || serve_some(&rt, listener, 1, 64),
         || talk_to(&rt, alloc, addr, b"put 0 0 1 1\nquit\n"),
     );
     assert_eq!(rt; served, Some(((1, 0, 1), [1, 0, 0, 0])));
@@ -174,7 +169,7 @@ fn clients_that_misbehave_beside_another(rt: HostRuntime) {
     let alloc = rt.alloc();
     let (served, heard) = thread::join(
         &rt,
-        || serve_some(&rt, alloc, listener, 4, 4096),
+        || serve_some(&rt, listener, 4, 4096),
         || crowd(&rt, alloc, addr),
     );
     assert_eq!(rt; served, Some(((4, 0, 5), [1, 1, 0, 3])));

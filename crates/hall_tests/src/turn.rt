@@ -2,14 +2,12 @@
 
 ghost use Rattle.std.specs.Prelude.{◌≡◌, [], IfOk};
 
-use crate::refused::{
-    copied_entries, entry_is_there, is_answered_or_wants_memory, made_by, one_particle,
-};
-use crate::values::{is_put_at, small_lab, summed, taken, tally};
+use crate::refused::{is_untouched, made_by, one_particle, use_door};
+use crate::values::{is_put_at, small_lab, sums_of, taken};
 use gas_hall::{TurnDoor, TurnHall, TurnNote, TurnSeat};
 use gas_lab::{Lab, Serial};
-use gas_talk::{Copied, Door};
-use gas_terms::{Answer, Command, NoMemory, Refusal};
+use gas_talk::Door;
+use gas_terms::{Answer, Command, Refusal};
 use std::alloc::Global;
 use std::process::Abort;
 use std::sync::Wait;
@@ -46,15 +44,16 @@ fn tells_of_the_put(reply: &Result<Answer, Refusal>) -> bool {
     }
 }
 
-// The sums of a copy's gas, and how many entries the journal had.
-fn sums_of(
-    rt: &impl Abort,
+// The sums and the entries of the second door's copy, and how many entries both seats made.
+fn ended<R: Wait + Abort>(
+    rt: &R,
     alloc: Global,
-    copied: Result<Copied, NoMemory>,
-) -> ((i64, i64, i64), u32) {
-    let Copied { gas, entries } = copied.expect(rt, "memory");
-    let mut again = Lab::open(alloc, gas, 1, Serial).expect(rt, "memory");
-    (tally(rt, &mut again), entries)
+    one: TurnDoor<'_, Serial, R>,
+    two: TurnDoor<'_, Serial, R>,
+) -> (((i64, i64, i64), u32), (u32, u32)) {
+    let mut two = two;
+    let copied = sums_of(rt, alloc, two.copy_gas());
+    (copied, (one.end().entries(), two.end().entries()))
 }
 
 fn pass_a_note<R: Wait + Abort>(
@@ -73,8 +72,9 @@ fn pass_a_note<R: Wait + Abort>(
     let mut two = hall.door(rt, second);
     two.meet(note);
     assert!(rt; tells_of_the_put(&two.ask(Command::Entry(0))));
-    assert_eq!(rt; sums_of(rt, alloc, two.copy_gas()), ((1, 1, 1), 1));
-    assert_eq!(rt; (one.end().entries(), two.end().entries()), (1, 0));
+    let (copied, entries) = ended(rt, alloc, one, two);
+    assert_eq!(rt; copied, ((1, 1, 1), 1));
+    assert_eq!(rt; entries, (1, 0));
 }
 
 /// Seat 1 finds what seat 0's note tells of.
@@ -121,8 +121,9 @@ fn both_put<R: Threads + Wait + Abort + Sync>(
     let mut one = hall.door(rt, first);
     let mut two = hall.door(rt, second);
     two.meet(one.note());
-    assert_eq!(rt; sums_of(rt, alloc, two.copy_gas()), ((1, 1, 1), 200));
-    assert_eq!(rt; (one.end().entries(), two.end().entries()), (100, 100));
+    let (copied, entries) = ended(rt, alloc, one, two);
+    assert_eq!(rt; copied, ((1, 1, 1), 200));
+    assert_eq!(rt; entries, (100, 100));
 }
 
 /// Two threads each make a hundred entries, and one seat meets the other's note.
@@ -135,26 +136,13 @@ fn turn_doors_take_turns(rt: HostRuntime) {
     both_put(&rt, rt.alloc(), &hall, first, second);
 }
 
-// A put, readings and a copy, each answered or refused for want of memory.
-fn use_door<R: Wait + Abort>(rt: &R, hall: &TurnHall<Serial>, seat: TurnSeat<Serial>)
+// The seat's door is used, and the seat tells of as many entries.
+fn use_seat<R: Wait + Abort>(rt: &R, hall: &TurnHall<Serial>, seat: TurnSeat<Serial>)
     requires { seat.hall ≡ hall.now }
 {
     let mut door = hall.door(rt, seat);
-    let put = one_particle(rt, door.size());
-    let made = made_by(rt, &door.ask(put));
-    entry_is_there(rt, &door.ask(Command::Entry(0)), made);
-    assert!(rt; is_answered_or_wants_memory(&door.ask(Command::Read(0))));
-    let all = made as i64;
-    assert_eq!(rt; summed(rt, &door.ask(Command::Tally)), (all, all, all));
-    let copied = copied_entries(&door.copy_gas());
-    assert!(rt; copied.is_none() || copied == Some(made));
+    let made = use_door(rt, &mut door);
     assert_eq!(rt; door.end().entries(), made);
-}
-
-fn is_untouched(rt: &impl Abort, back: Lab<Serial>) {
-    let mut back = back;
-    assert!(rt; back.journal().is_empty());
-    assert_eq!(rt; tally(rt, &mut back), (0, 0, 0));
 }
 
 /// Whichever allocation is refused: the hall hands the laboratory back, and a door's call leaves it.
@@ -164,7 +152,7 @@ fn refused_turn_hall_leaves_the_laboratory(rt: HostRuntime) {
         return;
     };
     match open_two(rt.alloc(), lab) {
-        Ok((hall, _, seat)) => use_door(&rt, &hall, seat),
+        Ok((hall, _, seat)) => use_seat(&rt, &hall, seat),
         Err(back) => is_untouched(&rt, back),
     }
 }

@@ -1,5 +1,7 @@
 //! Served sessions in memory, on a hall whose seats take turns.
 
+ghost use Rattle.std.specs.Prelude.{◌≡◌, ◌<◌, ◌≤◌, All, vec_len};
+
 use crate::values::{counted, counters, no_puts, small_lab};
 use gas_hall::{TurnHall, TurnSeat, TurnServed, serve_turn};
 use gas_lab::Serial;
@@ -7,6 +9,7 @@ use std::process::Abort;
 use std::sync::Wait;
 use std::thread::Threads;
 use std::time::Clock;
+use test_types::faults::Counter;
 use test_types::stage::{Speakers, Speech, Stage, Text, interleaved};
 
 /// What became of the seats: how many were served and how many not, and the entries of all; the entries of each, and how
@@ -27,20 +30,33 @@ fn counts_of(seats: &[TurnSeat<Serial>]) -> [u32; 3] {
     counts
 }
 
-// Serves a session for each speech.
-fn serve_speeches<R: Threads + Wait + Sync + Abort + Clock + Copy + Drop + Send + AllocGlobal>(
+// A hall with so many seats over an empty laboratory of 64 by 64.
+fn open_hall(
+    rt: &(impl Abort + AllocGlobal),
+    seats: u16,
+) -> (TurnHall<Serial>, Vec<TurnSeat<Serial>>)
+    requires { (0 < seats) × (seats ≤ 64) }
+    ensures count { vec_len result.1 ≡ seats }
+    ensures here { All (λ seat. seat.hall ≡ result.0) result.1.items }
+{
+    let lab = small_lab(rt.alloc()).expect(rt, "memory");
+    match TurnHall::open(rt.alloc(), lab, seats) {
+        Ok(opened) => opened,
+        Err(_) => panic!(rt; "no memory"),
+    }
+}
+
+// Serves a session for each speech on an empty laboratory of 64 by 64. Tells how many were served and how many not, the
+// entries of all, and those of each.
+fn serve_all<R: Threads + Wait + Sync + Abort + Clock + Copy + Drop + Send + AllocGlobal>(
     rt: &R,
     stage: &Stage,
     speeches: &[Option<Speech<'_>>],
-) -> Outcome {
+    shelves: Vec<Counter<'_>>,
+) -> ((u32, u32, u32), [u32; 3]) {
     assert!(rt; 0 < speeches.len() && speeches.len() <= 3);
-    let saved = no_puts();
-    let shelves = counters(rt.alloc(), &saved, speeches.len()).expect(rt, "memory");
     assert!(rt; shelves.len() == speeches.len());
-    let lab = small_lab(rt.alloc()).expect(rt, "memory");
-    let Ok((hall, seats)) = TurnHall::open(rt.alloc(), lab, speeches.len() as u16) else {
-        panic!(rt; "no memory")
-    };
+    let (hall, seats) = open_hall(rt, speeches.len() as u16);
     let mut lobby = Speakers::new(*rt, stage, speeches);
     let TurnServed {
         done,
@@ -48,9 +64,21 @@ fn serve_speeches<R: Threads + Wait + Sync + Abort + Clock + Copy + Drop + Send 
         entries,
         seats,
     } = serve_turn(rt, rt.alloc(), &mut lobby, &hall, seats, shelves);
+    ((done, failed, entries), counts_of(seats.as_slice()))
+}
+
+// Serves a session for each speech, each with a shelf that counts.
+fn serve_speeches<R: Threads + Wait + Sync + Abort + Clock + Copy + Drop + Send + AllocGlobal>(
+    rt: &R,
+    stage: &Stage,
+    speeches: &[Option<Speech<'_>>],
+) -> Outcome {
+    let saved = no_puts();
+    let shelves = counters(rt.alloc(), &saved, speeches.len()).expect(rt, "memory");
+    let (counts, of_seats) = serve_all(rt, stage, speeches, shelves);
     Outcome {
-        counts: (done, failed, entries),
-        of_seats: counts_of(seats.as_slice()),
+        counts,
+        of_seats,
         saved: counted(&saved),
     }
 }

@@ -3,7 +3,8 @@
 ghost use Rattle.std.specs.Prelude.{◌≡◌, [], IfSome};
 
 use gas_lab::{Answer, Gas, Lab, Serial};
-use gas_terms::{Command, Entry, Refusal, Size, Sums};
+use gas_talk::Copied;
+use gas_terms::{Command, Entry, NoMemory, Refusal, Size, Sums};
 use std::alloc::{AllocError, Global};
 use std::process::Abort;
 use std::sync::atomic::{AtomicU32, Ordering};
@@ -83,6 +84,38 @@ pub fn summed(rt: &impl Abort, reply: &Result<Answer, Refusal>) -> (i64, i64, i6
 /// What a laboratory answers to `tally`: count and momentum.
 pub fn tally(rt: &impl Abort, lab: &mut Lab<Serial>) -> (i64, i64, i64) {
     summed(rt, &lab.apply(0, Command::Tally))
+}
+
+/// What is seen of a laboratory: count and momentum of its gas, how many entries its journal has, and whether they are the
+/// puts that were looked for.
+#[derive(Clone, Copy)]
+pub struct Seen {
+    pub tally: (i64, i64, i64),
+    pub entries: usize,
+    pub are_puts: bool,
+}
+
+/// What is seen of this laboratory, where these puts are looked for.
+pub fn look_at(rt: &impl Abort, lab: Lab<Serial>, puts: &[(u16, u16)]) -> Seen {
+    let mut lab = lab;
+    let entries = lab.journal().len();
+    let are_puts = are_puts(lab.journal(), puts);
+    Seen {
+        tally: tally(rt, &mut lab),
+        entries,
+        are_puts,
+    }
+}
+
+/// The sums of a copy's gas, and how many entries the journal had.
+pub fn sums_of(
+    rt: &impl Abort,
+    alloc: Global,
+    copied: Result<Copied, NoMemory>,
+) -> ((i64, i64, i64), u32) {
+    let Copied { gas, entries } = copied.expect(rt, "memory");
+    let mut again = Lab::open(alloc, gas, 1, Serial).expect(rt, "memory");
+    (tally(rt, &mut again), entries)
 }
 
 /// The index of the entry that an answer tells of, or why it was refused.

@@ -71,12 +71,12 @@ load_writes first start now next whole i t sized is same so_far put from =
 pub load_leaves : (first : ℕ) (start now whole : Cells) (i : ℕ) (t s : Tile) → is_size (extent whole) ≡ true → IsLattice start → start.width ≡ whole.width → i < tile_count start
     → now ≡ swept start (seen whole (shift_of whole first)) i
     → (let j = source_of first (whole.width / 64) (whole.height / 64) i in IsTileFrom t whole (tile_rectangle whole j).x (tile_rectangle whole j).y)
-    → IsTileFrom s now (tile_rectangle now i).x (tile_rectangle now i).y → t.rows ≡ s.rows
+    → IsTileFrom s now (tile_rectangle now i).x (tile_rectangle now i).y → tile.HasCells t (tile.has s)
     → now ≡ swept start (seen whole (shift_of whole first)) (i + 1)
-load_leaves first start now whole i t s sized is same within so_far from here e =
+load_leaves first start now whole i t s sized is same within so_far from here alike =
     let from_swept : IsTileFrom s (swept start (seen whole (shift_of whole first)) i) (left_of start i) (top_of start i) = subst (λ (now : Cells). IsTileFrom s now (left_of now i) (top_of now i)) so_far here in
     so_far
     ∙ sweep_past start (seen whole (shift_of whole first)) i is
     (λ x y p q.
     sym (tile_seen first start whole i t sized same from x y p q)
-    ∙ (ap (λ rows. tile.has (record { rows = rows }) x y) e ∙ sweep_reads start (seen whole (shift_of whole first)) i s is within from_swept x y p q))
+    ∙ (alike x y p q ∙ sweep_reads start (seen whole (shift_of whole first)) i s is within from_swept x y p q))

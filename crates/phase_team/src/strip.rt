@@ -9,7 +9,7 @@ ghost use Rattle.phase_team.specs.Work.{own_take, own_take_in_run, IsFor, IsDone
 
 use crate::course::Course;
 use crate::worker::NOTHING;
-use gas_plane::{Plane, Tile};
+use gas_plane::Plane;
 use gas_terms::{NoMemory, Size, Took};
 use phase_step::{NO_BORDERS, parity_at, turn_tile_at};
 use std::alloc::Global;
@@ -37,12 +37,6 @@ fn row_of(first: u32, k: u32, down: u32) -> u32
     (first + (down - 1) + k) % down
 }
 
-fn same_tile(a: &Tile, b: &Tile) -> bool
-    ensures { IsTrue result → a.now.rows ≡ b.now.rows }
-{
-    a.rows == b.rows
-}
-
 // Copies the window of the lattice. A tile that has the same cells already is left, so that its marks stay.
 fn load(strip: &mut Plane, whole: &Plane, first: u32)
     requires wide { strip.old.width ≡ whole.now.width }
@@ -54,7 +48,7 @@ fn load(strip: &mut Plane, whole: &Plane, first: u32)
     for i in 0..strip.size().tiles() {
         let from = row_of(first, i / across, down) * across + i % across;
         let tile = whole.tile_or_bare(from);
-        if !same_tile(tile, strip.tile_or_bare(i)) {
+        if !tile.has_same_cells(strip.tile_or_bare(i)) {
             *strip.tile_mut(i) = *tile;
         }
     }

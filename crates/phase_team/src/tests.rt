@@ -452,7 +452,7 @@ fn seeded(rt: &(impl Abort + AllocGlobal), size: Size, seed: u64, words: u32) ->
                 word ^= word << 17;
                 row &= word;
             }
-            tile.rows[y] = row;
+            tile.set_row(y, row);
         }
     }
     plane
@@ -460,7 +460,7 @@ fn seeded(rt: &(impl Abort + AllocGlobal), size: Size, seed: u64, words: u32) ->
 
 fn have_same_rows(some: &Plane, others: &Plane) -> bool {
     let tiles = some.size().tiles().min(others.size().tiles());
-    (0..tiles).all(|i| some.tile(i).rows == others.tile(i).rows)
+    (0..tiles).all(|i| some.tile(i).has_same_cells(others.tile(i)))
 }
 
 #[test]

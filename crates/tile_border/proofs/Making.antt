@@ -6,6 +6,7 @@ use Rattle.std.proofs.lemmas.List.FromFn.{get_or-map-range_with_len}
 use Rattle.bit_tile.specs.Bit.{bit}
 use Rattle.bit_tile.specs.Tile.{has}
 use Rattle.bit_tile.specs.declared.Tile.{Tile}
+use Rattle.bit_tile.proofs.Rows.{row_word, row_word-has}
 use Rattle.tile_border.specs.Ring.{ring, IsBorderOf}
 use Rattle.tile_border.specs.declared.Border.{Border}
 
@@ -38,8 +39,8 @@ module _ (a d l r al ar dl dr : Tile) where
   unfolding first_of last_of
   made =
       record {
-        above = get_or a.rows 63 0;
-        below = get_or d.rows 0 0;
+        above = row_word a 63;
+        below = row_word d 0;
         sides = map (λ j. ends_word (first_of j) (last_of j)) (range_with_len 0 66);
       }
 
@@ -65,8 +66,8 @@ module _ (a d l r al ar dl dr : Tile) where
   border_of_tiles = (
     made,
     record {
-      above = λ x h. inner (λ x. bit made.above x) (ring made 0 0) (ring made 65 0) x h;
-      below = λ x h. inner (λ x. bit made.below x) (ring made 0 65) (ring made 65 65) x h;
+      above = λ x h. inner (λ x. bit made.above x) (ring made 0 0) (ring made 65 0) x h ∙ row_word-has a x 63;
+      below = λ x h. inner (λ x. bit made.below x) (ring made 0 65) (ring made 65 65) x h ∙ row_word-has d x 0;
       left = λ y h. first_at (y + 1) (omega arith) ∙ inner (has l 63) (has al 63 63) (has dl 63 0) y h;
       right = λ y h. last_at (y + 1) (omega arith) ∙ inner (has r 0) (has ar 0 63) (has dr 0 0) y h;
       above_left = first_at 0 (omega arith);

@@ -72,12 +72,12 @@ impl Border {
         let near = *round;
         let sides = &mut self.sides;
         for y in 0..64usize {
-            sides[y + 1] = side(near.left.rows[y], near.right.rows[y]);
+            sides[y + 1] = side(near.left.row(y), near.right.row(y));
         }
-        sides[0] = side(near.above_left.rows[63], near.above_right.rows[63]);
-        sides[65] = side(near.below_left.rows[0], near.below_right.rows[0]);
-        self.above = near.above.rows[63];
-        self.below = near.below.rows[0];
+        sides[0] = side(near.above_left.row(63), near.above_right.row(63));
+        sides[65] = side(near.below_left.row(0), near.below_right.row(0));
+        self.above = near.above.row(63);
+        self.below = near.below.row(0);
     }
 
     /// The cell that is dx columns and dy rows from the tile's first.
@@ -129,7 +129,7 @@ impl<'a> Round<'a> {
         requires { y < 64 }
         ensures { (b : RingCells) → IsBorderOf b self.now.above.now self.now.below.now self.now.left.now self.now.right.now self.now.above_left.now self.now.above_right.now self.now.below_left.now self.now.below_right.now → HasEndsOf result (slice_index b.sides (y + 1)) }
     {
-        side(self.left.rows[y], self.right.rows[y])
+        side(self.left.row(y), self.right.row(y))
     }
 
     /// The cells beside the row above the tile.
@@ -137,7 +137,7 @@ impl<'a> Round<'a> {
     pub fn side_above(&self) -> u64
         ensures { (b : RingCells) → IsBorderOf b self.now.above.now self.now.below.now self.now.left.now self.now.right.now self.now.above_left.now self.now.above_right.now self.now.below_left.now self.now.below_right.now → HasEndsOf result (slice_index b.sides 0) }
     {
-        side(self.above_left.rows[63], self.above_right.rows[63])
+        side(self.above_left.row(63), self.above_right.row(63))
     }
 
     /// The cells beside the row below the tile.
@@ -145,7 +145,7 @@ impl<'a> Round<'a> {
     pub fn side_below(&self) -> u64
         ensures { (b : RingCells) → IsBorderOf b self.now.above.now self.now.below.now self.now.left.now self.now.right.now self.now.above_left.now self.now.above_right.now self.now.below_left.now self.now.below_right.now → HasEndsOf result (slice_index b.sides 65) }
     {
-        side(self.below_left.rows[0], self.below_right.rows[0])
+        side(self.below_left.row(0), self.below_right.row(0))
     }
 }
 

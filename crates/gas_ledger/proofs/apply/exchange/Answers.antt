@@ -118,7 +118,7 @@ loop-i-preserved-then-has_same_cells c =
     let new = c.exchanged_tile-new.result in
     let was = exchange_was cells c.loop-i.plane drains sources i old is within c.loop-i.invariant.cells c.tile.ensures in
     let makes = exchange_makes cells drains sources i (c.width.result / 64) old new across c.exchanged_tile-new.ensures in
-    let same = unchanged cells drains sources i old new was (λ x y p q. makes x y p q (was x y p q)) (c.has_same_cells.ensures c.if-has_same_cells.true) in
+    let same = unchanged cells drains sources i old new was (λ x y p q. makes x y p q (was x y p q)) (c.has_same_cells.ensures.same c.if-has_same_cells.true) in
     record {
       cells = exchange_past cells c.loop-i.plane drains sources i is c.loop-i.invariant.cells same;
       gained = λ a b p q.

@@ -1,9 +1,10 @@
 use Rattle.std.proofs.Common.{◌<◌, ◌∙◌, arith}
+use Rattle.bit_tile.specs.Tile as tile
 use Rattle.gas_terms.specs.Cells.{extent}
 use Rattle.gas_plane.proofs.Places.{wide, tile_below}
-use Rattle.gas_plane.proofs.Painting.{in_row, none_painted, same_painted, outside_columns, row_starts, row_ends, row_more, row_same, tile_in_row}
+use Rattle.gas_plane.proofs.Painting.{in_row, none_painted, same_painted, outside_columns, row_starts, row_ends, row_more, row_more_whole, row_same, tile_in_row}
 use Rattle.gas_plane.proofs.Plane.paint_row.Goals as goal
-use Rattle.gas_plane.proofs.Plane.paint_row.Goals.{in-Some, in_default}
+use Rattle.gas_plane.proofs.Plane.paint_row.Goals.{then-is_covered, else-is_covered+in-Some, else-is_covered+in_default}
 
 pub loop-column-init : goal.loop-column-init
 loop-column-init c =
@@ -18,11 +19,15 @@ paint_tile-requires c =
 pub loop-column-preserved : goal.loop-column-preserved
 loop-column-preserved c =
     let is = c.across-across.ensures.lattice in
-    elim c.match-part_of.branch [
-      | in-Some w ↦
-          row_more c.args.self.now c.loop-column.self c.match-part_of.self c.args.area c.args.held c.args.row c.loop-column.column c.across-across.result w.in-Some.part is c.across-across.ensures.across
-          (let less : c.loop-column.column < c.across-across.result = omega (arith, c.tiles_met-first.ensures.within) in less) c.loop-column.invariant w.in-Some.ensures (w.self-is ∙ w.paint_tile.ensures)
-      | in_default w ↦ w.self-is ∙ row_same c.args.self.now c.loop-column.self c.args.area c.args.held c.args.row c.loop-column.column c.loop-column.invariant w.in_default.ensures
+    let less : c.loop-column.column < c.across-across.result = omega (arith, c.tiles_met-first.ensures.within) in
+    elim c.if-is_covered.branch [
+      | then-is_covered w ↦
+          row_more_whole c.args.self.now c.loop-column.self c.if-is_covered.self c.args.area c.args.held c.args.row c.loop-column.column c.across-across.result is c.across-across.ensures.across
+          less c.loop-column.invariant (c.is_covered.ensures w.if-is_covered.true) (w.self-is ∙ w.paint_whole_tile.ensures)
+      | else-is_covered+in-Some w ↦
+          row_more c.args.self.now c.loop-column.self c.if-is_covered.self c.args.area c.args.held c.args.row c.loop-column.column c.across-across.result (tile.has w.in-Some.part) is c.across-across.ensures.across
+          less c.loop-column.invariant w.in-Some.ensures (w.self-is ∙ w.paint_tile.ensures)
+      | else-is_covered+in_default w ↦ w.self-is ∙ row_same c.args.self.now c.loop-column.self c.args.area c.args.held c.args.row c.loop-column.column c.loop-column.invariant w.in_default.ensures
     ]
 
 pub returns : goal.returns

@@ -6,7 +6,7 @@ use Rattle.phase_step.proofs.PhaseSweeps.{tiles_are}
 use Rattle.phase_team.specs.Strips.{shift_of}
 use Rattle.phase_team.proofs.Windows.{seen, source_of, source_is, source_within, load_writes, load_leaves}
 use Rattle.phase_team.proofs.strip.load.Goals as goal
-use Rattle.phase_team.proofs.strip.load.Goals.{then-not-same_tile, else-not-same_tile}
+use Rattle.phase_team.proofs.strip.load.Goals.{then-not-has_same_cells, else-not-has_same_cells}
 
 pub loop-i-init : goal.loop-i-init
 loop-i-init c = record { strip = sym (sweep_begins c.args.strip.now (seen c.args.whole.now (shift_of c.args.whole.now c.args.first)) c.size-3.ensures.lattice) }
@@ -38,10 +38,10 @@ loop-i-preserved c =
     subst (λ j. IsTileFrom t whole (tile_rectangle whole j).x (tile_rectangle whole j).y) (source_is c.args.first c.args.whole.now c.loop-i.i c.from-across.result c.from-down.result c.row_of.result across down c.row_of.ensures.row) c.tile_or_bare-tile.ensures in
     let all = tiles_are c.args.strip.now c.size-3.result c.tiles-i-end.result c.size-3.ensures.extent c.tiles-i-end.ensures.tiles in
     record {
-      strip = elim c.if-not-same_tile.branch [
-        | then-not-same_tile w ↦ w.strip-is ∙ load_writes c.args.first c.args.strip.now c.loop-i.strip (with_tile c.loop-i.strip c.loop-i.i t) whole c.loop-i.i t c.size.ensures.lattice.sized c.size-3.ensures.lattice c.requires.wide c.loop-i.invariant.strip refl from
-        | else-not-same_tile w ↦ w.strip-is ∙ load_leaves c.args.first c.args.strip.now c.loop-i.strip whole c.loop-i.i t c.tile_or_bare.result.now c.size.ensures.lattice.sized c.size-3.ensures.lattice c.requires.wide (omega (arith, all)) c.loop-i.invariant.strip from c.tile_or_bare.ensures
-            (c.same_tile.ensures w.if-not-same_tile.false)
+      strip = elim c.if-not-has_same_cells.branch [
+        | then-not-has_same_cells w ↦ w.strip-is ∙ load_writes c.args.first c.args.strip.now c.loop-i.strip (with_tile c.loop-i.strip c.loop-i.i t) whole c.loop-i.i t c.size.ensures.lattice.sized c.size-3.ensures.lattice c.requires.wide c.loop-i.invariant.strip refl from
+        | else-not-has_same_cells w ↦ w.strip-is ∙ load_leaves c.args.first c.args.strip.now c.loop-i.strip whole c.loop-i.i t c.tile_or_bare.result.now c.size.ensures.lattice.sized c.size-3.ensures.lattice c.requires.wide (omega (arith, all)) c.loop-i.invariant.strip from c.tile_or_bare.ensures
+            (c.has_same_cells.ensures.same w.if-not-has_same_cells.false)
       ];
     }
 
