@@ -89,6 +89,15 @@ fn threads_now(rt: &(impl Files + AllocGlobal)) -> u32 {
     0
 }
 
+// looks until no thread is there but this one: one that has ended may still be counted for an instant
+fn settle(rt: &(impl Files + AllocGlobal)) {
+    for _ in 0..1_000_000u32 {
+        if threads_now(rt) == 1 {
+            return;
+        }
+    }
+}
+
 // the most threads that were there at once, looked at again and again until the flag is set
 fn most_until(rt: &(impl Files + AllocGlobal), is_over: &AtomicBool) -> u32 {
     let mut most = 0;
@@ -104,7 +113,7 @@ fn most_until(rt: &(impl Files + AllocGlobal), is_over: &AtomicBool) -> u32 {
 // two workers make 256 steps, and then the flag is set
 fn step_by_two(rt: &(impl Abort + AllocGlobal + Threads), is_over: &AtomicBool) {
     let room = Room {
-        width: 1024,
+        width: 2048,
         height: 1024,
         workers: 2,
         cap: 1,
@@ -114,11 +123,12 @@ fn step_by_two(rt: &(impl Abort + AllocGlobal + Threads), is_over: &AtomicBool) 
 }
 
 /// Runs are looked at while they go on, since one may be over before anybody looks. There are this thread, which works too,
-/// the one that looks, and that of the second worker.
+/// the one that looks, and that of the second worker; by one worker there would be two, never more.
 #[test]
 fn workers_are_threads(rt: HostRuntime) {
     let mut most = 0;
     for _ in 0..10u32 {
+        settle(&rt);
         let is_over = AtomicBool::new(false);
         let (seen, ()) = thread::join(
             &rt,
@@ -127,5 +137,5 @@ fn workers_are_threads(rt: HostRuntime) {
         );
         most = most.max(seen);
     }
-    assert_eq!(rt; most, 3);
+    assert!(rt; most >= 3);
 }

@@ -22,7 +22,7 @@ const AT_ONCE: u16 = 64;
 /// a few phases of each tile, so that shorter stretches, and stretches of fewer phases of a tile, are left to one thread.
 const SHORTEST: u16 = 16;
 
-const LEAST: u32 = 16_384;
+const LEAST: u32 = 32_768;
 
 /// Whether a run is long enough, and the strips so high that their margins leave a gain of a third.
 pub fn is_worth_strips(size: Size, workers: u8, n: u16) -> bool

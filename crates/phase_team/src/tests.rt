@@ -465,7 +465,7 @@ fn have_same_rows(some: &Plane, others: &Plane) -> bool {
 
 #[test]
 fn team_runs_as_one_thread(rt: HostRuntime) {
-    let size = Size::new(2048, 512).expect(&rt, "a size");
+    let size = Size::new(2048, 1024).expect(&rt, "a size");
     let walls = seeded(&rt, size, 77172645463325252, 7);
     let obstacles = seeded(&rt, size, 66172645463325252, 10);
     let mut now = seeded(&rt, size, 88172645463325252, 1);
