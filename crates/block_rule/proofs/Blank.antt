@@ -1,14 +1,8 @@
 use Rattle.std.proofs.Common.{◌≡◌, ℕ, ◌+◌, ◌%◌, ◌<◌, ◌≤◌, Bool, true, false, ◌||◌, refl, sym, ◌∙◌, ap, arith, inl, inr}
 use Rattle.std.proofs.lemmas.Bool.{cases_eq, eq-eqb, ne_eqb}
 use Rattle.block_rule.specs.Around.{either, is_walled_at}
-use Rattle.block_rule.specs.Words.{partner}
+use Rattle.block_rule.specs.Cell.{partner}
 use Rattle.block_rule.proofs.Around.{walled_from, walled_by_cells}
-
-pub partner_inside : (x : ℕ) → x < 64 → (1 ≤ partner 0 x) × (partner 0 x ≤ 64)
-partner_inside x within = elim (cases_eq ((x + 0) % 2) 0) [
-  | inl e ↦ rw (eq-eqb ((x + 0) % 2) 0 e) (omega arith, omega arith)
-  | inr ne ↦ rw (ne_eqb ((x + 0) % 2) 0 ne) (omega arith, omega arith)
-]
 
 middle : (a b c d : Bool) → ((a || b) || (c || d)) ≡ ((a || c) || (b || d))
 middle true b c d = refl

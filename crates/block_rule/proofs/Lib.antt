@@ -1,9 +1,9 @@
 pub mod Words
 pub mod Around
+pub mod Windows
 pub mod Took
 pub mod Blank
-pub mod ByCorner
 pub mod Holding
 pub mod Torus
 pub mod TorusTook
-pub mod Sides
+pub mod Borders

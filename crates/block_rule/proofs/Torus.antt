@@ -12,7 +12,7 @@ use Rattle.gas_terms.specs.Cells as plane
 use Rattle.gas_terms.specs.Gas.{along, site_of, is_walled, streamed}
 use Rattle.gas_terms.specs.Block.{corner_rule, other_coordinate}
 use Rattle.block_rule.specs.Around.{around, either, is_walled_at, turned}
-use Rattle.block_rule.specs.Words.{partner, turned_cell}
+use Rattle.block_rule.specs.Cell.{partner, turned_cell}
 use Rattle.block_rule.specs.Windows.{IsWindow, IsReached, IsView, IsTilePlace}
 use Rattle.block_rule.proofs.Around.{walled_by_cells, turned_by_cells}
 

@@ -17,7 +17,7 @@ use Rattle.block_rule.specs.Around.{either, none, is_walled_at, twice_momentum, 
 use Rattle.block_rule.specs.Windows.{IsView, IsTilePlace, square, taken_in}
 use Rattle.block_rule.proofs.Blank.{walled_either}
 use Rattle.block_rule.proofs.Took.{pair_same, accounts_same, twice_momentum-same, twice_momentum-none, right_count, left_count, down_count, up_count}
-use Rattle.block_rule.proofs.ByCorner.{and_false}
+use Rattle.block_rule.proofs.Holding.{and_false}
 use Rattle.block_rule.proofs.Torus.{MadeCells, CellsWalled, walled_same, solid_view}
 
 abbrev pub SumsByParities : Type 0

@@ -1,179 +1,160 @@
-use Rattle.std.proofs.Common.{◌≡◌, ℕ, ◌+◌, ◌-◌, ◌*◌, ◌/◌, ◌%◌, ◌^◌, ◌<◌, ◌==◌, Bool, true, false, not, ◌&&◌, ◌||◌, refl, sym, ◌∙◌, ap, arith, inl, inr, bit_and, bit_or}
+-- A row of blocks in four words.
+use Rattle.std.proofs.Common.{◌≡◌, ℕ, ◌+◌, ◌-◌, ◌*◌, ◌/◌, ◌%◌, ◌^◌, ◌<◌, ◌==◌, Bool, true, false, not, ◌&&◌, ◌||◌, if◌then◌else◌, refl, ◌∙◌, ap, ap₂, arith, inl, inr, bit_and, bit_or}
 use Rattle.std.specs.Prelude.{bit_xor}
-use Rattle.std.specs.Int.{bit_not, w64}
-use Rattle.std.proofs.lemmas.Nat.{xor_lt}
-use Rattle.std.proofs.lemmas.Bool.{agree_below_at, cases_eq, eq-eqb, ne_eqb}
+use Rattle.std.specs.Int.{bit_not, w32}
+use Rattle.std.proofs.lemmas.Nat.{xor_lt, or_lt}
+use Rattle.std.proofs.lemmas.Bool.{cases_eq, eq-eqb, ne_eqb}
 use Rattle.bit_tile.specs.Bit.{bit}
-use Rattle.bit_tile.proofs.Bits.{either, bit-and, bit-or, bit-xor, bit-not, bit-shr, bit-shl_high, bit-shl_low, bit-above, bit-even_columns, bit-odd_columns}
-use Rattle.block_rule.specs.Words.{cell_of_row, partner, turned_cell}
+use Rattle.bit_tile.proofs.Bits.{either, bit-and, bit-or, bit-xor, bit-shr}
+use Rattle.bit_tile.proofs.Words32.{bit-not, bit-shl_high, bit-shl_low, bit-above}
+use Rattle.block_rule.specs.Cell.{turned_cell}
 
--- the formula on words at one bit, for the upper row of a block and for its lower row
-free_upper_table : (u su l sl : Bool) → either sl ((either u su && either u l) && not (either u sl)) ≡ turned_cell false u su l sl
-free_upper_table false false false false = refl
-free_upper_table false false false true = refl
-free_upper_table false false true false = refl
-free_upper_table false false true true = refl
-free_upper_table false true false false = refl
-free_upper_table false true false true = refl
-free_upper_table false true true false = refl
-free_upper_table false true true true = refl
-free_upper_table true false false false = refl
-free_upper_table true false false true = refl
-free_upper_table true false true false = refl
-free_upper_table true false true true = refl
-free_upper_table true true false false = refl
-free_upper_table true true false true = refl
-free_upper_table true true true false = refl
-free_upper_table true true true true = refl
+upper_left_table : (ul ur ll lr : Bool) → either lr (either ul ur && not (either ul lr || either ur ll)) ≡ turned_cell false ul ur ll lr
+upper_left_table false false false false = refl
+upper_left_table false false false true = refl
+upper_left_table false false true false = refl
+upper_left_table false false true true = refl
+upper_left_table false true false false = refl
+upper_left_table false true false true = refl
+upper_left_table false true true false = refl
+upper_left_table false true true true = refl
+upper_left_table true false false false = refl
+upper_left_table true false false true = refl
+upper_left_table true false true false = refl
+upper_left_table true false true true = refl
+upper_left_table true true false false = refl
+upper_left_table true true false true = refl
+upper_left_table true true true false = refl
+upper_left_table true true true true = refl
 
-free_lower_table : (u su l sl : Bool) → either su ((either u su && either u l) && not (either u sl)) ≡ turned_cell false l sl u su
-free_lower_table false false false false = refl
-free_lower_table false false false true = refl
-free_lower_table false false true false = refl
-free_lower_table false false true true = refl
-free_lower_table false true false false = refl
-free_lower_table false true false true = refl
-free_lower_table false true true false = refl
-free_lower_table false true true true = refl
-free_lower_table true false false false = refl
-free_lower_table true false false true = refl
-free_lower_table true false true false = refl
-free_lower_table true false true true = refl
-free_lower_table true true false false = refl
-free_lower_table true true false true = refl
-free_lower_table true true true false = refl
-free_lower_table true true true true = refl
+upper_right_table : (ul ur ll lr : Bool) → either ll (either ul ur && not (either ul lr || either ur ll)) ≡ turned_cell false ur ul lr ll
+upper_right_table false false false false = refl
+upper_right_table false false false true = refl
+upper_right_table false false true false = refl
+upper_right_table false false true true = refl
+upper_right_table false true false false = refl
+upper_right_table false true false true = refl
+upper_right_table false true true false = refl
+upper_right_table false true true true = refl
+upper_right_table true false false false = refl
+upper_right_table true false false true = refl
+upper_right_table true false true false = refl
+upper_right_table true false true true = refl
+upper_right_table true true false false = refl
+upper_right_table true true false true = refl
+upper_right_table true true true false = refl
+upper_right_table true true true true = refl
 
--- the word that marks the cells of lone pairs that stand on one diagonal
-abbrev pub lone : ℕ → ℕ → ℕ → ℕ → ℕ
-lone u su l sl = bit_and (bit_and (bit_xor u su) (bit_xor u l)) (bit_not w64 (bit_xor u sl))
+lower_left_table : (ul ur ll lr : Bool) → either ur (either ul ur && not (either ul lr || either ur ll)) ≡ turned_cell false ll lr ul ur
+lower_left_table false false false false = refl
+lower_left_table false false false true = refl
+lower_left_table false false true false = refl
+lower_left_table false false true true = refl
+lower_left_table false true false false = refl
+lower_left_table false true false true = refl
+lower_left_table false true true false = refl
+lower_left_table false true true true = refl
+lower_left_table true false false false = refl
+lower_left_table true false false true = refl
+lower_left_table true false true false = refl
+lower_left_table true false true true = refl
+lower_left_table true true false false = refl
+lower_left_table true true false true = refl
+lower_left_table true true true false = refl
+lower_left_table true true true true = refl
 
-module _ (u su l sl x : ℕ) (u_fits : u < 2 ^ 64) (sl_fits : sl < 2 ^ 64) (within : x < 64) where
-  pub bit_of_lone : bit (lone u su l sl) x ≡ ((either (bit u x) (bit su x) && either (bit u x) (bit l x)) && not (either (bit u x) (bit sl x)))
-  bit_of_lone =
-      let fits = xor_lt 64 u sl u_fits sl_fits in
-      let n = bit-not (bit_xor u sl) x fits within in
-      rw (bit-and, bit-and, bit-xor, bit-xor, n, bit-xor)
+lower_right_table : (ul ur ll lr : Bool) → either ul (either ul ur && not (either ul lr || either ur ll)) ≡ turned_cell false lr ll ur ul
+lower_right_table false false false false = refl
+lower_right_table false false false true = refl
+lower_right_table false false true false = refl
+lower_right_table false false true true = refl
+lower_right_table false true false false = refl
+lower_right_table false true false true = refl
+lower_right_table false true true false = refl
+lower_right_table false true true true = refl
+lower_right_table true false false false = refl
+lower_right_table true false false true = refl
+lower_right_table true false true false = refl
+lower_right_table true false true true = refl
+lower_right_table true true false false = refl
+lower_right_table true true false true = refl
+lower_right_table true true true false = refl
+lower_right_table true true true true = refl
 
-  -- without walls
-  pub bit_of_upper_free : bit (bit_xor sl (lone u su l sl)) x ≡ turned_cell false (bit u x) (bit su x) (bit l x) (bit sl x)
-  bit_of_upper_free = rw (bit-xor sl (lone u su l sl) x, bit_of_lone) (free_upper_table (bit u x) (bit su x) (bit l x) (bit sl x))
+-- the blocks that have just one diagonal
+abbrev pub diagonal : ℕ → ℕ → ℕ → ℕ → ℕ
+diagonal ul ur ll lr = bit_and (bit_xor ul ur) (bit_not w32 (bit_or (bit_xor ul lr) (bit_xor ur ll)))
 
-  pub bit_of_lower_free : bit (bit_xor su (lone u su l sl)) x ≡ turned_cell false (bit l x) (bit sl x) (bit u x) (bit su x)
-  bit_of_lower_free = rw (bit-xor su (lone u su l sl) x, bit_of_lone) (free_lower_table (bit u x) (bit su x) (bit l x) (bit sl x))
+module _ (ul ur ll lr i : ℕ) (ul_fits : ul < 2 ^ 32) (ur_fits : ur < 2 ^ 32) (ll_fits : ll < 2 ^ 32) (lr_fits : lr < 2 ^ 32) (within : i < 32) where
+  bit_of_diagonal : bit (diagonal ul ur ll lr) i ≡ (either (bit ul i) (bit ur i) && not (either (bit ul i) (bit lr i) || either (bit ur i) (bit ll i)))
+  bit_of_diagonal =
+      let a = xor_lt 32 ul lr ul_fits lr_fits in
+      let b = xor_lt 32 ur ll ur_fits ll_fits in
+      let n = bit-not (bit_or (bit_xor ul lr) (bit_xor ur ll)) i (or_lt 32 (bit_xor ul lr) (bit_xor ur ll) a b) within in
+      rw (bit-and, bit-xor, n, bit-or, bit-xor, bit-xor)
 
--- one of three words under masks
-first_of_three : (a b c : Bool) → (((a && true) || (b && false)) || (c && false)) ≡ a
-first_of_three false false false = refl
-first_of_three false false true = refl
-first_of_three false true false = refl
-first_of_three false true true = refl
-first_of_three true false false = refl
-first_of_three true false true = refl
-first_of_three true true false = refl
-first_of_three true true true = refl
+  pub upper_left_bit : bit (bit_xor lr (diagonal ul ur ll lr)) i ≡ turned_cell false (bit ul i) (bit ur i) (bit ll i) (bit lr i)
+  upper_left_bit = rw (bit-xor lr (diagonal ul ur ll lr) i, bit_of_diagonal) (upper_left_table (bit ul i) (bit ur i) (bit ll i) (bit lr i))
 
-second_of_three : (a b c : Bool) → (((a && false) || (b && true)) || (c && false)) ≡ b
-second_of_three false false false = refl
-second_of_three false false true = refl
-second_of_three false true false = refl
-second_of_three false true true = refl
-second_of_three true false false = refl
-second_of_three true false true = refl
-second_of_three true true false = refl
-second_of_three true true true = refl
+  pub upper_right_bit : bit (bit_xor ll (diagonal ul ur ll lr)) i ≡ turned_cell false (bit ur i) (bit ul i) (bit lr i) (bit ll i)
+  upper_right_bit = rw (bit-xor ll (diagonal ul ur ll lr) i, bit_of_diagonal) (upper_right_table (bit ul i) (bit ur i) (bit ll i) (bit lr i))
 
-last_after_first : (b c : Bool) → (((false && true) || (b && false)) || (c && true)) ≡ c
-last_after_first true true = refl
-last_after_first true false = refl
-last_after_first false true = refl
-last_after_first false false = refl
+  pub lower_left_bit : bit (bit_xor ur (diagonal ul ur ll lr)) i ≡ turned_cell false (bit ll i) (bit lr i) (bit ul i) (bit ur i)
+  lower_left_bit = rw (bit-xor ur (diagonal ul ur ll lr) i, bit_of_diagonal) (lower_left_table (bit ul i) (bit ur i) (bit ll i) (bit lr i))
 
-last_after_second : (a c : Bool) → (((a && false) || (false && true)) || (c && true)) ≡ c
-last_after_second true true = refl
-last_after_second true false = refl
-last_after_second false true = refl
-last_after_second false false = refl
+  pub lower_right_bit : bit (bit_xor ul (diagonal ul ur ll lr)) i ≡ turned_cell false (bit lr i) (bit ll i) (bit ur i) (bit ul i)
+  lower_right_bit = rw (bit-xor ul (diagonal ul ur ll lr) i, bit_of_diagonal) (lower_right_table (bit ul i) (bit ur i) (bit ll i) (bit lr i))
 
-first_of_two : (a b : Bool) → ((a && true) || (b && false)) ≡ a
-first_of_two true b = refl
-first_of_two false true = refl
-first_of_two false false = refl
+or_false : (b : Bool) → (b || false) ≡ b
+or_false true = refl
+or_false false = refl
 
-second_of_two : (a b : Bool) → ((a && false) || (b && true)) ≡ b
-second_of_two true true = refl
-second_of_two true false = refl
-second_of_two false true = refl
-second_of_two false false = refl
+-- `(row >> 1) | (right << 31)` and `(row << 1) | (left >> 31)`
+pub bit_of_next : (row right i : ℕ) → row < 2 ^ 32 → i < 32 → bit (bit_or (row / 2) (right * 2147483648 % 2 ^ 32)) i ≡ (if i == 31 then bit right 0 else bit row (i + 1))
+bit_of_next row right i fits within =
+    elim (cases_eq i 31) [
+      | inl e ↦
+          let above : bit (row / 2) i ≡ false = bit-shr row 1 i ∙ bit-above row (1 + i) fits (omega arith) in
+          let there : bit (right * 2147483648 % 2 ^ 32) i ≡ bit right 0 = bit-shl_high right 31 i within (omega arith) ∙ ap (bit right) (omega arith) in
+          rw (bit-or, above, there, eq-eqb i 31 e)
+      | inr ne ↦
+          let here : bit (row / 2) i ≡ bit row (i + 1) = bit-shr row 1 i ∙ ap (bit row) (omega arith) in
+          let low : bit (right * 2147483648 % 2 ^ 32) i ≡ false = bit-shl_low right 31 i within (omega arith) in
+          rw (bit-or, here, low, ne_eqb i 31 ne) (or_false (bit row (i + 1)))
+    ]
 
-pub cell_inside : (row side i : ℕ) → (i ≡ 0 → ⊥) → (i ≡ 65 → ⊥) → cell_of_row row side i ≡ bit row (i - 1)
-cell_inside row side i low high = rw (ne_eqb i 0 low, ne_eqb i 65 high)
+pub bit_of_previous : (row left i : ℕ) → left < 2 ^ 32 → i < 32 → bit (bit_or (row * 2 % 2 ^ 32) (left / 2147483648)) i ≡ (if i == 0 then bit left 31 else bit row (i - 1))
+bit_of_previous row left i fits within =
+    elim (cases_eq i 0) [
+      | inl e ↦
+          let low : bit (row * 2 % 2 ^ 32) i ≡ false = bit-shl_low row 1 i within (omega arith) in
+          let there : bit (left / 2147483648) i ≡ bit left 31 = bit-shr left 31 i ∙ ap (bit left) (omega arith) in
+          rw (bit-or, low, there, eq-eqb i 0 e)
+      | inr ne ↦
+          let here : bit (row * 2 % 2 ^ 32) i ≡ bit row (i - 1) = bit-shl_high row 1 i within (omega arith) in
+          let above : bit (left / 2147483648) i ≡ false = bit-shr left 31 i ∙ bit-above left (31 + i) fits (omega arith) in
+          rw (bit-or, here, above, ne_eqb i 0 ne) (or_false (bit row (i - 1)))
+    ]
 
-pub bit-end_columns : (i : ℕ) → i < 64 → bit 9223372036854775809 i ≡ (i == 0 || i == 63)
-unfolding bit
-bit-end_columns i within = agree_below_at (λ i. bit 9223372036854775809 i) (λ i. i == 0 || i == 63) 64 i refl within
+-- whether one of a block's corners has a cell, seen from each of them: `(ul | ll) | (ur | lr)`
+abbrev any : ℕ → ℕ → ℕ → ℕ → ℕ
+any ul ur ll lr = bit_or (bit_or ul ll) (bit_or ur lr)
 
-pub bit_of_across_even : (row side x : ℕ) → x < 64 → bit (bit_or (bit_and (row / 2) 6148914691236517205) (bit_and (row * 2 % 2 ^ 64) 12297829382473034410)) x ≡ cell_of_row row side (partner 0 x)
-bit_of_across_even row side x within =
-    rw (bit-or, bit-and, bit-and, bit-even_columns x within, bit-odd_columns x within)
-    (elim (cases_eq (x % 2) 0) [
-      | inl even ↦
-          let first : (x % 2 == 0) ≡ true = eq-eqb (x % 2) 0 even in
-          let second : (x % 2 == 1) ≡ false = ne_eqb (x % 2) 1 (λ h. omega arith) in
-          let place : ((x + 0) % 2 == 0) ≡ true = eq-eqb ((x + 0) % 2) 0 (omega arith) in
-          let there : bit row (1 + x) ≡ bit row (x + 2 - 1) = ap (bit row) (omega arith) in
-          rw (first, second, place)
-          (first_of_two _ _
-          ∙ (bit-shr row 1 x ∙ (there ∙ sym (cell_inside row side (x + 2) (λ h. omega arith) (λ h. omega arith)))))
-      | inr odd ↦
-          let first : (x % 2 == 0) ≡ false = ne_eqb (x % 2) 0 odd in
-          let second : (x % 2 == 1) ≡ true = eq-eqb (x % 2) 1 (omega arith) in
-          let place : ((x + 0) % 2 == 0) ≡ false = ne_eqb ((x + 0) % 2) 0 (λ h. omega arith) in
-          rw (first, second, place)
-          (second_of_two _ _
-          ∙ (bit-shl_high row 1 x within (omega arith) ∙ sym (cell_inside row side x (λ h. omega arith) (λ h. omega arith))))
-    ])
+or_swapped : (a b : Bool) → (a || b) ≡ (b || a)
+or_swapped true true = refl
+or_swapped true false = refl
+or_swapped false true = refl
+or_swapped false false = refl
 
--- a column of the ring
-cell_left : (row side : ℕ) → cell_of_row row side 0 ≡ bit side 0
-cell_left row side = refl
+module _ (ul ur ll lr i : ℕ) where
+  pub any_upper_left : bit (any ul ur ll lr) i ≡ ((bit ul i || bit ll i) || (bit ur i || bit lr i))
+  any_upper_left = rw (bit-or (bit_or ul ll) (bit_or ur lr) i, bit-or, bit-or)
 
-pub bit_of_across_odd : (row side x : ℕ) → row < 2 ^ 64 → x < 64 → bit (bit_or (bit_or (bit_and (row / 2) 12297829382473034410) (bit_and (row * 2 % 2 ^ 64) 6148914691236517205)) (bit_and side 9223372036854775809)) x ≡ cell_of_row row side (partner 1 x)
-bit_of_across_odd row side x fits within =
-    rw (bit-or, bit-or, bit-and, bit-and, bit-and, bit-odd_columns x within, bit-even_columns x within, bit-end_columns x within)
-    (elim (cases_eq (x % 2) 1) [
-      | inl odd ↦
-          let first : (x % 2 == 1) ≡ true = eq-eqb (x % 2) 1 odd in
-          let second : (x % 2 == 0) ≡ false = ne_eqb (x % 2) 0 (λ h. omega arith) in
-          let place : ((x + 1) % 2 == 0) ≡ true = eq-eqb ((x + 1) % 2) 0 (omega arith) in
-          let some : (x == 0) ≡ false = ne_eqb x 0 (λ h. omega arith) in
-          elim (cases_eq x 63) [
-            | inl last ↦
-                let end : (x == 63) ≡ true = eq-eqb x 63 last in
-                let above : bit row (1 + x) ≡ false = bit-above row (1 + x) fits (omega arith) in
-                let e : x + 2 ≡ 65 = omega arith in
-                rw (first, second, place, some, end, bit-shr row 1 x, above, e) (last_after_first _ _ ∙ ap (bit side) last)
-            | inr inner ↦
-                let end : (x == 63) ≡ false = ne_eqb x 63 inner in
-                let there : bit row (1 + x) ≡ bit row (x + 2 - 1) = ap (bit row) (omega arith) in
-                rw (first, second, place, some, end)
-                (first_of_three _ _ _
-                ∙ (bit-shr row 1 x ∙ (there ∙ sym (cell_inside row side (x + 2) (λ h. omega arith) (λ h. omega arith)))))
-          ]
-      | inr even ↦
-          let first : (x % 2 == 1) ≡ false = ne_eqb (x % 2) 1 even in
-          let second : (x % 2 == 0) ≡ true = eq-eqb (x % 2) 0 (omega arith) in
-          let place : ((x + 1) % 2 == 0) ≡ false = ne_eqb ((x + 1) % 2) 0 (λ h. omega arith) in
-          let end : (x == 63) ≡ false = ne_eqb x 63 (λ h. omega arith) in
-          elim (cases_eq x 0) [
-            | inl least ↦
-                let some : (x == 0) ≡ true = eq-eqb x 0 least in
-                let low : bit (row * 2 % 2 ^ 64) x ≡ false = bit-shl_low row 1 x within (omega arith) in
-                rw (first, second, place, some, low) (last_after_second _ _ ∙ ap (bit side) least)
-            | inr more ↦
-                let some : (x == 0) ≡ false = ne_eqb x 0 more in
-                let there : cell_of_row row side x ≡ bit row (x - 1) = cell_inside row side x more (λ h. omega arith) in
-                rw (place, there, first, second, some, end)
-                (second_of_three _ _ _ ∙ bit-shl_high row 1 x within (omega arith))
-          ]
-    ])
+  pub any_upper_right : bit (any ul ur ll lr) i ≡ ((bit ur i || bit lr i) || (bit ul i || bit ll i))
+  any_upper_right = any_upper_left ∙ or_swapped (bit ul i || bit ll i) (bit ur i || bit lr i)
+
+  pub any_lower_left : bit (any ul ur ll lr) i ≡ ((bit ll i || bit ul i) || (bit lr i || bit ur i))
+  any_lower_left = any_upper_left ∙ ap₂ (λ u v. u || v) (or_swapped (bit ul i) (bit ll i)) (or_swapped (bit ur i) (bit lr i))
+
+  pub any_lower_right : bit (any ul ur ll lr) i ≡ ((bit lr i || bit ur i) || (bit ll i || bit ul i))
+  any_lower_right = any_lower_left ∙ or_swapped (bit ll i || bit ul i) (bit lr i || bit ur i)

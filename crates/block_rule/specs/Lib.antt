@@ -1,6 +1,7 @@
 pub mod Block
 pub mod Around
-pub mod Words
 pub mod Windows
-pub mod ByCorner
-pub mod Holding
+pub mod Classes
+pub mod Cell
+pub mod Rows
+pub mod Lent

@@ -3,6 +3,7 @@
 ghost use Rattle.std.specs.Prelude.{◌≡◌, ℕ, ◌+◌, ◌<◌, ◌≤◌, Bool, ℤ, pos};
 ghost use Rattle.bit_tile.specs.Tile.{HasCells};
 ghost use Rattle.bit_tile.specs.declared.Tile.{Tile as TileRows};
+ghost use Rattle.tile_border.specs.Ring.{IsBorderOf};
 ghost use Rattle.tile_border.specs.declared.Border.{Border as RingCells};
 ghost use Rattle.gas_terms.specs.Velocity.{parity};
 ghost use Rattle.gas_terms.specs.Cells.{Cells, joined};
@@ -11,6 +12,7 @@ ghost use Rattle.gas_terms.specs.Gas.{streamed};
 ghost use Rattle.gas_terms.specs.declared.accounts.Pair.{Pair};
 ghost use Rattle.gas_terms.specs.declared.accounts.Took.{Took};
 ghost use Rattle.block_rule.specs.Around.{around, turned, either, none, taken};
+ghost use Rattle.block_rule.specs.Rows.{ShowsTile, ShowsRound};
 ghost use Rattle.block_rule.specs.Windows.{IsWindow, IsView, IsTilePlace, square, taken_in};
 
 /// What a tile's blocks reach of the torus: with the border all that they need, and at even parity the tile is enough.
@@ -19,6 +21,14 @@ pub fn tiles_see_the_torus()
         IsWindow window cells x0 y0 → IsView p window cells x0 y0 }
     ensures inside { (t : TileRows) (b : RingCells) (cells : Cells) (x0 y0 : ℕ) → x0 + 64 ≤ cells.width → y0 + 64 ≤ cells.height →
         HasCells t (λ x y. plane.has cells (x0 + x) (y0 + y)) → IsView 0 (around t b) cells x0 y0 }
+{}
+
+/// A tile with its border is a window on the tiles round it.
+pub fn borders_are_windows()
+    ensures tile { (t : TileRows) (b : RingCells) → ShowsTile (around t b) t }
+    ensures round { (t above below left right above_left above_right below_left below_right : TileRows) (b : RingCells) →
+        IsBorderOf b above below left right above_left above_right below_left below_right →
+        ShowsRound (around t b) above below left right above_left above_right below_left below_right }
 {}
 
 /// The block rule on a tile is the step of the torus.

@@ -1,5 +1,7 @@
 -- What a plane's tiles show of the torus.
-use Rattle.std.proofs.Common.{◌≡◌, ℕ, ◌+◌, ◌*◌, ◌/◌, ◌%◌, ◌<◌, ◌≤◌, ◌-◌, ◌∙◌, ap, ap₂, subst, sym, arith}
+use Rattle.std.specs.Borrow.{Bor}
+use Rattle.std.specs.Prelude.{MatchOption}
+use Rattle.std.proofs.Common.{◌≡◌, Bool, Option, None, Some, [], refl, ℕ, ◌+◌, ◌*◌, ◌/◌, ◌%◌, ◌<◌, ◌≤◌, ◌-◌, ◌∙◌, ap, ap₂, subst, sym, arith}
 use Rattle.std.proofs.lemmas.Nat.{mod-mul-add}
 use Rattle.bit_tile.specs.Tile.{HasCells}
 use Rattle.bit_tile.specs.declared.Tile.{Tile}
@@ -7,7 +9,12 @@ use Rattle.tile_border.specs.declared.Border.{Border}
 use Rattle.gas_terms.specs.Cells.{Cells, HasSidesOf, has, tile_rectangle}
 use Rattle.gas_plane.specs.Planes.{IsTileFrom, IsRingRound, IsBare, IsBareRound}
 use Rattle.block_rule.specs.Around.{around, none}
+use Rattle.tile_border.specs.Ring.{IsBorderOf}
 use Rattle.block_rule.specs.Windows.{IsView, IsWindow}
+use Rattle.block_rule.specs.Rows.{ShowsTile, ShowsRound}
+use Rattle.block_rule.specs.Lent.{IsSeenInside, IsSeenIn, IsSeen}
+use Rattle.block_rule.specs.declared.Window.{Window}
+use Rattle.phase_step.specs.Turns.{IsWindowFrom}
 use Rattle.phase_step.proofs.Rings.{window_is}
 
 -- a tile of a set of the same torus as another's
@@ -53,3 +60,68 @@ pub wall_view : (i : ℕ) (cells others : Cells) (t : Tile) (b : Border) → Has
     → IsView 0 (around t b) cells (tile_rectangle others i).x (tile_rectangle others i).y
 wall_view i cells others t b of right bottom from law =
     law t b cells (tile_rectangle others i).x (tile_rectangle others i).y (subst (λ w. (tile_rectangle others i).x + 64 ≤ w) (sym of.wide) right) (subst (λ h. (tile_rectangle others i).y + 64 ≤ h) (sym of.high) bottom) (tile_cells i cells others t of.wide from)
+
+-- what is lent of a set shows a window, which is a view of the torus
+pub record SeenInside (lent : Option (Bor Tile)) (cells : Cells) (x0 y0 : ℕ) : Type 0 where
+  pub window : ℕ → ℕ → Bool
+  pub seen : IsSeenInside lent window
+  pub view : IsView 0 window cells x0 y0
+
+pub record Seen (lent : Option Window) (cells : Cells) (x0 y0 : ℕ) : Type 0 where
+  pub window : ℕ → ℕ → Bool
+  pub seen : IsSeen lent window
+  pub view : IsView 1 window cells x0 y0
+
+-- at even parity any border will do
+pub any_border : Border
+any_border = record { above = 0; below = 0; sides = [] }
+
+-- the laws of block_rule and tile_border that are used here
+abbrev pub ShowsInside : Type 0
+ShowsInside = (t : Tile) (b : Border) → ShowsTile (around t b) t
+
+abbrev pub ShowsAll : Type 0
+ShowsAll = (t a d l r al ar dl dr : Tile) (b : Border) → IsBorderOf b a d l r al ar dl dr → ShowsRound (around t b) a d l r al ar dl dr
+
+abbrev pub Inside : Type 0
+Inside = (t : Tile) (b : Border) (cells : Cells) (x0 y0 : ℕ) → x0 + 64 ≤ cells.width → y0 + 64 ≤ cells.height → HasCells t (λ x y. has cells (x0 + x) (y0 + y)) → IsView 0 (around t b) cells x0 y0
+
+abbrev pub SeesTorus : Type 0
+SeesTorus = (p : ℕ) (window : ℕ → ℕ → Bool) (cells : Cells) (x0 y0 : ℕ) → p < 2 → IsWindow window cells x0 y0 → IsView p window cells x0 y0
+
+abbrev pub HaveBorder : Type 0
+HaveBorder = (a d l r al ar dl dr : Tile) → (b : Border) × IsBorderOf b a d l r al ar dl dr
+
+pub seen_inside : (i : ℕ) (cells others : Cells) (lent : Option (Bor Tile)) → ShowsInside → Inside → HasSidesOf cells others → (tile_rectangle others i).x + 64 ≤ others.width → (tile_rectangle others i).y + 64 ≤ others.height
+    → MatchOption lent (IsBare cells (tile_rectangle cells i).x (tile_rectangle cells i).y) (λ t. IsTileFrom t.now cells (tile_rectangle cells i).x (tile_rectangle cells i).y)
+    → SeenInside lent cells (tile_rectangle others i).x (tile_rectangle others i).y
+seen_inside i cells others None shows inside of right bottom bare =
+    record { window = none; seen = λ _ _. refl; view = bare_inside i cells others of right bottom bare }
+seen_inside i cells others (Some t) shows inside of right bottom from =
+    record { window = around t.now any_border; seen = shows t.now any_border; view = wall_view i cells others t.now any_border of right bottom from inside }
+
+-- a window of a set, and its view of the torus
+pub window_view : (i : ℕ) (cells others : Cells) (w : Window) (b : Border) → SeesTorus → cells.width ≡ others.width → cells.height ≡ others.height → (tile_rectangle others i).x + 64 ≤ others.width → (tile_rectangle others i).y + 64 ≤ others.height
+    → IsBorderOf b w.round.above.now w.round.below.now w.round.left.now w.round.right.now w.round.above_left.now w.round.above_right.now w.round.below_left.now w.round.below_right.now
+    → IsWindowFrom w cells (tile_rectangle cells i).x (tile_rectangle cells i).y → IsView 1 (around w.tile.now b) cells (tile_rectangle others i).x (tile_rectangle others i).y
+window_view i cells others w b sees wide high right bottom is from =
+    sees 1 (around w.tile.now b) cells (tile_rectangle others i).x (tile_rectangle others i).y (omega arith) (tile_window i cells others w.tile.now b wide high right bottom from.tile (from.round b is))
+
+pub window_seen : (w : Window) (b : Border) → ShowsInside → ShowsAll
+    → IsBorderOf b w.round.above.now w.round.below.now w.round.left.now w.round.right.now w.round.above_left.now w.round.above_right.now w.round.below_left.now w.round.below_right.now
+    → IsSeenIn w (around w.tile.now b)
+window_seen w b shows shows_all is =
+    record { tile = shows w.tile.now b; round = shows_all w.tile.now w.round.above.now w.round.below.now w.round.left.now w.round.right.now w.round.above_left.now w.round.above_right.now w.round.below_left.now w.round.below_right.now b is }
+
+pub seen_of : (i : ℕ) (cells others : Cells) (lent : Option Window) → ShowsInside → ShowsAll → SeesTorus → HaveBorder → HasSidesOf cells others → (tile_rectangle others i).x + 64 ≤ others.width → (tile_rectangle others i).y + 64 ≤ others.height
+    → MatchOption lent (IsBareRound cells (tile_rectangle cells i).x (tile_rectangle cells i).y) (λ w. IsWindowFrom w cells (tile_rectangle cells i).x (tile_rectangle cells i).y)
+    → Seen lent cells (tile_rectangle others i).x (tile_rectangle others i).y
+seen_of i cells others None shows shows_all sees have of right bottom bare =
+    record { window = none; seen = λ _ _. refl; view = bare_view 1 i cells others (omega arith) of.wide bare }
+seen_of i cells others (Some w) shows shows_all sees have of right bottom from =
+    let found = have w.round.above.now w.round.below.now w.round.left.now w.round.right.now w.round.above_left.now w.round.above_right.now w.round.below_left.now w.round.below_right.now in
+    record {
+      window = around w.tile.now found.0;
+      seen = window_seen w found.0 shows shows_all found.1;
+      view = window_view i cells others w found.0 sees of.wide of.high right bottom found.1 from;
+    }

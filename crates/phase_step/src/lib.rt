@@ -14,7 +14,7 @@ use gas_plane::Plane;
 use gas_terms::Took;
 use std::mem;
 use tiles::NOTHING;
-pub use tiles::{Borders, NO_BORDERS, turn_tile_at};
+pub use tiles::turn_tile_at;
 
 /// What turns the blocks of a plane. It never refuses and takes no memory.
 pub trait Stepper: Drop {
@@ -94,10 +94,9 @@ impl Stepper for Serial {
         gas_terms::account_laws::taken_over_cells();
         gas_terms::account_laws::sums_over_tiles();
         gas_terms::account_laws::sums_by_parities();
-        let mut room = NO_BORDERS;
         let mut took = NOTHING;
         for i in 0..out.size().tiles() {
-            let here = turn_tile_at(old, walls, obstacles, parity, i, &mut room, out.tile_mut(i));
+            let here = turn_tile_at(old, walls, obstacles, parity, i, out.tile_mut(i));
             took = took.plus(here);
         }
         took

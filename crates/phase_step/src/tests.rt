@@ -47,14 +47,14 @@ fn first_tile(
     old: &Plane,
     walls: &Plane,
     obstacles: &Plane,
-    room: &mut Borders,
+
     out: &mut gas_plane::Tile,
 ) -> Took {
     let size = old.size();
     assert!(rt; walls.size() == size);
     assert!(rt; obstacles.size() == size);
     assert!(rt; size.tiles() > 0);
-    turn_tile_at(old, walls, obstacles, 1, 0, room, out)
+    turn_tile_at(old, walls, obstacles, 1, 0, out)
 }
 
 // whether two planes hold the same cells

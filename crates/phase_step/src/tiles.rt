@@ -1,34 +1,18 @@
 //! The step of one tile of a plane.
 
-ghost use Rattle.std.specs.Prelude.{◌≡◌, ◌<◌, IsTrue, pos};
+ghost use Rattle.std.specs.Prelude.{◌≡◌, ◌<◌, pos, MatchOption};
 ghost use Rattle.gas_terms.specs.Cells.{tile_count, tile_rectangle, HasSidesOf};
-ghost use Rattle.gas_plane.specs.Planes.{IsBare, IsBareRound};
+ghost use Rattle.gas_plane.specs.Planes.{IsTileFrom, IsBare, IsBareRound};
 ghost use Rattle.block_rule.specs.Windows.{IsTilePlace, taken_in};
-ghost use Rattle.phase_step.specs.Turns.{IsTileAfter};
+ghost use Rattle.phase_step.specs.Turns.{IsTileAfter, IsWindowFrom};
 
-use block_rule::{
-    turn_free_tile_even, turn_free_tile_odd_among, turn_tile_even, turn_tile_odd_among,
-};
+use block_rule::{Window, turn_tile_even, turn_tile_odd};
 use gas_plane::{Plane, Tile};
 use gas_terms::{Pair, Took};
-use tile_border::{Border, NO_BORDER};
 
 pub const NOTHING: Took = Took {
     walls: Pair { x: 0, y: 0 },
     obstacles: Pair { x: 0, y: 0 },
-};
-
-/// Room for the borders of walls and obstacles that a tile is turned with. What it holds does not matter.
-#[derive(Clone, Copy)]
-pub struct Borders {
-    walls: Border,
-    obstacles: Border,
-}
-
-/// Such room to begin with.
-pub const NO_BORDERS: Borders = Borders {
-    walls: NO_BORDER,
-    obstacles: NO_BORDER,
 };
 
 /// Puts tile i into `out` as it is after the phase, and answers what walls and obstacles take of its particles: what a phase
@@ -39,7 +23,6 @@ pub fn turn_tile_at(
     obstacles: &Plane,
     parity: u8,
     i: u32,
-    room: &mut Borders,
     out: &mut Tile,
 ) -> Took
     requires parity { parity < 2 }
@@ -54,7 +37,7 @@ pub fn turn_tile_at(
     if parity == 0 {
         turn_even(old, walls, obstacles, i, out)
     } else {
-        turn_odd(old, walls, obstacles, i, room, out)
+        turn_odd(old, walls, obstacles, i, out)
     }
 }
 
@@ -65,73 +48,54 @@ fn turn_even(old: &Plane, walls: &Plane, obstacles: &Plane, i: u32, out: &mut Ti
     ensures cells { IsTileAfter 0 old.now walls.now obstacles.now i out.new }
     ensures took { result ≡ taken_in (pos 0) old.now walls.now obstacles.now (tile_rectangle old.now i) }
 {
+    block_rule::laws::borders_are_windows();
     block_rule::laws::tiles_see_the_torus();
     block_rule::laws::tiles_turn_as_the_torus();
     block_rule::laws::tiles_take_as_the_torus();
-    if is_free_inside(walls, obstacles, i) {
-        turn_free_tile_even(old.tile(i), out);
-        NOTHING
-    } else {
-        turn_tile_even(
-            old.tile(i),
-            walls.tile_or_bare(i),
-            obstacles.tile_or_bare(i),
-            out,
-        )
-    }
+    turn_tile_even(old.tile(i), tile_in(walls, i), tile_in(obstacles, i), out)
 }
 
 // Blocks begin at odd columns and rows: those at the tile's edges reach into the tiles round it.
-fn turn_odd(
-    old: &Plane,
-    walls: &Plane,
-    obstacles: &Plane,
-    i: u32,
-    room: &mut Borders,
-    out: &mut Tile,
-) -> Took
+fn turn_odd(old: &Plane, walls: &Plane, obstacles: &Plane, i: u32, out: &mut Tile) -> Took
     requires tile { i < tile_count old.now }
     requires place { let r = tile_rectangle old.now i in IsTilePlace old.now walls.now obstacles.now r.x r.y }
     ensures cells { IsTileAfter 1 old.now walls.now obstacles.now i out.new }
     ensures took { result ≡ taken_in (pos 1) old.now walls.now obstacles.now (tile_rectangle old.now i) }
 {
+    block_rule::laws::borders_are_windows();
     block_rule::laws::tiles_see_the_torus();
     block_rule::laws::tiles_turn_as_the_torus();
     block_rule::laws::tiles_take_as_the_torus();
     tile_border::laws::tiles_have_a_border();
-    let round = old.round(i);
-    if is_free(walls, obstacles, i) {
-        turn_free_tile_odd_among(old.tile(i), &round, out);
-        NOTHING
+    let particles = Window {
+        tile: old.tile(i),
+        round: old.round(i),
+    };
+    turn_tile_odd(&particles, window_in(walls, i), window_in(obstacles, i), out)
+}
+
+// The set's tile, unless it is known to have no cells.
+fn tile_in(set: &Plane, i: u32) -> Option<&Tile>
+    requires { i < tile_count set.now }
+    ensures { let r = tile_rectangle set.now i in MatchOption result (IsBare set.now r.x r.y) (λ t. IsTileFrom t.now set.now r.x r.y) }
+{
+    if set.is_bare(i) {
+        None
     } else {
-        turn_tile_odd_among(
-            old.tile(i),
-            &round,
-            walls.tile_or_bare(i),
-            walls.border_in(i, &mut room.walls),
-            obstacles.tile_or_bare(i),
-            obstacles.border_in(i, &mut room.obstacles),
-            out,
-        )
+        Some(set.tile(i))
     }
 }
 
-// whether the tile has neither walls nor obstacles
-fn is_free_inside(walls: &Plane, obstacles: &Plane, i: u32) -> bool
-    requires walls { i < tile_count walls.now }
-    requires obstacles { i < tile_count obstacles.now }
-    ensures walls { let r = tile_rectangle walls.now i in IsTrue result → IsBare walls.now r.x r.y }
-    ensures obstacles { let r = tile_rectangle obstacles.now i in IsTrue result → IsBare obstacles.now r.x r.y }
+// The set's tile with those round it, unless they are known to have no cells.
+fn window_in(set: &Plane, i: u32) -> Option<Window<'_>>
+    requires { i < tile_count set.now }
+    ensures { let r = tile_rectangle set.now i in MatchOption result (IsBareRound set.now r.x r.y) (λ w. IsWindowFrom w set.now r.x r.y) }
 {
-    walls.is_bare(i) && obstacles.is_bare(i)
-}
-
-// whether neither the tile nor those round it have any
-fn is_free(walls: &Plane, obstacles: &Plane, i: u32) -> bool
-    requires walls { i < tile_count walls.now }
-    requires obstacles { i < tile_count obstacles.now }
-    ensures walls { let r = tile_rectangle walls.now i in IsTrue result → IsBareRound walls.now r.x r.y }
-    ensures obstacles { let r = tile_rectangle obstacles.now i in IsTrue result → IsBareRound obstacles.now r.x r.y }
-{
-    walls.is_bare_round(i) && obstacles.is_bare_round(i)
+    if set.is_bare_round(i) {
+        None
+    } else {
+        let tile = set.tile_or_bare(i);
+        let round = set.round_or_bare(i);
+        Some(Window { tile, round })
+    }
 }

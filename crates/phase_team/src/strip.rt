@@ -11,7 +11,7 @@ use crate::course::Course;
 use crate::worker::NOTHING;
 use gas_plane::Plane;
 use gas_terms::{NoMemory, Size, Took};
-use phase_step::{NO_BORDERS, parity_at, turn_tile_at};
+use phase_step::{parity_at, turn_tile_at};
 use std::alloc::Global;
 use std::mem;
 
@@ -77,10 +77,9 @@ fn phase_of(old: &Plane, walls: &Plane, obstacles: &Plane, parity: u8, out: &mut
     let across = u32::from(old.size().width() / 64);
     let tiles = old.size().tiles();
     let end = tiles - across;
-    let mut room = NO_BORDERS;
     let mut took = NOTHING;
     for i in 0..tiles {
-        let here = turn_tile_at(old, walls, obstacles, parity, i, &mut room, out.tile_mut(i));
+        let here = turn_tile_at(old, walls, obstacles, parity, i, out.tile_mut(i));
         if is_own(i, across, end) {
             took = took.plus(here);
         }

@@ -7,7 +7,7 @@ ghost use Rattle.phase_team.specs.Tiles.{tile_takes};
 
 use gas_plane::{Plane, Tile};
 use gas_terms::Took;
-use phase_step::{Borders, turn_tile_at};
+use phase_step::turn_tile_at;
 
 /// The planes of a phase and its parity.
 #[derive(Clone, Copy)]
@@ -23,7 +23,7 @@ pub struct Task<'a> {
 
 impl Task<'_> {
     /// Puts tile i into `out` as it is after the phase, and answers what walls and obstacles take of its particles.
-    pub fn turn(self, i: u32, room: &mut Borders, out: &mut Tile) -> Took
+    pub fn turn(self, i: u32, out: &mut Tile) -> Took
         requires { i < tile_count self.old.now }
         ensures cells { IsTileAfter self.entry.parity self.entry.old.now self.entry.walls.now self.entry.obstacles.now i out.new }
         ensures took { result ≡ tile_takes self.entry.parity self.entry.old.now self.entry.walls.now self.entry.obstacles.now i }
@@ -34,7 +34,6 @@ impl Task<'_> {
             self.obstacles,
             self.parity,
             i,
-            room,
             out,
         )
     }

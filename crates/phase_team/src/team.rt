@@ -18,7 +18,7 @@ use crate::worker::{NOTHING, Turned, Worker, work_on};
 use claim_desk::{Desk, DeskSeat};
 use gas_plane::Plane;
 use gas_terms::Took;
-use phase_step::{NO_BORDERS, Serial, Stepper};
+use phase_step::{Serial, Stepper};
 use std::alloc::Global;
 use std::marker::Model;
 use std::thread;
@@ -114,10 +114,9 @@ fn draw_here<G: Gate>(
     let _ = (task.old.size(), out.size());
     gas_terms::account_laws::sums_by_parities();
     let mut took = NOTHING;
-    let mut room = NO_BORDERS;
     while let Some(place) = seat.draw(desk) {
         gate.at_tile(0, place);
-        let here = task.turn(place, &mut room, out.tile_mut(place));
+        let here = task.turn(place, out.tile_mut(place));
         took = took.plus(here);
     }
     took

@@ -9,7 +9,6 @@ use crate::task::Task;
 use claim_desk::{Desk, DeskSeat};
 use gas_plane::Tile;
 use gas_terms::{Pair, Took};
-use phase_step::NO_BORDERS;
 
 pub const NOTHING: Took = Took {
     walls: Pair { x: 0, y: 0 },
@@ -40,7 +39,6 @@ pub fn work_on<G: Gate>(worker: &mut Worker, number: u8, task: Task<'_>, desk: &
     // its sides are whole tiles
     let _ = task.old.size();
     gas_terms::account_laws::sums_by_parities();
-    let mut room = NO_BORDERS;
     let Worker { seat, turned, took } = worker;
     while turned.reserve(1).is_ok() {
         let Some(place) = seat.draw(desk) else {
@@ -48,7 +46,7 @@ pub fn work_on<G: Gate>(worker: &mut Worker, number: u8, task: Task<'_>, desk: &
         };
         gate.at_tile(number, place);
         let mut tile = Tile::empty();
-        let here = task.turn(place, &mut room, &mut tile);
+        let here = task.turn(place, &mut tile);
         *took = took.plus(here);
         turned.push_reserved(Turned { place, tile });
     }

@@ -1,73 +1,40 @@
-use Rattle.std.proofs.Common.{◌∙◌, sym, refl, pos, arith}
+use Rattle.std.proofs.Common.{◌∙◌, refl, pos, arith}
 use Rattle.gas_terms.specs.Cells.{tile_rectangle}
-use Rattle.block_rule.specs.Around.{around, none}
-use Rattle.phase_step.proofs.TurnedTiles.{bare_view, tile_cells, tile_window}
+use Rattle.block_rule.specs.Around.{around}
+use Rattle.block_rule.specs.declared.Window.{Window}
+use Rattle.phase_step.proofs.TurnedTiles.{tile_cells, window_view, window_seen, seen_of}
 use Rattle.phase_step.proofs.tiles.turn_odd.Goals as goal
 
-pub returns-then-is_free-clause-cells : goal.returns-then-is_free-clause-cells
-returns-then-is_free-clause-cells c =
+pub returns-clause-cells : goal.returns-clause-cells
+returns-clause-cells c =
     let old = c.args.old.now in
     let r = tile_rectangle c.args.old.now c.args.i in
     let place = c.requires.place in
-    let found = c.tiles_have_a_border.ensures c.round-round.result.above.now c.round-round.result.below.now c.round-round.result.left.now c.round-round.result.right.now c.round-round.result.above_left.now c.round-round.result.above_right.now c.round-round.result.below_left.now c.round-round.result.below_right.now in
-    let border = found.0 in
-    let ring = c.round-round.ensures border found.1 in
-    let near = around c.tile.result.now border in
-    λ x y p q.
-    c.turn_free_tile_odd_among.ensures border found.1 x y p q
-    ∙ c.tiles_turn_as_the_torus.ensures 1 old c.args.walls.now c.args.obstacles.now r.x r.y near none none (omega arith) place
-    (c.tiles_see_the_torus.ensures.window 1 near old r.x r.y (omega arith) (tile_window c.args.i old old c.tile.result.now border refl refl place.right place.bottom c.tile.ensures ring))
-    (bare_view 1 c.args.i c.args.walls.now old (omega arith) place.of_walls.wide (c.is_free.ensures.walls c.if-is_free.true))
-    (bare_view 1 c.args.i c.args.obstacles.now old (omega arith) place.of_obstacles.wide (c.is_free.ensures.obstacles c.if-is_free.true))
-    x y p q
+    let near = c.round.result in
+    let have = c.tiles_have_a_border.ensures in
+    let shows = c.borders_are_windows.ensures.tile in
+    let shows_all = c.borders_are_windows.ensures.round in
+    let sees = c.tiles_see_the_torus.ensures.window in
+    let found = have near.above.now near.below.now near.left.now near.right.now near.above_left.now near.above_right.now near.below_left.now near.below_right.now in
+    let particles : Window = record { tile = c.tile.result; round = c.round.result } in
+    let walls = seen_of c.args.i c.args.walls.now old c.window_in.result shows shows_all sees have place.of_walls place.right place.bottom c.window_in.ensures in
+    let obstacles = seen_of c.args.i c.args.obstacles.now old c.window_in-2.result shows shows_all sees have place.of_obstacles place.right place.bottom c.window_in-2.ensures in
+    λ x y h k.
+    c.turn_tile_odd.ensures.cells (around c.tile.result.now found.0) walls.window obstacles.window (window_seen particles found.0 shows shows_all found.1) walls.seen obstacles.seen x y h k
+    ∙ c.tiles_turn_as_the_torus.ensures 1 old c.args.walls.now c.args.obstacles.now r.x r.y (around c.tile.result.now found.0) walls.window obstacles.window (omega arith) place
+    (window_view c.args.i old old particles found.0 sees refl refl place.right place.bottom found.1 (record { tile = c.tile.ensures; round = c.round.ensures })) walls.view obstacles.view x y h k
 
-pub returns-then-is_free-clause-took : goal.returns-then-is_free-clause-took
-returns-then-is_free-clause-took c =
+pub returns-clause-took : goal.returns-clause-took
+returns-clause-took c =
     let old = c.args.old.now in
     let r = tile_rectangle c.args.old.now c.args.i in
     let t = c.tile.result.now in
     let place = c.requires.place in
-    let found = c.tiles_have_a_border.ensures c.round-round.result.above.now c.round-round.result.below.now c.round-round.result.left.now c.round-round.result.right.now c.round-round.result.above_left.now c.round-round.result.above_right.now c.round-round.result.below_left.now c.round-round.result.below_right.now in
-    let border = found.0 in
-    let ring = c.round-round.ensures border found.1 in
-    sym (c.tiles_take_as_the_torus.ensures.nothing 1 t)
-    ∙ c.tiles_take_as_the_torus.ensures.taken (pos 1) t old c.args.walls.now c.args.obstacles.now r.x r.y none none place (tile_cells c.args.i old old t refl c.tile.ensures)
-    (bare_view 1 c.args.i c.args.walls.now old (omega arith) place.of_walls.wide (c.is_free.ensures.walls c.if-is_free.true))
-    (bare_view 1 c.args.i c.args.obstacles.now old (omega arith) place.of_obstacles.wide (c.is_free.ensures.obstacles c.if-is_free.true))
-
-pub returns-else-is_free-clause-cells : goal.returns-else-is_free-clause-cells
-returns-else-is_free-clause-cells c =
-    let old = c.args.old.now in
-    let r = tile_rectangle c.args.old.now c.args.i in
-    let t = c.tile-else-is_free.result.now in
-    let walls = c.tile_or_bare.result.now in
-    let obstacles = c.tile_or_bare-else-is_free.result.now in
-    let place = c.requires.place in
-    let found = c.tiles_have_a_border.ensures c.round-round.result.above.now c.round-round.result.below.now c.round-round.result.left.now c.round-round.result.right.now c.round-round.result.above_left.now c.round-round.result.above_right.now c.round-round.result.below_left.now c.round-round.result.below_right.now in
-    let border = found.0 in
-    let ring = c.round-round.ensures border found.1 in
-    let see = c.tiles_see_the_torus.ensures.window in
-    λ x y p q.
-    c.turn_tile_odd_among.ensures.cells border found.1 x y p q
-    ∙ c.tiles_turn_as_the_torus.ensures 1 old c.args.walls.now c.args.obstacles.now r.x r.y (around t border) (around walls c.border_in.result.now) (around obstacles c.border_in-else-is_free.result.now) (omega arith) place
-    (see 1 (around t border) old r.x r.y (omega arith) (tile_window c.args.i old old t border refl refl place.right place.bottom c.tile-else-is_free.ensures ring))
-    (see 1 (around walls c.border_in.result.now) c.args.walls.now r.x r.y (omega arith) (tile_window c.args.i c.args.walls.now old walls c.border_in.result.now place.of_walls.wide place.of_walls.high place.right place.bottom c.tile_or_bare.ensures c.border_in.ensures))
-    (see 1 (around obstacles c.border_in-else-is_free.result.now) c.args.obstacles.now r.x r.y (omega arith) (tile_window c.args.i c.args.obstacles.now old obstacles c.border_in-else-is_free.result.now place.of_obstacles.wide place.of_obstacles.high place.right place.bottom c.tile_or_bare-else-is_free.ensures c.border_in-else-is_free.ensures))
-    x y p q
-
-pub returns-else-is_free-clause-took : goal.returns-else-is_free-clause-took
-returns-else-is_free-clause-took c =
-    let old = c.args.old.now in
-    let r = tile_rectangle c.args.old.now c.args.i in
-    let t = c.tile-else-is_free.result.now in
-    let walls = c.tile_or_bare.result.now in
-    let obstacles = c.tile_or_bare-else-is_free.result.now in
-    let place = c.requires.place in
-    let found = c.tiles_have_a_border.ensures c.round-round.result.above.now c.round-round.result.below.now c.round-round.result.left.now c.round-round.result.right.now c.round-round.result.above_left.now c.round-round.result.above_right.now c.round-round.result.below_left.now c.round-round.result.below_right.now in
-    let border = found.0 in
-    let ring = c.round-round.ensures border found.1 in
-    let see = c.tiles_see_the_torus.ensures.window in
-    c.turn_tile_odd_among.ensures.took
-    ∙ c.tiles_take_as_the_torus.ensures.taken (pos 1) t old c.args.walls.now c.args.obstacles.now r.x r.y (around walls c.border_in.result.now) (around obstacles c.border_in-else-is_free.result.now) place (tile_cells c.args.i old old t refl c.tile-else-is_free.ensures)
-    (see 1 (around walls c.border_in.result.now) c.args.walls.now r.x r.y (omega arith) (tile_window c.args.i c.args.walls.now old walls c.border_in.result.now place.of_walls.wide place.of_walls.high place.right place.bottom c.tile_or_bare.ensures c.border_in.ensures))
-    (see 1 (around obstacles c.border_in-else-is_free.result.now) c.args.obstacles.now r.x r.y (omega arith) (tile_window c.args.i c.args.obstacles.now old obstacles c.border_in-else-is_free.result.now place.of_obstacles.wide place.of_obstacles.high place.right place.bottom c.tile_or_bare-else-is_free.ensures c.border_in-else-is_free.ensures))
+    let have = c.tiles_have_a_border.ensures in
+    let shows = c.borders_are_windows.ensures.tile in
+    let shows_all = c.borders_are_windows.ensures.round in
+    let sees = c.tiles_see_the_torus.ensures.window in
+    let walls = seen_of c.args.i c.args.walls.now old c.window_in.result shows shows_all sees have place.of_walls place.right place.bottom c.window_in.ensures in
+    let obstacles = seen_of c.args.i c.args.obstacles.now old c.window_in-2.result shows shows_all sees have place.of_obstacles place.right place.bottom c.window_in-2.ensures in
+    c.turn_tile_odd.ensures.took walls.window obstacles.window walls.seen obstacles.seen
+    ∙ c.tiles_take_as_the_torus.ensures.taken (pos 1) t old c.args.walls.now c.args.obstacles.now r.x r.y walls.window obstacles.window place (tile_cells c.args.i old old t refl c.tile.ensures) walls.view obstacles.view

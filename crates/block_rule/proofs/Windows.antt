@@ -1,0 +1,218 @@
+-- Rows of blocks, seen in the window of a tile and its ring.
+use Rattle.std.proofs.Common.{◌≡◌, ◌⊎◌, ℕ, ◌+◌, ◌-◌, ◌*◌, ◌%◌, ◌<◌, ◌≤◌, ◌==◌, Bool, if◌then◌else◌, List, length, get_or, set, sym, ◌∙◌, ap, ap₂, arith, inl, inr, get_or-set_other, get_or-set_same}
+use Rattle.std.proofs.lemmas.Bool.{cases_eq, eq-eqb, ne_eqb}
+use Rattle.bit_tile.specs.Bit.{bit}
+use Rattle.bit_tile.specs.Tile.{HasCells}
+use Rattle.bit_tile.specs.declared.Tile.{Tile}
+use Rattle.bit_tile.proofs.Classes.{by_class, even_even_at, odd_even_at, even_odd_at, odd_odd_at}
+use Rattle.block_rule.specs.Cell.{made, partner}
+use Rattle.block_rule.specs.Rows.{ShowsTile, ShowsRound, IsMade, ShowsRows, IsMadeOdd, even_row, odd_row, beside_left, beside_right}
+use Rattle.block_rule.specs.declared.blocks.Blocks.{Blocks}
+
+pub cell_by : (cell : Bool → Bool → Bool → Bool → Bool) (a b c d e f g h : Bool) → a ≡ e → b ≡ f → c ≡ g → d ≡ h → cell a b c d ≡ cell e f g h
+cell_by cell a b c d e f g h p q r s = ap₂ (λ u v. cell u v c d) p q ∙ ap₂ (λ u v. cell e f u v) r s
+
+-- what is made of the cell (x, y), by the places of its block's cells
+made_by_places : (cell : Bool → Bool → Bool → Bool → Bool) (p : ℕ) (cells : ℕ → ℕ → Bool) (x y own_x own_y far_x far_y : ℕ) → x + 1 ≡ own_x → y + 1 ≡ own_y → partner p x ≡ far_x → partner p y ≡ far_y → made cell p cells x y ≡ cell (cells own_x own_y) (cells far_x own_y) (cells own_x far_y) (cells far_x far_y)
+made_by_places cell p cells x y own_x own_y far_x far_y ox oy fx fy =
+    ap₂ (λ u v. cell (cells u v) (cells (partner p x) v) (cells u (partner p y)) (cells (partner p x) (partner p y))) ox oy
+    ∙ ap₂ (λ u v. cell (cells own_x own_y) (cells u own_y) (cells own_x v) (cells u v)) fx fy
+
+partner_first : (p x : ℕ) → (x + p) % 2 ≡ 0 → partner p x ≡ x + 2
+partner_first p x h = rw (eq-eqb ((x + p) % 2) 0 h)
+
+partner_second : (p x : ℕ) → (x + p) % 2 ≡ 1 → partner p x ≡ x
+partner_second p x h = rw (ne_eqb ((x + p) % 2) 0 (λ e. omega arith))
+
+-- the next and the previous class, in the window
+pub next_shown : (window : ℕ → ℕ → Bool) (y row right next : ℕ) → ((i : ℕ) → i < 32 → window (2 * i + 1) y ≡ bit row i) → window 65 y ≡ bit right 0 → ((i : ℕ) → i < 32 → bit next i ≡ (if i == 31 then bit right 0 else bit row (i + 1))) → (i : ℕ) → i < 32 → bit next i ≡ window (2 * i + 3) y
+next_shown window y row right next shown end is i within =
+    elim (cases_eq i 31) [
+      | inl e ↦
+          let last : (if i == 31 then bit right 0 else bit row (i + 1)) ≡ bit right 0 = rw (eq-eqb i 31 e) in
+          is i within ∙ (last ∙ (sym end ∙ ap (λ k. window k y) (omega arith)))
+      | inr ne ↦
+          let inner : (if i == 31 then bit right 0 else bit row (i + 1)) ≡ bit row (i + 1) = rw (ne_eqb i 31 ne) in
+          is i within ∙ (inner ∙ (sym (shown (i + 1) (omega arith)) ∙ ap (λ k. window k y) (omega arith)))
+    ]
+
+pub previous_shown : (window : ℕ → ℕ → Bool) (y row left previous : ℕ) → ((i : ℕ) → i < 32 → window (2 * i + 2) y ≡ bit row i) → window 0 y ≡ bit left 31 → ((i : ℕ) → i < 32 → bit previous i ≡ (if i == 0 then bit left 31 else bit row (i - 1))) → (i : ℕ) → i < 32 → bit previous i ≡ window (2 * i) y
+previous_shown window y row left previous shown end is i within =
+    elim (cases_eq i 0) [
+      | inl e ↦
+          let first : (if i == 0 then bit left 31 else bit row (i - 1)) ≡ bit left 31 = rw (eq-eqb i 0 e) in
+          is i within ∙ (first ∙ (sym end ∙ ap (λ k. window k y) (omega arith)))
+      | inr ne ↦
+          let inner : (if i == 0 then bit left 31 else bit row (i - 1)) ≡ bit row (i - 1) = rw (ne_eqb i 0 ne) in
+          is i within ∙ (inner ∙ (sym (shown (i - 1) (omega arith)) ∙ ap (λ k. window k y) (omega arith)))
+    ]
+
+-- the tile's words, in the window
+module _ (window : ℕ → ℕ → Bool) (t : Tile) (shows : ShowsTile window t) (i j : ℕ) (h : i < 32) (k : j < 32) where
+  pub ee_shown : window (2 * i + 1) (2 * j + 1) ≡ bit (get_or t.even_even j 0) i
+  ee_shown = shows (2 * i) (2 * j) (omega arith) (omega arith) ∙ even_even_at t i j
+
+  pub oe_shown : window (2 * i + 2) (2 * j + 1) ≡ bit (get_or t.odd_even j 0) i
+  oe_shown = ap (λ u. window u (2 * j + 1)) (omega arith) ∙ (shows (2 * i + 1) (2 * j) (omega arith) (omega arith) ∙ odd_even_at t i j)
+
+  pub eo_shown : window (2 * i + 1) (2 * j + 2) ≡ bit (get_or t.even_odd j 0) i
+  eo_shown = ap (window (2 * i + 1)) (omega arith) ∙ (shows (2 * i) (2 * j + 1) (omega arith) (omega arith) ∙ even_odd_at t i j)
+
+  pub oo_shown : window (2 * i + 2) (2 * j + 2) ≡ bit (get_or t.odd_odd j 0) i
+  oo_shown = ap₂ window (omega arith) (omega arith) ∙ (shows (2 * i + 1) (2 * j + 1) (omega arith) (omega arith) ∙ odd_odd_at t i j)
+
+-- four words in one record
+pub same_blocks : (a b c d e f g h : ℕ) → a ≡ e → b ≡ f → c ≡ g → d ≡ h → (let r : Blocks = record { upper_left = a; upper_right = b; lower_left = c; lower_right = d } in r) ≡ record { upper_left = e; upper_right = f; lower_left = g; lower_right = h }
+same_blocks a b c d e f g h p q r s = rw (p, q, r, s)
+
+-- a loop writes row j of even blocks
+pub even_row_more : (cell : Bool → Bool → Bool → Bool → Bool) (tile out : Tile) (new : Blocks) (j : ℕ) → j < length out.even_even → j < length out.odd_even → j < length out.even_odd → j < length out.odd_odd →
+    ((k : ℕ) → k < j → IsMade cell (even_row tile k) (even_row out k)) → IsMade cell (even_row tile j) new → (k : ℕ) → k < j + 1 →
+    IsMade cell (even_row tile k) (even_row (record { even_even = set out.even_even j new.upper_left; odd_even = set out.odd_even j new.upper_right; even_odd = set out.even_odd j new.lower_left; odd_odd = set out.odd_odd j new.lower_right }) k)
+even_row_more cell tile out new j ee oe eo oo before here k below =
+    elim (cases_eq k j) [
+      | inl same ↦ rw (same, get_or-set_same out.even_even j new.upper_left 0 ee, get_or-set_same out.odd_even j new.upper_right 0 oe, get_or-set_same out.even_odd j new.lower_left 0 eo, get_or-set_same out.odd_odd j new.lower_right 0 oo) here
+      | inr other ↦
+          let less : k < j = omega arith in
+          rw (get_or-set_other, get_or-set_other, get_or-set_other, get_or-set_other) (before k less)
+    ]
+
+-- the even blocks' cells
+pub even_cells : (cell : Bool → Bool → Bool → Bool → Bool) (window : ℕ → ℕ → Bool) (tile out : Tile) → ShowsTile window tile → ((k : ℕ) → k < 32 → IsMade cell (even_row tile k) (even_row out k)) → HasCells out (made cell 0 window)
+even_cells cell window tile out shows done =
+    by_class out (made cell 0 window)
+    (λ i j h k.
+    (done j k).upper_left i h
+    ∙ (cell_by cell _ _ _ _ _ _ _ _ (sym (ee_shown window tile shows i j h k)) (sym (oe_shown window tile shows i j h k)) (sym (eo_shown window tile shows i j h k)) (sym (oo_shown window tile shows i j h k))
+    ∙ sym (made_by_places cell 0 window (2 * i + 0) (2 * j + 0) (2 * i + 1) (2 * j + 1) (2 * i + 2) (2 * j + 2) (omega arith) (omega arith) (partner_first 0 (2 * i + 0) (omega arith) ∙ omega arith) (partner_first 0 (2 * j + 0) (omega arith) ∙ omega arith))))
+    (λ i j h k.
+    (done j k).upper_right i h
+    ∙ (cell_by cell _ _ _ _ _ _ _ _ (sym (oe_shown window tile shows i j h k)) (sym (ee_shown window tile shows i j h k)) (sym (oo_shown window tile shows i j h k)) (sym (eo_shown window tile shows i j h k))
+    ∙ sym (made_by_places cell 0 window (2 * i + 1) (2 * j + 0) (2 * i + 2) (2 * j + 1) (2 * i + 1) (2 * j + 2) (omega arith) (omega arith) (partner_second 0 (2 * i + 1) (omega arith)) (partner_first 0 (2 * j + 0) (omega arith) ∙ omega arith))))
+    (λ i j h k.
+    (done j k).lower_left i h
+    ∙ (cell_by cell _ _ _ _ _ _ _ _ (sym (eo_shown window tile shows i j h k)) (sym (oo_shown window tile shows i j h k)) (sym (ee_shown window tile shows i j h k)) (sym (oe_shown window tile shows i j h k))
+    ∙ sym (made_by_places cell 0 window (2 * i + 0) (2 * j + 1) (2 * i + 1) (2 * j + 2) (2 * i + 2) (2 * j + 1) (omega arith) (omega arith) (partner_first 0 (2 * i + 0) (omega arith) ∙ omega arith) (partner_second 0 (2 * j + 1) (omega arith)))))
+    (λ i j h k.
+    (done j k).lower_right i h
+    ∙ (cell_by cell _ _ _ _ _ _ _ _ (sym (oo_shown window tile shows i j h k)) (sym (eo_shown window tile shows i j h k)) (sym (oe_shown window tile shows i j h k)) (sym (ee_shown window tile shows i j h k))
+    ∙ sym (made_by_places cell 0 window (2 * i + 1) (2 * j + 1) (2 * i + 2) (2 * j + 2) (2 * i + 1) (2 * j + 1) (omega arith) (omega arith) (partner_second 0 (2 * i + 1) (omega arith)) (partner_second 0 (2 * j + 1) (omega arith)))))
+
+-- a loop writes row j of odd blocks
+pub odd_row_more : (cell : Bool → Bool → Bool → Bool → Bool) (window : ℕ → ℕ → Bool) (out : Tile) (new : Blocks) (from j : ℕ) → j < length out.odd_odd → j < length out.even_odd → j + 1 < length out.odd_even → j + 1 < length out.even_even →
+    ((k : ℕ) → from ≤ k → k < j → IsMadeOdd cell window (2 * k + 2) (odd_row out k)) → IsMadeOdd cell window (2 * j + 2) new → (k : ℕ) → from ≤ k → k < j + 1 →
+    IsMadeOdd cell window (2 * k + 2) (odd_row (record { even_even = set out.even_even (j + 1) new.lower_right; odd_even = set out.odd_even (j + 1) new.lower_left; even_odd = set out.even_odd j new.upper_right; odd_odd = set out.odd_odd j new.upper_left }) k)
+odd_row_more cell window out new from j oo eo oe ee before here k low below =
+    elim (cases_eq k j) [
+      | inl same ↦ rw (same, get_or-set_same out.even_even (j + 1) new.lower_right 0 ee, get_or-set_same out.odd_even (j + 1) new.lower_left 0 oe, get_or-set_same out.even_odd j new.upper_right 0 eo, get_or-set_same out.odd_odd j new.upper_left 0 oo) here
+      | inr other ↦
+          let less : k < j = omega arith in
+          let next : k + 1 ≡ j + 1 → ⊥ = λ e. omega arith in
+          rw (get_or-set_other out.even_even (j + 1) (k + 1) new.lower_right 0 next, get_or-set_other out.odd_even (j + 1) (k + 1) new.lower_left 0 next, get_or-set_other out.even_odd j k new.upper_right 0 other, get_or-set_other out.odd_odd j k new.upper_left 0 other) (before k low less)
+    ]
+
+pub upper_outside : (k from j : ℕ) → from ≤ j → (k < from) ⊎ (j + 1 ≤ k) → (k ≡ j → ⊥)
+upper_outside k from j order (inl h) e = omega arith
+upper_outside k from j order (inr h) e = omega arith
+
+pub upper_before : (k from j : ℕ) → (k < from) ⊎ (j + 1 ≤ k) → (k < from) ⊎ (j ≤ k)
+upper_before k from j (inl h) = inl h
+upper_before k from j (inr h) = inr (omega arith)
+
+pub lower_outside : (k from j : ℕ) → from ≤ j → (k ≤ from) ⊎ (j + 1 < k) → (k ≡ j + 1 → ⊥)
+lower_outside k from j order (inl h) e = omega arith
+lower_outside k from j order (inr h) e = omega arith
+
+pub lower_before : (k from j : ℕ) → (k ≤ from) ⊎ (j + 1 < k) → (k ≤ from) ⊎ (j < k)
+lower_before k from j (inl h) = inl h
+lower_before k from j (inr h) = inr (omega arith)
+
+-- the rows of odd blocks, in the window: between two rows of the tile, at its top and at its bottom
+module _ (window : ℕ → ℕ → Bool) (t : Tile) (shows : ShowsTile window t) (a d l r al ar dl dr : Tile) (round : ShowsRound window a d l r al ar dl dr) where
+  pub inner_shown : (j : ℕ) → j < 31 → ShowsRows window (2 * j + 2) (odd_row t j) (beside_left l j) (beside_right r j)
+  inner_shown j h =
+      let next : 2 * j + 2 + 1 ≡ 2 * (j + 1) + 1 = omega arith in
+      let upper : 2 * j + 2 ≡ 2 * j + 1 + 1 = omega arith in
+      let lower : 2 * j + 2 + 1 ≡ 2 * (j + 1) + 1 = omega arith in
+      record {
+        upper_left = λ i k. oo_shown window t shows i j k (omega arith);
+        upper_right = λ i k. eo_shown window t shows i j k (omega arith);
+        lower_left = λ i k. ap (window (2 * i + 2)) next ∙ oe_shown window t shows i (j + 1) k (omega arith);
+        lower_right = λ i k. ap (window (2 * i + 1)) next ∙ ee_shown window t shows i (j + 1) k (omega arith);
+        left_upper = ap (window 0) upper ∙ (round.left (2 * j + 1) (omega arith) ∙ odd_odd_at l 31 j);
+        left_lower = ap (window 0) lower ∙ (round.left (2 * (j + 1)) (omega arith) ∙ odd_even_at l 31 (j + 1));
+        right_upper = ap (window 65) upper ∙ (round.right (2 * j + 1) (omega arith) ∙ even_odd_at r 0 j);
+        right_lower = ap (window 65) lower ∙ (round.right (2 * (j + 1)) (omega arith) ∙ even_even_at r 0 (j + 1));
+      }
+
+  pub top_shown : ShowsRows window 0 (record { upper_left = get_or a.odd_odd 31 0; upper_right = get_or a.even_odd 31 0; lower_left = get_or t.odd_even 0 0; lower_right = get_or t.even_even 0 0 }) (record { upper = get_or al.odd_odd 31 0; lower = get_or l.odd_even 0 0 }) (record { upper = get_or ar.even_odd 31 0; lower = get_or r.even_even 0 0 })
+  top_shown =
+      record {
+        upper_left = λ i k. ap (λ u. window u 0) (omega arith) ∙ (round.above (2 * i + 1) (omega arith) ∙ odd_odd_at a i 31);
+        upper_right = λ i k. round.above (2 * i) (omega arith) ∙ even_odd_at a i 31;
+        lower_left = λ i k. oe_shown window t shows i 0 k (omega arith);
+        lower_right = λ i k. ee_shown window t shows i 0 k (omega arith);
+        left_upper = round.above_left ∙ odd_odd_at al 31 31;
+        left_lower = round.left 0 (omega arith) ∙ odd_even_at l 31 0;
+        right_upper = round.above_right ∙ even_odd_at ar 0 31;
+        right_lower = round.right 0 (omega arith) ∙ even_even_at r 0 0;
+      }
+
+  pub bottom_shown : ShowsRows window 64 (record { upper_left = get_or t.odd_odd 31 0; upper_right = get_or t.even_odd 31 0; lower_left = get_or d.odd_even 0 0; lower_right = get_or d.even_even 0 0 }) (record { upper = get_or l.odd_odd 31 0; lower = get_or dl.odd_even 0 0 }) (record { upper = get_or r.even_odd 31 0; lower = get_or dr.even_even 0 0 })
+  bottom_shown =
+      record {
+        upper_left = λ i k. oo_shown window t shows i 31 k (omega arith);
+        upper_right = λ i k. eo_shown window t shows i 31 k (omega arith);
+        lower_left = λ i k. ap (λ u. window u 65) (omega arith) ∙ (round.below (2 * i + 1) (omega arith) ∙ odd_even_at d i 0);
+        lower_right = λ i k. round.below (2 * i) (omega arith) ∙ even_even_at d i 0;
+        left_upper = round.left 63 (omega arith) ∙ odd_odd_at l 31 31;
+        left_lower = round.below_left ∙ odd_even_at dl 31 0;
+        right_upper = round.right 63 (omega arith) ∙ even_odd_at r 0 31;
+        right_lower = round.below_right ∙ even_even_at dr 0 0;
+      }
+
+-- the upper and the lower rows of odd blocks after the rule
+pub record AreUpper (cell : Bool → Bool → Bool → Bool → Bool) (window : ℕ → ℕ → Bool) (y ul ur : ℕ) : Type 0 where
+  pub left : (i : ℕ) → i < 32 → bit ul i ≡ cell (window (2 * i + 2) y) (window (2 * i + 3) y) (window (2 * i + 2) (y + 1)) (window (2 * i + 3) (y + 1))
+  pub right : (i : ℕ) → i < 32 → bit ur i ≡ cell (window (2 * i + 1) y) (window (2 * i) y) (window (2 * i + 1) (y + 1)) (window (2 * i) (y + 1))
+
+pub record AreLower (cell : Bool → Bool → Bool → Bool → Bool) (window : ℕ → ℕ → Bool) (y ll lr : ℕ) : Type 0 where
+  pub left : (i : ℕ) → i < 32 → bit ll i ≡ cell (window (2 * i + 2) (y + 1)) (window (2 * i + 3) (y + 1)) (window (2 * i + 2) y) (window (2 * i + 3) y)
+  pub right : (i : ℕ) → i < 32 → bit lr i ≡ cell (window (2 * i + 1) (y + 1)) (window (2 * i) (y + 1)) (window (2 * i + 1) y) (window (2 * i) y)
+
+pub upper_of : (cell : Bool → Bool → Bool → Bool → Bool) (window : ℕ → ℕ → Bool) (y : ℕ) (new : Blocks) → IsMadeOdd cell window y new → AreUpper cell window y new.upper_left new.upper_right
+upper_of cell window y new is = record { left = is.upper_left; right = is.upper_right }
+
+pub lower_of : (cell : Bool → Bool → Bool → Bool → Bool) (window : ℕ → ℕ → Bool) (y : ℕ) (new : Blocks) → IsMadeOdd cell window y new → AreLower cell window y new.lower_left new.lower_right
+lower_of cell window y new is = record { left = is.lower_left; right = is.lower_right }
+
+-- the odd blocks' cells
+pub odd_cells : (cell : Bool → Bool → Bool → Bool → Bool) (window : ℕ → ℕ → Bool) (out : Tile) → ((j : ℕ) → j < 32 → AreUpper cell window (2 * j + 2) (get_or out.odd_odd j 0) (get_or out.even_odd j 0)) → ((j : ℕ) → j < 32 → AreLower cell window (2 * j) (get_or out.odd_even j 0) (get_or out.even_even j 0)) → HasCells out (made cell 1 window)
+odd_cells cell window out upper lower =
+    by_class out (made cell 1 window)
+    (λ i j h k.
+    (lower j k).right i h
+    ∙ sym (made_by_places cell 1 window (2 * i + 0) (2 * j + 0) (2 * i + 1) (2 * j + 1) (2 * i) (2 * j) (omega arith) (omega arith) (partner_second 1 (2 * i + 0) (omega arith) ∙ omega arith) (partner_second 1 (2 * j + 0) (omega arith) ∙ omega arith)))
+    (λ i j h k.
+    (lower j k).left i h
+    ∙ sym (made_by_places cell 1 window (2 * i + 1) (2 * j + 0) (2 * i + 2) (2 * j + 1) (2 * i + 3) (2 * j) (omega arith) (omega arith) (partner_first 1 (2 * i + 1) (omega arith) ∙ omega arith) (partner_second 1 (2 * j + 0) (omega arith) ∙ omega arith)))
+    (λ i j h k.
+    (upper j k).right i h
+    ∙ sym (made_by_places cell 1 window (2 * i + 0) (2 * j + 1) (2 * i + 1) (2 * j + 2) (2 * i) (2 * j + 2 + 1) (omega arith) (omega arith) (partner_second 1 (2 * i + 0) (omega arith) ∙ omega arith) (partner_first 1 (2 * j + 1) (omega arith) ∙ omega arith)))
+    (λ i j h k.
+    (upper j k).left i h
+    ∙ sym (made_by_places cell 1 window (2 * i + 1) (2 * j + 1) (2 * i + 2) (2 * j + 2) (2 * i + 3) (2 * j + 2 + 1) (omega arith) (omega arith) (partner_first 1 (2 * i + 1) (omega arith) ∙ omega arith) (partner_first 1 (2 * j + 1) (omega arith) ∙ omega arith)))
+
+pub upper_same : (cell : Bool → Bool → Bool → Bool → Bool) (window : ℕ → ℕ → Bool) (y ul ur vl vr : ℕ) → ul ≡ vl → ur ≡ vr → AreUpper cell window y vl vr → AreUpper cell window y ul ur
+upper_same cell window y ul ur vl vr e f is = rw (e, f) is
+
+pub lower_same : (cell : Bool → Bool → Bool → Bool → Bool) (window : ℕ → ℕ → Bool) (y z ll lr ml mr : ℕ) → y ≡ z → ll ≡ ml → lr ≡ mr → AreLower cell window z ml mr → AreLower cell window y ll lr
+lower_same cell window y z ll lr ml mr d e f is = rw (d, e, f) is
+
+pub upper_end : (cell : Bool → Bool → Bool → Bool → Bool) (window : ℕ → ℕ → Bool) (odd even : List ℕ) (new : Blocks) (j : ℕ) → j ≡ 31 → 31 < length odd → 31 < length even → IsMadeOdd cell window 64 new → AreUpper cell window (2 * j + 2) (get_or (set odd 31 new.upper_left) j 0) (get_or (set even 31 new.upper_right) j 0)
+upper_end cell window odd even new j e h k is =
+    rw (e, get_or-set_same odd 31 new.upper_left 0 h, get_or-set_same even 31 new.upper_right 0 k) (upper_of cell window 64 new is)
+
+pub upper_inner : (cell : Bool → Bool → Bool → Bool → Bool) (window : ℕ → ℕ → Bool) (y : ℕ) (odd even : List ℕ) (ul ur j : ℕ) → (j ≡ 31 → ⊥) → AreUpper cell window y (get_or odd j 0) (get_or even j 0) → AreUpper cell window y (get_or (set odd 31 ul) j 0) (get_or (set even 31 ur) j 0)
+upper_inner cell window y odd even ul ur j ne is =
+    upper_same cell window y _ _ _ _ (get_or-set_other odd 31 j ul 0 ne) (get_or-set_other even 31 j ur 0 ne) is

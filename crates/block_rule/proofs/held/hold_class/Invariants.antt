@@ -1,0 +1,15 @@
+use Rattle.std.proofs.Common.{◌≡◌, ℕ, ◌*◌, ◌<◌, ◌≤◌, if◌then◌else◌, length, get_or}
+use Rattle.bit_tile.specs.Bit.{bit}
+use Rattle.bit_tile.specs.Sums.{sum_below}
+use Rattle.block_rule.proofs.Holding.{among}
+use Rattle.block_rule.proofs.held.hold_class.Given as goal
+
+abbrev pub invariant-loop-j : goal.invariant-loop-j
+invariant-loop-j l =
+    record {
+      long : length l.class ≡ 32;
+      cells : (i k : ℕ) → i < 32 → k < l.j → bit (get_or l.class k 0) i ≡ (if bit (get_or l.places k 0) i then bit (get_or l.old k 0) i else bit (get_or l.initial.class k 0) i);
+      rest : (k : ℕ) → l.j ≤ k → get_or l.class k 0 ≡ get_or l.initial.class k 0;
+      count : l.n ≡ sum_below l.j (among l.old l.places);
+      bound : l.n ≤ 32 * l.j;
+    }

@@ -1,0 +1,18 @@
+use Rattle.std.proofs.Common.{arith, length-set}
+use Rattle.block_rule.proofs.Windows.{even_row_more, even_cells}
+use Rattle.block_rule.proofs.made.make_even.Goals as goal
+
+pub loop-j-preserved : goal.loop-j-preserved
+loop-j-preserved g c =
+    record {
+      ee = simp length-set c.loop-j.invariant.ee;
+      oe = simp length-set c.loop-j.invariant.oe;
+      eo = simp length-set c.loop-j.invariant.eo;
+      oo = simp length-set c.loop-j.invariant.oo;
+      done =
+          even_row_more (g.R.Rule.cell c.args.rule) c.args.tile.now c.loop-j.out c.made-new.result c.loop-j.j (omega arith) (omega arith) (omega arith) (omega arith)
+          c.loop-j.invariant.done c.made-new.ensures;
+    }
+
+pub returns : goal.returns
+returns g c = λ window shows. even_cells (g.R.Rule.cell c.args.rule) window c.args.tile.now c.loop-j.out shows (λ k h. c.loop-j.invariant.done k (omega arith))

@@ -1,7 +1,0 @@
-use Rattle.std.proofs.Common.{◌||◌, ap, ◌∙◌}
-use Rattle.bit_tile.specs.Bit.{bit}
-use Rattle.bit_tile.proofs.Bits.{bit-or}
-use Rattle.block_rule.proofs.walled_even.Goals as goal
-
-pub returns : goal.returns
-returns c = λ side x within. bit-or c.args.both c.across_even.result x ∙ ap (λ b. bit c.args.both x || b) (c.across_even.ensures side x within)

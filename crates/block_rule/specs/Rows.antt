@@ -1,0 +1,71 @@
+use Rattle.std.specs.Prelude.{◌≡◌, ℕ, ◌+◌, ◌*◌, ◌<◌, Bool, slice_index}
+use Rattle.bit_tile.specs.Bit.{bit}
+use Rattle.bit_tile.specs.Tile.{has}
+use Rattle.bit_tile.specs.declared.Tile.{Tile}
+use Rattle.block_rule.specs.declared.blocks.Blocks.{Blocks}
+use Rattle.block_rule.specs.declared.blocks.Beside.{Beside}
+
+-- the window has the tile's cells
+abbrev pub ShowsTile : (ℕ → ℕ → Bool) → Tile → Type 0
+ShowsTile window t = (x y : ℕ) → x < 64 → y < 64 → window (x + 1) (y + 1) ≡ has t x y
+
+-- and those of the eight tiles round it: above, below, left and right, then those at the upper and the lower corners
+pub record ShowsRound (window : ℕ → ℕ → Bool) (a d l r al ar dl dr : Tile) : Type 0 where
+  pub above : (x : ℕ) → x < 64 → window (x + 1) 0 ≡ has a x 63
+  pub below : (x : ℕ) → x < 64 → window (x + 1) 65 ≡ has d x 0
+  pub left : (y : ℕ) → y < 64 → window 0 (y + 1) ≡ has l 63 y
+  pub right : (y : ℕ) → y < 64 → window 65 (y + 1) ≡ has r 0 y
+  pub above_left : window 0 0 ≡ has al 63 63
+  pub above_right : window 65 0 ≡ has ar 0 63
+  pub below_left : window 0 65 ≡ has dl 63 0
+  pub below_right : window 65 65 ≡ has dr 0 0
+
+-- what a rule makes of a row of blocks: of each corner by its own old cell, and those beside it, facing it and across
+pub record IsMade (cell : Bool → Bool → Bool → Bool → Bool) (old new : Blocks) : Type 0 where
+  pub upper_left : (i : ℕ) → i < 32 → bit new.upper_left i ≡ cell (bit old.upper_left i) (bit old.upper_right i) (bit old.lower_left i) (bit old.lower_right i)
+  pub upper_right : (i : ℕ) → i < 32 → bit new.upper_right i ≡ cell (bit old.upper_right i) (bit old.upper_left i) (bit old.lower_right i) (bit old.lower_left i)
+  pub lower_left : (i : ℕ) → i < 32 → bit new.lower_left i ≡ cell (bit old.lower_left i) (bit old.lower_right i) (bit old.upper_left i) (bit old.upper_right i)
+  pub lower_right : (i : ℕ) → i < 32 → bit new.lower_right i ≡ cell (bit old.lower_right i) (bit old.lower_left i) (bit old.upper_right i) (bit old.upper_left i)
+
+-- The words show the window's rows y and y + 1: blocks that begin at odd columns begin at the window's even ones.
+pub record ShowsRows (window : ℕ → ℕ → Bool) (y : ℕ) (own : Blocks) (left right : Beside) : Type 0 where
+  pub upper_left : (i : ℕ) → i < 32 → window (2 * i + 2) y ≡ bit own.upper_left i
+  pub upper_right : (i : ℕ) → i < 32 → window (2 * i + 1) y ≡ bit own.upper_right i
+  pub lower_left : (i : ℕ) → i < 32 → window (2 * i + 2) (y + 1) ≡ bit own.lower_left i
+  pub lower_right : (i : ℕ) → i < 32 → window (2 * i + 1) (y + 1) ≡ bit own.lower_right i
+  pub left_upper : window 0 y ≡ bit left.upper 31
+  pub left_lower : window 0 (y + 1) ≡ bit left.lower 31
+  pub right_upper : window 65 y ≡ bit right.upper 0
+  pub right_lower : window 65 (y + 1) ≡ bit right.lower 0
+
+-- what the rule makes of these rows
+pub record IsMadeOdd (cell : Bool → Bool → Bool → Bool → Bool) (window : ℕ → ℕ → Bool) (y : ℕ) (new : Blocks) : Type 0 where
+  pub upper_left : (i : ℕ) → i < 32 → bit new.upper_left i ≡ cell (window (2 * i + 2) y) (window (2 * i + 3) y) (window (2 * i + 2) (y + 1)) (window (2 * i + 3) (y + 1))
+  pub upper_right : (i : ℕ) → i < 32 → bit new.upper_right i ≡ cell (window (2 * i + 1) y) (window (2 * i) y) (window (2 * i + 1) (y + 1)) (window (2 * i) (y + 1))
+  pub lower_left : (i : ℕ) → i < 32 → bit new.lower_left i ≡ cell (window (2 * i + 2) (y + 1)) (window (2 * i + 3) (y + 1)) (window (2 * i + 2) y) (window (2 * i + 3) y)
+  pub lower_right : (i : ℕ) → i < 32 → bit new.lower_right i ≡ cell (window (2 * i + 1) (y + 1)) (window (2 * i) (y + 1)) (window (2 * i + 1) y) (window (2 * i) y)
+
+-- the words of a tile that lie in a row of blocks: where blocks begin at even columns and rows, and at odd ones
+abbrev pub even_row : Tile → ℕ → Blocks
+even_row t j =
+    record {
+      upper_left = slice_index t.even_even j;
+      upper_right = slice_index t.odd_even j;
+      lower_left = slice_index t.even_odd j;
+      lower_right = slice_index t.odd_odd j;
+    }
+
+abbrev pub odd_row : Tile → ℕ → Blocks
+odd_row t j =
+    record {
+      upper_left = slice_index t.odd_odd j;
+      upper_right = slice_index t.even_odd j;
+      lower_left = slice_index t.odd_even (j + 1);
+      lower_right = slice_index t.even_even (j + 1);
+    }
+
+abbrev pub beside_left : Tile → ℕ → Beside
+beside_left l j = record { upper = slice_index l.odd_odd j; lower = slice_index l.odd_even (j + 1) }
+
+abbrev pub beside_right : Tile → ℕ → Beside
+beside_right r j = record { upper = slice_index r.even_odd j; lower = slice_index r.even_even (j + 1) }

@@ -1,0 +1,89 @@
+//! Rows of blocks, and what is made of them.
+
+ghost use Rattle.std.specs.Prelude.{◌≡◌, ℕ, ◌+◌, ◌-◌, ◌<◌, ◌==◌, ◌||◌, Bool, false, if◌then◌else◌};
+ghost use Rattle.bit_tile.specs.Bit.{bit};
+ghost use Rattle.block_rule.specs.Cell.{turned_cell};
+ghost use Rattle.block_rule.specs.Rows.{IsMade};
+
+/// A row of blocks, 32 side by side. Bit i of each word is a corner of block i.
+#[derive(Clone, Copy)]
+pub struct Blocks {
+    pub upper_left: u32,
+    pub upper_right: u32,
+    pub lower_left: u32,
+    pub lower_right: u32,
+}
+
+/// The corners that a row of blocks has in the tile beside its own: in its upper and in its lower row.
+#[derive(Clone, Copy)]
+pub struct Beside {
+    pub upper: u32,
+    pub lower: u32,
+}
+
+/// What is made of the cells of a block: of each by its own value, and by those of the cell beside it in its row, the one
+/// that faces it in its column, and the one across.
+pub trait Rule: Copy {
+    ghost cell: { Self → Bool → Bool → Bool → Bool → Bool };
+
+    fn made(self, old: Blocks) -> Blocks
+        ensures { IsMade (cell self) old result };
+}
+
+/// The collision of HPP's four channels.
+#[derive(Clone, Copy)]
+pub struct Collision;
+
+impl Rule for Collision {
+    ghost cell = { λ _. turned_cell false };
+
+    #[inline]
+    fn made(self, old: Blocks) -> Blocks {
+        let one_diagonal = (old.upper_left ^ old.upper_right)
+            & !((old.upper_left ^ old.lower_right) | (old.upper_right ^ old.lower_left));
+        // each particle crosses its block, but two that meet head on, with nobody else there, leave at right angles
+        Blocks {
+            upper_left: old.lower_right ^ one_diagonal,
+            upper_right: old.lower_left ^ one_diagonal,
+            lower_left: old.upper_right ^ one_diagonal,
+            lower_right: old.upper_left ^ one_diagonal,
+        }
+    }
+}
+
+/// All cells of the blocks that have one.
+#[derive(Clone, Copy)]
+pub struct AnyCorner;
+
+impl Rule for AnyCorner {
+    ghost cell = { λ _ own beside facing across. (own || facing) || (beside || across) };
+
+    #[inline]
+    fn made(self, old: Blocks) -> Blocks {
+        let left = old.upper_left | old.lower_left;
+        let right = old.upper_right | old.lower_right;
+        let any = left | right;
+        Blocks {
+            upper_left: any,
+            upper_right: any,
+            lower_left: any,
+            lower_right: any,
+        }
+    }
+}
+
+/// The cells to the right of a class's cells, in the next class: the last comes from the tile to the right.
+#[inline]
+pub fn next(row: u32, right: u32) -> u32
+    ensures { (i : ℕ) → i < 32 → bit result i ≡ (if i == 31 then bit right 0 else bit row (i + 1)) }
+{
+    (row >> 1) | (right << 31)
+}
+
+/// The cells to the left of a class's cells: the first comes from the tile to the left.
+#[inline]
+pub fn previous(row: u32, left: u32) -> u32
+    ensures { (i : ℕ) → i < 32 → bit result i ≡ (if i == 0 then bit left 31 else bit row (i - 1)) }
+{
+    (row << 1) | (left >> 31)
+}

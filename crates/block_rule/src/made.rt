@@ -1,0 +1,151 @@
+//! What a rule makes of a tile's cells.
+
+ghost use Rattle.std.specs.Prelude.{◌≡◌, ℕ, ◌+◌, ◌*◌, ◌<◌, ◌≤◌, ◌⊎◌, Bool, slice_index};
+ghost use Rattle.bit_tile.specs.Tile.{HasCells};
+ghost use Rattle.block_rule.specs.Cell.{made};
+ghost use Rattle.block_rule.specs.Rows.{ShowsTile, ShowsRound, ShowsRows, IsMadeOdd, odd_row, beside_left, beside_right};
+
+use crate::blocks::{Beside, Blocks, Rule, next, previous};
+use bit_tile::Tile;
+use tile_border::Round;
+
+/// Where blocks begin at even columns and rows: each lies in the tile.
+#[inline]
+pub fn make_even<R: Rule>(rule: R, tile: &Tile, out: &mut Tile)
+    ensures { (window : ℕ → ℕ → Bool) → ShowsTile window tile.now → HasCells out.new (made (R.cell rule) 0 window) }
+{
+    for j in 0..32usize {
+        let new = rule.made(Blocks {
+            upper_left: tile.even_even[j],
+            upper_right: tile.odd_even[j],
+            lower_left: tile.even_odd[j],
+            lower_right: tile.odd_odd[j],
+        });
+        out.even_even[j] = new.upper_left;
+        out.odd_even[j] = new.upper_right;
+        out.even_odd[j] = new.lower_left;
+        out.odd_odd[j] = new.lower_right;
+    }
+}
+
+// A row of blocks that begin at odd columns. The tile has the left corners of those that begin in it, and the right
+// corners of those that end in it.
+#[inline]
+fn made_odd<R: Rule>(rule: R, own: Blocks, left: Beside, right: Beside) -> Blocks
+    ensures { (window : ℕ → ℕ → Bool) (y : ℕ) → ShowsRows window y own left right → IsMadeOdd (R.cell rule) window y result }
+{
+    let begin = rule.made(Blocks {
+        upper_left: own.upper_left,
+        upper_right: next(own.upper_right, right.upper),
+        lower_left: own.lower_left,
+        lower_right: next(own.lower_right, right.lower),
+    });
+    let end = rule.made(Blocks {
+        upper_left: previous(own.upper_left, left.upper),
+        upper_right: own.upper_right,
+        lower_left: previous(own.lower_left, left.lower),
+        lower_right: own.lower_right,
+    });
+    Blocks {
+        upper_left: begin.upper_left,
+        upper_right: end.upper_right,
+        lower_left: begin.lower_left,
+        lower_right: end.lower_right,
+    }
+}
+
+// The rows of odd blocks that begin in the tile's odd rows from `from` up to `to`, and end in the tile.
+#[inline]
+fn make_rows_odd<R: Rule>(
+    rule: R,
+    tile: &Tile,
+    left: &Tile,
+    right: &Tile,
+    from: usize,
+    to: usize,
+    out: &mut Tile,
+)
+    requires order { from ≤ to }
+    requires within { to < 32 }
+    ensures rows { (window : ℕ → ℕ → Bool) →
+        ((j : ℕ) → j < 31 → ShowsRows window (2 * j + 2) (odd_row tile.now j) (beside_left left.now j) (beside_right right.now j)) →
+        (j : ℕ) → from ≤ j → j < to → IsMadeOdd (R.cell rule) window (2 * j + 2) (odd_row out.new j) }
+    ensures upper_rest { (j : ℕ) → (j < from) ⊎ (to ≤ j) →
+        (slice_index out.new.odd_odd j ≡ slice_index out.old.odd_odd j) × (slice_index out.new.even_odd j ≡ slice_index out.old.even_odd j) }
+    ensures lower_rest { (j : ℕ) → (j ≤ from) ⊎ (to < j) →
+        (slice_index out.new.odd_even j ≡ slice_index out.old.odd_even j) × (slice_index out.new.even_even j ≡ slice_index out.old.even_even j) }
+{
+    for j in from..to {
+        let own = Blocks {
+            upper_left: tile.odd_odd[j],
+            upper_right: tile.even_odd[j],
+            lower_left: tile.odd_even[j + 1],
+            lower_right: tile.even_even[j + 1],
+        };
+        let left = Beside {
+            upper: left.odd_odd[j],
+            lower: left.odd_even[j + 1],
+        };
+        let right = Beside {
+            upper: right.even_odd[j],
+            lower: right.even_even[j + 1],
+        };
+        let new = made_odd(rule, own, left, right);
+        out.odd_odd[j] = new.upper_left;
+        out.even_odd[j] = new.upper_right;
+        out.odd_even[j + 1] = new.lower_left;
+        out.even_even[j + 1] = new.lower_right;
+    }
+}
+
+/// Where blocks begin at odd columns and rows: those at the tile's edges reach into the tiles round it.
+#[inline]
+pub fn make_odd<R: Rule>(rule: R, tile: &Tile, round: &Round, out: &mut Tile)
+    ensures { (window : ℕ → ℕ → Bool) → ShowsTile window tile.now →
+        ShowsRound window round.now.above.now round.now.below.now round.now.left.now round.now.right.now round.now.above_left.now round.now.above_right.now round.now.below_left.now round.now.below_right.now →
+        HasCells out.new (made (R.cell rule) 1 window) }
+{
+    // where the tiles stand is read once
+    let near = *round;
+    let top = made_odd(
+        rule,
+        Blocks {
+            upper_left: near.above.odd_odd[31],
+            upper_right: near.above.even_odd[31],
+            lower_left: tile.odd_even[0],
+            lower_right: tile.even_even[0],
+        },
+        Beside {
+            upper: near.above_left.odd_odd[31],
+            lower: near.left.odd_even[0],
+        },
+        Beside {
+            upper: near.above_right.even_odd[31],
+            lower: near.right.even_even[0],
+        },
+    );
+    out.odd_even[0] = top.lower_left;
+    out.even_even[0] = top.lower_right;
+    // 28 rows and the last four: row 27 comes twice, so that both are whole vectors
+    make_rows_odd(rule, tile, near.left, near.right, 0, 28, out);
+    make_rows_odd(rule, tile, near.left, near.right, 27, 31, out);
+    let bottom = made_odd(
+        rule,
+        Blocks {
+            upper_left: tile.odd_odd[31],
+            upper_right: tile.even_odd[31],
+            lower_left: near.below.odd_even[0],
+            lower_right: near.below.even_even[0],
+        },
+        Beside {
+            upper: near.left.odd_odd[31],
+            lower: near.below_left.odd_even[0],
+        },
+        Beside {
+            upper: near.right.even_odd[31],
+            lower: near.below_right.even_even[0],
+        },
+    );
+    out.odd_odd[31] = bottom.upper_left;
+    out.even_odd[31] = bottom.upper_right;
+}
