@@ -4,6 +4,7 @@
 ghost use Rattle.std.specs.Prelude.{◌≡◌, ℕ, ◌+◌, ◌*◌, ◌/◌, ◌<◌, ◌≤◌, Bool, true, false, not, ◌&&◌, ◌||◌, ◌==◌, ◌%◌, nat_lt, nat_le, if◌then◌else◌, slice_index, IsTrue};
 ghost use Rattle.bit_tile.specs.Bit.{bit};
 ghost use Rattle.bit_tile.specs.Sums.{sum_below, count_below};
+ghost use Rattle.bit_tile.specs.Tile.{in_class};
 
 static NO_CELLS: Tile = Tile {
     even_even: [0; 32],
@@ -12,9 +13,9 @@ static NO_CELLS: Tile = Tile {
     odd_odd: [0; 32],
 };
 
-/// 64 by 64 cells, in four classes of 32 rows of 32 cells: the even columns of the even rows, the odd columns of the even
-/// rows, the even columns of the odd rows, and the odd columns of the odd rows. A class's row j is a word, whose bit i is
-/// the class's column i: the cell in column 5 of row 8 is bit 2 of `odd_even[4]`.
+/// 64 by 64 cells, in four classes of 32 rows of 32 cells: the even columns of the even rows, the odd columns of the
+/// even rows, the even columns of the odd rows, and the odd columns of the odd rows. A class's row j is a word, whose
+/// bit i is the class's column i: the cell in column 5 of row 8 is bit 2 of `odd_even[4]`.
 #[derive(Clone, Copy)]
 pub struct Tile {
     pub even_even: [u32; 32],
@@ -257,7 +258,7 @@ fn span(first: u32, end: u32) -> u32
 fn rows_of(word: u32, first: u32, end: u32) -> [u32; 32]
     requires order { first ≤ end }
     requires within { end ≤ 32 }
-    ensures { (i j : ℕ) → bit (slice_index result j) i ≡ (bit word i && nat_le first j && nat_lt j end) }
+    ensures { (i j : ℕ) → in_class result i j ≡ (bit word i && nat_le first j && nat_lt j end) }
 {
     let mut rows = [0; 32];
     for j in first as usize..end as usize {
@@ -270,7 +271,7 @@ fn rows_of(word: u32, first: u32, end: u32) -> [u32; 32]
 fn put(class: &mut [u32; 32], i: u32, j: u32, held: bool)
     requires i { i < 32 }
     requires j { j < 32 }
-    ensures { (k m : ℕ) → k < 32 → bit (slice_index class.new m) k ≡ (if k == i && m == j then held else bit (slice_index class.old m) k) }
+    ensures { (k m : ℕ) → k < 32 → in_class class.new k m ≡ (if k == i && m == j then held else in_class class.old k m) }
 {
     let row = class[j as usize];
     class[j as usize] = if held {
@@ -282,8 +283,8 @@ fn put(class: &mut [u32; 32], i: u32, j: u32, held: bool)
 
 // whether two classes have the same cells
 fn same(class: &[u32; 32], other: &[u32; 32]) -> bool
-    ensures same { IsTrue result → (i j : ℕ) → j < 32 → bit (slice_index class.now j) i ≡ bit (slice_index other.now j) i }
-    ensures known { ((i j : ℕ) → i < 32 → j < 32 → bit (slice_index class.now j) i ≡ bit (slice_index other.now j) i) → IsTrue result }
+    ensures same { IsTrue result → (i j : ℕ) → j < 32 → in_class class.now i j ≡ in_class other.now i j }
+    ensures known { ((i j : ℕ) → i < 32 → j < 32 → in_class class.now i j ≡ in_class other.now i j) → IsTrue result }
 {
     for j in 0..32usize {
         if class[j] != other[j] {
@@ -307,7 +308,7 @@ fn ones(class: &[u32; 32]) -> u32
 
 // the cells that both classes have
 fn both(class: &[u32; 32], other: &[u32; 32]) -> [u32; 32]
-    ensures { (i j : ℕ) → j < 32 → bit (slice_index result j) i ≡ (bit (slice_index class.now j) i && bit (slice_index other.now j) i) }
+    ensures { (i j : ℕ) → j < 32 → in_class result i j ≡ (in_class class.now i j && in_class other.now i j) }
 {
     let mut rows = [0; 32];
     for j in 0..32usize {
@@ -318,7 +319,7 @@ fn both(class: &[u32; 32], other: &[u32; 32]) -> [u32; 32]
 
 // adds the cells of the other to a class
 fn add(class: &mut [u32; 32], other: &[u32; 32])
-    ensures { (i j : ℕ) → j < 32 → bit (slice_index class.new j) i ≡ (bit (slice_index class.old j) i || bit (slice_index other.now j) i) }
+    ensures { (i j : ℕ) → j < 32 → in_class class.new i j ≡ (in_class class.old i j || in_class other.now i j) }
 {
     for j in 0..32usize {
         class[j] |= other[j];
@@ -327,7 +328,7 @@ fn add(class: &mut [u32; 32], other: &[u32; 32])
 
 // takes the cells of the other out of a class
 fn remove(class: &mut [u32; 32], other: &[u32; 32])
-    ensures { (i j : ℕ) → i < 32 → j < 32 → bit (slice_index class.new j) i ≡ (bit (slice_index class.old j) i && not (bit (slice_index other.now j) i)) }
+    ensures { (i j : ℕ) → i < 32 → j < 32 → in_class class.new i j ≡ (in_class class.old i j && not (in_class other.now i j)) }
 {
     for j in 0..32usize {
         class[j] &= !other[j];
