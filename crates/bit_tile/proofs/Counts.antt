@@ -1,125 +1,91 @@
-use Rattle.std.proofs.Common.{◌≡◌, ℕ, ◌+◌, ◌*◌, ◌%◌, ◌/◌, ◌^◌, ◌<◌, ◌==◌, Bool, true, false, not, ◌&&◌, if◌then◌else◌, zero, suc, List, [], ◌∷◌, get_or, refl, ◌∙◌, ap, arith, inl, inr}
-use Rattle.std.specs.Int.RustNames.{count_ones}
+-- Counts of a class.
+use Rattle.std.proofs.Common.{◌≡◌, ℕ, ◌+◌, ◌*◌, ◌%◌, ◌<◌, ◌==◌, Bool, true, false, not, inl, inr, ◌&&◌, if◌then◌else◌, zero, suc, List, [], ◌∷◌, get_or, refl, sym, ◌∙◌, ap, ap₂, arith}
 use Rattle.std.proofs.lemmas.Bool.{cases_eq, eq-eqb, ne_eqb}
 use Rattle.bit_tile.specs.Bit.{bit}
 use Rattle.bit_tile.specs.Sums.{sum_below, count_below}
-use Rattle.bit_tile.proofs.Bits.{bit-shr, bits_cases}
-use Rattle.bit_tile.proofs.Sums.{sum_below-zero, sum_below-suc, sum_below-more, sum_below-same, sum_below-bound, count_below-zero, count_below-suc, count_below-same, count_below-none, count_below-more, ones_are_bits}
+use Rattle.bit_tile.proofs.Bits.{bits_cases}
+use Rattle.bit_tile.proofs.Sums.{sum_below-zero, sum_below-suc, sum_below-more, sum_below-same, sum_below-bound, count_below-zero, count_below-suc, count_below-same, count_below-none}
 
-pub cells_with_row : (rows : List ℕ) (y n : ℕ) → n ≡ sum_below y (λ y. count_below 64 (bit (get_or rows y 0))) → get_or rows y 0 < 2 ^ 64 → n + count_ones (get_or rows y 0) ≡ sum_below (y + 1) (λ y. count_below 64 (bit (get_or rows y 0)))
-cells_with_row rows y n so_far fits =
-    let here = ones_are_bits (get_or rows y 0) 64 fits in
-    omega (arith, sum_below-more y (λ y. count_below 64 (bit (get_or rows y 0))), so_far, here)
+-- a sum by pairs
+halves : (n : ℕ) (f : ℕ → ℕ) → sum_below (2 * n) f ≡ sum_below n (λ k. f (2 * k) + f (2 * k + 1))
+halves zero f = sum_below-zero f ∙ sym (sum_below-zero (λ k. f (2 * k) + f (2 * k + 1)))
+halves (suc n) f =
+    let e : 2 * suc n ≡ (2 * n + 1) + 1 = omega arith in
+    let whole : sum_below (2 * suc n) f ≡ (sum_below (2 * n) f + f (2 * n)) + f (2 * n + 1) =
+    ap (λ m. sum_below m f) e ∙ (sum_below-more (2 * n + 1) f ∙ ap (λ m. m + f (2 * n + 1)) (sum_below-more (2 * n) f)) in
+    omega (arith, whole, halves n f, sum_below-suc n (λ k. f (2 * k) + f (2 * k + 1)))
 
-and_true : (b : Bool) → (b && true) ≡ b
-and_true true = refl
-and_true false = refl
+count_as_sum : (n : ℕ) (p : ℕ → Bool) → count_below n p ≡ sum_below n (λ k. if p k then 1 else 0)
+count_as_sum zero p = count_below-zero p ∙ sym (sum_below-zero (λ k. if p k then 1 else 0))
+count_as_sum (suc n) p =
+    count_below-suc n p
+    ∙ (ap (λ m. m + (if p n then 1 else 0)) (count_as_sum n p) ∙ sym (sum_below-suc n (λ k. if p k then 1 else 0)))
 
-and_false : (b : Bool) → (b && false) ≡ false
-and_false true = refl
-and_false false = refl
+both_true : (a b : Bool) → b ≡ true → (a && b) ≡ a
+both_true true b e = e
+both_true false b e = refl
 
-abbrev one : Bool → ℕ
+both_false : (a b : Bool) → b ≡ false → (a && b) ≡ false
+both_false true b e = e
+both_false false b e = refl
+
+abbrev pub one : Bool → ℕ
 one b = if b then 1 else 0
 
--- columns two by two
-pairs : (n : ℕ) (p q r : ℕ → Bool) → ((j : ℕ) → j < n → one (p (2 * j)) + one (p (2 * j + 1)) ≡ (one (q (2 * j)) + one (q (2 * j + 1))) + (one (r (2 * j)) + one (r (2 * j + 1)))) → count_below (2 * n) p ≡ count_below (2 * n) q + count_below (2 * n) r
-pairs zero p q r each = omega (arith, count_below-zero p, count_below-zero q, count_below-zero r)
-pairs (suc n) p q r each =
-    let e : 2 * suc n ≡ (2 * n + 1) + 1 = omega arith in
-    let two = λ (t : ℕ → Bool). ap (λ m. count_below m t) e ∙ (count_below-more (2 * n + 1) t ∙ ap (λ m. m + one (t (2 * n + 1))) (count_below-more (2 * n) t)) in
-    omega (arith, two p, two q, two r, pairs n p q r (λ j h. each j (omega arith)), each n (omega arith))
+-- of two neighbors, the one of the parity
+one_of_two : (i k : ℕ) (test : ℕ → Bool) → i < 2 → one (test (2 * k) && 2 * k % 2 == i) + one (test (2 * k + 1) && (2 * k + 1) % 2 == i) ≡ one (test (2 * k + i))
+one_of_two i k test two =
+    bits_cases (λ i. one (test (2 * k) && 2 * k % 2 == i) + one (test (2 * k + 1) && (2 * k + 1) % 2 == i) ≡ one (test (2 * k + i)))
+    (let a = ap one (both_true (test (2 * k)) (2 * k % 2 == 0) (eq-eqb (2 * k % 2) 0 (omega arith))) in
+    let b = ap one (both_false (test (2 * k + 1)) ((2 * k + 1) % 2 == 0) (ne_eqb ((2 * k + 1) % 2) 0 (λ e. omega arith))) in
+    let e : one (test (2 * k)) ≡ one (test (2 * k + 0)) = ap (λ m. one (test m)) (omega arith) in
+    ap₂ (λ u v. u + v) a b ∙ (let z : one (test (2 * k)) + 0 ≡ one (test (2 * k)) = omega arith in z) ∙ e)
+    (let a = ap one (both_false (test (2 * k)) (2 * k % 2 == 1) (ne_eqb (2 * k % 2) 1 (λ e. omega arith))) in
+    let b = ap one (both_true (test (2 * k + 1)) ((2 * k + 1) % 2 == 1) (eq-eqb ((2 * k + 1) % 2) 1 (omega arith))) in
+    ap₂ (λ u v. u + v) a b ∙ (let z : 0 + one (test (2 * k + 1)) ≡ one (test (2 * k + 1)) = omega arith in z)) i two
 
--- the cells of a row in the columns of a parity
-abbrev pub in_class : ℕ → ℕ → ℕ → Bool
-in_class row column x = bit row x && x % 2 == column
+-- the columns of a parity
+columns_of : (i : ℕ) (test : ℕ → Bool) → i < 2 → count_below 64 (λ x. test x && x % 2 == i) ≡ count_below 32 (λ m. test (2 * m + i))
+columns_of i test two =
+    count_as_sum 64 (λ x. test x && x % 2 == i)
+    ∙ (halves 32 (λ x. one (test x && x % 2 == i))
+    ∙ (sum_below-same 32 _ (λ k. one (test (2 * k + i))) (λ k _. one_of_two i k test two) ∙ sym (count_as_sum 32 (λ m. test (2 * m + i)))))
 
-pub even_and : (b : Bool) (j : ℕ) → (b && 2 * j % 2 == 0) ≡ b
-even_and b j = let e : 2 * j % 2 ≡ 0 = omega arith in rw (eq-eqb (2 * j % 2) 0 e) (and_true b)
+row_here : (test : ℕ → ℕ → Bool) (i j y : ℕ) → i < 2 → y % 2 ≡ j → count_below 64 (λ x. test x y && x % 2 == i && y % 2 == j) ≡ count_below 32 (λ m. test (2 * m + i) y)
+row_here test i j y i_two e =
+    count_below-same 64 (λ x. test x y && x % 2 == i && y % 2 == j) (λ x. test x y && x % 2 == i)
+    (λ x _. both_true (test x y && x % 2 == i) (y % 2 == j) (eq-eqb (y % 2) j e))
+    ∙ columns_of i (λ x. test x y) i_two
 
-odd_and : (b : Bool) (j : ℕ) → (b && (2 * j + 1) % 2 == 1) ≡ b
-odd_and b j = let e : (2 * j + 1) % 2 ≡ 1 = omega arith in rw (eq-eqb ((2 * j + 1) % 2) 1 e) (and_true b)
-
-even_not : (b : Bool) (j : ℕ) → (b && 2 * j % 2 == 1) ≡ false
-even_not b j = rw (ne_eqb (2 * j % 2) 1 (λ h. omega arith)) (and_false b)
-
-pub odd_not : (b : Bool) (j : ℕ) → (b && (2 * j + 1) % 2 == 0) ≡ false
-odd_not b j = rw (ne_eqb ((2 * j + 1) % 2) 0 (λ h. omega arith)) (and_false b)
-
--- two columns of a row have one of each class
-pair_of : (row column j : ℕ) → column < 2 → one (in_class row column (2 * j)) + one (in_class row column (2 * j + 1)) ≡ one (bit (row / 2 ^ column) (2 * j))
-pair_of row column j two =
-    bits_cases (λ column. one (in_class row column (2 * j)) + one (in_class row column (2 * j + 1)) ≡ one (bit (row / 2 ^ column) (2 * j)))
-    (let e : row / 2 ^ 0 ≡ row = omega arith in
-    omega (arith, ap one (even_and (bit row (2 * j)) j), ap one (odd_not (bit row (2 * j + 1)) j), ap (λ n. one (bit n (2 * j))) e))
-    (let e : 1 + 2 * j ≡ 2 * j + 1 = omega arith in
-    omega (arith, ap one (even_not (bit row (2 * j)) j), ap one (odd_and (bit row (2 * j + 1)) j), ap one (bit-shr row 1 (2 * j) ∙ ap (bit row) e)))
-    column two
-
--- a word that has two rows' columns of a parity side by side
-pub both_rows : (word first second column : ℕ) → column < 2 → word < 2 ^ 64 → ((i : ℕ) → i < 32 → bit word (2 * i) ≡ bit (first / 2 ^ column) (2 * i)) → ((i : ℕ) → i < 32 → bit word (2 * i + 1) ≡ bit (second / 2 ^ column) (2 * i))
-    → count_ones word ≡ count_below 64 (in_class first column) + count_below 64 (in_class second column)
-both_rows word first second column two fits evens odds =
-    ones_are_bits word 64 fits
-    ∙ pairs 32 (bit word) (in_class first column) (in_class second column)
-    (λ j h. omega (arith, ap one (evens j h), ap one (odds j h), pair_of first column j two, pair_of second column j two))
-
--- the cells of row y in the columns of a parity, if the row has a parity too
-abbrev pub row_class : (ℕ → ℕ) → ℕ → ℕ → ℕ → ℕ
-row_class row column parity y = count_below 64 (λ x. bit (row y) x && x % 2 == column && y % 2 == parity)
-
-row_of_parity : (row : ℕ → ℕ) (column parity y : ℕ) → y % 2 ≡ parity → row_class row column parity y ≡ count_below 64 (in_class (row y) column)
-row_of_parity row column parity y same =
-    count_below-same 64 _ _ (λ x _. rw (eq-eqb (y % 2) parity same) (and_true (bit (row y) x && x % 2 == column)))
-
-row_of_other : (row : ℕ → ℕ) (column parity y : ℕ) → (y % 2 ≡ parity → ⊥) → row_class row column parity y ≡ 0
-row_of_other row column parity y other =
-    count_below-same 64 _ (λ _. false)
-    (λ x _. rw (ne_eqb (y % 2) parity other) (and_false (bit (row y) x && x % 2 == column)))
+row_elsewhere : (test : ℕ → ℕ → Bool) (i j y : ℕ) → (y % 2 ≡ j → ⊥) → count_below 64 (λ x. test x y && x % 2 == i && y % 2 == j) ≡ 0
+row_elsewhere test i j y e =
+    count_below-same 64 (λ x. test x y && x % 2 == i && y % 2 == j) (λ _. false)
+    (λ x _. both_false (test x y && x % 2 == i) (y % 2 == j) (ne_eqb (y % 2) j e))
     ∙ count_below-none 64
 
--- the two rows from an even one add what the one of the parity has
-two_rows : (f : ℕ → ℕ) (parity j n here : ℕ) → parity < 2 → n ≡ sum_below (2 * j) f → f (2 * j + parity) ≡ here → ((y : ℕ) → (y % 2 ≡ parity → ⊥) → f y ≡ 0) → n + here ≡ sum_below (2 * (j + 1)) f
-two_rows f parity j n here two so_far same other =
-    let e : 2 * (j + 1) ≡ (2 * j + 1) + 1 = omega arith in
-    let whole : sum_below (2 * (j + 1)) f ≡ (sum_below (2 * j) f + f (2 * j)) + f (2 * j + 1) =
-    ap (λ m. sum_below m f) e ∙ (sum_below-more (2 * j + 1) f ∙ ap (λ m. m + f (2 * j + 1)) (sum_below-more (2 * j) f)) in
-    elim (cases_eq parity 0) [
-      | inl even ↦
-          let at : f (2 * j + parity) ≡ f (2 * j) = ap f (omega arith) in
-          omega (arith, other (2 * j + 1) (λ h. omega arith))
-      | inr odd ↦
-          let at : f (2 * j + parity) ≡ f (2 * j + 1) = ap f (omega arith) in
-          omega (arith, other (2 * j) (λ h. omega arith))
-    ]
+two_rows : (test : ℕ → ℕ → Bool) (i j k : ℕ) → i < 2 → j < 2 → count_below 64 (λ x. test x (2 * k) && x % 2 == i && 2 * k % 2 == j) + count_below 64 (λ x. test x (2 * k + 1) && x % 2 == i && (2 * k + 1) % 2 == j) ≡ count_below 32 (λ m. test (2 * m + i) (2 * k + j))
+two_rows test i j k i_two j_two =
+    bits_cases (λ j. count_below 64 (λ x. test x (2 * k) && x % 2 == i && 2 * k % 2 == j) + count_below 64 (λ x. test x (2 * k + 1) && x % 2 == i && (2 * k + 1) % 2 == j) ≡ count_below 32 (λ m. test (2 * m + i) (2 * k + j)))
+    (let a = row_here test i 0 (2 * k) i_two (omega arith) in
+    let b = row_elsewhere test i 0 (2 * k + 1) (λ e. omega arith) in
+    let e : count_below 32 (λ m. test (2 * m + i) (2 * k)) ≡ count_below 32 (λ m. test (2 * m + i) (2 * k + 0)) = ap (λ y. count_below 32 (λ m. test (2 * m + i) y)) (omega arith) in
+    ap₂ (λ u v. u + v) a b ∙ (let z : count_below 32 (λ m. test (2 * m + i) (2 * k)) + 0 ≡ count_below 32 (λ m. test (2 * m + i) (2 * k)) = omega arith in z) ∙ e)
+    (let a = row_elsewhere test i 1 (2 * k) (λ e. omega arith) in
+    let b = row_here test i 1 (2 * k + 1) i_two (omega arith) in
+    ap₂ (λ u v. u + v) a b ∙ (let z : 0 + count_below 32 (λ m. test (2 * m + i) (2 * k + 1)) ≡ count_below 32 (λ m. test (2 * m + i) (2 * k + 1)) = omega arith in z)) j j_two
 
--- four rows more
-pub class_with_rows : (row : ℕ → ℕ) (column parity j n here : ℕ) → parity < 2 → n ≡ sum_below (4 * j) (row_class row column parity)
-    → here ≡ count_below 64 (in_class (row (4 * j + parity)) column) + count_below 64 (in_class (row (4 * j + 2 + parity)) column) → n + here ≡ sum_below (4 * (j + 1)) (row_class row column parity)
-class_with_rows row column parity j n here two so_far is =
-    let f : ℕ → ℕ = row_class row column parity in
-    let other = row_of_other row column parity in
-    let u : ℕ = count_below 64 (in_class (row (4 * j + parity)) column) in
-    let v : ℕ = count_below 64 (in_class (row (4 * j + 2 + parity)) column) in
-    let first_place : 2 * (2 * j) + parity ≡ 4 * j + parity = omega arith in
-    let second_place : 2 * (2 * j + 1) + parity ≡ 4 * j + 2 + parity = omega arith in
-    let before : n ≡ sum_below (2 * (2 * j)) f = so_far ∙ ap (λ m. sum_below m f) (omega arith) in
-    let first : n + u ≡ sum_below (2 * (2 * j + 1)) f =
-    two_rows f parity (2 * j) n u two before (ap f first_place ∙ row_of_parity row column parity (4 * j + parity) (omega arith)) other in
-    let second : (n + u) + v ≡ sum_below (2 * (2 * j + 1 + 1)) f =
-    two_rows f parity (2 * j + 1) (n + u) v two first (ap f second_place ∙ row_of_parity row column parity (4 * j + 2 + parity) (omega arith)) other in
-    let end : sum_below (2 * (2 * j + 1 + 1)) f ≡ sum_below (4 * (j + 1)) f = ap (λ m. sum_below m f) (omega arith) in
-    omega (arith, is, second, end)
+-- a class's cells are counted in its rows
+pub class_count : (test : ℕ → ℕ → Bool) (i j : ℕ) → i < 2 → j < 2 → sum_below 64 (λ y. count_below 64 (λ x. test x y && x % 2 == i && y % 2 == j)) ≡ sum_below 32 (λ k. count_below 32 (λ m. test (2 * m + i) (2 * k + j)))
+class_count test i j i_two j_two =
+    halves 32 (λ y. count_below 64 (λ x. test x y && x % 2 == i && y % 2 == j))
+    ∙ sum_below-same 32 _ (λ k. count_below 32 (λ m. test (2 * m + i) (2 * k + j))) (λ k _. two_rows test i j k i_two j_two)
 
--- two tests that agree at each cell count the same
-pub cells_same : (p q : ℕ → ℕ → Bool) → ((x y : ℕ) → x < 64 → y < 64 → p x y ≡ q x y) → sum_below 64 (λ y. count_below 64 (λ x. p x y)) ≡ sum_below 64 (λ y. count_below 64 (λ x. q x y))
-cells_same p q same = sum_below-same 64 _ _ (λ y in_column. count_below-same 64 _ _ (λ x in_row. same x y in_row in_column))
-
--- one, as either part
-one_in_parts : (p r : Bool) → (if p then 1 else 0) ≡ (if p && r then 1 else 0) + (if p && not r then 1 else 0)
-one_in_parts true true = refl
-one_in_parts true false = refl
-one_in_parts false r = refl
+-- the ones of a class's rows are its cells
+pub ones_of_class : (rows : List ℕ) (test : ℕ → ℕ → Bool) (i j n : ℕ) → i < 2 → j < 2 → n ≡ sum_below 32 (λ k. count_below 32 (bit (get_or rows k 0))) → ((m k : ℕ) → m < 32 → k < 32 → bit (get_or rows k 0) m ≡ test (2 * m + i) (2 * k + j)) → n ≡ sum_below 64 (λ y. count_below 64 (λ x. test x y && x % 2 == i && y % 2 == j))
+ones_of_class rows test i j n i_two j_two counted is =
+    counted
+    ∙ (sum_below-same 32 _ _ (λ k in_column. count_below-same 32 (bit (get_or rows k 0)) (λ m. test (2 * m + i) (2 * k + j)) (λ m in_row. is m k in_row in_column))
+    ∙ sym (class_count test i j i_two j_two))
 
 abbrev pub class : (ℕ → ℕ → Bool) → ℕ → ℕ → ℕ
 class has i j = sum_below 64 (λ y. count_below 64 (λ x. has x y && x % 2 == i && y % 2 == j))
@@ -131,6 +97,16 @@ four_classes has a b c d first second third fourth i j i_two j_two =
     bits_cases (λ i. get_or list (2 * j + i) 0 ≡ class has i j)
     (bits_cases (λ j. get_or list (2 * j + 0) 0 ≡ class has 0 j) first third j j_two)
     (bits_cases (λ j. get_or list (2 * j + 1) 0 ≡ class has 1 j) second fourth j j_two) i i_two
+
+-- two tests that agree at each cell count the same
+pub cells_same : (p q : ℕ → ℕ → Bool) → ((x y : ℕ) → x < 64 → y < 64 → p x y ≡ q x y) → sum_below 64 (λ y. count_below 64 (λ x. p x y)) ≡ sum_below 64 (λ y. count_below 64 (λ x. q x y))
+cells_same p q same = sum_below-same 64 _ _ (λ y in_column. count_below-same 64 _ _ (λ x in_row. same x y in_row in_column))
+
+-- one, as either part
+one_in_parts : (p r : Bool) → (if p then 1 else 0) ≡ (if p && r then 1 else 0) + (if p && not r then 1 else 0)
+one_in_parts true true = refl
+one_in_parts true false = refl
+one_in_parts false r = refl
 
 -- a count in two parts
 count_below-split : (n : ℕ) (p r : ℕ → Bool) → count_below n p ≡ count_below n (λ k. p k && r k) + count_below n (λ k. p k && not (r k))
@@ -178,3 +154,10 @@ in_rows has j =
     ∙ (ap (λ n. n + cells_counted (λ x y. has x y && y % 2 == j && not (x % 2 == 0))) (cells_same _ _ (λ x y _ _. and_swapped (has x y) (y % 2 == j) (x % 2 == 0)))
     ∙ ap (λ n. class has 0 j + n)
     (cells_same _ _ (λ x y _ _. ap (λ b. has x y && y % 2 == j && b) (not_one x) ∙ and_swapped (has x y) (y % 2 == j) (x % 2 == 1))))
+
+-- all cells, by their classes
+pub in_classes : (has : ℕ → ℕ → Bool) (a b c d : ℕ) → a ≡ class has 0 0 → b ≡ class has 1 0 → c ≡ class has 0 1 → d ≡ class has 1 1 → a + b + c + d ≡ cells_counted has
+in_classes has a b c d first second third fourth =
+    let split = cells-split has (λ x y. x % 2 == 0) in
+    let odd : cells_counted (λ x y. has x y && not (x % 2 == 0)) ≡ cells_counted (λ x y. has x y && x % 2 == 1) = cells_same _ _ (λ x y _ _. ap (λ b. has x y && b) (not_one x)) in
+    omega (arith, split, odd, in_columns has 0, in_columns has 1, first, second, third, fourth)

@@ -1,27 +1,42 @@
-//! Cells in tiles of 64 by 64, a bit each.
+//! Cells in tiles of 64 by 64, a bit each, by the parities of their columns and rows.
 #![tactic(auto)]
 
-ghost use Rattle.std.specs.Prelude.{◌≡◌, ℕ, ◌+◌, ◌*◌, ◌<◌, ◌≤◌, Bool, true, false, not, ◌&&◌, ◌||◌, ◌==◌, ◌%◌, nat_lt, nat_le, if◌then◌else◌, slice_index, IsTrue};
+ghost use Rattle.std.specs.Prelude.{◌≡◌, ℕ, ◌+◌, ◌*◌, ◌/◌, ◌<◌, ◌≤◌, Bool, true, false, not, ◌&&◌, ◌||◌, ◌==◌, ◌%◌, nat_lt, nat_le, if◌then◌else◌, slice_index, IsTrue};
 ghost use Rattle.bit_tile.specs.Bit.{bit};
+ghost use Rattle.bit_tile.specs.Sums.{sum_below, count_below};
+ghost use Rattle.bit_tile.specs.Tile.{in_class};
 
-const EVEN_COLUMNS: u64 = 0x5555_5555_5555_5555;
+static NO_CELLS: Tile = Tile {
+    even_even: [0; 32],
+    odd_even: [0; 32],
+    even_odd: [0; 32],
+    odd_odd: [0; 32],
+};
 
-static NO_CELLS: Tile = Tile { rows: [0; 64] };
-
-/// 64 by 64 cells. Row y is a word, and its bit x is column x.
+/// 64 by 64 cells, in four classes of 32 rows of 32 cells: the even columns of the even rows, the odd columns of the
+/// even rows, the even columns of the odd rows, and the odd columns of the odd rows. A class's row j is a word, whose
+/// bit i is the class's column i: the cell in column 5 of row 8 is bit 2 of `odd_even[4]`.
 #[derive(Clone, Copy)]
 pub struct Tile {
-    pub rows: [u64; 64],
+    pub even_even: [u32; 32],
+    pub odd_even: [u32; 32],
+    pub even_odd: [u32; 32],
+    pub odd_odd: [u32; 32],
 }
 
 impl Tile {
-    ghost use Rattle.bit_tile.specs.Tile.{has, HasCells, is_inside, count_cells};
+    ghost use Rattle.bit_tile.specs.Tile.{has, HasCells, is_inside, class_of, count_cells};
 
     /// No cells.
     pub fn empty() -> Tile
         ensures { HasCells result (λ _ _. false) }
     {
-        Tile { rows: [0; 64] }
+        Tile {
+            even_even: [0; 32],
+            odd_even: [0; 32],
+            even_odd: [0; 32],
+            odd_odd: [0; 32],
+        }
     }
 
     /// No cells, in one place for all who read: it stays near while other tiles are read.
@@ -37,7 +52,10 @@ impl Tile {
         ensures { HasCells result (λ _ _. true) }
     {
         Tile {
-            rows: [u64::MAX; 64],
+            even_even: [u32::MAX; 32],
+            odd_even: [u32::MAX; 32],
+            even_odd: [u32::MAX; 32],
+            odd_odd: [u32::MAX; 32],
         }
     }
 
@@ -47,12 +65,14 @@ impl Tile {
         requires bottom { y + h ≤ 64 }
         ensures { HasCells result (is_inside x y w h) }
     {
-        let mut rows = [0; 64];
-        let row = span(x, w);
-        for k in y as usize..(y + h) as usize {
-            rows[k] = row;
+        let even_columns = span((x + 1) / 2, (x + w + 1) / 2);
+        let odd_columns = span(x / 2, (x + w) / 2);
+        Tile {
+            even_even: rows_of(even_columns, (y + 1) / 2, (y + h + 1) / 2),
+            odd_even: rows_of(odd_columns, (y + 1) / 2, (y + h + 1) / 2),
+            even_odd: rows_of(even_columns, y / 2, (y + h) / 2),
+            odd_odd: rows_of(odd_columns, y / 2, (y + h) / 2),
         }
-        Tile { rows }
     }
 
     /// Whether the cell in column x of row y is there.
@@ -61,7 +81,24 @@ impl Tile {
         requires y { y < 64 }
         ensures { result ≡ has self.now x y }
     {
-        (self.rows[y as usize] >> x) & 1 == 1
+        (self.class_of(x, y)[(y / 2) as usize] >> (x / 2)) & 1 == 1
+    }
+
+    // the class that has the cell in column x of row y
+    fn class_of(&self, x: u32, y: u32) -> &[u32; 32]
+        ensures { result.now ≡ class_of self.now x y }
+    {
+        if y % 2 == 0 {
+            if x % 2 == 0 {
+                &self.even_even
+            } else {
+                &self.odd_even
+            }
+        } else if x % 2 == 0 {
+            &self.even_odd
+        } else {
+            &self.odd_odd
+        }
     }
 
     /// Puts the cell in or takes it out.
@@ -70,12 +107,17 @@ impl Tile {
         requires y { y < 64 }
         ensures { HasCells self.new (λ i j. if i == x && j == y then held else has self.old i j) }
     {
-        let row = self.rows[y as usize];
-        self.rows[y as usize] = if held {
-            row | (1 << x)
+        if y % 2 == 0 {
+            if x % 2 == 0 {
+                put(&mut self.even_even, x / 2, y / 2, held);
+            } else {
+                put(&mut self.odd_even, x / 2, y / 2, held);
+            }
+        } else if x % 2 == 0 {
+            put(&mut self.even_odd, x / 2, y / 2, held);
         } else {
-            row & !(1 << x)
-        };
+            put(&mut self.odd_odd, x / 2, y / 2, held);
+        }
     }
 
     /// The cells of row y: bit x is column x.
@@ -84,8 +126,11 @@ impl Tile {
         requires { y < 64 }
         ensures { (x : ℕ) → x < 64 → bit result x ≡ has self.now x y }
     {
-        let Tile { rows } = self;
-        rows[y]
+        if y % 2 == 0 {
+            in_turn(self.even_even[y / 2], self.odd_even[y / 2])
+        } else {
+            in_turn(self.even_odd[y / 2], self.odd_odd[y / 2])
+        }
     }
 
     /// Makes the bits of the word the cells of row y.
@@ -94,36 +139,47 @@ impl Tile {
         requires { y < 64 }
         ensures { HasCells self.new (λ i j. if j == y then bit word i else has self.old i j) }
     {
-        self.rows[y] = word;
+        let even = gather(word);
+        let odd = gather(word >> 1);
+        if y % 2 == 0 {
+            self.even_even[y / 2] = even;
+            self.odd_even[y / 2] = odd;
+        } else {
+            self.even_odd[y / 2] = even;
+            self.odd_odd[y / 2] = odd;
+        }
     }
 
     /// The cells of both.
     pub fn meet(&self, other: &Tile) -> Tile
         ensures { HasCells result (λ i j. has self.now i j && has other.now i j) }
     {
-        let mut rows = [0; 64];
-        for y in 0..64usize {
-            rows[y] = self.rows[y] & other.rows[y];
+        Tile {
+            even_even: both(&self.even_even, &other.even_even),
+            odd_even: both(&self.odd_even, &other.odd_even),
+            even_odd: both(&self.even_odd, &other.even_odd),
+            odd_odd: both(&self.odd_odd, &other.odd_odd),
         }
-        Tile { rows }
     }
 
     /// Adds the cells of the other.
     pub fn join(&mut self, other: &Tile)
         ensures { HasCells self.new (λ i j. has self.old i j || has other.now i j) }
     {
-        for y in 0..64usize {
-            self.rows[y] |= other.rows[y];
-        }
+        add(&mut self.even_even, &other.even_even);
+        add(&mut self.odd_even, &other.odd_even);
+        add(&mut self.even_odd, &other.even_odd);
+        add(&mut self.odd_odd, &other.odd_odd);
     }
 
     /// Takes the cells of the other out.
     pub fn cut(&mut self, other: &Tile)
         ensures { HasCells self.new (λ i j. has self.old i j && not (has other.now i j)) }
     {
-        for y in 0..64usize {
-            self.rows[y] &= !other.rows[y];
-        }
+        remove(&mut self.even_even, &other.even_even);
+        remove(&mut self.odd_even, &other.odd_even);
+        remove(&mut self.even_odd, &other.even_odd);
+        remove(&mut self.odd_odd, &other.odd_odd);
     }
 
     /// Whether there are no cells.
@@ -131,15 +187,25 @@ impl Tile {
         ensures empty { IsTrue result → HasCells self.now (λ _ _. false) }
         ensures known { HasCells self.now (λ _ _. false) → IsTrue result }
     {
-        // most tiles with cells have some in their first row
-        if self.rows[0] != 0 {
+        // most tiles with cells have some in their first two rows
+        if self.any_in_rows(0) != 0 {
             return false;
         }
         let mut all = 0;
-        for y in 0..64usize {
-            all |= self.rows[y];
+        for j in 0..32usize {
+            all |= self.any_in_rows(j);
         }
         all == 0
+    }
+
+    // 0 just if rows 2 * j and 2 * j + 1 have no cells
+    #[inline]
+    fn any_in_rows(&self, j: usize) -> u32
+        requires { j < 32 }
+        ensures empty { result ≡ 0 → (x y : ℕ) → x < 64 → y / 2 ≡ j → has self.now x y ≡ false }
+        ensures known { ((x y : ℕ) → x < 64 → y / 2 ≡ j → has self.now x y ≡ false) → result ≡ 0 }
+    {
+        self.even_even[j] | self.odd_even[j] | self.even_odd[j] | self.odd_odd[j]
     }
 
     /// Whether the other has the same cells.
@@ -147,23 +213,17 @@ impl Tile {
         ensures same { IsTrue result → HasCells self.now (has other.now) }
         ensures known { HasCells self.now (has other.now) → IsTrue result }
     {
-        for y in 0..64usize {
-            if self.rows[y] != other.rows[y] {
-                return false;
-            }
-        }
-        true
+        same(&self.even_even, &other.even_even)
+            && same(&self.odd_even, &other.odd_even)
+            && same(&self.even_odd, &other.even_odd)
+            && same(&self.odd_odd, &other.odd_odd)
     }
 
     /// How many cells there are.
     pub fn count(&self) -> u32
         ensures { result ≡ count_cells (has self.now) }
     {
-        let mut n = 0;
-        for y in 0..64usize {
-            n += self.rows[y].count_ones();
-        }
-        n
+        ones(&self.even_even) + ones(&self.odd_even) + ones(&self.even_odd) + ones(&self.odd_odd)
     }
 
     /// How many cells there are in each class of columns and rows: even column and even row, odd and even, even and
@@ -173,48 +233,140 @@ impl Tile {
         ensures bound { (k : ℕ) → slice_index result k ≤ 2048 }
     {
         [
-            self.count_class(0, 0),
-            self.count_class(1, 0),
-            self.count_class(0, 1),
-            self.count_class(1, 1),
+            ones(&self.even_even),
+            ones(&self.odd_even),
+            ones(&self.even_odd),
+            ones(&self.odd_odd),
         ]
     }
-
-    // the cells in the columns of one parity and in the rows of another: those of two rows fill a word
-    fn count_class(&self, column: u32, row: usize) -> u32
-        requires column { column < 2 }
-        requires row { row < 2 }
-        ensures count { result ≡ count_cells (λ x y. has self.now x y && x % 2 == column && y % 2 == row) }
-        ensures bound { result ≤ 2048 }
-    {
-        let mut n = 0;
-        for j in 0..16usize {
-            let first = self.rows[4 * j + row] >> column;
-            let second = self.rows[4 * j + 2 + row] >> column;
-            n += side_by_side(first, second).count_ones();
-        }
-        n
-    }
 }
 
-// the even columns of two words in one
-fn side_by_side(first: u64, second: u64) -> u64
-    ensures first { (i : ℕ) → i < 32 → bit result (2 * i) ≡ bit first (2 * i) }
-    ensures second { (i : ℕ) → i < 32 → bit result (2 * i + 1) ≡ bit second (2 * i) }
+// the columns from `first` up to `end`
+fn span(first: u32, end: u32) -> u32
+    requires order { first ≤ end }
+    requires within { end ≤ 32 }
+    ensures { (i : ℕ) → i < 32 → bit result i ≡ (nat_le first i && nat_lt i end) }
 {
-    (first & EVEN_COLUMNS) | ((second & EVEN_COLUMNS) << 1)
-}
-
-// the columns from x to x + w - 1
-fn span(x: u32, w: u32) -> u64
-    requires { x + w ≤ 64 }
-    ensures { (i : ℕ) → i < 64 → bit result i ≡ (nat_le x i && nat_lt i (x + w)) }
-{
-    if w == 0 {
+    if first == end {
         0
     } else {
-        (u64::MAX >> (64 - w)) << x
+        (u32::MAX >> (32 - (end - first))) << first
     }
+}
+
+// a class that has the word in its rows from `first` up to `end`
+fn rows_of(word: u32, first: u32, end: u32) -> [u32; 32]
+    requires order { first ≤ end }
+    requires within { end ≤ 32 }
+    ensures { (i j : ℕ) → in_class result i j ≡ (bit word i && nat_le first j && nat_lt j end) }
+{
+    let mut rows = [0; 32];
+    for j in first as usize..end as usize {
+        rows[j] = word;
+    }
+    rows
+}
+
+// puts a cell of a class in, or takes it out
+fn put(class: &mut [u32; 32], i: u32, j: u32, held: bool)
+    requires i { i < 32 }
+    requires j { j < 32 }
+    ensures { (k m : ℕ) → k < 32 → in_class class.new k m ≡ (if k == i && m == j then held else in_class class.old k m) }
+{
+    let row = class[j as usize];
+    class[j as usize] = if held {
+        row | (1 << i)
+    } else {
+        row & !(1 << i)
+    };
+}
+
+// whether two classes have the same cells
+fn same(class: &[u32; 32], other: &[u32; 32]) -> bool
+    ensures same { IsTrue result → (i j : ℕ) → j < 32 → in_class class.now i j ≡ in_class other.now i j }
+    ensures known { ((i j : ℕ) → i < 32 → j < 32 → in_class class.now i j ≡ in_class other.now i j) → IsTrue result }
+{
+    for j in 0..32usize {
+        if class[j] != other[j] {
+            return false;
+        }
+    }
+    true
+}
+
+// how many cells a class has
+fn ones(class: &[u32; 32]) -> u32
+    ensures count { result ≡ sum_below 32 (λ j. count_below 32 (bit (slice_index class.now j))) }
+    ensures bound { result ≤ 1024 }
+{
+    let mut n = 0;
+    for j in 0..32usize {
+        n += class[j].count_ones();
+    }
+    n
+}
+
+// the cells that both classes have
+fn both(class: &[u32; 32], other: &[u32; 32]) -> [u32; 32]
+    ensures { (i j : ℕ) → j < 32 → in_class result i j ≡ (in_class class.now i j && in_class other.now i j) }
+{
+    let mut rows = [0; 32];
+    for j in 0..32usize {
+        rows[j] = class[j] & other[j];
+    }
+    rows
+}
+
+// adds the cells of the other to a class
+fn add(class: &mut [u32; 32], other: &[u32; 32])
+    ensures { (i j : ℕ) → j < 32 → in_class class.new i j ≡ (in_class class.old i j || in_class other.now i j) }
+{
+    for j in 0..32usize {
+        class[j] |= other[j];
+    }
+}
+
+// takes the cells of the other out of a class
+fn remove(class: &mut [u32; 32], other: &[u32; 32])
+    ensures { (i j : ℕ) → i < 32 → j < 32 → in_class class.new i j ≡ (in_class class.old i j && not (in_class other.now i j)) }
+{
+    for j in 0..32usize {
+        class[j] &= !other[j];
+    }
+}
+
+// the bits of two words in turn: those of the first have the even places
+#[inline]
+fn in_turn(even: u32, odd: u32) -> u64
+    ensures { (i : ℕ) → i < 64 → bit result i ≡ (if i % 2 == 0 then bit even (i / 2) else bit odd (i / 2)) }
+{
+    spread(even) | (spread(odd) << 1)
+}
+
+// the bits of a word at every other place, from the lowest on
+#[inline]
+fn spread(word: u32) -> u64
+    ensures { (i : ℕ) → i < 64 → bit result i ≡ (i % 2 == 0 && bit word (i / 2)) }
+{
+    let a = word as u64;
+    let b = (a | (a << 16)) & 0x0000_ffff_0000_ffff;
+    let c = (b | (b << 8)) & 0x00ff_00ff_00ff_00ff;
+    let d = (c | (c << 4)) & 0x0f0f_0f0f_0f0f_0f0f;
+    let e = (d | (d << 2)) & 0x3333_3333_3333_3333;
+    (e | (e << 1)) & 0x5555_5555_5555_5555
+}
+
+// the bits at every other place of a word, from the lowest on, close to one another
+#[inline]
+fn gather(word: u64) -> u32
+    ensures { (i : ℕ) → i < 32 → bit result i ≡ bit word (2 * i) }
+{
+    let a = word & 0x5555_5555_5555_5555;
+    let b = (a | (a >> 1)) & 0x3333_3333_3333_3333;
+    let c = (b | (b >> 2)) & 0x0f0f_0f0f_0f0f_0f0f;
+    let d = (c | (c >> 4)) & 0x00ff_00ff_00ff_00ff;
+    let e = (d | (d >> 8)) & 0x0000_ffff_0000_ffff;
+    ((e | (e >> 16)) & 0x0000_0000_ffff_ffff) as u32
 }
 
 #[cfg(test)]

@@ -84,6 +84,65 @@ fn rows_are_words(rt: HostRuntime) {
 }
 
 #[test]
+fn rows_are_put_and_read_back(rt: HostRuntime) {
+    for y in [0usize, 1, 30, 31, 62, 63] {
+        let mut tile = Tile::full();
+        // columns 0 and 63
+        tile.set_row(y, 0x8000_0000_0000_0001);
+        assert_eq!(rt; tile.row(y), 0x8000_0000_0000_0001, "ends of {y}");
+        let at = y as u32;
+        assert!(rt;
+            tile.get(0, at) && !tile.get(1, at) && !tile.get(62, at) && tile.get(63, at),
+            "ends of {y}"
+        );
+        assert_eq!(rt; tile.count(), 4034, "ends of {y}");
+        // the even columns
+        tile.set_row(y, 0x5555_5555_5555_5555);
+        assert_eq!(rt; tile.row(y), 0x5555_5555_5555_5555, "evens of {y}");
+        assert!(rt;
+            tile.get(0, at) && !tile.get(1, at) && tile.get(62, at) && !tile.get(63, at),
+            "evens of {y}"
+        );
+        // the odd columns
+        tile.set_row(y, 0xaaaa_aaaa_aaaa_aaaa);
+        assert_eq!(rt; tile.row(y), 0xaaaa_aaaa_aaaa_aaaa, "odds of {y}");
+        assert!(rt;
+            !tile.get(0, at) && tile.get(1, at) && !tile.get(62, at) && tile.get(63, at),
+            "odds of {y}"
+        );
+        // columns 0 and 1 of every four
+        tile.set_row(y, 0x3333_3333_3333_3333);
+        assert_eq!(rt; tile.row(y), 0x3333_3333_3333_3333, "pairs of {y}");
+        assert!(rt;
+            tile.get(1, at) && !tile.get(2, at) && !tile.get(31, at) && tile.get(32, at),
+            "pairs of {y}"
+        );
+        // the columns from 32 on
+        tile.set_row(y, 0xffff_ffff_0000_0000);
+        assert_eq!(rt; tile.row(y), 0xffff_ffff_0000_0000, "half of {y}");
+        assert!(rt;
+            !tile.get(0, at) && !tile.get(31, at) && tile.get(32, at) && tile.get(63, at),
+            "half of {y}"
+        );
+        assert_eq!(rt; tile.count(), 4064, "half of {y}");
+    }
+}
+
+#[test]
+fn cells_are_kept_by_class(rt: HostRuntime) {
+    // column 5 of row 8: column 2 of row 4 of the odd columns of the even rows
+    let mut tile = Tile::empty();
+    tile.set(5, 8, true);
+    assert_eq!(rt; tile.odd_even[4], 4);
+    // columns 2 and 5 of row 9
+    tile.set_row(9, 0x24);
+    assert_eq!(rt; tile.even_odd[4], 2);
+    assert_eq!(rt; tile.odd_odd[4], 4);
+    // by columns and rows: even and even, odd and even, even and odd, odd and odd
+    assert_eq!(rt; tile.count_by_parity().as_slice(), [0, 1, 1, 1].as_slice());
+}
+
+#[test]
 fn whole_and_empty_tiles(rt: HostRuntime) {
     assert_eq!(rt; Tile::full().count(), 4096);
     assert_eq!(rt; Tile::shared_empty().count(), 0);

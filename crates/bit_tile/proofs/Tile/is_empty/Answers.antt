@@ -1,17 +1,8 @@
-use Rattle.std.proofs.Common.{◌≡◌, ℕ, ◌<◌, ◌≤◌, ◌==◌, ◌^◌, ◌∙◌, ap, get_or, arith, inl, inr, IsTrue, false}
-use Rattle.std.specs.Prelude.{bit_or}
-use Rattle.std.specs.Int.Bits.{or_zero_r}
+use Rattle.std.proofs.Common.{◌≡◌, ℕ, ◌/◌, ◌==◌, ap₂, arith, inl, inr, IsTrue, bit_or}
 use Rattle.std.proofs.lemmas.Nat.{le_or_l, le_or_r}
 use Rattle.std.proofs.lemmas.Bool.{cases_eq}
 use Rattle.std.proofs.lemmas.Bool.Decides.{nat_tests}
-use Rattle.bit_tile.specs.Bit.{bit}
-use Rattle.bit_tile.specs.Tile.{HasCells}
-use Rattle.bit_tile.specs.declared.Tile.{Tile}
-use Rattle.bit_tile.proofs.Bits.{bit-zero, none_set}
 use Rattle.bit_tile.proofs.Tile.is_empty.Goals as goal
-
-row_empty : (t : Tile) (y : ℕ) → y < 64 → get_or t.rows y 0 < 2 ^ 64 → HasCells t (λ _ _. false) → get_or t.rows y 0 ≡ 0
-row_empty t y within fits none = none_set (get_or t.rows y 0) fits (λ x in_row. none x y in_row within)
 
 is_zero : (n : ℕ) → n ≡ 0 → IsTrue (n == 0)
 is_zero n e = grind (arith, nat_tests)
@@ -19,33 +10,28 @@ is_zero n e = grind (arith, nat_tests)
 from_zero : (n : ℕ) → IsTrue (n == 0) → n ≡ 0
 from_zero n e = grind (arith, nat_tests)
 
-pub returns-then-self-ne0-clause-known : goal.returns-then-self-ne0-clause-known
-returns-then-self-ne0-clause-known c = λ none.
-    let e = row_empty c.args.self.now 0 (omega arith) (omega arith) none in
-    absurd (omega (arith, e, c.if-self-ne0.true))
+pub returns-then-any_in_rows-ne0-clause-known : goal.returns-then-any_in_rows-ne0-clause-known
+returns-then-any_in_rows-ne0-clause-known c = λ none.
+    let e = c.any_in_rows.ensures.known (λ x y h k. none x y h (omega arith)) in
+    absurd (omega (arith, e, c.if-any_in_rows-ne0.true))
 
-pub loop-y-preserved : goal.loop-y-preserved
-loop-y-preserved c =
-    let row : ℕ = get_or c.args.self.now.rows c.loop-y.y 0 in
+pub loop-j-preserved : goal.loop-j-preserved
+loop-j-preserved c =
+    let all : ℕ = c.loop-j.all in
+    let here : ℕ = c.any_in_rows-all.result in
     record {
-      least = λ k below.
-          elim (cases_eq k c.loop-y.y) [
-            | inl same ↦ rw same (le_or_r c.loop-y.all row)
-            | inr other ↦
-                let before : get_or c.args.self.now.rows k 0 ≤ c.loop-y.all = c.loop-y.invariant.least k (omega arith) in
-                omega (arith, before, le_or_l c.loop-y.all row)
+      empty = λ none x y h k.
+          let before : all ≡ 0 = omega (arith, none, le_or_l all here) in
+          let now : here ≡ 0 = omega (arith, none, le_or_r all here) in
+          elim (cases_eq (y / 2) c.loop-j.j) [
+            | inl same ↦ c.any_in_rows-all.ensures.empty now x y h same
+            | inr other ↦ c.loop-j.invariant.empty before x y h (omega arith)
           ];
-      none = λ all.
-          ap (bit_or c.loop-y.all) (all c.loop-y.y (omega arith)) ∙ (or_zero_r c.loop-y.all ∙ c.loop-y.invariant.none (λ k below. all k (omega arith)));
+      known = λ none. ap₂ bit_or (c.loop-j.invariant.known none) (c.any_in_rows-all.ensures.known (λ x y h k. none x y h (omega arith)));
     }
 
 pub returns-clause-empty : goal.returns-clause-empty
-returns-clause-empty c = λ none x y _ within.
-    let e : c.loop-y.all ≡ 0 = from_zero c.loop-y.all none in
-    let least : get_or c.args.self.now.rows y 0 ≤ c.loop-y.all = c.loop-y.invariant.least y (omega arith) in
-    let row : get_or c.args.self.now.rows y 0 ≡ 0 = omega arith in
-    ap (λ w. bit w x) row ∙ bit-zero x
+returns-clause-empty c = λ none x y h k. c.loop-j.invariant.empty (from_zero c.loop-j.all none) x y h (omega arith)
 
 pub returns-clause-known : goal.returns-clause-known
-returns-clause-known c = λ none.
-    is_zero c.loop-y.all (c.loop-y.invariant.none (λ k below. row_empty c.args.self.now k (omega arith) (omega arith) none))
+returns-clause-known c = λ none. is_zero c.loop-j.all (c.loop-j.invariant.known none)

@@ -1,9 +1,10 @@
-use Rattle.std.proofs.Common.{◌≡◌, ℕ, ◌<◌, ◌≤◌, get_or}
+use Rattle.std.proofs.Common.{◌≡◌, ℕ, ◌<◌, ◌/◌, false}
+use Rattle.bit_tile.specs.Tile.{has, HasCells}
 use Rattle.bit_tile.proofs.Tile.is_empty.Given as goal
 
-abbrev pub invariant-loop-y : goal.invariant-loop-y
-invariant-loop-y l =
+abbrev pub invariant-loop-j : goal.invariant-loop-j
+invariant-loop-j l =
     record {
-      least : (k : ℕ) → k < l.y → get_or l.self.rows k 0 ≤ l.all;
-      none : ((k : ℕ) → k < l.y → get_or l.self.rows k 0 ≡ 0) → l.all ≡ 0;
+      empty : l.all ≡ 0 → (x y : ℕ) → x < 64 → y / 2 < l.j → has l.self x y ≡ false;
+      known : HasCells l.self (λ _ _. false) → l.all ≡ 0;
     }
