@@ -12,12 +12,12 @@ use bit_tile::Tile;
 /// The cells of the eight tiles round a tile that touch it.
 #[derive(Clone, Copy)]
 pub struct Border {
-    /// The row above the tile and the row below it.
-    pub above: u64,
-    pub below: u64,
-    /// For each row from the one above to the one below: the cell to the left of the tile's columns is the lowest bit,
-    /// the cell to their right is the highest.
-    pub sides: [u64; 66],
+    // the row above the tile and the row below it
+    above: u64,
+    below: u64,
+    // for each row from the one above to the one below: the cell to the left of the tile's columns is the lowest bit,
+    // the cell to their right is the highest
+    sides: [u64; 66],
 }
 
 /// The border of a tile that nothing touches.
