@@ -4,6 +4,7 @@ use Rattle.bit_tile.specs.Bit.{bit}
 use Rattle.bit_tile.specs.declared.Tile.{Tile}
 use Rattle.tile_border.specs.Ring.{ring, IsOnRing}
 use Rattle.tile_border.specs.declared.Border.{Border}
+use Rattle.gas_plane.specs.declared.TilePlaces.{TilePlaces}
 use Rattle.gas_terms.specs.Cells.{Cells, has, cells_where, extent, is_size, IsFull}
 
 -- the cells of a lattice: it has a lattice's size, and each cell has a truth value
@@ -18,6 +19,17 @@ pub record IsTileFrom (t : Tile) (cells : Cells) (x0 y0 : ℕ) : Type 0 where
 -- the border has the torus's cells round the 64 by 64 cells from the place (x0, y0) on
 pub record IsRingRound (b : Border) (cells : Cells) (x0 y0 : ℕ) : Type 0 where
   pub cell : (i j : ℕ) → IsOnRing i j → ring b i j ≡ has cells ((x0 + i + cells.width - 1) % cells.width) ((y0 + j + cells.height - 1) % cells.height)
+
+-- the column and the row of tiles that tile i stands in, and those beside them round the torus
+pub record ArePlacesRound (cells : Cells) (i : ℕ) (p : TilePlaces) : Type 0 where
+  pub column : p.column ≡ i % (cells.width / 64)
+  pub row : p.row ≡ i / (cells.width / 64)
+  pub left : p.left ≡ (p.column + cells.width / 64 - 1) % (cells.width / 64)
+  pub right : p.right ≡ (p.column + 1) % (cells.width / 64)
+  pub above : p.above ≡ (p.row + cells.height / 64 - 1) % (cells.height / 64)
+  pub below : p.below ≡ (p.row + 1) % (cells.height / 64)
+  pub columns : (p.column < cells.width / 64) × (p.left < cells.width / 64) × (p.right < cells.width / 64)
+  pub rows : (p.row < cells.height / 64) × (p.above < cells.height / 64) × (p.below < cells.height / 64)
 
 -- none of the 64 by 64 cells from the place (x0, y0) on is in the set
 pub record IsBare (cells : Cells) (x0 y0 : ℕ) : Type 0 where

@@ -7,7 +7,7 @@ ghost use Rattle.bit_tile.specs.Bit.{bit};
 ghost use Rattle.gas_terms.specs.Cells.{Cells, has, cells_where, extent, tile_count, tile_rectangle, Rectangle, is_inside, filled, cleared, lies_within};
 ghost use Rattle.gas_terms.specs.Accounts.{parity_count};
 ghost use Rattle.gas_terms.specs.Rows.{row_has, row_replaced, row_bytes};
-ghost use Rattle.gas_plane.specs.Planes.{IsLattice, IsTileFrom, IsRingRound, IsBare, IsBareRound, IsBareFarRound, AreThreeBare, tile_of, with_tile, with_word, painted_where};
+ghost use Rattle.gas_plane.specs.Planes.{IsLattice, IsTileFrom, IsRingRound, ArePlacesRound, IsBare, IsBareRound, IsBareFarRound, AreThreeBare, tile_of, with_tile, with_word, painted_where};
 ghost use Rattle.gas_plane.specs.Lending.{LendsTile};
 ghost use Rattle.bit_tile.specs.Tile.{HasCells, count_cells};
 ghost use Rattle.tile_border.specs.Ring.{IsBorderOf};
@@ -207,23 +207,35 @@ impl Plane {
         requires { i < tile_count self.now }
         ensures { let r = tile_rectangle self.now i in (b : RingCells) → IsBorderOf b result.above.now result.below.now result.left.now result.right.now result.above_left.now result.above_right.now result.below_left.now result.below_right.now → IsRingRound b self.now r.x r.y }
     {
-        let across = self.across();
-        let down = self.down();
-        let column = i % across;
-        let row = i / across;
-        let left = before(column, across);
-        let right = after(column, across);
-        let above = before(row, down);
-        let below = after(row, down);
+        let p = self.places(i);
         Round {
-            above: self.tile_in(column, above),
-            below: self.tile_in(column, below),
-            left: self.tile_in(left, row),
-            right: self.tile_in(right, row),
-            above_left: self.tile_in(left, above),
-            above_right: self.tile_in(right, above),
-            below_left: self.tile_in(left, below),
-            below_right: self.tile_in(right, below),
+            above: self.tile_in(p.column, p.above),
+            below: self.tile_in(p.column, p.below),
+            left: self.tile_in(p.left, p.row),
+            right: self.tile_in(p.right, p.row),
+            above_left: self.tile_in(p.left, p.above),
+            above_right: self.tile_in(p.right, p.above),
+            below_left: self.tile_in(p.left, p.below),
+            below_right: self.tile_in(p.right, p.below),
+        }
+    }
+
+    /// The same cells as `round`'s. Those of a tile that has none are read from the empty tile that all planes share.
+    #[inline]
+    pub fn round_or_bare(&self, i: u32) -> Round<'_>
+        requires { i < tile_count self.now }
+        ensures { let r = tile_rectangle self.now i in (b : RingCells) → IsBorderOf b result.above.now result.below.now result.left.now result.right.now result.above_left.now result.above_right.now result.below_left.now result.below_right.now → IsRingRound b self.now r.x r.y }
+    {
+        let p = self.places(i);
+        Round {
+            above: self.tile_in_or_bare(p.column, p.above),
+            below: self.tile_in_or_bare(p.column, p.below),
+            left: self.tile_in_or_bare(p.left, p.row),
+            right: self.tile_in_or_bare(p.right, p.row),
+            above_left: self.tile_in_or_bare(p.left, p.above),
+            above_right: self.tile_in_or_bare(p.right, p.above),
+            below_left: self.tile_in_or_bare(p.left, p.below),
+            below_right: self.tile_in_or_bare(p.right, p.below),
         }
     }
 
@@ -232,21 +244,9 @@ impl Plane {
         requires { i < tile_count self.now }
         ensures { let r = tile_rectangle self.now i in IsRingRound result self.now r.x r.y }
     {
-        let mut room = NO_BORDER;
-        *self.border_in(i, &mut room)
-    }
-
-    /// The cells round tile i, in room that is lent if there may be any: quicker than a border of its own for each tile.
-    #[inline]
-    pub fn border_in<'a>(&self, i: u32, room: &'a mut Border) -> &'a Border
-        requires { i < tile_count self.now }
-        ensures { let r = tile_rectangle self.now i in IsRingRound result.now self.now r.x r.y }
-    {
-        if self.is_bare_round(i) {
-            return &NO_BORDER;
-        }
-        room.surround(&self.round(i));
-        room
+        let mut border = NO_BORDER;
+        border.surround(&self.round_or_bare(i));
+        border
     }
 
     /// Puts in the cells of the rectangle.
@@ -402,6 +402,37 @@ impl Plane {
         (self.size.height() / 64) as u32
     }
 
+    // where tile i and those round it stand
+    #[inline]
+    fn places(&self, i: u32) -> TilePlaces
+        requires { i < tile_count self.now }
+        ensures places { ArePlacesRound self.now i result }
+        ensures lattice { IsLattice self.now }
+    {
+        let across = self.across();
+        let down = self.down();
+        let column = i % across;
+        let row = i / across;
+        TilePlaces {
+            left: before(column, across),
+            column,
+            right: after(column, across),
+            above: before(row, down),
+            row,
+            below: after(row, down),
+        }
+    }
+
+    // the tile in this column and row of tiles, or where it has no cell the one that all planes share
+    #[inline]
+    fn tile_in_or_bare(&self, column: u32, row: u32) -> &Tile
+        requires column { column < self.now.width / 64 }
+        requires row { row < self.now.height / 64 }
+        ensures { IsTileFrom result.now self.now (column * 64) (row * 64) }
+    {
+        self.tile_or_bare(row * self.across() + column)
+    }
+
     fn tile_in(&self, column: u32, row: u32) -> &Tile
         requires column { column < self.now.width / 64 }
         requires row { row < self.now.height / 64 }
@@ -410,6 +441,17 @@ impl Plane {
         let across = self.size.width() as usize / 64;
         &self.tiles[row as usize * across + column as usize]
     }
+}
+
+// the column and the row of tiles that a tile stands in, and those beside them round the torus
+#[derive(Clone, Copy)]
+struct TilePlaces {
+    left: u32,
+    column: u32,
+    right: u32,
+    above: u32,
+    row: u32,
+    below: u32,
 }
 
 // of n places of 64 cells each, the first that `len` cells from `start` on meet, and the first after them

@@ -102,20 +102,6 @@ fn has_borders_round_the_torus(rt: HostRuntime) {
 }
 
 #[test]
-fn reads_tiles_and_borders_that_may_be_bare(rt: HostRuntime) {
-    let size = Size::new(256, 64).expect(&rt, "a size");
-    let mut plane = Plane::empty(rt.alloc(), size).expect(&rt, "memory");
-    plane.fill(area(&rt, &plane, 63, 5, 1, 1));
-    assert!(rt; plane.size().tiles() == 4);
-    assert!(rt; plane.tile_or_bare(0).get(63, 5) && !plane.tile_or_bare(1).get(63, 5));
-    let mut room = plane.border(0);
-    assert!(rt; plane.border_in(1, &mut room).cell(-1, 5));
-    // nothing is round the third tile, and the first touches the fourth with another column
-    assert!(rt; !plane.border_in(2, &mut room).cell(-1, 5));
-    assert!(rt; !plane.border_in(3, &mut room).cell(64, 5));
-}
-
-#[test]
 fn replaces_a_tile(rt: HostRuntime) {
     let mut plane = four_tiles(&rt);
     plane.fill(area(&rt, &plane, 0, 0, 128, 128));
@@ -218,6 +204,35 @@ fn assert_bare(rt: &impl Abort, plane: &Plane, name: &str) {
             "{name}, tile {i}"
         );
     }
+}
+
+#[test]
+fn reads_what_is_round_a_tile(rt: HostRuntime) {
+    let mut plane = five_by_five(&rt);
+    assert!(rt; plane.size().tiles() == 25);
+    assert!(rt; plane.tile_or_bare(0).get(5, 5) && !plane.tile_or_bare(1).get(5, 5));
+    // the tile that has tile 0 in each of the eight places
+    for i in 0..25u32 {
+        assert!(rt; plane.size().tiles() == 25);
+        let round = plane.round_or_bare(i);
+        for (tile, at) in [
+            (round.above, 5),
+            (round.below, 20),
+            (round.left, 1),
+            (round.right, 4),
+            (round.above_left, 6),
+            (round.above_right, 9),
+            (round.below_left, 21),
+            (round.below_right, 24),
+        ] {
+            assert_eq!(rt; tile.get(5, 5), i == at, "round {i}");
+            assert_eq!(rt; tile.is_empty(), i != at, "round {i}");
+        }
+    }
+    assert!(rt; plane.size().tiles() == 25);
+    plane.tile_mut(12).set(63, 0, true);
+    assert!(rt; plane.size().tiles() == 25);
+    assert!(rt; plane.round_or_bare(13).left.get(63, 0) && plane.border(13).cell(-1, 0));
 }
 
 #[test]

@@ -12,12 +12,12 @@ use bit_tile::Tile;
 /// The cells of the eight tiles round a tile that touch it.
 #[derive(Clone, Copy)]
 pub struct Border {
-    /// The row above the tile and the row below it.
-    pub above: u64,
-    pub below: u64,
-    /// For each row from the one above to the one below: the cell to the left of the tile's columns is the lowest bit,
-    /// the cell to their right is the highest.
-    pub sides: [u64; 66],
+    // the row above the tile and the row below it
+    above: u64,
+    below: u64,
+    // for each row from the one above to the one below: the cell to the left of the tile's columns is the lowest bit,
+    // the cell to their right is the highest
+    sides: [u64; 66],
 }
 
 /// The border of a tile that nothing touches.
@@ -78,6 +78,42 @@ impl Border {
         sides[65] = side(near.below_left.row(0), near.below_right.row(0));
         self.above = near.above.row(63);
         self.below = near.below.row(0);
+    }
+
+    /// Eight tiles that touch a tile with this border, 64 by 64 cells each: they have its cells and no others.
+    pub fn neighbors(&self) -> Neighbors
+        ensures { IsBorderOf self.now result.above result.below result.left result.right result.above_left result.above_right result.below_left result.below_right }
+    {
+        let mut above = Tile::empty();
+        above.set_row(63, self.above);
+        let mut below = Tile::empty();
+        below.set_row(0, self.below);
+        let (left, right) = self.beside();
+        Neighbors {
+            above,
+            below,
+            left,
+            right,
+            above_left: one_cell(63, 63, self.at(0, 0)),
+            above_right: one_cell(0, 63, self.at(65, 0)),
+            below_left: one_cell(63, 0, self.at(0, 65)),
+            below_right: one_cell(0, 0, self.at(65, 65)),
+        }
+    }
+
+    // the tile on the left and the one on the right
+    fn beside(&self) -> (Tile, Tile)
+        ensures left { (y : ℕ) → y < 64 → ring self.now 0 (y + 1) ≡ has result.0 63 y }
+        ensures right { (y : ℕ) → y < 64 → ring self.now 65 (y + 1) ≡ has result.1 0 y }
+    {
+        let mut left = Tile::empty();
+        let mut right = Tile::empty();
+        for y in 0..64usize {
+            let side = self.sides[y + 1];
+            left.set_row(y, side << 63);
+            right.set_row(y, side >> 63);
+        }
+        (left, right)
     }
 
     /// The cell that is dx columns and dy rows from the tile's first.
@@ -147,6 +183,55 @@ impl<'a> Round<'a> {
     {
         side(self.below_left.row(0), self.below_right.row(0))
     }
+}
+
+/// Eight tiles round a tile that are there for its border alone.
+#[derive(Clone, Copy)]
+pub struct Neighbors {
+    above: Tile,
+    below: Tile,
+    left: Tile,
+    right: Tile,
+    above_left: Tile,
+    above_right: Tile,
+    below_left: Tile,
+    below_right: Tile,
+}
+
+impl Neighbors {
+    /// Lends the eight tiles.
+    pub fn round(&self) -> Round<'_>
+        ensures above { result.above.now ≡ self.now.above }
+        ensures below { result.below.now ≡ self.now.below }
+        ensures left { result.left.now ≡ self.now.left }
+        ensures right { result.right.now ≡ self.now.right }
+        ensures above_left { result.above_left.now ≡ self.now.above_left }
+        ensures above_right { result.above_right.now ≡ self.now.above_right }
+        ensures below_left { result.below_left.now ≡ self.now.below_left }
+        ensures below_right { result.below_right.now ≡ self.now.below_right }
+    {
+        Round {
+            above: &self.above,
+            below: &self.below,
+            left: &self.left,
+            right: &self.right,
+            above_left: &self.above_left,
+            above_right: &self.above_right,
+            below_left: &self.below_left,
+            below_right: &self.below_right,
+        }
+    }
+}
+
+// a tile with the cell in column x of row y, or without cells
+fn one_cell(x: u32, y: u32, held: bool) -> Tile
+    requires x { x < 64 }
+    requires y { y < 64 }
+    ensures { held ≡ has result x y }
+{
+    let mut tile = Tile::empty();
+    tile.set(x, y, held);
+    tile
 }
 
 // the last cell of one row and the first of another, as the lowest and the highest bit

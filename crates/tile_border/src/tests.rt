@@ -97,3 +97,61 @@ fn what_stood_in_a_border_is_overwritten(rt: HostRuntime) {
     assert!(rt; !border.cell(5, 64) && !border.cell(64, 7) && !border.cell(-1, -1));
     assert!(rt; !border.cell(6, -1) && !border.cell(-1, 8) && !border.cell(64, -1));
 }
+
+#[test]
+fn a_border_has_neighbors(rt: HostRuntime) {
+    let none = Tile::empty();
+    let above = Tile::rect(5, 60, 2, 4);
+    let left = Tile::rect(60, 7, 4, 3);
+    let right = Tile::rect(0, 8, 1, 2);
+    let below_left = Tile::rect(60, 0, 4, 4);
+    let border = Border::of(
+        &above,
+        &none,
+        &left,
+        &right,
+        &none,
+        &none,
+        &below_left,
+        &none,
+    );
+    let neighbors = border.neighbors();
+    let round = neighbors.round();
+
+    // what touches the tile is there
+    assert!(rt; round.above.get(5, 63) && round.above.get(6, 63));
+    assert!(rt; round.left.get(63, 7) && round.left.get(63, 8) && round.left.get(63, 9));
+    assert!(rt; round.right.get(0, 8) && round.right.get(0, 9) && round.below_left.get(63, 0));
+    // and nothing else
+    assert!(rt; round.above.count() == 2 && round.left.count() == 3 && round.right.count() == 2);
+    assert!(rt; round.below_left.count() == 1 && round.below.is_empty());
+    assert!(rt; round.above_left.is_empty() && round.above_right.is_empty());
+    assert!(rt; round.below_right.is_empty());
+}
+
+#[test]
+fn each_neighbor_has_its_own_cells(rt: HostRuntime) {
+    let none = Tile::empty();
+    let below = Tile::rect(9, 0, 1, 1);
+    let upper_left = Tile::rect(0, 0, 1, 1);
+    let lower_left = Tile::rect(0, 63, 1, 1);
+    let lower_right = Tile::rect(63, 63, 1, 1);
+    let border = Border::of(
+        &none,
+        &below,
+        &none,
+        &none,
+        &lower_right,
+        &lower_left,
+        &none,
+        &upper_left,
+    );
+    let neighbors = border.neighbors();
+    let round = neighbors.round();
+    assert!(rt; round.below.get(9, 0) && round.below.count() == 1);
+    assert!(rt; round.above_left.get(63, 63) && round.above_left.count() == 1);
+    assert!(rt; round.above_right.get(0, 63) && round.above_right.count() == 1);
+    assert!(rt; round.below_right.get(0, 0) && round.below_right.count() == 1);
+    assert!(rt; round.above.is_empty() && round.below_left.is_empty());
+    assert!(rt; round.left.is_empty() && round.right.is_empty());
+}
