@@ -1,5 +1,4 @@
-use Rattle.std.proofs.Common.{rules, ◌<◌, length, get_or, map, take, subst}
-use Rattle.bit_tile.specs.Tile.{no_cells}
+use Rattle.std.proofs.Common.{rules, ◌<◌, [], length, get_or, map, take, subst}
 use Rattle.gas_plane.specs.Planes.{with_tile}
 use Rattle.claim_desk.specs.Draws.{times}
 use Rattle.phase_team.specs.declared.worker.Turned.{Turned}
@@ -10,7 +9,7 @@ pub tile_mut-requires : goal.tile_mut-requires
 tile_mut-requires c =
     let task = c.args.task in
     let j = c.loop-place.place-index in
-    let d : Turned = record { place = 0; tile = no_cells } in
+    let d : Turned = record { place = 0; tile = record { even_even = []; odd_even = []; even_odd = []; odd_odd = [] } } in
     let less : j < length c.args.turned.now = search rules in
     within_as task.parity task.old.now task.walls.now task.obstacles.now c.loop-place.out (get_or c.args.turned.now j d).place c.loop-place.invariant.sides (c.requires.right j d less).0
 
@@ -20,7 +19,7 @@ loop-place-preserved c =
     let was = c.loop-place.invariant in
     let out = c.loop-place.out in
     let j = c.loop-place.place-index in
-    let d : Turned = record { place = 0; tile = no_cells } in
+    let d : Turned = record { place = 0; tile = record { even_even = []; odd_even = []; even_odd = []; odd_odd = [] } } in
     let less : j < length c.args.turned.now = search rules in
     let t : Turned = get_or c.args.turned.now j d in
     let right = c.requires.right j d less in
