@@ -84,7 +84,16 @@ fn no_border() -> Border {
 }
 
 fn has_just(tile: &Tile, cells: &[(u32, u32)]) -> bool {
-    tile.rows == tile_of(cells).rows
+    tile.has_same_cells(&tile_of(cells))
+}
+
+// the tile with this border after the rule at an odd tick, without walls
+fn turned_odd(old: &Tile, border: &Border) -> Tile {
+    let near = border.neighbors();
+    let particles = window_of(old, &near);
+    let mut out = Tile::full();
+    let _ = turn_tile_odd(&particles, None, None, &mut out);
+    out
 }
 
 #[test]
@@ -93,20 +102,20 @@ fn particles_cross_their_blocks(rt: HostRuntime) {
     let old = tile_of([(0, 0), (10, 10), (11, 11), (63, 62)].as_slice());
     // a lone particle crosses its block, and a pair that meets head on turns
     let even = [(1, 1), (11, 10), (10, 11), (62, 63)].as_slice();
-    let mut out = Tile::rect(0, 0, 64, 64);
-    turn_free_tile_even(&old, &mut out);
+    let mut out = Tile::full();
+    let took = turn_tile_even(&old, None, None, &mut out);
     assert!(rt; has_just(&out, even));
-    let mut again = Tile::rect(0, 0, 64, 64);
-    let took = turn_tile_even(&old, &none, &none, &mut again);
+    assert_eq!(rt; took, NOTHING);
+    let mut again = Tile::full();
+    let took = turn_tile_even(&old, Some(&none), Some(&none), &mut again);
     assert!(rt; has_just(&again, even));
     assert_eq!(rt; took, NOTHING);
 
     // at odd parity (10, 10) and (11, 11) are in blocks of their own, and (0, 0) and (63, 62) leave the tile
     let odd = [(9, 9), (12, 12)].as_slice();
-    turn_free_tile_odd(&old, &no_border(), &mut out);
-    assert!(rt; has_just(&out, odd));
+    assert!(rt; has_just(&turned_odd(&old, &no_border()), odd));
     let border = no_border();
-    let took = turn_tile_odd(&old, &border, &none, &border, &none, &border, &mut again);
+    let (again, took) = turn_tile(&old, &border, &none, &border, &none, &border, 1);
     assert!(rt; has_just(&again, odd));
     assert_eq!(rt; took, NOTHING);
 }
@@ -117,21 +126,65 @@ fn particles_come_in_over_the_corners(rt: HostRuntime) {
     let corner = tile_of([(63, 63)].as_slice());
     let first = tile_of([(0, 0)].as_slice());
     let last = tile_of([(63, 63)].as_slice());
-    let mut out = Tile::empty();
 
     // from the tile above to the left, and from the tile below to the right
-    turn_free_tile_odd(&none, &border_of(&none, &none, &corner, &first), &mut out);
+    let out = turned_odd(&none, &border_of(&none, &none, &corner, &first));
     assert!(rt; has_just(&out, [(0, 0), (63, 63)].as_slice()));
 
     // a head-on pair across the corner goes to the tiles above and to the left
-    turn_free_tile_odd(&first, &border_of(&none, &none, &corner, &none), &mut out);
+    let out = turned_odd(&first, &border_of(&none, &none, &corner, &none));
     assert!(rt; has_just(&out, [].as_slice()));
 
     // and a pair of those tiles comes to the corner
     let above = tile_of([(0, 63)].as_slice());
     let left = tile_of([(63, 0)].as_slice());
-    turn_free_tile_odd(&last, &border_of(&above, &left, &none, &none), &mut out);
+    let out = turned_odd(&last, &border_of(&above, &left, &none, &none));
     assert!(rt; has_just(&out, [(0, 0)].as_slice()));
+}
+
+// the cells of a block that begins at (x, y)
+fn cells_at(cells: u8, x: u32, y: u32) -> Tile {
+    let [upper_left, upper_right, lower_left, lower_right] = block(cells);
+    let mut tile = Tile::empty();
+    if x < 63 && y < 63 {
+        tile.set(x, y, upper_left);
+        tile.set(x + 1, y, upper_right);
+        tile.set(x, y + 1, lower_left);
+        tile.set(x + 1, y + 1, lower_right);
+    }
+    tile
+}
+
+/// All 16 states of a block, in the first, an inner and the last row of blocks and in the first, an inner and the last
+/// place of a row, with a wall in each of the block's corners and without.
+#[test]
+fn sixteen_states_walled_and_not(rt: HostRuntime) {
+    let border = no_border();
+    let none = Tile::empty();
+    for (parity, x, y) in [
+        (0u8, 0u32, 0u32),
+        (0, 62, 0),
+        (0, 30, 32),
+        (0, 62, 62),
+        (1, 1, 1),
+        (1, 61, 1),
+        (1, 31, 33),
+        (1, 61, 61),
+    ] {
+        for (old, new) in TABLE {
+            let tile = cells_at(old, x, y);
+            let (out, took) = turn_tile(&tile, &border, &none, &border, &none, &border, parity);
+            assert!(rt; out.has_same_cells(&cells_at(new, x, y)));
+            assert_eq!(rt; took, NOTHING);
+            for wall in [0b1000, 0b0100, 0b0010, 0b0001] {
+                let walls = cells_at(wall, x, y);
+                let (out, _) = turn_tile(&tile, &border, &walls, &border, &none, &border, parity);
+                assert!(rt; out.has_same_cells(&tile));
+                let (out, _) = turn_tile(&tile, &border, &none, &border, &walls, &border, parity);
+                assert!(rt; out.has_same_cells(&tile));
+            }
+        }
+    }
 }
 
 // What is taken of a particle at (0, 0), with another at (-1, -1), at odd parity: the cell (-1, 0) of the left tile is

@@ -47,7 +47,6 @@ fn first_tile(
     old: &Plane,
     walls: &Plane,
     obstacles: &Plane,
-
     out: &mut gas_plane::Tile,
 ) -> Took {
     let size = old.size();
@@ -98,7 +97,7 @@ fn wall_across_tiles_books_once(rt: HostRuntime) {
 }
 
 #[test]
-fn the_room_may_hold_borders_of_others(rt: HostRuntime) {
+fn first_tile_by_itself(rt: HostRuntime) {
     let nothing = Pair { x: 0, y: 0 };
     // at an odd tick a particle at (63, 63) goes to the right and down
     let twice = Pair { x: 2, y: 2 };
@@ -106,10 +105,9 @@ fn the_room_may_hold_borders_of_others(rt: HostRuntime) {
     let none = plane(&rt, 128, 128, &[]);
     let corner = plane(&rt, 128, 128, &[(64, 64)]);
     let apart = plane(&rt, 128, 128, &[(5, 5)]);
-    let mut room = NO_BORDERS;
     for (walls, by_walls, stays) in [(&corner, twice, true), (&apart, nothing, false)] {
         let mut out = gas_plane::Tile::rect(0, 0, 64, 64);
-        let took = first_tile(&rt, &old, walls, &none, &mut room, &mut out);
+        let took = first_tile(&rt, &old, walls, &none, &mut out);
         assert!(rt; out.get(63, 63) == stays && !out.get(5, 5));
         assert!(rt; took.walls == by_walls && took.obstacles == nothing);
     }

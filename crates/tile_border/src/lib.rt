@@ -142,7 +142,7 @@ impl Border {
     }
 }
 
-/// The eight tiles round a tile, to read the cells of its border from where they stand.
+/// The eight tiles round a tile.
 #[derive(Clone, Copy)]
 pub struct Round<'a> {
     pub above: &'a Tile,
@@ -153,36 +153,6 @@ pub struct Round<'a> {
     pub above_right: &'a Tile,
     pub below_left: &'a Tile,
     pub below_right: &'a Tile,
-}
-
-impl<'a> Round<'a> {
-    ghost use Rattle.tile_border.specs.Ring.{IsBorderOf, HasEndsOf};
-    ghost use Rattle.tile_border.specs.declared.Border.{Border as RingCells};
-
-    /// The cells beside row y, as a border's sides have them.
-    #[inline]
-    pub fn side(&self, y: usize) -> u64
-        requires { y < 64 }
-        ensures { (b : RingCells) → IsBorderOf b self.now.above.now self.now.below.now self.now.left.now self.now.right.now self.now.above_left.now self.now.above_right.now self.now.below_left.now self.now.below_right.now → HasEndsOf result (slice_index b.sides (y + 1)) }
-    {
-        side(self.left.row(y), self.right.row(y))
-    }
-
-    /// The cells beside the row above the tile.
-    #[inline]
-    pub fn side_above(&self) -> u64
-        ensures { (b : RingCells) → IsBorderOf b self.now.above.now self.now.below.now self.now.left.now self.now.right.now self.now.above_left.now self.now.above_right.now self.now.below_left.now self.now.below_right.now → HasEndsOf result (slice_index b.sides 0) }
-    {
-        side(self.above_left.row(63), self.above_right.row(63))
-    }
-
-    /// The cells beside the row below the tile.
-    #[inline]
-    pub fn side_below(&self) -> u64
-        ensures { (b : RingCells) → IsBorderOf b self.now.above.now self.now.below.now self.now.left.now self.now.right.now self.now.above_left.now self.now.above_right.now self.now.below_left.now self.now.below_right.now → HasEndsOf result (slice_index b.sides 65) }
-    {
-        side(self.below_left.row(0), self.below_right.row(0))
-    }
 }
 
 /// Eight tiles round a tile that are there for its border alone.
