@@ -16,17 +16,18 @@ use Rattle.bit_tile.proofs.Sums.{ones_are_bits, sum_below-more, sum_below-same, 
 use Rattle.bit_tile.proofs.Counts.{class_count}
 use Rattle.bit_tile.proofs.Classes.{IsClass}
 use Rattle.gas_terms.specs.declared.accounts.Pair.{Pair}
-use Rattle.block_rule.specs.Around.{turned, none, either, is_walled_at, twice_momentum}
+use Rattle.block_rule.specs.Around.{turned, none, either, is_walled_at, twice_momentum, taken}
 use Rattle.block_rule.specs.Cell.{turned_cell, made}
 use Rattle.block_rule.specs.Classes.{class, AreCounts}
 use Rattle.block_rule.specs.Rows.{ShowsTile}
-use Rattle.block_rule.specs.Lent.{HasPlaces, IsEmpty, IsSeenInside, IsSeenIn, IsSeen}
+use Rattle.block_rule.specs.Lent.{IsEmpty, IsSeenInside, IsSeenIn, IsSeen}
 use Rattle.block_rule.specs.declared.Window.{Window}
 use Rattle.std.specs.Borrow.{Bor}
 use Rattle.block_rule.specs.declared.held.Classes.{Classes}
 use Rattle.block_rule.proofs.Around.{turned_by_cells, walled_from, walled_by_cells}
 use Rattle.block_rule.proofs.Blank.{walled_either}
-use Rattle.block_rule.proofs.Took.{pair_same, right_count, left_count, down_count, up_count}
+use Rattle.gas_terms.specs.declared.accounts.Took.{Took}
+use Rattle.block_rule.proofs.Took.{pair, twice_momentum-same, twice_momentum-none, pair_same, accounts_same, right_count, left_count, down_count, up_count}
 
 pub and_false : (a b : Bool) → b ≡ false → (a && b) ≡ false
 and_false true b e = e
@@ -135,13 +136,6 @@ pub joined_tests : (t w o : Bool) → (t && (w && not o)) ≡ (t && w && not o)
 joined_tests true w o = refl
 joined_tests false w o = refl
 
--- the places, by what there is of them
-pub places_of : (places : Option Tile) (t : Tile) (test : ℕ → ℕ → Bool) → places ≡ Some t → HasPlaces places test → HasCells t test
-places_of places t test e is = subst (λ places. HasPlaces places test) e is
-
-pub no_places : (places : Option Tile) (test : ℕ → ℕ → Bool) → places ≡ None → HasPlaces places test → (x y : ℕ) → x < 64 → y < 64 → test x y ≡ false
-no_places places test e is = subst (λ places. HasPlaces places test) e is
-
 none_of_four : (a b c d : Bool) → a ≡ false → b ≡ false → c ≡ false → d ≡ false → (a || b || c || d) ≡ false
 none_of_four a b c d e f g h = rw (e, f, g, h)
 
@@ -164,3 +158,65 @@ nothing_inside set window e seen = subst (λ set. IsSeenInside set window) e see
 
 pub nothing_seen : (set : Option Window) (window : ℕ → ℕ → Bool) → set ≡ None → IsSeen set window → IsEmpty window
 nothing_seen set window e seen = subst (λ set. IsSeen set window) e seen
+
+-- what is put back, and what it gives, by the places of one set
+pub held_at : (p : ℕ) (tile before out places : Tile) (walled : ℕ → ℕ → Bool) → HasCells places (λ x y. walled_from p walled x y) → HasCells out (λ x y. if has places x y then has tile x y else has before x y)
+    → HasCells out (λ x y. if is_walled_at p walled x y then has tile x y else has before x y)
+held_at p tile before out places walled is_places is_out x y h k =
+    is_out x y h k ∙ ap (λ b. if b then has tile x y else has before x y) (walled_places p places walled is_places x y h k)
+
+pub took_at : (p : ℕ) (tile places : Tile) (walled : ℕ → ℕ → Bool) → HasCells places (λ x y. walled_from p walled x y) → twice_momentum p (λ x y. has tile x y && has places x y) ≡ twice_momentum p (λ x y. has tile x y && is_walled_at p walled x y)
+took_at p tile places walled is_places = twice_momentum-same p _ _ (λ x y h k. ap (λ b. has tile x y && b) (walled_places p places walled is_places x y h k))
+
+-- the same with the places of two sets
+module _ (p : ℕ) (tile before first out walls left others : Tile) (walled obstructed : ℕ → ℕ → Bool) (is_walls : HasCells walls (λ x y. walled_from p walled x y)) (is_others : HasCells others (λ x y. walled_from p obstructed x y)) (is_left : HasCells left (λ x y. has walls x y && not (has others x y))) where
+  left_is : HasCells left (λ x y. is_walled_at p walled x y && not (is_walled_at p obstructed x y))
+  left_is x y h k = is_left x y h k ∙ ap₂ (λ a b. a && not b) (walled_places p walls walled is_walls x y h k) (walled_places p others obstructed is_others x y h k)
+
+  pub both_held : HasCells first (λ x y. if has left x y then has tile x y else has before x y) → HasCells out (λ x y. if has others x y then has tile x y else has first x y)
+      → HasCells out (λ x y. if is_walled_at p walled x y || is_walled_at p obstructed x y then has tile x y else has before x y)
+  both_held is_first is_out x y h k =
+      held_twice (is_walled_at p walled x y) (is_walled_at p obstructed x y) (has tile x y) _ _ _
+      (is_first x y h k ∙ ap (λ b. if b then has tile x y else has before x y) (left_is x y h k))
+      (is_out x y h k ∙ ap (λ b. if b then has tile x y else has first x y) (walled_places p others obstructed is_others x y h k))
+
+  pub both_took : (a b : Pair) → a ≡ twice_momentum p (λ x y. has tile x y && has left x y) → b ≡ twice_momentum p (λ x y. has tile x y && has others x y) → (let r : Took = record { walls = a; obstacles = b } in r) ≡ taken p tile walled obstructed
+  both_took a b of_walls of_others =
+      accounts_same _ _ _ _
+      (of_walls ∙ twice_momentum-same p _ _ (λ x y h k. ap (λ b. has tile x y && b) (left_is x y h k) ∙ joined_tests (has tile x y) (is_walled_at p walled x y) (is_walled_at p obstructed x y)))
+      (of_others ∙ took_at p tile others obstructed is_others)
+
+-- where one of the sets, or each, is not lent
+kept_of : (w : Bool) (t f : Bool) → w ≡ false → f ≡ (if w then t else f)
+kept_of true t f e = cc
+kept_of false t f e = refl
+
+or_no : (a b : Bool) → b ≡ false → (a || b) ≡ a
+or_no true b e = refl
+or_no false b e = e
+
+and_no : (t w o : Bool) → o ≡ false → (t && w) ≡ (t && w && not o)
+and_no true true o e = rw e
+and_no true false o e = refl
+and_no false w o e = refl
+
+module _ (p : ℕ) (tile before out : Tile) (walled obstructed : ℕ → ℕ → Bool) where
+  pub none_held : IsEmpty walled → IsEmpty obstructed → HasCells before (λ x y. if is_walled_at p walled x y || is_walled_at p obstructed x y then has tile x y else has before x y)
+  none_held w o x y h k = kept_of _ (has tile x y) (has before x y) (ap₂ (λ a b. a || b) (nothing_walled p walled w x y) (nothing_walled p obstructed o x y))
+
+  pub walls_held : IsEmpty obstructed → HasCells out (λ x y. if is_walled_at p walled x y then has tile x y else has before x y)
+      → HasCells out (λ x y. if is_walled_at p walled x y || is_walled_at p obstructed x y then has tile x y else has before x y)
+  walls_held o is x y h k = is x y h k ∙ ap (λ b. if b then has tile x y else has before x y) (sym (or_no (is_walled_at p walled x y) (is_walled_at p obstructed x y) (nothing_walled p obstructed o x y)))
+
+  pub obstacles_held : IsEmpty walled → HasCells out (λ x y. if is_walled_at p obstructed x y then has tile x y else has before x y)
+      → HasCells out (λ x y. if is_walled_at p walled x y || is_walled_at p obstructed x y then has tile x y else has before x y)
+  obstacles_held w is x y h k = is x y h k ∙ ap (λ b. if b || is_walled_at p obstructed x y then has tile x y else has before x y) (sym (nothing_walled p walled w x y))
+
+  pub no_walls_took : IsEmpty walled → pair (pos 0) (pos 0) ≡ twice_momentum p (λ x y. has tile x y && is_walled_at p walled x y && not (is_walled_at p obstructed x y))
+  no_walls_took w = twice_momentum-none p _ (λ x y h k. ap (λ b. b && not (is_walled_at p obstructed x y)) (and_false (has tile x y) (is_walled_at p walled x y) (nothing_walled p walled w x y)))
+
+  pub no_obstacles_took : IsEmpty obstructed → pair (pos 0) (pos 0) ≡ twice_momentum p (λ x y. has tile x y && is_walled_at p obstructed x y)
+  no_obstacles_took o = twice_momentum-none p _ (λ x y h k. and_false (has tile x y) (is_walled_at p obstructed x y) (nothing_walled p obstructed o x y))
+
+  pub walls_took : IsEmpty obstructed → twice_momentum p (λ x y. has tile x y && is_walled_at p walled x y) ≡ twice_momentum p (λ x y. has tile x y && is_walled_at p walled x y && not (is_walled_at p obstructed x y))
+  walls_took o = twice_momentum-same p _ _ (λ x y h k. and_no (has tile x y) (is_walled_at p walled x y) (is_walled_at p obstructed x y) (nothing_walled p obstructed o x y))

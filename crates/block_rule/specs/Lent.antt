@@ -1,13 +1,8 @@
-use Rattle.std.specs.Prelude.{◌≡◌, ◌+◌, ◌<◌, ℕ, Bool, false, Option, MatchOption}
+use Rattle.std.specs.Prelude.{◌≡◌, ℕ, Bool, false, Option, MatchOption}
 use Rattle.std.specs.Borrow.{Bor}
-use Rattle.bit_tile.specs.Tile.{HasCells}
 use Rattle.bit_tile.specs.declared.Tile.{Tile}
 use Rattle.block_rule.specs.Rows.{ShowsTile, ShowsRound}
 use Rattle.block_rule.specs.declared.Window.{Window}
-
--- the places, where there are any, are those of the tile that pass the test
-abbrev pub HasPlaces : Option Tile → (ℕ → ℕ → Bool) → Type 0
-HasPlaces places test = MatchOption places ((x y : ℕ) → x < 64 → y < 64 → test x y ≡ false) (λ t. HasCells t test)
 
 -- a set without cells need not be lent
 abbrev pub IsEmpty : (ℕ → ℕ → Bool) → Type 0

@@ -9,7 +9,7 @@ ghost use Rattle.block_rule.specs.Around.{around, turned, either, is_walled_at, 
 ghost use Rattle.block_rule.specs.Rows.{ShowsTile};
 ghost use Rattle.tile_border.specs.Ring.{IsBorderOf};
 ghost use Rattle.tile_border.specs.declared.Border.{Border as BorderValue};
-ghost use Rattle.block_rule.specs.Lent.{HasPlaces, IsSeenInside, IsSeenIn, IsSeen};
+ghost use Rattle.block_rule.specs.Lent.{IsSeenInside, IsSeenIn, IsSeen};
 
 mod blocks;
 mod held;
@@ -45,81 +45,67 @@ pub struct Window<'a> {
     pub round: Round<'a>,
 }
 
-// The cells of the tile that are in blocks with a cell of the set, where blocks begin at even columns and rows.
-fn places_even(set: Option<&Tile>) -> Option<Tile>
-    ensures { (window : ℕ → ℕ → Bool) → IsSeenInside set.entry window → HasPlaces result (is_walled_at 0 window) }
+// What nobody takes.
+const NOTHING: Pair = Pair { x: 0, y: 0 };
+
+// In a tile that was turned as if there were no walls, puts back what stood in blocks with a cell of the set. Blocks begin
+// at even columns and rows.
+fn hold_even(tile: &Tile, set: &Tile, out: &mut Tile) -> Pair
+    ensures cells { (walled : ℕ → ℕ → Bool) → ShowsTile walled set.now →
+        HasCells out.new (λ x y. if is_walled_at 0 walled x y then has tile.now x y else has out.old x y) }
+    ensures took { (walled : ℕ → ℕ → Bool) → ShowsTile walled set.now →
+        result ≡ twice_momentum 0 (λ x y. has tile.now x y && is_walled_at 0 walled x y) }
 {
-    match set {
-        Some(set) => {
-            let mut places = Tile::empty();
-            make_even(AnyCorner, set, &mut places);
-            Some(places)
-        }
-        None => None,
-    }
+    let mut places = Tile::empty();
+    make_even(AnyCorner, set, &mut places);
+    hold(tile, &places, 0, out)
 }
 
-// The same where they begin at odd ones.
-fn places_odd(set: Option<Window<'_>>) -> Option<Tile>
-    ensures { (window : ℕ → ℕ → Bool) → IsSeen set.entry window → HasPlaces result (is_walled_at 1 window) }
+// The same with walls and obstacles. Blocks with both count for the obstacles.
+fn hold_both_even(tile: &Tile, walls: &Tile, obstacles: &Tile, out: &mut Tile) -> Took
+    ensures cells { (walled obstructed : ℕ → ℕ → Bool) → ShowsTile walled walls.now → ShowsTile obstructed obstacles.now →
+        HasCells out.new (λ x y. if is_walled_at 0 walled x y || is_walled_at 0 obstructed x y then has tile.now x y else has out.old x y) }
+    ensures took { (walled obstructed : ℕ → ℕ → Bool) → ShowsTile walled walls.now → ShowsTile obstructed obstacles.now →
+        result ≡ taken 0 tile.now walled obstructed }
 {
-    match set {
-        Some(set) => {
-            let mut places = Tile::empty();
-            make_odd(AnyCorner, set.tile, &set.round, &mut places);
-            Some(places)
-        }
-        None => None,
-    }
-}
-
-// The places but for the others.
-fn less(places: Option<Tile>, others: &Option<Tile>) -> Option<Tile>
-    ensures { (test other : ℕ → ℕ → Bool) → HasPlaces places test → HasPlaces others.now other →
-        HasPlaces result (λ x y. test x y && not (other x y)) }
-{
-    let mut left = places?;
-    if let Some(others) = others {
-        left.cut(others);
-    }
-    Some(left)
-}
-
-// Puts back what stood in these places, where there are any.
-fn hold_any(tile: &Tile, places: &Option<Tile>, parity: u8, out: &mut Tile) -> Pair
-    requires { parity < 2 }
-    ensures cells { (test : ℕ → ℕ → Bool) → HasPlaces places.now test →
-        HasCells out.new (λ x y. if test x y then has tile.now x y else has out.old x y) }
-    ensures took { (test : ℕ → ℕ → Bool) → HasPlaces places.now test →
-        result ≡ twice_momentum parity (λ x y. has tile.now x y && test x y) }
-{
-    match places {
-        Some(places) => hold(tile, places, parity, out),
-        None => Pair { x: 0, y: 0 },
-    }
-}
-
-// In a tile that was turned as if there were no walls, puts back what stood in blocks with a wall or an obstacle. Blocks
-// with both count for the obstacles.
-fn hold_both(
-    tile: &Tile,
-    walled: Option<Tile>,
-    obstructed: Option<Tile>,
-    parity: u8,
-    out: &mut Tile,
-) -> Took
-    requires { parity < 2 }
-    ensures cells { (walls obstacles : ℕ → ℕ → Bool) → HasPlaces walled walls → HasPlaces obstructed obstacles →
-        HasCells out.new (λ x y. if walls x y || obstacles x y then has tile.now x y else has out.old x y) }
-    ensures walls { (walls obstacles : ℕ → ℕ → Bool) → HasPlaces walled walls → HasPlaces obstructed obstacles →
-        result.walls ≡ twice_momentum parity (λ x y. has tile.now x y && walls x y && not (obstacles x y)) }
-    ensures obstacles { (obstacles : ℕ → ℕ → Bool) → HasPlaces obstructed obstacles →
-        result.obstacles ≡ twice_momentum parity (λ x y. has tile.now x y && obstacles x y) }
-{
-    let walled = less(walled, &obstructed);
+    let mut walled = Tile::empty();
+    let mut obstructed = Tile::empty();
+    make_even(AnyCorner, walls, &mut walled);
+    make_even(AnyCorner, obstacles, &mut obstructed);
+    walled.cut(&obstructed);
     Took {
-        walls: hold_any(tile, &walled, parity, out),
-        obstacles: hold_any(tile, &obstructed, parity, out),
+        walls: hold(tile, &walled, 0, out),
+        obstacles: hold(tile, &obstructed, 0, out),
+    }
+}
+
+// `hold_even` where blocks begin at odd columns and rows
+fn hold_odd(tile: &Tile, set: &Window, out: &mut Tile) -> Pair
+    ensures cells { (walled : ℕ → ℕ → Bool) → IsSeenIn set.now walled →
+        HasCells out.new (λ x y. if is_walled_at 1 walled x y then has tile.now x y else has out.old x y) }
+    ensures took { (walled : ℕ → ℕ → Bool) → IsSeenIn set.now walled →
+        result ≡ twice_momentum 1 (λ x y. has tile.now x y && is_walled_at 1 walled x y) }
+{
+    let mut places = Tile::empty();
+    make_odd(AnyCorner, set.tile, &set.round, &mut places);
+    hold(tile, &places, 1, out)
+}
+
+// `hold_both_even` where blocks begin at odd columns and rows
+fn hold_both_odd(tile: &Tile, walls: &Window, obstacles: &Window, out: &mut Tile) -> Took
+    ensures cells { (walled obstructed : ℕ → ℕ → Bool) → IsSeenIn walls.now walled → IsSeenIn obstacles.now obstructed →
+        HasCells out.new (λ x y. if is_walled_at 1 walled x y || is_walled_at 1 obstructed x y then has tile.now x y else has out.old x y) }
+    ensures took { (walled obstructed : ℕ → ℕ → Bool) → IsSeenIn walls.now walled → IsSeenIn obstacles.now obstructed →
+        result ≡ taken 1 tile.now walled obstructed }
+{
+    let mut walled = Tile::empty();
+    let mut obstructed = Tile::empty();
+    make_odd(AnyCorner, walls.tile, &walls.round, &mut walled);
+    make_odd(AnyCorner, obstacles.tile, &obstacles.round, &mut obstructed);
+    walled.cut(&obstructed);
+    Took {
+        walls: hold(tile, &walled, 1, out),
+        obstacles: hold(tile, &obstructed, 1, out),
     }
 }
 
@@ -139,7 +125,21 @@ pub fn turn_tile_even(
         result ≡ taken 0 tile.now walled obstructed }
 {
     make_even(Collision, tile, out);
-    hold_both(tile, places_even(walls), places_even(obstacles), 0, out)
+    match (walls, obstacles) {
+        (None, None) => Took {
+            walls: NOTHING,
+            obstacles: NOTHING,
+        },
+        (Some(walls), None) => Took {
+            walls: hold_even(tile, walls, out),
+            obstacles: NOTHING,
+        },
+        (None, Some(obstacles)) => Took {
+            walls: NOTHING,
+            obstacles: hold_even(tile, obstacles, out),
+        },
+        (Some(walls), Some(obstacles)) => hold_both_even(tile, walls, obstacles, out),
+    }
 }
 
 /// The same where blocks begin at odd columns and rows, and reach into the eight tiles round the tile. Sets that have no
@@ -157,7 +157,21 @@ pub fn turn_tile_odd(
         result ≡ taken 1 particles.now.tile.now walled obstructed }
 {
     make_odd(Collision, particles.tile, &particles.round, out);
-    hold_both(particles.tile, places_odd(walls), places_odd(obstacles), 1, out)
+    match (walls, obstacles) {
+        (None, None) => Took {
+            walls: NOTHING,
+            obstacles: NOTHING,
+        },
+        (Some(walls), None) => Took {
+            walls: hold_odd(particles.tile, &walls, out),
+            obstacles: NOTHING,
+        },
+        (None, Some(obstacles)) => Took {
+            walls: NOTHING,
+            obstacles: hold_odd(particles.tile, &obstacles, out),
+        },
+        (Some(walls), Some(obstacles)) => hold_both_odd(particles.tile, &walls, &obstacles, out),
+    }
 }
 
 /// Puts the tile after the rule into `out`. The answer is what the walls and the obstacles take of the tile's own

@@ -146,6 +146,39 @@ fn writes_rows_from_the_highest_bit(rt: HostRuntime) {
     }
 }
 
+// puts the first bytes of a row into row 37, reads them again, and asks for each of their cells
+fn put_and_read(rt: &impl Abort, plane: &mut Plane, row: &[u8]) {
+    let n = usize::from(plane.size().width()) / 8;
+    assert!(rt; plane.size().height() == 64 && n <= row.len() && n <= 512);
+    let bytes = &row[..n];
+    plane.set_row(37, bytes);
+    assert!(rt; plane.size().height() == 64 && usize::from(plane.size().width()) / 8 == n);
+    let mut room = [1; 512];
+    let read = &mut room[..n];
+    plane.row_bytes(37, read);
+    assert!(rt; &*read == bytes);
+    for k in 0..n {
+        for i in 0..8u32 {
+            let held = (bytes[k] >> (7 - i)) & 1 == 1;
+            assert!(rt; holds(plane, 8 * k as u32 + i, 37) == held);
+        }
+    }
+}
+
+#[test]
+fn rows_are_read_back_at_every_width(rt: HostRuntime) {
+    // bytes that look random
+    let mut row = [0; 512];
+    for k in 0..512usize {
+        row[k] = ((k * 167 + 41) % 251) as u8;
+    }
+    for across in 1..65u32 {
+        let size = Size::new(64 * across, 64).expect(&rt, "a size");
+        let mut plane = Plane::empty(rt.alloc(), size).expect(&rt, "memory");
+        put_and_read(&rt, &mut plane, &row);
+    }
+}
+
 #[test]
 fn is_as_wide_as_a_lattice_may_be(rt: HostRuntime) {
     let size = Size::new(4096, 64).expect(&rt, "a size");

@@ -126,23 +126,32 @@ fn wall_in_a_tile_at_an_even_tick(rt: HostRuntime) {
     assert!(rt; took.walls == Pair { x: -2, y: 2 } && took.obstacles == Pair { x: 0, y: 0 });
 }
 
+// a particle in each of the four corners steps over the seams to the corner across, and back
+fn cross_the_seams(rt: &(impl Abort + AllocGlobal), width: u32, height: u32) {
+    assert!(rt; width > 0 && height > 0);
+    let none = plane(rt, width, height, &[]);
+    let (right, bottom) = (width - 1, height - 1);
+    for (from, to) in [
+        ((right, bottom), (0, 0)),
+        ((0, bottom), (right, 0)),
+        ((right, 0), (0, bottom)),
+        ((0, 0), (right, bottom)),
+    ] {
+        let old = plane(rt, width, height, &[from]);
+        let mut out = plane(rt, width, height, &[]);
+        phase(rt, &old, &none, &none, 1, &mut out);
+        let want = plane(rt, width, height, &[to]);
+        assert!(rt; are_same(&out, &want, width, height));
+        let mut again = plane(rt, width, height, &[]);
+        phase(rt, &out, &none, &none, 1, &mut again);
+        assert!(rt; are_same(&again, &old, width, height));
+    }
+}
+
 #[test]
 fn steps_over_the_seam_and_back(rt: HostRuntime) {
-    let none = plane(&rt, 128, 64, &[]);
-    for (from, to) in [
-        ((127, 63), (0, 0)),
-        ((0, 63), (127, 0)),
-        ((127, 0), (0, 63)),
-        ((0, 0), (127, 63)),
-    ] {
-        let old = plane(&rt, 128, 64, &[from]);
-        let mut out = plane(&rt, 128, 64, &[]);
-        phase(&rt, &old, &none, &none, 1, &mut out);
-        let want = plane(&rt, 128, 64, &[to]);
-        assert!(rt; are_same(&out, &want, 128, 64));
-        let mut again = plane(&rt, 128, 64, &[]);
-        phase(&rt, &out, &none, &none, 1, &mut again);
-        assert!(rt; are_same(&again, &old, 128, 64));
+    for (width, height) in [(128, 64), (4096, 64), (64, 4096)] {
+        cross_the_seams(&rt, width, height);
     }
 }
 
