@@ -1,5 +1,4 @@
-use Rattle.std.proofs.Common.{◌≡◌, ℕ, ◌+◌, ◌%◌, ◌<◌, ◌≤◌, Bool, true, false, ◌||◌, refl, sym, ◌∙◌, ap, arith, inl, inr}
-use Rattle.std.proofs.lemmas.Bool.{cases_eq, eq-eqb, ne_eqb}
+use Rattle.std.proofs.Common.{◌≡◌, ℕ, ◌+◌, Bool, true, false, ◌||◌, refl, sym, ◌∙◌, ap}
 use Rattle.block_rule.specs.Around.{either, is_walled_at}
 use Rattle.block_rule.specs.Cell.{partner}
 use Rattle.block_rule.proofs.Around.{walled_from, walled_by_cells}

@@ -1,9 +1,9 @@
 -- A tile with its border is a window on the tiles round it.
-use Rattle.std.proofs.Common.{◌≡◌, ℕ, ◌+◌, ◌-◌, ◌<◌, ◌==◌, Bool, true, false, ◌||◌, if◌then◌else◌, refl, ◌∙◌, ap₂, arith}
+use Rattle.std.proofs.Common.{◌≡◌, ℕ, ◌+◌, ◌<◌, ◌==◌, false, ap₂, arith}
 use Rattle.std.proofs.lemmas.Bool.{ne_eqb}
 use Rattle.bit_tile.specs.Tile.{has}
 use Rattle.bit_tile.specs.declared.Tile.{Tile}
-use Rattle.tile_border.specs.Ring.{ring, IsBorderOf}
+use Rattle.tile_border.specs.Ring.{IsBorderOf}
 use Rattle.tile_border.specs.declared.Border.{Border}
 use Rattle.block_rule.specs.Around.{around, is_outside}
 use Rattle.block_rule.specs.Rows.{ShowsTile, ShowsRound}

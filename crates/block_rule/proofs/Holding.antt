@@ -1,11 +1,12 @@
 -- What is put back in walled blocks, and what it gives.
-use Rattle.std.proofs.Common.{◌≡◌, ℕ, ◌+◌, ◌-◌, ◌*◌, ◌^◌, ◌<◌, ◌≤◌, Bool, true, false, not, ◌&&◌, ◌||◌, if◌then◌else◌, List, get_or, refl, sym, subst, Option, Some, None, ◌∙◌, ap, ap₂, arith, bit_and, bit_or}
+use Rattle.std.proofs.Common.{◌≡◌, ℕ, zero, suc, inl, inr, ◌+◌, ◌-◌, ◌*◌, ◌^◌, ◌<◌, ◌≤◌, ◌⊎◌, Bool, true, false, not, ◌&&◌, ◌||◌, if◌then◌else◌, List, get_or, refl, sym, subst, Option, Some, None, ◌∙◌, ap, ap₂, arith, bit_and, bit_or}
 use Rattle.std.specs.Prelude.{pos, ◌-ℤ◌, ℤ}
 use Rattle.std.proofs.lemmas.Int.{ints}
 use mir.Val.{to_z, of_z}
 use Rattle.std.specs.Int.{bit_not, w32, w64}
 use Rattle.std.specs.Int.RustNames.{count_ones}
-use Rattle.std.proofs.lemmas.Nat.{and_le_l}
+use Rattle.std.proofs.lemmas.Nat.{and_le_l, le_or_l, le_or_r}
+use Rattle.std.proofs.lemmas.Bool.{cases_eq}
 use Rattle.bit_tile.specs.Bit.{bit}
 use Rattle.bit_tile.specs.Sums.{sum_below, count_below}
 use Rattle.bit_tile.specs.Tile.{has, HasCells}
@@ -65,11 +66,37 @@ none_among row places e = count_below-same 32 _ (λ _. false) (λ i _. and_false
 abbrev pub among : List ℕ → List ℕ → ℕ → ℕ
 among old places k = count_below 32 (λ i. bit (get_or old k 0) i && bit (get_or places k 0) i)
 
-pub one_row_more : (old places : List ℕ) (n j more : ℕ) → n ≡ sum_below j (among old places) → more ≡ among old places j → n + more ≡ sum_below (j + 1) (among old places)
-one_row_more old places n j more so_far here = omega (arith, so_far, here, sum_below-more j (among old places))
+pub one_row_more : (old places : List ℕ) (n j more before : ℕ) → n + before ≡ sum_below j (among old places) → more ≡ among old places j → n + more + before ≡ sum_below (j + 1) (among old places)
+one_row_more old places n j more before so_far here = omega (arith, so_far, here, sum_below-more j (among old places))
 
-pub no_row_more : (old places : List ℕ) (n j : ℕ) → n ≡ sum_below j (among old places) → get_or places j 0 ≡ 0 → n ≡ sum_below (j + 1) (among old places)
-no_row_more old places n j so_far e = omega (arith, so_far, none_among (get_or old j 0) (get_or places j 0) e, sum_below-more j (among old places))
+no_row_more : (old places : List ℕ) (j : ℕ) → get_or places j 0 ≡ 0 → sum_below (j + 1) (among old places) ≡ sum_below j (among old places)
+no_row_more old places j e = omega (arith, none_among (get_or old j 0) (get_or places j 0) e, sum_below-more j (among old places))
+
+-- rows without places
+pub no_rows_more : (old places : List ℕ) (from n : ℕ) → ((k : ℕ) → from ≤ k → k < from + n → get_or places k 0 ≡ 0) → sum_below (from + n) (among old places) ≡ sum_below from (among old places)
+no_rows_more old places from zero none = ap (λ m. sum_below m (among old places)) (omega arith)
+no_rows_more old places from (suc n) none =
+    ap (λ m. sum_below m (among old places)) (let e : from + suc n ≡ from + n + 1 = omega arith in e)
+    ∙ (no_row_more old places (from + n) (none (from + n) (omega arith) (omega arith)) ∙ no_rows_more old places from n (λ k low high. none k low (omega arith)))
+
+or_is_zero : (a b : ℕ) → bit_or a b ≡ 0 → (a ≡ 0) × (b ≡ 0)
+or_is_zero a b e = (omega (arith, e, le_or_l a b), omega (arith, e, le_or_r a b))
+
+-- a loop has seen the rows from `from` up to j
+pub none_so_far : (rows : List ℕ) (from j any : ℕ) → (any ≡ 0 → (k : ℕ) → from ≤ k → k < j → get_or rows k 0 ≡ 0) → bit_or any (get_or rows j 0) ≡ 0 → (k : ℕ) → from ≤ k → k < j + 1 → get_or rows k 0 ≡ 0
+none_so_far rows from j any before e k low high =
+    let both = or_is_zero any (get_or rows j 0) e in
+    elim (cases_eq k j) [
+      | inl same ↦ rw same both.1
+      | inr other ↦ before both.0 k low (omega arith)
+    ]
+
+pub outside_row : (k from j : ℕ) → from ≤ j → (k < from) ⊎ (j + 1 ≤ k) → (k ≡ j → ⊥) × ((k < from) ⊎ (j ≤ k))
+outside_row k from j order (inl h) = (λ e. omega arith, inl h)
+outside_row k from j order (inr h) = (λ e. omega arith, inr (omega arith))
+
+pub counted_so_far : (old places : List ℕ) (n m from next : ℕ) → next ≡ from + 8 → n ≡ sum_below from (among old places) → m + sum_below from (among old places) ≡ sum_below (from + 8) (among old places) → n + m ≡ sum_below next (among old places)
+counted_so_far old places n m from next e so_far here = rw e (omega (arith, so_far, here))
 
 -- the particles of a class in these places
 pub class_among : (old places : List ℕ) (p q n : ℕ) (had there : ℕ → ℕ → Bool) → p < 2 → q < 2 → IsClass old p q had → IsClass places p q there → n ≡ sum_below 32 (among old places) → n ≡ class (λ x y. had x y && there x y) p q

@@ -1,4 +1,6 @@
-use Rattle.std.specs.Prelude.{◌≡◌, ℕ, ◌%◌, ◌≤◌, ◌==◌, Bool, ◌&&◌}
+use Rattle.std.specs.Prelude.{◌≡◌, ℕ, ◌%◌, ◌≤◌, ◌==◌, Bool, ◌&&◌, List, slice_index}
+use Rattle.bit_tile.specs.Bit.{bit}
+use Rattle.bit_tile.specs.Sums.{sum_below, count_below}
 use Rattle.bit_tile.specs.Tile.{count_cells}
 use Rattle.block_rule.specs.declared.held.Classes.{Classes}
 
@@ -19,3 +21,7 @@ pub record AreCounts (c : Classes) (cells : ℕ → ℕ → Bool) : Type 0 where
   pub odd_even : c.odd_even ≡ class cells 1 0
   pub even_odd : c.even_odd ≡ class cells 0 1
   pub odd_odd : c.odd_odd ≡ class cells 1 1
+
+-- how many cells of a class's first n rows are in these places
+abbrev pub particles_among : List ℕ → List ℕ → ℕ → ℕ
+particles_among old places n = sum_below n (λ j. count_below 32 (λ i. bit (slice_index old j) i && bit (slice_index places j) i))

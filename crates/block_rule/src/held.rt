@@ -1,30 +1,62 @@
 //! Walls: in walled blocks the old cells stay, and their particles give twice their momentum.
 
-ghost use Rattle.std.specs.Prelude.{◌≡◌, ℕ, ◌*◌, ◌<◌, ◌≤◌, ◌&&◌, if◌then◌else◌, Bool, slice_index, pos, ◌-ℤ◌};
+ghost use Rattle.std.specs.Prelude.{◌≡◌, ◌⊎◌, ℕ, ◌+◌, ◌*◌, ◌<◌, ◌≤◌, ◌&&◌, if◌then◌else◌, Bool, slice_index, pos, ◌-ℤ◌};
 ghost use Rattle.bit_tile.specs.Bit.{bit};
-ghost use Rattle.bit_tile.specs.Sums.{sum_below, count_below};
 ghost use Rattle.bit_tile.specs.Tile.{has, HasCells};
 ghost use Rattle.block_rule.specs.Around.{twice_momentum};
-ghost use Rattle.block_rule.specs.Classes.{HasAtMost, AreCounts};
+ghost use Rattle.block_rule.specs.Classes.{HasAtMost, AreCounts, particles_among};
 
 use bit_tile::Tile;
 use gas_terms::Pair;
+
+// Rows of a class that are looked at together.
+const TOGETHER: usize = 8;
+
+// 0 just if none of the rows from `from` on has a cell
+#[inline]
+fn any_in(rows: &[u32; 32], from: usize) -> u32
+    requires { from + 8 ≤ 32 }
+    ensures { result ≡ 0 → (j : ℕ) → from ≤ j → j < from + 8 → slice_index rows.now j ≡ 0 }
+{
+    let mut any = 0;
+    for j in from..from + TOGETHER {
+        any |= rows[j];
+    }
+    any
+}
+
+// Puts the old cells of these places back into the rows from `from` on, and answers how many there are.
+#[inline(never)]
+fn hold_rows(old: &[u32; 32], places: &[u32; 32], from: usize, class: &mut [u32; 32]) -> u32
+    requires { from + 8 ≤ 32 }
+    ensures cells { (i j : ℕ) → i < 32 → from ≤ j → j < from + 8 → bit (slice_index class.new j) i ≡
+        (if bit (slice_index places.now j) i then bit (slice_index old.now j) i else bit (slice_index class.old j) i) }
+    ensures rest { (j : ℕ) → (j < from) ⊎ (from + 8 ≤ j) → slice_index class.new j ≡ slice_index class.old j }
+    ensures count { result + particles_among old.now places.now from ≡ particles_among old.now places.now (from + 8) }
+    ensures bound { result ≤ 256 }
+{
+    let mut n = 0;
+    for j in from..from + TOGETHER {
+        let kept = old[j] & places[j];
+        class[j] = kept | (class[j] & !places[j]);
+        n += kept.count_ones();
+    }
+    n
+}
 
 // Puts the old cells of these places of a class back, and answers how many there are. Most rows have no places.
 #[inline]
 fn hold_class(old: &[u32; 32], places: &[u32; 32], class: &mut [u32; 32]) -> u32
     ensures cells { (i j : ℕ) → i < 32 → j < 32 → bit (slice_index class.new j) i ≡
         (if bit (slice_index places.now j) i then bit (slice_index old.now j) i else bit (slice_index class.old j) i) }
-    ensures count { result ≡ sum_below 32 (λ j. count_below 32 (λ i. bit (slice_index old.now j) i && bit (slice_index places.now j) i)) }
+    ensures count { result ≡ particles_among old.now places.now 32 }
     ensures bound { result ≤ 1024 }
 {
     let mut n = 0;
-    for j in 0..32usize {
-        let there = places[j];
-        if there != 0 {
-            let kept = old[j] & there;
-            class[j] = kept | (class[j] & !there);
-            n += kept.count_ones();
+    for k in 0..4usize {
+        let from = k * TOGETHER;
+        if any_in(places, from) != 0 {
+            n += hold_rows(old, places, from, class);
         }
     }
     n

@@ -1,15 +1,13 @@
-use Rattle.std.proofs.Common.{◌≡◌, ℕ, ◌*◌, ◌<◌, ◌≤◌, if◌then◌else◌, length, get_or}
+use Rattle.std.proofs.Common.{◌≡◌, ℕ, ◌*◌, ◌<◌, ◌≤◌, if◌then◌else◌, get_or}
 use Rattle.bit_tile.specs.Bit.{bit}
-use Rattle.bit_tile.specs.Sums.{sum_below}
-use Rattle.block_rule.proofs.Holding.{among}
+use Rattle.block_rule.specs.Classes.{particles_among}
 use Rattle.block_rule.proofs.held.hold_class.Given as goal
 
-abbrev pub invariant-loop-j : goal.invariant-loop-j
-invariant-loop-j l =
+abbrev pub invariant-loop-k : goal.invariant-loop-k
+invariant-loop-k l =
     record {
-      long : length l.class ≡ 32;
-      cells : (i k : ℕ) → i < 32 → k < l.j → bit (get_or l.class k 0) i ≡ (if bit (get_or l.places k 0) i then bit (get_or l.old k 0) i else bit (get_or l.initial.class k 0) i);
-      rest : (k : ℕ) → l.j ≤ k → get_or l.class k 0 ≡ get_or l.initial.class k 0;
-      count : l.n ≡ sum_below l.j (among l.old l.places);
-      bound : l.n ≤ 32 * l.j;
+      cells : (i j : ℕ) → i < 32 → j < l.k * 8 → bit (get_or l.class j 0) i ≡ (if bit (get_or l.places j 0) i then bit (get_or l.old j 0) i else bit (get_or l.initial.class j 0) i);
+      rest : (j : ℕ) → l.k * 8 ≤ j → get_or l.class j 0 ≡ get_or l.initial.class j 0;
+      count : l.n ≡ particles_among l.old l.places (l.k * 8);
+      bound : l.n ≤ 256 * l.k;
     }
