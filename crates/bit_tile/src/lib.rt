@@ -187,15 +187,12 @@ impl Tile {
         ensures empty { IsTrue result → HasCells self.now (λ _ _. false) }
         ensures known { HasCells self.now (λ _ _. false) → IsTrue result }
     {
-        // most tiles with cells have some in their first two rows
-        if self.any_in_rows(0) != 0 {
-            return false;
-        }
-        let mut all = 0;
         for j in 0..32usize {
-            all |= self.any_in_rows(j);
+            if self.any_in_rows(j) != 0 {
+                return false;
+            }
         }
-        all == 0
+        true
     }
 
     // 0 just if rows 2 * j and 2 * j + 1 have no cells

@@ -1,10 +1,6 @@
 use Rattle.std.proofs.Common.{◌≡◌, ℕ, ◌<◌, ◌/◌, false}
-use Rattle.bit_tile.specs.Tile.{has, HasCells}
+use Rattle.bit_tile.specs.Tile.{has}
 use Rattle.bit_tile.proofs.Tile.is_empty.Given as goal
 
 abbrev pub invariant-loop-j : goal.invariant-loop-j
-invariant-loop-j l =
-    record {
-      empty : l.all ≡ 0 → (x y : ℕ) → x < 64 → y / 2 < l.j → has l.self x y ≡ false;
-      known : HasCells l.self (λ _ _. false) → l.all ≡ 0;
-    }
+invariant-loop-j l = record { empty : (x y : ℕ) → x < 64 → y / 2 < l.j → has l.self x y ≡ false }
