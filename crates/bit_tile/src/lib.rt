@@ -3,8 +3,12 @@
 
 ghost use Rattle.std.specs.Prelude.{◌≡◌, ℕ, ◌+◌, ◌*◌, ◌/◌, ◌<◌, ◌≤◌, Bool, true, false, not, ◌&&◌, ◌||◌, ◌==◌, ◌%◌, nat_lt, nat_le, if◌then◌else◌, slice_index, IsTrue};
 ghost use Rattle.bit_tile.specs.Bit.{bit};
-ghost use Rattle.bit_tile.specs.Sums.{sum_below, count_below};
-ghost use Rattle.bit_tile.specs.Tile.{in_class};
+
+mod class;
+mod word;
+
+use class::{add, both, ones, put, remove, rows_of, same, span};
+use word::{gather, in_turn};
 
 static NO_CELLS: Tile = Tile {
     even_even: [0; 32],
@@ -236,134 +240,6 @@ impl Tile {
             ones(&self.odd_odd),
         ]
     }
-}
-
-// the columns from `first` up to `end`
-fn span(first: u32, end: u32) -> u32
-    requires order { first ≤ end }
-    requires within { end ≤ 32 }
-    ensures { (i : ℕ) → i < 32 → bit result i ≡ (nat_le first i && nat_lt i end) }
-{
-    if first == end {
-        0
-    } else {
-        (u32::MAX >> (32 - (end - first))) << first
-    }
-}
-
-// a class that has the word in its rows from `first` up to `end`
-fn rows_of(word: u32, first: u32, end: u32) -> [u32; 32]
-    requires order { first ≤ end }
-    requires within { end ≤ 32 }
-    ensures { (i j : ℕ) → in_class result i j ≡ (bit word i && nat_le first j && nat_lt j end) }
-{
-    let mut rows = [0; 32];
-    for j in first as usize..end as usize {
-        rows[j] = word;
-    }
-    rows
-}
-
-// puts a cell of a class in, or takes it out
-fn put(class: &mut [u32; 32], i: u32, j: u32, held: bool)
-    requires i { i < 32 }
-    requires j { j < 32 }
-    ensures { (k m : ℕ) → k < 32 → in_class class.new k m ≡ (if k == i && m == j then held else in_class class.old k m) }
-{
-    let row = class[j as usize];
-    class[j as usize] = if held {
-        row | (1 << i)
-    } else {
-        row & !(1 << i)
-    };
-}
-
-// whether two classes have the same cells
-fn same(class: &[u32; 32], other: &[u32; 32]) -> bool
-    ensures same { IsTrue result → (i j : ℕ) → j < 32 → in_class class.now i j ≡ in_class other.now i j }
-    ensures known { ((i j : ℕ) → i < 32 → j < 32 → in_class class.now i j ≡ in_class other.now i j) → IsTrue result }
-{
-    for j in 0..32usize {
-        if class[j] != other[j] {
-            return false;
-        }
-    }
-    true
-}
-
-// how many cells a class has
-fn ones(class: &[u32; 32]) -> u32
-    ensures count { result ≡ sum_below 32 (λ j. count_below 32 (bit (slice_index class.now j))) }
-    ensures bound { result ≤ 1024 }
-{
-    let mut n = 0;
-    for j in 0..32usize {
-        n += class[j].count_ones();
-    }
-    n
-}
-
-// the cells that both classes have
-fn both(class: &[u32; 32], other: &[u32; 32]) -> [u32; 32]
-    ensures { (i j : ℕ) → j < 32 → in_class result i j ≡ (in_class class.now i j && in_class other.now i j) }
-{
-    let mut rows = [0; 32];
-    for j in 0..32usize {
-        rows[j] = class[j] & other[j];
-    }
-    rows
-}
-
-// adds the cells of the other to a class
-fn add(class: &mut [u32; 32], other: &[u32; 32])
-    ensures { (i j : ℕ) → j < 32 → in_class class.new i j ≡ (in_class class.old i j || in_class other.now i j) }
-{
-    for j in 0..32usize {
-        class[j] |= other[j];
-    }
-}
-
-// takes the cells of the other out of a class
-fn remove(class: &mut [u32; 32], other: &[u32; 32])
-    ensures { (i j : ℕ) → i < 32 → j < 32 → in_class class.new i j ≡ (in_class class.old i j && not (in_class other.now i j)) }
-{
-    for j in 0..32usize {
-        class[j] &= !other[j];
-    }
-}
-
-// the bits of two words in turn: those of the first have the even places
-#[inline]
-fn in_turn(even: u32, odd: u32) -> u64
-    ensures { (i : ℕ) → i < 64 → bit result i ≡ (if i % 2 == 0 then bit even (i / 2) else bit odd (i / 2)) }
-{
-    spread(even) | (spread(odd) << 1)
-}
-
-// the bits of a word at every other place, from the lowest on
-#[inline]
-fn spread(word: u32) -> u64
-    ensures { (i : ℕ) → i < 64 → bit result i ≡ (i % 2 == 0 && bit word (i / 2)) }
-{
-    let a = word as u64;
-    let b = (a | (a << 16)) & 0x0000_ffff_0000_ffff;
-    let c = (b | (b << 8)) & 0x00ff_00ff_00ff_00ff;
-    let d = (c | (c << 4)) & 0x0f0f_0f0f_0f0f_0f0f;
-    let e = (d | (d << 2)) & 0x3333_3333_3333_3333;
-    (e | (e << 1)) & 0x5555_5555_5555_5555
-}
-
-// the bits at every other place of a word, from the lowest on, close to one another
-#[inline]
-fn gather(word: u64) -> u32
-    ensures { (i : ℕ) → i < 32 → bit result i ≡ bit word (2 * i) }
-{
-    let a = word & 0x5555_5555_5555_5555;
-    let b = (a | (a >> 1)) & 0x3333_3333_3333_3333;
-    let c = (b | (b >> 2)) & 0x0f0f_0f0f_0f0f_0f0f;
-    let d = (c | (c >> 4)) & 0x00ff_00ff_00ff_00ff;
-    let e = (d | (d >> 8)) & 0x0000_ffff_0000_ffff;
-    ((e | (e >> 16)) & 0x0000_0000_ffff_ffff) as u32
 }
 
 #[cfg(test)]

@@ -1,7 +1,7 @@
 use Rattle.std.specs.Prelude.{◌≡◌, ℕ, Bool, false, Option, MatchOption}
 use Rattle.std.specs.Borrow.{Bor}
 use Rattle.bit_tile.specs.declared.Tile.{Tile}
-use Rattle.block_rule.specs.Rows.{ShowsTile, ShowsRound}
+use Rattle.block_rule.specs.Rows.{ShowsTile, ShowsAllRound}
 use Rattle.block_rule.specs.declared.Window.{Window}
 
 -- a set without cells need not be lent
@@ -15,7 +15,7 @@ IsSeenInside set window = MatchOption set (IsEmpty window) (λ t. ShowsTile wind
 -- what is seen in a tile and in those round it
 pub record IsSeenIn (w : Window) (window : ℕ → ℕ → Bool) : Type 0 where
   pub tile : ShowsTile window w.tile.now
-  pub round : ShowsRound window w.round.above.now w.round.below.now w.round.left.now w.round.right.now w.round.above_left.now w.round.above_right.now w.round.below_left.now w.round.below_right.now
+  pub round : ShowsAllRound window w.round
 
 -- what is seen of a set there
 abbrev pub IsSeen : Option Window → (ℕ → ℕ → Bool) → Type 0

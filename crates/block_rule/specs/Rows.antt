@@ -2,6 +2,7 @@ use Rattle.std.specs.Prelude.{◌≡◌, ℕ, ◌+◌, ◌*◌, ◌<◌, Bool, s
 use Rattle.bit_tile.specs.Bit.{bit}
 use Rattle.bit_tile.specs.Tile.{has}
 use Rattle.bit_tile.specs.declared.Tile.{Tile}
+use Rattle.tile_border.specs.declared.Round.{Round}
 use Rattle.block_rule.specs.declared.blocks.Blocks.{Blocks}
 use Rattle.block_rule.specs.declared.blocks.Beside.{Beside}
 
@@ -19,6 +20,9 @@ pub record ShowsRound (window : ℕ → ℕ → Bool) (a d l r al ar dl dr : Til
   pub above_right : window 65 0 ≡ has ar 0 63
   pub below_left : window 0 65 ≡ has dl 63 0
   pub below_right : window 65 65 ≡ has dr 0 0
+
+abbrev pub ShowsAllRound : (ℕ → ℕ → Bool) → Round → Type 0
+ShowsAllRound window r = ShowsRound window r.above.now r.below.now r.left.now r.right.now r.above_left.now r.above_right.now r.below_left.now r.below_right.now
 
 -- what a rule makes of a row of blocks: of each corner by its own old cell, and those beside it, facing it and across
 pub record IsMade (cell : Bool → Bool → Bool → Bool → Bool) (old new : Blocks) : Type 0 where

@@ -3,7 +3,7 @@
 ghost use Rattle.std.specs.Prelude.{◌≡◌, ℕ, ◌+◌, ◌*◌, ◌<◌, ◌≤◌, ◌⊎◌, Bool, slice_index};
 ghost use Rattle.bit_tile.specs.Tile.{HasCells};
 ghost use Rattle.block_rule.specs.Cell.{made};
-ghost use Rattle.block_rule.specs.Rows.{ShowsTile, ShowsRound, ShowsRows, IsMadeOdd, odd_row, beside_left, beside_right};
+ghost use Rattle.block_rule.specs.Rows.{ShowsTile, ShowsAllRound, ShowsRows, IsMadeOdd, odd_row, beside_left, beside_right};
 
 use crate::blocks::{Beside, Blocks, Rule, next, previous};
 use bit_tile::Tile;
@@ -98,54 +98,67 @@ fn make_rows_odd<R: Rule>(
     }
 }
 
+// The row of blocks at the tile's top, whose upper corners are in the tiles above.
+#[inline]
+fn made_top<R: Rule>(rule: R, tile: &Tile, near: &Round) -> Blocks
+    ensures { (window : ℕ → ℕ → Bool) → ShowsTile window tile.now → ShowsAllRound window near.now →
+        IsMadeOdd (R.cell rule) window 0 result }
+{
+    let own = Blocks {
+        upper_left: near.above.odd_odd[31],
+        upper_right: near.above.even_odd[31],
+        lower_left: tile.odd_even[0],
+        lower_right: tile.even_even[0],
+    };
+    let left = Beside {
+        upper: near.above_left.odd_odd[31],
+        lower: near.left.odd_even[0],
+    };
+    let right = Beside {
+        upper: near.above_right.even_odd[31],
+        lower: near.right.even_even[0],
+    };
+    made_odd(rule, own, left, right)
+}
+
+// The row of blocks at its bottom, whose lower corners are in the tiles below.
+#[inline]
+fn made_bottom<R: Rule>(rule: R, tile: &Tile, near: &Round) -> Blocks
+    ensures { (window : ℕ → ℕ → Bool) → ShowsTile window tile.now → ShowsAllRound window near.now →
+        IsMadeOdd (R.cell rule) window 64 result }
+{
+    let own = Blocks {
+        upper_left: tile.odd_odd[31],
+        upper_right: tile.even_odd[31],
+        lower_left: near.below.odd_even[0],
+        lower_right: near.below.even_even[0],
+    };
+    let left = Beside {
+        upper: near.left.odd_odd[31],
+        lower: near.below_left.odd_even[0],
+    };
+    let right = Beside {
+        upper: near.right.even_odd[31],
+        lower: near.below_right.even_even[0],
+    };
+    made_odd(rule, own, left, right)
+}
+
 /// Where blocks begin at odd columns and rows: those at the tile's edges reach into the tiles round it.
 #[inline]
 pub fn make_odd<R: Rule>(rule: R, tile: &Tile, round: &Round, out: &mut Tile)
-    ensures { (window : ℕ → ℕ → Bool) → ShowsTile window tile.now →
-        ShowsRound window round.now.above.now round.now.below.now round.now.left.now round.now.right.now round.now.above_left.now round.now.above_right.now round.now.below_left.now round.now.below_right.now →
+    ensures { (window : ℕ → ℕ → Bool) → ShowsTile window tile.now → ShowsAllRound window round.now →
         HasCells out.new (made (R.cell rule) 1 window) }
 {
     // where the tiles stand is read once
     let near = *round;
-    let top = made_odd(
-        rule,
-        Blocks {
-            upper_left: near.above.odd_odd[31],
-            upper_right: near.above.even_odd[31],
-            lower_left: tile.odd_even[0],
-            lower_right: tile.even_even[0],
-        },
-        Beside {
-            upper: near.above_left.odd_odd[31],
-            lower: near.left.odd_even[0],
-        },
-        Beside {
-            upper: near.above_right.even_odd[31],
-            lower: near.right.even_even[0],
-        },
-    );
+    let top = made_top(rule, tile, &near);
     out.odd_even[0] = top.lower_left;
     out.even_even[0] = top.lower_right;
     // 28 rows and the last four: row 27 comes twice, so that both are whole vectors
     make_rows_odd(rule, tile, near.left, near.right, 0, 28, out);
     make_rows_odd(rule, tile, near.left, near.right, 27, 31, out);
-    let bottom = made_odd(
-        rule,
-        Blocks {
-            upper_left: tile.odd_odd[31],
-            upper_right: tile.even_odd[31],
-            lower_left: near.below.odd_even[0],
-            lower_right: near.below.even_even[0],
-        },
-        Beside {
-            upper: near.left.odd_odd[31],
-            lower: near.below_left.odd_even[0],
-        },
-        Beside {
-            upper: near.right.even_odd[31],
-            lower: near.below_right.even_even[0],
-        },
-    );
+    let bottom = made_bottom(rule, tile, &near);
     out.odd_odd[31] = bottom.upper_left;
     out.even_odd[31] = bottom.upper_right;
 }

@@ -71,7 +71,12 @@ fn turn_odd(old: &Plane, walls: &Plane, obstacles: &Plane, i: u32, out: &mut Til
         tile: old.tile(i),
         round: old.round(i),
     };
-    turn_tile_odd(&particles, window_in(walls, i), window_in(obstacles, i), out)
+    turn_tile_odd(
+        &particles,
+        window_in(walls, i),
+        window_in(obstacles, i),
+        out,
+    )
 }
 
 // The set's tile, unless it is known to have no cells.

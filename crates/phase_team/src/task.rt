@@ -28,13 +28,6 @@ impl Task<'_> {
         ensures cells { IsTileAfter self.entry.parity self.entry.old.now self.entry.walls.now self.entry.obstacles.now i out.new }
         ensures took { result ≡ tile_takes self.entry.parity self.entry.old.now self.entry.walls.now self.entry.obstacles.now i }
     {
-        turn_tile_at(
-            self.old,
-            self.walls,
-            self.obstacles,
-            self.parity,
-            i,
-            out,
-        )
+        turn_tile_at(self.old, self.walls, self.obstacles, self.parity, i, out)
     }
 }

@@ -1,6 +1,6 @@
 use Rattle.std.proofs.Common.{◌≡◌, ℕ, ◌+◌, ◌-◌, ◌*◌, ◌<◌, ◌≤◌, ◌∙◌, refl, ap, arith, inl, inr, length, get_or, get_or-set_same}
 use Rattle.std.proofs.lemmas.Bool.{cases_eq, cases_lt}
-use Rattle.block_rule.proofs.Windows.{upper_end, upper_inner, upper_of, lower_of, upper_same, lower_same, odd_cells, top_shown, inner_shown, bottom_shown}
+use Rattle.block_rule.proofs.Windows.{upper_end, upper_inner, upper_of, lower_of, upper_same, lower_same, odd_cells, inner_shown}
 use Rattle.block_rule.proofs.made.make_odd.Goals as goal
 
 pub returns : goal.returns
@@ -11,11 +11,11 @@ returns g c = λ window shows round.
     let o = c.args.out.now in
     let first = c.make_rows_odd.new.out in
     let second = c.make_rows_odd-2.new.out in
-    let top = c.made_odd-top.result in
-    let bottom = c.made_odd-bottom.result in
+    let top = c.made_top-top.result in
+    let bottom = c.made_bottom-bottom.result in
     let inner = inner_shown window t shows n.above.now n.below.now n.left.now n.right.now n.above_left.now n.above_right.now n.below_left.now n.below_right.now round in
-    let at_top = c.made_odd-top.ensures window 0 (top_shown window t shows n.above.now n.below.now n.left.now n.right.now n.above_left.now n.above_right.now n.below_left.now n.below_right.now round) in
-    let at_bottom = c.made_odd-bottom.ensures window 64 (bottom_shown window t shows n.above.now n.below.now n.left.now n.right.now n.above_left.now n.above_right.now n.below_left.now n.below_right.now round) in
+    let at_top = c.made_top-top.ensures window shows round in
+    let at_bottom = c.made_bottom-bottom.ensures window shows round in
     let second_upper = λ (j : ℕ) (h : 27 ≤ j) (k : j < 31). upper_of cell window (2 * j + 2) _ (c.make_rows_odd-2.ensures.rows window inner j h k) in
     let first_upper = λ (j : ℕ) (k : j < 27). upper_same cell window (2 * j + 2) _ _ _ _ (c.make_rows_odd-2.ensures.upper_rest j (inl k)).0 (c.make_rows_odd-2.ensures.upper_rest j (inl k)).1 (upper_of cell window (2 * j + 2) _ (c.make_rows_odd.ensures.rows window inner j (omega arith) (omega arith))) in
     let second_lower = λ (j : ℕ) (h : 27 ≤ j) (k : j < 31). lower_of cell window (2 * j + 2) _ (c.make_rows_odd-2.ensures.rows window inner j h k) in
@@ -24,9 +24,9 @@ returns g c = λ window shows round.
     let even_long : 31 < length c.make_rows_odd-2.new.out.even_odd = omega arith in
     let odd_room : 0 < length c.args.out.now.odd_even = omega arith in
     let even_room : 0 < length c.args.out.now.even_even = omega arith in
-    let odd_top : get_or c.make_rows_odd-2.new.out.odd_even 0 0 ≡ c.made_odd-top.result.lower_left =
+    let odd_top : get_or c.make_rows_odd-2.new.out.odd_even 0 0 ≡ c.made_top-top.result.lower_left =
     (c.make_rows_odd-2.ensures.lower_rest 0 (inl (omega arith))).0 ∙ ((c.make_rows_odd.ensures.lower_rest 0 (inl (omega arith))).0 ∙ get_or-set_same o.odd_even 0 top.lower_left 0 odd_room) in
-    let even_top : get_or c.make_rows_odd-2.new.out.even_even 0 0 ≡ c.made_odd-top.result.lower_right =
+    let even_top : get_or c.make_rows_odd-2.new.out.even_even 0 0 ≡ c.made_top-top.result.lower_right =
     (c.make_rows_odd-2.ensures.lower_rest 0 (inl (omega arith))).1 ∙ ((c.make_rows_odd.ensures.lower_rest 0 (inl (omega arith))).1 ∙ get_or-set_same o.even_even 0 top.lower_right 0 even_room) in
     odd_cells cell window _
     (λ j h.

@@ -1,0 +1,100 @@
+//! A class of a tile's cells: 32 rows of 32.
+
+ghost use Rattle.std.specs.Prelude.{◌≡◌, ℕ, ◌+◌, ◌*◌, ◌/◌, ◌<◌, ◌≤◌, not, ◌&&◌, ◌||◌, ◌==◌, nat_lt, nat_le, if◌then◌else◌, slice_index, IsTrue};
+ghost use Rattle.bit_tile.specs.Bit.{bit};
+ghost use Rattle.bit_tile.specs.Sums.{sum_below, count_below};
+ghost use Rattle.bit_tile.specs.Tile.{in_class};
+
+/// The columns from `first` up to `end`.
+pub fn span(first: u32, end: u32) -> u32
+    requires order { first ≤ end }
+    requires within { end ≤ 32 }
+    ensures { (i : ℕ) → i < 32 → bit result i ≡ (nat_le first i && nat_lt i end) }
+{
+    if first == end {
+        0
+    } else {
+        (u32::MAX >> (32 - (end - first))) << first
+    }
+}
+
+/// A class that has the word in its rows from `first` up to `end`.
+pub fn rows_of(word: u32, first: u32, end: u32) -> [u32; 32]
+    requires order { first ≤ end }
+    requires within { end ≤ 32 }
+    ensures { (i j : ℕ) → in_class result i j ≡ (bit word i && nat_le first j && nat_lt j end) }
+{
+    let mut rows = [0; 32];
+    for j in first as usize..end as usize {
+        rows[j] = word;
+    }
+    rows
+}
+
+/// Puts a cell of a class in, or takes it out.
+pub fn put(class: &mut [u32; 32], i: u32, j: u32, held: bool)
+    requires i { i < 32 }
+    requires j { j < 32 }
+    ensures { (k m : ℕ) → k < 32 → in_class class.new k m ≡ (if k == i && m == j then held else in_class class.old k m) }
+{
+    let row = class[j as usize];
+    class[j as usize] = if held {
+        row | (1 << i)
+    } else {
+        row & !(1 << i)
+    };
+}
+
+/// Whether two classes have the same cells.
+pub fn same(class: &[u32; 32], other: &[u32; 32]) -> bool
+    ensures same { IsTrue result → (i j : ℕ) → j < 32 → in_class class.now i j ≡ in_class other.now i j }
+    ensures known { ((i j : ℕ) → i < 32 → j < 32 → in_class class.now i j ≡ in_class other.now i j) → IsTrue result }
+{
+    for j in 0..32usize {
+        if class[j] != other[j] {
+            return false;
+        }
+    }
+    true
+}
+
+/// How many cells a class has.
+pub fn ones(class: &[u32; 32]) -> u32
+    ensures count { result ≡ sum_below 32 (λ j. count_below 32 (bit (slice_index class.now j))) }
+    ensures bound { result ≤ 1024 }
+{
+    let mut n = 0;
+    for j in 0..32usize {
+        n += class[j].count_ones();
+    }
+    n
+}
+
+/// The cells that both classes have.
+pub fn both(class: &[u32; 32], other: &[u32; 32]) -> [u32; 32]
+    ensures { (i j : ℕ) → j < 32 → in_class result i j ≡ (in_class class.now i j && in_class other.now i j) }
+{
+    let mut rows = [0; 32];
+    for j in 0..32usize {
+        rows[j] = class[j] & other[j];
+    }
+    rows
+}
+
+/// Adds the cells of the other to a class.
+pub fn add(class: &mut [u32; 32], other: &[u32; 32])
+    ensures { (i j : ℕ) → j < 32 → in_class class.new i j ≡ (in_class class.old i j || in_class other.now i j) }
+{
+    for j in 0..32usize {
+        class[j] |= other[j];
+    }
+}
+
+/// Takes the cells of the other out of a class.
+pub fn remove(class: &mut [u32; 32], other: &[u32; 32])
+    ensures { (i j : ℕ) → i < 32 → j < 32 → in_class class.new i j ≡ (in_class class.old i j && not (in_class other.now i j)) }
+{
+    for j in 0..32usize {
+        class[j] &= !other[j];
+    }
+}
