@@ -5,7 +5,7 @@ use Rattle.bit_tile.specs.declared.Tile.{Tile}
 use Rattle.tile_border.specs.Ring.{ring, IsBorderOf}
 use Rattle.tile_border.specs.declared.Border.{Border}
 use Rattle.gas_terms.specs.Cells.{Cells, extent, has}
-use Rattle.gas_plane.specs.declared.TilePlaces.{TilePlaces}
+use Rattle.gas_plane.specs.declared.around.TilePlaces.{TilePlaces}
 use Rattle.gas_plane.specs.Planes.{IsLattice, IsTileFrom, IsRingRound, ArePlacesRound}
 use Rattle.gas_plane.proofs.Places.{IsWholeTiles, wide, high, ring_before, ring_after, ring_in, ring_cases}
 

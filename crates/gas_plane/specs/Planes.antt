@@ -4,7 +4,7 @@ use Rattle.bit_tile.specs.Bit.{bit}
 use Rattle.bit_tile.specs.declared.Tile.{Tile}
 use Rattle.tile_border.specs.Ring.{ring, IsOnRing}
 use Rattle.tile_border.specs.declared.Border.{Border}
-use Rattle.gas_plane.specs.declared.TilePlaces.{TilePlaces}
+use Rattle.gas_plane.specs.declared.around.TilePlaces.{TilePlaces}
 use Rattle.gas_terms.specs.Cells.{Cells, has, cells_where, extent, is_size, IsFull}
 
 -- the cells of a lattice: it has a lattice's size, and each cell has a truth value

@@ -2,7 +2,7 @@ use Rattle.std.proofs.Common.{◌≡◌, ◌+◌, ◌*◌, ◌%◌, ◌&&◌, �
 use Rattle.bit_tile.specs.Tile as tile
 use Rattle.bit_tile.proofs.Bits.{get_or-replicate_zero}
 use Rattle.bit_tile.proofs.Counts.{cells_same, cells_counted-none}
-use Rattle.gas_plane.proofs.counts_of.Goals as goal
+use Rattle.gas_plane.proofs.counts.counts_of.Goals as goal
 
 with_true : (b inside : Bool) → inside ≡ true → b ≡ (b && inside)
 with_true true inside e = sym e

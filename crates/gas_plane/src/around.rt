@@ -1,0 +1,104 @@
+//! What stands round a tile.
+
+ghost use Rattle.std.specs.Prelude.{◌*◌, ◌/◌, ◌<◌};
+ghost use Rattle.gas_terms.specs.Cells.{tile_count, tile_rectangle};
+ghost use Rattle.gas_plane.specs.Planes.{IsLattice, IsTileFrom, IsRingRound, ArePlacesRound};
+ghost use Rattle.tile_border.specs.Ring.{IsBorderOf};
+ghost use Rattle.tile_border.specs.declared.Border.{Border as RingCells};
+
+use crate::Plane;
+use crate::marks::{after, before};
+use bit_tile::Tile;
+use tile_border::{Border, NO_BORDER, Round};
+
+impl Plane {
+    /// The eight tiles round tile i: the lattice is a torus.
+    #[inline]
+    pub fn round(&self, i: u32) -> Round<'_>
+        requires { i < tile_count self.now }
+        ensures { let r = tile_rectangle self.now i in (b : RingCells) → IsBorderOf b result.above.now result.below.now result.left.now result.right.now result.above_left.now result.above_right.now result.below_left.now result.below_right.now → IsRingRound b self.now r.x r.y }
+    {
+        let p = self.places(i);
+        Round {
+            above: self.tile_in(p.column, p.above),
+            below: self.tile_in(p.column, p.below),
+            left: self.tile_in(p.left, p.row),
+            right: self.tile_in(p.right, p.row),
+            above_left: self.tile_in(p.left, p.above),
+            above_right: self.tile_in(p.right, p.above),
+            below_left: self.tile_in(p.left, p.below),
+            below_right: self.tile_in(p.right, p.below),
+        }
+    }
+
+    /// The same cells as `round`'s. Those of a tile that has none are read from the empty tile that all planes share.
+    #[inline]
+    pub fn round_or_bare(&self, i: u32) -> Round<'_>
+        requires { i < tile_count self.now }
+        ensures { let r = tile_rectangle self.now i in (b : RingCells) → IsBorderOf b result.above.now result.below.now result.left.now result.right.now result.above_left.now result.above_right.now result.below_left.now result.below_right.now → IsRingRound b self.now r.x r.y }
+    {
+        let p = self.places(i);
+        Round {
+            above: self.tile_in_or_bare(p.column, p.above),
+            below: self.tile_in_or_bare(p.column, p.below),
+            left: self.tile_in_or_bare(p.left, p.row),
+            right: self.tile_in_or_bare(p.right, p.row),
+            above_left: self.tile_in_or_bare(p.left, p.above),
+            above_right: self.tile_in_or_bare(p.right, p.above),
+            below_left: self.tile_in_or_bare(p.left, p.below),
+            below_right: self.tile_in_or_bare(p.right, p.below),
+        }
+    }
+
+    /// The cells round tile i.
+    pub fn border(&self, i: u32) -> Border
+        requires { i < tile_count self.now }
+        ensures { let r = tile_rectangle self.now i in IsRingRound result self.now r.x r.y }
+    {
+        let mut border = NO_BORDER;
+        border.surround(&self.round_or_bare(i));
+        border
+    }
+
+    // where tile i and those round it stand
+    #[inline]
+    fn places(&self, i: u32) -> TilePlaces
+        requires { i < tile_count self.now }
+        ensures places { ArePlacesRound self.now i result }
+        ensures lattice { IsLattice self.now }
+    {
+        let across = self.across();
+        let down = self.down();
+        let column = i % across;
+        let row = i / across;
+        TilePlaces {
+            left: before(column, across),
+            column,
+            right: after(column, across),
+            above: before(row, down),
+            row,
+            below: after(row, down),
+        }
+    }
+
+    // the tile in this column and row of tiles, or where it has no cell the one that all planes share
+    #[inline]
+    fn tile_in_or_bare(&self, column: u32, row: u32) -> &Tile
+        requires column { column < self.now.width / 64 }
+        requires row { row < self.now.height / 64 }
+        ensures { IsTileFrom result.now self.now (column * 64) (row * 64) }
+    {
+        self.tile_or_bare(row * self.across() + column)
+    }
+}
+
+// the column and the row of tiles that a tile stands in, and those beside them round the torus
+#[derive(Clone, Copy)]
+struct TilePlaces {
+    left: u32,
+    column: u32,
+    right: u32,
+    above: u32,
+    row: u32,
+    below: u32,
+}

@@ -1,0 +1,56 @@
+//! The part of a rectangle that lies in a tile.
+
+ghost use Rattle.std.specs.Prelude.{◌≡◌, IsTrue, ℕ, ◌+◌, ◌/◌, ◌<◌, ◌≤◌, ◌^◌, ◌&&◌, nat_le, nat_lt, false, MatchOption, true};
+ghost use Rattle.gas_terms.specs.Cells.{is_inside};
+ghost use Rattle.bit_tile.specs.Tile.{HasCells};
+
+use bit_tile::Tile;
+use gas_terms::Rect;
+
+// of n places of 64 cells each, the first that `len` cells from `start` on meet, and the first after them
+pub fn tiles_met(start: u32, len: u32, n: u32) -> (u32, u32)
+    requires { start + len < 2 ^ 31 }
+    ensures ordered { result.0 ≤ result.1 }
+    ensures within { result.1 ≤ n }
+    ensures before { (x : ℕ) → x / 64 < result.0 → (nat_le start x && nat_lt x (start + len)) ≡ false }
+    ensures after { (x : ℕ) → x / 64 < n → result.1 ≤ x / 64 → (nat_le start x && nat_lt x (start + len)) ≡ false }
+{
+    let end = ((start + len + 63) / 64).min(n);
+    ((start / 64).min(end), end)
+}
+
+/// The rectangle's cells among the 64 by 64 from the place (left, top) on, if there are any.
+pub fn part_of(area: Rect, left: u32, top: u32) -> Option<Tile>
+    ensures { MatchOption result ((x y : ℕ) → x < 64 → y < 64 → is_inside area (left + x) (top + y) ≡ false) (λ part. HasCells part (λ x y. is_inside area (left + x) (top + y))) }
+{
+    let (x, w) = overlap(area.x() as u32, area.w() as u32, left);
+    let (y, h) = overlap(area.y() as u32, area.h() as u32, top);
+    if w == 0 || h == 0 {
+        return None;
+    }
+    Some(Tile::rect(x, y, w, h))
+}
+
+// whether the rectangle has all of the 64 by 64 cells from the place (left, top) on
+pub fn is_covered(area: Rect, left: u32, top: u32) -> bool
+    requires left { left < 2 ^ 31 }
+    requires top { top < 2 ^ 31 }
+    ensures { IsTrue result → (x y : ℕ) → x < 64 → y < 64 → is_inside area (left + x) (top + y) ≡ true }
+{
+    let right = area.x() as u32 + area.w() as u32;
+    let bottom = area.y() as u32 + area.h() as u32;
+    let across = area.x() as u32 <= left && left + 64 <= right;
+    let down = area.y() as u32 <= top && top + 64 <= bottom;
+    across & down
+}
+
+// what `len` places from `start` on have in common with the 64 from `from` on: where that begins there, and how many
+pub fn overlap(start: u32, len: u32, from: u32) -> (u32, u32)
+    requires { start + len < 2 ^ 32 }
+    ensures within { result.0 + result.1 ≤ 64 }
+    ensures same { (k : ℕ) → k < 64 → (nat_le result.0 k && nat_lt k (result.0 + result.1)) ≡ (nat_le start (from + k) && nat_lt (from + k) (start + len)) }
+{
+    let low = start.saturating_sub(from).min(64);
+    let high = (start + len).saturating_sub(from).min(64);
+    (low, high - low)
+}
