@@ -3,7 +3,7 @@
 ghost use Rattle.std.specs.Prelude.{◌*◌, ◌/◌, ◌<◌};
 ghost use Rattle.gas_terms.specs.Cells.{tile_count, tile_rectangle};
 ghost use Rattle.gas_plane.specs.Planes.{IsLattice, IsTileFrom, IsRingRound, ArePlacesRound};
-ghost use Rattle.tile_border.specs.Ring.{IsBorderOf};
+ghost use Rattle.tile_border.specs.Ring.{IsBorderOfRound};
 ghost use Rattle.tile_border.specs.declared.Border.{Border as RingCells};
 
 use crate::Plane;
@@ -16,7 +16,7 @@ impl Plane {
     #[inline]
     pub fn round(&self, i: u32) -> Round<'_>
         requires { i < tile_count self.now }
-        ensures { let r = tile_rectangle self.now i in (b : RingCells) → IsBorderOf b result.above.now result.below.now result.left.now result.right.now result.above_left.now result.above_right.now result.below_left.now result.below_right.now → IsRingRound b self.now r.x r.y }
+        ensures { let r = tile_rectangle self.now i in (b : RingCells) → IsBorderOfRound b result → IsRingRound b self.now r.x r.y }
     {
         let p = self.places(i);
         Round {
@@ -35,7 +35,7 @@ impl Plane {
     #[inline]
     pub fn round_or_bare(&self, i: u32) -> Round<'_>
         requires { i < tile_count self.now }
-        ensures { let r = tile_rectangle self.now i in (b : RingCells) → IsBorderOf b result.above.now result.below.now result.left.now result.right.now result.above_left.now result.above_right.now result.below_left.now result.below_right.now → IsRingRound b self.now r.x r.y }
+        ensures { let r = tile_rectangle self.now i in (b : RingCells) → IsBorderOfRound b result → IsRingRound b self.now r.x r.y }
     {
         let p = self.places(i);
         Round {

@@ -9,7 +9,7 @@ use Rattle.tile_border.specs.declared.Border.{Border}
 use Rattle.gas_terms.specs.Cells.{Cells, HasSidesOf, has, tile_rectangle}
 use Rattle.gas_plane.specs.Planes.{IsTileFrom, IsRingRound, IsBare, IsBareRound}
 use Rattle.block_rule.specs.Around.{around, none}
-use Rattle.tile_border.specs.Ring.{IsBorderOf}
+use Rattle.tile_border.specs.Ring.{IsBorderOf, IsBorderOfRound}
 use Rattle.block_rule.specs.Windows.{IsView, IsWindow}
 use Rattle.block_rule.specs.Rows.{ShowsTile, ShowsRound}
 use Rattle.block_rule.specs.Lent.{IsSeenInside, IsSeenIn, IsSeen}
@@ -102,13 +102,13 @@ seen_inside i cells others (Some t) shows inside of right bottom from =
 
 -- a window of a set, and its view of the torus
 pub window_view : (i : ℕ) (cells others : Cells) (w : Window) (b : Border) → SeesTorus → cells.width ≡ others.width → cells.height ≡ others.height → (tile_rectangle others i).x + 64 ≤ others.width → (tile_rectangle others i).y + 64 ≤ others.height
-    → IsBorderOf b w.round.above.now w.round.below.now w.round.left.now w.round.right.now w.round.above_left.now w.round.above_right.now w.round.below_left.now w.round.below_right.now
+    → IsBorderOfRound b w.round
     → IsWindowFrom w cells (tile_rectangle cells i).x (tile_rectangle cells i).y → IsView 1 (around w.tile.now b) cells (tile_rectangle others i).x (tile_rectangle others i).y
 window_view i cells others w b sees wide high right bottom is from =
     sees 1 (around w.tile.now b) cells (tile_rectangle others i).x (tile_rectangle others i).y (omega arith) (tile_window i cells others w.tile.now b wide high right bottom from.tile (from.round b is))
 
 pub window_seen : (w : Window) (b : Border) → ShowsInside → ShowsAll
-    → IsBorderOf b w.round.above.now w.round.below.now w.round.left.now w.round.right.now w.round.above_left.now w.round.above_right.now w.round.below_left.now w.round.below_right.now
+    → IsBorderOfRound b w.round
     → IsSeenIn w (around w.tile.now b)
 window_seen w b shows shows_all is =
     record { tile = shows w.tile.now b; round = shows_all w.tile.now w.round.above.now w.round.below.now w.round.left.now w.round.right.now w.round.above_left.now w.round.above_right.now w.round.below_left.now w.round.below_right.now b is }

@@ -3,7 +3,7 @@ use Rattle.bit_tile.specs.Tile.{HasCells}
 use Rattle.bit_tile.specs.declared.Tile.{Tile}
 use Rattle.gas_terms.specs.Cells.{Cells, has, joined, tile_rectangle}
 use Rattle.gas_terms.specs.Gas.{streamed}
-use Rattle.tile_border.specs.Ring.{IsBorderOf}
+use Rattle.tile_border.specs.Ring.{IsBorderOfRound}
 use Rattle.tile_border.specs.declared.Border.{Border}
 use Rattle.gas_plane.specs.Planes.{IsTileFrom, IsRingRound}
 use Rattle.block_rule.specs.declared.Window.{Window}
@@ -16,4 +16,4 @@ IsTileAfter p particles walls obstacles i t =
 -- the window is a tile that has the set's cells from the place (x0, y0) on, and eight tiles with those round it on the torus
 pub record IsWindowFrom (w : Window) (cells : Cells) (x0 y0 : ℕ) : Type 0 where
   pub tile : IsTileFrom w.tile.now cells x0 y0
-  pub round : (b : Border) → IsBorderOf b w.round.above.now w.round.below.now w.round.left.now w.round.right.now w.round.above_left.now w.round.above_right.now w.round.below_left.now w.round.below_right.now → IsRingRound b cells x0 y0
+  pub round : (b : Border) → IsBorderOfRound b w.round → IsRingRound b cells x0 y0

@@ -28,7 +28,7 @@ pub const NO_BORDER: Border = Border {
 };
 
 impl Border {
-    ghost use Rattle.tile_border.specs.Ring.{ring, IsOnRing, IsBorderOf, numbered};
+    ghost use Rattle.tile_border.specs.Ring.{ring, IsOnRing, IsBorderOf, IsBorderOfRound, numbered};
 
     /// The cells that touch a tile with these neighbors.
     pub fn of(
@@ -66,7 +66,7 @@ impl Border {
 
     /// Makes it the cells that touch a tile which stands among these: quicker than a border of its own for each tile.
     pub fn surround(&mut self, round: &Round)
-        ensures { IsBorderOf self.new round.now.above.now round.now.below.now round.now.left.now round.now.right.now round.now.above_left.now round.now.above_right.now round.now.below_left.now round.now.below_right.now }
+        ensures { IsBorderOfRound self.new round.now }
     {
         // where the tiles stand is read once
         let near = *round;
