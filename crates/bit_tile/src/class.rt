@@ -35,7 +35,8 @@ pub fn rows_of(word: u32, first: u32, end: u32) -> [u32; 32]
 pub fn put(class: &mut [u32; 32], i: u32, j: u32, held: bool)
     requires i { i < 32 }
     requires j { j < 32 }
-    ensures { (k m : ℕ) → k < 32 → in_class class.new k m ≡ (if k == i && m == j then held else in_class class.old k m) }
+    ensures { (k m : ℕ) → k < 32 → in_class class.new k m ≡
+        (if k == i && m == j then held else in_class class.old k m) }
 {
     let row = class[j as usize];
     class[j as usize] = if held {
@@ -92,7 +93,8 @@ pub fn add(class: &mut [u32; 32], other: &[u32; 32])
 
 /// Takes the cells of the other out of a class.
 pub fn remove(class: &mut [u32; 32], other: &[u32; 32])
-    ensures { (i j : ℕ) → i < 32 → j < 32 → in_class class.new i j ≡ (in_class class.old i j && not (in_class other.now i j)) }
+    ensures { (i j : ℕ) → i < 32 → j < 32 → in_class class.new i j ≡
+        (in_class class.old i j && not (in_class other.now i j)) }
 {
     for j in 0..32usize {
         class[j] &= !other[j];

@@ -230,7 +230,8 @@ impl Tile {
     /// How many cells there are in each class of columns and rows: even column and even row, odd and even, even and
     /// odd, odd and odd.
     pub fn count_by_parity(&self) -> [u32; 4]
-        ensures counts { (i j : ℕ) → i < 2 → j < 2 → slice_index result (2 * j + i) ≡ count_cells (λ x y. has self.now x y && x % 2 == i && y % 2 == j) }
+        ensures counts { (i j : ℕ) → i < 2 → j < 2 → slice_index result (2 * j + i) ≡
+            count_cells (λ x y. has self.now x y && x % 2 == i && y % 2 == j) }
         ensures bound { (k : ℕ) → slice_index result k ≤ 2048 }
     {
         [

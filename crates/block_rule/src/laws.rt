@@ -19,7 +19,8 @@ ghost use Rattle.block_rule.specs.Windows.{IsWindow, IsView, IsTilePlace, square
 pub fn tiles_see_the_torus()
     ensures window { (p : ℕ) (window : ℕ → ℕ → Bool) (cells : Cells) (x0 y0 : ℕ) → p < 2 →
         IsWindow window cells x0 y0 → IsView p window cells x0 y0 }
-    ensures inside { (t : TileRows) (b : RingCells) (cells : Cells) (x0 y0 : ℕ) → x0 + 64 ≤ cells.width → y0 + 64 ≤ cells.height →
+    ensures inside { (t : TileRows) (b : RingCells) (cells : Cells) (x0 y0 : ℕ) → x0 + 64 ≤ cells.width →
+        y0 + 64 ≤ cells.height →
         HasCells t (λ x y. plane.has cells (x0 + x) (y0 + y)) → IsView 0 (around t b) cells x0 y0 }
 {}
 
@@ -33,11 +34,13 @@ pub fn borders_are_windows()
 
 /// The block rule on a tile is the step of the torus.
 pub fn tiles_turn_as_the_torus()
-    ensures { (p : ℕ) (particles walls obstacles : Cells) (x0 y0 : ℕ) (near near_walls near_obstacles : ℕ → ℕ → Bool) → p < 2 →
+    ensures { (p : ℕ) (particles walls obstacles : Cells) (x0 y0 : ℕ)
+        (near near_walls near_obstacles : ℕ → ℕ → Bool) → p < 2 →
         IsTilePlace particles walls obstacles x0 y0 →
         IsView p near particles x0 y0 → IsView p near_walls walls x0 y0 → IsView p near_obstacles obstacles x0 y0 →
         (x y : ℕ) → x < 64 → y < 64 →
-        turned p near (either near_walls near_obstacles) x y ≡ plane.has (streamed p particles (joined walls obstacles)) (x0 + x) (y0 + y) }
+        turned p near (either near_walls near_obstacles) x y ≡
+        plane.has (streamed p particles (joined walls obstacles)) (x0 + x) (y0 + y) }
 {
     gas_terms::laws::step_turns_blocks();
     gas_terms::laws::made_cells_pass_the_test();

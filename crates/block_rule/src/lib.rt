@@ -63,9 +63,12 @@ fn hold_even(tile: &Tile, set: &Tile, out: &mut Tile) -> Pair
 
 // The same with walls and obstacles. Blocks with both count for the obstacles.
 fn hold_both_even(tile: &Tile, walls: &Tile, obstacles: &Tile, out: &mut Tile) -> Took
-    ensures cells { (walled obstructed : ℕ → ℕ → Bool) → ShowsTile walled walls.now → ShowsTile obstructed obstacles.now →
-        HasCells out.new (λ x y. if is_walled_at 0 walled x y || is_walled_at 0 obstructed x y then has tile.now x y else has out.old x y) }
-    ensures took { (walled obstructed : ℕ → ℕ → Bool) → ShowsTile walled walls.now → ShowsTile obstructed obstacles.now →
+    ensures cells { (walled obstructed : ℕ → ℕ → Bool) → ShowsTile walled walls.now →
+        ShowsTile obstructed obstacles.now →
+        HasCells out.new (λ x y. if is_walled_at 0 walled x y || is_walled_at 0 obstructed x y
+        then has tile.now x y else has out.old x y) }
+    ensures took { (walled obstructed : ℕ → ℕ → Bool) → ShowsTile walled walls.now →
+        ShowsTile obstructed obstacles.now →
         result ≡ taken 0 tile.now walled obstructed }
 {
     let mut walled = Tile::empty();
@@ -93,9 +96,12 @@ fn hold_odd(tile: &Tile, set: &Window, out: &mut Tile) -> Pair
 
 // `hold_both_even` where blocks begin at odd columns and rows
 fn hold_both_odd(tile: &Tile, walls: &Window, obstacles: &Window, out: &mut Tile) -> Took
-    ensures cells { (walled obstructed : ℕ → ℕ → Bool) → IsSeenIn walls.now walled → IsSeenIn obstacles.now obstructed →
-        HasCells out.new (λ x y. if is_walled_at 1 walled x y || is_walled_at 1 obstructed x y then has tile.now x y else has out.old x y) }
-    ensures took { (walled obstructed : ℕ → ℕ → Bool) → IsSeenIn walls.now walled → IsSeenIn obstacles.now obstructed →
+    ensures cells { (walled obstructed : ℕ → ℕ → Bool) → IsSeenIn walls.now walled →
+        IsSeenIn obstacles.now obstructed →
+        HasCells out.new (λ x y. if is_walled_at 1 walled x y || is_walled_at 1 obstructed x y
+        then has tile.now x y else has out.old x y) }
+    ensures took { (walled obstructed : ℕ → ℕ → Bool) → IsSeenIn walls.now walled →
+        IsSeenIn obstacles.now obstructed →
         result ≡ taken 1 tile.now walled obstructed }
 {
     let mut walled = Tile::empty();
@@ -121,7 +127,8 @@ pub fn turn_tile_even(
     ensures cells { (window walled obstructed : ℕ → ℕ → Bool) → ShowsTile window tile.now →
         IsSeenInside walls.entry walled → IsSeenInside obstacles.entry obstructed →
         HasCells out.new (turned 0 window (either walled obstructed)) }
-    ensures took { (walled obstructed : ℕ → ℕ → Bool) → IsSeenInside walls.entry walled → IsSeenInside obstacles.entry obstructed →
+    ensures took { (walled obstructed : ℕ → ℕ → Bool) → IsSeenInside walls.entry walled →
+        IsSeenInside obstacles.entry obstructed →
         result ≡ taken 0 tile.now walled obstructed }
 {
     make_even(Collision, tile, out);
@@ -153,7 +160,8 @@ pub fn turn_tile_odd(
     ensures cells { (window walled obstructed : ℕ → ℕ → Bool) → IsSeenIn particles.now window →
         IsSeen walls.entry walled → IsSeen obstacles.entry obstructed →
         HasCells out.new (turned 1 window (either walled obstructed)) }
-    ensures took { (walled obstructed : ℕ → ℕ → Bool) → IsSeen walls.entry walled → IsSeen obstacles.entry obstructed →
+    ensures took { (walled obstructed : ℕ → ℕ → Bool) → IsSeen walls.entry walled →
+        IsSeen obstacles.entry obstructed →
         result ≡ taken 1 particles.now.tile.now walled obstructed }
 {
     make_odd(Collision, particles.tile, &particles.round, out);
@@ -187,9 +195,12 @@ pub fn turn_tile_into(
     out: &mut Tile,
 ) -> Took
     requires { parity < 2 }
-    ensures cells { HasCells out.new (turned parity (around tile.now border.now) (either (around walls.now wall_border.now) (around obstacles.now obstacle_border.now))) }
-    ensures took { result ≡ taken parity tile.now (around walls.now wall_border.now) (around obstacles.now obstacle_border.now) }
-    ensures together { plus result.walls result.obstacles ≡ twice_momentum parity (λ x y. has tile.now x y && is_walled_at parity (either (around walls.now wall_border.now) (around obstacles.now obstacle_border.now)) x y) }
+    ensures cells { HasCells out.new (turned parity (around tile.now border.now)
+        (either (around walls.now wall_border.now) (around obstacles.now obstacle_border.now))) }
+    ensures took { result ≡ taken parity tile.now
+        (around walls.now wall_border.now) (around obstacles.now obstacle_border.now) }
+    ensures together { plus result.walls result.obstacles ≡ twice_momentum parity (λ x y. has tile.now x y &&
+        is_walled_at parity (either (around walls.now wall_border.now) (around obstacles.now obstacle_border.now)) x y) }
 {
     if parity == 0 {
         turn_tile_even(tile, Some(walls), Some(obstacles), out)
@@ -208,7 +219,8 @@ pub fn turn_tile_into(
 fn window_of<'a>(tile: &'a Tile, near: &'a Neighbors) -> Window<'a>
     ensures tile { result.tile.now ≡ tile.now }
     ensures seen { (b : BorderValue) →
-        IsBorderOf b near.now.above near.now.below near.now.left near.now.right near.now.above_left near.now.above_right near.now.below_left near.now.below_right →
+        IsBorderOf b near.now.above near.now.below near.now.left near.now.right
+        near.now.above_left near.now.above_right near.now.below_left near.now.below_right →
         IsSeenIn result (around tile.now b) }
 {
     let round = near.round();
@@ -226,9 +238,12 @@ pub fn turn_tile(
     parity: u8,
 ) -> (Tile, Took)
     requires { parity < 2 }
-    ensures cells { HasCells result.0 (turned parity (around tile.now border.now) (either (around walls.now wall_border.now) (around obstacles.now obstacle_border.now))) }
-    ensures took { result.1 ≡ taken parity tile.now (around walls.now wall_border.now) (around obstacles.now obstacle_border.now) }
-    ensures together { plus result.1.walls result.1.obstacles ≡ twice_momentum parity (λ x y. has tile.now x y && is_walled_at parity (either (around walls.now wall_border.now) (around obstacles.now obstacle_border.now)) x y) }
+    ensures cells { HasCells result.0 (turned parity (around tile.now border.now)
+        (either (around walls.now wall_border.now) (around obstacles.now obstacle_border.now))) }
+    ensures took { result.1 ≡ taken parity tile.now
+        (around walls.now wall_border.now) (around obstacles.now obstacle_border.now) }
+    ensures together { plus result.1.walls result.1.obstacles ≡ twice_momentum parity (λ x y. has tile.now x y &&
+        is_walled_at parity (either (around walls.now wall_border.now) (around obstacles.now obstacle_border.now)) x y) }
 {
     let mut out = Tile::empty();
     let took = turn_tile_into(

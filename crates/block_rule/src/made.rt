@@ -32,7 +32,8 @@ pub fn make_even<R: Rule>(rule: R, tile: &Tile, out: &mut Tile)
 // corners of those that end in it.
 #[inline]
 fn made_odd<R: Rule>(rule: R, own: Blocks, left: Beside, right: Beside) -> Blocks
-    ensures { (window : ℕ → ℕ → Bool) (y : ℕ) → ShowsRows window y own left right → IsMadeOdd (R.cell rule) window y result }
+    ensures { (window : ℕ → ℕ → Bool) (y : ℕ) → ShowsRows window y own left right →
+        IsMadeOdd (R.cell rule) window y result }
 {
     let begin = rule.made(Blocks {
         upper_left: own.upper_left,
@@ -71,9 +72,11 @@ fn make_rows_odd<R: Rule>(
         ((j : ℕ) → j < 31 → ShowsRows window (2 * j + 2) (odd_row tile.now j) (beside_left left.now j) (beside_right right.now j)) →
         (j : ℕ) → from ≤ j → j < to → IsMadeOdd (R.cell rule) window (2 * j + 2) (odd_row out.new j) }
     ensures upper_rest { (j : ℕ) → (j < from) ⊎ (to ≤ j) →
-        (slice_index out.new.odd_odd j ≡ slice_index out.old.odd_odd j) × (slice_index out.new.even_odd j ≡ slice_index out.old.even_odd j) }
+        (slice_index out.new.odd_odd j ≡ slice_index out.old.odd_odd j) ×
+        (slice_index out.new.even_odd j ≡ slice_index out.old.even_odd j) }
     ensures lower_rest { (j : ℕ) → (j ≤ from) ⊎ (to < j) →
-        (slice_index out.new.odd_even j ≡ slice_index out.old.odd_even j) × (slice_index out.new.even_even j ≡ slice_index out.old.even_even j) }
+        (slice_index out.new.odd_even j ≡ slice_index out.old.odd_even j) ×
+        (slice_index out.new.even_even j ≡ slice_index out.old.even_even j) }
 {
     for j in from..to {
         let own = Blocks {

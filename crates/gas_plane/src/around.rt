@@ -16,7 +16,8 @@ impl Plane {
     #[inline]
     pub fn round(&self, i: u32) -> Round<'_>
         requires { i < tile_count self.now }
-        ensures { let r = tile_rectangle self.now i in (b : RingCells) → IsBorderOfRound b result → IsRingRound b self.now r.x r.y }
+        ensures { let r = tile_rectangle self.now i in (b : RingCells) → IsBorderOfRound b result →
+            IsRingRound b self.now r.x r.y }
     {
         let p = self.places(i);
         Round {
@@ -35,7 +36,8 @@ impl Plane {
     #[inline]
     pub fn round_or_bare(&self, i: u32) -> Round<'_>
         requires { i < tile_count self.now }
-        ensures { let r = tile_rectangle self.now i in (b : RingCells) → IsBorderOfRound b result → IsRingRound b self.now r.x r.y }
+        ensures { let r = tile_rectangle self.now i in (b : RingCells) → IsBorderOfRound b result →
+            IsRingRound b self.now r.x r.y }
     {
         let p = self.places(i);
         Round {

@@ -63,7 +63,8 @@ impl Plane {
     // puts the part's cells into tile i, or takes them out
     fn paint_tile(&mut self, i: u32, part: &Tile, held: bool)
         requires { i < tile_count self.old }
-        ensures { self.new ≡ painted_where self.old (λ x y. (tile_of self.old x y == i) && in_tile.has part.now (x % 64) (y % 64)) held }
+        ensures { self.new ≡ painted_where self.old
+            (λ x y. (tile_of self.old x y == i) && in_tile.has part.now (x % 64) (y % 64)) held }
     {
         // its sides are whole tiles
         let _ = &self.size;

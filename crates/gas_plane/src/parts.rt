@@ -21,7 +21,9 @@ pub fn tiles_met(start: u32, len: u32, n: u32) -> (u32, u32)
 
 /// The rectangle's cells among the 64 by 64 from the place (left, top) on, if there are any.
 pub fn part_of(area: Rect, left: u32, top: u32) -> Option<Tile>
-    ensures { MatchOption result ((x y : ℕ) → x < 64 → y < 64 → is_inside area (left + x) (top + y) ≡ false) (λ part. HasCells part (λ x y. is_inside area (left + x) (top + y))) }
+    ensures { MatchOption result
+        ((x y : ℕ) → x < 64 → y < 64 → is_inside area (left + x) (top + y) ≡ false)
+        (λ part. HasCells part (λ x y. is_inside area (left + x) (top + y))) }
 {
     let (x, w) = overlap(area.x() as u32, area.w() as u32, left);
     let (y, h) = overlap(area.y() as u32, area.h() as u32, top);
@@ -48,7 +50,8 @@ pub fn is_covered(area: Rect, left: u32, top: u32) -> bool
 pub fn overlap(start: u32, len: u32, from: u32) -> (u32, u32)
     requires { start + len < 2 ^ 32 }
     ensures within { result.0 + result.1 ≤ 64 }
-    ensures same { (k : ℕ) → k < 64 → (nat_le result.0 k && nat_lt k (result.0 + result.1)) ≡ (nat_le start (from + k) && nat_lt (from + k) (start + len)) }
+    ensures same { (k : ℕ) → k < 64 → (nat_le result.0 k && nat_lt k (result.0 + result.1)) ≡
+        (nat_le start (from + k) && nat_lt (from + k) (start + len)) }
 {
     let low = start.saturating_sub(from).min(64);
     let high = (start + len).saturating_sub(from).min(64);

@@ -82,7 +82,8 @@ impl Border {
 
     /// Eight tiles that touch a tile with this border, 64 by 64 cells each: they have its cells and no others.
     pub fn neighbors(&self) -> Neighbors
-        ensures { IsBorderOf self.now result.above result.below result.left result.right result.above_left result.above_right result.below_left result.below_right }
+        ensures { IsBorderOf self.now result.above result.below result.left result.right
+            result.above_left result.above_right result.below_left result.below_right }
     {
         let mut above = Tile::empty();
         above.set_row(63, self.above);
