@@ -1,10 +1,11 @@
 -- Counts of a class.
-use Rattle.std.proofs.Common.{◌≡◌, ℕ, ◌+◌, ◌*◌, ◌%◌, ◌<◌, ◌==◌, Bool, true, false, not, inl, inr, ◌&&◌, if◌then◌else◌, zero, suc, List, [], ◌∷◌, get_or, refl, sym, ◌∙◌, ap, ap₂, arith}
+use Rattle.std.proofs.Common.{◌≡◌, ℕ, ◌+◌, ◌*◌, ◌%◌, ◌^◌, ◌<◌, ◌==◌, Bool, true, false, not, inl, inr, ◌&&◌, if◌then◌else◌, zero, suc, List, [], ◌∷◌, get_or, refl, sym, ◌∙◌, ap, ap₂, arith}
 use Rattle.std.proofs.lemmas.Bool.{cases_eq, eq-eqb, ne_eqb}
 use Rattle.bit_tile.specs.Bit.{bit}
 use Rattle.bit_tile.specs.Sums.{sum_below, count_below}
 use Rattle.bit_tile.proofs.Bits.{bits_cases}
-use Rattle.bit_tile.proofs.Sums.{sum_below-zero, sum_below-suc, sum_below-more, sum_below-same, sum_below-bound, count_below-zero, count_below-suc, count_below-same, count_below-none}
+use Rattle.std.specs.Int.RustNames.{count_ones}
+use Rattle.bit_tile.proofs.Sums.{ones_are_bits, count_below-parts, sum_below-zero, sum_below-suc, sum_below-more, sum_below-same, sum_below-bound, count_below-zero, count_below-suc, count_below-same, count_below-none}
 
 -- a sum by pairs
 halves : (n : ℕ) (f : ℕ → ℕ) → sum_below (2 * n) f ≡ sum_below n (λ k. f (2 * k) + f (2 * k + 1))
@@ -161,3 +162,15 @@ in_classes has a b c d first second third fourth =
     let split = cells-split has (λ x y. x % 2 == 0) in
     let odd : cells_counted (λ x y. has x y && not (x % 2 == 0)) ≡ cells_counted (λ x y. has x y && x % 2 == 1) = cells_same _ _ (λ x y _ _. ap (λ b. has x y && b) (not_one x)) in
     omega (arith, split, odd, in_columns has 0, in_columns has 1, first, second, third, fourth)
+
+-- two rows of a class in one word
+pub ones_of_two : (w first second : ℕ) → w < 2 ^ 64 → ((i : ℕ) → i < 32 → bit w i ≡ bit first i) → ((i : ℕ) → i < 32 → bit w (32 + i) ≡ bit second i) → count_ones w ≡ count_below 32 (bit first) + count_below 32 (bit second)
+ones_of_two w first second fits low high =
+    ones_are_bits w 64 fits
+    ∙ (count_below-parts 32 32 (bit w)
+    ∙ ap₂ (λ a b. a + b) (count_below-same 32 (bit w) (bit first) low) (count_below-same 32 (λ i. bit w (32 + i)) (bit second) high))
+
+pub two_rows_more : (n j more : ℕ) (f : ℕ → ℕ) → n ≡ sum_below (2 * j) f → more ≡ f (2 * j) + f (2 * j + 1) → n + more ≡ sum_below (2 * (j + 1)) f
+two_rows_more n j more f so_far here =
+    let next : 2 * (j + 1) ≡ 2 * j + 1 + 1 = omega arith in
+    rw next (omega (arith, so_far, here, sum_below-more (2 * j) f, sum_below-more (2 * j + 1) f))

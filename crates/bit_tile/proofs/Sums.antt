@@ -90,3 +90,11 @@ one_at_most false = omega arith
 pub count_below-bound : (n : ℕ) (test : ℕ → Bool) → count_below n test ≤ n
 count_below-bound zero test = omega (arith, count_below-zero test)
 count_below-bound (suc n) test = omega (arith, count_below-suc n test, count_below-bound n test, one_at_most (test n))
+
+-- a count in two stretches
+pub count_below-parts : (m n : ℕ) (test : ℕ → Bool) → count_below (m + n) test ≡ count_below m test + count_below n (λ i. test (m + i))
+count_below-parts m zero test = ap (λ k. count_below k test) (omega arith) ∙ (let e : count_below m test ≡ count_below m test + 0 = omega arith in e ∙ ap (λ k. count_below m test + k) (sym (count_below-zero (λ i. test (m + i)))))
+count_below-parts m (suc n) test =
+    let next : m + suc n ≡ suc (m + n) = omega arith in
+    ap (λ k. count_below k test) next
+    ∙ omega (arith, count_below-suc (m + n) test, count_below-parts m n test, count_below-suc n (λ i. test (m + i)))

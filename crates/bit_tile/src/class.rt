@@ -5,6 +5,8 @@ ghost use Rattle.bit_tile.specs.Bit.{bit};
 ghost use Rattle.bit_tile.specs.Sums.{sum_below, count_below};
 ghost use Rattle.bit_tile.specs.Tile.{in_class};
 
+use crate::word::joined;
+
 /// The columns from `first` up to `end`.
 pub fn span(first: u32, end: u32) -> u32
     requires order { first ≤ end }
@@ -59,14 +61,14 @@ pub fn same(class: &[u32; 32], other: &[u32; 32]) -> bool
     true
 }
 
-/// How many cells a class has.
+/// How many cells a class has: those of two rows at a time.
 pub fn ones(class: &[u32; 32]) -> u32
     ensures count { result ≡ sum_below 32 (λ j. count_below 32 (bit (slice_index class.now j))) }
     ensures bound { result ≤ 1024 }
 {
     let mut n = 0;
-    for j in 0..32usize {
-        n += class[j].count_ones();
+    for j in 0..16usize {
+        n += joined(class[2 * j], class[2 * j + 1]).count_ones();
     }
     n
 }

@@ -1,6 +1,6 @@
 //! Words of two classes in turn.
 
-ghost use Rattle.std.specs.Prelude.{◌≡◌, ℕ, ◌*◌, ◌/◌, ◌%◌, ◌<◌, ◌&&◌, ◌==◌, if◌then◌else◌};
+ghost use Rattle.std.specs.Prelude.{◌≡◌, ℕ, ◌+◌, ◌*◌, ◌/◌, ◌%◌, ◌<◌, ◌&&◌, ◌==◌, if◌then◌else◌};
 ghost use Rattle.bit_tile.specs.Bit.{bit};
 
 /// The bits of two words in turn: those of the first have the even places.
@@ -35,4 +35,13 @@ pub fn gather(word: u64) -> u32
     let d = (c | (c >> 4)) & 0x00ff_00ff_00ff_00ff;
     let e = (d | (d >> 8)) & 0x0000_ffff_0000_ffff;
     ((e | (e >> 16)) & 0x0000_0000_ffff_ffff) as u32
+}
+
+/// One word after another: the first has the lower half.
+#[inline]
+pub fn joined(first: u32, second: u32) -> u64
+    ensures first { (i : ℕ) → i < 32 → bit result i ≡ bit first i }
+    ensures second { (i : ℕ) → i < 32 → bit result (32 + i) ≡ bit second i }
+{
+    u64::from(first) | (u64::from(second) << 32)
 }

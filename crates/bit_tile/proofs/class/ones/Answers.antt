@@ -1,8 +1,9 @@
-use Rattle.std.proofs.Common.{◌^◌, ◌<◌, get_or, sym, arith}
+use Rattle.std.proofs.Common.{◌≡◌, ◌+◌, ◌*◌, ◌^◌, ◌<◌, ◌∙◌, ap, sym, get_or, arith}
 use Rattle.std.proofs.lemmas.Nat.{ones-le}
 use Rattle.bit_tile.specs.Bit.{bit}
-use Rattle.bit_tile.specs.Sums.{count_below}
-use Rattle.bit_tile.proofs.Sums.{sum_below-zero, sum_below-more, ones_are_bits}
+use Rattle.bit_tile.specs.Sums.{sum_below, count_below}
+use Rattle.bit_tile.proofs.Sums.{sum_below-zero}
+use Rattle.bit_tile.proofs.Counts.{ones_of_two, two_rows_more}
 use Rattle.bit_tile.proofs.class.ones.Goals as goal
 
 pub loop-j-init : goal.loop-j-init
@@ -10,8 +11,16 @@ loop-j-init c = record { so_far = sym (sum_below-zero _); bound = omega arith }
 
 pub loop-j-preserved : goal.loop-j-preserved
 loop-j-preserved c =
-    let fits : get_or c.args.class.now c.loop-j.j 0 < 2 ^ 32 = omega arith in
+    let j = c.loop-j.j in
+    let class = c.args.class.now in
+    let fits : c.joined.result < 2 ^ 64 = omega arith in
+    let here = ones_of_two c.joined.result (get_or class (2 * j) 0) (get_or class (2 * j + 1) 0) fits c.joined.ensures.first c.joined.ensures.second in
     record {
-      so_far = omega (arith, c.loop-j.invariant.so_far, sum_below-more c.loop-j.j (λ j. count_below 32 (bit (get_or c.args.class.now j 0))), ones_are_bits (get_or c.args.class.now c.loop-j.j 0) 32 fits);
-      bound = omega (arith, ones-le 32 (get_or c.args.class.now c.loop-j.j 0) fits);
+      so_far = two_rows_more c.loop-j.n j _ (λ k. count_below 32 (bit (get_or class k 0))) c.loop-j.invariant.so_far here;
+      bound = omega (arith, ones-le 64 c.joined.result fits, c.loop-j.invariant.bound);
     }
+
+pub returns-clause-count : goal.returns-clause-count
+returns-clause-count c =
+    let all : 2 * c.loop-j.j ≡ 32 = omega arith in
+    c.loop-j.invariant.so_far ∙ ap (λ m. sum_below m (λ j. count_below 32 (bit (get_or c.args.class.now j 0)))) all
