@@ -4,6 +4,7 @@ ghost use Rattle.std.specs.Prelude.{◌≡◌, true};
 ghost use Rattle.gas_terms.specs.Cells.{lies_within, extent};
 
 use super::*;
+use gas_terms::Rect;
 use std::process::Abort;
 
 // An empty plane of 128 by 128: four tiles.
