@@ -110,7 +110,7 @@ fn most_until(rt: &(impl Files + AllocGlobal), is_over: &AtomicBool) -> u32 {
     most
 }
 
-// two workers make 256 steps, and then the flag is set
+// two workers make 512 steps, and then the flag is set
 fn step_by_two(rt: &(impl Abort + AllocGlobal + Threads), is_over: &AtomicBool) {
     let room = Room {
         width: 2048,
@@ -118,7 +118,7 @@ fn step_by_two(rt: &(impl Abort + AllocGlobal + Threads), is_over: &AtomicBool) 
         workers: 2,
         cap: 1,
     };
-    gives_on(rt, room, "step 256", "OK 0");
+    gives_on(rt, room, "step 512", "OK 0");
     is_over.store(true, Ordering::SeqCst);
 }
 
