@@ -1,10 +1,12 @@
 -- What the tiles of a list of numbers take.
-use Rattle.std.proofs.Common.{◌≡◌, ℕ, zero, suc, ◌*◌, ◌≤◌, ◌^◌, List, [], ◌∷◌, ◌++◌, length, ℤ, pos, ◌*ℤ◌, nat_abs, w64, FitsSigned, refl, sym, ap, ap₂, ◌∙◌, subst, arith, add-one}
+use Rattle.std.proofs.Common.{◌≡◌, ℕ, zero, suc, ◌+◌, ◌*◌, ◌<◌, ◌≤◌, ◌^◌, List, [], ◌∷◌, ◌++◌, length, length-append, ℤ, pos, ◌*ℤ◌, nat_abs, w64, FitsSigned, refl, sym, ap, ap₂, ◌∙◌, subst, arith, add-one}
 use Rattle.std.proofs.lemmas.Int.{ints}
+use Rattle.std.proofs.lemmas.List.{length_push}
 use Rattle.gas_terms.specs.Velocity.{parity}
-use Rattle.gas_terms.specs.Cells.{Cells, Rectangle, tile_rectangle}
+use Rattle.gas_terms.specs.Cells.{Cells, tile_rectangle}
 use Rattle.gas_terms.specs.Gas.{takes_for_walls, takes_for_obstacles}
-use Rattle.gas_terms.specs.Accounts.{took_plus, total_in, stopped, sums_by_parity, parity_count, TakenFits}
+use Rattle.gas_terms.specs.Accounts.{took_plus, pair_plus, total_in, stopped, TakenFits}
+use Rattle.gas_terms.proofs.RectangleTotals.{parity_count-small, total_in-parities}
 use Rattle.gas_terms.specs.declared.accounts.Pair.{Pair}
 use Rattle.gas_terms.specs.declared.accounts.Took.{Took}
 use Rattle.phase_step.proofs.TakenSums.{small_tile, took_below, took_next}
@@ -17,10 +19,6 @@ pair_same e f = ap₂ (λ x y. let p : Pair = record { x = x; y = y } in p) e f
 
 took_same : {a b c d : Pair} → a ≡ c → b ≡ d → (let p : Took = record { walls = a; obstacles = b } in p) ≡ (let q : Took = record { walls = c; obstacles = d } in q)
 took_same e f = ap₂ (λ x y. let p : Took = record { walls = x; obstacles = y } in p) e f
-
-pub record LawsOfCounts : Type 0 where
-  pub counts : (cells : Cells) (r : Rectangle) (a b : ℕ) → parity_count cells r a b ≤ r.w * r.h
-  pub sums : (tick : ℤ) (cells : Cells) (r : Rectangle) → total_in tick cells r ≡ sums_by_parity tick (parity_count cells r 0 0) (parity_count cells r 1 0) (parity_count cells r 0 1) (parity_count cells r 1 1)
 
 module _ (p : ℕ) (particles walls obstacles : Cells) where
   takes : ℕ → Took
@@ -64,11 +62,11 @@ fits : (z : ℤ) (n : ℕ) → nat_abs z ≤ 16384 * n → n ≤ 2 ^ 20 → Fits
 fits z n h few = omega (arith, ints)
 
 -- what few tiles take fits
-pub take_fits : (p : ℕ) (particles walls obstacles : Cells) (numbers : List ℕ) (took : Took) → LawsOfCounts → length numbers ≤ 2 ^ 20 → took ≡ tiles_take p particles walls obstacles numbers
+take_fits : (p : ℕ) (particles walls obstacles : Cells) (numbers : List ℕ) (took : Took) → length numbers ≤ 2 ^ 20 → took ≡ tiles_take p particles walls obstacles numbers
     → TakenFits took.walls × TakenFits took.obstacles
-take_fits p particles walls obstacles numbers took laws few is =
-    let by_walls = λ (i : ℕ). small_tile (pos p) (stopped (parity (pos p)) particles (takes_for_walls walls obstacles)) i laws.counts laws.sums in
-    let by_obstacles = λ (i : ℕ). small_tile (pos p) (stopped (parity (pos p)) particles (takes_for_obstacles walls obstacles)) i laws.counts laws.sums in
+take_fits p particles walls obstacles numbers took few is =
+    let by_walls = λ (i : ℕ). small_tile (pos p) (stopped (parity (pos p)) particles (takes_for_walls walls obstacles)) i parity_count-small total_in-parities in
+    let by_obstacles = λ (i : ℕ). small_tile (pos p) (stopped (parity (pos p)) particles (takes_for_obstacles walls obstacles)) i parity_count-small total_in-parities in
     subst (λ (t : Took). TakenFits t.walls × TakenFits t.obstacles) (sym is) (
       (
         fits _ (length numbers) (int_sum-small (λ i. (tile_takes p particles walls obstacles i).walls.x) 16384 (λ i. twice (total_in (pos p) (stopped (parity (pos p)) particles (takes_for_walls walls obstacles)) (tile_rectangle particles i)).px (by_walls i).x) numbers) few,
@@ -79,3 +77,18 @@ take_fits p particles walls obstacles numbers took laws few is =
         fits _ (length numbers) (int_sum-small (λ i. (tile_takes p particles walls obstacles i).obstacles.y) 16384 (λ i. twice (total_in (pos p) (stopped (parity (pos p)) particles (takes_for_obstacles walls obstacles)) (tile_rectangle particles i)).py (by_obstacles i).y) numbers) few,
       ),
     )
+
+-- what the tiles of a list and of one more number take fits, and what those of two lists take
+pub more_fits : (p : ℕ) (particles walls obstacles : Cells) (numbers : List ℕ) (i : ℕ) (took here : Took) → length numbers < 2 ^ 20
+    → took ≡ tiles_take p particles walls obstacles numbers → here ≡ tile_takes p particles walls obstacles i
+    → TakenFits (pair_plus took.walls here.walls) × TakenFits (pair_plus took.obstacles here.obstacles)
+more_fits p particles walls obstacles numbers i took here few so_far is =
+    let long = length_push numbers i in
+    take_fits p particles walls obstacles (numbers ++ i ∷ []) (took_plus took here) (omega arith) (take_more p particles walls obstacles numbers i took here so_far is)
+
+pub both_fit : (p : ℕ) (particles walls obstacles : Cells) (numbers others : List ℕ) (took more : Took) → length numbers + length others ≤ 2 ^ 20
+    → took ≡ tiles_take p particles walls obstacles numbers → more ≡ tiles_take p particles walls obstacles others
+    → TakenFits (pair_plus took.walls more.walls) × TakenFits (pair_plus took.obstacles more.obstacles)
+both_fit p particles walls obstacles numbers others took more few so_far is =
+    let long = length-append numbers others in
+    take_fits p particles walls obstacles (numbers ++ others) (took_plus took more) (omega arith) (take_both p particles walls obstacles numbers others took more so_far is)

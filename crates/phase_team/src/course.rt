@@ -1,9 +1,23 @@
-//! What a run starts from.
+//! What a phase and a run start from.
 
 ghost use Rattle.std.specs.Prelude.{◌<◌, ◌≤◌};
 ghost use Rattle.gas_terms.specs.Cells.{HasSidesOf};
+ghost use Rattle.gas_plane.specs.Planes.{IsLattice};
 
 use gas_plane::Plane;
+
+/// The planes of a phase and its parity.
+#[derive(Clone, Copy)]
+pub struct Task<'a> {
+    pub old: &'a Plane,
+    pub walls: &'a Plane,
+    pub obstacles: &'a Plane,
+    pub parity: u8,
+    pub ghost parity_is: { parity < 2 },
+    pub ghost lattice: { IsLattice old.now },
+    pub ghost of_walls: { HasSidesOf walls.now old.now },
+    pub ghost of_obstacles: { HasSidesOf obstacles.now old.now },
+}
 
 /// Particles, walls and obstacles, the parity of the first phase, and how many phases there are: no more than a strip can
 /// make alone.
@@ -16,6 +30,7 @@ pub struct Course<'a> {
     pub phases: u16,
     pub ghost parity_is: { parity < 2 },
     pub ghost few: { phases ≤ 64 },
+    pub ghost lattice: { IsLattice cells.now },
     pub ghost of_walls: { HasSidesOf walls.now cells.now },
     pub ghost of_obstacles: { HasSidesOf obstacles.now cells.now },
 }

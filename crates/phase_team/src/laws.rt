@@ -13,6 +13,4 @@ pub fn strips_keep_their_middle()
         solid_here.width ≡ strip.width → solid_here.height ≡ strip.height → solid.width ≡ cells.width → solid.height ≡ cells.height →
         IsStrip strip cells shift from to → IsStrip solid_here solid shift from to →
         IsStrip (streamed p strip solid_here) (streamed p cells solid) shift (from + 1) (to - 1) }
-{
-    gas_terms::laws::step_turns_blocks();
-}
+{}

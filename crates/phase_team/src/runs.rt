@@ -45,7 +45,6 @@ fn unload(course: Course<'_>, strip: &Strip, out: &mut Plane)
         out.new ≡ filled_up course.entry start ((strip.now.first + strip.now.rows) * (course.entry.cells.now.width / 64)) }
 {
     let across = u32::from(course.cells.size().width() / 64);
-    let _ = course.cells.size().tiles();
     for i in 0..strip.rows * across {
         *out.tile_mut(strip.first * across + i) = *strip.cells.tile(across + i);
     }
@@ -54,12 +53,12 @@ fn unload(course: Course<'_>, strip: &Strip, out: &mut Plane)
 // Puts the strips' own rows into `out`, from the first strip on, if they are all rows: what was taken in all of them.
 fn gather(course: Course<'_>, strips: &[Strip], out: &mut Plane) -> Option<Took>
     requires done { All (IsDone course) strips.now }
+    requires lattice { IsLattice out.old }
     requires out { HasSidesOf out.old course.cells.now }
     ensures out { IfSome result (λ _. out.new ≡ result_of course.entry) }
     ensures sides { HasSidesOf out.new course.entry.cells.now }
     ensures took { IfSome result (λ took. took ≡ takes_of course.entry) }
 {
-    let _ = out.size();
     let down = u32::from(course.cells.size().height() / 64);
     let mut next = 0;
     let mut took = NOTHING;
@@ -107,6 +106,7 @@ fn round<R: Threads>(
     out: &mut Plane,
 ) -> Option<Took>
     requires strips { All (IsFor course) strips.old }
+    requires lattice { IsLattice out.old }
     requires out { HasSidesOf out.old course.cells.now }
     ensures strips { All (IsFor course.entry) strips.new }
     ensures out { IfSome result (λ _. out.new ≡ result_of course.entry) }
@@ -222,6 +222,8 @@ fn stretch<R: Threads>(
     ensures spare { HasSidesOf spare.new particles.old }
     ensures took { result ≡ takes_in run.entry particles.old }
 {
+    // both are lattices
+    let _ = (particles.size(), spare.size());
     let course = Course {
         cells: &*particles,
         walls: run.walls,
@@ -255,6 +257,7 @@ pub fn run_by<R: Threads>(
     spare: &mut Plane,
 ) -> Took
     requires size { strips.old.size ≡ extent particles.old }
+    requires lattice { IsLattice particles.old }
     requires parity { run.parity < 2 }
     requires walls { HasSidesOf run.walls.now particles.old }
     requires obstacles { HasSidesOf run.obstacles.now particles.old }
@@ -263,7 +266,6 @@ pub fn run_by<R: Threads>(
     ensures spare { HasSidesOf spare.new particles.old }
     ensures took { result ≡ takes_in run.entry particles.old }
 {
-    let _ = particles.size();
     let mut took = NOTHING;
     let mut done = 0;
     while done < run.n {

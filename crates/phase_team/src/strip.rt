@@ -3,6 +3,7 @@
 ghost use Rattle.std.specs.Prelude.{◌≡◌, ℕ, ◌+◌, ◌-◌, ◌*◌, ◌/◌, ◌%◌, ◌^◌, ◌<◌, ◌≤◌, IfOk, IsTrue, false};
 ghost use Rattle.gas_terms.specs.Cells.{joined, HasSidesOf};
 ghost use Rattle.gas_terms.specs.Gas.{streamed};
+ghost use Rattle.gas_plane.specs.Planes.{IsLattice};
 ghost use Rattle.phase_step.specs.Runs.{after};
 ghost use Rattle.phase_team.specs.Strips.{window, shift_of};
 ghost use Rattle.phase_team.specs.Work.{own_take, own_take_in_run, IsFor, IsDone};
@@ -41,7 +42,8 @@ fn row_of(first: u32, k: u32, down: u32) -> u32
 fn load(strip: &mut Plane, whole: &Plane, first: u32)
     requires wide { strip.old.width ≡ whole.now.width }
     requires first { first < whole.now.height / 64 }
-    ensures { strip.new ≡ window whole.now (shift_of whole.now first) strip.old.height }
+    ensures window { strip.new ≡ window whole.now (shift_of whole.now first) strip.old.height }
+    ensures lattice { IsLattice strip.new }
 {
     let across = u32::from(whole.size().width() / 64);
     let down = u32::from(whole.size().height() / 64);
@@ -73,8 +75,7 @@ fn phase_of(old: &Plane, walls: &Plane, obstacles: &Plane, parity: u8, out: &mut
     ensures out { out.new ≡ streamed parity old.now (joined walls.now obstacles.now) }
     ensures took { result ≡ own_take parity old.now walls.now obstacles.now }
 {
-    let _ = out.size();
-    let across = u32::from(old.size().width() / 64);
+    let across = u32::from(out.size().width() / 64);
     let tiles = old.size().tiles();
     let end = tiles - across;
     let mut took = NOTHING;
@@ -98,6 +99,7 @@ fn make(
 ) -> Took
     requires parity { parity < 2 }
     requires phases { phases ≤ 64 }
+    requires lattice { IsLattice cells.old }
     requires rows { 2 ≤ cells.old.height / 64 }
     requires walls { HasSidesOf walls.now cells.old }
     requires obstacles { HasSidesOf obstacles.now cells.old }
@@ -106,7 +108,6 @@ fn make(
     ensures spare { HasSidesOf spare.new cells.old }
     ensures took { result ≡ own_take_in_run parity walls.now obstacles.now cells.old phases }
 {
-    let _ = cells.size();
     let mut took = NOTHING;
     for k in 0..phases {
         let turn = parity_at(parity, k);
@@ -148,7 +149,6 @@ impl Strip {
             obstacles,
             took,
         } = self;
-        let _ = course.cells.size();
         load(cells, course.cells, *first);
         load(walls, course.walls, *first);
         load(obstacles, course.obstacles, *first);

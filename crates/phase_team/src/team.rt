@@ -1,19 +1,17 @@
 //! A team of workers.
 
-ghost use Rattle.std.specs.Prelude.{◌≡◌, ℕ, ◌+◌, ◌*◌, ◌<◌, ◌≤◌, true, [], All, IfSome, IfNone, map, length, vec_len, count_by};
+ghost use Rattle.std.specs.Prelude.{◌≡◌, ◌+◌, ◌*◌, ◌<◌, ◌≤◌, [], All, IfSome, IfNone, map, length, vec_len};
 ghost use Rattle.std.specs.Vec.{vec_capacity};
 ghost use Rattle.gas_terms.specs.Cells.{joined, tile_count, HasSidesOf};
 ghost use Rattle.gas_terms.specs.Gas.{streamed};
 ghost use Rattle.gas_terms.specs.Accounts.{taken};
 ghost use Rattle.claim_desk.specs.Desk.{fresh};
-ghost use Rattle.claim_desk.specs.Draws.{times};
-ghost use Rattle.phase_team.specs.Tiles.{tiles_take};
-ghost use Rattle.phase_team.specs.Teamwork.{IsReady, IsTurned, HasWorked, HasTurned, IsRight, drawn};
+ghost use Rattle.phase_team.specs.Teamwork.{IsReady, HasWorked, HasTurned, IsRight, IsRoom, AreTurned, StayTurned};
+ghost use Rattle.phase_team.specs.Teamwork.{HasDrawnAll, HaveDrawn, cells_after, taken_in_all, drawn};
 
-use crate::course::Run;
+use crate::course::{Run, Task};
 use crate::gate::{Gate, NoGate};
 use crate::runs::{Strips, is_worth_strips, run_by, strips_for};
-use crate::task::Task;
 use crate::worker::{NOTHING, Turned, Worker, work_on};
 use claim_desk::{Desk, DeskSeat};
 use gas_plane::Plane;
@@ -26,13 +24,12 @@ use std::thread::Threads;
 
 /// Puts the tiles that a worker turned into the plane.
 fn write_out(task: Task<'_>, turned: &[Turned], out: &mut Plane)
-    requires out { HasSidesOf out.old task.old.now }
+    requires out { IsRoom task out.old }
     requires right { All (IsRight task (tile_count task.old.now)) turned.now }
-    ensures out { HasSidesOf out.new task.entry.old.now }
-    ensures kept { (i : ℕ) → i < tile_count task.entry.old.now → IsTurned task.entry out.old i → IsTurned task.entry out.new i }
-    ensures new { (i : ℕ) → i < tile_count task.entry.old.now → 0 < times i (map (λ t. t.place) turned.now) → IsTurned task.entry out.new i }
+    ensures out { IsRoom task.entry out.new }
+    ensures kept { StayTurned task.entry out.old out.new }
+    ensures new { AreTurned task.entry (map (λ t. t.place) turned.now) out.new }
 {
-    let _ = out.size();
     for Turned { place, tile } in turned {
         *out.tile_mut(*place) = *tile;
     }
@@ -46,8 +43,10 @@ fn gather(
     rooms: &mut Vec<Vec<Turned>>,
 ) -> Option<Vec<Worker>>
     requires { All (λ s. s ≡ fresh desk.now.id) seats.old.items }
-    ensures team { IfSome result (λ team. (vec_len team ≡ vec_len seats.old) × All (IsReady desk.now.id) team.items) }
-    ensures seats { IfSome result (λ _. (seats.new.items ≡ []) × (vec_capacity seats.new ≡ vec_capacity seats.old)) }
+    ensures count { IfSome result (λ team. vec_len team ≡ vec_len seats.old) }
+    ensures ready { IfSome result (λ team. All (IsReady desk.now.id) team.items) }
+    ensures seats { IfSome result (λ _. seats.new.items ≡ []) }
+    ensures room { IfSome result (λ _. vec_capacity seats.new ≡ vec_capacity seats.old) }
 {
     let mut team = Vec::with_capacity(alloc, seats.len()).ok()?;
     while let Some(seat) = seats.pop() {
@@ -74,10 +73,13 @@ struct Crew {
 // `None` where there is no memory.
 fn crew_of(alloc: Global, tiles: u32, workers: u32, rooms: &mut Vec<Vec<Turned>>) -> Option<Crew>
     requires { (0 < workers) × (workers ≤ 16) }
-    ensures desk { IfSome result (λ crew. (crew.desk.id.limit ≡ tiles) × (crew.desk.seats ≡ workers)) }
+    ensures tiles { IfSome result (λ crew. crew.desk.id.limit ≡ tiles) }
+    ensures desk { IfSome result (λ crew. crew.desk.seats ≡ workers) }
     ensures own { IfSome result (λ crew. crew.own ≡ fresh crew.desk.id) }
-    ensures team { IfSome result (λ crew. (vec_len crew.team + 1 ≡ workers) × All (IsReady crew.desk.id) crew.team.items) }
-    ensures seats { IfSome result (λ crew. (crew.seats.items ≡ []) × (workers ≤ vec_capacity crew.seats)) }
+    ensures count { IfSome result (λ crew. vec_len crew.team + 1 ≡ workers) }
+    ensures ready { IfSome result (λ crew. All (IsReady crew.desk.id) crew.team.items) }
+    ensures seats { IfSome result (λ crew. crew.seats.items ≡ []) }
+    ensures room { IfSome result (λ crew. workers ≤ vec_capacity crew.seats) }
 {
     let Ok((desk, mut seats)) = Desk::open(alloc, tiles, workers) else {
         return None;
@@ -105,14 +107,11 @@ fn draw_here<G: Gate>(
     out: &mut Plane,
 ) -> Took
     requires limit { desk.now.id.limit ≡ tile_count task.old.now }
-    requires out { HasSidesOf out.old task.old.now }
+    requires out { IsRoom task out.old }
     requires seat { seat.old ≡ fresh desk.now.id }
-    ensures seat { (seat.new.desk ≡ desk.now.id) × (seat.new.ended ≡ true) × (length seat.new.numbers ≤ desk.now.id.limit) }
+    ensures seat { HasDrawnAll desk.now.id seat.new }
     ensures turned { HasTurned task.entry seat.new.numbers result out.new }
 {
-    // their sides are whole tiles
-    let _ = (task.old.size(), out.size());
-    gas_terms::account_laws::sums_by_parities();
     let mut took = NOTHING;
     while let Some(place) = seat.draw(desk) {
         gate.at_tile(0, place);
@@ -135,10 +134,10 @@ fn work_together<R: Threads, G: Gate>(
     requires limit { desk.now.id.limit ≡ tile_count task.old.now }
     requires few { length team.old < 16 }
     requires ready { All (IsReady desk.now.id) team.old }
-    requires out { HasSidesOf out.old task.old.now }
+    requires out { IsRoom task out.old }
     requires seat { seat.old ≡ fresh desk.now.id }
     ensures worked { All (HasWorked task.entry desk.now.id) team.new }
-    ensures seat { (seat.new.desk ≡ desk.now.id) × (seat.new.ended ≡ true) × (length seat.new.numbers ≤ desk.now.id.limit) }
+    ensures seat { HasDrawnAll desk.now.id seat.new }
     ensures turned { HasTurned task.entry seat.new.numbers result out.new }
 {
     let Some((last, rest)) = team.split_last_mut() else {
@@ -148,13 +147,16 @@ fn work_together<R: Threads, G: Gate>(
     let (_, took) = thread::join_mut(
         rt,
         &mut ||
-            requires { (desk.now.id.limit ≡ tile_count task.old.now) × IsReady desk.now.id last.now }
+            requires { (desk.now.id.limit ≡ tile_count task.old.now)
+                × IsReady desk.now.id last.now }
             ensures { HasWorked task.entry desk.entry.now.id last.exit.now }
         { work_on(last, number, task, desk, gate) },
         &mut || -> Took
-            requires { (desk.now.id.limit ≡ tile_count task.old.now) × (length rest.now < 16) × All (IsReady desk.now.id) rest.now × HasSidesOf out.now task.old.now × (seat.now ≡ fresh desk.now.id) }
+            requires { (desk.now.id.limit ≡ tile_count task.old.now) × (length rest.now < 16)
+                × All (IsReady desk.now.id) rest.now
+                × IsRoom task out.now × (seat.now ≡ fresh desk.now.id) }
             ensures { All (HasWorked task.entry desk.entry.now.id) rest.exit.now
-                × (seat.exit.now.desk ≡ desk.entry.now.id) × (seat.exit.now.ended ≡ true) × (length seat.exit.now.numbers ≤ desk.entry.now.id.limit)
+                × HasDrawnAll desk.entry.now.id seat.exit.now
                 × HasTurned task.entry seat.exit.now.numbers result out.exit.now }
         { work_together(rt, task, gate, desk, rest, seat, out) },
     );
@@ -163,7 +165,7 @@ fn work_together<R: Threads, G: Gate>(
 
 // Keeps room for later phases, if there is memory to list it.
 fn keep(rooms: &mut Vec<Vec<Turned>>, room: Vec<Turned>) {
-    let _ = rooms.push(room);
+    rooms.push(room).ok();
 }
 
 // Puts what the workers turned to its places, takes their seats and keeps their room. The answer is what was taken in all.
@@ -178,16 +180,15 @@ fn hand_in(
 ) -> Took
     requires limit { desk.now.id.limit ≡ tile_count task.old.now }
     requires worked { All (HasWorked task desk.now.id) team.items }
-    requires room { (vec_len seats.old + vec_len team ≤ 16) × (vec_len seats.old + vec_len team ≤ vec_capacity seats.old) }
-    requires seats { All (λ s. s.desk ≡ desk.now.id) seats.old.items × (0 < count_by (λ s. s.ended) seats.old.items) }
+    requires count { vec_len seats.old + vec_len team ≤ 16 }
+    requires room { vec_len seats.old + vec_len team ≤ vec_capacity seats.old }
+    requires seats { HaveDrawn desk.now.id seats.old.items }
     requires few { length (drawn seats.old.items) ≤ vec_len seats.old * tile_count task.old.now }
     requires turned { HasTurned task (drawn seats.old.items) took out.old }
-    ensures seats { (vec_len seats.new ≡ vec_len seats.old + vec_len team) × All (λ s. s.desk ≡ desk.now.id) seats.new.items × (0 < count_by (λ s. s.ended) seats.new.items) }
+    ensures count { vec_len seats.new ≡ vec_len seats.old + vec_len team }
+    ensures seats { HaveDrawn desk.now.id seats.new.items }
     ensures turned { HasTurned task.entry (drawn seats.new.items) result out.new }
 {
-    // its sides are whole tiles
-    let _ = task.old.size();
-    gas_terms::account_laws::sums_by_parities();
     while let Some(worker) = team.pop() {
         let Worker {
             seat,
@@ -213,13 +214,11 @@ fn turn_together<R: Threads, G: Gate>(
     out: &mut Plane,
 ) -> Option<Took>
     requires workers { (0 < workers) × (workers ≤ 16) }
-    requires out { HasSidesOf out.old task.old.now }
-    ensures out { IfSome result (λ _. out.new ≡ streamed task.entry.parity task.entry.old.now (joined task.entry.walls.now task.entry.obstacles.now)) }
-    ensures took { IfSome result (λ took. took ≡ taken task.entry.parity task.entry.old.now task.entry.walls.now task.entry.obstacles.now) }
+    requires out { IsRoom task out.old }
+    ensures out { IfSome result (λ _. out.new ≡ cells_after task.entry) }
+    ensures took { IfSome result (λ took. took ≡ taken_in_all task.entry) }
     ensures none { IfNone result (out.new ≡ out.old) }
 {
-    gas_terms::account_laws::taken_over_cells();
-    gas_terms::account_laws::sums_over_tiles();
     let tiles = task.old.size().tiles();
     let Some(crew) = crew_of(alloc, tiles, workers, rooms) else {
         return None;
@@ -233,7 +232,6 @@ fn turn_together<R: Threads, G: Gate>(
     let first = work_together(rt, task, gate, &desk, team.as_mut_slice(), &mut own, out);
     seats.push_reserved(own);
     let took = hand_in(task, &desk, team, &mut seats, rooms, first, out);
-    let _ = out.size();
     desk.close(seats);
     Some(took)
 }
@@ -296,6 +294,8 @@ impl<R: Threads + Drop, G: Gate + Drop> Team<R, G> {
         ensures took { result ≡ taken parity old.now walls.now obstacles.now }
         ensures team { self.new ≡ self.old }
     {
+        // what is written is a lattice too
+        let _ = out.size();
         let workers = u32::from(self.workers).min(old.size().tiles());
         let task = Task {
             old,

@@ -4,8 +4,8 @@ ghost use Rattle.std.specs.Prelude.{◌≡◌};
 ghost use Rattle.gas_terms.specs.Cells.{tile_count};
 ghost use Rattle.phase_team.specs.Teamwork.{IsReady, HasWorked};
 
+use crate::course::Task;
 use crate::gate::Gate;
-use crate::task::Task;
 use claim_desk::{Desk, DeskSeat};
 use gas_plane::Tile;
 use gas_terms::{Pair, Took};
@@ -36,9 +36,6 @@ pub fn work_on<G: Gate>(worker: &mut Worker, number: u8, task: Task<'_>, desk: &
     requires ready { IsReady desk.now.id worker.old }
     ensures { HasWorked task.entry desk.now.id worker.new }
 {
-    // its sides are whole tiles
-    let _ = task.old.size();
-    gas_terms::account_laws::sums_by_parities();
     let Worker { seat, turned, took } = worker;
     while turned.reserve(1).is_ok() {
         let Some(place) = seat.draw(desk) else {

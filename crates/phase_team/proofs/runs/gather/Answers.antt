@@ -13,7 +13,7 @@ pub loop-strip-init : goal.loop-strip-init
 loop-strip-init c =
     record {
       sides = c.requires.out;
-      filled = sym (sweep_begins c.args.out.now (λ x y. has (result_of c.args.course) x y) c.size.ensures.lattice) ∙ ap (filled_up c.args.course c.args.out.now) (let e : 0 ≡ 0 * (c.args.course.cells.now.width / 64) = omega arith in e);
+      filled = sym (sweep_begins c.args.out.now (λ x y. has (result_of c.args.course) x y) c.requires.lattice) ∙ ap (filled_up c.args.course c.args.out.now) (let e : 0 ≡ 0 * (c.args.course.cells.now.width / 64) = omega arith in e);
       took = none_take c.args.course.parity c.args.course.walls.now c.args.course.obstacles.now c.args.course.cells.now 0 c.args.course.phases ∙ ap (tiles_give c.args.course 0) (let e : 0 ≡ 0 * (c.args.course.cells.now.width / 64) = omega arith in e);
       few = omega arith;
     }
@@ -23,8 +23,8 @@ plus-took-requires-clause-walls c =
     let course = c.args.course in
     let s = c.strip-item.result in
     let done : IsDone course s = search rules in
-    let across = wide (extent course.cells.now) c.size-2.ensures.lattice.sized in
-    let down = high (extent course.cells.now) c.size-2.ensures.lattice.sized in
+    let across = wide (extent course.cells.now) c.args.course.lattice.sized in
+    let down = high (extent course.cells.now) c.args.course.lattice.sized in
     let inside = done.of_course.inside in
     (strip_fits course s (course.cells.now.width / 64) c.loop-strip.next c.loop-strip.took refl across.few (omega (arith, c.loop-strip.invariant.few, down.few)) (omega (arith, inside, down.few)) done c.loop-strip.invariant.took).0
 
@@ -33,8 +33,8 @@ plus-took-requires-clause-obstacles c =
     let course = c.args.course in
     let s = c.strip-item.result in
     let done : IsDone course s = search rules in
-    let across = wide (extent course.cells.now) c.size-2.ensures.lattice.sized in
-    let down = high (extent course.cells.now) c.size-2.ensures.lattice.sized in
+    let across = wide (extent course.cells.now) c.args.course.lattice.sized in
+    let down = high (extent course.cells.now) c.args.course.lattice.sized in
     let inside = done.of_course.inside in
     (strip_fits course s (course.cells.now.width / 64) c.loop-strip.next c.loop-strip.took refl across.few (omega (arith, c.loop-strip.invariant.few, down.few)) (omega (arith, inside, down.few)) done c.loop-strip.invariant.took).1
 
@@ -48,7 +48,7 @@ loop-strip-preserved c =
     let was = c.loop-strip.invariant in
     record {
       sides = c.unload.ensures.sides;
-      filled = c.unload.ensures.filled c.args.out.now c.size.ensures.lattice c.requires.out (was.filled ∙ ap (λ n. filled_up course c.args.out.now (n * a)) (sym at))
+      filled = c.unload.ensures.filled c.args.out.now c.requires.lattice c.requires.out (was.filled ∙ ap (λ n. filled_up course c.args.out.now (n * a)) (sym at))
           ∙ ap (λ n. filled_up course c.args.out.now ((n + s.rows) * a)) at;
       took = c.plus-took.ensures ∙ strip_takes course s a c.loop-strip.next c.loop-strip.took refl at done was.took;
       few = let inside = done.of_course.inside in omega (arith, inside, at);
@@ -58,14 +58,14 @@ pub returns-then-next-down-clause-out : goal.returns-then-next-down-clause-out
 returns-then-next-down-clause-out c =
     let course = c.args.course in
     let cells = course.cells.now in
-    let down : c.from-down.result ≡ cells.height / 64 = c.from-down.ensures ∙ ap (λ n. n / 64) (c.height.ensures ∙ ap (λ (s : Extent). s.height) c.size-2.ensures.extent) in
+    let down : c.from-down.result ≡ cells.height / 64 = c.from-down.ensures ∙ ap (λ n. n / 64) (c.height.ensures ∙ ap (λ (s : Extent). s.height) c.size.ensures.extent) in
     let all : c.loop-strip.next * (cells.width / 64) ≡ tile_count cells = ap (λ n. n * (cells.width / 64)) (c.if-next-down.true ∙ down) ∙ (let e : cells.height / 64 * (cells.width / 64) ≡ tile_count cells = omega arith in e) in
-    all_filled course c.args.out.now c.loop-strip.out (c.loop-strip.next * (cells.width / 64)) c.size.ensures.lattice c.size-2.ensures.lattice.full c.requires.out (all ∙ sym (tiles_as c.args.out.now cells c.requires.out)) c.loop-strip.invariant.filled
+    all_filled course c.args.out.now c.loop-strip.out (c.loop-strip.next * (cells.width / 64)) c.requires.lattice c.args.course.lattice.full c.requires.out (all ∙ sym (tiles_as c.args.out.now cells c.requires.out)) c.loop-strip.invariant.filled
 
 pub returns-then-next-down-clause-took : goal.returns-then-next-down-clause-took
 returns-then-next-down-clause-took c =
     let course = c.args.course in
     let cells = course.cells.now in
-    let down : c.from-down.result ≡ cells.height / 64 = c.from-down.ensures ∙ ap (λ n. n / 64) (c.height.ensures ∙ ap (λ (s : Extent). s.height) c.size-2.ensures.extent) in
+    let down : c.from-down.result ≡ cells.height / 64 = c.from-down.ensures ∙ ap (λ n. n / 64) (c.height.ensures ∙ ap (λ (s : Extent). s.height) c.size.ensures.extent) in
     let all : c.loop-strip.next * (cells.width / 64) ≡ tile_count cells = ap (λ n. n * (cells.width / 64)) (c.if-next-down.true ∙ down) ∙ (let e : cells.height / 64 * (cells.width / 64) ≡ tile_count cells = omega arith in e) in
-    all_took course (c.loop-strip.next * (cells.width / 64)) c.loop-strip.took c.size-2.ensures.lattice.sized all c.loop-strip.invariant.took
+    all_took course (c.loop-strip.next * (cells.width / 64)) c.loop-strip.took c.args.course.lattice.sized all c.loop-strip.invariant.took

@@ -28,12 +28,12 @@ stretch-here-requires-clause-spare g c =
 pub plus-took-requires-clause-walls : goal.plus-took-requires-clause-walls
 plus-took-requires-clause-walls g c =
     (part_fits c.args.run.parity c.parity_at.result c.loop-done.done c.min-next.result c.args.run.walls.now c.args.run.obstacles.now c.args.particles.now c.loop-done.particles c.loop-done.took c.stretch-here.result
-    c.loop-done.invariant.cells c.parity_at.ensures.parity c.loop-done.invariant.took c.stretch-here.ensures.took (omega arith) (search rules) c.size.ensures.lattice.sized (few_tiles c.args.particles.now (tile_count c.args.particles.now) c.size.ensures.lattice (omega arith))).0
+    c.loop-done.invariant.cells c.parity_at.ensures.parity c.loop-done.invariant.took c.stretch-here.ensures.took (omega arith) (search rules) c.requires.lattice.sized (few_tiles c.args.particles.now (tile_count c.args.particles.now) c.requires.lattice (omega arith))).0
 
 pub plus-took-requires-clause-obstacles : goal.plus-took-requires-clause-obstacles
 plus-took-requires-clause-obstacles g c =
     (part_fits c.args.run.parity c.parity_at.result c.loop-done.done c.min-next.result c.args.run.walls.now c.args.run.obstacles.now c.args.particles.now c.loop-done.particles c.loop-done.took c.stretch-here.result
-    c.loop-done.invariant.cells c.parity_at.ensures.parity c.loop-done.invariant.took c.stretch-here.ensures.took (omega arith) (search rules) c.size.ensures.lattice.sized (few_tiles c.args.particles.now (tile_count c.args.particles.now) c.size.ensures.lattice (omega arith))).1
+    c.loop-done.invariant.cells c.parity_at.ensures.parity c.loop-done.invariant.took c.stretch-here.ensures.took (omega arith) (search rules) c.requires.lattice.sized (few_tiles c.args.particles.now (tile_count c.args.particles.now) c.requires.lattice (omega arith))).1
 
 pub loop-done-preserved : goal.loop-done-preserved
 loop-done-preserved g c =

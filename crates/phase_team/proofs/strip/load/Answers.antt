@@ -1,6 +1,7 @@
-use Rattle.std.proofs.Common.{◌≡◌, ◌<◌, ◌/◌, refl, sym, ap, ◌∙◌, subst, arith}
-use Rattle.gas_terms.specs.Cells.{Extent, cells_where, tile_count, tile_rectangle}
-use Rattle.gas_plane.specs.Planes.{with_tile, swept, IsTileFrom}
+use Rattle.std.proofs.Common.{◌≡◌, ◌<◌, ◌/◌, if◌then◌else◌, nat_lt, refl, sym, ap, ◌∙◌, subst, arith}
+use Rattle.gas_terms.specs.Cells.{Extent, has, cells_where, tile_count, tile_rectangle}
+use Rattle.gas_terms.proofs.Cells.{full-cells_where}
+use Rattle.gas_plane.specs.Planes.{IsLattice, IsTileFrom, swept, tile_of, with_tile}
 use Rattle.gas_plane.proofs.Sweeps.{sweep_begins, sweep_is_whole, sweep_within}
 use Rattle.phase_step.proofs.PhaseSweeps.{tiles_are}
 use Rattle.phase_team.specs.Strips.{shift_of}
@@ -45,8 +46,8 @@ loop-i-preserved c =
       ];
     }
 
-pub returns : goal.returns
-returns c =
+pub returns-clause-window : goal.returns-clause-window
+returns-clause-window c =
     let all = tiles_are c.args.strip.now c.size-3.result c.tiles-i-end.result c.size-3.ensures.extent c.tiles-i-end.ensures.tiles in
     let test = seen c.args.whole.now (shift_of c.args.whole.now c.args.first) in
     let done : c.loop-i.i ≡ tile_count c.args.strip.now = omega (arith, all) in
@@ -54,3 +55,12 @@ returns c =
     ∙ (ap (λ i. swept c.args.strip.now test i) done
     ∙ (sweep_is_whole c.args.strip.now test c.size-3.ensures.lattice
     ∙ ap (λ w. cells_where w c.args.strip.now.height test) c.requires.wide))
+
+pub returns-clause-lattice : goal.returns-clause-lattice
+returns-clause-lattice c =
+    let test = seen c.args.whole.now (shift_of c.args.whole.now c.args.first) in
+    subst IsLattice (sym c.loop-i.invariant.strip)
+    (record {
+      sized = c.size-3.ensures.lattice.sized;
+      full = full-cells_where c.args.strip.now.width c.args.strip.now.height (λ x y. if nat_lt (tile_of c.args.strip.now x y) c.loop-i.i then test x y else has c.args.strip.now x y);
+    })

@@ -25,12 +25,12 @@ phase_of-here-requires-clause-rows c = rows_as c.args.parity (joined c.args.wall
 pub plus-took-requires-clause-walls : goal.plus-took-requires-clause-walls
 plus-took-requires-clause-walls c =
     (tiles_fit c.args.parity c.parity_at-turn.result c.loop-k.k c.args.walls.now c.args.obstacles.now c.args.cells.now c.loop-k.cells (c.args.cells.now.width / 64) (tile_count c.args.cells.now - 2 * (c.args.cells.now.width / 64)) c.loop-k.took c.phase_of-here.result
-    c.loop-k.invariant.cells c.parity_at-turn.ensures.parity c.loop-k.invariant.took (own_as c.args.parity (joined c.args.walls.now c.args.obstacles.now) c.args.cells.now c.loop-k.cells c.args.walls.now c.args.obstacles.now c.loop-k.k c.parity_at-turn.result c.phase_of-here.result c.loop-k.invariant.cells c.phase_of-here.ensures.took) (omega arith) (let few = few_tiles c.args.cells.now (tile_count c.args.cells.now) c.size.ensures.lattice (omega arith) in omega arith)).0
+    c.loop-k.invariant.cells c.parity_at-turn.ensures.parity c.loop-k.invariant.took (own_as c.args.parity (joined c.args.walls.now c.args.obstacles.now) c.args.cells.now c.loop-k.cells c.args.walls.now c.args.obstacles.now c.loop-k.k c.parity_at-turn.result c.phase_of-here.result c.loop-k.invariant.cells c.phase_of-here.ensures.took) (omega arith) (let few = few_tiles c.args.cells.now (tile_count c.args.cells.now) c.requires.lattice (omega arith) in omega arith)).0
 
 pub plus-took-requires-clause-obstacles : goal.plus-took-requires-clause-obstacles
 plus-took-requires-clause-obstacles c =
     (tiles_fit c.args.parity c.parity_at-turn.result c.loop-k.k c.args.walls.now c.args.obstacles.now c.args.cells.now c.loop-k.cells (c.args.cells.now.width / 64) (tile_count c.args.cells.now - 2 * (c.args.cells.now.width / 64)) c.loop-k.took c.phase_of-here.result
-    c.loop-k.invariant.cells c.parity_at-turn.ensures.parity c.loop-k.invariant.took (own_as c.args.parity (joined c.args.walls.now c.args.obstacles.now) c.args.cells.now c.loop-k.cells c.args.walls.now c.args.obstacles.now c.loop-k.k c.parity_at-turn.result c.phase_of-here.result c.loop-k.invariant.cells c.phase_of-here.ensures.took) (omega arith) (let few = few_tiles c.args.cells.now (tile_count c.args.cells.now) c.size.ensures.lattice (omega arith) in omega arith)).1
+    c.loop-k.invariant.cells c.parity_at-turn.ensures.parity c.loop-k.invariant.took (own_as c.args.parity (joined c.args.walls.now c.args.obstacles.now) c.args.cells.now c.loop-k.cells c.args.walls.now c.args.obstacles.now c.loop-k.k c.parity_at-turn.result c.phase_of-here.result c.loop-k.invariant.cells c.phase_of-here.ensures.took) (omega arith) (let few = few_tiles c.args.cells.now (tile_count c.args.cells.now) c.requires.lattice (omega arith) in omega arith)).1
 
 pub loop-k-preserved : goal.loop-k-preserved
 loop-k-preserved c =

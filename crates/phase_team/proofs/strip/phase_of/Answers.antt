@@ -20,16 +20,16 @@ loop-i-init c =
 pub tile_mut-requires : goal.tile_mut-requires
 tile_mut-requires c =
     let sides = swept_sides c.loop-i.out c.args.out.now c.args.old.now (phased c.args.parity c.args.old.now c.args.walls.now c.args.obstacles.now) c.loop-i.i c.loop-i.invariant.cells c.requires.out in
-    omega (arith, tiles_as c.loop-i.out c.args.old.now sides, tiles_are c.args.old.now c.size-3.result c.tiles-tiles.result c.size-3.ensures.extent c.tiles-tiles.ensures.tiles)
+    omega (arith, tiles_as c.loop-i.out c.args.old.now sides, tiles_are c.args.old.now c.size-2.result c.tiles-tiles.result c.size-2.ensures.extent c.tiles-tiles.ensures.tiles)
 
 pub plus-took-requires-clause-walls : goal.plus-took-requires-clause-walls
 plus-took-requires-clause-walls c =
-    let few = few_tiles c.args.old.now c.tiles-tiles.result c.size-3.ensures.lattice (omega (arith, tiles_are c.args.old.now c.size-3.result c.tiles-tiles.result c.size-3.ensures.extent c.tiles-tiles.ensures.tiles)) in
+    let few = few_tiles c.args.old.now c.tiles-tiles.result c.size-2.ensures.lattice (omega (arith, tiles_are c.args.old.now c.size-2.result c.tiles-tiles.result c.size-2.ensures.extent c.tiles-tiles.ensures.tiles)) in
     (own_fits c.args.parity c.args.old.now c.args.walls.now c.args.obstacles.now c.from-across.result (c.loop-i.i - c.from-across.result - (c.loop-i.i - (c.tiles-tiles.result - c.from-across.result))) c.loop-i.i c.loop-i.took c.turn_tile_at-here.result (omega arith) c.loop-i.invariant.took c.turn_tile_at-here.ensures.took).0
 
 pub plus-took-requires-clause-obstacles : goal.plus-took-requires-clause-obstacles
 plus-took-requires-clause-obstacles c =
-    let few = few_tiles c.args.old.now c.tiles-tiles.result c.size-3.ensures.lattice (omega (arith, tiles_are c.args.old.now c.size-3.result c.tiles-tiles.result c.size-3.ensures.extent c.tiles-tiles.ensures.tiles)) in
+    let few = few_tiles c.args.old.now c.tiles-tiles.result c.size-2.ensures.lattice (omega (arith, tiles_are c.args.old.now c.size-2.result c.tiles-tiles.result c.size-2.ensures.extent c.tiles-tiles.ensures.tiles)) in
     (own_fits c.args.parity c.args.old.now c.args.walls.now c.args.obstacles.now c.from-across.result (c.loop-i.i - c.from-across.result - (c.loop-i.i - (c.tiles-tiles.result - c.from-across.result))) c.loop-i.i c.loop-i.took c.turn_tile_at-here.result (omega arith) c.loop-i.invariant.took c.turn_tile_at-here.ensures.took).1
 
 pub loop-i-preserved : goal.loop-i-preserved
@@ -47,14 +47,14 @@ loop-i-preserved c =
 
 pub returns-clause-out : goal.returns-clause-out
 returns-clause-out c =
-    let all = tiles_are c.args.old.now c.size-3.result c.tiles-tiles.result c.size-3.ensures.extent c.tiles-tiles.ensures.tiles in
+    let all = tiles_are c.args.old.now c.size-2.result c.tiles-tiles.result c.size-2.ensures.extent c.tiles-tiles.ensures.tiles in
     phase_ends c.args.parity c.args.old.now c.args.walls.now c.args.obstacles.now c.args.out.now c.loop-i.out c.loop-i.i c.tiles-tiles.result c.size.ensures.lattice c.requires.out
     (all ∙ sym (tiles_as c.args.out.now c.args.old.now c.requires.out)) c.loop-i-test.false c.loop-i.auto.i-end c.loop-i.invariant.cells
     sweep_is_whole has-cells_where full-cells_where same_cells
 
 pub returns-clause-took : goal.returns-clause-took
 returns-clause-took c =
-    let all = tiles_are c.args.old.now c.size-3.result c.tiles-tiles.result c.size-3.ensures.extent c.tiles-tiles.ensures.tiles in
-    let across : c.from-across.result ≡ c.args.old.now.width / 64 = c.from-across.ensures ∙ ap (λ n. n / 64) (c.width.ensures ∙ ap (λ (s : Extent). s.width) c.size-2.ensures.extent) in
+    let all = tiles_are c.args.old.now c.size-2.result c.tiles-tiles.result c.size-2.ensures.extent c.tiles-tiles.ensures.tiles in
+    let across : c.from-across.result ≡ c.args.old.now.width / 64 = c.from-across.ensures ∙ ap (λ n. n / 64) (c.width.ensures ∙ ap (λ (s : Extent). s.width) c.size.ensures.extent ∙ c.requires.out.wide) in
     let count : c.loop-i.i - c.from-across.result - (c.loop-i.i - (c.tiles-tiles.result - c.from-across.result)) ≡ tile_count c.args.old.now - 2 * (c.args.old.now.width / 64) = omega (arith, all, across) in
     c.loop-i.invariant.took ∙ ap₂ (tiles_take c.args.parity c.args.old.now c.args.walls.now c.args.obstacles.now) across count

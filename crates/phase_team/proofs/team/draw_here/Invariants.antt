@@ -1,11 +1,9 @@
 use Rattle.std.proofs.Common.{◌≡◌, ◌-◌, ◌≤◌, length}
-use Rattle.gas_plane.specs.Planes.{IsLattice}
 use Rattle.phase_team.specs.Teamwork.{HasTurned}
 use Rattle.phase_team.proofs.team.draw_here.Given as goal
 
 abbrev pub invariant-loop-place : goal.invariant-loop-place
 invariant-loop-place g l = record {
-  lattice : IsLattice l.out;
   same_desk : l.seat.desk ≡ l.desk.id;
   few : length l.seat.numbers ≤ l.desk.id.limit;
   turned : HasTurned l.task l.seat.numbers l.took l.out;

@@ -1,4 +1,4 @@
-use Rattle.std.proofs.Common.{arith, ◌≡◌, ◌+◌, ◌*◌, ◌<◌, ◌≤◌, ◌++◌, All, length, length-append, map, vec_len, sym, ap, ◌∙◌, subst}
+use Rattle.std.proofs.Common.{arith, ℕ, ◌≡◌, ◌+◌, ◌*◌, ◌<◌, ◌≤◌, ◌++◌, All, length, length-append, map, vec_len, sym, ap, ◌∙◌, subst}
 use Rattle.std.proofs.lemmas.Nat.{mul-le}
 use mathlib.Core.Logic.{dite}
 use native.Mathlib.Decide.{dec_lt}
@@ -13,8 +13,11 @@ use Rattle.phase_team.specs.Teamwork.{HasWorked, IsRight, drawn}
 use Rattle.phase_team.specs.declared.worker.Turned.{Turned}
 use Rattle.phase_team.proofs.Places.{all_push}
 use Rattle.phase_team.proofs.DrawnNumbers.{drawn_push, still_ended}
-use Rattle.phase_team.proofs.Takings.{take_both, take_fits}
+use Rattle.phase_team.proofs.Takings.{take_both, both_fit}
 use Rattle.phase_team.proofs.team.hand_in.Goals as goal
+
+seats_draw : (seats tiles : ℕ) → seats ≤ 16 → tiles ≤ 4096 → seats * tiles ≤ 16 * 4096
+seats_draw seats tiles few small = mul-le seats tiles 16 4096 few small
 
 pub write_out-requires-clause-right : goal.write_out-requires-clause-right
 write_out-requires-clause-right c =
@@ -27,29 +30,19 @@ pub plus-took-requires-clause-walls : goal.plus-took-requires-clause-walls
 plus-took-requires-clause-walls c =
     let task = c.args.task in
     let was = c.loop-worker.invariant in
-    let numbers = drawn c.loop-worker.seats.items in
-    let others = c.in-Some.worker.seat.numbers in
     let worked = all_last (HasWorked task c.args.desk.now.id) _ _ _ c.in-Some.ensures.items was.worked in
-    let few = few_tiles task.old.now (tile_count task.old.now) c.size.ensures.lattice (omega arith) in
-    let seats : vec_len c.loop-worker.seats ≤ 16 = omega (arith, was.all_seats, c.requires.room.0) in
-    let product : vec_len c.loop-worker.seats * tile_count task.old.now ≤ 16 * 4096 = mul-le (vec_len c.loop-worker.seats) (tile_count task.old.now) 16 4096 seats few in
-    (take_fits task.parity task.old.now task.walls.now task.obstacles.now (numbers ++ others) _ (record { counts = c.sums_by_parities.ensures.counts; sums = c.sums_by_parities.ensures.sums })
-    (omega (arith, length-append numbers others, was.few, worked.few, few, product, c.requires.limit))
-    (take_both task.parity task.old.now task.walls.now task.obstacles.now numbers others c.loop-worker.took c.in-Some.worker.took was.turned.took worked.took)).0
+    let few = few_tiles task.old.now (tile_count task.old.now) task.lattice (omega arith) in
+    let product = seats_draw (vec_len c.loop-worker.seats) (tile_count task.old.now) (omega (arith, was.all_seats, c.requires.count)) few in
+    (both_fit task.parity task.old.now task.walls.now task.obstacles.now (drawn c.loop-worker.seats.items) c.in-Some.worker.seat.numbers c.loop-worker.took c.in-Some.worker.took (omega (arith, was.few, worked.few, few, product, c.requires.limit)) was.turned.took worked.took).0
 
 pub plus-took-requires-clause-obstacles : goal.plus-took-requires-clause-obstacles
 plus-took-requires-clause-obstacles c =
     let task = c.args.task in
     let was = c.loop-worker.invariant in
-    let numbers = drawn c.loop-worker.seats.items in
-    let others = c.in-Some.worker.seat.numbers in
     let worked = all_last (HasWorked task c.args.desk.now.id) _ _ _ c.in-Some.ensures.items was.worked in
-    let few = few_tiles task.old.now (tile_count task.old.now) c.size.ensures.lattice (omega arith) in
-    let seats : vec_len c.loop-worker.seats ≤ 16 = omega (arith, was.all_seats, c.requires.room.0) in
-    let product : vec_len c.loop-worker.seats * tile_count task.old.now ≤ 16 * 4096 = mul-le (vec_len c.loop-worker.seats) (tile_count task.old.now) 16 4096 seats few in
-    (take_fits task.parity task.old.now task.walls.now task.obstacles.now (numbers ++ others) _ (record { counts = c.sums_by_parities.ensures.counts; sums = c.sums_by_parities.ensures.sums })
-    (omega (arith, length-append numbers others, was.few, worked.few, few, product, c.requires.limit))
-    (take_both task.parity task.old.now task.walls.now task.obstacles.now numbers others c.loop-worker.took c.in-Some.worker.took was.turned.took worked.took)).1
+    let few = few_tiles task.old.now (tile_count task.old.now) task.lattice (omega arith) in
+    let product = seats_draw (vec_len c.loop-worker.seats) (tile_count task.old.now) (omega (arith, was.all_seats, c.requires.count)) few in
+    (both_fit task.parity task.old.now task.walls.now task.obstacles.now (drawn c.loop-worker.seats.items) c.in-Some.worker.seat.numbers c.loop-worker.took c.in-Some.worker.took (omega (arith, was.few, worked.few, few, product, c.requires.limit)) was.turned.took worked.took).1
 
 pub loop-worker-preserved : goal.loop-worker-preserved
 loop-worker-preserved c =
@@ -76,7 +69,8 @@ loop-worker-preserved c =
           let count = ap (λ n. n * tile_count task.old.now) c.push_reserved.ensures.len in
           omega (arith, long, next, count, was.few, worked.few, c.requires.limit);
       turned = record {
-        sides = c.write_out.ensures.out;
+        lattice = c.write_out.ensures.out.0;
+        sides = c.write_out.ensures.out.1;
         turned = λ i within some_time.
             let both = ap (times i) all ∙ times-append i numbers others in
             dite (dec_lt 0 (times i others))

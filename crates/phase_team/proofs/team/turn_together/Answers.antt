@@ -11,15 +11,14 @@ use Rattle.phase_team.proofs.team.turn_together.Goals as goal
 pub returns-clause-out : goal.returns-clause-out
 returns-clause-out g c =
     let task = c.args.task in
-    closes_out task (drawn c.hand_in-took.new.seats.items) c.hand_in-took.result c.hand_in-took.new.out c.size-2.ensures.lattice c.hand_in-took.ensures.turned
-    (λ x. times-drawn x c.hand_in-took.new.seats.items ∙ (c.close.ensures.once x ∙ ap (λ n. once_below n x) (c.close.ensures.limit ∙ (c.in-Some.ensures.desk.0 ∙ tiles_are task.old.now c.size.result c.tiles-tiles.result c.size.ensures.extent c.tiles-tiles.ensures.tiles))))
+    closes_out task (drawn c.hand_in-took.new.seats.items) c.hand_in-took.result c.hand_in-took.new.out c.hand_in-took.ensures.turned
+    (λ x. times-drawn x c.hand_in-took.new.seats.items ∙ (c.close.ensures.once x ∙ ap (λ n. once_below n x) (c.close.ensures.limit ∙ (c.in-Some.ensures.tiles ∙ tiles_are task.old.now c.size.result c.tiles-tiles.result c.size.ensures.extent c.tiles-tiles.ensures.tiles))))
 
 pub returns-clause-took : goal.returns-clause-took
 returns-clause-took g c =
     let task = c.args.task in
-    closes_took task (drawn c.hand_in-took.new.seats.items) c.hand_in-took.result c.hand_in-took.new.out c.size.ensures.lattice.sized c.hand_in-took.ensures.turned
-    (λ x. times-drawn x c.hand_in-took.new.seats.items ∙ (c.close.ensures.once x ∙ ap (λ n. once_below n x) (c.close.ensures.limit ∙ (c.in-Some.ensures.desk.0 ∙ tiles_are task.old.now c.size.result c.tiles-tiles.result c.size.ensures.extent c.tiles-tiles.ensures.tiles))))
-    c.taken_over_cells.ensures.walls c.taken_over_cells.ensures.obstacles c.sums_over_tiles.ensures
+    closes_took task (drawn c.hand_in-took.new.seats.items) c.hand_in-took.result c.hand_in-took.new.out c.hand_in-took.ensures.turned
+    (λ x. times-drawn x c.hand_in-took.new.seats.items ∙ (c.close.ensures.once x ∙ ap (λ n. once_below n x) (c.close.ensures.limit ∙ (c.in-Some.ensures.tiles ∙ tiles_are task.old.now c.size.result c.tiles-tiles.result c.size.ensures.extent c.tiles-tiles.ensures.tiles))))
 
 pub hand_in-took-requires-clause-worked : goal.hand_in-took-requires-clause-worked
 hand_in-took-requires-clause-worked g c =

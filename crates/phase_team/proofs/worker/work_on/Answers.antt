@@ -5,28 +5,20 @@ use Rattle.phase_team.specs.Tiles.{tiles_take}
 use Rattle.phase_team.specs.Teamwork.{IsRight}
 use Rattle.phase_team.specs.declared.worker.Turned.{Turned}
 use Rattle.phase_team.proofs.Places.{all_push, on_ok}
-use Rattle.phase_team.proofs.Takings.{take_more, take_fits}
+use Rattle.phase_team.proofs.Takings.{take_more, more_fits}
 use Rattle.phase_team.proofs.worker.work_on.Goals as goal
 
 pub plus-requires-clause-walls : goal.plus-requires-clause-walls
 plus-requires-clause-walls g c =
     let task = c.args.task in
-    let was = c.loop-seat.invariant in
-    let drawn = c.in-Some.ensures.some in
-    let few = few_tiles task.old.now c.args.desk.now.id.limit c.size.ensures.lattice (omega (arith, c.requires.limit)) in
-    let long = length_push c.loop-seat.seat.numbers c.in-Some.place in
-    (take_fits task.parity task.old.now task.walls.now task.obstacles.now (c.loop-seat.seat.numbers ++ c.in-Some.place ∷ []) _ (record { counts = c.sums_by_parities.ensures.counts; sums = c.sums_by_parities.ensures.sums }) (omega (arith, long, few, was.few, drawn.0, c.in-Some.ensures.later))
-    (take_more task.parity task.old.now task.walls.now task.obstacles.now c.loop-seat.seat.numbers c.in-Some.place c.loop-seat.took c.turn-here.result was.took c.turn-here.ensures.took)).0
+    let few = few_tiles task.old.now c.args.desk.now.id.limit task.lattice (omega (arith, c.requires.limit)) in
+    (more_fits task.parity task.old.now task.walls.now task.obstacles.now c.loop-seat.seat.numbers c.in-Some.place c.loop-seat.took c.turn-here.result (omega (arith, few, c.in-Some.ensures.some.0, c.in-Some.ensures.later)) c.loop-seat.invariant.took c.turn-here.ensures.took).0
 
 pub plus-requires-clause-obstacles : goal.plus-requires-clause-obstacles
 plus-requires-clause-obstacles g c =
     let task = c.args.task in
-    let was = c.loop-seat.invariant in
-    let drawn = c.in-Some.ensures.some in
-    let few = few_tiles task.old.now c.args.desk.now.id.limit c.size.ensures.lattice (omega (arith, c.requires.limit)) in
-    let long = length_push c.loop-seat.seat.numbers c.in-Some.place in
-    (take_fits task.parity task.old.now task.walls.now task.obstacles.now (c.loop-seat.seat.numbers ++ c.in-Some.place ∷ []) _ (record { counts = c.sums_by_parities.ensures.counts; sums = c.sums_by_parities.ensures.sums }) (omega (arith, long, few, was.few, drawn.0, c.in-Some.ensures.later))
-    (take_more task.parity task.old.now task.walls.now task.obstacles.now c.loop-seat.seat.numbers c.in-Some.place c.loop-seat.took c.turn-here.result was.took c.turn-here.ensures.took)).1
+    let few = few_tiles task.old.now c.args.desk.now.id.limit task.lattice (omega (arith, c.requires.limit)) in
+    (more_fits task.parity task.old.now task.walls.now task.obstacles.now c.loop-seat.seat.numbers c.in-Some.place c.loop-seat.took c.turn-here.result (omega (arith, few, c.in-Some.ensures.some.0, c.in-Some.ensures.later)) c.loop-seat.invariant.took c.turn-here.ensures.took).1
 
 pub push_reserved-requires : goal.push_reserved-requires
 push_reserved-requires g c =

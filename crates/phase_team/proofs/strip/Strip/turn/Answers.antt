@@ -22,16 +22,16 @@ returns c =
     let sc = c.load.new.strip in
     let hw = c.load-2.new.strip in
     let ho = c.load-3.new.strip in
-    let sc_is : sc ≡ window cells shift h = window_as cells cells sc first h c.args.self.now.cells.height c.load.ensures (same_sides cells) c.requires.high in
-    let hw_is : hw ≡ window walls shift h = window_as walls cells hw first h c.args.self.now.walls.height c.load-2.ensures course.of_walls (c.requires.walls.high ∙ c.requires.high) in
-    let ho_is : ho ≡ window obstacles shift h = window_as obstacles cells ho first h c.args.self.now.obstacles.height c.load-3.ensures course.of_obstacles (c.requires.obstacles.high ∙ c.requires.high) in
+    let sc_is : sc ≡ window cells shift h = window_as cells cells sc first h c.args.self.now.cells.height c.load.ensures.window (same_sides cells) c.requires.high in
+    let hw_is : hw ≡ window walls shift h = window_as walls cells hw first h c.args.self.now.walls.height c.load-2.ensures.window course.of_walls (c.requires.walls.high ∙ c.requires.high) in
+    let ho_is : ho ≡ window obstacles shift h = window_as obstacles cells ho first h c.args.self.now.obstacles.height c.load-3.ensures.window course.of_obstacles (c.requires.obstacles.high ∙ c.requires.high) in
     let solid_is : joined hw ho ≡ joined (window walls shift h) (window obstacles shift h) = ap₂ joined hw_is ho_is in
     let made : c.make.new.cells ≡ after course.parity (joined (window walls shift h) (window obstacles shift h)) (window cells shift h) course.phases =
     c.make.ensures.cells ∙ ap₂ (λ (s d : Cells). after course.parity s d course.phases) solid_is sc_is in
     let sides = sides_after course.parity (joined (window walls shift h) (window obstacles shift h)) (window cells shift h) course.phases in
     let wide : c.make.new.cells.width ≡ cells.width = ap (λ (d : Cells). d.width) made ∙ sides.wide in
     let high : c.make.new.cells.height ≡ h = ap (λ (d : Cells). d.height) made ∙ sides.high in
-    let sized = c.size.ensures.lattice.sized in
+    let sized = course.lattice.sized in
     record {
       of_course = record {
         wide = wide;
