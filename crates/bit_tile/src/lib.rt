@@ -242,6 +242,3 @@ impl Tile {
         ]
     }
 }
-
-#[cfg(test)]
-mod tests;

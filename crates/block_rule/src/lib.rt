@@ -258,6 +258,3 @@ pub fn turn_tile(
     );
     (out, took)
 }
-
-#[cfg(test)]
-mod tests;

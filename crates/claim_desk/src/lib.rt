@@ -8,8 +8,6 @@ ghost use Rattle.claim_desk.specs.Draws.{IsState, HoldEachOnce};
 mod desk;
 pub mod draws;
 pub mod rule;
-#[cfg(test)]
-mod tests;
 
 pub use desk::{Desk, DeskSeat, NoMemory};
 

@@ -19,6 +19,3 @@ pub use sums::{probe, tally};
 
 /// The accounts of a gas, and the sums that they are made of.
 pub use gas_terms::{Ledger, Sums};
-
-#[cfg(test)]
-mod tests;

@@ -221,6 +221,3 @@ impl Plane {
         &self.tiles[row as usize * across + column as usize]
     }
 }
-
-#[cfg(test)]
-mod tests;

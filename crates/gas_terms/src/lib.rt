@@ -27,6 +27,3 @@ pub use velocity::Vel;
 
 /// Memory was refused: the one name for it in the laboratory's calls.
 pub use std::alloc::AllocError as NoMemory;
-
-#[cfg(test)]
-mod tests;

@@ -102,6 +102,3 @@ impl Stepper for Serial {
         took
     }
 }
-
-#[cfg(test)]
-mod tests;

@@ -212,6 +212,3 @@ fn side(left: u64, right: u64) -> u64
 {
     (left >> 63) | (right << 63)
 }
-
-#[cfg(test)]
-mod tests;

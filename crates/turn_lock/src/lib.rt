@@ -4,8 +4,6 @@
 
 mod lock;
 pub mod rule;
-#[cfg(test)]
-mod tests;
 pub mod view;
 
 pub use lock::{Call, Door, Note, TurnLock};

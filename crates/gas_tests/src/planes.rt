@@ -1,10 +1,10 @@
-//! Worked examples, with values that were found by hand.
+//! Planes: worked examples, with values that were found by hand.
 
 ghost use Rattle.std.specs.Prelude.{◌≡◌, true};
 ghost use Rattle.gas_terms.specs.Cells.{lies_within, extent};
 
-use super::*;
-use gas_terms::Rect;
+use gas_plane::{Plane, Tile};
+use gas_terms::{Rect, Size};
 use std::process::Abort;
 
 // An empty plane of 128 by 128: four tiles.

@@ -1,6 +1,9 @@
-//! Worked examples, with values that were found by hand.
+//! The block rule: worked examples, with values that were found by hand.
 
-use super::*;
+use bit_tile::Tile;
+use block_rule::{Window, turn_block, turn_tile, turn_tile_even, turn_tile_into, turn_tile_odd};
+use gas_terms::{Pair, Took};
+use tile_border::Border;
 
 // the cells in the order upper left, upper right, lower left, lower right: old and new
 const TABLE: [(u8, u8); 16] = [
@@ -90,7 +93,8 @@ fn has_just(tile: &Tile, cells: &[(u32, u32)]) -> bool {
 // the tile with this border after the rule at an odd tick, without walls
 fn turned_odd(old: &Tile, border: &Border) -> Tile {
     let near = border.neighbors();
-    let particles = window_of(old, &near);
+    let round = near.round();
+    let particles = Window { tile: old, round };
     let mut out = Tile::full();
     let _ = turn_tile_odd(&particles, None, None, &mut out);
     out

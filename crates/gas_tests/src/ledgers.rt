@@ -1,9 +1,9 @@
-//! Worked examples, with values that were found by hand.
+//! Gases, ports and sums: worked examples, with values that were found by hand.
 
 ghost use Rattle.std.specs.Prelude.{◌≡◌, true};
 ghost use Rattle.gas_terms.specs.Cells.{lies_within, extent};
 
-use super::*;
+use gas_ledger::{Full, Gas, Moved, Port, Ports, Source, Sums, probe, tally};
 use gas_plane::Plane;
 use gas_terms::{Rect, Size, Tick};
 use std::process::Abort;

@@ -1,6 +1,6 @@
-//! Worked examples, with values that were found by hand.
+//! Tiles: worked examples, with values that were found by hand.
 
-use super::*;
+use bit_tile::Tile;
 
 #[test]
 fn cells_are_put_in_and_taken_out(rt: HostRuntime) {

@@ -3,13 +3,13 @@
 ghost use Rattle.std.specs.Prelude.{◌≡◌, ◌++◌, ◌∷◌, [], ◌⊎◌, ◌↔◌, ⊤, IsTrue, Contains, vec_len};
 ghost use Rattle.turn_lock.specs.Doors.{Adds};
 
-use crate::rule::Journaled;
-use crate::{Call, Door, TurnLock};
 use std::alloc::AllocGlobal;
 use std::process::Abort;
 use std::sync::Wait;
 use std::thread;
 use std::thread::Threads;
+use turn_lock::rule::Journaled;
+use turn_lock::{Call, Door, TurnLock};
 
 // The numbers of those who signed, of at most so many.
 #[derive(Drop)]

@@ -1,10 +1,11 @@
-//! Worked examples, with values that were found by hand.
+//! Phases and runs on one thread: worked examples, with values that were found by hand.
 
 ghost use Rattle.std.specs.Prelude.{◌≡◌, ◌<◌, true};
 ghost use Rattle.gas_terms.specs.Cells.{Extent, extent, lies_within, is_inside};
 
-use super::*;
-use gas_terms::{Pair, Rect, Size};
+use gas_plane::{Plane, Tile};
+use gas_terms::{Pair, Rect, Size, Took};
+use phase_step::{Serial, Stepper, turn_tile_at};
 use std::process::Abort;
 
 const WIDE: u32 = 192;

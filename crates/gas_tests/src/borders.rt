@@ -1,6 +1,7 @@
-//! Worked examples, with values that were found by hand.
+//! Borders: worked examples, with values that were found by hand.
 
-use super::*;
+use bit_tile::Tile;
+use tile_border::{Border, Round};
 
 #[test]
 fn the_ring_is_what_the_neighbors_touch(rt: HostRuntime) {

@@ -1,9 +1,12 @@
-//! Calls with values from the rules of the laboratory.
+//! Sizes, ticks, rectangles, rows and refusals, with values from the rules of the laboratory.
 
 ghost use Rattle.std.specs.Prelude.{◌≡◌, true};
 ghost use Rattle.gas_terms.specs.Cells.{lies_within};
 
-use super::*;
+use gas_terms::{
+    Command, Entry, Ledger, NoMemory, Pair, Rect, Refusal, RowBits, Size, Sums, Tick, Took, Vel,
+    vel,
+};
 use std::process::Abort;
 use std::test::Fail;
 

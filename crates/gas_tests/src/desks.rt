@@ -2,7 +2,7 @@
 
 ghost use Rattle.std.specs.Prelude.{◌≡◌, true, OnOk, IfOk};
 
-use crate::{Desk, DeskSeat, NoMemory};
+use claim_desk::{Desk, DeskSeat, NoMemory};
 use std::alloc::Global;
 use std::test::Fail;
 use std::thread;
