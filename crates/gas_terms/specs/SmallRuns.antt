@@ -1,6 +1,7 @@
 use Rattle.std.specs.Prelude.{ℕ, ◌-◌, ◌^◌, false, List, [], ◌∷◌, map, ℤ, pos, negsuc}
 use Rattle.gas_terms.specs.Cells.{Cells, Rectangle, cells_where, whole}
 use Rattle.gas_terms.specs.Gas.{Gas}
+use Rattle.gas_terms.specs.Accounts.{total_in}
 use Rattle.gas_terms.specs.BookedGas.{BookedGas, opened, book_all}
 use Rattle.gas_terms.specs.Laboratory.{Laboratory, opening, run}
 use Rattle.gas_terms.specs.declared.command.Command.{Command}
@@ -26,6 +27,10 @@ sums count px py = record { count = count; px = px; py = py }
 
 abbrev pub pair : ℤ → ℤ → Pair
 pair x y = record { x = x; y = y }
+
+-- what a gas has in a cell
+abbrev pub at_cell : BookedGas → ℕ → ℕ → Sums
+at_cell b x y = total_in b.gas.tick b.gas.particles (cell x y)
 
 -- particles on their way
 abbrev pub one_step : BookedGas
@@ -108,6 +113,16 @@ lab_after tick cap commands = run (opening (empty_gas tick) cap) (map (λ c. rec
 abbrev pub two_in_a_lab : Laboratory
 two_in_a_lab = lab_after (pos 0) 9 (Put (cell 0 0) ∷ Put (cell 2 2) ∷ Step 1 ∷ [])
 
--- the first tick of all
+-- a source and a drain of one cell
+abbrev pub a_source : Command
+a_source = Source (cell 0 0) 1
+
+abbrev pub a_drain : Command
+a_drain = Drain (cell 0 0)
+
+-- the first tick of all, and the last
 abbrev pub first_tick : ℤ
 first_tick = negsuc (2 ^ 40 - 1)
+
+abbrev pub last_tick : ℤ
+last_tick = pos (2 ^ 40)

@@ -11,9 +11,11 @@ ghost use Rattle.gas_terms.specs.Block.{Block, block, corner, block_of, block_ru
 
 /// A set that is made by a test holds the cells that pass it.
 pub fn made_cells_pass_the_test()
-    ensures held { (width height : ℕ) (test : ℕ → ℕ → Bool) (x y : ℕ) → x < width → y < height →
+    ensures held { (width height : ℕ) (test : ℕ → ℕ → Bool) (x y : ℕ) →
+        x < width → y < height →
         has (cells_where width height test) x y ≡ test x y }
-    ensures full { (width height : ℕ) (test : ℕ → ℕ → Bool) → IsFull (cells_where width height test) }
+    ensures full { (width height : ℕ) (test : ℕ → ℕ → Bool) →
+        IsFull (cells_where width height test) }
 {}
 
 /// Two sets of one size that hold the same cells are equal.
@@ -31,7 +33,8 @@ pub fn whole_cells_are_an_even_torus()
 
 /// A site is walled if one of its four cells is a wall or an obstacle.
 pub fn walls_and_obstacles_make_walled_sites()
-    ensures { (p : ℕ) (walls obstacles : Cells) (s : Site) → HasSidesOf obstacles walls → IsSite p walls.width walls.height s →
+    ensures { (p : ℕ) (walls obstacles : Cells) (s : Site) →
+        HasSidesOf obstacles walls → IsSite p walls.width walls.height s →
         is_walled (joined walls obstacles) s ≡ (is_walled walls s || is_obstructed obstacles s) }
 {}
 
@@ -53,9 +56,11 @@ pub fn step_collides_and_streams()
         ≡ outcome (is_walled walls s) (holds particles s) v }
     // The neighbors are the sites of the next tick.
     ensures sites { (g : Gas) (s : Site) (v : Velocity) →
-        HasEvenSides g.particles.width g.particles.height →
-        IsSite (parity g.tick) g.particles.width g.particles.height s →
-        IsSite (parity (forward g).tick) g.particles.width g.particles.height (neighbor g.particles.width g.particles.height s v) }
+        let width = g.particles.width in
+        let height = g.particles.height in
+        HasEvenSides width height →
+        IsSite (parity g.tick) width height s →
+        IsSite (parity (forward g).tick) width height (neighbor width height s v) }
     // Nothing else is so.
     ensures alone { (p : ℕ) (particles walls after : Cells) →
         HasEvenSides particles.width particles.height →
@@ -72,14 +77,16 @@ pub fn step_back_gathers()
         HasEvenSides particles.width particles.height →
         IsSite p particles.width particles.height s →
         holds (unstreamed p particles walls) s v
-        ≡ outcome (is_walled walls s) (λ u. holds particles (neighbor particles.width particles.height s u) u) v }
+        ≡ outcome (is_walled walls s)
+        (λ u. holds particles (neighbor particles.width particles.height s u) u) v }
     // Nothing else is so.
     ensures alone { (p : ℕ) (particles walls before : Cells) →
         HasEvenSides particles.width particles.height →
         IsFull before → before.width ≡ particles.width → before.height ≡ particles.height →
         ((s : Site) (v : Velocity) → IsSite p particles.width particles.height s →
         holds before s v
-        ≡ outcome (is_walled walls s) (λ u. holds particles (neighbor particles.width particles.height s u) u) v) →
+        ≡ outcome (is_walled walls s)
+        (λ u. holds particles (neighbor particles.width particles.height s u) u) v) →
         before ≡ unstreamed p particles walls }
 {}
 
@@ -97,8 +104,10 @@ pub fn rule_is_its_own_inverse()
 pub fn steps_are_undone()
     ensures forth { (g : Gas) → IsEvenTorus g.particles → back (forward g) ≡ g }
     ensures back { (g : Gas) → IsEvenTorus g.particles → forward (back g) ≡ g }
-    ensures many_forth { (n : ℕ) (g : Gas) → IsEvenTorus g.particles → iterate back n (iterate forward n g) ≡ g }
-    ensures many_back { (n : ℕ) (g : Gas) → IsEvenTorus g.particles → iterate forward n (iterate back n g) ≡ g }
+    ensures many_forth { (n : ℕ) (g : Gas) → IsEvenTorus g.particles →
+        iterate back n (iterate forward n g) ≡ g }
+    ensures many_back { (n : ℕ) (g : Gas) → IsEvenTorus g.particles →
+        iterate forward n (iterate back n g) ≡ g }
 {}
 
 /// The rule of a block is the rule of a site, and turned twice a block is as it was.
@@ -110,10 +119,13 @@ pub fn block_rule_is_the_site_rule()
     // At each corner alike, and for 64 cells at once by and, or and not.
     ensures corners { (walled a b c d : Bool) →
         block_rule walled a b c d
-        ≡ block (corner_rule walled a d b c) (corner_rule walled b c a d) (corner_rule walled c b d a) (corner_rule walled d a c b) }
+        ≡ block (corner_rule walled a d b c) (corner_rule walled b c a d)
+        (corner_rule walled c b d a) (corner_rule walled d a c b) }
     ensures gates { (walled own opposite beside beneath : Bool) →
         corner_rule walled own opposite beside beneath
-        ≡ ((walled && own) || (not walled && ((opposite && (not own || beside || beneath)) || (beside && beneath && not own)))) }
+        ≡ ((walled && own)
+        || (not walled
+        && ((opposite && (not own || beside || beneath)) || (beside && beneath && not own)))) }
     // The cells in the order upper left, upper right, lower left, lower right.
     ensures table { (turned false (digits 0b0000) ≡ digits 0b0000) ×
         (turned false (digits 0b0001) ≡ digits 0b1000) ×
@@ -138,7 +150,8 @@ pub fn step_turns_blocks()
     ensures blocks { (p : ℕ) (particles walls : Cells) (s : Site) →
         HasEvenSides particles.width particles.height →
         IsSite p particles.width particles.height s →
-        block_of (streamed p particles walls) s ≡ turned (is_walled walls s) (block_of particles s) }
+        block_of (streamed p particles walls) s
+        ≡ turned (is_walled walls s) (block_of particles s) }
     // The same, cell by cell.
     ensures cells { (p : ℕ) (particles walls : Cells) (x y : ℕ) →
         HasEvenSides particles.width particles.height →
@@ -147,7 +160,8 @@ pub fn step_turns_blocks()
         let down = other_coordinate particles.height p y in
         has (streamed p particles walls) x y
         ≡ corner_rule (is_walled walls (site_of p particles.width particles.height x y))
-        (has particles x y) (has particles across down) (has particles across y) (has particles x down) }
+        (has particles x y) (has particles across down)
+        (has particles across y) (has particles x down) }
     ensures walled { (p : ℕ) (walls : Cells) (x y : ℕ) →
         x < walls.width → y < walls.height →
         let across = other_coordinate walls.width p x in
@@ -167,8 +181,10 @@ pub fn rows_and_bytes_agree()
     ensures bytes { (cells : Cells) (y : ℕ) → All (λ b. b < 256) (row_bytes cells y) }
     ensures read { (cells : Cells) (x y : ℕ) → cells.width % 8 ≡ 0 → x < cells.width →
         row_has (row_bytes cells y) x ≡ has cells x y }
-    ensures written { (cells : Cells) (row : ℕ) (bytes : List ℕ) (x y : ℕ) → x < cells.width → y < cells.height →
-        has (row_replaced cells row bytes) x y ≡ (if y == row then row_has bytes x else has cells x y) }
+    ensures written { (cells : Cells) (row : ℕ) (bytes : List ℕ) (x y : ℕ) →
+        x < cells.width → y < cells.height →
+        has (row_replaced cells row bytes) x y
+        ≡ (if y == row then row_has bytes x else has cells x y) }
     ensures again { (cells : Cells) (y : ℕ) (bytes : List ℕ) →
         y < cells.height → length bytes ≡ cells.width / 8 → All (λ b. b < 256) bytes →
         row_bytes (row_replaced cells y bytes) y ≡ bytes }

@@ -53,7 +53,8 @@ impl RowBits {
 
     /// The bytes, to be written: their number stays.
     pub fn bytes_mut(&mut self) -> &mut [u8]
-        ensures* writes_back { sem 𝓛 (Lends the_row (Array u8 0) self.entry result (overwritten self.old)) }
+        ensures* writes_back { sem 𝓛
+            (Lends the_row (Array u8 0) self.entry result (overwritten self.old)) }
         ensures value { result.now ≡ self.old }
     {
         self.bytes.as_mut_slice()
