@@ -1,7 +1,7 @@
 use Rattle.std.specs.Prelude.{◌≡◌, ◌≤◌, Bool, true, ℤ, List, [], ◌∷◌, ◌++◌, length, map, filter}
 use Rattle.std.specs.List.{All}
 use Rattle.gas_terms.specs.Cells.{Cells, Extent, Rectangle, lies_within}
-use Rattle.gas_terms.specs.Gas.{Source, has_sixteen, is_due, ported}
+use Rattle.gas_terms.specs.Gas.{Source, most_ports, has_most_ports, is_due, ported}
 use Rattle.gas_terms.specs.Commands.{is_period}
 use Rattle.gas_terms.specs.declared.command.Command.{Command}
 use Rattle.gas_terms.specs.declared.command.Command.TheVariants.{Source as AddSource, Drain as AddDrain}
@@ -28,8 +28,8 @@ with_port ports (SourceAt r period) = record ports { sources = ports.sources ++ 
 
 -- whether there are as many ports of its kind as there may be
 abbrev pub has_all : PortLists → Port → Bool
-has_all ports (DrainAt r) = has_sixteen ports.drains
-has_all ports (SourceAt r period) = has_sixteen ports.sources
+has_all ports (DrainAt r) = has_most_ports ports.drains
+has_all ports (SourceAt r period) = has_most_ports ports.sources
 
 -- whether its period is one that a source may have
 abbrev pub has_period : Port → Bool
@@ -38,8 +38,8 @@ has_period (SourceAt r period) = is_period period
 
 -- What the type of the ports keeps.
 pub record IsPortSet (ports : PortLists) : Type 0 where
-  pub few_drains : length ports.drains ≤ 16
-  pub few_sources : length ports.sources ≤ 16
+  pub few_drains : length ports.drains ≤ most_ports
+  pub few_sources : length ports.sources ≤ most_ports
   pub periods : All (λ s. is_period s.period ≡ true) ports.sources
 
 -- Each port is inside a lattice of the size.

@@ -1,25 +1,28 @@
 //! Short lists that take no memory.
 
 ghost use Rattle.std.specs.Prelude.{◌≡◌, ◌<◌, ◌≤◌, [], ◌∷◌, ◌++◌, length};
+ghost use Rattle.gas_terms.specs.Gas.{most_ports};
 
+use gas_terms::MOST_PORTS;
 use std::marker::Model;
 
-/// At most 16 values.
+/// A value for each port of a kind, at most.
 #[derive(Drop)]
 pub struct Few<T: Copy> {
     // those from `count` on stand for nothing
-    values: [T; 16],
+    values: [T; MOST_PORTS],
     count: usize,
 }
 
 impl<T: Copy> Model for Few<T> {
     ghost use Rattle.std.specs.Prelude.{◌≤◌, List, take};
+    ghost use Rattle.gas_terms.specs.Gas.{most_ports};
 
     ghost Value = { List T };
 
     ghost view = { λ f. take f.count f.values };
 
-    ghost invariant = { λ f. f.count ≤ 16 };
+    ghost invariant = { λ f. f.count ≤ most_ports };
 }
 
 impl<T: Copy> Few<T> {
@@ -28,7 +31,7 @@ impl<T: Copy> Few<T> {
         ensures { result ≡ [] }
     {
         Few {
-            values: [any; 16],
+            values: [any; MOST_PORTS],
             count: 0,
         }
     }
@@ -43,7 +46,7 @@ impl<T: Copy> Few<T> {
     }
 
     pub fn push(&mut self, value: T)
-        requires { length self.old < 16 }
+        requires { length self.old < most_ports }
         ensures { self.new ≡ self.old ++ value ∷ [] }
     {
         self.values[self.count] = value;
@@ -52,14 +55,14 @@ impl<T: Copy> Few<T> {
 
     pub fn as_slice(&self) -> &[T]
         ensures items { result.now ≡ self.now }
-        ensures few { length self.now ≤ 16 }
+        ensures few { length self.now ≤ most_ports }
     {
         &self.values[..self.count]
     }
 
     pub fn len(&self) -> usize
         ensures len { result ≡ length self.now }
-        ensures few { length self.now ≤ 16 }
+        ensures few { length self.now ≤ most_ports }
     {
         self.as_slice().len()
     }

@@ -5,10 +5,10 @@ ghost use Rattle.gas_ledger.specs.PortLists.{no_ports, with_port, has_all, has_p
 
 use crate::few::Few;
 use crate::port::{Full, Port, Source};
-use gas_terms::{Rect, Size, Tick};
+use gas_terms::{MOST_PORTS, Rect, Size, Tick};
 use std::marker::Model;
 
-/// At most 16 drains and at most 16 sources, in the order in which they were added.
+/// At most `MOST_PORTS` drains and as many sources, in the order in which they were added.
 #[derive(Drop)]
 pub struct Ports {
     drains: Few<Rect>,
@@ -53,7 +53,7 @@ impl Ports {
         }
     }
 
-    /// Adds a port at the end of its list, unless there are 16 of the kind already.
+    /// Adds a port at the end of its list, unless there are `MOST_PORTS` of the kind already.
     pub fn add(&mut self, port: Port) -> Result<(), Full>
         requires period { has_period port ≡ true }
         ensures full { IsErr result ↔ (has_all self.old port ≡ true) }
@@ -62,13 +62,13 @@ impl Ports {
     {
         match port {
             Port::Drain(area) => {
-                if self.drains.len() >= 16 {
+                if self.drains.len() >= MOST_PORTS {
                     return Err(Full);
                 }
                 self.drains.push(area);
             }
             Port::Source(area, period) => {
-                if self.sources.len() >= 16 {
+                if self.sources.len() >= MOST_PORTS {
                     return Err(Full);
                 }
                 self.sources.push(Source { area, period });

@@ -1,5 +1,5 @@
 -- Cells are put in or taken out, tile by tile.
-use Rattle.std.proofs.Common.{◌≡◌, ℕ, ◌+◌, ◌*◌, ◌/◌, ◌%◌, ◌<◌, ◌≤◌, ◌==◌, ◌&&◌, ◌||◌, not, Bool, true, false, nat_lt, nat_le, if◌then◌else◌, refl, sym, ◌∙◌, ap, ap₂, arith, inl, inr}
+use Rattle.std.proofs.Common.{◌≡◌, ℕ, ◌+◌, ◌*◌, ◌/◌, ◌%◌, ◌<◌, ◌≤◌, ◌==◌, ◌&&◌, ◌||◌, not, Bool, true, false, nat_lt, nat_le, if◌then◌else◌, refl, sym, subst, ◌∙◌, ap, ap₂, arith, inl, inr}
 use Rattle.std.proofs.lemmas.Nat.{same_from_place, mul-add-lt}
 use Rattle.std.proofs.lemmas.Bool.{cases_eq, cases_lt, eq-eqb, ne_eqb}
 use Rattle.std.proofs.lemmas.Bool.Decides.{nat_tests}
@@ -12,6 +12,11 @@ use Rattle.gas_plane.specs.Planes.{IsLattice, IsTileFrom, tile_of, with_tile, pa
 use Rattle.gas_plane.proofs.Places.{wide, tile_below}
 use Rattle.gas_plane.proofs.Sweeps.{left_of, top_of, cell_across, cell_down}
 use Rattle.gas_plane.proofs.Tilings.{choose_true, choose_false}
+
+-- Painting leaves a lattice a lattice.
+pub painted_lattice : (cells now : Cells) (test : ℕ → ℕ → Bool) (held : Bool) → IsLattice cells → now ≡ painted_where cells test held → IsLattice now
+painted_lattice cells now test held is e =
+    subst IsLattice (sym e) (record { sized = is.sized; full = full-cells_where cells.width cells.height (λ x y. if test x y then held else has cells x y) })
 
 pub none_painted : (cells : Cells) (test : ℕ → ℕ → Bool) (held : Bool) → IsFull cells → ((x y : ℕ) → x < cells.width → y < cells.height → test x y ≡ false) → cells ≡ painted_where cells test held
 none_painted cells test held full none =

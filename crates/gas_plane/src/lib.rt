@@ -96,9 +96,8 @@ impl Plane {
         requires y { y < self.now.height }
         ensures { result ≡ has self.now x y }
     {
-        // its sides are whole tiles
-        let _ = &self.size;
-        self.tile_in(x / 64, y / 64).get(x % 64, y % 64)
+        let across = self.across();
+        self.tile(y / 64 * across + x / 64).get(x % 64, y % 64)
     }
 
     /// Tile i: they stand row by row.
@@ -150,8 +149,10 @@ impl Plane {
     #[inline]
     pub fn is_bare(&self, i: u32) -> bool
         requires { i < tile_count self.now }
-        ensures bare { let r = tile_rectangle self.now i in IsTrue result → IsBare self.now r.x r.y }
-        ensures known { let r = tile_rectangle self.now i in IsBare self.now r.x r.y → IsTrue result }
+        ensures bare { let r = tile_rectangle self.now i in
+            IsTrue result → IsBare self.now r.x r.y }
+        ensures known { let r = tile_rectangle self.now i in
+            IsBare self.now r.x r.y → IsTrue result }
     {
         if self.bare[i as usize] {
             return true;
@@ -163,8 +164,10 @@ impl Plane {
     #[inline]
     pub fn is_bare_round(&self, i: u32) -> bool
         requires { i < tile_count self.now }
-        ensures bare { let r = tile_rectangle self.now i in IsTrue result → IsBareRound self.now r.x r.y }
-        ensures known { let r = tile_rectangle self.now i in IsBareFarRound self.now r.x r.y → IsTrue result }
+        ensures bare { let r = tile_rectangle self.now i in
+            IsTrue result → IsBareRound self.now r.x r.y }
+        ensures known { let r = tile_rectangle self.now i in
+            IsBareFarRound self.now r.x r.y → IsTrue result }
     {
         if self.fresh {
             return true;

@@ -2,7 +2,7 @@
 
 ghost use Rattle.std.specs.Prelude.{◌≡◌, ◌/◌, ◌%◌, ◌<◌, ◌==◌, ◌&&◌};
 ghost use Rattle.gas_terms.specs.Cells.{tile_count, is_inside, filled, cleared};
-ghost use Rattle.gas_plane.specs.Planes.{tile_of, painted_where};
+ghost use Rattle.gas_plane.specs.Planes.{IsLattice, tile_of, painted_where};
 ghost use Rattle.bit_tile.specs.Tile as in_tile;
 
 use crate::Plane;
@@ -37,7 +37,8 @@ impl Plane {
     // the same in one row of tiles
     fn paint_row(&mut self, row: u32, area: Rect, held: bool)
         requires { row < self.old.height / 64 }
-        ensures { self.new ≡ painted_where self.old (λ x y. (y / 64 == row) && is_inside area x y) held }
+        ensures { self.new ≡
+            painted_where self.old (λ x y. (y / 64 == row) && is_inside area x y) held }
     {
         let across = self.across();
         let (first, end) = tiles_met(area.x() as u32, area.w() as u32, across);
@@ -62,12 +63,11 @@ impl Plane {
 
     // puts the part's cells into tile i, or takes them out
     fn paint_tile(&mut self, i: u32, part: &Tile, held: bool)
-        requires { i < tile_count self.old }
+        requires lattice { IsLattice self.old }
+        requires i { i < tile_count self.old }
         ensures { self.new ≡ painted_where self.old
             (λ x y. (tile_of self.old x y == i) && in_tile.has part.now (x % 64) (y % 64)) held }
     {
-        // its sides are whole tiles
-        let _ = &self.size;
         let tile = self.tile_mut(i);
         if held {
             tile.join(part);

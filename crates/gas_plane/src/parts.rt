@@ -12,8 +12,10 @@ pub fn tiles_met(start: u32, len: u32, n: u32) -> (u32, u32)
     requires { start + len < 2 ^ 31 }
     ensures ordered { result.0 ≤ result.1 }
     ensures within { result.1 ≤ n }
-    ensures before { (x : ℕ) → x / 64 < result.0 → (nat_le start x && nat_lt x (start + len)) ≡ false }
-    ensures after { (x : ℕ) → x / 64 < n → result.1 ≤ x / 64 → (nat_le start x && nat_lt x (start + len)) ≡ false }
+    ensures before { (x : ℕ) → x / 64 < result.0 →
+        (nat_le start x && nat_lt x (start + len)) ≡ false }
+    ensures after { (x : ℕ) → x / 64 < n → result.1 ≤ x / 64 →
+        (nat_le start x && nat_lt x (start + len)) ≡ false }
 {
     let end = ((start + len + 63) / 64).min(n);
     ((start / 64).min(end), end)
@@ -37,7 +39,8 @@ pub fn part_of(area: Rect, left: u32, top: u32) -> Option<Tile>
 pub fn is_covered(area: Rect, left: u32, top: u32) -> bool
     requires left { left < 2 ^ 31 }
     requires top { top < 2 ^ 31 }
-    ensures { IsTrue result → (x y : ℕ) → x < 64 → y < 64 → is_inside area (left + x) (top + y) ≡ true }
+    ensures { IsTrue result →
+        (x y : ℕ) → x < 64 → y < 64 → is_inside area (left + x) (top + y) ≡ true }
 {
     let right = area.x() as u32 + area.w() as u32;
     let bottom = area.y() as u32 + area.h() as u32;

@@ -4,7 +4,7 @@ ghost use Rattle.std.specs.Prelude.{◌≡◌, ℕ, ◌+◌, ◌*◌, ◌/◌, �
 ghost use Rattle.bit_tile.specs.Bit.{bit};
 ghost use Rattle.gas_terms.specs.Cells.{has};
 ghost use Rattle.gas_terms.specs.Rows.{row_has, row_replaced, row_bytes};
-ghost use Rattle.gas_plane.specs.Planes.{with_word};
+ghost use Rattle.gas_plane.specs.Planes.{IsLattice, with_word};
 
 use crate::Plane;
 
@@ -43,12 +43,11 @@ impl Plane {
 
     // the 64 cells of row y from column 64 * column on
     fn word(&self, column: u32, y: u32) -> u64
+        requires lattice { IsLattice self.now }
         requires column { column < self.now.width / 64 }
         requires y { y < self.now.height }
         ensures { (x : ℕ) → x < 64 → bit result x ≡ has self.now (column * 64 + x) y }
     {
-        // the rows are whole tiles
-        let _ = &self.size;
         self.tile_in(column, y / 64).row((y % 64) as usize)
     }
 
@@ -68,7 +67,8 @@ impl Plane {
 
 // the cells of a word, eight in a byte: the leftmost is the highest bit of the first
 fn bytes_of(word: u64) -> [u8; 8]
-    ensures { (k i : ℕ) → k < 8 → i < 8 → bit (slice_index result k) (7 - i) ≡ bit word (8 * k + i) }
+    ensures { (k i : ℕ) → k < 8 → i < 8 →
+        bit (slice_index result k) (7 - i) ≡ bit word (8 * k + i) }
 {
     mirrored(word).to_le_bytes()
 }

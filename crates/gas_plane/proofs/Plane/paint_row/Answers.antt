@@ -2,7 +2,7 @@ use Rattle.std.proofs.Common.{◌<◌, ◌∙◌, arith}
 use Rattle.bit_tile.specs.Tile as tile
 use Rattle.gas_terms.specs.Cells.{extent}
 use Rattle.gas_plane.proofs.Places.{wide, tile_below}
-use Rattle.gas_plane.proofs.Painting.{in_row, none_painted, same_painted, outside_columns, row_starts, row_ends, row_more, row_more_whole, row_same, tile_in_row}
+use Rattle.gas_plane.proofs.Painting.{in_row, painted_lattice, none_painted, same_painted, outside_columns, row_starts, row_ends, row_more, row_more_whole, row_same, tile_in_row}
 use Rattle.gas_plane.proofs.Plane.paint_row.Goals as goal
 use Rattle.gas_plane.proofs.Plane.paint_row.Goals.{then-is_covered, else-is_covered+in-Some, else-is_covered+in_default}
 
@@ -11,8 +11,11 @@ loop-column-init c =
     none_painted c.args.self.now (in_row c.args.area c.args.row c.tiles_met-first.result.0) c.args.held c.across-across.ensures.lattice.full
     (λ x y _ _. row_starts c.args.area c.args.row c.tiles_met-first.result.0 x y (λ less. outside_columns c.args.area x y (rw (c.x.ensures, c.w.ensures) at (c.tiles_met-first.ensures.before x less))))
 
-pub paint_tile-requires : goal.paint_tile-requires
-paint_tile-requires c =
+pub paint_tile-requires-clause-lattice : goal.paint_tile-requires-clause-lattice
+paint_tile-requires-clause-lattice c = painted_lattice c.args.self.now c.loop-column.self (in_row c.args.area c.args.row c.loop-column.column) c.args.held c.across-across.ensures.lattice c.loop-column.invariant
+
+pub paint_tile-requires-clause-i : goal.paint_tile-requires-clause-i
+paint_tile-requires-clause-i c =
     tile_in_row c.args.self.now c.loop-column.self (in_row c.args.area c.args.row c.loop-column.column) c.args.held c.args.row c.loop-column.column c.across-across.result
     c.loop-column.invariant c.across-across.ensures.across c.requires (omega (arith, c.tiles_met-first.ensures.within))
 
