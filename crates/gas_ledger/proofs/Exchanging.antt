@@ -16,12 +16,16 @@ use Rattle.gas_plane.specs.Planes.{IsLattice, IsTileFrom, tile_of, swept}
 use Rattle.gas_plane.proofs.Places.{wide, high, cell_below, tile_below}
 use Rattle.gas_plane.proofs.Sweeps.{left_of, top_of, sweep_starts, sweep_ends, sweep_reads, sweep_past}
 use Rattle.gas_plane.proofs.PlaneCounts.{counted, tile_counted, tile_counts_by, counts_end}
-use Rattle.gas_ledger.specs.Exchanges.{is_in_any, exchanged}
+use Rattle.gas_ledger.specs.Exchanges.{is_in_any, is_left, exchanged, HasTilesOf}
 use Rattle.gas_ledger.specs.Counts.{AreCounts}
 use Rattle.gas_terms.proofs.Emptied.{parity_count-none, not_both, none_inside}
 
 abbrev pub exchanging : Cells → List Rectangle → List Rectangle → ℕ → ℕ → Bool
-exchanging cells drains sources x y = (has cells x y && not (is_in_any drains x y)) || is_in_any sources x y
+exchanging cells drains sources x y = is_left (has cells x y) drains sources x y
+
+-- tile i has the same cells when they are exchanged
+abbrev pub Stays : Cells → List Rectangle → List Rectangle → ℕ → Type 0
+Stays cells drains sources i = (x y : ℕ) → x < 64 → y < 64 → exchanging cells drains sources (left_of cells i + x) (top_of cells i + y) ≡ has cells (left_of cells i + x) (top_of cells i + y)
 
 -- what a set has gained and lost when the cells that pass the test are left
 abbrev pub made : Cells → (ℕ → ℕ → Bool) → Cells
@@ -102,12 +106,12 @@ all_counted cells f a b i end is e past reach =
     (λ x y p q h. absurd (none_past cells x y is p q (omega arith)))
 
 -- what is made of a tile
-pub exchange_makes : (cells : Cells) (drains sources : List Rectangle) (i across : ℕ) (old new : Tile) → across ≡ cells.width / 64 → HasCells new (λ x y. (tile.has old x y && not (is_in_any drains (i % across * 64 + x) (i / across * 64 + y))) || is_in_any sources (i % across * 64 + x) (i / across * 64 + y))
+pub exchange_makes : (cells : Cells) (drains sources : List Rectangle) (i across : ℕ) (old new : Tile) → across ≡ cells.width / 64 → HasCells new (λ x y. is_left (tile.has old x y) drains sources (i % across * 64 + x) (i / across * 64 + y))
     → (x y : ℕ) → x < 64 → y < 64 → tile.has old x y ≡ has cells (left_of cells i + x) (top_of cells i + y) → tile.has new x y ≡ exchanging cells drains sources (left_of cells i + x) (top_of cells i + y)
 exchange_makes cells drains sources i across old new e made x y p q was =
     made x y p q
-    ∙ (ap (λ b. (b && not (is_in_any drains (i % across * 64 + x) (i / across * 64 + y))) || is_in_any sources (i % across * 64 + x) (i / across * 64 + y)) was
-    ∙ ap (λ n. (has cells (left_of cells i + x) (top_of cells i + y) && not (is_in_any drains (i % n * 64 + x) (i / n * 64 + y))) || is_in_any sources (i % n * 64 + x) (i / n * 64 + y)) e)
+    ∙ (ap (λ b. is_left b drains sources (i % across * 64 + x) (i / across * 64 + y)) was
+    ∙ ap (λ n. is_left (has cells (left_of cells i + x) (top_of cells i + y)) drains sources (i % n * 64 + x) (i / n * 64 + y)) e)
 
 pub exchange_was : (cells now : Cells) (drains sources : List Rectangle) (i : ℕ) (old : Tile) → IsLattice cells → i < tile_count cells → now ≡ swept cells (exchanging cells drains sources) i → IsTileFrom old now (left_of now i) (top_of now i) → (x y : ℕ) → x < 64 → y < 64 → tile.has old x y ≡ has cells (left_of cells i + x) (top_of cells i + y)
 exchange_was cells now drains sources i old is within so_far from =
@@ -130,7 +134,7 @@ tile_place : (cells : Cells) (i x y : ℕ) → x < 64 → y < 64 → ((left_of c
 tile_place cells i x y p q = (div-mul-add (i % (cells.width / 64)) 64 x p, div-mul-add (i / (cells.width / 64)) 64 y q)
 
 pub unmet : (cells : Cells) (areas : List Rectangle) (met : Tile) (i across : ℕ) → IsLattice cells → across ≡ cells.width / 64 → i < tile_count cells
-    → ((x y : ℕ) → x < 4096 → y < 4096 → is_in_any areas x y ≡ true → tile.has met (x / 64) (y / 64) ≡ true) → tile.has met (i % across) (i / across) ≡ false
+    → HasTilesOf met areas → tile.has met (i % across) (i / across) ≡ false
     → (x y : ℕ) → x < 64 → y < 64 → is_in_any areas (left_of cells i + x) (top_of cells i + y) ≡ false
 unmet cells areas met i across is e within covers missed x y p q =
     let inside = cell_within cells i x y is within p q in
@@ -153,13 +157,13 @@ pub unmet_stays : (cells : Cells) (drains sources : List Rectangle) (x y : ℕ) 
 unmet_stays cells drains sources x y e f = stays (has cells x y) (is_in_any drains x y) (is_in_any sources x y) e f
 
 pub exchange_past : (cells now : Cells) (drains sources : List Rectangle) (i : ℕ) → IsLattice cells → now ≡ swept cells (exchanging cells drains sources) i
-    → ((x y : ℕ) → x < 64 → y < 64 → exchanging cells drains sources (left_of cells i + x) (top_of cells i + y) ≡ has cells (left_of cells i + x) (top_of cells i + y)) → now ≡ swept cells (exchanging cells drains sources) (i + 1)
+    → Stays cells drains sources i → now ≡ swept cells (exchanging cells drains sources) (i + 1)
 exchange_past cells now drains sources i is so_far same = so_far ∙ sweep_past cells (exchanging cells drains sources) i is same
 
 -- a tile that is made of the cells that it has stays
 pub unchanged : (cells : Cells) (drains sources : List Rectangle) (i : ℕ) (old new : Tile) → ((x y : ℕ) → x < 64 → y < 64 → tile.has old x y ≡ has cells (left_of cells i + x) (top_of cells i + y))
     → ((x y : ℕ) → x < 64 → y < 64 → tile.has new x y ≡ exchanging cells drains sources (left_of cells i + x) (top_of cells i + y)) → tile.HasCells new (tile.has old)
-    → (x y : ℕ) → x < 64 → y < 64 → exchanging cells drains sources (left_of cells i + x) (top_of cells i + y) ≡ has cells (left_of cells i + x) (top_of cells i + y)
+    → Stays cells drains sources i
 unchanged cells drains sources i old new was becomes same x y p q = sym (becomes x y p q) ∙ (same x y p q ∙ was x y p q)
 
 -- nothing is counted in a tile without cells

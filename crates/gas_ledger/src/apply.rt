@@ -4,10 +4,11 @@ ghost use Rattle.std.specs.Prelude.{◌≡◌, true, ℕ, ◌<◌, ◌≤◌, �
 ghost use Rattle.bit_tile.specs.Tile.{HasCells};
 ghost use Rattle.bit_tile.specs.Tile as in_tile;
 ghost use Rattle.gas_terms.specs.Cells.{is_inside, whole, without};
+ghost use Rattle.gas_plane.specs.Planes.{IsLattice};
 ghost use Rattle.gas_ledger.specs.PortLists.{ported_by};
 ghost use Rattle.gas_ledger.specs.Moves.{moved_by};
 ghost use Rattle.gas_ledger.specs.Counts.{AreCounts};
-ghost use Rattle.gas_ledger.specs.Exchanges.{is_in_any, exchanged};
+ghost use Rattle.gas_ledger.specs.Exchanges.{is_in_any, is_left, exchanged, HasTilesOf};
 
 use crate::change::Change;
 use crate::moved::Moved;
@@ -22,13 +23,12 @@ pub fn apply_ports(plane: &mut Plane, ports: &Ports, tick: Tick) -> Moved
     ensures cells { plane.new ≡ ported_by ports.now tick plane.old }
     ensures moved { result ≡ moved_by tick plane.old plane.new }
 {
-    // no count is above a lattice's number of cells
-    let _ = plane.size();
     let due = ports.due(tick);
     exchange(plane, ports.drains(), due.as_slice()).moved(tick)
 }
 
 fn exchange(plane: &mut Plane, drains: &[Rect], sources: &[Rect]) -> Change
+    ensures lattice { IsLattice plane.old }
     ensures cells { plane.new ≡ exchanged plane.old drains.now sources.now }
     ensures gained { AreCounts result.gained (without plane.new plane.old) (whole plane.old) }
     ensures lost { AreCounts result.lost (without plane.old plane.new) (whole plane.old) }
@@ -61,8 +61,8 @@ fn exchange(plane: &mut Plane, drains: &[Rect], sources: &[Rect]) -> Change
 
 // which tiles have a cell of some rectangle: a cell here stands for a tile
 fn tiles_met(drains: &[Rect], sources: &[Rect]) -> Tile
-    ensures drains { (x y : ℕ) → x < 4096 → y < 4096 → is_in_any drains.now x y ≡ true → in_tile.has result (x / 64) (y / 64) ≡ true }
-    ensures sources { (x y : ℕ) → x < 4096 → y < 4096 → is_in_any sources.now x y ≡ true → in_tile.has result (x / 64) (y / 64) ≡ true }
+    ensures drains { HasTilesOf result drains.now }
+    ensures sources { HasTilesOf result sources.now }
 {
     let mut met = tiles_of(drains);
     met.join(&tiles_of(sources));
@@ -70,7 +70,7 @@ fn tiles_met(drains: &[Rect], sources: &[Rect]) -> Tile
 }
 
 fn tiles_of(areas: &[Rect]) -> Tile
-    ensures { (x y : ℕ) → x < 4096 → y < 4096 → is_in_any areas.now x y ≡ true → in_tile.has result (x / 64) (y / 64) ≡ true }
+    ensures { HasTilesOf result areas.now }
 {
     let mut met = Tile::empty();
     for area in areas {
@@ -84,7 +84,8 @@ fn tiles_of(areas: &[Rect]) -> Tile
 // of the first 64 tiles along an axis, the first that has one of the `len` places from `start` on, and how many have
 fn tiles_along(start: u16, len: u16) -> (u32, u32)
     ensures within { result.0 + result.1 ≤ 64 }
-    ensures met { (k : ℕ) → k < 4096 → start ≤ k → k < start + len → (result.0 ≤ k / 64) × (k / 64 < result.0 + result.1) }
+    ensures met { (k : ℕ) → k < 4096 → start ≤ k → k < start + len →
+        (result.0 ≤ k / 64) × (k / 64 < result.0 + result.1) }
 {
     let end = (start as u32 + len as u32).div_ceil(64).min(64);
     let first = (start as u32 / 64).min(end);
@@ -93,7 +94,8 @@ fn tiles_along(start: u16, len: u16) -> (u32, u32)
 
 // what is left of a tile: where one rectangle has all of it, no further one is asked for
 fn exchanged_tile(old: &Tile, drains: &[Rect], sources: &[Rect], left: u32, top: u32) -> Tile
-    ensures { HasCells result (λ x y. (in_tile.has old.now x y && not (is_in_any drains.now (left + x) (top + y))) || is_in_any sources.now (left + x) (top + y)) }
+    ensures { HasCells result
+        (λ x y. is_left (in_tile.has old.now x y) drains.now sources.now (left + x) (top + y)) }
 {
     if one_covers(sources, left, top) {
         return Tile::full();
@@ -105,7 +107,8 @@ fn exchanged_tile(old: &Tile, drains: &[Rect], sources: &[Rect], left: u32, top:
 
 // the tile without the cells of any rectangle
 fn drained(old: &Tile, areas: &[Rect], left: u32, top: u32) -> Tile
-    ensures { HasCells result (λ x y. in_tile.has old.now x y && not (is_in_any areas.now (left + x) (top + y))) }
+    ensures { HasCells result
+        (λ x y. in_tile.has old.now x y && not (is_in_any areas.now (left + x) (top + y))) }
 {
     if one_covers(areas, left, top) {
         return Tile::empty();
@@ -121,7 +124,8 @@ fn drained(old: &Tile, areas: &[Rect], left: u32, top: u32) -> Tile
 
 // puts the cells of all rectangles into a tile
 fn fill(tile: &mut Tile, areas: &[Rect], left: u32, top: u32)
-    ensures { HasCells tile.new (λ x y. in_tile.has tile.old x y || is_in_any areas.now (left + x) (top + y)) }
+    ensures { HasCells tile.new
+        (λ x y. in_tile.has tile.old x y || is_in_any areas.now (left + x) (top + y)) }
 {
     for area in areas {
         if let Some(part) = part_of(*area, left, top) {
@@ -132,7 +136,8 @@ fn fill(tile: &mut Tile, areas: &[Rect], left: u32, top: u32)
 
 // whether one of the rectangles has all the 64 by 64 cells from the place (left, top) on
 fn one_covers(areas: &[Rect], left: u32, top: u32) -> bool
-    ensures { IsTrue result → (x y : ℕ) → x < 64 → y < 64 → is_in_any areas.now (left + x) (top + y) ≡ true }
+    ensures { IsTrue result →
+        (x y : ℕ) → x < 64 → y < 64 → is_in_any areas.now (left + x) (top + y) ≡ true }
 {
     for area in areas {
         if covers(*area, left, top) {
@@ -143,7 +148,8 @@ fn one_covers(areas: &[Rect], left: u32, top: u32) -> bool
 }
 
 fn covers(area: Rect, left: u32, top: u32) -> bool
-    ensures { IsTrue result → (x y : ℕ) → x < 64 → y < 64 → is_inside area (left + x) (top + y) ≡ true }
+    ensures { IsTrue result →
+        (x y : ℕ) → x < 64 → y < 64 → is_inside area (left + x) (top + y) ≡ true }
 {
     spans(area.x(), area.w(), left) && spans(area.y(), area.h(), top)
 }

@@ -3,6 +3,7 @@
 ghost use Rattle.std.specs.Prelude.{◌≡◌, ◌<◌, ◌*◌, length};
 ghost use Rattle.gas_terms.specs.Cells.{without};
 ghost use Rattle.gas_terms.specs.Rows.{row_has, row_replaced};
+ghost use Rattle.gas_plane.specs.Planes.{IsLattice};
 ghost use Rattle.gas_ledger.specs.Counts.{AreCounts, AreSmall, moved_by_counts};
 ghost use Rattle.gas_ledger.specs.Exchanges.{row_of};
 
@@ -37,8 +38,11 @@ impl Change {
 pub fn row_change(plane: &Plane, y: u32, bytes: &[u8]) -> Change
     requires y { y < plane.now.height }
     requires bytes { 8 * length bytes.now ≡ plane.now.width }
-    ensures gained { AreCounts result.gained (without (row_replaced plane.now y bytes.now) plane.now) (row_of plane.now y) }
-    ensures lost { AreCounts result.lost (without plane.now (row_replaced plane.now y bytes.now)) (row_of plane.now y) }
+    ensures lattice { IsLattice plane.now }
+    ensures gained { let after = row_replaced plane.now y bytes.now in
+        AreCounts result.gained (without after plane.now) (row_of plane.now y) }
+    ensures lost { let after = row_replaced plane.now y bytes.now in
+        AreCounts result.lost (without plane.now after) (row_of plane.now y) }
 {
     let mut gained = [0; 4];
     let mut lost = [0; 4];

@@ -152,8 +152,6 @@ impl Gas {
         ensures gas { self.new ≡ enact self.old (Put area) }
         ensures moved { result ≡ moved_by self.old.tick self.old.particles self.new.particles }
     {
-        // its sides are a lattice's
-        let _ = self.particles.size();
         let before = probe(&self.particles, area, self.tick);
         self.particles.fill(area);
         let after = probe(&self.particles, area, self.tick);
@@ -169,8 +167,6 @@ impl Gas {
         ensures gas { self.new ≡ enact self.old (Erase area) }
         ensures moved { result ≡ moved_by self.old.tick self.old.particles self.new.particles }
     {
-        // its sides are a lattice's
-        let _ = self.particles.size();
         let before = probe(&self.particles, area, self.tick);
         self.particles.clear(area);
         Moved {
@@ -186,8 +182,6 @@ impl Gas {
         ensures gas { self.new ≡ enact self.old (Row y bytes.now) }
         ensures moved { result ≡ moved_by self.old.tick self.old.particles self.new.particles }
     {
-        // its sides are a lattice's
-        let _ = self.particles.size();
         let change = row_change(&self.particles, y as u32, bytes);
         self.particles.set_row(y as u32, bytes);
         change.moved(self.tick)
@@ -215,7 +209,7 @@ impl Gas {
         self.obstacles.clear(area);
     }
 
-    /// Adds a port at the end of its list, unless there are 16 of the kind. It does not act by being added.
+    /// Adds a port at the end of its list, unless there are `MOST_PORTS` of the kind. It does not act by being added.
     pub fn add_port(&mut self, port: Port) -> Result<(), Full>
         requires { fits (extent self.old.particles) (adding port) ≡ true }
         ensures full { IsErr result ↔ (has_all (ports_of self.old) port ≡ true) }

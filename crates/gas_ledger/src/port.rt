@@ -29,7 +29,7 @@ impl Model for Source {
     ghost inverse = { λ s. record { area = s.area; period = s.period } };
 }
 
-/// There are 16 ports of the kind already.
+/// There are `MOST_PORTS` ports of the kind already.
 #[derive(Clone, Copy, Debug, PartialEq, Eq)]
 pub struct Full;
 

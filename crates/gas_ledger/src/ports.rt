@@ -87,7 +87,8 @@ impl Ports {
 
     /// Whether there is a port.
     pub fn any(&self) -> bool
-        ensures any { result ≡ (nat_lt 0 (length self.now.drains) || nat_lt 0 (length self.now.sources)) }
+        ensures any { result ≡
+            (nat_lt 0 (length self.now.drains) || nat_lt 0 (length self.now.sources)) }
         ensures none { result ≡ false → self.now ≡ no_ports }
     {
         self.drains.len() > 0 || self.sources.len() > 0

@@ -4,6 +4,7 @@ ghost use Rattle.std.specs.Prelude.{◌≡◌, ◌+◌, ◌^◌, ◌<◌, ◌==�
 ghost use Rattle.gas_terms.specs.Velocity.{parity, sign};
 ghost use Rattle.gas_terms.specs.Cells.{extent, lies_within};
 ghost use Rattle.gas_terms.specs.Accounts.{total, total_in, IsOfAtMost};
+ghost use Rattle.gas_plane.specs.Planes.{IsLattice};
 ghost use Rattle.gas_ledger.specs.Counts.{AreSmall, sums_of_counts};
 
 use gas_plane::Plane;
@@ -12,6 +13,7 @@ use gas_terms::{Rect, Sums, Tick};
 /// The sums of the particles in a rectangle at the tick.
 pub fn probe(plane: &Plane, area: Rect, tick: Tick) -> Sums
     requires { lies_within (extent plane.now) area ≡ true }
+    ensures lattice { IsLattice plane.now }
     ensures sums { result ≡ total_in tick plane.now area }
     ensures bounded { IsOfAtMost (2 ^ 24) result }
 {

@@ -7,8 +7,8 @@ use Rattle.gas_ledger.proofs.apply.apply_ports.Goals as goal
 pub moved-requires : goal.moved-requires
 moved-requires c =
     record {
-      gained = lattice_counts_small c.exchange.result.gained _ c.args.plane.now c.size.ensures.lattice c.exchange.ensures.gained;
-      lost = lattice_counts_small c.exchange.result.lost _ c.args.plane.now c.size.ensures.lattice c.exchange.ensures.lost;
+      gained = lattice_counts_small c.exchange.result.gained _ c.args.plane.now c.exchange.ensures.lattice c.exchange.ensures.gained;
+      lost = lattice_counts_small c.exchange.result.lost _ c.args.plane.now c.exchange.ensures.lattice c.exchange.ensures.lost;
     }
 
 pub returns-clause-cells : goal.returns-clause-cells
@@ -20,4 +20,4 @@ returns-clause-cells c =
 pub returns-clause-moved : goal.returns-clause-moved
 returns-clause-moved c =
     c.moved.ensures
-    ∙ moved_by_change c.args.tick c.args.plane.now c.exchange.new.plane c.drains.result.now c.as_slice.result.now c.exchange.result c.size.ensures.lattice c.exchange.ensures.cells c.exchange.ensures.gained c.exchange.ensures.lost
+    ∙ moved_by_change c.args.tick c.args.plane.now c.exchange.new.plane c.drains.result.now c.as_slice.result.now c.exchange.result c.exchange.ensures.lattice c.exchange.ensures.cells c.exchange.ensures.gained c.exchange.ensures.lost

@@ -1,19 +1,12 @@
-use Rattle.std.proofs.Common.{◌≡◌, ◌<◌, ◌≤◌, ◌/◌, ◌*◌, ◌+◌, ◌∙◌, ℕ, ap, arith, get_or, sym, List, ◌&&◌, not}
+use Rattle.std.proofs.Common.{◌<◌, ◌≤◌, ◌*◌, ◌/◌, ◌+◌, ◌∙◌, ℕ, arith, get_or, sym}
 use Rattle.bit_tile.proofs.Bits.{get_or-replicate_zero}
-use Rattle.gas_terms.specs.Accounts.{parity_count}
-use Rattle.gas_terms.specs.Cells.{Cells, Extent, Rectangle, has, tile_count, whole, without}
-use Rattle.gas_plane.proofs.Sweeps.{sweep_within, sweep_next, swept, left_of, top_of}
-use Rattle.gas_plane.proofs.PlaneCounts.{counts_next, class_place, few_tiles, tile_counted, sum_past}
+use Rattle.gas_terms.specs.Cells.{Cells, tile_count, whole}
+use Rattle.gas_plane.proofs.Sweeps.{sweep_within, sweep_next}
+use Rattle.gas_plane.proofs.PlaneCounts.{counts_next, class_place, few_tiles, tile_counted}
 use Rattle.gas_plane.specs.Planes.{IsLattice}
-use Rattle.gas_ledger.specs.Exchanges.{exchanged}
-use Rattle.gas_ledger.proofs.Exchanging.{exchanging, made, came, went, came_count, went_count, exchange_makes, exchange_was, exchange_starts, exchange_ends, all_counted, unmet, unmet_stays, exchange_past, unchanged, nothing_came, nothing_went, idle_exchange, idle_counts}
+use Rattle.gas_ledger.proofs.Exchanging.{exchanging, came, went, came_count, went_count, exchange_makes, exchange_was, exchange_starts, exchange_ends, idle_exchange, idle_counts}
+use Rattle.gas_ledger.proofs.TileExchanges.{all_tiles, row_of_tiles, tile_within, passed_by, unmet_tile, same_tile, came_counted, went_counted}
 use Rattle.gas_ledger.proofs.apply.exchange.Goals as goal
-
-all_tiles : (cells : Cells) (size : Extent) (n : ℕ) → n ≡ size.width / 64 * (size.height / 64) → size ≡ record { width = cells.width; height = cells.height } → n ≡ tile_count cells
-all_tiles cells size n e f = e ∙ ap (λ (s : Extent). s.width / 64 * (s.height / 64)) f
-
-row_of_tiles : (cells : Cells) (size : Extent) (n : ℕ) → n ≡ size.width → size ≡ record { width = cells.width; height = cells.height } → n / 64 ≡ cells.width / 64
-row_of_tiles cells size n e f = ap (λ w. w / 64) (e ∙ ap (λ (s : Extent). s.width) f)
 
 pub loop-i-init : goal.loop-i-init
 loop-i-init c =
@@ -27,26 +20,26 @@ loop-i-init c =
 
 pub tile-requires : goal.tile-requires
 tile-requires c =
-    let all = all_tiles c.args.plane.now c.size-2.result c.tiles-end.result c.tiles-end.ensures.tiles c.size-2.ensures.extent in
-    sweep_within c.args.plane.now c.loop-i.plane (exchanging c.args.plane.now c.args.drains.now c.args.sources.now) c.loop-i.i c.tiles-end.result c.loop-i.invariant.cells c.loop-i-test.true (omega (arith, all))
+    sweep_within c.args.plane.now c.loop-i.plane (exchanging c.args.plane.now c.args.drains.now c.args.sources.now) c.loop-i.i c.tiles-end.result c.loop-i.invariant.cells c.loop-i-test.true
+    (let all = all_tiles c.args.plane.now c.size-2.result c.tiles-end.result c.tiles-end.ensures.tiles c.size-2.ensures.extent in omega (arith, all))
 
 pub set_tile-requires : goal.set_tile-requires
 set_tile-requires c =
-    let all = all_tiles c.args.plane.now c.size-2.result c.tiles-end.result c.tiles-end.ensures.tiles c.size-2.ensures.extent in
-    sweep_within c.args.plane.now c.loop-i.plane (exchanging c.args.plane.now c.args.drains.now c.args.sources.now) c.loop-i.i c.tiles-end.result c.loop-i.invariant.cells c.loop-i-test.true (omega (arith, all))
+    sweep_within c.args.plane.now c.loop-i.plane (exchanging c.args.plane.now c.args.drains.now c.args.sources.now) c.loop-i.i c.tiles-end.result c.loop-i.invariant.cells c.loop-i-test.true
+    (let all = all_tiles c.args.plane.now c.size-2.result c.tiles-end.result c.tiles-end.ensures.tiles c.size-2.ensures.extent in omega (arith, all))
 
-few : (cells : Cells) (i n : ℕ) → IsLattice cells → n ≡ tile_count cells → i < n → i ≤ 4096
-few cells i n is e h = few_tiles cells i is (omega arith)
+few : (cells : Cells) (i : ℕ) → IsLattice cells → i < tile_count cells → i ≤ 4096
+few cells i is h = few_tiles cells i is (omega arith)
 
 pub sums-more-requires : goal.sums-more-requires
 sums-more-requires c = λ k h.
-    let all = all_tiles c.args.plane.now c.size-2.result c.tiles-end.result c.tiles-end.ensures.tiles c.size-2.ensures.extent in
-    omega (arith, c.loop-i.invariant.few_gained k h, c.count_by_parity.ensures.bound k, few c.args.plane.now c.loop-i.i c.tiles-end.result c.size.ensures.lattice all c.loop-i-test.true)
+    let within = tile_within c.args.plane.now c.size-2.result c.tiles-end.result c.loop-i.i c.tiles-end.ensures.tiles c.size-2.ensures.extent c.loop-i-test.true in
+    omega (arith, c.loop-i.invariant.few_gained k h, c.count_by_parity.ensures.bound k, few c.args.plane.now c.loop-i.i c.size.ensures.lattice within)
 
 pub sums-less-requires : goal.sums-less-requires
 sums-less-requires c = λ k h.
-    let all = all_tiles c.args.plane.now c.size-2.result c.tiles-end.result c.tiles-end.ensures.tiles c.size-2.ensures.extent in
-    omega (arith, c.loop-i.invariant.few_lost k h, c.count_by_parity-in-loop-i.ensures.bound k, few c.args.plane.now c.loop-i.i c.tiles-end.result c.size.ensures.lattice all c.loop-i-test.true)
+    let within = tile_within c.args.plane.now c.size-2.result c.tiles-end.result c.loop-i.i c.tiles-end.ensures.tiles c.size-2.ensures.extent c.loop-i-test.true in
+    omega (arith, c.loop-i.invariant.few_lost k h, c.count_by_parity-in-loop-i.ensures.bound k, few c.args.plane.now c.loop-i.i c.size.ensures.lattice within)
 
 pub loop-i-preserved : goal.loop-i-preserved
 loop-i-preserved c =
@@ -55,8 +48,7 @@ loop-i-preserved c =
     let sources = c.args.sources.now in
     let i = c.loop-i.i in
     let is = c.size.ensures.lattice in
-    let all = all_tiles cells c.size-2.result c.tiles-end.result c.tiles-end.ensures.tiles c.size-2.ensures.extent in
-    let within : c.loop-i.i < tile_count c.args.plane.now = omega (arith, all) in
+    let within = tile_within c.args.plane.now c.size-2.result c.tiles-end.result c.loop-i.i c.tiles-end.ensures.tiles c.size-2.ensures.extent c.loop-i-test.true in
     let across = row_of_tiles cells c.size.result c.width.result c.width.ensures c.size.ensures.extent in
     let old = c.tile.result.now in
     let new = c.exchanged_tile-new.result in
@@ -78,58 +70,17 @@ loop-i-preserved c =
 
 pub loop-i-preserved-then-not-get : goal.loop-i-preserved-then-not-get
 loop-i-preserved-then-not-get c =
-    let cells = c.args.plane.now in
-    let drains = c.args.drains.now in
-    let sources = c.args.sources.now in
-    let i = c.loop-i.i in
-    let is = c.size.ensures.lattice in
-    let all = all_tiles cells c.size-2.result c.tiles-end.result c.tiles-end.ensures.tiles c.size-2.ensures.extent in
-    let within : c.loop-i.i < tile_count c.args.plane.now = omega (arith, all) in
-    let across = row_of_tiles cells c.size.result c.width.result c.width.ensures c.size.ensures.extent in
-    let missed = sym c.get.ensures ∙ c.if-not-get.true in
-    let same : (x y : ℕ) → x < 64 → y < 64 → exchanging cells drains sources (left_of cells i + x) (top_of cells i + y) ≡ has cells (left_of cells i + x) (top_of cells i + y) =
-    λ x y p q.
-    unmet_stays cells drains sources (left_of cells i + x) (top_of cells i + y)
-    (unmet cells drains c.tiles_met-met.result i (c.width.result / 64) is across within c.tiles_met-met.ensures.drains missed x y p q)
-    (unmet cells sources c.tiles_met-met.result i (c.width.result / 64) is across within c.tiles_met-met.ensures.sources missed x y p q) in
-    record {
-      cells = exchange_past cells c.loop-i.plane drains sources i is c.loop-i.invariant.cells same;
-      gained = λ a b p q.
-          sum_past (tile_counted (came cells (exchanging cells drains sources)) (whole cells) a b) i (get_or c.loop-i.gained (2 * b + a) 0) (c.loop-i.invariant.gained a b p q)
-          (nothing_came cells (exchanging cells drains sources) a b i is within same);
-      lost = λ a b p q.
-          sum_past (tile_counted (went cells (exchanging cells drains sources)) (whole cells) a b) i (get_or c.loop-i.lost (2 * b + a) 0) (c.loop-i.invariant.lost a b p q)
-          (nothing_went cells (exchanging cells drains sources) a b i is within same);
-      few_gained = λ k h. omega (arith, c.loop-i.invariant.few_gained k h);
-      few_lost = λ k h. omega (arith, c.loop-i.invariant.few_lost k h);
-    }
+    let within = tile_within c.args.plane.now c.size-2.result c.tiles-end.result c.loop-i.i c.tiles-end.ensures.tiles c.size-2.ensures.extent c.loop-i-test.true in
+    passed_by c.args.plane.now c.loop-i.plane c.args.drains.now c.args.sources.now c.loop-i.i c.loop-i.gained c.loop-i.lost c.size.ensures.lattice within c.loop-i.invariant
+    (unmet_tile c.args.plane.now c.args.drains.now c.args.sources.now c.tiles_met-met.result c.loop-i.i (c.width.result / 64) c.size.ensures.lattice
+    (row_of_tiles c.args.plane.now c.size.result c.width.result c.width.ensures c.size.ensures.extent) within c.tiles_met-met.ensures.drains c.tiles_met-met.ensures.sources (sym c.get.ensures ∙ c.if-not-get.true))
 
 pub loop-i-preserved-then-has_same_cells : goal.loop-i-preserved-then-has_same_cells
 loop-i-preserved-then-has_same_cells c =
-    let cells = c.args.plane.now in
-    let drains = c.args.drains.now in
-    let sources = c.args.sources.now in
-    let i = c.loop-i.i in
-    let is = c.size.ensures.lattice in
-    let all = all_tiles cells c.size-2.result c.tiles-end.result c.tiles-end.ensures.tiles c.size-2.ensures.extent in
-    let within : c.loop-i.i < tile_count c.args.plane.now = omega (arith, all) in
-    let across = row_of_tiles cells c.size.result c.width.result c.width.ensures c.size.ensures.extent in
-    let old = c.tile.result.now in
-    let new = c.exchanged_tile-new.result in
-    let was = exchange_was cells c.loop-i.plane drains sources i old is within c.loop-i.invariant.cells c.tile.ensures in
-    let makes = exchange_makes cells drains sources i (c.width.result / 64) old new across c.exchanged_tile-new.ensures in
-    let same = unchanged cells drains sources i old new was (λ x y p q. makes x y p q (was x y p q)) (c.has_same_cells.ensures.same c.if-has_same_cells.true) in
-    record {
-      cells = exchange_past cells c.loop-i.plane drains sources i is c.loop-i.invariant.cells same;
-      gained = λ a b p q.
-          sum_past (tile_counted (came cells (exchanging cells drains sources)) (whole cells) a b) i (get_or c.loop-i.gained (2 * b + a) 0) (c.loop-i.invariant.gained a b p q)
-          (nothing_came cells (exchanging cells drains sources) a b i is within same);
-      lost = λ a b p q.
-          sum_past (tile_counted (went cells (exchanging cells drains sources)) (whole cells) a b) i (get_or c.loop-i.lost (2 * b + a) 0) (c.loop-i.invariant.lost a b p q)
-          (nothing_went cells (exchanging cells drains sources) a b i is within same);
-      few_gained = λ k h. omega (arith, c.loop-i.invariant.few_gained k h);
-      few_lost = λ k h. omega (arith, c.loop-i.invariant.few_lost k h);
-    }
+    let within = tile_within c.args.plane.now c.size-2.result c.tiles-end.result c.loop-i.i c.tiles-end.ensures.tiles c.size-2.ensures.extent c.loop-i-test.true in
+    passed_by c.args.plane.now c.loop-i.plane c.args.drains.now c.args.sources.now c.loop-i.i c.loop-i.gained c.loop-i.lost c.size.ensures.lattice within c.loop-i.invariant
+    (same_tile c.args.plane.now c.loop-i.plane c.args.drains.now c.args.sources.now c.loop-i.i (c.width.result / 64) c.tile.result.now c.exchanged_tile-new.result c.size.ensures.lattice
+    (row_of_tiles c.args.plane.now c.size.result c.width.result c.width.ensures c.size.ensures.extent) within c.loop-i.invariant.cells c.tile.ensures c.exchanged_tile-new.ensures (c.has_same_cells.ensures.same c.if-has_same_cells.true))
 
 pub returns-then-is_empty-2-clause-cells : goal.returns-then-is_empty-2-clause-cells
 returns-then-is_empty-2-clause-cells c =
@@ -141,37 +92,17 @@ returns-then-is_empty-2-clause-gained c = idle_counts c.args.plane.now
 pub returns-then-is_empty-2-clause-lost : goal.returns-then-is_empty-2-clause-lost
 returns-then-is_empty-2-clause-lost c = idle_counts c.args.plane.now
 
-done : (cells now : Cells) (drains sources : List Rectangle) (size : Extent) (i end : ℕ) → IsLattice cells → end ≡ size.width / 64 * (size.height / 64) → size ≡ record { width = cells.width; height = cells.height } → end ≤ i → now ≡ swept cells (exchanging cells drains sources) i → now ≡ exchanged cells drains sources
-done cells now drains sources size i end is e f past so_far = exchange_ends cells now drains sources i end is (all_tiles cells size end e f) past so_far
-
 pub returns-clause-cells : goal.returns-clause-cells
 returns-clause-cells c =
-    done c.args.plane.now c.loop-i.plane c.args.drains.now c.args.sources.now c.size-2.result c.loop-i.i c.tiles-end.result c.size.ensures.lattice c.tiles-end.ensures.tiles c.size-2.ensures.extent c.loop-i-test.false c.loop-i.invariant.cells
+    exchange_ends c.args.plane.now c.loop-i.plane c.args.drains.now c.args.sources.now c.loop-i.i c.tiles-end.result c.size.ensures.lattice
+    (all_tiles c.args.plane.now c.size-2.result c.tiles-end.result c.tiles-end.ensures.tiles c.size-2.ensures.extent) c.loop-i-test.false c.loop-i.invariant.cells
 
 pub returns-clause-gained : goal.returns-clause-gained
 returns-clause-gained c =
-    let cells = c.args.plane.now in
-    let test = exchanging cells c.args.drains.now c.args.sources.now in
-    let is = c.size.ensures.lattice in
-    let all = all_tiles cells c.size-2.result c.tiles-end.result c.tiles-end.ensures.tiles c.size-2.ensures.extent in
-    let ended = done cells c.loop-i.plane c.args.drains.now c.args.sources.now c.size-2.result c.loop-i.i c.tiles-end.result is c.tiles-end.ensures.tiles c.size-2.ensures.extent c.loop-i-test.false c.loop-i.invariant.cells in
-    record {
-      count = λ a b p q.
-          c.loop-i.invariant.gained a b p q
-          ∙ (all_counted cells (λ x y. has (made cells test) x y && not (has cells x y)) a b c.loop-i.i c.tiles-end.result is all c.loop-i-test.false c.loop-i.auto.i-end
-          ∙ ap (λ (new : Cells). parity_count (without new cells) (whole cells) a b) (sym ended));
-    }
+    came_counted c.args.plane.now c.loop-i.plane c.args.drains.now c.args.sources.now c.loop-i.i c.tiles-end.result c.loop-i.gained c.loop-i.lost c.size.ensures.lattice
+    (all_tiles c.args.plane.now c.size-2.result c.tiles-end.result c.tiles-end.ensures.tiles c.size-2.ensures.extent) c.loop-i-test.false c.loop-i.auto.i-end c.loop-i.invariant
 
 pub returns-clause-lost : goal.returns-clause-lost
 returns-clause-lost c =
-    let cells = c.args.plane.now in
-    let test = exchanging cells c.args.drains.now c.args.sources.now in
-    let is = c.size.ensures.lattice in
-    let all = all_tiles cells c.size-2.result c.tiles-end.result c.tiles-end.ensures.tiles c.size-2.ensures.extent in
-    let ended = done cells c.loop-i.plane c.args.drains.now c.args.sources.now c.size-2.result c.loop-i.i c.tiles-end.result is c.tiles-end.ensures.tiles c.size-2.ensures.extent c.loop-i-test.false c.loop-i.invariant.cells in
-    record {
-      count = λ a b p q.
-          c.loop-i.invariant.lost a b p q
-          ∙ (all_counted cells (λ x y. has cells x y && not (has (made cells test) x y)) a b c.loop-i.i c.tiles-end.result is all c.loop-i-test.false c.loop-i.auto.i-end
-          ∙ ap (λ (new : Cells). parity_count (without cells new) (whole cells) a b) (sym ended));
-    }
+    went_counted c.args.plane.now c.loop-i.plane c.args.drains.now c.args.sources.now c.loop-i.i c.tiles-end.result c.loop-i.gained c.loop-i.lost c.size.ensures.lattice
+    (all_tiles c.args.plane.now c.size-2.result c.tiles-end.result c.tiles-end.ensures.tiles c.size-2.ensures.extent) c.loop-i-test.false c.loop-i.auto.i-end c.loop-i.invariant

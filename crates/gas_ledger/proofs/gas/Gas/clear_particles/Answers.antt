@@ -8,4 +8,4 @@ pub returns-clause-moved : goal.returns-clause-moved
 returns-clause-moved c =
     let fits : lies_within (extent c.self.inside.particles) c.args.area ≡ true = ap (λ (g : Gas). lies_within (extent g.particles) c.args.area) c.self.view_is ∙ c.requires in
     rw (← c.self.view_is)
-    (moved_by_clear c.self.inside.tick c.self.inside.particles c.clear.new.self c.args.area c.probe-before.result c.size.ensures.lattice fits c.clear.ensures c.probe-before.ensures.sums)
+    (moved_by_clear c.self.inside.tick c.self.inside.particles c.clear.new.self c.args.area c.probe-before.result c.probe-before.ensures.lattice fits c.clear.ensures c.probe-before.ensures.sums)
