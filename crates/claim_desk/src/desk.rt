@@ -27,9 +27,14 @@ impl Model for Desk {
 
     ghost Value = { DeskView };
 
-    ghost view = { λ d. record { id = record { table = d.table.shared.table_id; limit = d.limit }; seats = d.seats } };
+    ghost view = { λ d. record {
+      id = record { table = d.table.shared.table_id; limit = d.limit };
+      seats = d.seats;
+    } };
 
-    ghost invariant = { λ d. (d.table.shared.key ≡ (d.limit, d.seats)) × (d.table.shared.table_id.words ≡ 1) × (d.table.shared.table_id.slots ≡ 0) × (0 < d.seats) };
+    ghost invariant = { λ d. (d.table.shared.key ≡ (d.limit, d.seats))
+        × (d.table.shared.table_id.words ≡ 1) × (d.table.shared.table_id.slots ≡ 0)
+        × (0 < d.seats) };
 }
 
 /// A seat of a desk, for one thread to draw with. Contracts see its desk, the numbers that it drew, in order, and whether it
@@ -46,9 +51,14 @@ impl Model for DeskSeat {
 
     ghost Value = { SeatView };
 
-    ghost view = { λ s. record { desk = record { table = s.seat.table_id; limit = s.seat.me.0.limit }; numbers = s.seat.me.0.numbers; ended = s.ended } };
+    ghost view = { λ s. record {
+      desk = record { table = s.seat.table_id; limit = s.seat.me.0.limit };
+      numbers = s.seat.me.0.numbers;
+      ended = s.ended;
+    } };
 
-    ghost invariant = { λ s. (s.seat.me.1 ≡ []) × (s.seat.me.0.seats ≡ 1) × (s.seat.me.0.ended ≡ (if s.ended then 1 else 0)) };
+    ghost invariant = { λ s. (s.seat.me.1 ≡ []) × (s.seat.me.0.seats ≡ 1)
+        × (s.seat.me.0.ended ≡ (if s.ended then 1 else 0)) };
 }
 
 ghost use Rattle.claim_desk.specs.Desk.{fresh};
@@ -110,7 +120,9 @@ impl DeskSeat {
 
     fn into_seat(self) -> Seat<(), Draws>
         ensures seat { (result.table_id ≡ self.desk.table) × (result.me.1 ≡ []) }
-        ensures draws { (result.me.0.seats ≡ 1) × (result.me.0.ended ≡ (if self.ended then 1 else 0)) × (result.me.0.numbers ≡ self.numbers) }
+        ensures draws { (result.me.0.seats ≡ 1)
+            × (result.me.0.ended ≡ (if self.ended then 1 else 0))
+            × (result.me.0.numbers ≡ self.numbers) }
     {
         let DeskSeat { ended: _, seat } = self;
         seat
@@ -121,8 +133,10 @@ impl DeskSeat {
     pub fn draw(&mut self, desk: &Desk) -> Option<u32>
         requires { self.old.desk ≡ desk.now.id }
         ensures desk { self.new.desk ≡ self.old.desk }
-        ensures some { IfSome result (λ k. (k < desk.now.id.limit) × (self.new.numbers ≡ self.old.numbers ++ k ∷ []) × (self.new.ended ≡ false)) }
-        ensures none { IfNone result ((self.new.numbers ≡ self.old.numbers) × (self.new.ended ≡ true)) }
+        ensures some { IfSome result (λ k. (k < desk.now.id.limit)
+            × (self.new.numbers ≡ self.old.numbers ++ k ∷ []) × (self.new.ended ≡ false)) }
+        ensures none { IfNone result
+            ((self.new.numbers ≡ self.old.numbers) × (self.new.ended ≡ true)) }
         ensures later { IfSome result (λ k. length self.old.numbers ≤ k) }
         ensures again { self.old.ended ≡ true → result ≡ None }
     {

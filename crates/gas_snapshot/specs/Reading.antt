@@ -4,7 +4,7 @@ use Rattle.std.specs.Int.{w16, w64, from_be_bytes, cast_signed}
 use Rattle.gas_terms.specs.Cells.{Cells, Extent, Rectangle, cells_where, is_size, lies_within}
 use Rattle.gas_terms.specs.Rows.{row_has}
 use Rattle.gas_terms.specs.Commands.{is_tick, is_period}
-use Rattle.gas_terms.specs.Gas.{Gas, Source}
+use Rattle.gas_terms.specs.Gas.{Gas, Source, most_ports}
 use Rattle.gas_ledger.specs.Gases.{gas_of, no_cells}
 use Rattle.gas_ledger.specs.PortLists.{PortLists}
 use Rattle.gas_snapshot.specs.declared.version.Version.{Version}
@@ -61,7 +61,7 @@ abbrev pub counts_in : List ℕ → ℕ × ℕ
 counts_in field = (slice_index field 0, slice_index field 1)
 
 abbrev pub are_few : ℕ × ℕ → Bool
-are_few counts = nat_le counts.0 16 && nat_le counts.1 16
+are_few counts = nat_le counts.0 most_ports && nat_le counts.1 most_ports
 
 unfoldable pub counts_at : List ℕ → Result ((ℕ × ℕ) × List ℕ) SnapFault
 counts_at bytes = do

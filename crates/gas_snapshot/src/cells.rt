@@ -13,10 +13,8 @@ pub fn plane_of(alloc: Global, size: Size, bytes: &[u8]) -> Result<Plane, NoMemo
     requires { length bytes.now ≡ size.height * (size.width / 8) }
     ensures { IfOk result (λ plane. plane ≡ cells_in size bytes.now) }
 {
-    // its sides are whole tiles
-    let _ = size.tiles();
     let mut plane = Plane::empty(alloc, size)?;
-    let len = size.width() as usize / 8;
+    let len = plane.size().width() as usize / 8;
     for y in 0..size.height() {
         let from = y as usize * len;
         plane.set_row(y as u32, &bytes[from..from + len]);

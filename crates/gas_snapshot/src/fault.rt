@@ -21,7 +21,7 @@ pub enum SnapFault {
     /// The tick is out of range.
     #[error("tick")]
     Tick,
-    /// More than 16 ports of a kind, a rectangle outside the lattice or without cells, or a period of 0.
+    /// More than `MOST_PORTS` ports of a kind, a rectangle outside the lattice or without cells, or a period of 0.
     #[error("port")]
     Port,
     /// Bytes stand after the last field.

@@ -2,6 +2,7 @@
 
 ghost use Rattle.std.specs.Prelude.{◌≡◌, ◌≤◌, ◌<◌, ◌+◌, ◌*◌, ◌&&◌, nat_le, ℕ, [], Some, None, Ok, Err, IfOk, if◌then◌else◌, length, bytes_eq};
 ghost use Rattle.gas_terms.specs.Cells.{lies_within};
+ghost use Rattle.gas_terms.specs.Gas.{most_ports};
 ghost use Rattle.gas_terms.specs.Commands.{is_tick, is_period};
 ghost use Rattle.gas_ledger.specs.PortLists.{no_ports};
 ghost use Rattle.gas_snapshot.specs.declared.version.Version.TheVariants.{One, Two};
@@ -12,7 +13,7 @@ ghost use Rattle.gas_snapshot.specs.Reading.{Reads, greatest_side, is_size_of, f
 use crate::fault::SnapFault;
 use crate::version::Version;
 use gas_ledger::{Port, Ports, Source};
-use gas_terms::{Rect, Size, Tick};
+use gas_terms::{MOST_PORTS, Rect, Size, Tick};
 
 const MAGIC_ONE: [u8; 8] = *b"HPPGAS1\n";
 
@@ -45,7 +46,10 @@ fn number(k: usize, field: &[u8]) -> u16
 }
 
 fn version(field: &[u8]) -> Result<Version, SnapFault>
-    ensures { result ≡ (if bytes_eq field.now (magic One) then Ok One else if bytes_eq field.now (magic Two) then Ok Two else Err Magic) }
+    ensures { result ≡
+        (if bytes_eq field.now (magic One) then Ok One
+        else if bytes_eq field.now (magic Two) then Ok Two
+        else Err Magic) }
 {
     if field == MAGIC_ONE.as_slice() {
         return Ok(Version::One);
@@ -58,7 +62,8 @@ fn version(field: &[u8]) -> Result<Version, SnapFault>
 
 // whether the version has lattices of that size
 fn has_size(version: Version, size: Size) -> bool
-    ensures { result ≡ (nat_le size.width (greatest_side version) && nat_le size.height (greatest_side version)) }
+    ensures { let most = greatest_side version in
+        result ≡ (nat_le size.width most && nat_le size.height most) }
 {
     let most = match version {
         Version::One => 2048,
@@ -69,7 +74,8 @@ fn has_size(version: Version, size: Size) -> bool
 
 fn size(version: Version, field: &[u8]) -> Result<Size, SnapFault>
     requires { length field.now ≡ 4 }
-    ensures { result ≡ (if is_size_of version (size_in field.now) then Ok (size_in field.now) else Err SizeFault) }
+    ensures { let size = size_in field.now in
+        result ≡ (if is_size_of version size then Ok size else Err SizeFault) }
 {
     match Size::new(number(0, field) as u32, number(1, field) as u32) {
         Some(size) if has_size(version, size) => Ok(size),
@@ -79,7 +85,8 @@ fn size(version: Version, field: &[u8]) -> Result<Size, SnapFault>
 
 fn tick(field: &[u8]) -> Result<Tick, SnapFault>
     requires { length field.now ≡ 8 }
-    ensures { result ≡ (if is_tick (tick_in field.now) then Ok (tick_in field.now) else Err TickFault) }
+    ensures { let tick = tick_in field.now in
+        result ≡ (if is_tick tick then Ok tick else Err TickFault) }
 {
     let number = i64::from_be_bytes([
         field[0], field[1], field[2], field[3], field[4], field[5], field[6], field[7],
@@ -93,10 +100,11 @@ fn tick(field: &[u8]) -> Result<Tick, SnapFault>
 // how many drains and how many sources
 fn counts(field: &[u8]) -> Result<(u8, u8), SnapFault>
     requires { length field.now ≡ 2 }
-    ensures { result ≡ (if are_few (counts_in field.now) then Ok (counts_in field.now) else Err PortFault) }
+    ensures { let counts = counts_in field.now in
+        result ≡ (if are_few counts then Ok counts else Err PortFault) }
 {
     let (drains, sources) = (field[0], field[1]);
-    if drains > 16 || sources > 16 {
+    if drains as usize > MOST_PORTS || sources as usize > MOST_PORTS {
         return Err(SnapFault::Port);
     }
     Ok((drains, sources))
@@ -105,7 +113,8 @@ fn counts(field: &[u8]) -> Result<(u8, u8), SnapFault>
 // the rectangle of a field's first four numbers
 fn area(size: Size, field: &[u8]) -> Option<Rect>
     requires { 8 ≤ length field.now }
-    ensures { result ≡ (if lies_within size (area_in field.now) then Some (area_in field.now) else None) }
+    ensures { let area = area_in field.now in
+        result ≡ (if lies_within size area then Some area else None) }
 {
     let (x, y) = (number(0, field) as u32, number(1, field) as u32);
     let (w, h) = (number(2, field) as u32, number(3, field) as u32);
@@ -114,7 +123,9 @@ fn area(size: Size, field: &[u8]) -> Option<Rect>
 
 fn source(size: Size, field: &[u8]) -> Result<Source, SnapFault>
     requires { length field.now ≡ 10 }
-    ensures { result ≡ (if lies_within size (area_in field.now) && is_period (number 4 field.now) then Ok (source_in field.now) else Err PortFault) }
+    ensures { let source = source_in field.now in
+        result ≡ (if lies_within size source.area && is_period source.period then Ok source
+        else Err PortFault) }
 {
     let period = number(4, field);
     match area(size, field) {
@@ -129,9 +140,10 @@ fn drains<'a>(
     ports: &mut Ports,
     bytes: &'a [u8],
 ) -> Result<&'a [u8], SnapFault>
-    requires few { count ≤ 16 }
+    requires few { count ≤ most_ports }
     requires none { ports.old.drains ≡ [] }
-    ensures drains { Reads (λ x. (ports.new.drains, x.now)) result (many (drain_at size) count bytes.now) }
+    ensures drains { Reads (λ x. (ports.new.drains, x.now)) result
+        (many (drain_at size) count bytes.now) }
     ensures sources { ports.new.sources ≡ ports.old.sources }
 {
     let mut rest = bytes;
@@ -152,9 +164,10 @@ fn sources<'a>(
     ports: &mut Ports,
     bytes: &'a [u8],
 ) -> Result<&'a [u8], SnapFault>
-    requires few { count ≤ 16 }
+    requires few { count ≤ most_ports }
     requires none { ports.old.sources ≡ [] }
-    ensures sources { Reads (λ x. (ports.new.sources, x.now)) result (many (source_at size) count bytes.now) }
+    ensures sources { Reads (λ x. (ports.new.sources, x.now)) result
+        (many (source_at size) count bytes.now) }
     ensures drains { ports.new.drains ≡ ports.old.drains }
 {
     let mut rest = bytes;
@@ -174,8 +187,8 @@ fn add_ports<'a>(
     ports: &mut Ports,
     bytes: &'a [u8],
 ) -> Result<&'a [u8], SnapFault>
-    requires drains { counts.0 ≤ 16 }
-    requires sources { counts.1 ≤ 16 }
+    requires drains { counts.0 ≤ most_ports }
+    requires sources { counts.1 ≤ most_ports }
     requires none { ports.old ≡ no_ports }
     ensures { Reads (λ x. (ports.new, x.now)) result (ports_at size counts bytes.now) }
 {

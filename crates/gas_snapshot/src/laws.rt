@@ -14,14 +14,16 @@ ghost use Rattle.gas_snapshot.specs.Reading.{reading};
 pub fn each_gas_has_a_spelling()
     ensures new { (g : Gas) → IsSoundGas g → HasSpelling Two g }
     ensures old { (g : Gas) → IsSoundGas g → IsOld g → HasSpelling One g }
-    ensures spelled { (version : Version) (g : Gas) → HasSpelling version g → Spells (spelling version g) g }
+    ensures spelled { (version : Version) (g : Gas) →
+        HasSpelling version g → Spells (spelling version g) g }
     ensures only { (bytes : List ℕ) (g : Gas) (s : Spells bytes g) → bytes ≡ spelling s.version g }
 {}
 
 /// Bytes spell at most one gas, in at most one version.
 pub fn bytes_spell_one_gas()
     ensures gas { (bytes : List ℕ) (g h : Gas) → Spells bytes g → Spells bytes h → g ≡ h }
-    ensures version { (bytes : List ℕ) (g h : Gas) (s : Spells bytes g) (t : Spells bytes h) → s.version ≡ t.version }
+    ensures version { (bytes : List ℕ) (g h : Gas) (s : Spells bytes g) (t : Spells bytes h) →
+        s.version ≡ t.version }
 {}
 
 /// What is read of bytes is the gas that they spell, and what they spell is read. So memory is wanted for a snapshot alone.

@@ -5,31 +5,32 @@ ghost use Rattle.std.specs.Int.{w16, to_be_bytes};
 ghost use Rattle.std.specs.List.{flat_map};
 ghost use Rattle.gas_terms.specs.Cells.{extent};
 ghost use Rattle.gas_snapshot.specs.declared.version.Version.TheVariants.{Two};
-ghost use Rattle.gas_snapshot.specs.Spelling.{magic, sides, moment, drain, source, head};
+ghost use Rattle.gas_snapshot.specs.Spelling.{magic, sides, moment, drain, source, head, most_head};
 
 use byteorder::{BigEndian, ByteOrder};
 use gas_ledger::{Gas, Source};
-use gas_terms::{Rect, Tick};
+use gas_terms::{MOST_PORTS, Rect, Tick};
 use std::marker::Model;
 
-// the head of a gas with 16 drains and 16 sources
-const MOST: usize = 310;
+// the head of a gas with `MOST_PORTS` drains and as many sources
+const MOST_BYTES: usize = 22 + MOST_PORTS * (8 + 10);
 
 /// The first bytes of a snapshot.
 #[derive(Drop)]
 pub struct Page {
-    bytes: [u8; 310],
+    bytes: [u8; MOST_BYTES],
     len: usize,
 }
 
 impl Model for Page {
     ghost use Rattle.std.specs.Prelude.{List, ℕ, take, ◌≤◌};
+    ghost use Rattle.gas_snapshot.specs.Spelling.{most_head};
 
     ghost Value = { List ℕ };
 
     ghost view = { λ p. take p.len p.bytes };
 
-    ghost invariant = { λ p. p.len ≤ 310 };
+    ghost invariant = { λ p. p.len ≤ most_head };
 }
 
 impl Page {
@@ -37,7 +38,7 @@ impl Page {
         ensures { result ≡ [] }
     {
         Page {
-            bytes: [0; MOST],
+            bytes: [0; MOST_BYTES],
             len: 0,
         }
     }
@@ -49,7 +50,7 @@ impl Page {
     }
 
     fn put_bytes(&mut self, bytes: &[u8])
-        requires { length self.old + length bytes.now ≤ 310 }
+        requires { length self.old + length bytes.now ≤ most_head }
         ensures bytes { self.new ≡ self.old ++ bytes.now }
         ensures len { length self.new ≡ length self.old + length bytes.now }
     {
@@ -59,7 +60,7 @@ impl Page {
     }
 
     fn put_u16(&mut self, n: u16)
-        requires { length self.old + 2 ≤ 310 }
+        requires { length self.old + 2 ≤ most_head }
         ensures bytes { self.new ≡ self.old ++ to_be_bytes w16 n }
         ensures len { length self.new ≡ length self.old + 2 }
     {
@@ -70,7 +71,7 @@ impl Page {
 
     #[tactic(auto, unfolding(crate::specs::Spelling::moment))]
     fn put_tick(&mut self, tick: Tick)
-        requires { length self.old + 8 ≤ 310 }
+        requires { length self.old + 8 ≤ most_head }
         ensures bytes { self.new ≡ self.old ++ moment tick }
         ensures len { length self.new ≡ length self.old + 8 }
     {
@@ -80,7 +81,7 @@ impl Page {
     }
 
     fn put_area(&mut self, area: Rect)
-        requires { length self.old + 8 ≤ 310 }
+        requires { length self.old + 8 ≤ most_head }
         ensures bytes { self.new ≡ self.old ++ drain area }
         ensures len { length self.new ≡ length self.old + 8 }
     {
@@ -91,7 +92,7 @@ impl Page {
     }
 
     fn put_drains(&mut self, drains: &[Rect])
-        requires { length self.old + 8 * length drains.now ≤ 310 }
+        requires { length self.old + 8 * length drains.now ≤ most_head }
         ensures bytes { self.new ≡ self.old ++ flat_map drain drains.now }
         ensures len { length self.new ≡ length self.old + 8 * length drains.now }
     {
@@ -101,7 +102,7 @@ impl Page {
     }
 
     fn put_sources(&mut self, sources: &[Source])
-        requires { length self.old + 10 * length sources.now ≤ 310 }
+        requires { length self.old + 10 * length sources.now ≤ most_head }
         ensures bytes { self.new ≡ self.old ++ flat_map source sources.now }
         ensures len { length self.new ≡ length self.old + 10 * length sources.now }
     {

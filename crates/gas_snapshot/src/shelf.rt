@@ -69,7 +69,6 @@ impl Shelf for NoShelf {
         ensures err { OnErr result ((self.new.failures ≡ min (self.old.failures + 1) (2 ^ 64 - 1))
             × Gains (Some []) (Some []) []) }
     {
-        let _ = bytes;
         self.failures = self.failures.saturating_add(1);
         Err(ShelfFault)
     }

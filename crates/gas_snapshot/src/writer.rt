@@ -31,7 +31,8 @@ impl Error for WriteFault {}
 
 fn put_all<W: Write>(writer: &mut W, bytes: &[u8]) -> Result<(), WriteFault>
     ensures ok { OnOk result (Appends (W.contents writer.old) (W.contents writer.new) bytes.now) }
-    ensures err { OnErr result (WritesFront (W.contents writer.old) (W.contents writer.new) bytes.now) }
+    ensures err { OnErr result
+        (WritesFront (W.contents writer.old) (W.contents writer.new) bytes.now) }
 {
     let mut from = 0;
     while from < bytes.len() {
@@ -45,8 +46,10 @@ fn put_all<W: Write>(writer: &mut W, bytes: &[u8]) -> Result<(), WriteFault>
 }
 
 fn write_rows<W: Write>(writer: &mut W, plane: &Plane) -> Result<(), WriteFault>
-    ensures ok { OnOk result (Appends (W.contents writer.old) (W.contents writer.new) (rows plane.now)) }
-    ensures err { OnErr result (WritesFront (W.contents writer.old) (W.contents writer.new) (rows plane.now)) }
+    ensures ok { OnOk result
+        (Appends (W.contents writer.old) (W.contents writer.new) (rows plane.now)) }
+    ensures err { OnErr result
+        (WritesFront (W.contents writer.old) (W.contents writer.new) (rows plane.now)) }
 {
     let size = plane.size();
     let len = size.width() as usize / 8;
@@ -61,8 +64,11 @@ fn write_rows<W: Write>(writer: &mut W, plane: &Plane) -> Result<(), WriteFault>
 /// Writes what `encode` gives and answers how many bytes that is, without memory. At a fault what was written is a front
 /// of it.
 pub fn write_to<W: Write>(gas: &Gas, writer: &mut W) -> Result<u64, WriteFault>
-    ensures ok { IfOk result (λ n. Appends (W.contents writer.old) (W.contents writer.new) (spelling Two gas.now) × (n ≡ length (spelling Two gas.now))) }
-    ensures err { OnErr result (WritesFront (W.contents writer.old) (W.contents writer.new) (spelling Two gas.now)) }
+    ensures ok { IfOk result (λ n.
+        Appends (W.contents writer.old) (W.contents writer.new) (spelling Two gas.now)
+        × (n ≡ length (spelling Two gas.now))) }
+    ensures err { OnErr result
+        (WritesFront (W.contents writer.old) (W.contents writer.new) (spelling Two gas.now)) }
 {
     let page = head_of(gas);
     let head = page.as_slice();

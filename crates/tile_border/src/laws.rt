@@ -6,5 +6,6 @@ ghost use Rattle.tile_border.specs.declared.Border.{Border as RingCells};
 
 /// Any eight tiles have a border.
 pub fn tiles_have_a_border()
-    ensures { (a d l r al ar dl dr : TileRows) → (b : RingCells) × IsBorderOf b a d l r al ar dl dr }
+    ensures { (a d l r al ar dl dr : TileRows) →
+        (b : RingCells) × IsBorderOf b a d l r al ar dl dr }
 {}

@@ -1,5 +1,5 @@
 -- What a door and a note show, and what a door's calls say.
-use Rattle.std.specs.Prelude.{◌≡◌, ℕ, List, [], ◌∷◌, Option, ◌++◌, All, Some, None, IfSome}
+use Rattle.std.specs.Prelude.{◌≡◌, ℕ, false, List, [], ◌∷◌, Option, ◌++◌, All, Some, None, IfSome}
 use mathlib.Core.List.{IsPrefix}
 use Rattle.atomic_table.specs.Seated.{TableId}
 use Rattle.atomic_table.specs.Table.{Me}
@@ -12,6 +12,14 @@ pub record DoorView (E F : Type 0) : Type 0 where
   pub number : ℕ
   pub seen : List E
   pub fixed : Option F
+
+-- a door that has seen nothing
+abbrev pub new_door : {E F : Type 0} → TableId → ℕ → F → DoorView E F
+new_door lock number fixed = record { lock = lock; number = number; seen = []; fixed = Some fixed }
+
+-- the seat holds no slot, draws no ticket and has no turn
+abbrev pub IsIdle : {X E F : Type 0} → Me (Option X) (View E F) → Type 0
+IsIdle me = (me.1 ≡ []) × (me.0.waits ≡ false) × (me.0.turn ≡ false)
 
 -- which lock the note is of, and what was seen
 pub record NoteView (E : Type 0) : Type 0 where

@@ -3,7 +3,7 @@
 ghost use Rattle.std.specs.Prelude.{◌≡◌, ◌⊎◌, ℕ, ◌<◌, ◌≤◌, List, [], ◌∷◌, ◌++◌, true, false, All, IsSome, IfSome, IfOk, IfErr, Some, None, vec_len, slice_index_or};
 ghost use mathlib.Core.List.{IsPrefix};
 ghost use Rattle.turn_lock.specs.Turns.{entries_by, leaving};
-ghost use Rattle.turn_lock.specs.Doors.{Follows, Adds, HasTaken};
+ghost use Rattle.turn_lock.specs.Doors.{new_door, IsIdle, Follows, Adds, HasTaken};
 
 use crate::rule::{Apart, Copy, Journaled, Leave, LockRule, Look, Meet, Serve, Ticket};
 use crate::view::View;
@@ -28,7 +28,8 @@ impl<X: Journaled + Drop> Model for TurnLock<X> {
 
     ghost view = { λ l. l.table.shared.table_id };
 
-    ghost invariant = { λ l. (l.table.shared.table_id.words ≡ 2) × (l.table.shared.table_id.slots ≡ 1) };
+    ghost invariant = { λ l.
+        (l.table.shared.table_id.words ≡ 2) × (l.table.shared.table_id.slots ≡ 1) };
 }
 
 /// A door of a lock, for one thread at a time to ask through. Contracts see which lock it is of, its number, what it has seen
@@ -45,9 +46,16 @@ impl<X: Journaled> Model for Door<X> {
 
     ghost Value = { DoorView X.Entry X.Fixed };
 
-    ghost view = { λ d. record { lock = d.seat.table_id; number = d.number; seen = d.seat.me.0.seen; fixed = d.seat.me.0.fixed } };
+    ghost view = { λ d. record {
+      lock = d.seat.table_id;
+      number = d.number;
+      seen = d.seat.me.0.seen;
+      fixed = d.seat.me.0.fixed;
+    } };
 
-    ghost invariant = { λ d. (d.seat.me.1 ≡ []) × (d.seat.me.0.waits ≡ false) × (d.seat.me.0.turn ≡ false) × (d.seat.me.0.count ≡ 1) × (d.seat.me.0.from ≡ d.number) × IsSome d.seat.me.0.fixed };
+    ghost invariant = { λ d.
+        (d.seat.me.1 ≡ []) × (d.seat.me.0.waits ≡ false) × (d.seat.me.0.turn ≡ false)
+        × (d.seat.me.0.count ≡ 1) × (d.seat.me.0.from ≡ d.number) × IsSome d.seat.me.0.fixed };
 }
 
 /// What a door had seen when it made the note, for another door of the lock to take in. Contracts see which lock it is of, and
@@ -75,7 +83,8 @@ impl<X: Journaled + Drop> TurnLock<X> {
         requires doors { (0 < doors) × (doors ≤ 64) }
         requires empty { X.entries value ≡ [] }
         ensures count { IfOk result (λ r. vec_len r.1 ≡ doors) }
-        ensures doors { IfOk result (λ r. (k : ℕ) (d : _) → k < doors → slice_index_or r.1.items k d ≡ record { lock = r.0; number = k; seen = []; fixed = Some (X.fixed value) }) }
+        ensures doors { IfOk result (λ r. (k : ℕ) (d : _) → k < doors →
+            slice_index_or r.1.items k d ≡ new_door r.0 k (X.fixed value)) }
         ensures err { IfErr result (λ x. x ≡ value) }
     {
         // Memory may be refused in three places, at each of which the value is at hand. Once the table stands nothing fails.
@@ -109,7 +118,8 @@ impl<X: Journaled + Drop> TurnLock<X> {
     // Draws a ticket, waits until it is served, and takes the value.
     fn enter<R: Wait>(&self, rt: &R, seat: &mut Seat<Option<X>, View<X::Entry, X::Fixed>>) -> X
         requires own { seat.old.table_id ≡ self.now }
-        requires idle { (seat.old.me.1 ≡ []) × (seat.old.me.0.waits ≡ false) × (seat.old.me.0.turn ≡ false) × (0 < seat.old.me.0.count) }
+        requires idle { IsIdle seat.old.me }
+        requires numbered { 0 < seat.old.me.0.count }
         ensures seat { (seat.new.table_id ≡ seat.old.table_id) × (seat.new.id ≡ seat.old.id) }
         ensures taken { HasTaken X.entries X.fixed X.by seat.old.me seat.new.me result }
     {
@@ -133,10 +143,14 @@ impl<X: Journaled + Drop> TurnLock<X> {
     // value as soon as it reads the count.
     fn leave(&self, seat: &mut Seat<Option<X>, View<X::Entry, X::Fixed>>, value: X)
         requires own { seat.old.table_id ≡ self.now }
-        requires turn { (seat.old.me.1 ≡ (0, None) ∷ []) × (seat.old.me.0.turn ≡ true) × (seat.old.me.0.count ≡ 1) }
-        requires adds { (new : List X.Entry) × (X.entries value ≡ seat.old.me.0.held ++ new) × All (λ e. X.by e ≡ seat.old.me.0.from) new }
+        requires turn { (seat.old.me.1 ≡ (0, None) ∷ [])
+            × (seat.old.me.0.turn ≡ true) × (seat.old.me.0.count ≡ 1) }
+        requires adds { (new : List X.Entry)
+            × (X.entries value ≡ seat.old.me.0.held ++ new)
+            × All (λ e. X.by e ≡ seat.old.me.0.from) new }
         requires same { seat.old.me.0.fixed ≡ Some (X.fixed value) }
-        ensures { (seat.new.table_id ≡ seat.old.table_id) × (seat.new.id ≡ seat.old.id) × (seat.new.me ≡ (leaving seat.old.me.0 (X.entries value), [])) }
+        ensures { (seat.new.table_id ≡ seat.old.table_id) × (seat.new.id ≡ seat.old.id)
+            × (seat.new.me ≡ (leaving seat.old.me.0 (X.entries value), [])) }
     {
         let None = self.table.shared.exchange(seat, 0, Some(value)) else {
             unreachable!()
@@ -170,9 +184,14 @@ pub trait Call<X: Journaled> {
 impl<X: Journaled> Door<X> {
     // The door of a seat that stands for this number alone, and holds no value.
     fn of(number: u64, seat: Seat<Option<X>, View<X::Entry, X::Fixed>>) -> Door<X>
-        requires idle { (seat.me.1 ≡ []) × (seat.me.0.waits ≡ false) × (seat.me.0.turn ≡ false) }
+        requires idle { IsIdle seat.me }
         requires own { (seat.me.0.count ≡ 1) × (seat.me.0.from ≡ number) × IsSome seat.me.0.fixed }
-        ensures { result ≡ record { lock = seat.table_id; number = number; seen = seat.me.0.seen; fixed = seat.me.0.fixed } }
+        ensures { result ≡ record {
+          lock = seat.table_id;
+          number = number;
+          seen = seat.me.0.seen;
+          fixed = seat.me.0.fixed;
+        } }
     {
         Door { number, seat }
     }
@@ -197,7 +216,8 @@ impl<X: Journaled> Door<X> {
         requires { (self.old.lock ≡ lock.now) × (note.lock ≡ lock.now) }
         ensures begins { IsPrefix self.old.seen self.new.seen × IsPrefix note.seen self.new.seen }
         ensures one { (self.new.seen ≡ self.old.seen) ⊎ (self.new.seen ≡ note.seen) }
-        ensures own { entries_by X.by self.old.number self.new.seen ≡ entries_by X.by self.old.number self.old.seen }
+        ensures own { entries_by X.by self.old.number self.new.seen
+            ≡ entries_by X.by self.old.number self.old.seen }
         ensures door { self.new ≡ record self.old { seen = self.new.seen } }
     {
         let Note { seat } = note;
@@ -216,7 +236,10 @@ impl<X: Journaled> Door<X> {
         X: Drop,
         requires lock { self.old.lock ≡ lock.now }
         requires needs { IfSome self.old.fixed (λ f. M.needs call self.old.number f) }
-        ensures { (x : X) × (y : X) × Follows X.entries X.fixed X.by self.old x × M.does call self.old.number x result y × (self.new ≡ record self.old { seen = X.entries y })
+        ensures { (x : X) × (y : X)
+            × Follows X.entries X.fixed X.by self.old x
+            × M.does call self.old.number x result y
+            × (self.new ≡ record self.old { seen = X.entries y })
             × Adds X.entries X.fixed X.by self.old.number x y }
     {
         let mut value = lock.enter(rt, &mut self.seat);

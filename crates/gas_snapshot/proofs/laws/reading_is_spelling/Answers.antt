@@ -1,4 +1,4 @@
-use Rattle.std.proofs.Common.{ℕ, ◌<◌, ◌≤◌, List, length, get_or, All, inl, inr, arith}
+use Rattle.std.proofs.Common.{ℕ, ◌<◌, List, length, All, inl, inr, arith}
 use Rattle.std.proofs.lemmas.Bool.{cases_lt}
 use Rattle.std.proofs.lemmas.List.{get_or_past}
 use Rattle.gas_snapshot.proofs.FieldLaws.{IsBytes}
