@@ -2,7 +2,7 @@ use Rattle.std.specs.Prelude.{◌≡◌, ℕ, ◌/◌, ◌<◌, Bool, true, not,
 use Rattle.std.specs.List.{list_any}
 use Rattle.bit_tile.specs.Tile as tile
 use Rattle.bit_tile.specs.declared.Tile.{Tile}
-use Rattle.gas_terms.specs.Cells.{Cells, Rectangle, has, cells_where, is_inside}
+use Rattle.gas_terms.specs.Cells.{Cells, Rectangle, has, cells_where, most_side, is_inside}
 
 -- row y of a set of cells
 abbrev pub row_of : Cells → ℕ → Rectangle
@@ -22,4 +22,4 @@ exchanged cells drains sources = cells_where cells.width cells.height (λ x y. i
 
 -- The set has each tile in which a rectangle has a cell: a cell of the set stands for one of the first 64 by 64 tiles.
 abbrev pub HasTilesOf : Tile → List Rectangle → Type 0
-HasTilesOf tiles areas = (x y : ℕ) → x < 4096 → y < 4096 → is_in_any areas x y ≡ true → tile.has tiles (x / 64) (y / 64) ≡ true
+HasTilesOf tiles areas = (x y : ℕ) → x < most_side → y < most_side → is_in_any areas x y ≡ true → tile.has tiles (x / 64) (y / 64) ≡ true

@@ -3,7 +3,7 @@
 ghost use Rattle.std.specs.Prelude.{◌≡◌, true, ℕ, ◌<◌, ◌≤◌, ◌/◌, ◌+◌, ◌||◌, ◌&&◌, not, IsTrue};
 ghost use Rattle.bit_tile.specs.Tile.{HasCells};
 ghost use Rattle.bit_tile.specs.Tile as in_tile;
-ghost use Rattle.gas_terms.specs.Cells.{is_inside, whole, without};
+ghost use Rattle.gas_terms.specs.Cells.{most_side, is_inside, whole, without};
 ghost use Rattle.gas_plane.specs.Planes.{IsLattice};
 ghost use Rattle.gas_ledger.specs.PortLists.{ported_by};
 ghost use Rattle.gas_ledger.specs.Moves.{moved_by};
@@ -84,7 +84,7 @@ fn tiles_of(areas: &[Rect]) -> Tile
 // of the first 64 tiles along an axis, the first that has one of the `len` places from `start` on, and how many have
 fn tiles_along(start: u16, len: u16) -> (u32, u32)
     ensures within { result.0 + result.1 ≤ 64 }
-    ensures met { (k : ℕ) → k < 4096 → start ≤ k → k < start + len →
+    ensures met { (k : ℕ) → k < most_side → start ≤ k → k < start + len →
         (result.0 ≤ k / 64) × (k / 64 < result.0 + result.1) }
 {
     let end = (start as u32 + len as u32).div_ceil(64).min(64);

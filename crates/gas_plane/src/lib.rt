@@ -45,7 +45,9 @@ impl Model for Plane {
 
     ghost Value = { Cells };
 
-    ghost view = { λ p. cells_where p.size.width p.size.height (tiles_have p.tiles.items (p.size.width / 64)) };
+    ghost view = { λ p.
+        cells_where p.size.width p.size.height
+        (tiles_have p.tiles.items (p.size.width / 64)) };
 
     ghost invariant = { λ p. IsMarked p.tiles.items p.bare.items p.lent p.fresh p.size };
 }

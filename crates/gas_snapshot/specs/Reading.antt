@@ -1,7 +1,7 @@
 -- Reading from left to right, with the first fault that is met.
 use Rattle.std.specs.Prelude.{◌≡◌, IsOk, ℕ, zero, suc, ◌*◌, ◌/◌, ◌&&◌, ◌==◌, nat_lt, nat_le, Bool, ℤ, List, [], ◌∷◌, length, take, drop, slice_index, Result, Ok, Err, if◌then◌else◌, bytes_eq}
 use Rattle.std.specs.Int.{w16, w64, from_be_bytes, cast_signed}
-use Rattle.gas_terms.specs.Cells.{Cells, Extent, Rectangle, cells_where, is_size, lies_within}
+use Rattle.gas_terms.specs.Cells.{Cells, Extent, Rectangle, cells_where, most_side, is_size, lies_within}
 use Rattle.gas_terms.specs.Rows.{row_has}
 use Rattle.gas_terms.specs.Commands.{is_tick, is_period}
 use Rattle.gas_terms.specs.Gas.{Gas, Source, most_ports}
@@ -35,7 +35,7 @@ magic_at bytes = do
 
 abbrev pub greatest_side : Version → ℕ
 greatest_side One = 2048
-greatest_side Two = 4096
+greatest_side Two = most_side
 
 abbrev pub is_size_of : Version → Extent → Bool
 is_size_of version size = is_size size && nat_le size.width (greatest_side version) && nat_le size.height (greatest_side version)

@@ -13,7 +13,7 @@ ghost use Rattle.gas_snapshot.specs.Reading.{Reads, greatest_side, is_size_of, f
 use crate::fault::SnapFault;
 use crate::version::Version;
 use gas_ledger::{Port, Ports, Source};
-use gas_terms::{MOST_PORTS, Rect, Size, Tick};
+use gas_terms::{MOST_PORTS, MOST_SIDE, Rect, Size, Tick};
 
 const MAGIC_ONE: [u8; 8] = *b"HPPGAS1\n";
 
@@ -67,9 +67,9 @@ fn has_size(version: Version, size: Size) -> bool
 {
     let most = match version {
         Version::One => 2048,
-        Version::Two => 4096,
+        Version::Two => MOST_SIDE,
     };
-    size.width() <= most && size.height() <= most
+    size.width() as u32 <= most && size.height() as u32 <= most
 }
 
 fn size(version: Version, field: &[u8]) -> Result<Size, SnapFault>

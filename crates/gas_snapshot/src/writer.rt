@@ -9,6 +9,7 @@ ghost use Rattle.gas_snapshot.specs.Written.{WritesFront};
 use crate::page::head_of;
 use gas_ledger::Gas;
 use gas_plane::Plane;
+use gas_terms::MOST_ROW_BYTES;
 use std::error::Error;
 use std::fmt;
 use std::io::Write;
@@ -53,7 +54,7 @@ fn write_rows<W: Write>(writer: &mut W, plane: &Plane) -> Result<(), WriteFault>
 {
     let size = plane.size();
     let len = size.width() as usize / 8;
-    let mut row = [0; 512];
+    let mut row = [0; MOST_ROW_BYTES];
     for y in 0..size.height() {
         plane.row_bytes(y as u32, &mut row[..len]);
         put_all(writer, &row[..len])?;

@@ -6,7 +6,7 @@ ghost use Rattle.gas_terms.specs.Velocity.{parity};
 ghost use Rattle.gas_terms.specs.Cells.{Cells, joined, HasEvenSides, HasSidesOf, IsEvenTorus, Rectangle, extent, is_size, lies_within, within, whole, tile_count, tile_rectangle};
 ghost use Rattle.gas_terms.specs.Gas.{Gas, Site, is_walled, takes_for_walls, takes_for_obstacles, streamed, forward, back};
 ghost use Rattle.gas_terms.specs.Accounts.{plus_all, taken_at, taken, together, stopped, twice_momentum, total, total_in, parity_count, sums_by_parity, plus, minus, less_taken, gained, lost, gas_total, gas_taken, nothing, balance, IsOfAtMost, IsTakenOfAtMost, IsLedgerOfAtMost, FitsI64};
-ghost use Rattle.gas_terms.specs.Commands.{replay};
+ghost use Rattle.gas_terms.specs.Commands.{most_steps, replay};
 ghost use Rattle.gas_terms.specs.SmallRuns.{at_cell, sums, pair, sourced, drained_and_sourced, seam, walled_pair, wall_removed, shut_in, let_go, rows, one_step, one_back, collision, three, bounce, on_a_wall, drained, drain_on_a_particle, two_drains, drained_and_filled, obstructed, wall_and_obstacle, wall_alone};
 ghost use Rattle.gas_terms.specs.BookedGas.{BookedGas, opened, changed, book_all, changes, IsStretch};
 ghost use Rattle.gas_terms.specs.declared.command.Command.{Command};
@@ -129,7 +129,7 @@ pub fn accounts_are_bounded()
         let cells = g.particles.width * g.particles.height in
         IsLedgerOfAtMost (sum_by changes commands * cells) (book_all (opened g) commands).ledger }
     ensures by_limits { (g : Gas) (commands : List Command) → is_size (extent g.particles) ≡ true →
-        length commands ≤ 65536 → All (λ c. changes c ≤ 4096) commands →
+        length commands ≤ 65536 → All (λ c. changes c ≤ most_steps) commands →
         IsLedgerOfAtMost (2 ^ 52) (book_all (opened g) commands).ledger }
     ensures start { (g : Gas) (commands : List Command) →
         (book_all (opened g) commands).ledger.start ≡ gas_total g }

@@ -4,6 +4,7 @@ ghost use Rattle.std.specs.Prelude.{◌≡◌, false, IfOk, IsOk};
 ghost use Rattle.gas_terms.specs.Commands.{fits, is_change, is_row};
 
 use crate::NoMemory;
+use crate::limits::MOST_STEPS;
 use crate::rect::Rect;
 use crate::row_bits::RowBits;
 use crate::size::Size;
@@ -67,7 +68,7 @@ impl Command {
             Command::Row(y, bits) => *y < size.height()
                 && 8 * bits.bytes().len() == size.width() as usize,
             Command::Source(r, period) => r.fits(size) && 1 <= *period,
-            Command::Step(n) | Command::Back(n) => 1 <= *n && *n <= 4096,
+            Command::Step(n) | Command::Back(n) => 1 <= *n && *n <= MOST_STEPS,
             Command::Read(y) => *y < size.height(),
             Command::Unport | Command::Tally | Command::Ledger | Command::Entry(_) => true,
         }

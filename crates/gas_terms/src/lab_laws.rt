@@ -5,7 +5,7 @@ ghost use Rattle.std.specs.List.{All};
 ghost use Rattle.gas_terms.specs.Cells.{extent, is_size, IsEvenTorus};
 ghost use Rattle.gas_terms.specs.Gas.{Gas};
 ghost use Rattle.gas_terms.specs.Accounts.{IsOfAtMost, IsLedgerOfAtMost};
-ghost use Rattle.gas_terms.specs.Commands.{fits};
+ghost use Rattle.gas_terms.specs.Commands.{most_steps, fits};
 ghost use Rattle.gas_terms.specs.BookedGas.{book, changes};
 ghost use Rattle.gas_terms.specs.Laboratory.{Laboratory, opening, booked, cause, reply, event, run, IsPrefix, IsSound};
 ghost use Rattle.gas_terms.specs.declared.command.Command.{Command};
@@ -50,7 +50,7 @@ pub fn accounts_fit()
         IsLedgerOfAtMost (2 ^ 52) lab.ledger }
     ensures next { (lab : Laboratory) (command : Command) →
         is_size (extent lab.start.particles) ≡ true → lab.cap ≤ 65536 → IsSound lab →
-        length lab.journal < lab.cap → changes command ≤ 4096 →
+        length lab.journal < lab.cap → changes command ≤ most_steps →
         IsLedgerOfAtMost (2 ^ 52) (book (booked lab) command).ledger }
     // These leave out the start's sums, which never change.
     ensures start { (lab : Laboratory) →

@@ -1,4 +1,13 @@
 //! What the laboratory limits.
 
+/// How wide and how high a lattice may be, in cells.
+pub const MOST_SIDE: u32 = 4096;
+
+/// How many bytes a row may have, with eight cells in each.
+pub const MOST_ROW_BYTES: usize = 512;
+
 /// How many drains a gas may have, and how many sources.
 pub const MOST_PORTS: usize = 16;
+
+/// How many steps one command may make.
+pub const MOST_STEPS: u16 = 4096;

@@ -2,14 +2,14 @@
 
 ghost use Rattle.std.specs.Prelude.{◌≡◌, ◌≤◌, IfOk, replicate, length};
 ghost use Rattle.std.specs.Borrow.{Lends, Array, sem, u8};
-ghost use Rattle.gas_terms.specs.Rows.{overwritten};
+ghost use Rattle.gas_terms.specs.Rows.{most_row_bytes, overwritten};
 ghost use Rattle.gas_terms.specs.contracts.row_bits.RowBits.{the_row};
 
 use crate::NoMemory;
 use std::alloc::Global;
 use std::marker::Model;
 
-/// The cells of a row, as at most 512 bytes.
+/// The cells of a row, as at most `MOST_ROW_BYTES` bytes.
 #[derive(Drop)]
 pub struct RowBits {
     bytes: Vec<u8>,
@@ -17,18 +17,19 @@ pub struct RowBits {
 
 impl Model for RowBits {
     ghost use Rattle.std.specs.Prelude.{ℕ, ◌≤◌, List, length};
+    ghost use Rattle.gas_terms.specs.Rows.{most_row_bytes};
 
     ghost Value = { List ℕ };
 
     ghost view = { λ b. b.bytes.items };
 
-    ghost invariant = { λ b. length b.bytes.items ≤ 512 };
+    ghost invariant = { λ b. length b.bytes.items ≤ most_row_bytes };
 }
 
 impl RowBits {
     /// A row without particles.
     pub fn zero(alloc: Global, len: usize) -> Result<RowBits, NoMemory>
-        requires { len ≤ 512 }
+        requires { len ≤ most_row_bytes }
         ensures { IfOk result (λ row. row ≡ replicate len 0) }
     {
         Ok(RowBits {
@@ -46,7 +47,7 @@ impl RowBits {
 
     pub fn bytes(&self) -> &[u8]
         ensures bytes { result.now ≡ self.now }
-        ensures short { length self.now ≤ 512 }
+        ensures short { length self.now ≤ most_row_bytes }
     {
         self.bytes.as_slice()
     }
