@@ -8,6 +8,7 @@ mod class;
 mod word;
 
 use class::{add, both, ones, put, remove, rows_of, same, span};
+pub use word::joined;
 use word::{gather, in_turn};
 
 static NO_CELLS: Tile = Tile {

@@ -6,20 +6,20 @@ use mir.Val.{to_z, of_z}
 use Rattle.std.specs.Int.{bit_not, w32, w64}
 use Rattle.std.specs.Int.RustNames.{count_ones}
 use Rattle.std.proofs.lemmas.Nat.{and_le_l, le_or_l, le_or_r}
-use Rattle.std.proofs.lemmas.Bool.{cases_eq}
+use Rattle.std.proofs.lemmas.Bool.{cases_eq, cases_lt}
 use Rattle.bit_tile.specs.Bit.{bit}
 use Rattle.bit_tile.specs.Sums.{sum_below, count_below}
 use Rattle.bit_tile.specs.Tile.{has, HasCells}
 use Rattle.bit_tile.specs.declared.Tile.{Tile}
 use Rattle.bit_tile.proofs.Bits.{bit-zero, bit-and, bit-or}
 use Rattle.bit_tile.proofs.Words32.{bit-not}
-use Rattle.bit_tile.proofs.Sums.{ones_are_bits, sum_below-more, sum_below-same, count_below-same, count_below-none}
+use Rattle.bit_tile.proofs.Sums.{ones_are_bits, sum_below-zero, sum_below-more, sum_below-same, count_below-same, count_below-none, count_below-parts}
 use Rattle.bit_tile.proofs.Counts.{class_count}
 use Rattle.bit_tile.proofs.Classes.{IsClass}
 use Rattle.gas_terms.specs.declared.accounts.Pair.{Pair}
 use Rattle.block_rule.specs.Around.{turned, none, either, is_walled_at, twice_momentum, taken}
 use Rattle.block_rule.specs.Cell.{turned_cell, made}
-use Rattle.block_rule.specs.Classes.{class, AreCounts}
+use Rattle.block_rule.specs.Classes.{class, AreCounts, IsBlankRow, IsHeldIn}
 use Rattle.block_rule.specs.Rows.{ShowsTile}
 use Rattle.block_rule.specs.Lent.{IsEmpty, IsSeenInside, IsSeenIn, IsSeen}
 use Rattle.block_rule.specs.declared.Window.{Window}
@@ -66,8 +66,18 @@ none_among row places e = count_below-same 32 _ (λ _. false) (λ i _. and_false
 abbrev pub among : List ℕ → List ℕ → ℕ → ℕ
 among old places k = count_below 32 (λ i. bit (get_or old k 0) i && bit (get_or places k 0) i)
 
-pub one_row_more : (old places : List ℕ) (n j more before : ℕ) → n + before ≡ sum_below j (among old places) → more ≡ among old places j → n + more + before ≡ sum_below (j + 1) (among old places)
-one_row_more old places n j more before so_far here = omega (arith, so_far, here, sum_below-more j (among old places))
+-- those of two rows more, by a word that has both rows
+pub two_rows_among : (u v a b c d : ℕ) → u < 2 ^ 64 → ((i : ℕ) → i < 32 → bit u i ≡ bit a i) → ((i : ℕ) → i < 32 → bit u (32 + i) ≡ bit b i) → ((i : ℕ) → i < 32 → bit v i ≡ bit c i) → ((i : ℕ) → i < 32 → bit v (32 + i) ≡ bit d i) →
+    count_ones (bit_and u v) ≡ count_below 32 (λ i. bit a i && bit c i) + count_below 32 (λ i. bit b i && bit d i)
+two_rows_among u v a b c d fits u_low u_high v_low v_high =
+    ones_are_bits (bit_and u v) 64 (omega (arith, and_le_l u v))
+    ∙ (count_below-parts 32 32 (bit (bit_and u v))
+    ∙ ap₂ (λ m n. m + n) (count_below-same 32 _ _ (λ i h. bit-and u v i ∙ ap₂ (λ p q. p && q) (u_low i h) (v_low i h)))
+    (count_below-same 32 _ _ (λ i h. bit-and u v (32 + i) ∙ ap₂ (λ p q. p && q) (u_high i h) (v_high i h))))
+
+pub two_rows_more : (old places : List ℕ) (n j more before next : ℕ) → n + before ≡ sum_below j (among old places) → more ≡ among old places j + among old places (j + 1) → next ≡ j + 1 + 1 → n + more + before ≡ sum_below next (among old places)
+two_rows_more old places n j more before next so_far here e =
+    rw e (omega (arith, so_far, here, sum_below-more j (among old places), sum_below-more (j + 1) (among old places)))
 
 no_row_more : (old places : List ℕ) (j : ℕ) → get_or places j 0 ≡ 0 → sum_below (j + 1) (among old places) ≡ sum_below j (among old places)
 no_row_more old places j e = omega (arith, none_among (get_or old j 0) (get_or places j 0) e, sum_below-more j (among old places))
@@ -79,7 +89,7 @@ no_rows_more old places from (suc n) none =
     ap (λ m. sum_below m (among old places)) (let e : from + suc n ≡ from + n + 1 = omega arith in e)
     ∙ (no_row_more old places (from + n) (none (from + n) (omega arith) (omega arith)) ∙ no_rows_more old places from n (λ k low high. none k low (omega arith)))
 
-or_is_zero : (a b : ℕ) → bit_or a b ≡ 0 → (a ≡ 0) × (b ≡ 0)
+pub or_is_zero : (a b : ℕ) → bit_or a b ≡ 0 → (a ≡ 0) × (b ≡ 0)
 or_is_zero a b e = (omega (arith, e, le_or_l a b), omega (arith, e, le_or_r a b))
 
 -- a loop has seen the rows from `from` up to j
@@ -91,12 +101,82 @@ none_so_far rows from j any before e k low high =
       | inr other ↦ before both.0 k low (omega arith)
     ]
 
-pub outside_row : (k from j : ℕ) → from ≤ j → (k < from) ⊎ (j + 1 ≤ k) → (k ≡ j → ⊥) × ((k < from) ⊎ (j ≤ k))
-outside_row k from j order (inl h) = (λ e. omega arith, inl h)
-outside_row k from j order (inr h) = (λ e. omega arith, inr (omega arith))
+pub not_row : (j from k : ℕ) → (j < from) ⊎ (from + (k + 1) ≤ j) → j ≡ from + k → ⊥
+not_row j from k (inl h) e = omega arith
+not_row j from k (inr h) e = omega arith
 
-pub counted_so_far : (old places : List ℕ) (n m from next : ℕ) → next ≡ from + 8 → n ≡ sum_below from (among old places) → m + sum_below from (among old places) ≡ sum_below (from + 8) (among old places) → n + m ≡ sum_below next (among old places)
-counted_so_far old places n m from next e so_far here = rw e (omega (arith, so_far, here))
+pub outside_row : (j from k : ℕ) → (j < from) ⊎ (from + (k + 1) ≤ j) → (j < from) ⊎ (from + k ≤ j)
+outside_row j from k (inl h) = inl h
+outside_row j from k (inr h) = inr (omega arith)
+
+pub row_from : (j from k : ℕ) → k ≡ 8 → (j < from) ⊎ (from + 8 ≤ j) → (j < from) ⊎ (from + k ≤ j)
+row_from j from k e (inl h) = inl h
+row_from j from k e (inr h) = inr (omega arith)
+
+-- a class whose first rows, eight at a time, have the old cells back, and the count of those
+pub record HeldSoFar (old places before after : List ℕ) (n k : ℕ) : Type 0 where
+  pub held : IsHeldIn 0 (k * 8) old places before after
+  pub count : n ≡ sum_below (k * 8) (among old places)
+  pub bound : n ≤ 256 * k
+
+pub nothing_held : (old places before : List ℕ) → HeldSoFar old places before before 0 0
+nothing_held old places before =
+    record {
+      held = record { cells = λ i j _ _ below. absurd (omega arith); rest = λ j _. refl };
+      count = sym (sum_below-zero (among old places));
+      bound = omega arith;
+    }
+
+pub held_more : (old places before class after : List ℕ) (n m k : ℕ) → HeldSoFar old places before class n k → IsHeldIn (k * 8) (k * 8 + 8) old places class after → m + sum_below (k * 8) (among old places) ≡ sum_below (k * 8 + 8) (among old places) → m ≤ 256 → HeldSoFar old places before after (n + m) (k + 1)
+held_more old places before class after n m k was here counted few =
+    let next : (k + 1) * 8 ≡ k * 8 + 8 = omega arith in
+    record {
+      held = record {
+        cells = λ i j h _ below. elim (cases_lt j (k * 8)) [
+          | inl low ↦ ap (λ w. bit w i) (here.rest j (inl low)) ∙ was.held.cells i j h (omega arith) low
+          | inr high ↦ here.cells i j h high (omega arith) ∙ ap (λ w. if bit (get_or places j 0) i then bit (get_or old j 0) i else bit w i) (was.held.rest j (inr high))
+        ];
+        rest = λ j outside. here.rest j (above_next j outside) ∙ was.held.rest j (above_now j outside);
+      };
+      count = rw next (omega (arith, was.count, counted));
+      bound = omega (arith, was.bound, few);
+    }
+  where
+    above_next : (j : ℕ) → (j < 0) ⊎ ((k + 1) * 8 ≤ j) → (j < k * 8) ⊎ (k * 8 + 8 ≤ j)
+    above_next j (inl h) = absurd (omega arith)
+    above_next j (inr h) = inr (omega arith)
+
+    above_now : (j : ℕ) → (j < 0) ⊎ ((k + 1) * 8 ≤ j) → (j < 0) ⊎ (k * 8 ≤ j)
+    above_now j (inl h) = absurd (omega arith)
+    above_now j (inr h) = inr (omega arith)
+
+pub none_more : (old places before class : List ℕ) (n k : ℕ) → HeldSoFar old places before class n k → ((j : ℕ) → k * 8 ≤ j → j < k * 8 + 8 → get_or places j 0 ≡ 0) → HeldSoFar old places before class n (k + 1)
+none_more old places before class n k was none =
+    let next : (k + 1) * 8 ≡ k * 8 + 8 = omega arith in
+    record {
+      held = record {
+        cells = λ i j h _ below. elim (cases_lt j (k * 8)) [
+          | inl low ↦ was.held.cells i j h (omega arith) low
+          | inr high ↦ ap (λ w. bit w i) (was.held.rest j (inr high)) ∙ nothing_there 0 (get_or places j 0) i _ _ (none j high (omega arith))
+        ];
+        rest = λ j outside. was.held.rest j (above_now j outside);
+      };
+      count = rw next (was.count ∙ sym (no_rows_more old places (k * 8) 8 none));
+      bound = omega (arith, was.bound);
+    }
+  where
+    above_now : (j : ℕ) → (j < 0) ⊎ ((k + 1) * 8 ≤ j) → (j < 0) ⊎ (k * 8 ≤ j)
+    above_now j (inl h) = absurd (omega arith)
+    above_now j (inr h) = inr (omega arith)
+
+-- all of its rows
+pub all_held : (old places before after : List ℕ) (n k : ℕ) → k ≡ 4 → HeldSoFar old places before after n k → (i j : ℕ) → i < 32 → j < 32 → bit (get_or after j 0) i ≡ (if bit (get_or places j 0) i then bit (get_or old j 0) i else bit (get_or before j 0) i)
+all_held old places before after n k e is i j h below = is.held.cells i j h (omega arith) (omega arith)
+
+pub all_counted : (old places before after : List ℕ) (n k : ℕ) → k ≡ 4 → HeldSoFar old places before after n k → n ≡ sum_below 32 (among old places)
+all_counted old places before after n k e is =
+    let all : k * 8 ≡ 32 = omega arith in
+    is.count ∙ ap (λ m. sum_below m (among old places)) all
 
 -- the particles of a class in these places
 pub class_among : (old places : List ℕ) (p q n : ℕ) (had there : ℕ → ℕ → Bool) → p < 2 → q < 2 → IsClass old p q had → IsClass places p q there → n ≡ sum_below 32 (among old places) → n ≡ class (λ x y. had x y && there x y) p q

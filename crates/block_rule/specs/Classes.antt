@@ -1,7 +1,8 @@
-use Rattle.std.specs.Prelude.{◌≡◌, ℕ, ◌%◌, ◌≤◌, ◌==◌, Bool, ◌&&◌, List, slice_index}
+use Rattle.std.specs.Prelude.{◌≡◌, ℕ, ◌%◌, ◌<◌, ◌≤◌, ◌⊎◌, ◌==◌, Bool, ◌&&◌, if◌then◌else◌, List, slice_index}
 use Rattle.bit_tile.specs.Bit.{bit}
 use Rattle.bit_tile.specs.Sums.{sum_below, count_below}
 use Rattle.bit_tile.specs.Tile.{count_cells}
+use Rattle.bit_tile.specs.declared.Tile.{Tile}
 use Rattle.block_rule.specs.declared.held.Classes.{Classes}
 
 -- none of the four counts is above n
@@ -25,3 +26,19 @@ pub record AreCounts (c : Classes) (cells : ℕ → ℕ → Bool) : Type 0 where
 -- how many cells of a class's first n rows are in these places
 abbrev pub particles_among : List ℕ → List ℕ → ℕ → ℕ
 particles_among old places n = sum_below n (λ j. count_below 32 (λ i. bit (slice_index old j) i && bit (slice_index places j) i))
+
+-- a class's word j with the old cells of these places put back
+abbrev pub kept : List ℕ → List ℕ → List ℕ → ℕ → ℕ → Bool
+kept old places before j i = if bit (slice_index places j) i then bit (slice_index old j) i else bit (slice_index before j) i
+
+-- the rows from `from` up to `to` have the old cells of these places back, and the others are as before
+pub record IsHeldIn (from to : ℕ) (old places before after : List ℕ) : Type 0 where
+  pub cells : (i j : ℕ) → i < 32 → from ≤ j → j < to → bit (slice_index after j) i ≡ kept old places before j i
+  pub rest : (j : ℕ) → (j < from) ⊎ (to ≤ j) → slice_index after j ≡ slice_index before j
+
+-- none of the four classes has a cell in its row j
+pub record IsBlankRow (t : Tile) (j : ℕ) : Type 0 where
+  pub even_even : slice_index t.even_even j ≡ 0
+  pub odd_even : slice_index t.odd_even j ≡ 0
+  pub even_odd : slice_index t.even_odd j ≡ 0
+  pub odd_odd : slice_index t.odd_odd j ≡ 0

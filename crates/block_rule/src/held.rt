@@ -1,12 +1,12 @@
 //! Walls: in walled blocks the old cells stay, and their particles give twice their momentum.
 
-ghost use Rattle.std.specs.Prelude.{◌≡◌, ◌⊎◌, ℕ, ◌+◌, ◌*◌, ◌<◌, ◌≤◌, ◌&&◌, if◌then◌else◌, Bool, slice_index, pos, ◌-ℤ◌};
+ghost use Rattle.std.specs.Prelude.{◌≡◌, ℕ, ◌+◌, ◌*◌, ◌<◌, ◌≤◌, ◌&&◌, if◌then◌else◌, Bool, slice_index, pos, ◌-ℤ◌};
 ghost use Rattle.bit_tile.specs.Bit.{bit};
 ghost use Rattle.bit_tile.specs.Tile.{has, HasCells};
 ghost use Rattle.block_rule.specs.Around.{twice_momentum};
-ghost use Rattle.block_rule.specs.Classes.{HasAtMost, AreCounts, particles_among};
+ghost use Rattle.block_rule.specs.Classes.{HasAtMost, AreCounts, IsBlankRow, IsHeldIn, kept, particles_among};
 
-use bit_tile::Tile;
+use bit_tile::{Tile, joined};
 use gas_terms::Pair;
 
 // Rows of a class that are looked at together.
@@ -25,41 +25,60 @@ fn any_in(rows: &[u32; 32], from: usize) -> u32
     any
 }
 
-// Puts the old cells of these places back into the rows from `from` on, and answers how many there are.
-#[inline(never)]
-fn hold_rows(old: &[u32; 32], places: &[u32; 32], from: usize, class: &mut [u32; 32]) -> u32
+// the same of all four classes
+#[inline]
+fn any_in_classes(places: &Tile, from: usize) -> u32
     requires { from + 8 ≤ 32 }
-    ensures cells { (i j : ℕ) → i < 32 → from ≤ j → j < from + 8 → bit (slice_index class.new j) i ≡
-        (if bit (slice_index places.now j) i then bit (slice_index old.now j) i else bit (slice_index class.old j) i) }
-    ensures rest { (j : ℕ) → (j < from) ⊎ (from + 8 ≤ j) → slice_index class.new j ≡ slice_index class.old j }
+    ensures { result ≡ 0 → (j : ℕ) → from ≤ j → j < from + 8 → IsBlankRow places.now j }
+{
+    let even_rows = any_in(&places.even_even, from) | any_in(&places.odd_even, from);
+    let odd_rows = any_in(&places.even_odd, from) | any_in(&places.odd_odd, from);
+    even_rows | odd_rows
+}
+
+// The rows of a class from `from` on, with the old cells of these places put back.
+#[inline]
+fn kept_rows(old: &[u32; 32], places: &[u32; 32], from: usize, class: &[u32; 32]) -> [u32; 8]
+    requires { from + 8 ≤ 32 }
+    ensures { (i k : ℕ) → i < 32 → k < 8 → bit (slice_index result k) i ≡ kept old.now places.now class.now (from + k) i }
+{
+    let mut rows = [0; TOGETHER];
+    for k in 0..TOGETHER {
+        let j = from + k;
+        rows[k] = (old[j] & places[j]) | (class[j] & !places[j]);
+    }
+    rows
+}
+
+// How many old cells there are in these places, two rows at a time.
+#[inline]
+fn count_rows(old: &[u32; 32], places: &[u32; 32], from: usize) -> u32
+    requires { from + 8 ≤ 32 }
     ensures count { result + particles_among old.now places.now from ≡ particles_among old.now places.now (from + 8) }
     ensures bound { result ≤ 256 }
 {
     let mut n = 0;
-    for j in from..from + TOGETHER {
-        let kept = old[j] & places[j];
-        class[j] = kept | (class[j] & !places[j]);
-        n += kept.count_ones();
+    for k in 0..TOGETHER / 2 {
+        let j = from + 2 * k;
+        let particles = joined(old[j], old[j + 1]) & joined(places[j], places[j + 1]);
+        n += particles.count_ones();
     }
     n
 }
 
-// Puts the old cells of these places of a class back, and answers how many there are. Most rows have no places.
+// Puts the old cells of these places back into the rows from `from` on, and answers how many there are.
 #[inline]
-fn hold_class(old: &[u32; 32], places: &[u32; 32], class: &mut [u32; 32]) -> u32
-    ensures cells { (i j : ℕ) → i < 32 → j < 32 → bit (slice_index class.new j) i ≡
-        (if bit (slice_index places.now j) i then bit (slice_index old.now j) i else bit (slice_index class.old j) i) }
-    ensures count { result ≡ particles_among old.now places.now 32 }
-    ensures bound { result ≤ 1024 }
+fn hold_rows(old: &[u32; 32], places: &[u32; 32], from: usize, class: &mut [u32; 32]) -> u32
+    requires { from + 8 ≤ 32 }
+    ensures cells { IsHeldIn from (from + 8) old.now places.now class.old class.new }
+    ensures count { result + particles_among old.now places.now from ≡ particles_among old.now places.now (from + 8) }
+    ensures bound { result ≤ 256 }
 {
-    let mut n = 0;
-    for k in 0..4usize {
-        let from = k * TOGETHER;
-        if any_in(places, from) != 0 {
-            n += hold_rows(old, places, from, class);
-        }
+    let rows = kept_rows(old, places, from, class);
+    for k in 0..TOGETHER {
+        class[from + k] = rows[k];
     }
-    n
+    count_rows(old, places, from)
 }
 
 // How many particles there are in even columns of even rows, in odd of even, even of odd, and odd of odd.
@@ -110,11 +129,26 @@ pub fn hold(tile: &Tile, places: &Tile, parity: u8, out: &mut Tile) -> Pair
     ensures cells { HasCells out.new (λ x y. if has places.now x y then has tile.now x y else has out.old x y) }
     ensures took { result ≡ twice_momentum parity (λ x y. has tile.now x y && has places.now x y) }
 {
-    let counts = Classes {
-        even_even: hold_class(&tile.even_even, &places.even_even, &mut out.even_even),
-        odd_even: hold_class(&tile.odd_even, &places.odd_even, &mut out.odd_even),
-        even_odd: hold_class(&tile.even_odd, &places.even_odd, &mut out.even_odd),
-        odd_odd: hold_class(&tile.odd_odd, &places.odd_odd, &mut out.odd_odd),
+    let mut counts = Classes {
+        even_even: 0,
+        odd_even: 0,
+        even_odd: 0,
+        odd_odd: 0,
     };
+    for k in 0..4usize {
+        let from = k * TOGETHER;
+        // most rows have no places
+        if any_in_classes(places, from) != 0 {
+            counts.even_even += hold_rows(
+                &tile.even_even,
+                &places.even_even,
+                from,
+                &mut out.even_even,
+            );
+            counts.odd_even += hold_rows(&tile.odd_even, &places.odd_even, from, &mut out.odd_even);
+            counts.even_odd += hold_rows(&tile.even_odd, &places.even_odd, from, &mut out.even_odd);
+            counts.odd_odd += hold_rows(&tile.odd_odd, &places.odd_odd, from, &mut out.odd_odd);
+        }
+    }
     momentum(counts, parity)
 }

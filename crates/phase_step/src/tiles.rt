@@ -99,8 +99,9 @@ fn window_in(set: &Plane, i: u32) -> Option<Window<'_>>
     if set.is_bare_round(i) {
         None
     } else {
-        let tile = set.tile_or_bare(i);
-        let round = set.round_or_bare(i);
-        Some(Window { tile, round })
+        Some(Window {
+            tile: set.tile(i),
+            round: set.round(i),
+        })
     }
 }
