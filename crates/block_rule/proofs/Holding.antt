@@ -19,7 +19,7 @@ use Rattle.bit_tile.proofs.Classes.{IsClass}
 use Rattle.gas_terms.specs.declared.accounts.Pair.{Pair}
 use Rattle.block_rule.specs.Around.{turned, none, either, is_walled_at, twice_momentum, taken}
 use Rattle.block_rule.specs.Cell.{turned_cell, made}
-use Rattle.block_rule.specs.Classes.{class, AreCounts, IsBlankRow, IsHeldIn}
+use Rattle.block_rule.specs.Classes.{class, AreCounts, IsHeldIn}
 use Rattle.block_rule.specs.Rows.{ShowsTile}
 use Rattle.block_rule.specs.Lent.{IsEmpty, IsSeenInside, IsSeenIn, IsSeen}
 use Rattle.block_rule.specs.declared.Window.{Window}

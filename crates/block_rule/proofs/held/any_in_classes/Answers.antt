@@ -1,4 +1,3 @@
-use Rattle.std.proofs.Common.{arith}
 use Rattle.block_rule.proofs.Holding.{or_is_zero}
 use Rattle.block_rule.proofs.held.any_in_classes.Goals as goal
 

@@ -1,4 +1,4 @@
-use Rattle.std.proofs.Common.{◌≡◌, ℕ, ◌+◌, ◌*◌, ◌<◌, ◌≤◌, ◌∙◌, ap, arith}
+use Rattle.std.proofs.Common.{◌≡◌, ℕ, ◌+◌, ◌*◌, ◌<◌, ◌≤◌, arith}
 use Rattle.bit_tile.proofs.Classes.{by_class, is_even_even, is_odd_even, is_even_odd, is_odd_odd}
 use Rattle.bit_tile.specs.Tile.{has}
 use Rattle.block_rule.specs.Classes.{IsBlankRow}

@@ -1,7 +1,6 @@
-use Rattle.std.proofs.Common.{◌≡◌, ℕ, ◌+◌, ◌-◌, ◌<◌, ◌∙◌, ap, arith, length, length-set, get_or, get_or-set_other, get_or-set_same, inl, inr}
+use Rattle.std.proofs.Common.{◌≡◌, ◌+◌, ◌-◌, ◌<◌, ◌∙◌, ap, arith, length, length-set, get_or-set_other, get_or-set_same, inl, inr}
 use Rattle.std.proofs.lemmas.Bool.{cases_eq}
 use Rattle.bit_tile.specs.Bit.{bit}
-use Rattle.block_rule.specs.Classes.{kept}
 use Rattle.block_rule.proofs.Holding.{not_row, outside_row, row_from}
 use Rattle.block_rule.proofs.held.hold_rows.Goals as goal
 
