@@ -1,6 +1,6 @@
 -- Edits of a gas with its ledger.
-use Rattle.std.proofs.Common.{◌≡◌, true, false, ℤ, refl, sym, ap, subst, ◌∙◌}
-use Rattle.gas_terms.specs.Cells.{extent}
+use Rattle.std.proofs.Common.{◌≡◌, ◌≢◌, ℕ, false, ℤ, refl, sym, ap, subst, ◌∙◌}
+use Rattle.gas_terms.specs.Cells.{IsEvenTorus}
 use Rattle.gas_terms.specs.Gas.{Gas}
 use Rattle.gas_terms.specs.Accounts.{nothing, gained, FitsI64}
 use Rattle.gas_terms.specs.Commands.{enact, is_move}
@@ -8,13 +8,30 @@ use Rattle.gas_terms.specs.BookedGas.{BookedGas, changed, book}
 use Rattle.gas_terms.specs.declared.accounts.Ledger.{Ledger}
 use Rattle.gas_terms.specs.declared.command.Command.{Command}
 use Rattle.gas_terms.specs.declared.command.Command.TheVariants.{Put, Erase, Wall, Block, Unwall, Row, Source, Drain, Unport, Step, Back, Probe, Tally, Ledger as Accounting, Read, Entry as EntryAt}
-use Rattle.gas_terms.proofs.AccountBounds.{size-even}
 use Rattle.gas_terms.proofs.Stretches.{total-without_itself}
-use Rattle.gas_plane.specs.Planes.{IsLattice}
 use Rattle.gas_ledger.specs.Moves.{moved_by}
 use Rattle.gas_ledger.specs.declared.moved.Moved.{Moved}
-use Rattle.gas_lab.specs.Labs.{with_moved, leaves_particles}
+use Rattle.gas_lab.specs.Labs.{with_moved}
 use Rattle.gas_lab.proofs.Stepping.{pair}
+
+-- What is neither of the moves is no move.
+pub no_move : (command : Command) → ((n : ℕ) → command ≢ Step n) → ((n : ℕ) → command ≢ Back n) → is_move command ≡ false
+no_move (Step n) forth back = absurd (forth n refl)
+no_move (Back n) forth back = absurd (back n refl)
+no_move (Put r) forth back = refl
+no_move (Erase r) forth back = refl
+no_move (Wall r) forth back = refl
+no_move (Block r) forth back = refl
+no_move (Unwall r) forth back = refl
+no_move (Row y bits) forth back = refl
+no_move (Source r n) forth back = refl
+no_move (Drain r) forth back = refl
+no_move Unport forth back = refl
+no_move (Probe r) forth back = refl
+no_move Tally forth back = refl
+no_move Accounting forth back = refl
+no_move (Read y) forth back = refl
+no_move (EntryAt k) forth back = refl
 
 -- What is no move is booked as one change.
 book_edit : (b : BookedGas) (command : Command) → is_move command ≡ false → book b command ≡ changed b (enact b.gas command)
@@ -53,33 +70,14 @@ edit_tick g Accounting still = refl
 edit_tick g (Read y) still = refl
 edit_tick g (EntryAt k) still = refl
 
-set_up_particles : (g : Gas) (command : Command) → leaves_particles command ≡ true → (enact g command).particles ≡ g.particles
-set_up_particles g (Put r) quiet = cc
-set_up_particles g (Erase r) quiet = cc
-set_up_particles g (Wall r) quiet = refl
-set_up_particles g (Block r) quiet = refl
-set_up_particles g (Unwall r) quiet = refl
-set_up_particles g (Row y bits) quiet = cc
-set_up_particles g (Source r n) quiet = refl
-set_up_particles g (Drain r) quiet = refl
-set_up_particles g Unport quiet = refl
-set_up_particles g (Step n) quiet = cc
-set_up_particles g (Back n) quiet = cc
-set_up_particles g (Probe r) quiet = refl
-set_up_particles g Tally quiet = refl
-set_up_particles g Accounting quiet = refl
-set_up_particles g (Read y) quiet = refl
-set_up_particles g (EntryAt k) quiet = refl
-
 -- What leaves the particles moves none.
 abbrev pub none_moved : Moved
 none_moved = record { injected = nothing; drained = nothing }
 
-pub quiet_moves : (g g' : Gas) (command : Command) → IsLattice g.particles → leaves_particles command ≡ true → g' ≡ enact g command →
-    none_moved ≡ moved_by g.tick g.particles g'.particles
-quiet_moves g g' command lattice quiet is =
-    let same : g'.particles ≡ g.particles = ap (λ (h : Gas). h.particles) is ∙ set_up_particles g command quiet in
-    let none : gained g.tick g.particles g.particles ≡ nothing = total-without_itself g.tick g.particles (size-even (extent g.particles) lattice.sized) in
+pub quiet_moves : (g g' h : Gas) → IsEvenTorus g.particles → g' ≡ h → h.particles ≡ g.particles → none_moved ≡ moved_by g.tick g.particles g'.particles
+quiet_moves g g' h torus is kept =
+    let same : g'.particles ≡ g.particles = ap (λ (k : Gas). k.particles) is ∙ kept in
+    let none : gained g.tick g.particles g.particles ≡ nothing = total-without_itself g.tick g.particles torus.sides in
     ap (λ s. record { injected = s; drained = s }) (sym none) ∙ ap (moved_by g.tick g.particles) (sym same)
 
 -- An edit is booked.

@@ -1,10 +1,10 @@
 -- What a laboratory's type keeps.
-use Rattle.std.proofs.Common.{◌≡◌, ℕ, true, ◌≤◌, ◌<◌, ◌^◌, nat_lt, List, [], ◌∷◌, ◌++◌, length, pos, refl, sym, ap, ap₂, ◌∙◌, subst, arith}
+use Rattle.std.proofs.Common.{◌≡◌, ℕ, true, ◌≤◌, ◌<◌, ◌^◌, nat_lt, List, [], ◌∷◌, ◌++◌, length, pos, sym, ap, ap₂, ◌∙◌, subst, arith}
 use Rattle.std.proofs.lemmas.Bool.Decides.{nat_tests}
-use Rattle.gas_terms.specs.Cells.{Cells, extent, HasSidesOf}
+use Rattle.gas_terms.specs.Cells.{Cells, extent, HasSidesOf, IsEvenTorus}
 use Rattle.gas_terms.specs.Gas.{Gas}
 use Rattle.gas_terms.specs.Accounts.{nothing, total}
-use Rattle.gas_terms.specs.Commands.{fits}
+use Rattle.gas_terms.specs.Commands.{fits, is_tick}
 use Rattle.gas_terms.specs.BookedGas.{BookedGas, opened, book}
 use Rattle.gas_terms.specs.Laboratory.{Laboratory, opening, booked, accepted, commands, IsAcceptable, IsSound}
 use Rattle.gas_terms.specs.declared.command.Entry.{Entry}
@@ -13,15 +13,12 @@ use Rattle.gas_terms.specs.declared.command.Command.TheVariants.{Read}
 use Rattle.gas_terms.specs.declared.accounts.Ledger.{Ledger}
 use Rattle.gas_terms.specs.declared.accounts.Sums.{Sums}
 use Rattle.gas_terms.proofs.Bounds.{ledger_fits}
-use Rattle.gas_terms.proofs.Bookings.{book_all-sides}
+use Rattle.gas_terms.proofs.Bookings.{book_all-sides, book_all-torus}
 use Rattle.gas_terms.proofs.LabBounds.{next_accounts_fit}
 use Rattle.gas_terms.proofs.Laboratories.{all_booked, opening_sound, accepted_sound, has_room}
 use Rattle.gas_plane.specs.Planes.{IsLattice}
-use Rattle.gas_lab.specs.Labs.{Affords, IsKept}
-use Rattle.gas_lab.proofs.Stepping.{torus_of}
-
-abbrev pub lab_at : Gas → ℕ → BookedGas → List Entry → Laboratory
-lab_at start cap b journal = record { start = start; cap = cap; gas = b.gas; ledger = b.ledger; journal = journal }
+use Rattle.gas_lab.specs.Labs.{lab_of, TicksHold, Affords, IsKept}
+use Rattle.gas_lab.proofs.Stepping.{torus_of, book_tick}
 
 -- The gas has the start's sides.
 pub kept_extent : (lab : Laboratory) → IsSound lab → extent lab.gas.particles ≡ extent lab.start.particles
@@ -44,42 +41,51 @@ row_within lab lab' command y same is in_order =
     let here : nat_lt y lab.gas.particles.height ≡ true = ap (fits (extent lab.gas.particles)) (sym is) ∙ in_order in
     subst (λ (l : Laboratory). y < l.gas.particles.height) same (below_height y lab.gas.particles.height here)
 
+-- The gas is a torus, as the start is.
+pub kept_torus : (lab : Laboratory) (others : Cells) → IsKept lab others → IsEvenTorus lab.gas.particles
+kept_torus lab others kept =
+    subst (λ (b : BookedGas). IsEvenTorus b.gas.particles) (sym (all_booked lab kept.sound))
+    (book_all-torus (commands lab.journal) (opened lab.start) (torus_of lab.start.particles kept.lattice))
+
 -- Whatever the next command is, the accounts fit.
-pub kept_affords : (lab : Laboratory) (others : Cells) (entry : Entry) → IsLattice lab.start.particles → IsKept lab others → IsAcceptable lab entry → Affords (booked lab)
-kept_affords lab others entry lattice kept acceptable = λ command few.
+pub kept_affords : (lab : Laboratory) (others : Cells) (entry : Entry) → IsKept lab others → IsAcceptable lab entry → Affords (booked lab)
+kept_affords lab others entry kept acceptable = λ command few.
     let room : length lab.journal < lab.cap = (let h = has_room lab entry.command acceptable.change acceptable.no_cause in omega (arith, h)) in
-    ledger_fits (2 ^ 52) (book (booked lab) command).ledger (omega arith) (next_accounts_fit lab command lattice.sized kept.cap kept.sound room few)
+    ledger_fits (2 ^ 52) (book (booked lab) command).ledger (omega arith) (next_accounts_fit lab command kept.lattice.sized kept.cap kept.sound room few)
 
 -- A change keeps it all.
 pub kept_by_change : (start : Gas) (cap : ℕ) (b b' : BookedGas) (journal journal' : List Entry) (others others' : Cells) (entry : Entry) →
-    IsLattice start.particles → IsKept (lab_at start cap b journal) others → IsAcceptable (lab_at start cap b journal) entry →
+    IsKept (lab_of start cap b journal) others → IsAcceptable (lab_of start cap b journal) entry → TicksHold b.gas.tick entry.command →
     b' ≡ book b entry.command → HasSidesOf others' b'.gas.particles → journal' ≡ journal ++ entry ∷ [] →
-    IsKept (lab_at start cap b' journal') others'
-kept_by_change start cap b b' journal journal' others others' entry lattice kept acceptable e sides grown =
-    let lab : Laboratory = lab_at start cap b journal in
-    let after : IsSound (accepted lab entry) = accepted_sound lab entry (torus_of start.particles lattice) kept.sound acceptable in
-    let Sound : BookedGas → List Entry → Type 0 = λ c j. IsSound (lab_at start cap c j) in
+    IsKept (lab_of start cap b' journal') others'
+kept_by_change start cap b b' journal journal' others others' entry kept acceptable ticks e sides grown =
+    let lab : Laboratory = lab_of start cap b journal in
+    let after : IsSound (accepted lab entry) = accepted_sound lab entry (torus_of start.particles kept.lattice) kept.sound acceptable in
+    let Sound : BookedGas → List Entry → Type 0 = λ c j. IsSound (lab_of start cap c j) in
     record {
       sound = subst (λ j. Sound b' j) (sym grown) (subst (λ c. Sound c (journal ++ entry ∷ [])) (sym e) after);
       cap = kept.cap;
+      lattice = kept.lattice;
+      tick = subst (λ (c : BookedGas). is_tick c.gas.tick ≡ true) (sym e) (book_tick b entry.command ticks kept.tick);
       spare = sides;
     }
 
 -- A laboratory opens with it.
 pub kept_at_opening : (start gas : Gas) (cap : ℕ) (sums : Sums) (journal : List Entry) (others : Cells) →
-    IsLattice start.particles → cap ≤ 65536 → gas ≡ start → sums ≡ total start.tick start.particles → journal ≡ [] → others ≡ start.particles →
+    IsLattice start.particles → is_tick start.tick ≡ true → cap ≤ 65536 → gas ≡ start → sums ≡ total start.tick start.particles → journal ≡ [] → HasSidesOf others start.particles →
     IsKept
-    (lab_at start cap (record { gas = gas; ledger = record { start = sums; injected = nothing; drained = nothing; walls = record { x = pos 0; y = pos 0 }; obstacles = record { x = pos 0; y = pos 0 } } }) journal)
+    (lab_of start cap (record { gas = gas; ledger = record { start = sums; injected = nothing; drained = nothing; walls = record { x = pos 0; y = pos 0 }; obstacles = record { x = pos 0; y = pos 0 } } }) journal)
     others
-kept_at_opening start gas cap sums journal others lattice small gas_is sums_are none spare_is =
+kept_at_opening start gas cap sums journal others lattice tick small gas_is sums_are none sides =
     let ledger_of : Sums → Ledger = λ s. record { start = s; injected = nothing; drained = nothing; walls = record { x = pos 0; y = pos 0 }; obstacles = record { x = pos 0; y = pos 0 } } in
-    let there : IsKept (opening start cap) start.particles = record {
+    let there : IsKept (opening start cap) others = record {
       sound = opening_sound start cap (torus_of start.particles lattice);
       cap = small;
-      spare = record { wide = refl; high = refl };
+      lattice = lattice;
+      tick = tick;
+      spare = sides;
     } in
-    let Kept : Gas → Sums → List Entry → Cells → Type 0 = λ g s j o. IsKept (lab_at start cap (record { gas = g; ledger = ledger_of s }) j) o in
-    subst (λ g. Kept g sums journal others) (sym gas_is)
-    (subst (λ s. Kept start s journal others) (sym sums_are)
-    (subst (λ j. Kept start (total start.tick start.particles) j others) (sym none)
-    (subst (λ o. Kept start (total start.tick start.particles) [] o) (sym spare_is) there)))
+    let Kept : Gas → Sums → List Entry → Type 0 = λ g s j. IsKept (lab_of start cap (record { gas = g; ledger = ledger_of s }) j) others in
+    subst (λ g. Kept g sums journal) (sym gas_is)
+    (subst (λ s. Kept start s journal) (sym sums_are)
+    (subst (λ j. Kept start (total start.tick start.particles) j) (sym none) there))

@@ -1,23 +1,26 @@
 -- Steps of a gas with its ledger.
-use Rattle.std.proofs.Common.{◌≡◌, ℕ, zero, suc, ◌+◌, pos, ◌+ℤ◌, sym, ap, ap₂, subst, ◌∙◌, arith, add-one}
+use Rattle.std.proofs.Common.{◌≡◌, ℕ, zero, suc, ◌+◌, pos, ◌+ℤ◌, ◌-ℤ◌, true, sym, ap, ap₂, subst, ◌∙◌, arith, add-one}
 use Rattle.std.proofs.lemmas.Int.{ints}
 use Rattle.std.specs.Fn.{iterate}
 use Rattle.gas_terms.specs.Cells.{Cells, extent, HasSidesOf, IsEvenTorus}
 use Rattle.gas_terms.specs.Gas.{Gas, act, HasNoPorts}
 use Rattle.gas_terms.specs.Accounts.{plus, with_taken, with_given_back, FitsI64, SumsFit}
-use Rattle.gas_terms.specs.BookedGas.{BookedGas, changed, moved, stepped, stepped_back}
+use Rattle.gas_terms.specs.Commands.{is_tick}
+use Rattle.gas_terms.specs.BookedGas.{BookedGas, changed, moved, stepped, stepped_back, book}
 use Rattle.gas_terms.specs.declared.accounts.Ledger.{Ledger}
 use Rattle.gas_terms.specs.declared.accounts.Took.{Took}
+use Rattle.gas_terms.specs.declared.command.Command.{Command}
+use Rattle.gas_terms.specs.declared.command.Command.TheVariants.{Put, Erase, Wall, Block, Unwall, Row, Source, Drain, Unport, Step, Back, Probe, Tally, Ledger as Accounting, Read, Entry as EntryAt}
 use Rattle.gas_terms.proofs.AccountBounds.{size-even}
 use Rattle.gas_terms.proofs.Iterate.{iterate_last}
-use Rattle.gas_terms.proofs.Stretches.{stepped-plain}
 use Rattle.gas_plane.specs.Planes.{IsLattice}
 use Rattle.gas_ledger.specs.PortLists.{PortLists, no_ports}
+use Rattle.phase_step.proofs.RunSteps.{back_run}
 use Rattle.phase_step.specs.Runs.{gas_after, takes_after, gas_before, takes_before, ran, ran_back}
 use Rattle.gas_ledger.specs.Gases.{ports_of}
 use Rattle.gas_ledger.specs.Moves.{moved_by}
 use Rattle.gas_ledger.specs.declared.moved.Moved.{Moved}
-use Rattle.gas_lab.specs.Labs.{with_moved, TakesFit}
+use Rattle.gas_lab.specs.Labs.{with_moved, TicksHold, TakesFit, FitsUpTo}
 
 abbrev pub pair : Gas → Ledger → BookedGas
 pair g l = record { gas = g; ledger = l }
@@ -38,10 +41,10 @@ pub ran_back_to : (b : BookedGas) (g : Gas) (l : Ledger) (took : Took) (n : ℕ)
     l ≡ with_given_back b.ledger took → pair g l ≡ ran_back n b
 ran_back_to b g l took n gas_is took_is ledger_is = ap₂ pair gas_is (ledger_is ∙ ap (with_given_back b.ledger) took_is)
 
-pub given_fits : (b : BookedGas) (took : Took) (n : ℕ) → took ≡ takes_before n b.gas → iterate stepped_back n b ≡ ran_back n b →
-    FitsI64 (iterate stepped_back n b).ledger → FitsI64 (with_given_back b.ledger took)
-given_fits b took n took_is whole fits =
-    subst (λ t. FitsI64 (with_given_back b.ledger t)) (sym took_is) (subst (λ (c : BookedGas). FitsI64 c.ledger) whole fits)
+pub given_fits : (b : BookedGas) (took : Took) (n : ℕ) → took ≡ takes_before n b.gas → IsEvenTorus b.gas.particles →
+    FitsUpTo n stepped_back b → FitsI64 (with_given_back b.ledger took)
+given_fits b took n took_is torus fits =
+    subst (λ t. FitsI64 (with_given_back b.ledger t)) (sym took_is) (subst (λ (c : BookedGas). FitsI64 c.ledger) (back_run n b torus.sides) (fits n (omega arith)))
 
 -- The ports have acted, and what they moved is booked.
 pub acted : (g g' : Gas) (l : Ledger) (m : Moved) (b : BookedGas) → pair g l ≡ moved b →
@@ -51,18 +54,11 @@ acted g g' l m b before gas_is moved_is =
     let Act : BookedGas → BookedGas = λ c. changed c (act c.gas) in
     ap (λ m. pair g' (with_moved l m)) moved_is ∙ ap F gas_is ∙ ap Act before
 
--- Without ports there is nothing to act.
+-- Without ports there is none to act.
 pub idle : (g : Gas) (ports : PortLists) → ports ≡ ports_of g → ports ≡ no_ports → HasNoPorts g
 idle g ports same none =
     let e : ports_of g ≡ no_ports = sym same ∙ none in
     record { no_drains = ap (λ (p : PortLists). p.drains) e; no_sources = ap (λ (p : PortLists). p.sources) e }
-
-pub not_acted : (b b' : BookedGas) (ports : PortLists) → IsEvenTorus b.gas.particles → b' ≡ moved b →
-    ports ≡ ports_of b'.gas → ports ≡ no_ports → b' ≡ stepped b
-not_acted b b' ports torus before same none =
-    let here : ports_of b.gas ≡ no_ports = ap (λ (c : BookedGas). ports_of c.gas) (sym before) ∙ sym same ∙ none in
-    before
-    ∙ sym (stepped-plain b (record { torus = torus; no_ports = record { no_drains = ap (λ (p : PortLists). p.drains) here; no_sources = ap (λ (p : PortLists). p.sources) here } }))
 
 pub moved_fits : (g : Gas) (l : Ledger) (m : Moved) (b : BookedGas) → pair g (with_moved l m) ≡ stepped b → FitsI64 (stepped b).ledger →
     SumsFit (plus l.injected m.injected) × SumsFit (plus l.drained m.drained)
@@ -85,6 +81,30 @@ after_one_more step n was b b' spare spare' ok e sides = record {
 stepped_tick : (n : ℕ) (b : BookedGas) → (iterate stepped n b).gas.tick ≡ b.gas.tick +ℤ pos n
 stepped_tick zero b = omega (arith, ints)
 stepped_tick (suc n) b = stepped_tick n (stepped b) ∙ (let e : b.gas.tick +ℤ pos 1 +ℤ pos n ≡ b.gas.tick +ℤ pos (suc n) = omega (arith, ints) in e)
+
+stepped_back_tick : (n : ℕ) (b : BookedGas) → (iterate stepped_back n b).gas.tick ≡ b.gas.tick -ℤ pos n
+stepped_back_tick zero b = omega (arith, ints)
+stepped_back_tick (suc n) b =
+    stepped_back_tick n (stepped_back b) ∙ (let e : b.gas.tick -ℤ pos 1 -ℤ pos n ≡ b.gas.tick -ℤ pos (suc n) = omega (arith, ints) in e)
+
+-- A change leaves the tick in its range.
+pub book_tick : (b : BookedGas) (command : Command) → TicksHold b.gas.tick command → is_tick b.gas.tick ≡ true → is_tick (book b command).gas.tick ≡ true
+book_tick b (Step n) holds tick = subst (λ t. is_tick t ≡ true) (sym (stepped_tick n b)) (holds n (omega arith))
+book_tick b (Back n) holds tick = subst (λ t. is_tick t ≡ true) (sym (stepped_back_tick n b)) (holds n (omega arith))
+book_tick b (Put r) holds tick = tick
+book_tick b (Erase r) holds tick = tick
+book_tick b (Wall r) holds tick = tick
+book_tick b (Block r) holds tick = tick
+book_tick b (Unwall r) holds tick = tick
+book_tick b (Row y bits) holds tick = tick
+book_tick b (Source r n) holds tick = tick
+book_tick b (Drain r) holds tick = tick
+book_tick b Unport holds tick = tick
+book_tick b (Probe r) holds tick = tick
+book_tick b Tally holds tick = tick
+book_tick b Accounting holds tick = tick
+book_tick b (Read y) holds tick = tick
+book_tick b (EntryAt k) holds tick = tick
 
 pub next_tick : (n : ℕ) (was b : BookedGas) (spare : Cells) → IsAfter stepped n was b spare → b.gas.tick +ℤ pos 1 ≡ was.gas.tick +ℤ pos (n + 1)
 next_tick n was b spare ok =

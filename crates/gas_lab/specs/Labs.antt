@@ -1,4 +1,5 @@
-use Rattle.std.specs.Prelude.{◌≡◌, ◌≤◌, ℕ, Bool, true, false, length, Result, Ok, Err, ◌⊎◌, ℤ, pos, ◌+ℤ◌, ◌-ℤ◌}
+use Rattle.std.specs.Prelude.{◌≡◌, ◌≤◌, ℕ, List, true, length, Result, Ok, Err, ◌⊎◌, ℤ, pos, ◌+ℤ◌, ◌-ℤ◌}
+use Rattle.std.specs.Fn.{iterate}
 use Rattle.gas_terms.specs.Cells.{Cells, HasSidesOf}
 use Rattle.gas_terms.specs.Gas.{Gas}
 use Rattle.gas_terms.specs.Accounts.{plus, FitsI64, TakenFits}
@@ -7,30 +8,26 @@ use Rattle.gas_terms.specs.BookedGas.{BookedGas, book, changes}
 use Rattle.gas_terms.specs.Laboratory.{Laboratory, accepted, IsSound}
 use Rattle.gas_terms.specs.declared.accounts.Ledger.{Ledger}
 use Rattle.gas_terms.specs.declared.command.Command.{Command}
-use Rattle.gas_terms.specs.declared.command.Command.TheVariants.{Put, Erase, Row, Source, Drain, Step, Back}
+use Rattle.gas_terms.specs.declared.command.Command.TheVariants.{Step, Back}
 use Rattle.gas_terms.specs.declared.command.Entry.{Entry}
 use Rattle.gas_terms.specs.declared.answer.Answer.{Answer}
 use Rattle.gas_terms.specs.declared.answer.Answer.TheVariants.{Taken}
 use Rattle.gas_terms.specs.declared.refusal.Refusal.{Refusal}
 use Rattle.gas_terms.specs.declared.refusal.Refusal.TheVariants.{Memory}
+use Rattle.gas_plane.specs.Planes.{IsLattice}
 use Rattle.gas_ledger.specs.declared.moved.Moved.{Moved}
 use Rattle.gas_lab.specs.declared.books.Books.{Books}
 
 abbrev pub books_of : Books → BookedGas
 books_of b = record { gas = b.gas; ledger = b.ledger }
 
+-- a laboratory of these parts
+abbrev pub lab_of : Gas → ℕ → BookedGas → List Entry → Laboratory
+lab_of start cap b journal = record { start = start; cap = cap; gas = b.gas; ledger = b.ledger; journal = journal }
+
 -- a ledger with what a change of the particles brought in and took out
 abbrev pub with_moved : Ledger → Moved → Ledger
 with_moved l m = record l { injected = plus l.injected m.injected; drained = plus l.drained m.drained }
-
--- whether a command is no move and leaves the particles
-abbrev pub leaves_particles : Command → Bool
-leaves_particles (Put r) = false
-leaves_particles (Erase r) = false
-leaves_particles (Row y bits) = false
-leaves_particles (Step n) = false
-leaves_particles (Back n) = false
-leaves_particles _ = true
 
 -- the ticks on the way of a move stay in their range
 abbrev pub TicksHold : ℤ → Command → Type 0
@@ -42,6 +39,10 @@ TicksHold t _ = Unit {0}
 abbrev pub TakesFit : Ledger → Type 0
 TakesFit l = TakenFits l.walls × TakenFits l.obstacles
 
+-- the accounts fit 64 bits before and after each of so many steps
+abbrev pub FitsUpTo : ℕ → (BookedGas → BookedGas) → BookedGas → Type 0
+FitsUpTo n step b = (k : ℕ) → k ≤ n → FitsI64 (iterate step k b).ledger
+
 -- the accounts stay within 64 bits whatever the next command is
 abbrev pub Affords : BookedGas → Type 0
 Affords b = (command : Command) → changes command ≤ 4096 → FitsI64 (book b command).ledger
@@ -50,7 +51,13 @@ Affords b = (command : Command) → changes command ≤ 4096 → FitsI64 (book b
 pub record IsKept (lab : Laboratory) (others : Cells) : Type 0 where
   pub sound : IsSound lab
   pub cap : lab.cap ≤ 65536
+  pub lattice : IsLattice lab.start.particles
+  pub tick : is_tick lab.gas.tick ≡ true
   pub spare : HasSidesOf others lab.gas.particles
+
+-- a seat's command as an entry of the journal
+abbrev pub entry_of : ℕ → Command → Entry
+entry_of seat command = record { seat = seat; command = command }
 
 -- A change is accepted whole, or memory was refused and nothing is changed.
 abbrev pub Changes : Laboratory → Entry → Result Answer Refusal → Laboratory → Type 0

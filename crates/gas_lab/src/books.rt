@@ -1,18 +1,17 @@
 //! A gas with its ledger, and what each change does to both.
 
-ghost use Rattle.std.specs.Prelude.{◌≡◌, ◌≤◌, ◌<◌, ℕ, true, false, ◌+ℤ◌, ◌-ℤ◌, pos};
+ghost use Rattle.std.specs.Prelude.{◌≡◌, ◌≤◌, ℕ, true, false, ◌+ℤ◌, ◌-ℤ◌, pos};
 ghost use Rattle.std.specs.Fn.{iterate};
-ghost use Rattle.gas_terms.specs.Cells.{extent, HasSidesOf};
+ghost use Rattle.gas_terms.specs.Cells.{extent, HasSidesOf, IsEvenTorus};
 ghost use Rattle.gas_terms.specs.Accounts.{FitsI64, SumsFit, plus};
-ghost use Rattle.gas_terms.specs.Commands.{enact, fits, is_move, is_tick};
+ghost use Rattle.gas_terms.specs.Commands.{enact, fits, is_change, is_move, is_tick};
 ghost use Rattle.gas_terms.specs.BookedGas.{stepped, stepped_back, book};
 ghost use Rattle.gas_terms.specs.Laboratory.{has_all_ports};
-ghost use Rattle.gas_plane.specs.Planes.{IsLattice};
 ghost use Rattle.phase_step.specs.Runs.{ran};
 ghost use Rattle.gas_ledger.specs.Gases.{ports_of};
 ghost use Rattle.gas_ledger.specs.Moves.{moved_by};
 ghost use Rattle.gas_ledger.specs.PortLists.{adding, has_all};
-ghost use Rattle.gas_lab.specs.Labs.{books_of, with_moved, leaves_particles, TicksHold, TakesFit, Affords};
+ghost use Rattle.gas_lab.specs.Labs.{books_of, with_moved, TicksHold, TakesFit, FitsUpTo, Affords};
 
 use gas_ledger::{Gas, Moved, Port};
 use gas_plane::Plane;
@@ -65,35 +64,28 @@ impl Books {
         self.ledger = self.ledger.with_taken(took);
     }
 
-    /// A step forward: walls and obstacles take their part, and the ports act at the new tick.
-    pub fn step<S: Stepper>(&mut self, spare: &mut Plane, stepper: &mut S)
+    // a step forward: walls and obstacles take their part, and the ports act at the new tick
+    fn step<S: Stepper>(&mut self, spare: &mut Plane, stepper: &mut S)
         requires tick { is_tick (self.old.gas.tick +ℤ pos 1) ≡ true }
         requires spare { HasSidesOf spare.old self.old.gas.particles }
         requires fits { FitsI64 (stepped (books_of self.old)).ledger }
         ensures booked { books_of self.new ≡ stepped (books_of self.old) }
         ensures spare { HasSidesOf spare.new self.new.gas.particles }
     {
-        // its sides are a lattice's
-        let _ = self.gas.size();
-        phase_step::laws::runs_are_steps();
         self.run(1, spare, stepper);
-        if self.gas.ports().any() {
-            let moved = self.gas.act();
-            self.ledger = with_moved(self.ledger, moved);
-        }
+        let moved = self.gas.act();
+        self.ledger = with_moved(self.ledger, moved);
     }
 
-    /// Steps forward, one after another: in a single run where there are no ports.
-    pub fn steps<S: Stepper>(&mut self, n: u16, spare: &mut Plane, stepper: &mut S)
+    // steps forward, one after another: in a single run where there are no ports
+    fn steps<S: Stepper>(&mut self, n: u16, spare: &mut Plane, stepper: &mut S)
+        requires torus { IsEvenTorus self.old.gas.particles }
         requires ticks { (k : ℕ) → k ≤ n → is_tick (self.old.gas.tick +ℤ pos k) ≡ true }
         requires spare { HasSidesOf spare.old self.old.gas.particles }
-        requires fits { (k : ℕ) → k ≤ n → FitsI64 (iterate stepped k (books_of self.old)).ledger }
+        requires fits { FitsUpTo n stepped (books_of self.old) }
         ensures booked { books_of self.new ≡ iterate stepped n (books_of self.old) }
         ensures spare { HasSidesOf spare.new self.new.gas.particles }
     {
-        // its sides are a lattice's
-        let _ = self.gas.size();
-        phase_step::laws::runs_are_steps();
         if !self.gas.ports().any() {
             self.run(n, spare, stepper);
             return;
@@ -103,25 +95,25 @@ impl Books {
         }
     }
 
-    /// Steps back, one after another, in a single run: walls and obstacles give back what they took on the way.
-    pub fn steps_back<S: Stepper>(&mut self, n: u16, spare: &mut Plane, stepper: &mut S)
+    // steps back, one after another, in a single run: walls and obstacles give back what they took on the way
+    fn steps_back<S: Stepper>(&mut self, n: u16, spare: &mut Plane, stepper: &mut S)
+        requires torus { IsEvenTorus self.old.gas.particles }
         requires ticks { (k : ℕ) → k ≤ n → is_tick (self.old.gas.tick -ℤ pos k) ≡ true }
         requires spare { HasSidesOf spare.old self.old.gas.particles }
-        requires fits { (k : ℕ) → k ≤ n → FitsI64 (iterate stepped_back k (books_of self.old)).ledger }
+        requires fits { FitsUpTo n stepped_back (books_of self.old) }
         ensures booked { books_of self.new ≡ iterate stepped_back n (books_of self.old) }
         ensures spare { HasSidesOf spare.new self.new.gas.particles }
     {
-        // its sides are a lattice's
-        let _ = self.gas.size();
-        phase_step::laws::runs_are_steps();
         let took = self.gas.run_back(n, spare, stepper);
         self.ledger = self.ledger.with_given_back(took);
     }
 
-    /// A change: an edit, which is booked as one change of the particles, or steps.
+    /// A change: steps, or an edit, which is booked as one change of the particles. The spare plane is for steps alone.
     pub fn enact<S: Stepper>(&mut self, command: &Command, spare: &mut Plane, stepper: &mut S)
+        requires change { is_change command.now ≡ true }
         requires in_order { fits (extent self.old.gas.particles) command.now ≡ true }
         requires place { has_all_ports self.old.gas command.now ≡ false }
+        requires torus { IsEvenTorus self.old.gas.particles }
         requires ticks { TicksHold self.old.gas.tick command.now }
         requires spare { HasSidesOf spare.old self.old.gas.particles }
         requires fits { Affords (books_of self.old) }
@@ -131,63 +123,37 @@ impl Books {
         match command {
             Command::Step(n) => self.steps(*n, spare, stepper),
             Command::Back(n) => self.steps_back(*n, spare, stepper),
-            edit => self.edit(edit, spare),
+            edit => {
+                let moved = edited(&mut self.gas, edit);
+                self.ledger = with_moved(self.ledger, moved);
+            }
         }
-    }
-
-    // the spare plane stays as it is, and so do the sides of the gas
-    fn edit(&mut self, command: &Command, spare: &Plane)
-        requires still { is_move command.now ≡ false }
-        requires in_order { fits (extent self.old.gas.particles) command.now ≡ true }
-        requires place { has_all_ports self.old.gas command.now ≡ false }
-        requires spare { HasSidesOf spare.now self.old.gas.particles }
-        requires fits { FitsI64 (book (books_of self.old) command.now).ledger }
-        ensures booked { books_of self.new ≡ book (books_of self.old) command.now }
-        ensures spare { HasSidesOf spare.now self.new.gas.particles }
-    {
-        let moved = edited(&mut self.gas, command);
-        self.ledger = with_moved(self.ledger, moved);
     }
 }
 
 // an edit of the gas, and what it brings in and takes out
 fn edited(gas: &mut Gas, command: &Command) -> Moved
+    requires change { is_change command.now ≡ true }
     requires still { is_move command.now ≡ false }
     requires in_order { fits (extent gas.old.particles) command.now ≡ true }
     requires place { has_all_ports gas.old command.now ≡ false }
+    requires torus { IsEvenTorus gas.old.particles }
     ensures gas { gas.new ≡ enact gas.old command.now }
     ensures moved { result ≡ moved_by gas.old.tick gas.old.particles gas.new.particles }
 {
     match command {
-        Command::Put(area) => gas.fill_particles(*area),
-        Command::Erase(area) => gas.clear_particles(*area),
-        Command::Row(y, row) => gas.replace_row(*y, row.bytes()),
-        other => {
-            set_up(gas, other);
-            NOTHING
-        }
-    }
-}
-
-// an edit of walls, obstacles or ports, which leaves the particles
-fn set_up(gas: &mut Gas, command: &Command)
-    requires quiet { leaves_particles command.now ≡ true }
-    requires in_order { fits (extent gas.old.particles) command.now ≡ true }
-    requires place { has_all_ports gas.old command.now ≡ false }
-    ensures gas { gas.new ≡ enact gas.old command.now }
-    ensures lattice { IsLattice gas.old.particles }
-    ensures quiet { leaves_particles command.now ≡ true }
-{
-    let _ = gas.size();
-    match command {
+        Command::Put(area) => return gas.fill_particles(*area),
+        Command::Erase(area) => return gas.clear_particles(*area),
+        Command::Row(y, row) => return gas.replace_row(*y, row.bytes()),
         Command::Wall(area) => gas.add_walls(*area),
         Command::Block(area) => gas.add_obstacles(*area),
         Command::Unwall(area) => gas.remove_walls_and_obstacles(*area),
         Command::Source(area, period) => add_port(gas, Port::Source(*area, *period)),
         Command::Drain(area) => add_port(gas, Port::Drain(*area)),
         Command::Unport => gas.remove_ports(),
-        _ => {}
+        _ => unreachable!(),
     }
+    NOTHING
 }
 
 // a port that has a place
@@ -196,5 +162,7 @@ fn add_port(gas: &mut Gas, port: Port)
     requires place { has_all (ports_of gas.old) port ≡ false }
     ensures { gas.new ≡ enact gas.old (adding port) }
 {
-    let _ = gas.add_port(port);
+    if gas.add_port(port).is_err() {
+        unreachable!()
+    }
 }

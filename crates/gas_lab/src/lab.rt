@@ -8,7 +8,7 @@ ghost use Rattle.gas_terms.specs.Laboratory.{opening, answer as answer_of, cause
 ghost use Rattle.gas_terms.specs.declared.command.Command.TheVariants.{Entry as EntryAt};
 ghost use Rattle.gas_terms.specs.declared.refusal.Refusal.TheVariants.{Memory};
 ghost use Rattle.gas_terms.specs.declared.answer.Answer.TheVariants.{RowIs};
-ghost use Rattle.gas_lab.specs.Labs.{Changes};
+ghost use Rattle.gas_lab.specs.Labs.{Changes, entry_of};
 
 use crate::books::Books;
 use gas_ledger::{Gas, probe, tally};
@@ -36,13 +36,13 @@ pub struct Lab<S: Stepper> {
 
 impl<S: Stepper> Model for Lab<S> {
     ghost use Rattle.gas_terms.specs.Laboratory.{Laboratory};
-    ghost use Rattle.gas_lab.specs.Labs.{IsKept};
+    ghost use Rattle.gas_lab.specs.Labs.{IsKept, books_of, lab_of};
 
     ghost Value = { Laboratory };
 
-    ghost view = { λ l. record { start = l.start; cap = l.cap; gas = l.books.gas; ledger = l.books.ledger; journal = l.journal.items } };
+    ghost view = { λ l. lab_of l.start l.cap (books_of l.books) l.journal.items };
 
-    ghost invariant = { λ l. IsKept (record { start = l.start; cap = l.cap; gas = l.books.gas; ledger = l.books.ledger; journal = l.journal.items }) l.spare };
+    ghost invariant = { λ l. IsKept (lab_of l.start l.cap (books_of l.books) l.journal.items) l.spare };
 }
 
 const ZERO: Sums = Sums {
@@ -60,8 +60,7 @@ impl<S: Stepper> Lab<S> {
         ensures { IfOk result (λ lab. lab ≡ opening start cap) }
     {
         let gas = start.copy(alloc)?;
-        let spare = start.particles().copy(alloc)?;
-        let _ = start.size();
+        let spare = Plane::empty(alloc, start.size())?;
         let ledger = Ledger {
             start: tally(start.particles(), start.tick()),
             injected: ZERO,
@@ -80,10 +79,13 @@ impl<S: Stepper> Lab<S> {
     }
 
     /// Does a command of a seat, or refuses it and leaves everything as it was. Only a change, a reading of a row and one
-    /// of an entry may want memory; a change is done whole or not begun.
+    /// of an entry may want memory; a change is done whole or not begun. What the laboratory keeps, it keeps before and after.
     pub fn apply(&mut self, seat: u16, command: Command) -> Result<Answer, Refusal>
         requires in_order { fits (extent self.old.start.particles) command ≡ true }
-        ensures applied { Applies self.old (record { seat = seat; command = command }) result self.new }
+        ensures applied { Applies self.old (entry_of seat command) result self.new }
+        ensures before { IsSound self.old }
+        ensures after { IsSound self.new }
+        ensures few { length self.new.journal ≤ 65536 }
     {
         if let Some(refusal) = self.cause(&command) {
             return Err(refusal);
@@ -100,7 +102,7 @@ impl<S: Stepper> Lab<S> {
             Command::Ledger => Ok(Answer::Accounts(self.books.ledger)),
             Command::Read(y) => self.row(y),
             Command::Entry(k) => self.entry(k),
-            command => self.change(seat, command),
+            change => self.change(seat, change),
         }
     }
 }
@@ -138,25 +140,34 @@ impl<S: Stepper> Lab<S> {
     pub fn journal(&self) -> &[Entry]
         ensures journal { result.now ≡ self.now.journal }
         ensures room { length self.now.journal ≤ self.now.cap }
+        ensures few { length self.now.journal ≤ 65536 }
     {
         self.journal.as_slice()
     }
 
-    /// How wide and high the lattice is, which never changes. What a laboratory's type keeps is handed out here.
+    /// What a laboratory's type keeps, for whoever holds one. It does nothing: its contract is the invariant.
+    pub fn invariant(&self)
+        ensures sound { IsSound self.now }
+        ensures cap { self.now.cap ≤ 65536 }
+    {
+        // the prover shows what a type keeps where a field is read
+        let _cap = self.cap;
+    }
+
+    /// How wide and high the lattice is, which never changes.
     pub fn size(&self) -> Size
         ensures start { result ≡ extent self.now.start.particles }
         ensures gas { result ≡ extent self.now.gas.particles }
         ensures sound { IsSound self.now }
         ensures cap { self.now.cap ≤ 65536 }
     {
-        let _ = self.cap;
-        let _ = self.start.size();
         self.books.gas.size()
     }
 
     /// The gas as it is now, once more.
     pub fn copy_gas(&self) -> Result<Gas, NoMemory>
-        ensures { IfOk result (λ gas. gas ≡ self.now.gas) }
+        ensures copy { IfOk result (λ gas. gas ≡ self.now.gas) }
+        ensures sound { IsSound self.now }
     {
         self.books.gas.copy(*self.journal.allocator())
     }
@@ -257,12 +268,12 @@ impl<S: Stepper> Lab<S> {
 
     // a change, whole or not at all: its place in the journal comes first
     fn change(&mut self, seat: u16, command: Command) -> Result<Answer, Refusal>
-        requires acceptable { IsAcceptable self.old (record { seat = seat; command = command }) }
-        ensures { Changes self.old (record { seat = seat; command = command }) result self.new }
+        requires acceptable { IsAcceptable self.old (entry_of seat command) }
+        ensures changed { Changes self.old (entry_of seat command) result self.new }
+        ensures sound { IsSound self.new }
+        ensures few { length self.new.journal ≤ 65536 }
     {
         let count = self.journal.len();
-        let _ = self.books.gas.tick().get();
-        let _ = self.start.size();
         if self.journal.reserve(1).is_err() {
             return Err(Refusal::Memory);
         }

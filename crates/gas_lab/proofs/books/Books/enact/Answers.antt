@@ -1,7 +1,11 @@
-use Rattle.std.proofs.Common.{◌≤◌, subst, le_trans}
+use Rattle.std.proofs.Common.{◌≡◌, ◌≤◌, ◌∙◌, false, ap, subst, le_trans}
 use Rattle.gas_terms.specs.BookedGas.{changes}
 use Rattle.gas_terms.specs.declared.command.Command.TheVariants.{Step, Back}
+use Rattle.gas_terms.specs.Commands.{is_move}
 use Rattle.gas_terms.proofs.LabBounds.{few_changes}
+use Rattle.gas_lab.specs.Labs.{books_of, with_moved}
+use Rattle.gas_lab.proofs.Stepping.{pair}
+use Rattle.gas_lab.proofs.Editing.{no_move, edit_booked, edit_fits}
 use Rattle.gas_lab.proofs.books.Books.enact.Goals as goal
 
 pub steps-requires-clause-fits : goal.steps-requires-clause-fits
@@ -13,3 +17,18 @@ pub steps_back-requires-clause-fits : goal.steps_back-requires-clause-fits
 steps_back-requires-clause-fits g c = λ k h.
     let few = subst (λ m. changes m ≤ 4096) c.in-Back.is (few_changes _ c.args.command.now c.requires.in_order) in
     c.requires.fits (Back k) (le_trans h few)
+
+pub with_moved-self-requires : goal.with_moved-self-requires
+with_moved-self-requires g c =
+    let b = books_of c.args.self.now in
+    let still : is_move c.args.command.now ≡ false = no_move c.args.command.now c.in_default.not-Step c.in_default.not-Back in
+    let same = edit_booked b.gas c.edited-moved.new.gas b.ledger c.edited-moved.result c.args.command.now still c.edited-moved.ensures.gas c.edited-moved.ensures.moved in
+    let fits = edit_fits (pair c.edited-moved.new.gas (with_moved b.ledger c.edited-moved.result)) _ same (c.requires.fits c.args.command.now (few_changes _ c.args.command.now c.requires.in_order)) in
+    record { injected = fits.injected; drained = fits.drained }
+
+pub returns-in_default-clause-booked : goal.returns-in_default-clause-booked
+returns-in_default-clause-booked g c =
+    let b = books_of c.args.self.now in
+    let still : is_move c.args.command.now ≡ false = no_move c.args.command.now c.in_default.not-Step c.in_default.not-Back in
+    ap (pair c.edited-moved.new.gas) c.with_moved-self.ensures
+    ∙ edit_booked b.gas c.edited-moved.new.gas b.ledger c.edited-moved.result c.args.command.now still c.edited-moved.ensures.gas c.edited-moved.ensures.moved

@@ -1,8 +1,9 @@
 use Rattle.std.proofs.Common.{◌≡◌, ◌+◌, ◌∙◌, true, subst, sym, arith}
 use Rattle.gas_terms.specs.Commands.{is_tick}
 use Rattle.gas_terms.specs.BookedGas.{BookedGas, stepped}
+use Rattle.phase_step.proofs.RunSteps.{whole_run}
 use Rattle.gas_lab.specs.Labs.{books_of, TakesFit}
-use Rattle.gas_lab.proofs.Stepping.{torus_of, idle, after_one_more, next_tick, next_fits}
+use Rattle.gas_lab.proofs.Stepping.{idle, after_one_more, next_tick, next_fits}
 use Rattle.gas_lab.proofs.books.Books.steps.Goals as goal
 
 pub step-requires-clause-tick : goal.step-requires-clause-tick
@@ -25,10 +26,10 @@ run-requires-clause-fits g c =
     let b = books_of c.args.self.now in
     let none = idle b.gas c.ports.result.now c.ports.ensures (c.any.ensures.none c.if-not-any.true) in
     let fits = c.requires.fits c.args.n (omega arith) in
-    subst (λ (b : BookedGas). TakesFit b.ledger) (c.runs_are_steps.ensures.whole c.args.n b (torus_of b.gas.particles c.size.ensures.sound.particles) none) (fits.walls, fits.obstacles)
+    subst (λ (b : BookedGas). TakesFit b.ledger) (whole_run c.args.n b (record { torus = c.requires.torus; no_ports = none })) (fits.walls, fits.obstacles)
 
 pub returns-then-not-any-clause-booked : goal.returns-then-not-any-clause-booked
 returns-then-not-any-clause-booked g c =
     let b = books_of c.args.self.now in
     let none = idle b.gas c.ports.result.now c.ports.ensures (c.any.ensures.none c.if-not-any.true) in
-    c.run.ensures.booked ∙ sym (c.runs_are_steps.ensures.whole c.args.n b (torus_of b.gas.particles c.size.ensures.sound.particles) none)
+    c.run.ensures.booked ∙ sym (whole_run c.args.n b (record { torus = c.requires.torus; no_ports = none }))
