@@ -42,9 +42,11 @@ impl<N: HallName, S: Stepper, G: HallGate> Hall<N, S, G> {
         requires name { blank.name ≡ N.name }
         requires parts { (blank.parts ≡ N.parts) × (blank.parts ≡ seats) }
         requires some { 0 < seats }
-        requires lab { (extent lab.start.particles ≡ N.size) × (lab.cap ≡ N.cap) × (lab.journal ≡ []) }
+        requires size { extent lab.start.particles ≡ N.size }
+        requires cap { lab.cap ≡ N.cap }
+        requires journal { lab.journal ≡ [] }
         ensures count { IfOk result (λ r. vec_len r.1 ≡ seats) }
-        ensures seats { IfOk result (λ r. (i : ℕ) → i < seats → slice_get r.1.items i ≡ Some (record { number = i; entries = 0 })) }
+        ensures seats { IfOk result (λ r. AreNumbered seats fresh_seat r.1.items) }
         ensures refused { IfErr result (λ back. back ≡ lab) }
     {
         let Ok(mut all) = Vec::with_capacity(alloc, seats as usize) else {
@@ -90,7 +92,6 @@ impl<N: HallName, S: Stepper, G: HallGate> Hall<N, S, G> {
         let Held { lab, mut book } = held.into_inner();
         let mut all = merged(seats);
         book.audit(&mut all);
-        let _ = lab.size();
         lab
     }
 }

@@ -1,9 +1,9 @@
 //! What the lock keeps.
 
 ghost use Rattle.std.specs.Prelude.{◌≡◌, ◌≤◌, true, length};
-ghost use Rattle.gas_terms.specs.Cells.{extent};
 ghost use Rattle.gas_terms.specs.Commands.{fits};
-ghost use Rattle.gas_terms.specs.Laboratory.{Applies, IsSound};
+ghost use Rattle.gas_terms.specs.Laboratory.{Applies};
+ghost use Rattle.gas_lab.specs.Labs.{entry_of};
 ghost use Rattle.gas_talk.specs.LabTalk.{Copies};
 ghost use Rattle.gas_hall.specs.Seats.{counted, taken};
 ghost use Rattle.gas_hall.specs.Halls.{IsNamed};
@@ -17,7 +17,7 @@ use std::marker::Model;
 use std::sync::ledger::Book;
 
 /// What the lock keeps: the laboratory, and the book of the hall's ledger, whose total is the journal's length. The
-/// laboratory has the size and the capacity that the hall's name gives.
+/// laboratory keeps its invariant, and has the size and the capacity that the hall's name gives.
 #[derive(Drop)]
 pub struct Held<N: HallName, S: Stepper> {
     pub(crate) lab: Lab<S>,
@@ -26,14 +26,14 @@ pub struct Held<N: HallName, S: Stepper> {
 
 impl<N: HallName, S: Stepper> Model for Held<N, S> {
     ghost use Rattle.std.specs.Prelude.{◌≡◌, length};
-    ghost use Rattle.gas_terms.specs.Cells.{extent};
     ghost use Rattle.gas_terms.specs.Laboratory.{Laboratory};
+    ghost use Rattle.gas_hall.specs.Halls.{IsNamed};
 
     ghost Value = { Laboratory };
 
     ghost view = { λ h. h.lab };
 
-    ghost invariant = { λ h. (h.book.total ≡ length h.lab.journal) × (extent h.lab.start.particles ≡ N.size) × (h.lab.cap ≡ N.cap) };
+    ghost invariant = { λ h. (h.book.total ≡ length h.lab.journal) × IsNamed N.size N.cap h.lab };
 }
 
 // How many entries of the journal a reply tells of.
@@ -46,35 +46,17 @@ pub(crate) fn entries_of(reply: &Result<Answer, Refusal>) -> u32
     }
 }
 
-// Does a command of a seat with this number. What the laboratory keeps, it keeps before and after.
-pub(crate) fn event<S: Stepper>(
-    lab: &mut Lab<S>,
-    seat: u16,
-    command: Command,
-) -> Result<Answer, Refusal>
-    requires in_order { fits (extent lab.old.start.particles) command ≡ true }
-    ensures applied { Applies lab.old (record { seat = seat; command = command }) result lab.new }
-    ensures before { IsSound lab.old }
-    ensures after { IsSound lab.new }
-    ensures cap { lab.new.cap ≤ 65536 }
-{
-    let _ = lab.size();
-    let reply = lab.apply(seat, command);
-    let _ = lab.size();
-    reply
-}
-
 impl<N: HallName, S: Stepper> Held<N, S> {
     /// Does a command of the seat, which counts the entry that the journal gets.
     pub fn ask(&mut self, seat: &mut HallSeat<N>, command: Command) -> Result<Answer, Refusal>
         requires in_order { fits N.size command ≡ true }
-        ensures applied { Applies self.old (record { seat = seat.old.number; command = command }) result self.new }
+        ensures applied { Applies self.old (entry_of seat.old.number command) result self.new }
         ensures before { IsNamed N.size N.cap self.old }
         ensures after { IsNamed N.size N.cap self.new }
         ensures seat { seat.new ≡ counted seat.old result }
         ensures covers { seat.old.entries ≤ length self.old.journal }
     {
-        let reply = event(&mut self.lab, seat.number, command);
+        let reply = self.lab.apply(seat.number, command);
         self.book.audit(&mut seat.share);
         let made = entries_of(&reply);
         self.book.add(&mut seat.share, made as u64);
@@ -88,7 +70,6 @@ impl<N: HallName, S: Stepper> Held<N, S> {
         ensures copied { Copies self.now result self.now }
         ensures named { IsNamed N.size N.cap self.now }
     {
-        let _ = self.lab.size();
         Copied::of(&self.lab)
     }
 }

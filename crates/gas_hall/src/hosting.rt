@@ -38,9 +38,11 @@ fn made_by_all<S: Stepper, R: Wait>(rt: &R, hall: &TurnHall<S>, seats: Vec<TurnS
     requires some { 0 < vec_len seats }
     requires few { vec_len seats ≤ 64 }
     requires here { All (λ seat. seat.hall ≡ hall.now) seats.items }
-    requires numbers { (i : ℕ) (seat : SeatView) → slice_get seats.items i ≡ Some seat → seat.number ≡ i }
-    ensures entries { result ≡ sum_by (λ seat. length (made_by seat.number seat.seen)) seats.items }
-    ensures room { (opened : Gas × ℕ) → All (λ seat. seat.opened ≡ Some opened) seats.items → result ≤ opened.1 }
+    requires numbers { (i : ℕ) (seat : SeatView)
+        → slice_get seats.items i ≡ Some seat → seat.number ≡ i }
+    ensures entries { result ≡ made_in_all seats.items }
+    ensures room { (opened : Gas × ℕ)
+        → All (λ seat. seat.opened ≡ Some opened) seats.items → result ≤ opened.1 }
 {
     let mut seats = seats;
     let Some(last) = seats.pop() else {
@@ -52,6 +54,7 @@ fn made_by_all<S: Stepper, R: Wait>(rt: &R, hall: &TurnHall<S>, seats: Vec<TurnS
         made += seat.entries();
         door.meet(note_of(rt, hall, seat));
     }
+    // a turn of its own, which finds a journal that has room for all that they made
     let _ = door.ask(Command::Tally);
     made
 }

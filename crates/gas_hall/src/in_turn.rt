@@ -4,9 +4,9 @@ ghost use Rattle.std.specs.Prelude.{◌≡◌, ◌≤◌, ⊤, true, length};
 ghost use Rattle.gas_terms.specs.Cells.{extent};
 ghost use Rattle.gas_terms.specs.Commands.{fits};
 ghost use Rattle.gas_terms.specs.Laboratory.{Applies, IsSound};
+ghost use Rattle.gas_lab.specs.Labs.{entry_of};
 ghost use Rattle.gas_talk.specs.LabTalk.{Copies};
 
-use crate::held::event;
 use gas_lab::{Lab, Stepper};
 use gas_ledger::Gas;
 use gas_talk::Copied;
@@ -45,12 +45,10 @@ impl<S: Stepper> Call<InTurn<S>> for Asked {
     ghost needs = { λ c by opened. (by ≤ 65535) × (fits (extent opened.0.particles) c.command ≡ true) };
 
     ghost does = { λ c by x reply y. IsSound x.lab × IsSound y.lab × (length y.lab.journal ≤ 65536)
-        × Applies x.lab (record { seat = by; command = c.command }) reply y.lab };
+        × Applies x.lab (entry_of by c.command) reply y.lab };
 
     fn call(self, by: u64, value: &mut InTurn<S>) -> Result<Answer, Refusal> {
-        let reply = event(&mut value.lab, by as u16, self.command);
-        let _ = value.lab.journal();
-        reply
+        value.lab.apply(by as u16, self.command)
     }
 }
 
@@ -66,7 +64,6 @@ impl<S: Stepper> Call<InTurn<S>> for CopyAsked {
     ghost does = { λ _ _ x copied y. IsSound x.lab × Copies x.lab copied y.lab × (y ≡ x) };
 
     fn call(self, _by: u64, value: &mut InTurn<S>) -> Result<Copied, NoMemory> {
-        let _ = value.lab.size();
         Copied::of(&value.lab)
     }
 }

@@ -418,7 +418,7 @@ pub fn serve<
     requires shelves { vec_len shelves ≡ vec_len seats }
     ensures count { result.done + result.failed ≡ vec_len seats }
     ensures all { vec_len result.seats ≡ vec_len seats }
-    ensures seats { map (λ seat. seat.number) result.seats.items ≡ map (λ seat. seat.number) seats.items }
+    ensures seats { numbers result.seats.items ≡ numbers seats.items }
     ensures entries { result.entries ≡ sum_by (λ seat. seat.entries) result.seats.items }
 {
     let count = seats.len() as u32;
@@ -447,7 +447,7 @@ pub fn serve_turn<S: Stepper + Send, L: Lobby, K: Shelf + Drop + Send, R: Thread
     ensures all { vec_len result.seats ≡ vec_len seats }
     ensures seats { map but_for_seen result.seats.items ≡ map but_for_seen seats.items }
     ensures here { All (λ seat. seat.hall ≡ hall.now) result.seats.items }
-    ensures entries { result.entries ≡ sum_by (λ seat. length (made_by seat.number seat.seen)) result.seats.items }
+    ensures entries { result.entries ≡ made_in_all result.seats.items }
 {
     let count = seats.len() as u32;
     let (done, entries, seats) = serve_seats(rt, alloc, lobby, hall, seats, shelves);

@@ -54,7 +54,8 @@ impl<S: Stepper> Model for TurnSeat<S> {
 
     ghost view = { λ s. record { hall = s.door.lock; number = s.number; size = s.size; opened = s.door.fixed; seen = s.door.seen } };
 
-    ghost invariant = { λ s. (s.door.number ≡ s.number) × IfSome s.door.fixed (λ opened. extent opened.0.particles ≡ s.size)
+    ghost invariant = { λ s. (s.door.number ≡ s.number)
+        × IfSome s.door.fixed (λ opened. extent opened.0.particles ≡ s.size)
         × (s.made ≡ length (made_by s.number s.door.seen)) × (s.made ≤ 65536) };
 }
 
@@ -68,7 +69,7 @@ impl<S: Stepper> TurnSeat<S> {
 
     /// How many entries of the journal the seat made.
     pub fn entries(&self) -> u32
-        ensures entries { result ≡ length (made_by self.now.number self.now.seen) }
+        ensures entries { result ≡ made self.now }
         ensures bound { result ≤ 65536 }
     {
         self.made
@@ -122,7 +123,7 @@ impl<S: Stepper> TurnHall<S> {
         requires seats { (0 < seats) × (seats ≤ 64) }
         requires lab { lab.journal ≡ [] }
         ensures count { IfOk result (λ r. vec_len r.1 ≡ seats) }
-        ensures seats { IfOk result (λ r. (i : ℕ) → i < seats → slice_get r.1.items i ≡ Some (opening_seat r.0 lab i)) }
+        ensures seats { IfOk result (λ r. AreNumbered seats (opening_seat r.0 lab) r.1.items) }
         ensures here { IfOk result (λ r. All (λ seat. seat.hall ≡ r.0) r.1.items) }
         ensures refused { IfErr result (λ back. back ≡ lab) }
     {
@@ -184,9 +185,11 @@ impl<'h, S: Stepper, R> TurnDoor<'h, S, R> {
     /// of the two.
     pub fn meet(&mut self, note: TurnNote<S>)
         requires { note.hall ≡ self.old.seat.hall }
-        ensures begins { IsPrefix self.old.seat.seen self.new.seat.seen × IsPrefix note.seen self.new.seat.seen }
+        ensures begins { IsPrefix self.old.seat.seen self.new.seat.seen
+            × IsPrefix note.seen self.new.seat.seen }
         ensures one { (self.new.seat.seen ≡ self.old.seat.seen) ⊎ (self.new.seat.seen ≡ note.seen) }
-        ensures own { made_by self.old.seat.number self.new.seat.seen ≡ made_by self.old.seat.number self.old.seat.seen }
+        ensures own { let number = self.old.seat.number in
+            made_by number self.new.seat.seen ≡ made_by number self.old.seat.seen }
         ensures seat { self.new.seat ≡ record self.old.seat { seen = self.new.seat.seen } }
     {
         let TurnNote { note } = note;

@@ -17,7 +17,7 @@ use Rattle.gas_talk.specs.declared.reply.Reply.TheVariants.{Refused}
 use Rattle.gas_talk.specs.Requests.{request_of}
 use Rattle.gas_talk.specs.Texts.{reply_line}
 use Rattle.gas_talk.specs.declared.end.SessionEnd.{SessionEnd}
-use Rattle.gas_talk.specs.declared.end.SessionEnd.TheVariants.{Quit, InputEnd, WriteFault, BadLine, Memory}
+use Rattle.gas_talk.specs.declared.end.SessionEnd.TheVariants.{Quit, WriteFault, BadLine, Memory}
 use Rattle.gas_talk.specs.declared.reader.LineReader.{LineReader}
 use Rattle.gas_talk.specs.Lines.{Item, text, bad, lines}
 use Rattle.gas_talk.specs.Unread.{Keeps}

@@ -12,6 +12,7 @@ use Rattle.gas_terms.specs.declared.command.Command.{Command}
 use Rattle.gas_terms.specs.declared.command.Command.TheVariants.{Put, Erase, Wall, Block, Unwall, Row, Source, Drain, Unport, Step, Back, Probe, Tally, Ledger, Read, Entry}
 use Rattle.gas_talk.specs.declared.reply.Reply.{Reply}
 use Rattle.gas_talk.specs.declared.reply.Reply.TheVariants.{Answered, Saved, Bye, Refused}
+use Rattle.gas_talk.specs.declared.verb.Verb.{Verb}
 use Rattle.gas_talk.specs.declared.verb.Verb.TheVariants as verbs
 use Rattle.gas_talk.specs.Verbs.{verb_word}
 
@@ -26,20 +27,24 @@ spaced words = flat_map (λ word. 32 ∷ word) words
 abbrev pub area_numbers : Rectangle → List ℕ
 area_numbers r = r.x ∷ r.y ∷ r.w ∷ r.h ∷ []
 
+-- the words of a command on a rectangle
+abbrev pub area_words : Verb → Rectangle → List (List ℕ)
+area_words verb r = verb_word verb ∷ map decimal (area_numbers r)
+
 -- the words of a command: its verb, its numbers, and a row's digits
 abbrev pub command_words : Command → List (List ℕ)
-command_words (Put r) = verb_word verbs.Put ∷ map decimal (area_numbers r)
-command_words (Erase r) = verb_word verbs.Erase ∷ map decimal (area_numbers r)
-command_words (Wall r) = verb_word verbs.Wall ∷ map decimal (area_numbers r)
-command_words (Block r) = verb_word verbs.Block ∷ map decimal (area_numbers r)
-command_words (Unwall r) = verb_word verbs.Unwall ∷ map decimal (area_numbers r)
+command_words (Put r) = area_words verbs.Put r
+command_words (Erase r) = area_words verbs.Erase r
+command_words (Wall r) = area_words verbs.Wall r
+command_words (Block r) = area_words verbs.Block r
+command_words (Unwall r) = area_words verbs.Unwall r
 command_words (Row y bits) = verb_word verbs.Row ∷ decimal y ∷ encode_lower bits ∷ []
 command_words (Source r period) = verb_word verbs.Source ∷ map decimal (area_numbers r ++ period ∷ [])
-command_words (Drain r) = verb_word verbs.Drain ∷ map decimal (area_numbers r)
+command_words (Drain r) = area_words verbs.Drain r
 command_words Unport = verb_word verbs.Unport ∷ []
 command_words (Step n) = verb_word verbs.Step ∷ decimal n ∷ []
 command_words (Back n) = verb_word verbs.Back ∷ decimal n ∷ []
-command_words (Probe r) = verb_word verbs.Probe ∷ map decimal (area_numbers r)
+command_words (Probe r) = area_words verbs.Probe r
 command_words Tally = verb_word verbs.Tally ∷ []
 command_words Ledger = verb_word verbs.Ledger ∷ []
 command_words (Read y) = verb_word verbs.Read ∷ decimal y ∷ []

@@ -4,6 +4,7 @@ ghost use Rattle.std.specs.Prelude.{◌≡◌, true, Result};
 ghost use Rattle.std.specs.declared.alloc.AllocError.{AllocError as NoMemory};
 ghost use Rattle.gas_terms.specs.Cells.{Extent};
 ghost use Rattle.gas_terms.specs.Commands.{fits};
+ghost use Rattle.gas_terms.specs.Laboratory.{IsSound};
 ghost use Rattle.gas_terms.specs.declared.command.Command.{Command};
 ghost use Rattle.gas_terms.specs.declared.answer.Answer.{Answer};
 ghost use Rattle.gas_terms.specs.declared.refusal.Refusal.{Refusal};
@@ -21,11 +22,11 @@ pub struct Copied {
 }
 
 impl Copied {
-    /// A copy of the laboratory's gas as it is now, unless memory is refused.
+    /// A copy of the laboratory's gas as it is now, unless memory is refused. The laboratory keeps its invariant.
     pub fn of<S: Stepper>(lab: &Lab<S>) -> Result<Copied, NoMemory>
-        ensures { Copies lab.now result lab.now }
+        ensures copied { Copies lab.now result lab.now }
+        ensures sound { IsSound lab.now }
     {
-        let _ = lab.cap();
         let entries = lab.journal().len() as u32;
         let gas = lab.copy_gas()?;
         Ok(Copied { gas, entries })

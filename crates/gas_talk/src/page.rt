@@ -5,7 +5,7 @@ ghost use Rattle.std.specs.Fmt.{decimal, signed_decimal};
 ghost use Rattle.hex.specs.Hex.{encode_lower};
 ghost use Rattle.gas_talk.specs.declared.reply.Reply.TheVariants.{Answered};
 ghost use Rattle.gas_talk.specs.Verbs.{verb_word};
-ghost use Rattle.gas_talk.specs.Texts.{spaced, area_numbers, command_text, sums_numbers, ledger_numbers, parted, reply_words, reply_line};
+ghost use Rattle.gas_talk.specs.Texts.{spaced, area_words, command_text, sums_numbers, ledger_numbers, parted, reply_words, reply_line};
 
 use crate::reply::Reply;
 use crate::verb::Verb;
@@ -34,7 +34,9 @@ fn write_hex(bytes: &[u8], text: &mut [u8])
     requires { length text.old ≡ 2 * length bytes.now }
     ensures { text.new ≡ encode_lower bytes.now }
 {
-    let _ = encode_to_slice(bytes, text);
+    if encode_to_slice(bytes, text).is_err() {
+        unreachable!()
+    }
 }
 
 impl ReplyPage {
@@ -163,7 +165,7 @@ impl ReplyPage {
 
     fn push_area(&mut self, verb: Verb, area: Rect)
         requires { length self.old + 100 ≤ 2048 }
-        ensures text { self.new ≡ self.old ++ parted (verb_word verb ∷ map decimal (area_numbers area)) }
+        ensures text { self.new ≡ self.old ++ parted (area_words verb area) }
         ensures short { length self.new ≤ length self.old + 100 }
     {
         let numbers = [area.x(), area.y(), area.w(), area.h()];

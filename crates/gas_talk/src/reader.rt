@@ -81,7 +81,8 @@ impl LineReader {
         ensures end { IfOk result (λ n. n ≡ 0 → IsAtEnd (R.remaining reads.new.reader.now)) }
         ensures err { OnErr result (KeepsBytes (R.remaining reads.old.reader.now)
             (R.remaining reads.new.reader.now)) }
-        ensures kept { OnErr result ((unread : List ℕ) → Keeps self.old unread → Keeps self.new unread) }
+        ensures kept { OnErr result ((unread : List ℕ)
+            → Keeps self.old unread → Keeps self.new unread) }
     {
         if self.buffer.reserve(READ_LIMIT).is_err() {
             return Err(ReadFault::NoMemory);

@@ -122,7 +122,8 @@ fn read_request(
     numbers: [u32; 5],
     more: &[u8],
 ) -> Result<Request, Refusal>
-    ensures exact { Reads result (verb_request size verb (take (number_count verb) numbers) (words more.now)) }
+    ensures exact { let own = take (number_count verb) numbers in
+        Reads result (verb_request size verb own (words more.now)) }
     ensures fits { IfOk result (IsAskable size) }
 {
     let [x, y, w, h, _] = numbers;

@@ -10,6 +10,7 @@ ghost use Rattle.gas_talk.specs.Texts.{command_text, IsTyped};
 
 /// The text of a command in an entry is read as that command.
 pub fn commands_are_read_again()
-    ensures { (size : Extent) (command : Command) → is_size size ≡ true → fits size command ≡ true → IsTyped command
+    ensures { (size : Extent) (command : Command)
+        → is_size size ≡ true → fits size command ≡ true → IsTyped command
         → request_of size (command_text command) ≡ Ok (Ask command) }
 {}

@@ -34,7 +34,8 @@ fn last<W: Write>(
     refusal: Refusal,
     end: SessionEnd,
 ) -> SessionEnd
-    ensures { (part : List ℕ) × (rest : List ℕ) × (reply_line (Reply.Refused refusal) ≡ part ++ rest)
+    ensures { (part : List ℕ) × (rest : List ℕ)
+        × (reply_line (Reply.Refused refusal) ≡ part ++ rest)
         × Appends (W.contents writer.old) (W.contents writer.new) part × EndsWith rest end result }
 {
     if send_reply(writer, &Reply::Refused(refusal), page) {

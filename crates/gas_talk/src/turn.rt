@@ -19,8 +19,8 @@ use std::alloc::Global;
 
 // Copies, encodes, and puts the snapshot on the shelf.
 fn save<D: Door, K: Shelf>(alloc: Global, door: &mut D, shelf: &mut K) -> Reply
-    ensures saved { (copied : Result Copied NoMemory) × (put : Put) × D.copies door.old copied door.new
-        × Saves copied result put
+    ensures saved { (copied : Result Copied NoMemory) × (put : Put)
+        × D.copies door.old copied door.new × Saves copied result put
         × (K.failures shelf.new ≡ failures_after (K.failures shelf.old) (failed_by put))
         × Gains (K.shelved shelf.old) (K.shelved shelf.new) (taken_by put) }
     ensures size { D.size_of door.new ≡ D.size_of door.old }
