@@ -7,13 +7,10 @@ use Rattle.std.proofs.lemmas.List.Sums.{sum_by-cons}
 use Rattle.gas_terms.specs.declared.command.Entry.{Entry}
 use Rattle.gas_terms.specs.Laboratory.{Laboratory, IsPrefix}
 use Rattle.atomic_table.specs.Seated.{TableId}
-use Rattle.gas_hall.specs.TurnSeats.{SeatView, but_for_seen, opening_seat}
+use Rattle.gas_hall.specs.TurnSeats.{SeatView, but_for_seen, entries_made, opening_seat}
 use Rattle.gas_terms.specs.Laboratory.{made_by}
 use Rattle.gas_hall.proofs.Numbered.{all_of_rule}
 use Rattle.gas_hall.proofs.Turns.{all_same, same_through}
-
-abbrev pub made : SeatView → ℕ
-made seat = length (made_by seat.number seat.seen)
 
 -- how many entries are of seats from n on
 abbrev from_on : ℕ → List Entry → ℕ
@@ -35,20 +32,20 @@ seen_before n seen journal p =
     omega (arith, parts)
 
 fit_from : (n : ℕ) (xs : List SeatView) (journal : List Entry) → ((i : ℕ) (x : SeatView) → slice_get xs i ≡ Some x → x.number ≡ n + i)
-    → All (λ x. IsPrefix x.seen journal) xs → sum_by made xs ≤ from_on n journal
+    → All (λ x. IsPrefix x.seen journal) xs → sum_by entries_made xs ≤ from_on n journal
 fit_from n [] journal numbers seen = omega arith
 fit_from n (x ∷ xs) journal numbers seen =
     let first : x.number ≡ n = numbers 0 x refl ∙ omega arith in
-    let own : made x ≡ length (made_by n x.seen) = ap (λ m. length (made_by m x.seen)) first in
+    let own : entries_made x ≡ length (made_by n x.seen) = ap (λ m. length (made_by m x.seen)) first in
     let here = seen_before n x.seen journal (seen 0 x (omega arith)) in
     let rest = fit_from (n + 1) xs journal (λ i y is. numbers (suc i) y is ∙ omega arith) (λ k d lt. seen (suc k) d (omega (arith, lt))) in
     let parts = first_of n journal in
-    let sum = sum_by-cons made x xs in
+    let sum = sum_by-cons entries_made x xs in
     omega (arith, own, here, rest, parts, sum)
 
 -- seats that are numbered from 0 made no more entries than the journal has.
 all_fit : (xs : List SeatView) (journal : List Entry) → ((i : ℕ) (x : SeatView) → slice_get xs i ≡ Some x → x.number ≡ i)
-    → All (λ x. IsPrefix x.seen journal) xs → sum_by made xs ≤ length journal
+    → All (λ x. IsPrefix x.seen journal) xs → sum_by entries_made xs ≤ length journal
 all_fit xs journal numbers seen =
     let most = fit_from 0 xs journal (λ i x is. numbers i x is ∙ omega arith) seen in
     let few = no_more 0 journal in
@@ -87,7 +84,7 @@ one_more_seen seat seats seen now here more all =
 -- The seats are all met, and what the door has seen begins a journal: then it has room for what they made.
 pub all_met : (seats left met : List SeatView) (seen journal : List Entry) (total : ℕ) → left ≡ [] → seats ≡ left ++ met
     → ((i : ℕ) (x : SeatView) → slice_get seats i ≡ Some x → x.number ≡ i) → All (λ s. IsPrefix s.seen seen) met → IsPrefix seen journal
-    → total ≡ sum_by made met → total ≤ length journal
+    → total ≡ sum_by entries_made met → total ≤ length journal
 all_met seats left met seen journal total none split numbers all begins is =
     let same : seats ≡ met = split ∙ ap (λ l. l ++ met) none in
     let fit = all_fit met journal (subst (λ l. (i : ℕ) (x : SeatView) → slice_get l i ≡ Some x → x.number ≡ i) same numbers)

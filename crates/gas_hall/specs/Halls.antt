@@ -7,6 +7,7 @@ use Rattle.gas_terms.specs.declared.command.Command.{Command}
 use Rattle.gas_terms.specs.declared.answer.Answer.{Answer}
 use Rattle.gas_terms.specs.declared.refusal.Refusal.{Refusal}
 use Rattle.gas_talk.specs.declared.door.Copied.{Copied}
+use Rattle.gas_lab.specs.Labs.{entry_of}
 use Rattle.gas_talk.specs.LabTalk.{Copies}
 use Rattle.gas_hall.specs.Seats.{Seat}
 
@@ -20,7 +21,7 @@ pub record IsNamed (size : Extent) (cap : ℕ) (lab : Laboratory) : Type 0 where
 abbrev pub AppliesToSome : Extent → ℕ → Seat → Command → Result Answer Refusal → Type 0
 AppliesToSome size cap seat command reply =
     (lab : Laboratory) × (next : Laboratory) × IsNamed size cap lab × IsNamed size cap next
-    × (seat.entries ≤ length lab.journal) × Applies lab (record { seat = seat.number; command = command }) reply next
+    × (seat.entries ≤ length lab.journal) × Applies lab (entry_of seat.number command) reply next
 
 -- there is such a laboratory of which this is the copy, unless memory was refused
 abbrev pub CopiesSome : Extent → ℕ → Result Copied NoMemory → Type 0

@@ -1,5 +1,6 @@
 -- What contracts see of a seat that takes turns and knows what it has seen, and what its calls tell.
-use Rattle.std.specs.Prelude.{◌≡◌, ℕ, List, [], Option, Some, Result}
+use Rattle.std.specs.Prelude.{◌≡◌, ℕ, List, [], length, Option, Some, Result}
+use Rattle.std.specs.List.{sum_by}
 use Rattle.std.specs.declared.alloc.AllocError.{AllocError as NoMemory}
 use Rattle.atomic_table.specs.Seated.{TableId}
 use Rattle.gas_terms.specs.Cells.{Extent, extent}
@@ -10,6 +11,7 @@ use Rattle.gas_terms.specs.declared.command.Entry.{Entry}
 use Rattle.gas_terms.specs.declared.answer.Answer.{Answer}
 use Rattle.gas_terms.specs.declared.refusal.Refusal.{Refusal}
 use Rattle.gas_talk.specs.declared.door.Copied.{Copied}
+use Rattle.gas_lab.specs.Labs.{entry_of}
 use Rattle.gas_talk.specs.LabTalk.{Copies}
 
 -- which hall the seat is of, its number, how wide and high the lattice is, the gas and the capacity that the laboratory
@@ -25,6 +27,13 @@ pub record SeatView : Type 0 where
 abbrev pub but_for_seen : SeatView → SeatView
 but_for_seen seat = record seat { seen = [] }
 
+-- how many entries the seat made, of those that it has seen, and how many seats made in all
+abbrev pub entries_made : SeatView → ℕ
+entries_made seat = length (made_by seat.number seat.seen)
+
+abbrev pub made_in_all : List SeatView → ℕ
+made_in_all seats = sum_by entries_made seats
+
 -- The laboratory that a seat finds: it keeps its invariant and opened as the seat knows; its journal goes on from what the
 -- seat has seen, and has no other entry of the seat's.
 pub record Continues (seat : SeatView) (lab : Laboratory) : Type 0 where
@@ -37,7 +46,7 @@ pub record Continues (seat : SeatView) (lab : Laboratory) : Type 0 where
 abbrev pub AsksInTurn : SeatView → Command → Result Answer Refusal → SeatView → Type 0
 AsksInTurn old command reply new =
     (lab : Laboratory) × (next : Laboratory) × Continues old lab × IsSound next
-    × Applies lab (record { seat = old.number; command = command }) reply next × (new ≡ record old { seen = next.journal })
+    × Applies lab (entry_of old.number command) reply next × (new ≡ record old { seen = next.journal })
 
 -- such a laboratory was copied, unless memory was refused, and the seat then has seen its journal
 abbrev pub CopiesInTurn : SeatView → Result Copied NoMemory → SeatView → Type 0

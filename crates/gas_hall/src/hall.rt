@@ -1,9 +1,9 @@
 //! A laboratory under a lock, its seats, and their doors.
 
-ghost use Rattle.std.specs.Prelude.{◌≡◌, ℕ, ◌<◌, ◌≤◌, [], true, IfOk, IfErr, Some, length, slice_get, vec_len};
+ghost use Rattle.std.specs.Prelude.{◌≡◌, ◌<◌, ◌≤◌, [], true, IfOk, IfErr, length, vec_len};
 ghost use Rattle.std.specs.List.{sum_by};
 ghost use Rattle.gas_terms.specs.Cells.{extent};
-ghost use Rattle.gas_hall.specs.Seats.{Seat, counted};
+ghost use Rattle.gas_hall.specs.Seats.{Seat, AreNumbered, counted, fresh_seat};
 ghost use Rattle.gas_hall.specs.Halls.{IsNamed, AppliesToSome, CopiesSome};
 
 use crate::gate::HallGate;

@@ -1,10 +1,8 @@
 //! A laboratory that is served, from the opening of its hall to the last session's end.
 
 ghost use Rattle.std.specs.Prelude.{◌≡◌, ℕ, ◌+◌, ◌<◌, ◌≤◌, [], All, IfSome, Some, length, slice_get, vec_len};
-ghost use Rattle.std.specs.List.{sum_by};
 ghost use Rattle.gas_terms.specs.Gas.{Gas};
-ghost use Rattle.gas_hall.specs.TurnSeats.{SeatView};
-ghost use Rattle.gas_terms.specs.Laboratory.{made_by};
+ghost use Rattle.gas_hall.specs.TurnSeats.{SeatView, made_in_all};
 
 use crate::serving::{Lobby, TurnServed, serve_turn};
 use crate::turn_hall::{TurnHall, TurnNote, TurnSeat};

@@ -2,9 +2,8 @@
 
 ghost use Rattle.std.specs.Prelude.{◌≡◌, ℕ, ◌+◌, ◌≤◌, ⊤, All, IfOk, IfErr, length, map, vec_len, vec_capacity};
 ghost use Rattle.std.specs.List.{sum_by};
-ghost use Rattle.gas_hall.specs.Seats.{Seat};
-ghost use Rattle.gas_hall.specs.TurnSeats.{SeatView, but_for_seen};
-ghost use Rattle.gas_terms.specs.Laboratory.{made_by};
+ghost use Rattle.gas_hall.specs.Seats.{Seat, numbers};
+ghost use Rattle.gas_hall.specs.TurnSeats.{SeatView, but_for_seen, entries_made, made_in_all};
 
 use crate::gate::HallGate;
 use crate::hall::{Hall, HallDoor};
@@ -123,7 +122,7 @@ impl<S: Stepper, R: Wait> Seating<TurnSeat<S>, R> for TurnHall<S> {
 
     ghost has = { λ hall seat. seat.hall ≡ hall };
 
-    ghost made = { λ seat. length (made_by seat.number seat.seen) };
+    ghost made = { entries_made };
 
     fn number_of(seat: &TurnSeat<S>) -> u16 {
         seat.number()

@@ -1,11 +1,11 @@
 //! A hall that serves its seats in turn. What a seat has seen of the journal begins all that it sees later.
 
-ghost use Rattle.std.specs.Prelude.{◌≡◌, ℕ, ◌<◌, ◌≤◌, ◌⊎◌, [], true, All, IfOk, IfErr, IfSome, Some, length, slice_get, vec_len};
+ghost use Rattle.std.specs.Prelude.{◌≡◌, ◌<◌, ◌≤◌, ◌⊎◌, [], true, All, IfOk, IfErr, vec_len};
 ghost use Rattle.gas_terms.specs.Cells.{extent};
 ghost use Rattle.gas_terms.specs.Commands.{fits};
-ghost use Rattle.gas_terms.specs.Laboratory.{IsPrefix};
-ghost use Rattle.gas_hall.specs.TurnSeats.{SeatView, NoteView, opening_seat, AsksInTurn, CopiesInTurn};
-ghost use Rattle.gas_terms.specs.Laboratory.{made_by};
+ghost use Rattle.gas_terms.specs.Laboratory.{IsPrefix, made_by};
+ghost use Rattle.gas_hall.specs.Seats.{AreNumbered};
+ghost use Rattle.gas_hall.specs.TurnSeats.{SeatView, NoteView, entries_made, opening_seat, AsksInTurn, CopiesInTurn};
 
 use crate::held::entries_of;
 use crate::in_turn::{Asked, CopyAsked, InTurn};
@@ -69,7 +69,7 @@ impl<S: Stepper> TurnSeat<S> {
 
     /// How many entries of the journal the seat made.
     pub fn entries(&self) -> u32
-        ensures entries { result ≡ made self.now }
+        ensures entries { result ≡ entries_made self.now }
         ensures bound { result ≤ 65536 }
     {
         self.made

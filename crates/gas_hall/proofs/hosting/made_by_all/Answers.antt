@@ -5,8 +5,8 @@ use Rattle.gas_terms.specs.Gas.{Gas}
 use Rattle.gas_terms.specs.Laboratory.{IsPrefix}
 use Rattle.gas_terms.specs.declared.command.Entry.{Entry}
 use Rattle.atomic_table.specs.Seated.{TableId}
-use Rattle.gas_hall.specs.TurnSeats.{SeatView}
-use Rattle.gas_hall.proofs.Totals.{made, all_met, at_end_of, one_more_seen}
+use Rattle.gas_hall.specs.TurnSeats.{SeatView, entries_made}
+use Rattle.gas_hall.proofs.Totals.{all_met, at_end_of, one_more_seen}
 use Rattle.gas_hall.proofs.hosting.made_by_all.Goals as goal
 
 pub note_of-requires : goal.note_of-requires
@@ -19,8 +19,8 @@ note_of-requires g c = record {
 split : (all front left met : List SeatView) (x : SeatView) → all ≡ front ++ met → front ≡ left ++ x ∷ [] → all ≡ left ++ x ∷ met
 split all front left met x is more = is ∙ ap (λ l. l ++ met) more ∙ append_assoc left (x ∷ []) met
 
-one_more : (x : SeatView) (met : List SeatView) (total own : ℕ) → total ≡ sum_by made met → own ≡ made x → total + own ≡ sum_by made (x ∷ met)
-one_more x met total own so_far is = let sum = sum_by-cons made x met in omega (arith, sum, so_far, is)
+one_more : (x : SeatView) (met : List SeatView) (total own : ℕ) → total ≡ sum_by entries_made met → own ≡ entries_made x → total + own ≡ sum_by entries_made (x ∷ met)
+one_more x met total own so_far is = let sum = sum_by-cons entries_made x met in omega (arith, sum, so_far, is)
 
 at_most : (x : SeatView) (met : List SeatView) (total own : ℕ) → total ≤ 65536 * length met → own ≤ 65536 → total + own ≤ 65536 * length (x ∷ met)
 at_most x met total own so_far few = omega (arith, so_far, few)

@@ -3,7 +3,7 @@ use Rattle.gas_hall.proofs.in_turn.AskedCallInTurn.call.Goals as goal
 
 pub returns-clause-adds : goal.returns-clause-adds
 returns-clause-adds g c =
-    let grown = applies_extends c.args.value.now.lab c.args.by c.args.self.command c.event-reply.result c.event-reply.new.lab c.event-reply.ensures.applied in record {
+    let grown = applies_extends c.args.value.now.lab c.args.by c.args.self.command c.apply.result c.apply.new.self c.apply.ensures.applied in record {
       new = grown.added;
       added = grown.journal;
       all_own = grown.own;
