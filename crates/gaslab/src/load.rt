@@ -38,7 +38,8 @@ const PAGE: usize = 4096;
 
 // what the reader gives up to its end, and no more than `MOST` bytes of it
 fn read_all<R: Read>(alloc: Global, reader: &mut R) -> Result<Vec<u8>, LoadFault>
-    ensures read { IfOk result (λ bytes. IsRead (R.remaining reader.old) (R.remaining reader.new) bytes.items) }
+    ensures read { IfOk result (λ bytes.
+        IsRead (R.remaining reader.old) (R.remaining reader.new) bytes.items) }
     ensures faults { IfErr result IsReadFault }
 {
     let mut bytes = Vec::new(alloc);

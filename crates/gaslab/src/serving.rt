@@ -42,7 +42,8 @@ impl fmt::Display for Line {
 
 // Writes what was served.
 fn tell<W: Write>(writer: &mut W, counts: Counts) -> bool
-    ensures { IsTrue result → Appends (W.contents writer.old) (W.contents writer.new) (served_line counts.done counts.failed counts.entries) }
+    ensures { let line = served_line counts.done counts.failed counts.entries in
+        IsTrue result → Appends (W.contents writer.old) (W.contents writer.new) line }
 {
     let line = Line { counts };
     writeln!(writer, "{line}").is_ok() && writer.flush().is_ok()
@@ -65,7 +66,8 @@ pub fn serve_on<T: Threads + Wait + Sync, L: Lobby, K: Shelf + Drop + Send, W: W
 ) -> u8
     requires setup { IsInRange setup }
     requires shelves { (0 < vec_len shelves) × (vec_len shelves ≤ 64) }
-    ensures { Serves setup (vec_len shelves) (W.contents writer.old) result (W.contents writer.new) }
+    ensures { Serves setup (vec_len shelves) (W.contents writer.old) result
+        (W.contents writer.new) }
 {
     let team = Team::new(rt, alloc, setup.workers, NoGate);
     let Ok(lab) = opened(alloc, setup, start, team) else {

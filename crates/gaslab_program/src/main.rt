@@ -146,6 +146,7 @@ fn plan_of<'a>(rt: &(impl Eprint + AllocGlobal), words: &'a [String]) -> Result<
         Ok(plan) => Ok(plan),
         Err(PlanFault::Memory) => Err(Status::NoMemory),
         Err(PlanFault::Line(text)) => {
+            // the status tells that there is no plan, whether or not this can be written
             let _ = eprint!(rt; "{text}");
             Err(Status::NoPlan)
         }
