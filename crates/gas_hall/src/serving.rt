@@ -339,28 +339,28 @@ fn entries_of<T, R, H: Seating<T, R>>(seats: &[T]) -> u32
     total
 }
 
-// Serves each seat once. Tells how many were served, and how many entries all made, with the seats in their order.
+// how many seats were served, the entries that all of them made, and the seats in their order
+struct SeatsServed<T> {
+    done: u32,
+    entries: u32,
+    seats: Vec<T>,
+}
+
+// Serves each seat once.
 fn serve_seats<
     T: Drop + Send,
     R: Threads + Wait + Sync,
     H: Seating<T, R> + Sync,
     L: Lobby,
     K: Shelf + Drop + Send,
->(
-    rt: &R,
-    alloc: Global,
-    lobby: &mut L,
-    hall: &H,
-    seats: Vec<T>,
-    shelves: Vec<K>,
-) -> (u32, u32, Vec<T>)
+>(rt: &R, alloc: Global, lobby: &mut L, hall: &H, seats: Vec<T>, shelves: Vec<K>) -> SeatsServed<T>
     requires few { vec_len seats ≤ 64 }
     requires shelves { vec_len shelves ≡ vec_len seats }
     requires here { All (λ seat. H.has hall.now (H.kept seat)) seats.items }
-    ensures done { result.0 ≤ vec_len seats }
-    ensures all { vec_len result.2 ≡ vec_len seats }
-    ensures seats { map H.kept result.2.items ≡ map H.kept seats.items }
-    ensures entries { result.1 ≡ sum_by H.made result.2.items }
+    ensures done { result.done ≤ vec_len seats }
+    ensures all { vec_len result.seats ≡ vec_len seats }
+    ensures seats { map H.kept result.seats.items ≡ map H.kept seats.items }
+    ensures entries { result.entries ≡ sum_by H.made result.seats.items }
 {
     let refused = AtomicU32::new(u32::MAX);
     let flag = &refused;
@@ -392,7 +392,11 @@ fn serve_seats<
         },
     );
     seats.reverse();
-    (done, entries_of::<T, R, H>(seats.as_slice()), seats)
+    SeatsServed {
+        done,
+        entries: entries_of::<T, R, H>(seats.as_slice()),
+        seats,
+    }
 }
 
 /// Serves each seat once: one accept for each, in order, and a thread of its own for each session that is accepted, with
@@ -421,7 +425,11 @@ pub fn serve<
     ensures entries { result.entries ≡ sum_by (λ seat. seat.entries) result.seats.items }
 {
     let count = seats.len() as u32;
-    let (done, entries, seats) = serve_seats(rt, alloc, lobby, hall, seats, shelves);
+    let SeatsServed {
+        done,
+        entries,
+        seats,
+    } = serve_seats(rt, alloc, lobby, hall, seats, shelves);
     Served {
         done,
         failed: count - done,
@@ -449,7 +457,11 @@ pub fn serve_turn<S: Stepper + Send, L: Lobby, K: Shelf + Drop + Send, R: Thread
     ensures entries { result.entries ≡ made_in_all result.seats.items }
 {
     let count = seats.len() as u32;
-    let (done, entries, seats) = serve_seats(rt, alloc, lobby, hall, seats, shelves);
+    let SeatsServed {
+        done,
+        entries,
+        seats,
+    } = serve_seats(rt, alloc, lobby, hall, seats, shelves);
     TurnServed {
         done,
         failed: count - done,
