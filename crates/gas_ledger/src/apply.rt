@@ -45,13 +45,13 @@ fn exchange(plane: &mut Plane, drains: &[Rect], sources: &[Rect]) -> Change
         if !met.get(i % across, i / across) {
             continue;
         }
-        let old = *plane.tile(i);
-        let new = exchanged_tile(&old, drains, sources, i % across * 64, i / across * 64);
-        if new.has_same_cells(&old) {
+        let old = plane.tile(i);
+        let new = exchanged_tile(old, drains, sources, i % across * 64, i / across * 64);
+        if new.has_same_cells(old) {
             continue;
         }
-        let more = sums(gained, only_in(&new, &old).count_by_parity());
-        let less = sums(lost, only_in(&old, &new).count_by_parity());
+        let more = sums(gained, only_in(&new, old).count_by_parity());
+        let less = sums(lost, only_in(old, &new).count_by_parity());
         plane.set_tile(i, new);
         gained = more;
         lost = less;

@@ -1,6 +1,7 @@
 //! Worked examples with values that were found by hand, and comparisons with the step on one thread.
 
 ghost use Rattle.std.specs.Prelude.{◌≡◌, ◌<◌, ◌≤◌};
+ghost use Rattle.gas_terms.specs.Cells.{HasSidesOf};
 
 use crate::course::Run;
 use crate::runs::{Strips, run_by};
@@ -48,6 +49,18 @@ fn team<R: Threads + Drop, G: Gate + Drop>(
     Team::new(rt, alloc, workers, gate)
 }
 
+// stops a test where the planes of a phase are not of one size
+fn fit(rt: &impl Abort, old: &Plane, walls: &Plane, obstacles: &Plane, out: &Plane)
+    ensures walls { HasSidesOf walls.now old.now }
+    ensures obstacles { HasSidesOf obstacles.now old.now }
+    ensures out { HasSidesOf out.now old.now }
+{
+    let size = old.size();
+    assert!(rt; walls.size() == size);
+    assert!(rt; obstacles.size() == size);
+    assert!(rt; out.size() == size);
+}
+
 // a phase with any gate
 fn phase<R: Threads + Drop, G: Gate + Drop>(
     rt: &impl Abort,
@@ -58,11 +71,8 @@ fn phase<R: Threads + Drop, G: Gate + Drop>(
     parity: u8,
     out: &mut Plane,
 ) -> Took {
-    let size = old.size();
     assert!(rt; parity < 2);
-    assert!(rt; walls.size() == size);
-    assert!(rt; obstacles.size() == size);
-    assert!(rt; out.size() == size);
+    fit(rt, old, walls, obstacles, out);
     team.phase(old, walls, obstacles, parity, out)
 }
 
@@ -76,11 +86,8 @@ fn step<S: Stepper>(
     parity: u8,
     out: &mut Plane,
 ) -> Took {
-    let size = old.size();
     assert!(rt; parity < 2);
-    assert!(rt; walls.size() == size);
-    assert!(rt; obstacles.size() == size);
-    assert!(rt; out.size() == size);
+    fit(rt, old, walls, obstacles, out);
     stepper.phase(old, walls, obstacles, parity, out)
 }
 
