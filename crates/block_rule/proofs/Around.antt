@@ -11,110 +11,19 @@ walled_from p walls x y =
 
 -- the collision and the bounce, by the block's cells
 outcome_table : (w a b c d : Bool) → (if w then a else (if d && a && not b && not c || (b && c && not d && not a) then b else d)) ≡ turned_cell w a b c d
-outcome_table false false false false false = refl
-outcome_table false false false false true = refl
-outcome_table false false false true false = refl
-outcome_table false false false true true = refl
-outcome_table false false true false false = refl
-outcome_table false false true false true = refl
-outcome_table false false true true false = refl
-outcome_table false false true true true = refl
-outcome_table false true false false false = refl
-outcome_table false true false false true = refl
-outcome_table false true false true false = refl
-outcome_table false true false true true = refl
-outcome_table false true true false false = refl
-outcome_table false true true false true = refl
-outcome_table false true true true false = refl
-outcome_table false true true true true = refl
-outcome_table true false false false false = refl
-outcome_table true false false false true = refl
-outcome_table true false false true false = refl
-outcome_table true false false true true = refl
-outcome_table true false true false false = refl
-outcome_table true false true false true = refl
-outcome_table true false true true false = refl
-outcome_table true false true true true = refl
-outcome_table true true false false false = refl
-outcome_table true true false false true = refl
-outcome_table true true false true false = refl
-outcome_table true true false true true = refl
-outcome_table true true true false false = refl
-outcome_table true true true false true = refl
-outcome_table true true true true false = refl
-outcome_table true true true true true = refl
+outcome_table w a b c d = grind arith
 
 walled_upper_left : (a b c d : Bool) → (a || b || c || d) ≡ ((a || c) || (b || d))
-walled_upper_left false false false false = refl
-walled_upper_left false false false true = refl
-walled_upper_left false false true false = refl
-walled_upper_left false false true true = refl
-walled_upper_left false true false false = refl
-walled_upper_left false true false true = refl
-walled_upper_left false true true false = refl
-walled_upper_left false true true true = refl
-walled_upper_left true false false false = refl
-walled_upper_left true false false true = refl
-walled_upper_left true false true false = refl
-walled_upper_left true false true true = refl
-walled_upper_left true true false false = refl
-walled_upper_left true true false true = refl
-walled_upper_left true true true false = refl
-walled_upper_left true true true true = refl
+walled_upper_left a b c d = grind arith
 
 walled_upper_right : (a b c d : Bool) → (a || b || c || d) ≡ ((b || d) || (a || c))
-walled_upper_right false false false false = refl
-walled_upper_right false false false true = refl
-walled_upper_right false false true false = refl
-walled_upper_right false false true true = refl
-walled_upper_right false true false false = refl
-walled_upper_right false true false true = refl
-walled_upper_right false true true false = refl
-walled_upper_right false true true true = refl
-walled_upper_right true false false false = refl
-walled_upper_right true false false true = refl
-walled_upper_right true false true false = refl
-walled_upper_right true false true true = refl
-walled_upper_right true true false false = refl
-walled_upper_right true true false true = refl
-walled_upper_right true true true false = refl
-walled_upper_right true true true true = refl
+walled_upper_right a b c d = grind arith
 
 walled_lower_left : (a b c d : Bool) → (a || b || c || d) ≡ ((c || a) || (d || b))
-walled_lower_left false false false false = refl
-walled_lower_left false false false true = refl
-walled_lower_left false false true false = refl
-walled_lower_left false false true true = refl
-walled_lower_left false true false false = refl
-walled_lower_left false true false true = refl
-walled_lower_left false true true false = refl
-walled_lower_left false true true true = refl
-walled_lower_left true false false false = refl
-walled_lower_left true false false true = refl
-walled_lower_left true false true false = refl
-walled_lower_left true false true true = refl
-walled_lower_left true true false false = refl
-walled_lower_left true true false true = refl
-walled_lower_left true true true false = refl
-walled_lower_left true true true true = refl
+walled_lower_left a b c d = grind arith
 
 walled_lower_right : (a b c d : Bool) → (a || b || c || d) ≡ ((d || b) || (c || a))
-walled_lower_right false false false false = refl
-walled_lower_right false false false true = refl
-walled_lower_right false false true false = refl
-walled_lower_right false false true true = refl
-walled_lower_right false true false false = refl
-walled_lower_right false true false true = refl
-walled_lower_right false true true false = refl
-walled_lower_right false true true true = refl
-walled_lower_right true false false false = refl
-walled_lower_right true false false true = refl
-walled_lower_right true false true false = refl
-walled_lower_right true false true true = refl
-walled_lower_right true true false false = refl
-walled_lower_right true true false true = refl
-walled_lower_right true true true false = refl
-walled_lower_right true true true true = refl
+walled_lower_right a b c d = grind arith
 
 -- what a cell is after the rule, by the block's channels and by its cells
 pub turned_by_cells : (p : ℕ) (cells : ℕ → ℕ → Bool) (walled : Bool) (x y : ℕ) → outcome walled (block_channels cells (block_start p x) (block_start p y)) (opposite (velocity_at p x y)) ≡ turned_at p cells walled x y

@@ -10,76 +10,16 @@ use Rattle.bit_tile.proofs.Words32.{bit-not, bit-shl_high, bit-shl_low, bit-abov
 use Rattle.block_rule.specs.Cell.{turned_cell}
 
 upper_left_table : (ul ur ll lr : Bool) → either lr (either ul ur && not (either ul lr || either ur ll)) ≡ turned_cell false ul ur ll lr
-upper_left_table false false false false = refl
-upper_left_table false false false true = refl
-upper_left_table false false true false = refl
-upper_left_table false false true true = refl
-upper_left_table false true false false = refl
-upper_left_table false true false true = refl
-upper_left_table false true true false = refl
-upper_left_table false true true true = refl
-upper_left_table true false false false = refl
-upper_left_table true false false true = refl
-upper_left_table true false true false = refl
-upper_left_table true false true true = refl
-upper_left_table true true false false = refl
-upper_left_table true true false true = refl
-upper_left_table true true true false = refl
-upper_left_table true true true true = refl
+upper_left_table ul ur ll lr = grind arith
 
 upper_right_table : (ul ur ll lr : Bool) → either ll (either ul ur && not (either ul lr || either ur ll)) ≡ turned_cell false ur ul lr ll
-upper_right_table false false false false = refl
-upper_right_table false false false true = refl
-upper_right_table false false true false = refl
-upper_right_table false false true true = refl
-upper_right_table false true false false = refl
-upper_right_table false true false true = refl
-upper_right_table false true true false = refl
-upper_right_table false true true true = refl
-upper_right_table true false false false = refl
-upper_right_table true false false true = refl
-upper_right_table true false true false = refl
-upper_right_table true false true true = refl
-upper_right_table true true false false = refl
-upper_right_table true true false true = refl
-upper_right_table true true true false = refl
-upper_right_table true true true true = refl
+upper_right_table ul ur ll lr = grind arith
 
 lower_left_table : (ul ur ll lr : Bool) → either ur (either ul ur && not (either ul lr || either ur ll)) ≡ turned_cell false ll lr ul ur
-lower_left_table false false false false = refl
-lower_left_table false false false true = refl
-lower_left_table false false true false = refl
-lower_left_table false false true true = refl
-lower_left_table false true false false = refl
-lower_left_table false true false true = refl
-lower_left_table false true true false = refl
-lower_left_table false true true true = refl
-lower_left_table true false false false = refl
-lower_left_table true false false true = refl
-lower_left_table true false true false = refl
-lower_left_table true false true true = refl
-lower_left_table true true false false = refl
-lower_left_table true true false true = refl
-lower_left_table true true true false = refl
-lower_left_table true true true true = refl
+lower_left_table ul ur ll lr = grind arith
 
 lower_right_table : (ul ur ll lr : Bool) → either ul (either ul ur && not (either ul lr || either ur ll)) ≡ turned_cell false lr ll ur ul
-lower_right_table false false false false = refl
-lower_right_table false false false true = refl
-lower_right_table false false true false = refl
-lower_right_table false false true true = refl
-lower_right_table false true false false = refl
-lower_right_table false true false true = refl
-lower_right_table false true true false = refl
-lower_right_table false true true true = refl
-lower_right_table true false false false = refl
-lower_right_table true false false true = refl
-lower_right_table true false true false = refl
-lower_right_table true false true true = refl
-lower_right_table true true false false = refl
-lower_right_table true true false true = refl
-lower_right_table true true true false = refl
-lower_right_table true true true true = refl
+lower_right_table ul ur ll lr = grind arith
 
 -- the blocks that have just one diagonal
 abbrev pub diagonal : ℕ → ℕ → ℕ → ℕ → ℕ
