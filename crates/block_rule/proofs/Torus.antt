@@ -11,6 +11,8 @@ use Rattle.gas_terms.specs.Cells.{Cells, joined, cells_where, HasEvenSides, HasS
 use Rattle.gas_terms.specs.Cells as plane
 use Rattle.gas_terms.specs.Gas.{along, site_of, is_walled, streamed}
 use Rattle.gas_terms.specs.Block.{corner_rule, other_coordinate}
+use Rattle.gas_terms.proofs.Cells.{has-cells_where}
+use Rattle.gas_terms.proofs.Blocks.{cell_streamed, cell_walled}
 use Rattle.block_rule.specs.Around.{around, either, is_walled_at, turned}
 use Rattle.block_rule.specs.Cell.{partner, turned_cell}
 use Rattle.block_rule.specs.Windows.{IsWindow, IsReached, IsView, IsTilePlace}
@@ -184,6 +186,13 @@ module _ (p : ℕ) (particles walls obstacles : Cells) (x0 y0 : ℕ) (near_walls
       turned p near (either near_walls near_obstacles) x y ≡ plane.has (streamed p particles (joined walls obstacles)) (x0 + x) (y0 + y)
   turned_is_streamed made step walled near small view x y in_row in_column =
       turned_same step walled p near (either near_walls near_obstacles) particles (joined walls obstacles) x0 y0 x y small place.even_sides place.of_walls.wide place.of_walls.high view (solid_view made) place.even_column place.even_row in_row in_column (omega (arith, place.right)) (omega (arith, place.bottom))
+
+-- by the laws of gas_terms
+pub tiles_turned : (p : ℕ) (particles walls obstacles : Cells) (x0 y0 : ℕ) (near near_walls near_obstacles : ℕ → ℕ → Bool) → p < 2 → IsTilePlace particles walls obstacles x0 y0 →
+    IsView p near particles x0 y0 → IsView p near_walls walls x0 y0 → IsView p near_obstacles obstacles x0 y0 → (x y : ℕ) → x < 64 → y < 64 →
+    turned p near (either near_walls near_obstacles) x y ≡ plane.has (streamed p particles (joined walls obstacles)) (x0 + x) (y0 + y)
+tiles_turned p particles walls obstacles x0 y0 near near_walls near_obstacles small place near_view walls_view obstacles_view =
+    turned_is_streamed p particles walls obstacles x0 y0 near_walls near_obstacles place walls_view obstacles_view has-cells_where cell_streamed cell_walled near small near_view
 
 -- what a tile sees
 pub window_is_view : (p : ℕ) (window : ℕ → ℕ → Bool) (cells : Cells) (x0 y0 : ℕ) → p < 2 → IsWindow window cells x0 y0 → IsView p window cells x0 y0

@@ -13,6 +13,9 @@ use Rattle.gas_terms.specs.Gas.{Site, site_of, is_walled, is_obstructed, takes_f
 use Rattle.gas_terms.specs.Accounts.{total_in, parity_count, sums_by_parity, stopped}
 use Rattle.gas_terms.specs.Accounts as torus
 use Rattle.gas_terms.specs.declared.accounts.Pair.{Pair}
+use Rattle.gas_terms.proofs.Cells.{has-cells_where}
+use Rattle.gas_terms.proofs.Blocks.{cell_walled}
+use Rattle.gas_terms.proofs.RectangleTotals.{total_in-parities}
 use Rattle.block_rule.specs.Around.{either, none, is_walled_at, twice_momentum, taken}
 use Rattle.block_rule.specs.Windows.{IsView, IsTilePlace, square, taken_in}
 use Rattle.block_rule.proofs.Blank.{walled_either}
@@ -119,6 +122,12 @@ module _ (made : MadeCells) (walled : CellsWalled) (sums : SumsByParities) (tick
       stopped_of_obstacles (has tile x y) (is_walled_at (parity tick) near_walls x y) (is_walled_at (parity tick) near_obstacles x y) _ _ _ (is_tile x y in_row in_column) (solid_same x y in_row in_column) (obstructed_same x y in_row in_column)
       ∙ sym (made_same (takes_for_obstacles walls obstacles) x y in_row in_column))
       ∙ momentum_same sums tick (stopped (parity tick) particles (takes_for_obstacles walls obstacles)) x0 y0 place.even_column place.even_row)
+
+-- by the laws of gas_terms
+pub tiles_took : (tick : ℤ) (tile : Tile) (particles walls obstacles : Cells) (x0 y0 : ℕ) (near_walls near_obstacles : ℕ → ℕ → Bool) → IsTilePlace particles walls obstacles x0 y0 →
+    HasCells tile (λ x y. plane.has particles (x0 + x) (y0 + y)) → IsView (parity tick) near_walls walls x0 y0 → IsView (parity tick) near_obstacles obstacles x0 y0 →
+    taken (parity tick) tile near_walls near_obstacles ≡ taken_in tick particles walls obstacles (square x0 y0)
+tiles_took = taken_is_taken_in has-cells_where cell_walled total_in-parities
 
 pub taken_of_none : (p : ℕ) (tile : Tile) → taken p tile none none ≡ record { walls = record { x = pos 0; y = pos 0 }; obstacles = record { x = pos 0; y = pos 0 } }
 taken_of_none p tile =

@@ -27,7 +27,8 @@ pub fn tiles_see_the_torus()
 /// A tile with its border is a window on the tiles round it.
 pub fn borders_are_windows()
     ensures tile { (t : TileRows) (b : RingCells) → ShowsTile (around t b) t }
-    ensures round { (t above below left right above_left above_right below_left below_right : TileRows) (b : RingCells) →
+    ensures round { (t above below left right above_left above_right below_left below_right : TileRows)
+        (b : RingCells) →
         IsBorderOf b above below left right above_left above_right below_left below_right →
         ShowsRound (around t b) above below left right above_left above_right below_left below_right }
 {}
@@ -41,14 +42,12 @@ pub fn tiles_turn_as_the_torus()
         (x y : ℕ) → x < 64 → y < 64 →
         turned p near (either near_walls near_obstacles) x y ≡
         plane.has (streamed p particles (joined walls obstacles)) (x0 + x) (y0 + y) }
-{
-    gas_terms::laws::step_turns_blocks();
-    gas_terms::laws::made_cells_pass_the_test();
-}
+{}
 
 /// What a tile's walled blocks take is what walls and obstacles of the torus take of the tile's own particles.
 pub fn tiles_take_as_the_torus()
-    ensures taken { (tick : ℤ) (tile : TileRows) (particles walls obstacles : Cells) (x0 y0 : ℕ) (near_walls near_obstacles : ℕ → ℕ → Bool) →
+    ensures taken { (tick : ℤ) (tile : TileRows) (particles walls obstacles : Cells) (x0 y0 : ℕ)
+        (near_walls near_obstacles : ℕ → ℕ → Bool) →
         IsTilePlace particles walls obstacles x0 y0 →
         HasCells tile (λ x y. plane.has particles (x0 + x) (y0 + y)) →
         IsView (parity tick) near_walls walls x0 y0 → IsView (parity tick) near_obstacles obstacles x0 y0 →
@@ -56,8 +55,4 @@ pub fn tiles_take_as_the_torus()
     ensures nothing { (p : ℕ) (tile : TileRows) →
         let zero : Pair = record { x = pos 0; y = pos 0 } in
         taken p tile none none ≡ record { walls = zero; obstacles = zero } }
-{
-    gas_terms::laws::step_turns_blocks();
-    gas_terms::laws::made_cells_pass_the_test();
-    gas_terms::account_laws::sums_by_parities();
-}
+{}

@@ -14,7 +14,11 @@ use Rattle.block_rule.specs.Windows.{IsView, IsWindow}
 use Rattle.block_rule.specs.Rows.{ShowsTile, ShowsRound}
 use Rattle.block_rule.specs.Lent.{IsSeenInside, IsSeenIn, IsSeen}
 use Rattle.block_rule.specs.declared.Window.{Window}
-use Rattle.phase_step.specs.Turns.{IsWindowFrom}
+use Rattle.tile_border.specs.declared.Round.{Round}
+use Rattle.tile_border.proofs.Making.{border_of_tiles}
+use Rattle.block_rule.proofs.Borders.{shows_tile, shows_round}
+use Rattle.block_rule.proofs.Torus.{window_is_view, inside_is_view}
+use Rattle.phase_step.specs.Turns.{IsWindowFrom, IsLentTile, IsLentWindow}
 use Rattle.phase_step.proofs.Rings.{window_is}
 
 -- a tile of a set of the same torus as another's
@@ -54,12 +58,11 @@ tile_window i cells others t b wide high right bottom from round =
     let ring : IsRingRound b cells (i % (others.width / 64) * 64) (i / (others.width / 64) * 64) = subst (λ w. IsRingRound b cells (i % (w / 64) * 64) (i / (w / 64) * 64)) wide round in
     window_is t b cells (i % (others.width / 64) * 64) (i / (others.width / 64) * 64) tile ring (subst (λ w. (tile_rectangle others i).x + 64 ≤ w) (sym wide) right) (subst (λ h. (tile_rectangle others i).y + 64 ≤ h) (sym high) bottom)
 
--- what a tile shows to blocks that lie in it, given what that is for any set that is wide and high enough
+-- what a tile shows to blocks that lie in it
 pub wall_view : (i : ℕ) (cells others : Cells) (t : Tile) (b : Border) → HasSidesOf cells others → (tile_rectangle others i).x + 64 ≤ others.width → (tile_rectangle others i).y + 64 ≤ others.height → IsTileFrom t cells (tile_rectangle cells i).x (tile_rectangle cells i).y
-    → ((t : Tile) (b : Border) (cells : Cells) (x0 y0 : ℕ) → x0 + 64 ≤ cells.width → y0 + 64 ≤ cells.height → HasCells t (λ x y. has cells (x0 + x) (y0 + y)) → IsView 0 (around t b) cells x0 y0)
     → IsView 0 (around t b) cells (tile_rectangle others i).x (tile_rectangle others i).y
-wall_view i cells others t b of right bottom from law =
-    law t b cells (tile_rectangle others i).x (tile_rectangle others i).y (subst (λ w. (tile_rectangle others i).x + 64 ≤ w) (sym of.wide) right) (subst (λ h. (tile_rectangle others i).y + 64 ≤ h) (sym of.high) bottom) (tile_cells i cells others t of.wide from)
+wall_view i cells others t b of right bottom from =
+    inside_is_view t b cells (tile_rectangle others i).x (tile_rectangle others i).y (subst (λ w. (tile_rectangle others i).x + 64 ≤ w) (sym of.wide) right) (subst (λ h. (tile_rectangle others i).y + 64 ≤ h) (sym of.high) bottom) (tile_cells i cells others t of.wide from)
 
 -- what is lent of a set shows a window, which is a view of the torus
 pub record SeenInside (lent : Option (Bor Tile)) (cells : Cells) (x0 y0 : ℕ) : Type 0 where
@@ -76,52 +79,33 @@ pub record Seen (lent : Option Window) (cells : Cells) (x0 y0 : ℕ) : Type 0 wh
 pub any_border : Border
 any_border = record { above = 0; below = 0; sides = [] }
 
--- the laws of block_rule and tile_border that are used here
-abbrev pub ShowsInside : Type 0
-ShowsInside = (t : Tile) (b : Border) → ShowsTile (around t b) t
-
-abbrev pub ShowsAll : Type 0
-ShowsAll = (t a d l r al ar dl dr : Tile) (b : Border) → IsBorderOf b a d l r al ar dl dr → ShowsRound (around t b) a d l r al ar dl dr
-
-abbrev pub Inside : Type 0
-Inside = (t : Tile) (b : Border) (cells : Cells) (x0 y0 : ℕ) → x0 + 64 ≤ cells.width → y0 + 64 ≤ cells.height → HasCells t (λ x y. has cells (x0 + x) (y0 + y)) → IsView 0 (around t b) cells x0 y0
-
-abbrev pub SeesTorus : Type 0
-SeesTorus = (p : ℕ) (window : ℕ → ℕ → Bool) (cells : Cells) (x0 y0 : ℕ) → p < 2 → IsWindow window cells x0 y0 → IsView p window cells x0 y0
-
-abbrev pub HaveBorder : Type 0
-HaveBorder = (a d l r al ar dl dr : Tile) → (b : Border) × IsBorderOf b a d l r al ar dl dr
-
-pub seen_inside : (i : ℕ) (cells others : Cells) (lent : Option (Bor Tile)) → ShowsInside → Inside → HasSidesOf cells others → (tile_rectangle others i).x + 64 ≤ others.width → (tile_rectangle others i).y + 64 ≤ others.height
-    → MatchOption lent (IsBare cells (tile_rectangle cells i).x (tile_rectangle cells i).y) (λ t. IsTileFrom t.now cells (tile_rectangle cells i).x (tile_rectangle cells i).y)
-    → SeenInside lent cells (tile_rectangle others i).x (tile_rectangle others i).y
-seen_inside i cells others None shows inside of right bottom bare =
+pub seen_inside : (i : ℕ) (cells others : Cells) (lent : Option (Bor Tile)) → HasSidesOf cells others → (tile_rectangle others i).x + 64 ≤ others.width → (tile_rectangle others i).y + 64 ≤ others.height
+    → IsLentTile cells i lent → SeenInside lent cells (tile_rectangle others i).x (tile_rectangle others i).y
+seen_inside i cells others None of right bottom bare =
     record { window = none; seen = λ _ _. refl; view = bare_inside i cells others of right bottom bare }
-seen_inside i cells others (Some t) shows inside of right bottom from =
-    record { window = around t.now any_border; seen = shows t.now any_border; view = wall_view i cells others t.now any_border of right bottom from inside }
+seen_inside i cells others (Some t) of right bottom from =
+    record { window = around t.now any_border; seen = shows_tile t.now any_border; view = wall_view i cells others t.now any_border of right bottom from }
+
+-- the border of the tiles that stand round a tile
+abbrev pub border_near : (r : Round) → (b : Border) × IsBorderOfRound b r
+border_near r = border_of_tiles r.above.now r.below.now r.left.now r.right.now r.above_left.now r.above_right.now r.below_left.now r.below_right.now
 
 -- a window of a set, and its view of the torus
-pub window_view : (i : ℕ) (cells others : Cells) (w : Window) (b : Border) → SeesTorus → cells.width ≡ others.width → cells.height ≡ others.height → (tile_rectangle others i).x + 64 ≤ others.width → (tile_rectangle others i).y + 64 ≤ others.height
-    → IsBorderOfRound b w.round
-    → IsWindowFrom w cells (tile_rectangle cells i).x (tile_rectangle cells i).y → IsView 1 (around w.tile.now b) cells (tile_rectangle others i).x (tile_rectangle others i).y
-window_view i cells others w b sees wide high right bottom is from =
-    sees 1 (around w.tile.now b) cells (tile_rectangle others i).x (tile_rectangle others i).y (omega arith) (tile_window i cells others w.tile.now b wide high right bottom from.tile (from.round b is))
+pub window_view : (i : ℕ) (cells others : Cells) (w : Window) → cells.width ≡ others.width → cells.height ≡ others.height → (tile_rectangle others i).x + 64 ≤ others.width → (tile_rectangle others i).y + 64 ≤ others.height
+    → IsWindowFrom w cells (tile_rectangle cells i).x (tile_rectangle cells i).y → IsView 1 (around w.tile.now (border_near w.round).0) cells (tile_rectangle others i).x (tile_rectangle others i).y
+window_view i cells others w wide high right bottom from =
+    let b = (border_near w.round).0 in
+    window_is_view 1 (around w.tile.now b) cells (tile_rectangle others i).x (tile_rectangle others i).y (omega arith) (tile_window i cells others w.tile.now b wide high right bottom from.tile (from.round b (border_near w.round).1))
 
-pub window_seen : (w : Window) (b : Border) → ShowsInside → ShowsAll
-    → IsBorderOfRound b w.round
-    → IsSeenIn w (around w.tile.now b)
-window_seen w b shows shows_all is =
-    record { tile = shows w.tile.now b; round = shows_all w.tile.now w.round.above.now w.round.below.now w.round.left.now w.round.right.now w.round.above_left.now w.round.above_right.now w.round.below_left.now w.round.below_right.now b is }
+pub window_seen : (w : Window) → IsSeenIn w (around w.tile.now (border_near w.round).0)
+window_seen w =
+    let b = (border_near w.round).0 in
+    let r = w.round in
+    record { tile = shows_tile w.tile.now b; round = shows_round w.tile.now b r.above.now r.below.now r.left.now r.right.now r.above_left.now r.above_right.now r.below_left.now r.below_right.now (border_near w.round).1 }
 
-pub seen_of : (i : ℕ) (cells others : Cells) (lent : Option Window) → ShowsInside → ShowsAll → SeesTorus → HaveBorder → HasSidesOf cells others → (tile_rectangle others i).x + 64 ≤ others.width → (tile_rectangle others i).y + 64 ≤ others.height
-    → MatchOption lent (IsBareRound cells (tile_rectangle cells i).x (tile_rectangle cells i).y) (λ w. IsWindowFrom w cells (tile_rectangle cells i).x (tile_rectangle cells i).y)
-    → Seen lent cells (tile_rectangle others i).x (tile_rectangle others i).y
-seen_of i cells others None shows shows_all sees have of right bottom bare =
+pub seen_of : (i : ℕ) (cells others : Cells) (lent : Option Window) → HasSidesOf cells others → (tile_rectangle others i).x + 64 ≤ others.width → (tile_rectangle others i).y + 64 ≤ others.height
+    → IsLentWindow cells i lent → Seen lent cells (tile_rectangle others i).x (tile_rectangle others i).y
+seen_of i cells others None of right bottom bare =
     record { window = none; seen = λ _ _. refl; view = bare_view 1 i cells others (omega arith) of.wide bare }
-seen_of i cells others (Some w) shows shows_all sees have of right bottom from =
-    let found = have w.round.above.now w.round.below.now w.round.left.now w.round.right.now w.round.above_left.now w.round.above_right.now w.round.below_left.now w.round.below_right.now in
-    record {
-      window = around w.tile.now found.0;
-      seen = window_seen w found.0 shows shows_all found.1;
-      view = window_view i cells others w found.0 sees of.wide of.high right bottom found.1 from;
-    }
+seen_of i cells others (Some w) of right bottom from =
+    record { window = around w.tile.now (border_near w.round).0; seen = window_seen w; view = window_view i cells others w of.wide of.high right bottom from }

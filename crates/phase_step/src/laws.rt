@@ -25,16 +25,15 @@ pub fn tile_and_border_are_a_window()
 /// it. What the first takes is what walls and obstacles take in the step forward; what the second takes is what they took in
 /// the step forward that it undoes.
 pub fn phases_are_steps()
-    ensures forward { (g : Gas) → streamed (parity g.tick) g.particles (solid g) ≡ (forward g).particles }
-    ensures forward_took { (g : Gas) → taken (parity g.tick) g.particles g.walls g.obstacles ≡ gas_taken g }
+    ensures forward { (g : Gas) →
+        streamed (parity g.tick) g.particles (solid g) ≡ (forward g).particles }
+    ensures forward_took { (g : Gas) →
+        taken (parity g.tick) g.particles g.walls g.obstacles ≡ gas_taken g }
     ensures back { (g : Gas) → HasEvenSides g.particles.width g.particles.height →
         streamed (parity (g.tick -ℤ pos 1)) g.particles (solid g) ≡ (back g).particles }
     ensures back_took { (g : Gas) → HasEvenSides g.particles.width g.particles.height →
         taken (parity (g.tick -ℤ pos 1)) g.particles g.walls g.obstacles ≡ gas_taken (back g) }
-{
-    gas_terms::laws::rule_is_its_own_inverse();
-    gas_terms::account_laws::taken_both_ways();
-}
+{}
 
 /// A run of phases is as many steps, tick and ledger included: forward without the action of the ports, and back.
 pub fn runs_are_steps()

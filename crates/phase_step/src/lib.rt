@@ -50,7 +50,8 @@ pub trait Stepper: Drop {
         requires walls { HasSidesOf walls.now particles.old }
         requires obstacles { HasSidesOf obstacles.now particles.old }
         requires spare { HasSidesOf spare.old particles.old }
-        ensures particles { particles.new ≡ after parity (joined walls.now obstacles.now) particles.old n }
+        ensures particles { particles.new ≡
+            after parity (joined walls.now obstacles.now) particles.old n }
         ensures spare { HasSidesOf spare.new particles.old }
         ensures took { result ≡ run_takes parity walls.now obstacles.now particles.old n }
     {
@@ -88,12 +89,6 @@ impl Stepper for Serial {
         parity: u8,
         out: &mut Plane,
     ) -> Took {
-        gas_plane::laws::tiles_are_swept();
-        gas_terms::laws::made_cells_pass_the_test();
-        gas_terms::laws::cells_that_agree_are_equal();
-        gas_terms::account_laws::taken_over_cells();
-        gas_terms::account_laws::sums_over_tiles();
-        gas_terms::account_laws::sums_by_parities();
         let mut took = NOTHING;
         for i in 0..out.size().tiles() {
             let here = turn_tile_at(old, walls, obstacles, parity, i, out.tile_mut(i));

@@ -1,10 +1,9 @@
 //! The step of one tile of a plane.
 
-ghost use Rattle.std.specs.Prelude.{◌≡◌, ◌<◌, pos, MatchOption};
+ghost use Rattle.std.specs.Prelude.{◌≡◌, ◌<◌, pos};
 ghost use Rattle.gas_terms.specs.Cells.{tile_count, tile_rectangle, HasSidesOf};
-ghost use Rattle.gas_plane.specs.Planes.{IsTileFrom, IsBare, IsBareRound};
-ghost use Rattle.block_rule.specs.Windows.{IsTilePlace, taken_in};
-ghost use Rattle.phase_step.specs.Turns.{IsTileAfter, IsWindowFrom};
+ghost use Rattle.block_rule.specs.Windows.{taken_in};
+ghost use Rattle.phase_step.specs.Turns.{IsTileAfter, IsPlaceOf, IsLentTile, IsLentWindow};
 
 use block_rule::{Window, turn_tile_even, turn_tile_odd};
 use gas_plane::{Plane, Tile};
@@ -30,7 +29,8 @@ pub fn turn_tile_at(
     requires walls { HasSidesOf walls.now old.now }
     requires obstacles { HasSidesOf obstacles.now old.now }
     ensures cells { IsTileAfter parity old.now walls.now obstacles.now i out.new }
-    ensures took { result ≡ taken_in (pos parity) old.now walls.now obstacles.now (tile_rectangle old.now i) }
+    ensures took { result ≡
+        taken_in (pos parity) old.now walls.now obstacles.now (tile_rectangle old.now i) }
 {
     // its sides are whole tiles
     let _ = old.size();
@@ -44,29 +44,22 @@ pub fn turn_tile_at(
 // Blocks begin at even columns and rows, so each lies in one tile.
 fn turn_even(old: &Plane, walls: &Plane, obstacles: &Plane, i: u32, out: &mut Tile) -> Took
     requires tile { i < tile_count old.now }
-    requires place { let r = tile_rectangle old.now i in IsTilePlace old.now walls.now obstacles.now r.x r.y }
+    requires place { IsPlaceOf old.now walls.now obstacles.now i }
     ensures cells { IsTileAfter 0 old.now walls.now obstacles.now i out.new }
-    ensures took { result ≡ taken_in (pos 0) old.now walls.now obstacles.now (tile_rectangle old.now i) }
+    ensures took { result ≡
+        taken_in (pos 0) old.now walls.now obstacles.now (tile_rectangle old.now i) }
 {
-    block_rule::laws::borders_are_windows();
-    block_rule::laws::tiles_see_the_torus();
-    block_rule::laws::tiles_turn_as_the_torus();
-    block_rule::laws::tiles_take_as_the_torus();
     turn_tile_even(old.tile(i), tile_in(walls, i), tile_in(obstacles, i), out)
 }
 
 // Blocks begin at odd columns and rows: those at the tile's edges reach into the tiles round it.
 fn turn_odd(old: &Plane, walls: &Plane, obstacles: &Plane, i: u32, out: &mut Tile) -> Took
     requires tile { i < tile_count old.now }
-    requires place { let r = tile_rectangle old.now i in IsTilePlace old.now walls.now obstacles.now r.x r.y }
+    requires place { IsPlaceOf old.now walls.now obstacles.now i }
     ensures cells { IsTileAfter 1 old.now walls.now obstacles.now i out.new }
-    ensures took { result ≡ taken_in (pos 1) old.now walls.now obstacles.now (tile_rectangle old.now i) }
+    ensures took { result ≡
+        taken_in (pos 1) old.now walls.now obstacles.now (tile_rectangle old.now i) }
 {
-    block_rule::laws::borders_are_windows();
-    block_rule::laws::tiles_see_the_torus();
-    block_rule::laws::tiles_turn_as_the_torus();
-    block_rule::laws::tiles_take_as_the_torus();
-    tile_border::laws::tiles_have_a_border();
     let particles = Window {
         tile: old.tile(i),
         round: old.round(i),
@@ -82,7 +75,7 @@ fn turn_odd(old: &Plane, walls: &Plane, obstacles: &Plane, i: u32, out: &mut Til
 // The set's tile, unless it is known to have no cells.
 fn tile_in(set: &Plane, i: u32) -> Option<&Tile>
     requires { i < tile_count set.now }
-    ensures { let r = tile_rectangle set.now i in MatchOption result (IsBare set.now r.x r.y) (λ t. IsTileFrom t.now set.now r.x r.y) }
+    ensures { IsLentTile set.now i result }
 {
     if set.is_bare(i) {
         None
@@ -94,7 +87,7 @@ fn tile_in(set: &Plane, i: u32) -> Option<&Tile>
 // The set's tile with those round it, unless they are known to have no cells.
 fn window_in(set: &Plane, i: u32) -> Option<Window<'_>>
     requires { i < tile_count set.now }
-    ensures { let r = tile_rectangle set.now i in MatchOption result (IsBareRound set.now r.x r.y) (λ w. IsWindowFrom w set.now r.x r.y) }
+    ensures { IsLentWindow set.now i result }
 {
     if set.is_bare_round(i) {
         None

@@ -1,5 +1,11 @@
 use Rattle.std.proofs.Common.{◌≡◌, ◌+◌, ◌∙◌, ap, sym, refl, pos, arith}
 use Rattle.gas_terms.specs.Cells.{tile_count}
+use Rattle.gas_terms.specs.Gas.{takes_for_walls, takes_for_obstacles}
+use Rattle.gas_terms.proofs.Cells.{has-cells_where, full-cells_where, same_cells}
+use Rattle.gas_terms.proofs.RectangleTotals.{parity_count-small, total_in-parities}
+use Rattle.gas_terms.proofs.StoppedTotals.{taken-stopped}
+use Rattle.gas_terms.proofs.TileTotals.{total-tiles}
+use Rattle.gas_plane.proofs.Sweeps.{sweep_begins, sweep_tile, sweep_is_whole}
 use Rattle.gas_plane.specs.Planes.{with_tile}
 use Rattle.gas_plane.proofs.PlaneCounts.{few_tiles}
 use Rattle.phase_step.proofs.PhaseSweeps.{sized_as, tiles_as, tiles_are, swept_sides, phased, phase_next, phase_ends}
@@ -9,7 +15,7 @@ use Rattle.phase_step.proofs.SerialStepper.phase.Goals as goal
 pub loop-i-init : goal.loop-i-init
 loop-i-init c =
     record {
-      cells = sym (c.tiles_are_swept.ensures.starts c.args.out.now (phased c.args.parity c.args.old.now c.args.walls.now c.args.obstacles.now) c.size.ensures.lattice);
+      cells = sym (sweep_begins c.args.out.now (phased c.args.parity c.args.old.now c.args.walls.now c.args.obstacles.now) c.size.ensures.lattice);
       took = refl;
     }
 
@@ -21,17 +27,17 @@ tile_mut-requires c =
 pub plus-took-requires-clause-walls : goal.plus-took-requires-clause-walls
 plus-took-requires-clause-walls c = (fits_next (pos c.args.parity) c.args.old.now c.args.walls.now c.args.obstacles.now (c.loop-i.i + 1) c.loop-i.took c.turn_tile_at-here.result
     (took_next (pos c.args.parity) c.args.old.now c.args.walls.now c.args.obstacles.now c.loop-i.i c.loop-i.took c.turn_tile_at-here.result c.loop-i.invariant.took c.turn_tile_at-here.ensures.took)
-    (few_tiles c.args.out.now (c.loop-i.i + 1) c.size.ensures.lattice (omega (arith, tiles_are c.args.out.now c.size.result c.tiles-i-end.result c.size.ensures.extent c.tiles-i-end.ensures.tiles))) c.sums_by_parities.ensures.counts c.sums_by_parities.ensures.sums).0
+    (few_tiles c.args.out.now (c.loop-i.i + 1) c.size.ensures.lattice (omega (arith, tiles_are c.args.out.now c.size.result c.tiles-i-end.result c.size.ensures.extent c.tiles-i-end.ensures.tiles))) parity_count-small total_in-parities).0
 
 pub plus-took-requires-clause-obstacles : goal.plus-took-requires-clause-obstacles
 plus-took-requires-clause-obstacles c = (fits_next (pos c.args.parity) c.args.old.now c.args.walls.now c.args.obstacles.now (c.loop-i.i + 1) c.loop-i.took c.turn_tile_at-here.result
     (took_next (pos c.args.parity) c.args.old.now c.args.walls.now c.args.obstacles.now c.loop-i.i c.loop-i.took c.turn_tile_at-here.result c.loop-i.invariant.took c.turn_tile_at-here.ensures.took)
-    (few_tiles c.args.out.now (c.loop-i.i + 1) c.size.ensures.lattice (omega (arith, tiles_are c.args.out.now c.size.result c.tiles-i-end.result c.size.ensures.extent c.tiles-i-end.ensures.tiles))) c.sums_by_parities.ensures.counts c.sums_by_parities.ensures.sums).1
+    (few_tiles c.args.out.now (c.loop-i.i + 1) c.size.ensures.lattice (omega (arith, tiles_are c.args.out.now c.size.result c.tiles-i-end.result c.size.ensures.extent c.tiles-i-end.ensures.tiles))) parity_count-small total_in-parities).1
 
 pub loop-i-preserved : goal.loop-i-preserved
 loop-i-preserved c =
     record {
-      cells = phase_next c.args.parity c.args.old.now c.args.walls.now c.args.obstacles.now c.args.out.now c.loop-i.out (with_tile c.loop-i.out c.loop-i.i c.turn_tile_at-here.new.out) c.loop-i.i c.turn_tile_at-here.new.out c.size.ensures.lattice c.requires.out c.loop-i.invariant.cells c.turn_tile_at-here.ensures.cells refl c.tiles_are_swept.ensures.next;
+      cells = phase_next c.args.parity c.args.old.now c.args.walls.now c.args.obstacles.now c.args.out.now c.loop-i.out (with_tile c.loop-i.out c.loop-i.i c.turn_tile_at-here.new.out) c.loop-i.i c.turn_tile_at-here.new.out c.size.ensures.lattice c.requires.out c.loop-i.invariant.cells c.turn_tile_at-here.ensures.cells refl sweep_tile;
       took = c.plus-took.ensures ∙ took_next (pos c.args.parity) c.args.old.now c.args.walls.now c.args.obstacles.now c.loop-i.i c.loop-i.took c.turn_tile_at-here.result c.loop-i.invariant.took c.turn_tile_at-here.ensures.took;
     }
 
@@ -39,7 +45,7 @@ pub returns-clause-out : goal.returns-clause-out
 returns-clause-out c =
     phase_ends c.args.parity c.args.old.now c.args.walls.now c.args.obstacles.now c.args.out.now c.loop-i.out c.loop-i.i c.tiles-i-end.result c.size.ensures.lattice c.requires.out
     (tiles_are c.args.out.now c.size.result c.tiles-i-end.result c.size.ensures.extent c.tiles-i-end.ensures.tiles) c.loop-i-test.false c.loop-i.auto.i-end c.loop-i.invariant.cells
-    c.tiles_are_swept.ensures.ends c.made_cells_pass_the_test.ensures.held c.made_cells_pass_the_test.ensures.full c.cells_that_agree_are_equal.ensures
+    sweep_is_whole has-cells_where full-cells_where same_cells
 
 pub returns-clause-took : goal.returns-clause-took
 returns-clause-took c =
@@ -48,7 +54,7 @@ returns-clause-took c =
     c.loop-i.invariant.took
     ∙ (ap (took_below (pos c.args.parity) c.args.old.now c.args.walls.now c.args.obstacles.now) (here ∙ tiles_as c.args.out.now c.args.old.now c.requires.out)
     ∙ took_all c.args.parity c.args.old.now c.args.walls.now c.args.obstacles.now c.requires.parity (sized_as c.args.out.now c.args.old.now c.requires.out c.size.ensures.lattice.sized)
-    c.taken_over_cells.ensures.walls c.taken_over_cells.ensures.obstacles c.sums_over_tiles.ensures)
+    (λ tick particles walls obstacles. taken-stopped tick particles (takes_for_walls walls obstacles)) (λ tick particles walls obstacles. taken-stopped tick particles (takes_for_obstacles walls obstacles)) total-tiles)
 
 pub turn_tile_at-here-requires-clause-tile : goal.turn_tile_at-here-requires-clause-tile
 turn_tile_at-here-requires-clause-tile c = omega (arith, tiles_are c.args.out.now c.size.result c.tiles-i-end.result c.size.ensures.extent c.tiles-i-end.ensures.tiles, tiles_as c.args.out.now c.args.old.now c.requires.out)
