@@ -66,7 +66,8 @@ fn answer_lines<W: Write, D: Door, K: Shelf>(
     'lines: loop {
         match lines.next_line() {
             Found::Line(line) => {
-                let (reply, is_quit) = reply_of(alloc, line.as_str(), door, shelf);
+                let reply = reply_of(alloc, line.as_str(), door, shelf);
+                let is_quit = reply.is_bye();
                 let is_sent = send_reply(writer, &reply, page);
                 if !is_sent {
                     return Some(SessionEnd::WriteFault);

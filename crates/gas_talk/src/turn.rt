@@ -1,13 +1,13 @@
 //! One item of the input: what it asks is done, and the reply is given back.
 
-ghost use Rattle.std.specs.Prelude.{◌≡◌, Result};
+ghost use Rattle.std.specs.Prelude.{◌≡◌, false, Result};
 ghost use Rattle.gas_snapshot.specs.Shelved.{Gains};
 ghost use Rattle.gas_talk.specs.declared.door.Copied.{Copied};
 ghost use Rattle.std.specs.declared.alloc.AllocError.{AllocError as NoMemory};
 ghost use Rattle.gas_talk.specs.Requests.{request_of};
 ghost use Rattle.gas_talk.specs.Lines.{text};
 ghost use Rattle.gas_talk.specs.Talk.{Put, Takes, Saves};
-ghost use Rattle.gas_talk.specs.Ends.{is_quit, taken_by, failed_by, failures_after};
+ghost use Rattle.gas_talk.specs.Ends.{is_bye, is_quit, taken_by, failed_by, failures_after};
 
 use crate::door::{Copied, Door};
 use crate::reading::read_command;
@@ -24,6 +24,7 @@ fn save<D: Door, K: Shelf>(alloc: Global, door: &mut D, shelf: &mut K) -> Reply
         × (K.failures shelf.new ≡ failures_after (K.failures shelf.old) (failed_by put))
         × Gains (K.shelved shelf.old) (K.shelved shelf.new) (taken_by put) }
     ensures size { D.size_of door.new ≡ D.size_of door.old }
+    ensures goes_on { is_bye result ≡ false }
 {
     let copied = match door.copy_gas() {
         Ok(copied) => copied,
@@ -39,26 +40,21 @@ fn save<D: Door, K: Shelf>(alloc: Global, door: &mut D, shelf: &mut K) -> Reply
     }
 }
 
-/// Asks what the line asks. Answers the reply, and whether the line asks to quit.
-pub fn reply_of<D: Door, K: Shelf>(
-    alloc: Global,
-    line: &str,
-    door: &mut D,
-    shelf: &mut K,
-) -> (Reply, bool)
+/// Asks what the line asks, and answers the reply: `Bye` where the line asks to quit, and only there.
+pub fn reply_of<D: Door, K: Shelf>(alloc: Global, line: &str, door: &mut D, shelf: &mut K) -> Reply
     ensures taken { (put : Put) × Takes D.size_of D.asks D.copies door.old
-        (record { item = text line.now; reply = result.0; put = put }) door.new
+        (record { item = text line.now; reply = result; put = put }) door.new
         × (K.failures shelf.new ≡ failures_after (K.failures shelf.old) (failed_by put))
         × Gains (K.shelved shelf.old) (K.shelved shelf.new) (taken_by put) }
-    ensures quit { result.1 ≡ is_quit (request_of (D.size_of door.old) line.now) }
+    ensures quit { is_bye result ≡ is_quit (request_of (D.size_of door.old) line.now) }
 {
     match read_command(alloc, line, door.size()) {
         Ok(Request::Ask(command)) => match door.ask(command) {
-            Ok(answer) => (Reply::Answered(answer), false),
-            Err(refusal) => (Reply::Refused(refusal), false),
+            Ok(answer) => Reply::Answered(answer),
+            Err(refusal) => Reply::Refused(refusal),
         },
-        Ok(Request::Save) => (save(alloc, door, shelf), false),
-        Ok(Request::Quit) => (Reply::Bye, true),
-        Err(refusal) => (Reply::Refused(refusal), false),
+        Ok(Request::Save) => save(alloc, door, shelf),
+        Ok(Request::Quit) => Reply::Bye,
+        Err(refusal) => Reply::Refused(refusal),
     }
 }

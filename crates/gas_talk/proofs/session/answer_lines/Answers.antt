@@ -26,7 +26,7 @@ returns-then-is_quit-clause-answered g c = λ input from before.
     let size = Leads-size g.D.Door.size_of g.D.Door.asks g.D.Door.copies from.door p.turns c.lines.door p.leads.talk in
     Serves_quit g.D.Door.size_of g.D.Door.asks g.D.Door.copies input from c.lines.lines _ p c.as_str.result.now _ turn.0 found.0 _
     (λ more. found.2 more ∙ ap (λ bytes. text bytes ∷ lines (found.0 ++ more)) (sym c.as_str.ensures.value))
-    (ap (λ n. is_quit (request_of n c.as_str.result.now)) (sym size) ∙ sym c.reply_of-reply.ensures.quit ∙ c.if-is_quit.true)
+    (ap (λ n. is_quit (request_of n c.as_str.result.now)) (sym size) ∙ sym c.reply_of-reply.ensures.quit ∙ sym c.is_bye-is_quit.ensures ∙ c.if-is_quit.true)
     (record { takes = turn.1; failures = turn.2; shelved = turn.3 })
     (sent_whole _ _ _ sent.0 sent.1 sent.2 (sent.4 c.if-not-is_sent.false) sent.3)
 
@@ -39,7 +39,7 @@ lines-preserved g c = λ input from before.
     let size = Leads-size g.D.Door.size_of g.D.Door.asks g.D.Door.copies from.door p.turns c.lines.door p.leads.talk in
     Progress_line g.D.Door.size_of g.D.Door.asks g.D.Door.copies input from c.lines.lines _ p c.as_str.result.now _ turn.0 c.next_line.new.self found.0 _ found.1
     (λ more. found.2 more ∙ ap (λ bytes. text bytes ∷ lines (found.0 ++ more)) (sym c.as_str.ensures.value))
-    (ap (λ n. is_quit (request_of n c.as_str.result.now)) (sym size) ∙ sym c.reply_of-reply.ensures.quit ∙ c.if-is_quit.false)
+    (ap (λ n. is_quit (request_of n c.as_str.result.now)) (sym size) ∙ sym c.reply_of-reply.ensures.quit ∙ sym c.is_bye-is_quit.ensures ∙ c.if-is_quit.false)
     (record { takes = turn.1; failures = turn.2; shelved = turn.3 })
     (sent_whole _ _ _ sent.0 sent.1 sent.2 (sent.4 c.if-not-is_sent.false) sent.3)
 
