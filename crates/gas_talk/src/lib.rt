@@ -12,11 +12,11 @@ pub mod reading;
 pub mod reading_laws;
 mod reads;
 pub mod reply;
+mod replying;
 pub mod request;
 mod send;
 pub mod session;
 pub mod session_laws;
-mod turn;
 mod verb;
 mod word;
 

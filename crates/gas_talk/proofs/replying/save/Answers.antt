@@ -2,7 +2,7 @@ use Rattle.std.proofs.Common.{◌≡◌, ◌∷◌, [], ℕ, List, length, Ok, a
 use Rattle.gas_talk.specs.declared.reply.Reply.TheVariants.{Saved}
 use Rattle.gas_snapshot.specs.Shelved.{Gains}
 use Rattle.gas_talk.specs.Talk.{put_taken, snapshot}
-use Rattle.gas_talk.proofs.turn.save.Goals as goal
+use Rattle.gas_talk.proofs.replying.save.Goals as goal
 
 pub returns-in-Ok-put-clause-saved : goal.returns-in-Ok-put-clause-saved
 returns-in-Ok-put-clause-saved g c =
