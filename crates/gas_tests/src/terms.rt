@@ -119,25 +119,19 @@ fn velocities_lead_across_the_block(rt: HostRuntime) {
     }
 }
 
+fn sums(count: i64, px: i64, py: i64) -> Sums {
+    Sums { count, px, py }
+}
+
 #[test]
-fn sums_and_accounts_add_up(rt: HostRuntime) {
-    let some = Sums {
-        count: 5,
-        px: -3,
-        py: 1,
-    };
-    let others = Sums {
-        count: 2,
-        px: 2,
-        py: -2,
-    };
-    let both = Sums {
-        count: 7,
-        px: -1,
-        py: -1,
-    };
+fn sums_add_up(rt: HostRuntime) {
+    let (some, others, both) = (sums(5, -3, 1), sums(2, 2, -2), sums(7, -1, -1));
     assert_eq!(rt; some.plus(others), both);
     assert_eq!(rt; both.minus(others), some);
+}
+
+#[test]
+fn accounts_add_up(rt: HostRuntime) {
     let by_walls = Pair { x: 2, y: -4 };
     let by_obstacles = Pair { x: -6, y: 8 };
     assert_eq!(rt; by_walls.plus(by_obstacles), Pair { x: -4, y: 4 });
@@ -153,10 +147,11 @@ fn sums_and_accounts_add_up(rt: HostRuntime) {
             obstacles: Pair { x: -12, y: 16 },
         }
     );
+    let (start, injected, drained) = (sums(5, -3, 1), sums(2, 2, -2), sums(7, -1, -1));
     let before = Ledger {
-        start: some,
-        injected: others,
-        drained: both,
+        start,
+        injected,
+        drained,
         walls: Pair { x: 1, y: 1 },
         obstacles: Pair { x: 0, y: 10 },
     };
@@ -165,7 +160,7 @@ fn sums_and_accounts_add_up(rt: HostRuntime) {
     assert_eq!(rt; after.obstacles, Pair { x: -6, y: 18 });
     assert_eq!(rt;
         (after.start, after.injected, after.drained),
-        (some, others, both)
+        (start, injected, drained)
     );
     assert_eq!(rt; after.with_given_back(took), before);
 }

@@ -83,48 +83,36 @@ fn rows_are_words(rt: HostRuntime) {
     assert!(rt; tile.get(0, 63) && !tile.get(63, 63) && !tile.get(0, 62));
 }
 
+fn holds(tile: &Tile, x: u32, y: u32) -> bool {
+    x < 64 && y < 64 && tile.get(x, y)
+}
+
 #[test]
 fn rows_are_put_and_read_back(rt: HostRuntime) {
+    // the ends, even and odd columns, two of every four, and the columns from 32 on: two that are there and two that are not
+    let rows = [
+        (0x8000_0000_0000_0001, [0, 63], [1, 62], 2),
+        (0x5555_5555_5555_5555, [0, 62], [1, 63], 32),
+        (0xaaaa_aaaa_aaaa_aaaa, [1, 63], [0, 62], 32),
+        (0x3333_3333_3333_3333, [1, 32], [2, 31], 32),
+        (0xffff_ffff_0000_0000, [32, 63], [0, 31], 32),
+    ];
     for y in [0usize, 1, 30, 31, 62, 63] {
         let mut tile = Tile::full();
-        // columns 0 and 63
-        tile.set_row(y, 0x8000_0000_0000_0001);
-        assert_eq!(rt; tile.row(y), 0x8000_0000_0000_0001, "ends of {y}");
         let at = y as u32;
-        assert!(rt;
-            tile.get(0, at) && !tile.get(1, at) && !tile.get(62, at) && tile.get(63, at),
-            "ends of {y}"
-        );
-        assert_eq!(rt; tile.count(), 4034, "ends of {y}");
-        // the even columns
-        tile.set_row(y, 0x5555_5555_5555_5555);
-        assert_eq!(rt; tile.row(y), 0x5555_5555_5555_5555, "evens of {y}");
-        assert!(rt;
-            tile.get(0, at) && !tile.get(1, at) && tile.get(62, at) && !tile.get(63, at),
-            "evens of {y}"
-        );
-        // the odd columns
-        tile.set_row(y, 0xaaaa_aaaa_aaaa_aaaa);
-        assert_eq!(rt; tile.row(y), 0xaaaa_aaaa_aaaa_aaaa, "odds of {y}");
-        assert!(rt;
-            !tile.get(0, at) && tile.get(1, at) && !tile.get(62, at) && tile.get(63, at),
-            "odds of {y}"
-        );
-        // columns 0 and 1 of every four
-        tile.set_row(y, 0x3333_3333_3333_3333);
-        assert_eq!(rt; tile.row(y), 0x3333_3333_3333_3333, "pairs of {y}");
-        assert!(rt;
-            tile.get(1, at) && !tile.get(2, at) && !tile.get(31, at) && tile.get(32, at),
-            "pairs of {y}"
-        );
-        // the columns from 32 on
-        tile.set_row(y, 0xffff_ffff_0000_0000);
-        assert_eq!(rt; tile.row(y), 0xffff_ffff_0000_0000, "half of {y}");
-        assert!(rt;
-            !tile.get(0, at) && !tile.get(31, at) && tile.get(32, at) && tile.get(63, at),
-            "half of {y}"
-        );
-        assert_eq!(rt; tile.count(), 4064, "half of {y}");
+        for (row, [some, another], [none, nor], count) in rows {
+            tile.set_row(y, row);
+            assert_eq!(rt; tile.row(y), row, "{row:x} in row {y}");
+            assert!(rt;
+                holds(&tile, some, at) && holds(&tile, another, at),
+                "{row:x} in row {y}"
+            );
+            assert!(rt;
+                !holds(&tile, none, at) && !holds(&tile, nor, at),
+                "{row:x} in row {y}"
+            );
+            assert_eq!(rt; tile.count(), 4032 + count, "{row:x} in row {y}");
+        }
     }
 }
 
