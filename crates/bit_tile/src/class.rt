@@ -50,7 +50,8 @@ pub fn put(class: &mut [u32; 32], i: u32, j: u32, held: bool)
 
 /// Whether two classes have the same cells.
 pub fn same(class: &[u32; 32], other: &[u32; 32]) -> bool
-    ensures same { IsTrue result → (i j : ℕ) → j < 32 → in_class class.now i j ≡ in_class other.now i j }
+    ensures same { IsTrue result →
+        (i j : ℕ) → j < 32 → in_class class.now i j ≡ in_class other.now i j }
     ensures known { ((i j : ℕ) → i < 32 → j < 32 → in_class class.now i j ≡ in_class other.now i j) → IsTrue result }
 {
     for j in 0..32usize {
@@ -75,7 +76,8 @@ pub fn ones(class: &[u32; 32]) -> u32
 
 /// The cells that both classes have.
 pub fn both(class: &[u32; 32], other: &[u32; 32]) -> [u32; 32]
-    ensures { (i j : ℕ) → j < 32 → in_class result i j ≡ (in_class class.now i j && in_class other.now i j) }
+    ensures { (i j : ℕ) → j < 32 →
+        in_class result i j ≡ (in_class class.now i j && in_class other.now i j) }
 {
     let mut rows = [0; 32];
     for j in 0..32usize {
@@ -86,7 +88,8 @@ pub fn both(class: &[u32; 32], other: &[u32; 32]) -> [u32; 32]
 
 /// Adds the cells of the other to a class.
 pub fn add(class: &mut [u32; 32], other: &[u32; 32])
-    ensures { (i j : ℕ) → j < 32 → in_class class.new i j ≡ (in_class class.old i j || in_class other.now i j) }
+    ensures { (i j : ℕ) → j < 32 →
+        in_class class.new i j ≡ (in_class class.old i j || in_class other.now i j) }
 {
     for j in 0..32usize {
         class[j] |= other[j];

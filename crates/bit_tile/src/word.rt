@@ -6,7 +6,8 @@ ghost use Rattle.bit_tile.specs.Bit.{bit};
 /// The bits of two words in turn: those of the first have the even places.
 #[inline]
 pub fn in_turn(even: u32, odd: u32) -> u64
-    ensures { (i : ℕ) → i < 64 → bit result i ≡ (if i % 2 == 0 then bit even (i / 2) else bit odd (i / 2)) }
+    ensures { (i : ℕ) → i < 64 →
+        bit result i ≡ (if i % 2 == 0 then bit even (i / 2) else bit odd (i / 2)) }
 {
     spread(even) | (spread(odd) << 1)
 }

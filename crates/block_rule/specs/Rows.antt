@@ -73,3 +73,8 @@ beside_left l j = record { upper = slice_index l.odd_odd j; lower = slice_index 
 
 abbrev pub beside_right : Tile → ℕ → Beside
 beside_right r j = record { upper = slice_index r.even_odd j; lower = slice_index r.even_even (j + 1) }
+
+-- the window shows the rows of odd blocks that begin and end in a tile between two others
+abbrev pub ShowsInnerRows : (ℕ → ℕ → Bool) → Tile → Tile → Tile → Type 0
+ShowsInnerRows window t left right =
+    (j : ℕ) → j < 31 → ShowsRows window (2 * j + 2) (odd_row t j) (beside_left left j) (beside_right right j)

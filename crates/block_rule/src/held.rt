@@ -4,7 +4,7 @@ ghost use Rattle.std.specs.Prelude.{◌≡◌, ℕ, ◌+◌, ◌*◌, ◌<◌, �
 ghost use Rattle.bit_tile.specs.Bit.{bit};
 ghost use Rattle.bit_tile.specs.Tile.{has, HasCells};
 ghost use Rattle.block_rule.specs.Around.{twice_momentum};
-ghost use Rattle.block_rule.specs.Classes.{HasAtMost, AreCounts, IsBlankRow, IsHeldIn, kept, particles_among};
+ghost use Rattle.block_rule.specs.Classes.{HasAtMost, AreCounts, AreParticlesIn, IsBlankRow, IsHeldIn, kept};
 
 use bit_tile::{Tile, joined};
 use gas_terms::Pair;
@@ -40,7 +40,8 @@ fn any_in_classes(places: &Tile, from: usize) -> u32
 #[inline]
 fn kept_rows(old: &[u32; 32], places: &[u32; 32], from: usize, class: &[u32; 32]) -> [u32; 8]
     requires { from + 8 ≤ 32 }
-    ensures { (i k : ℕ) → i < 32 → k < 8 → bit (slice_index result k) i ≡ kept old.now places.now class.now (from + k) i }
+    ensures { (i k : ℕ) → i < 32 → k < 8 →
+        bit (slice_index result k) i ≡ kept old.now places.now class.now (from + k) i }
 {
     let mut rows = [0; TOGETHER];
     for k in 0..TOGETHER {
@@ -54,7 +55,7 @@ fn kept_rows(old: &[u32; 32], places: &[u32; 32], from: usize, class: &[u32; 32]
 #[inline]
 fn count_rows(old: &[u32; 32], places: &[u32; 32], from: usize) -> u32
     requires { from + 8 ≤ 32 }
-    ensures count { result + particles_among old.now places.now from ≡ particles_among old.now places.now (from + 8) }
+    ensures count { AreParticlesIn from (from + 8) old.now places.now result }
     ensures bound { result ≤ 256 }
 {
     let mut n = 0;
@@ -71,7 +72,7 @@ fn count_rows(old: &[u32; 32], places: &[u32; 32], from: usize) -> u32
 fn hold_rows(old: &[u32; 32], places: &[u32; 32], from: usize, class: &mut [u32; 32]) -> u32
     requires { from + 8 ≤ 32 }
     ensures cells { IsHeldIn from (from + 8) old.now places.now class.old class.new }
-    ensures count { result + particles_among old.now places.now from ≡ particles_among old.now places.now (from + 8) }
+    ensures count { AreParticlesIn from (from + 8) old.now places.now result }
     ensures bound { result ≤ 256 }
 {
     let rows = kept_rows(old, places, from, class);
@@ -104,7 +105,8 @@ fn twice(forward: u32, back: u32) -> i64
 fn momentum(counts: Classes, parity: u8) -> Pair
     requires counts { HasAtMost 1024 counts }
     requires parity { parity < 2 }
-    ensures { (cells : ℕ → ℕ → Bool) → AreCounts counts cells → result ≡ twice_momentum parity cells }
+    ensures { (cells : ℕ → ℕ → Bool) → AreCounts counts cells →
+        result ≡ twice_momentum parity cells }
 {
     let even_columns = counts.even_even + counts.even_odd;
     let odd_columns = counts.odd_even + counts.odd_odd;
@@ -126,7 +128,8 @@ fn momentum(counts: Classes, parity: u8) -> Pair
 /// momentum that they had.
 pub fn hold(tile: &Tile, places: &Tile, parity: u8, out: &mut Tile) -> Pair
     requires { parity < 2 }
-    ensures cells { HasCells out.new (λ x y. if has places.now x y then has tile.now x y else has out.old x y) }
+    ensures cells { HasCells out.new (λ x y.
+        if has places.now x y then has tile.now x y else has out.old x y) }
     ensures took { result ≡ twice_momentum parity (λ x y. has tile.now x y && has places.now x y) }
 {
     let mut counts = Classes {

@@ -19,8 +19,8 @@ ghost use Rattle.block_rule.specs.Windows.{IsWindow, IsView, IsTilePlace, square
 pub fn tiles_see_the_torus()
     ensures window { (p : ℕ) (window : ℕ → ℕ → Bool) (cells : Cells) (x0 y0 : ℕ) → p < 2 →
         IsWindow window cells x0 y0 → IsView p window cells x0 y0 }
-    ensures inside { (t : TileRows) (b : RingCells) (cells : Cells) (x0 y0 : ℕ) → x0 + 64 ≤ cells.width →
-        y0 + 64 ≤ cells.height →
+    ensures inside { (t : TileRows) (b : RingCells) (cells : Cells) (x0 y0 : ℕ) →
+        x0 + 64 ≤ cells.width → y0 + 64 ≤ cells.height →
         HasCells t (λ x y. plane.has cells (x0 + x) (y0 + y)) → IsView 0 (around t b) cells x0 y0 }
 {}
 
@@ -30,7 +30,8 @@ pub fn borders_are_windows()
     ensures round { (t above below left right above_left above_right below_left below_right : TileRows)
         (b : RingCells) →
         IsBorderOf b above below left right above_left above_right below_left below_right →
-        ShowsRound (around t b) above below left right above_left above_right below_left below_right }
+        ShowsRound (around t b) above below left right
+        above_left above_right below_left below_right }
 {}
 
 /// The block rule on a tile is the step of the torus.
@@ -38,7 +39,8 @@ pub fn tiles_turn_as_the_torus()
     ensures { (p : ℕ) (particles walls obstacles : Cells) (x0 y0 : ℕ)
         (near near_walls near_obstacles : ℕ → ℕ → Bool) → p < 2 →
         IsTilePlace particles walls obstacles x0 y0 →
-        IsView p near particles x0 y0 → IsView p near_walls walls x0 y0 → IsView p near_obstacles obstacles x0 y0 →
+        IsView p near particles x0 y0 → IsView p near_walls walls x0 y0 →
+        IsView p near_obstacles obstacles x0 y0 →
         (x y : ℕ) → x < 64 → y < 64 →
         turned p near (either near_walls near_obstacles) x y ≡
         plane.has (streamed p particles (joined walls obstacles)) (x0 + x) (y0 + y) }
@@ -50,8 +52,10 @@ pub fn tiles_take_as_the_torus()
         (near_walls near_obstacles : ℕ → ℕ → Bool) →
         IsTilePlace particles walls obstacles x0 y0 →
         HasCells tile (λ x y. plane.has particles (x0 + x) (y0 + y)) →
-        IsView (parity tick) near_walls walls x0 y0 → IsView (parity tick) near_obstacles obstacles x0 y0 →
-        taken (parity tick) tile near_walls near_obstacles ≡ taken_in tick particles walls obstacles (square x0 y0) }
+        IsView (parity tick) near_walls walls x0 y0 →
+        IsView (parity tick) near_obstacles obstacles x0 y0 →
+        taken (parity tick) tile near_walls near_obstacles ≡
+        taken_in tick particles walls obstacles (square x0 y0) }
     ensures nothing { (p : ℕ) (tile : TileRows) →
         let zero : Pair = record { x = pos 0; y = pos 0 } in
         taken p tile none none ≡ record { walls = zero; obstacles = zero } }

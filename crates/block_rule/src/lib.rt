@@ -25,8 +25,10 @@ use tile_border::{Border, Neighbors, Round};
 
 /// The cells of a block after the rule, in the order upper left, upper right, lower left, lower right.
 pub fn turn_block(cells: [bool; 4], walled: bool) -> [bool; 4]
-    ensures outcome { (v : Velocity) → channels_of result (opposite v) ≡ outcome walled (channels_of cells) v }
-    ensures undone { (v : Velocity) → channels_of cells (opposite v) ≡ outcome walled (channels_of result) v }
+    ensures outcome { (v : Velocity) →
+        channels_of result (opposite v) ≡ outcome walled (channels_of cells) v }
+    ensures undone { (v : Velocity) →
+        channels_of cells (opposite v) ≡ outcome walled (channels_of result) v }
 {
     let [a, b, c, d] = cells;
     if walled {
@@ -52,7 +54,8 @@ const NOTHING: Pair = Pair { x: 0, y: 0 };
 // at even columns and rows.
 fn hold_even(tile: &Tile, set: &Tile, out: &mut Tile) -> Pair
     ensures cells { (walled : ℕ → ℕ → Bool) → ShowsTile walled set.now →
-        HasCells out.new (λ x y. if is_walled_at 0 walled x y then has tile.now x y else has out.old x y) }
+        HasCells out.new (λ x y.
+        if is_walled_at 0 walled x y then has tile.now x y else has out.old x y) }
     ensures took { (walled : ℕ → ℕ → Bool) → ShowsTile walled set.now →
         result ≡ twice_momentum 0 (λ x y. has tile.now x y && is_walled_at 0 walled x y) }
 {
@@ -85,7 +88,8 @@ fn hold_both_even(tile: &Tile, walls: &Tile, obstacles: &Tile, out: &mut Tile) -
 // `hold_even` where blocks begin at odd columns and rows
 fn hold_odd(tile: &Tile, set: &Window, out: &mut Tile) -> Pair
     ensures cells { (walled : ℕ → ℕ → Bool) → IsSeenIn set.now walled →
-        HasCells out.new (λ x y. if is_walled_at 1 walled x y then has tile.now x y else has out.old x y) }
+        HasCells out.new (λ x y.
+        if is_walled_at 1 walled x y then has tile.now x y else has out.old x y) }
     ensures took { (walled : ℕ → ℕ → Bool) → IsSeenIn set.now walled →
         result ≡ twice_momentum 1 (λ x y. has tile.now x y && is_walled_at 1 walled x y) }
 {
@@ -199,8 +203,10 @@ pub fn turn_tile_into(
         (either (around walls.now wall_border.now) (around obstacles.now obstacle_border.now))) }
     ensures took { result ≡ taken parity tile.now
         (around walls.now wall_border.now) (around obstacles.now obstacle_border.now) }
-    ensures together { plus result.walls result.obstacles ≡ twice_momentum parity (λ x y. has tile.now x y &&
-        is_walled_at parity (either (around walls.now wall_border.now) (around obstacles.now obstacle_border.now)) x y) }
+    ensures together { plus result.walls result.obstacles ≡
+        twice_momentum parity (λ x y. has tile.now x y &&
+        is_walled_at parity
+        (either (around walls.now wall_border.now) (around obstacles.now obstacle_border.now)) x y) }
 {
     if parity == 0 {
         turn_tile_even(tile, Some(walls), Some(obstacles), out)
@@ -242,8 +248,10 @@ pub fn turn_tile(
         (either (around walls.now wall_border.now) (around obstacles.now obstacle_border.now))) }
     ensures took { result.1 ≡ taken parity tile.now
         (around walls.now wall_border.now) (around obstacles.now obstacle_border.now) }
-    ensures together { plus result.1.walls result.1.obstacles ≡ twice_momentum parity (λ x y. has tile.now x y &&
-        is_walled_at parity (either (around walls.now wall_border.now) (around obstacles.now obstacle_border.now)) x y) }
+    ensures together { plus result.1.walls result.1.obstacles ≡
+        twice_momentum parity (λ x y. has tile.now x y &&
+        is_walled_at parity
+        (either (around walls.now wall_border.now) (around obstacles.now obstacle_border.now)) x y) }
 {
     let mut out = Tile::empty();
     let took = turn_tile_into(

@@ -3,7 +3,7 @@
 ghost use Rattle.std.specs.Prelude.{◌≡◌, ℕ, ◌+◌, ◌*◌, ◌<◌, ◌≤◌, ◌⊎◌, Bool, slice_index};
 ghost use Rattle.bit_tile.specs.Tile.{HasCells};
 ghost use Rattle.block_rule.specs.Cell.{made};
-ghost use Rattle.block_rule.specs.Rows.{ShowsTile, ShowsAllRound, ShowsRows, IsMadeOdd, odd_row, beside_left, beside_right};
+ghost use Rattle.block_rule.specs.Rows.{ShowsTile, ShowsAllRound, ShowsRows, ShowsInnerRows, IsMadeOdd, odd_row};
 
 use crate::blocks::{Beside, Blocks, Rule, next, previous};
 use bit_tile::Tile;
@@ -12,7 +12,8 @@ use tile_border::Round;
 /// Where blocks begin at even columns and rows: each lies in the tile.
 #[inline]
 pub fn make_even<R: Rule>(rule: R, tile: &Tile, out: &mut Tile)
-    ensures { (window : ℕ → ℕ → Bool) → ShowsTile window tile.now → HasCells out.new (made (R.cell rule) 0 window) }
+    ensures { (window : ℕ → ℕ → Bool) → ShowsTile window tile.now →
+        HasCells out.new (made (R.cell rule) 0 window) }
 {
     for j in 0..32usize {
         let new = rule.made(Blocks {
@@ -69,8 +70,8 @@ fn make_rows_odd<R: Rule>(
     requires order { from ≤ to }
     requires within { to < 32 }
     ensures rows { (window : ℕ → ℕ → Bool) →
-        ((j : ℕ) → j < 31 → ShowsRows window (2 * j + 2) (odd_row tile.now j) (beside_left left.now j) (beside_right right.now j)) →
-        (j : ℕ) → from ≤ j → j < to → IsMadeOdd (R.cell rule) window (2 * j + 2) (odd_row out.new j) }
+        ShowsInnerRows window tile.now left.now right.now → (j : ℕ) → from ≤ j → j < to →
+        IsMadeOdd (R.cell rule) window (2 * j + 2) (odd_row out.new j) }
     ensures upper_rest { (j : ℕ) → (j < from) ⊎ (to ≤ j) →
         (slice_index out.new.odd_odd j ≡ slice_index out.old.odd_odd j) ×
         (slice_index out.new.even_odd j ≡ slice_index out.old.even_odd j) }

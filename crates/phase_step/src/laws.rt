@@ -40,6 +40,7 @@ pub fn runs_are_steps()
     ensures forward { (n : ℕ) (b : BookedGas) → iterate moved n b ≡ ran n b }
     ensures whole { (n : ℕ) (b : BookedGas) → IsEvenTorus b.gas.particles → HasNoPorts b.gas →
         iterate stepped n b ≡ ran n b }
-    ensures back { (n : ℕ) (b : BookedGas) → HasEvenSides b.gas.particles.width b.gas.particles.height →
+    ensures back { (n : ℕ) (b : BookedGas) →
+        HasEvenSides b.gas.particles.width b.gas.particles.height →
         iterate stepped_back n b ≡ ran_back n b }
 {}

@@ -1,5 +1,5 @@
 use Rattle.std.proofs.Common.{◌≡◌, ℕ, ◌+◌, ◌*◌, ◌<◌, ◌≤◌, ◌⊎◌, Bool, length, get_or}
-use Rattle.block_rule.specs.Rows.{ShowsRows, IsMadeOdd, odd_row, beside_left, beside_right}
+use Rattle.block_rule.specs.Rows.{ShowsInnerRows, IsMadeOdd, odd_row}
 use Rattle.block_rule.proofs.made.make_rows_odd.Given as goal
 
 abbrev pub invariant-loop-j : goal.invariant-loop-j
@@ -9,7 +9,7 @@ invariant-loop-j g l =
       oe : length l.out.odd_even ≡ 32;
       eo : length l.out.even_odd ≡ 32;
       oo : length l.out.odd_odd ≡ 32;
-      done : (window : ℕ → ℕ → Bool) → ((j : ℕ) → j < 31 → ShowsRows window (2 * j + 2) (odd_row l.tile j) (beside_left l.left j) (beside_right l.right j)) → (k : ℕ) → l.from ≤ k → k < l.j → IsMadeOdd (g.R.Rule.cell l.rule) window (2 * k + 2) (odd_row l.out k);
+      done : (window : ℕ → ℕ → Bool) → ShowsInnerRows window l.tile l.left l.right → (k : ℕ) → l.from ≤ k → k < l.j → IsMadeOdd (g.R.Rule.cell l.rule) window (2 * k + 2) (odd_row l.out k);
       upper_odd : (k : ℕ) → (k < l.from) ⊎ (l.j ≤ k) → get_or l.out.odd_odd k 0 ≡ get_or l.initial.out.odd_odd k 0;
       upper_even : (k : ℕ) → (k < l.from) ⊎ (l.j ≤ k) → get_or l.out.even_odd k 0 ≡ get_or l.initial.out.even_odd k 0;
       lower_odd : (k : ℕ) → (k ≤ l.from) ⊎ (l.j < k) → get_or l.out.odd_even k 0 ≡ get_or l.initial.out.odd_even k 0;
