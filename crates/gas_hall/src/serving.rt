@@ -71,7 +71,7 @@ pub(crate) trait Seating<T, R> {
         ensures made { result ≡ made seat.now }
         ensures bound { result ≤ 65536 };
 
-    fn hold<In: Read + Drop, Out: Write + Drop, K: Shelf + Drop>(
+    fn serve_guest<In: Read + Drop, Out: Write + Drop, K: Shelf + Drop>(
         &self,
         rt: &R,
         alloc: Global,
@@ -96,7 +96,7 @@ impl<N: HallName, S: Stepper, G: HallGate, R: Wait> Seating<HallSeat<N>, R> for 
         seat.entries()
     }
 
-    fn hold<In: Read + Drop, Out: Write + Drop, K: Shelf + Drop>(
+    fn serve_guest<In: Read + Drop, Out: Write + Drop, K: Shelf + Drop>(
         &self,
         rt: &R,
         alloc: Global,
@@ -132,7 +132,7 @@ impl<S: Stepper, R: Wait> Seating<TurnSeat<S>, R> for TurnHall<S> {
         seat.entries()
     }
 
-    fn hold<In: Read + Drop, Out: Write + Drop, K: Shelf + Drop>(
+    fn serve_guest<In: Read + Drop, Out: Write + Drop, K: Shelf + Drop>(
         &self,
         rt: &R,
         alloc: Global,
@@ -200,7 +200,7 @@ pub(crate) fn sit<T, R, H: Seating<T, R>, In: Read + Drop, Out: Write + Drop, K:
         } = guest;
         return seat;
     }
-    house.hall.hold(house.rt, house.alloc, guest)
+    house.hall.serve_guest(house.rt, house.alloc, guest)
 }
 
 // Starts a session's thread, or hands the seat back.

@@ -1,6 +1,6 @@
 use Rattle.std.proofs.Common.{◌∙◌, ap}
 use Rattle.gas_hall.specs.Seats.{Seat}
-use Rattle.gas_hall.proofs.serving.HallSeatingHallSeat.hold.Goals as goal
+use Rattle.gas_hall.proofs.serving.HallSeatingHallSeat.serve_guest.Goals as goal
 
 abbrev but_for_entries : Seat → Seat
 but_for_entries s = record s { entries = 0 }

@@ -1,6 +1,6 @@
 use Rattle.std.proofs.Common.{◌∙◌, ap}
 use Rattle.gas_hall.specs.TurnSeats.{but_for_seen}
-use Rattle.gas_hall.proofs.serving.TurnHallSeatingTurnSeat.hold.Goals as goal
+use Rattle.gas_hall.proofs.serving.TurnHallSeatingTurnSeat.serve_guest.Goals as goal
 
 pub returns : goal.returns
 returns g c =
