@@ -52,7 +52,8 @@ pub fn put(class: &mut [u32; 32], i: u32, j: u32, held: bool)
 pub fn same(class: &[u32; 32], other: &[u32; 32]) -> bool
     ensures same { IsTrue result →
         (i j : ℕ) → j < 32 → in_class class.now i j ≡ in_class other.now i j }
-    ensures known { ((i j : ℕ) → i < 32 → j < 32 → in_class class.now i j ≡ in_class other.now i j) → IsTrue result }
+    ensures known { ((i j : ℕ) → i < 32 → j < 32 →
+        in_class class.now i j ≡ in_class other.now i j) → IsTrue result }
 {
     for j in 0..32usize {
         if class[j] != other[j] {

@@ -27,8 +27,8 @@ pub fn tiles_see_the_torus()
 /// A tile with its border is a window on the tiles round it.
 pub fn borders_are_windows()
     ensures tile { (t : TileRows) (b : RingCells) → ShowsTile (around t b) t }
-    ensures round { (t above below left right above_left above_right below_left below_right : TileRows)
-        (b : RingCells) →
+    ensures round { (t above below left right : TileRows)
+        (above_left above_right below_left below_right : TileRows) (b : RingCells) →
         IsBorderOf b above below left right above_left above_right below_left below_right →
         ShowsRound (around t b) above below left right
         above_left above_right below_left below_right }
