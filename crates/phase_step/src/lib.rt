@@ -55,6 +55,7 @@ pub trait Stepper: Drop {
         ensures spare { HasSidesOf spare.new particles.old }
         ensures took { result ≡ run_takes parity walls.now obstacles.now particles.old n }
     {
+        // they are a lattice, so that what is taken in a phase has a bound
         let _ = particles.size();
         let mut took = NOTHING;
         for k in 0..n {
@@ -89,6 +90,8 @@ impl Stepper for Serial {
         parity: u8,
         out: &mut Plane,
     ) -> Took {
+        // its sides are whole tiles
+        let _ = old.size();
         let mut took = NOTHING;
         for i in 0..out.size().tiles() {
             let here = turn_tile_at(old, walls, obstacles, parity, i, out.tile_mut(i));

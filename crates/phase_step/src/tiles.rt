@@ -2,6 +2,7 @@
 
 ghost use Rattle.std.specs.Prelude.{◌≡◌, ◌<◌, pos};
 ghost use Rattle.gas_terms.specs.Cells.{tile_count, tile_rectangle, HasSidesOf};
+ghost use Rattle.gas_plane.specs.Planes.{IsLattice};
 ghost use Rattle.block_rule.specs.Windows.{taken_in};
 ghost use Rattle.phase_step.specs.Turns.{IsTileAfter, IsPlaceOf, IsLentTile, IsLentWindow};
 
@@ -15,7 +16,7 @@ pub const NOTHING: Took = Took {
 };
 
 /// Puts tile i into `out` as it is after the phase, and answers what walls and obstacles take of its particles: what a phase
-/// does, tile by tile.
+/// does, tile by tile. Each plane is a lattice, as its size tells.
 pub fn turn_tile_at(
     old: &Plane,
     walls: &Plane,
@@ -25,6 +26,7 @@ pub fn turn_tile_at(
     out: &mut Tile,
 ) -> Took
     requires parity { parity < 2 }
+    requires lattice { IsLattice old.now }
     requires tile { i < tile_count old.now }
     requires walls { HasSidesOf walls.now old.now }
     requires obstacles { HasSidesOf obstacles.now old.now }
@@ -32,8 +34,6 @@ pub fn turn_tile_at(
     ensures took { result ≡
         taken_in (pos parity) old.now walls.now obstacles.now (tile_rectangle old.now i) }
 {
-    // its sides are whole tiles
-    let _ = old.size();
     if parity == 0 {
         turn_even(old, walls, obstacles, i, out)
     } else {

@@ -24,7 +24,7 @@ returns-else-parity-eq0-clause-took c =
     c.turn_odd.ensures.took ∙ ap (λ p. taken_in (pos p) c.args.old.now c.args.walls.now c.args.obstacles.now (tile_rectangle c.args.old.now c.args.i)) e
 
 pub turn_even-requires : goal.turn_even-requires
-turn_even-requires c = record { tile = c.requires.tile; place = place_is c.args.old.now c.args.walls.now c.args.obstacles.now c.args.i c.size.ensures.lattice.sized c.requires.tile c.requires.walls c.requires.obstacles }
+turn_even-requires c = record { tile = c.requires.tile; place = place_is c.args.old.now c.args.walls.now c.args.obstacles.now c.args.i c.requires.lattice.sized c.requires.tile c.requires.walls c.requires.obstacles }
 
 pub turn_odd-requires : goal.turn_odd-requires
-turn_odd-requires c = record { tile = c.requires.tile; place = place_is c.args.old.now c.args.walls.now c.args.obstacles.now c.args.i c.size.ensures.lattice.sized c.requires.tile c.requires.walls c.requires.obstacles }
+turn_odd-requires c = record { tile = c.requires.tile; place = place_is c.args.old.now c.args.walls.now c.args.obstacles.now c.args.i c.requires.lattice.sized c.requires.tile c.requires.walls c.requires.obstacles }
