@@ -3,7 +3,7 @@
 use bit_tile::Tile;
 use block_rule::{Window, turn_block, turn_tile, turn_tile_even, turn_tile_into, turn_tile_odd};
 use gas_terms::{Pair, Took};
-use tile_border::Border;
+use tile_border::{Border, Neighbors};
 
 // the cells in the order upper left, upper right, lower left, lower right: old and new
 const TABLE: [(u8, u8); 16] = [
@@ -90,11 +90,16 @@ fn has_just(tile: &Tile, cells: &[(u32, u32)]) -> bool {
     tile.has_same_cells(&tile_of(cells))
 }
 
+// the tile with these neighbors
+fn window<'a>(tile: &'a Tile, near: &'a Neighbors) -> Window<'a> {
+    let round = near.round();
+    Window { tile, round }
+}
+
 // the tile with this border after the rule at an odd tick, without walls
 fn turned_odd(old: &Tile, border: &Border) -> Tile {
     let near = border.neighbors();
-    let round = near.round();
-    let particles = Window { tile: old, round };
+    let particles = window(old, &near);
     let mut out = Tile::full();
     let _ = turn_tile_odd(&particles, None, None, &mut out);
     out
