@@ -18,8 +18,8 @@ loop-i-init c =
       few_lost = λ k h. omega (arith, get_or-replicate_zero 4 k);
     }
 
-pub tile-requires : goal.tile-requires
-tile-requires c =
+pub tile-old-requires : goal.tile-old-requires
+tile-old-requires c =
     sweep_within c.args.plane.now c.loop-i.plane (exchanging c.args.plane.now c.args.drains.now c.args.sources.now) c.loop-i.i c.tiles-end.result c.loop-i.invariant.cells c.loop-i-test.true
     (let all = all_tiles c.args.plane.now c.size-2.result c.tiles-end.result c.tiles-end.ensures.tiles c.size-2.ensures.extent in omega (arith, all))
 
@@ -50,12 +50,12 @@ loop-i-preserved c =
     let is = c.size.ensures.lattice in
     let within = tile_within c.args.plane.now c.size-2.result c.tiles-end.result c.loop-i.i c.tiles-end.ensures.tiles c.size-2.ensures.extent c.loop-i-test.true in
     let across = row_of_tiles cells c.size.result c.width.result c.width.ensures c.size.ensures.extent in
-    let old = c.tile.result.now in
+    let old = c.tile-old.result.now in
     let new = c.exchanged_tile-new.result in
-    let was = exchange_was cells c.loop-i.plane drains sources i old is within c.loop-i.invariant.cells c.tile.ensures in
+    let was = exchange_was cells c.loop-i.plane drains sources i old is within c.loop-i.invariant.cells c.tile-old.ensures in
     let makes = exchange_makes cells drains sources i (c.width.result / 64) old new across c.exchanged_tile-new.ensures in
     record {
-      cells = sweep_next cells c.loop-i.plane c.set_tile.new.self (exchanging cells drains sources) i old new is within c.loop-i.invariant.cells c.tile.ensures c.set_tile.ensures makes;
+      cells = sweep_next cells c.loop-i.plane c.set_tile.new.self (exchanging cells drains sources) i old new is within c.loop-i.invariant.cells c.tile-old.ensures c.set_tile.ensures makes;
       gained = λ a b p q.
           counts_next (tile_counted (came cells (exchanging cells drains sources)) (whole cells) a b) i (get_or c.loop-i.gained (2 * b + a) 0) (get_or c.count_by_parity.result (2 * b + a) 0) (get_or c.sums-more.result (2 * b + a) 0) (c.loop-i.invariant.gained a b p q)
           (c.count_by_parity.ensures.counts a b p q ∙ came_count cells (exchanging cells drains sources) a b i old new c.only_in.result is within was (λ x y r s. makes x y r s (was x y r s)) c.only_in.ensures)
@@ -79,8 +79,8 @@ pub loop-i-preserved-then-has_same_cells : goal.loop-i-preserved-then-has_same_c
 loop-i-preserved-then-has_same_cells c =
     let within = tile_within c.args.plane.now c.size-2.result c.tiles-end.result c.loop-i.i c.tiles-end.ensures.tiles c.size-2.ensures.extent c.loop-i-test.true in
     passed_by c.args.plane.now c.loop-i.plane c.args.drains.now c.args.sources.now c.loop-i.i c.loop-i.gained c.loop-i.lost c.size.ensures.lattice within c.loop-i.invariant
-    (same_tile c.args.plane.now c.loop-i.plane c.args.drains.now c.args.sources.now c.loop-i.i (c.width.result / 64) c.tile.result.now c.exchanged_tile-new.result c.size.ensures.lattice
-    (row_of_tiles c.args.plane.now c.size.result c.width.result c.width.ensures c.size.ensures.extent) within c.loop-i.invariant.cells c.tile.ensures c.exchanged_tile-new.ensures (c.has_same_cells.ensures.same c.if-has_same_cells.true))
+    (same_tile c.args.plane.now c.loop-i.plane c.args.drains.now c.args.sources.now c.loop-i.i (c.width.result / 64) c.tile-old.result.now c.exchanged_tile-new.result c.size.ensures.lattice
+    (row_of_tiles c.args.plane.now c.size.result c.width.result c.width.ensures c.size.ensures.extent) within c.loop-i.invariant.cells c.tile-old.ensures c.exchanged_tile-new.ensures (c.has_same_cells.ensures.same c.if-has_same_cells.true))
 
 pub returns-then-is_empty-2-clause-cells : goal.returns-then-is_empty-2-clause-cells
 returns-then-is_empty-2-clause-cells c =
