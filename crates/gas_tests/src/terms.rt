@@ -125,7 +125,21 @@ fn sums(count: i64, px: i64, py: i64) -> Sums {
 
 #[test]
 fn sums_add_up(rt: HostRuntime) {
-    let (some, others, both) = (sums(5, -3, 1), sums(2, 2, -2), sums(7, -1, -1));
+    let some = Sums {
+        count: 5,
+        px: -3,
+        py: 1,
+    };
+    let others = Sums {
+        count: 2,
+        px: 2,
+        py: -2,
+    };
+    let both = Sums {
+        count: 7,
+        px: -1,
+        py: -1,
+    };
     assert_eq!(rt; some.plus(others), both);
     assert_eq!(rt; both.minus(others), some);
 }
