@@ -9,9 +9,9 @@ use Rattle.gas_terms.specs.declared.accounts.Ledger.{Ledger}
 use Rattle.gas_terms.specs.declared.command.Command.{Command}
 use Rattle.gas_terms.specs.declared.command.Command.TheVariants.{Put, Erase, Wall, Block, Unwall, Row, Source, Drain, Unport, Step, Back, Probe, Tally, Ledger as Accounting, Read, Entry as EntryAt}
 use Rattle.gas_terms.proofs.Stretches.{total-without_itself}
-use Rattle.gas_ledger.specs.Moves.{moved_by}
-use Rattle.gas_ledger.specs.declared.moved.Moved.{Moved}
-use Rattle.gas_lab.specs.Labs.{with_moved}
+use Rattle.phase_step.specs.Moves.{moved_by}
+use Rattle.phase_step.specs.declared.moved.Moved.{Moved}
+use Rattle.phase_step.specs.PortedRuns.{with_moved}
 use Rattle.gas_lab.proofs.Stepping.{pair}
 
 -- What is neither of the moves is no move.

@@ -17,7 +17,7 @@ use Rattle.gas_terms.proofs.Bookings.{book_all-sides, book_all-torus}
 use Rattle.gas_terms.proofs.LabBounds.{next_accounts_fit}
 use Rattle.gas_terms.proofs.Laboratories.{all_booked, opening_sound, accepted_sound, has_room}
 use Rattle.gas_plane.specs.Planes.{IsLattice}
-use Rattle.gas_lab.specs.Labs.{lab_of, TicksHold, Affords, IsKept}
+use Rattle.gas_lab.specs.Labs.{lab_of, TickHolds, Affords, IsKept}
 use Rattle.gas_lab.proofs.Stepping.{torus_of, book_tick}
 
 -- The gas has the start's sides.
@@ -55,7 +55,7 @@ kept_affords lab others entry kept acceptable = λ command few.
 
 -- A change keeps it all.
 pub kept_by_change : (start : Gas) (cap : ℕ) (b b' : BookedGas) (journal journal' : List Entry) (others others' : Cells) (entry : Entry) →
-    IsKept (lab_of start cap b journal) others → IsAcceptable (lab_of start cap b journal) entry → TicksHold b.gas.tick entry.command →
+    IsKept (lab_of start cap b journal) others → IsAcceptable (lab_of start cap b journal) entry → TickHolds b.gas.tick entry.command →
     b' ≡ book b entry.command → HasSidesOf others' b'.gas.particles → journal' ≡ journal ++ entry ∷ [] →
     IsKept (lab_of start cap b' journal') others'
 kept_by_change start cap b b' journal journal' others others' entry kept acceptable ticks e sides grown =

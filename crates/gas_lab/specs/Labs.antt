@@ -1,8 +1,7 @@
 use Rattle.std.specs.Prelude.{◌≡◌, ◌≤◌, ℕ, List, true, length, Result, Ok, Err, ◌⊎◌, ℤ, pos, ◌+ℤ◌, ◌-ℤ◌}
-use Rattle.std.specs.Fn.{iterate}
 use Rattle.gas_terms.specs.Cells.{Cells, HasSidesOf}
 use Rattle.gas_terms.specs.Gas.{Gas}
-use Rattle.gas_terms.specs.Accounts.{plus, FitsI64, TakenFits}
+use Rattle.gas_terms.specs.Accounts.{FitsI64, TakenFits}
 use Rattle.gas_terms.specs.Commands.{is_tick}
 use Rattle.gas_terms.specs.BookedGas.{BookedGas, book, changes}
 use Rattle.gas_terms.specs.Laboratory.{Laboratory, accepted, IsSound}
@@ -15,7 +14,6 @@ use Rattle.gas_terms.specs.declared.answer.Answer.TheVariants.{Taken}
 use Rattle.gas_terms.specs.declared.refusal.Refusal.{Refusal}
 use Rattle.gas_terms.specs.declared.refusal.Refusal.TheVariants.{Memory}
 use Rattle.gas_plane.specs.Planes.{IsLattice}
-use Rattle.gas_ledger.specs.declared.moved.Moved.{Moved}
 use Rattle.gas_lab.specs.declared.books.Books.{Books}
 
 abbrev pub books_of : Books → BookedGas
@@ -25,23 +23,15 @@ books_of b = record { gas = b.gas; ledger = b.ledger }
 abbrev pub lab_of : Gas → ℕ → BookedGas → List Entry → Laboratory
 lab_of start cap b journal = record { start = start; cap = cap; gas = b.gas; ledger = b.ledger; journal = journal }
 
--- a ledger with what a change of the particles brought in and took out
-abbrev pub with_moved : Ledger → Moved → Ledger
-with_moved l m = record l { injected = plus l.injected m.injected; drained = plus l.drained m.drained }
-
--- the ticks on the way of a move stay in their range
-abbrev pub TicksHold : ℤ → Command → Type 0
-TicksHold t (Step n) = (k : ℕ) → k ≤ n → is_tick (t +ℤ pos k) ≡ true
-TicksHold t (Back n) = (k : ℕ) → k ≤ n → is_tick (t -ℤ pos k) ≡ true
-TicksHold t _ = Unit {0}
+-- the tick that a move leads to is in its range
+abbrev pub TickHolds : ℤ → Command → Type 0
+TickHolds t (Step n) = is_tick (t +ℤ pos n) ≡ true
+TickHolds t (Back n) = is_tick (t -ℤ pos n) ≡ true
+TickHolds t _ = Unit {0}
 
 -- what walls and obstacles took fits 64 bits
 abbrev pub TakesFit : Ledger → Type 0
 TakesFit l = TakenFits l.walls × TakenFits l.obstacles
-
--- the accounts fit 64 bits before and after each of so many steps
-abbrev pub FitsUpTo : ℕ → (BookedGas → BookedGas) → BookedGas → Type 0
-FitsUpTo n step b = (k : ℕ) → k ≤ n → FitsI64 (iterate step k b).ledger
 
 -- the accounts stay within 64 bits whatever the next command is
 abbrev pub Affords : BookedGas → Type 0

@@ -8,28 +8,16 @@ ghost use Rattle.gas_terms.specs.Commands.{enact, fits, is_change, is_move, is_t
 ghost use Rattle.gas_terms.specs.BookedGas.{stepped, stepped_back, book};
 ghost use Rattle.gas_terms.specs.Laboratory.{has_all_ports};
 ghost use Rattle.phase_step.specs.Runs.{ran};
+ghost use Rattle.phase_step.specs.PortedRuns.{with_moved, stepped_on};
 ghost use Rattle.gas_ledger.specs.Gases.{ports_of};
-ghost use Rattle.gas_ledger.specs.Moves.{moved_by};
+ghost use Rattle.phase_step.specs.Moves.{moved_by};
 ghost use Rattle.gas_ledger.specs.PortLists.{adding, has_all};
-ghost use Rattle.gas_lab.specs.Labs.{books_of, with_moved, TicksHold, TakesFit, FitsUpTo, Affords};
+ghost use Rattle.gas_lab.specs.Labs.{books_of, TickHolds, TakesFit, Affords};
 
 use gas_ledger::{Gas, Moved, Port};
 use gas_plane::Plane;
-use gas_terms::{Command, Ledger, Sums};
-use phase_step::Stepper;
-
-const NOTHING: Moved = Moved {
-    injected: Sums {
-        count: 0,
-        px: 0,
-        py: 0,
-    },
-    drained: Sums {
-        count: 0,
-        px: 0,
-        py: 0,
-    },
-};
+use gas_terms::{Command, Ledger};
+use phase_step::{Stepper, UNMOVED};
 
 /// A gas with its ledger.
 #[derive(Drop)]
@@ -64,43 +52,41 @@ impl Books {
         self.ledger = self.ledger.with_taken(took);
     }
 
-    // a step forward: walls and obstacles take their part, and the ports act at the new tick
-    fn step<S: Stepper>(&mut self, spare: &mut Plane, stepper: &mut S)
-        requires tick { is_tick (self.old.gas.tick +ℤ pos 1) ≡ true }
+    // steps forward with ports: what they bring in and take out at each new tick is booked as well
+    fn run_with_ports<S: Stepper>(&mut self, n: u16, spare: &mut Plane, stepper: &mut S)
+        requires tick { is_tick (self.old.gas.tick +ℤ pos n) ≡ true }
         requires spare { HasSidesOf spare.old self.old.gas.particles }
-        requires fits { FitsI64 (stepped (books_of self.old)).ledger }
-        ensures booked { books_of self.new ≡ stepped (books_of self.old) }
+        requires fits { FitsI64 (stepped_on n (books_of self.old)).ledger }
+        ensures booked { books_of self.new ≡ stepped_on n (books_of self.old) }
         ensures spare { HasSidesOf spare.new self.new.gas.particles }
     {
-        self.run(1, spare, stepper);
-        let moved = self.gas.act();
-        self.ledger = with_moved(self.ledger, moved);
+        let flow = self.gas.step_on(n, spare, stepper);
+        let taken = self.ledger.with_taken(flow.took);
+        self.ledger = with_moved(taken, flow.moved);
     }
 
-    // steps forward, one after another: in a single run where there are no ports
+    // steps forward, one after another, in a single run
     fn steps<S: Stepper>(&mut self, n: u16, spare: &mut Plane, stepper: &mut S)
         requires torus { IsEvenTorus self.old.gas.particles }
-        requires ticks { (k : ℕ) → k ≤ n → is_tick (self.old.gas.tick +ℤ pos k) ≡ true }
+        requires tick { is_tick (self.old.gas.tick +ℤ pos n) ≡ true }
         requires spare { HasSidesOf spare.old self.old.gas.particles }
-        requires fits { FitsUpTo n stepped (books_of self.old) }
+        requires fits { FitsI64 (iterate stepped n (books_of self.old)).ledger }
         ensures booked { books_of self.new ≡ iterate stepped n (books_of self.old) }
         ensures spare { HasSidesOf spare.new self.new.gas.particles }
     {
-        if !self.gas.ports().any() {
+        if self.gas.ports().any() {
+            self.run_with_ports(n, spare, stepper);
+        } else {
             self.run(n, spare, stepper);
-            return;
-        }
-        for i in 0..n {
-            self.step(spare, stepper);
         }
     }
 
     // steps back, one after another, in a single run: walls and obstacles give back what they took on the way
     fn steps_back<S: Stepper>(&mut self, n: u16, spare: &mut Plane, stepper: &mut S)
         requires torus { IsEvenTorus self.old.gas.particles }
-        requires ticks { (k : ℕ) → k ≤ n → is_tick (self.old.gas.tick -ℤ pos k) ≡ true }
+        requires tick { is_tick (self.old.gas.tick -ℤ pos n) ≡ true }
         requires spare { HasSidesOf spare.old self.old.gas.particles }
-        requires fits { FitsUpTo n stepped_back (books_of self.old) }
+        requires fits { FitsI64 (iterate stepped_back n (books_of self.old)).ledger }
         ensures booked { books_of self.new ≡ iterate stepped_back n (books_of self.old) }
         ensures spare { HasSidesOf spare.new self.new.gas.particles }
     {
@@ -114,7 +100,7 @@ impl Books {
         requires in_order { fits (extent self.old.gas.particles) command.now ≡ true }
         requires place { has_all_ports self.old.gas command.now ≡ false }
         requires torus { IsEvenTorus self.old.gas.particles }
-        requires ticks { TicksHold self.old.gas.tick command.now }
+        requires tick { TickHolds self.old.gas.tick command.now }
         requires spare { HasSidesOf spare.old self.old.gas.particles }
         requires fits { Affords (books_of self.old) }
         ensures booked { books_of self.new ≡ book (books_of self.old) command.now }
@@ -153,7 +139,7 @@ fn edited(gas: &mut Gas, command: &Command) -> Moved
         Command::Unport => gas.remove_ports(),
         _ => unreachable!(),
     }
-    NOTHING
+    UNMOVED
 }
 
 // a port that has a place

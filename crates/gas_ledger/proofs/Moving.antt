@@ -1,22 +1,22 @@
 -- From counts to what a change of the particles brings in and takes out.
 use Rattle.std.proofs.Common.{◌≡◌, ℕ, ◌<◌, Bool, true, false, ◌&&◌, ◌||◌, not, cond, List, [], ◌∷◌, map, filter, refl, sym, ap, ap₂, ◌∙◌, arith, ℤ}
 use Rattle.std.specs.List.{list_any}
-use Rattle.gas_terms.specs.Cells.{Cells, Rectangle, has, is_inside, extent, lies_within, whole, without, filled, cleared, HasEvenSides}
+use Rattle.gas_terms.specs.Cells.{Cells, Rectangle, has, is_inside, extent, lies_within, without, filled, cleared, HasEvenSides}
 use Rattle.gas_terms.specs.Rows.{row_replaced}
 use Rattle.gas_terms.specs.Gas.{Source, is_due}
-use Rattle.gas_terms.specs.Accounts.{total, total_in, gained, lost, nothing, minus}
-use Rattle.gas_terms.proofs.Cells.{same_cells_where}
-use Rattle.gas_terms.proofs.AccountBounds.{size-even, size-width, size-height}
-use Rattle.gas_terms.proofs.RectangleTotals.{total-whole}
+use Rattle.gas_terms.specs.Accounts.{total_in, gained, lost, nothing, minus}
+use Rattle.gas_terms.proofs.AccountBounds.{size-even, size-width}
 use Rattle.gas_plane.specs.Planes.{IsLattice}
 use Rattle.gas_terms.specs.declared.accounts.Sums.{Sums}
-use Rattle.gas_ledger.specs.declared.change.Change.{Change}
-use Rattle.gas_ledger.specs.declared.moved.Moved.{Moved}
-use Rattle.gas_ledger.specs.PortLists.{PortLists, due_areas, ported_by}
-use Rattle.gas_ledger.specs.Counts.{AreCounts, AreSmall, moved_by_counts}
-use Rattle.gas_ledger.specs.Moves.{moved_by}
-use Rattle.gas_ledger.specs.Exchanges.{is_in_any, row_of, exchanged}
-use Rattle.gas_ledger.proofs.Counting.{counted_sums, counts_small}
+use Rattle.phase_step.specs.declared.change.Change.{Change}
+use Rattle.phase_step.specs.declared.moved.Moved.{Moved}
+use Rattle.gas_ledger.specs.PortLists.{PortLists, due_areas, left_by, ported_by}
+use Rattle.phase_step.specs.Counts.{AreCounts, AreSmall, moved_by_counts}
+use Rattle.phase_step.specs.Moves.{moved_by}
+use Rattle.phase_step.specs.Actions.{acted}
+use Rattle.phase_step.proofs.ActionRuns.{acted_same}
+use Rattle.gas_ledger.specs.Exchanges.{is_in_any, is_left, row_of}
+use Rattle.phase_step.proofs.Counting.{counted_sums, counts_small, same_moved}
 use Rattle.gas_terms.proofs.RowSums.{row_alone, other_row}
 use Rattle.gas_terms.proofs.Emptied.{not_both, gained-filled, lost-filled, gained-cleared, lost-cleared}
 
@@ -31,32 +31,14 @@ due_cells tick (s ∷ sources) x y =
     due_first (is_due tick s) s (filter (is_due tick) sources) x y
     ∙ ap (λ b. (is_due tick s && is_inside s.area x y) || b) (due_cells tick sources x y)
 
+-- the exchange of a tick leaves what the ports leave
+pub exchange_leaves : (ports : PortLists) (tick : ℤ) (x y : ℕ) (held : Bool) → is_left held ports.drains (due_areas tick ports.sources) x y ≡ left_by ports tick x y held
+exchange_leaves ports tick x y held = ap (λ b. (held && not (is_in_any ports.drains x y)) || b) (due_cells tick ports.sources x y)
+
 -- The sources that are due fill their rectangles.
-pub ported_is : (ports : PortLists) (tick : ℤ) (cells : Cells) → exchanged cells ports.drains (due_areas tick ports.sources) ≡ ported_by ports tick cells
+pub ported_is : (ports : PortLists) (tick : ℤ) (cells : Cells) → acted (λ x y held. is_left held ports.drains (due_areas tick ports.sources) x y) cells ≡ ported_by ports tick cells
 ported_is ports tick cells =
-    same_cells_where cells.width cells.height
-    (λ x y. (has cells x y && not (is_in_any ports.drains x y)) || is_in_any (due_areas tick ports.sources) x y)
-    (λ x y. (has cells x y && not (is_in_any ports.drains x y)) || list_any (λ s. is_due tick s && is_inside s.area x y) ports.sources)
-    (λ x y p q. ap (λ b. (has cells x y && not (is_in_any ports.drains x y)) || b) (due_cells tick ports.sources x y))
-
-pub same_moved : (a b : Moved) → a.injected ≡ b.injected → a.drained ≡ b.drained → a ≡ b
-same_moved a b e f = let pair : Sums → Sums → Moved = λ m n. record { injected = m; drained = n } in ap₂ pair e f
-
--- Counts over the whole lattice.
-pub moved_by_change : (tick : ℤ) (old new : Cells) (drains sources : List Rectangle) (change : Change) → IsLattice old → new ≡ exchanged old drains sources
-    → AreCounts change.gained (without new old) (whole old) → AreCounts change.lost (without old new) (whole old) → moved_by_counts tick change ≡ moved_by tick old new
-moved_by_change tick old new drains sources change is e came went =
-    let even : HasEvenSides old.width old.height = size-even (extent old) is.sized in
-    let made : Cells = exchanged old drains sources in
-    same_moved (moved_by_counts tick change) (moved_by tick old new)
-    (counted_sums tick change.gained (without new old) (whole old) came
-    ∙ (ap (λ (new : Cells). total_in tick (without new old) (whole old)) e
-    ∙ (sym (total-whole tick (without made old) even)
-    ∙ ap (λ (new : Cells). total tick (without new old)) (sym e))))
-    (counted_sums tick change.lost (without old new) (whole old) went ∙ sym (total-whole tick (without old new) even))
-
-pub lattice_counts_small : (counts : List ℕ) (cells old : Cells) → IsLattice old → AreCounts counts cells (whole old) → AreSmall counts
-lattice_counts_small counts cells old is are = counts_small counts cells (whole old) are (size-width (extent old) is.sized) (size-height (extent old) is.sized)
+    acted_same (λ x y held. is_left held ports.drains (due_areas tick ports.sources) x y) (left_by ports tick) cells (exchange_leaves ports tick)
 
 -- Counts over a row.
 pub moved_by_row : (tick : ℤ) (cells : Cells) (y : ℕ) (bytes : List ℕ) (change : Change) → IsLattice cells → y < cells.height

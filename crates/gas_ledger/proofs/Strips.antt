@@ -7,7 +7,7 @@ use Rattle.gas_terms.specs.Cells.{Cells, has, without}
 use Rattle.gas_terms.specs.Rows.{row_has, row_replaced}
 use Rattle.gas_terms.proofs.Cells.{has-cells_where}
 use Rattle.gas_terms.proofs.RowSums.{strip, strip_count, strip_next, new_row}
-use Rattle.gas_ledger.specs.Counts.{AreCounts}
+use Rattle.phase_step.specs.Counts.{AreCounts}
 
 both_true : (t p q : Bool) → p ≡ true → q ≡ true → (t && p && q) ≡ t
 both_true true p q e f = rw (e, f) refl

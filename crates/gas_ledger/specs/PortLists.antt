@@ -1,6 +1,6 @@
-use Rattle.std.specs.Prelude.{◌≡◌, ◌≤◌, Bool, true, ℤ, List, [], ◌∷◌, ◌++◌, length, map, filter}
-use Rattle.std.specs.List.{All}
-use Rattle.gas_terms.specs.Cells.{Cells, Extent, Rectangle, lies_within}
+use Rattle.std.specs.Prelude.{◌≡◌, ◌≤◌, ℕ, Bool, true, not, ◌&&◌, ◌||◌, ℤ, List, [], ◌∷◌, ◌++◌, length, map, filter}
+use Rattle.std.specs.List.{All, list_any}
+use Rattle.gas_terms.specs.Cells.{Cells, Extent, Rectangle, lies_within, is_inside}
 use Rattle.gas_terms.specs.Gas.{Source, most_ports, has_most_ports, is_due, ported}
 use Rattle.gas_terms.specs.Commands.{is_period}
 use Rattle.gas_terms.specs.declared.command.Command.{Command}
@@ -50,6 +50,11 @@ pub record LieWithin (size : Extent) (ports : PortLists) : Type 0 where
 -- the rectangles of the sources that are due
 abbrev pub due_areas : ℤ → List Source → List Rectangle
 due_areas tick sources = map (λ s. s.area) (filter (is_due tick) sources)
+
+-- what is left of the cell (x, y) when they have acted at the tick, by whether it is held
+abbrev pub left_by : PortLists → ℤ → ℕ → ℕ → Bool → Bool
+left_by ports tick x y held =
+    (held && not (list_any (λ r. is_inside r x y) ports.drains)) || list_any (λ s. is_due tick s && is_inside s.area x y) ports.sources
 
 -- the cells after the ports have acted at the tick
 abbrev pub ported_by : PortLists → ℤ → Cells → Cells

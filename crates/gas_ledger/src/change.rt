@@ -1,38 +1,14 @@
-//! How many cells a change brings in and takes out.
+//! How many cells a row brings in and takes out.
 
 ghost use Rattle.std.specs.Prelude.{◌≡◌, ◌<◌, ◌*◌, length};
 ghost use Rattle.gas_terms.specs.Cells.{without};
 ghost use Rattle.gas_terms.specs.Rows.{row_has, row_replaced};
 ghost use Rattle.gas_plane.specs.Planes.{IsLattice};
-ghost use Rattle.gas_ledger.specs.Counts.{AreCounts, AreSmall, moved_by_counts};
+ghost use Rattle.phase_step.specs.Counts.{AreCounts};
 ghost use Rattle.gas_ledger.specs.Exchanges.{row_of};
 
-use crate::moved::Moved;
-use crate::sums::sums_by_counts;
 use gas_plane::Plane;
-use gas_terms::Tick;
-
-/// How many cells came in and went out, in each class of columns and rows: even column and even row, odd and even,
-/// even and odd, odd and odd.
-#[derive(Clone, Copy)]
-pub struct Change {
-    pub gained: [u64; 4],
-    pub lost: [u64; 4],
-}
-
-impl Change {
-    /// The sums of those particles at the tick.
-    pub fn moved(self, tick: Tick) -> Moved
-        requires gained { AreSmall self.gained }
-        requires lost { AreSmall self.lost }
-        ensures { result ≡ moved_by_counts tick self }
-    {
-        Moved {
-            injected: sums_by_counts(self.gained, tick),
-            drained: sums_by_counts(self.lost, tick),
-        }
-    }
-}
+use phase_step::Change;
 
 /// What comes in and goes out when the bytes' cells replace row y.
 pub fn row_change(plane: &Plane, y: u32, bytes: &[u8]) -> Change

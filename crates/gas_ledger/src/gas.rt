@@ -8,17 +8,18 @@ ghost use Rattle.gas_terms.specs.declared.command.Command.TheVariants.{Put, Eras
 ghost use Rattle.phase_step.specs.Runs.{gas_after, gas_before, takes_after, takes_before};
 ghost use Rattle.gas_ledger.specs.PortLists.{adding, has_all};
 ghost use Rattle.gas_ledger.specs.Gases.{FitTogether, IsSoundGas, gas_of, ports_of, empty_gas, ahead_with, behind_with};
-ghost use Rattle.gas_ledger.specs.Moves.{moved_by};
+ghost use Rattle.phase_step.specs.Moves.{moved_by};
+ghost use Rattle.phase_step.specs.PortedRuns.{gas_stepped, steps_take, steps_move};
 
 use crate::apply::apply_ports;
 use crate::change::row_change;
-use crate::moved::Moved;
+use crate::exchange::PortsFrom;
 use crate::port::{Full, Port};
 use crate::ports::Ports;
 use crate::sums::probe;
 use gas_plane::Plane;
 use gas_terms::{NoMemory, Rect, Size, Sums, Tick, Took};
-use phase_step::Stepper;
+use phase_step::{Flow, Moved, Run, Stepper};
 use std::alloc::Global;
 use std::marker::Model;
 use std::mem;
@@ -184,7 +185,7 @@ impl Gas {
     {
         let change = row_change(&self.particles, y as u32, bytes);
         self.particles.set_row(y as u32, bytes);
-        change.moved(self.tick)
+        change.moved(self.tick.parity())
     }
 
     /// Makes each cell of the rectangle a wall.
@@ -261,6 +262,35 @@ impl Gas {
         *tick = tick.ahead(n).unwrap();
         let particles = &mut self.particles;
         stepper.run(particles, &self.walls, &self.obstacles, first, n, spare)
+    }
+
+    /// Goes n ticks on, where the ports act at each, and says what walls and obstacles took and what came in and went.
+    pub fn step_on<S: Stepper>(&mut self, n: u16, spare: &mut Plane, stepper: &mut S) -> Flow
+        requires tick { is_tick (self.old.tick +ℤ pos n) ≡ true }
+        requires spare { HasSidesOf spare.old self.old.particles }
+        ensures gas { self.new ≡ gas_stepped n self.old }
+        ensures spare { HasSidesOf spare.new self.new.particles }
+        ensures took { result.took ≡ steps_take n self.old }
+        ensures moved { result.moved ≡ steps_move n self.old }
+    {
+        let first = self.tick;
+        let tick = &mut self.tick;
+        *tick = first.ahead(n).unwrap();
+        let particles = &mut self.particles;
+        let ports = &self.ports;
+        let action = PortsFrom { ports, tick: first };
+        let walls = &self.walls;
+        let obstacles = &self.obstacles;
+        let action = &action;
+        let parity = first.parity();
+        let run = Run {
+            walls,
+            obstacles,
+            parity,
+            n,
+            action,
+        };
+        stepper.run_with(particles, run, spare)
     }
 
     /// Goes n ticks back in a run of phases, and says what walls and obstacles took on the way from there.

@@ -3,16 +3,16 @@
 
 pub mod apply;
 mod change;
+mod exchange;
 mod few;
 pub mod gas;
-pub mod moved;
 pub mod port;
 pub mod ports;
 pub mod sums;
 
 pub use apply::apply_ports;
 pub use gas::Gas;
-pub use moved::Moved;
+pub use phase_step::{Flow, Moved};
 pub use port::{Full, Port, Source};
 pub use ports::Ports;
 pub use sums::{probe, tally};

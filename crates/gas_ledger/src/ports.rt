@@ -5,7 +5,7 @@ ghost use Rattle.gas_ledger.specs.PortLists.{no_ports, with_port, has_all, has_p
 
 use crate::few::Few;
 use crate::port::{Full, Port, Source};
-use gas_terms::{MOST_PORTS, Rect, Size, Tick};
+use gas_terms::{MOST_PORTS, Rect, Size};
 use std::marker::Model;
 
 /// At most `MOST_PORTS` drains and as many sources, in the order in which they were added.
@@ -110,8 +110,15 @@ impl Ports {
         self.sources.as_slice()
     }
 
+    /// The rectangles of the drains in a list of their own.
+    pub(crate) fn drain_areas(&self) -> Few<Rect>
+        ensures { result ≡ self.now.drains }
+    {
+        self.drains.copy()
+    }
+
     /// The rectangles of the sources that are due at the tick.
-    pub(crate) fn due(&self, tick: Tick) -> Few<Rect>
+    pub(crate) fn due(&self, tick: i64) -> Few<Rect>
         ensures { result ≡ due_areas tick self.now.sources }
     {
         let mut due = Few::none(any_area());
@@ -125,9 +132,9 @@ impl Ports {
 }
 
 // whether the period divides the tick
-fn is_due(tick: Tick, period: u16) -> bool
+fn is_due(tick: i64, period: u16) -> bool
     requires { 0 < period }
     ensures { result ≡ (nat_abs tick % period == 0) }
 {
-    tick.get().unsigned_abs() % period as u64 == 0
+    tick.unsigned_abs() % period as u64 == 0
 }

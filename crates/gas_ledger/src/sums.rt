@@ -1,14 +1,13 @@
-//! The sums of particles, by the parities of their places.
+//! The sums of particles.
 
-ghost use Rattle.std.specs.Prelude.{◌≡◌, ◌+◌, ◌^◌, ◌<◌, ◌==◌, true, pos, ◌-ℤ◌, ◌*ℤ◌, nat_abs};
-ghost use Rattle.gas_terms.specs.Velocity.{parity, sign};
+ghost use Rattle.std.specs.Prelude.{◌≡◌, ◌^◌, true};
 ghost use Rattle.gas_terms.specs.Cells.{extent, lies_within};
 ghost use Rattle.gas_terms.specs.Accounts.{total, total_in, IsOfAtMost};
 ghost use Rattle.gas_plane.specs.Planes.{IsLattice};
-ghost use Rattle.gas_ledger.specs.Counts.{AreSmall, sums_of_counts};
 
 use gas_plane::Plane;
 use gas_terms::{Rect, Sums, Tick};
+use phase_step::sums_by_counts;
 
 /// The sums of the particles in a rectangle at the tick.
 pub fn probe(plane: &Plane, area: Rect, tick: Tick) -> Sums
@@ -19,7 +18,7 @@ pub fn probe(plane: &Plane, area: Rect, tick: Tick) -> Sums
 {
     // no side of it is longer than a lattice's
     let _ = plane.size();
-    sums_by_counts(plane.counts_in(area), tick)
+    sums_by_counts(plane.counts_in(area), tick.parity())
 }
 
 /// The sums of all particles at the tick.
@@ -30,27 +29,4 @@ pub fn tally(plane: &Plane, tick: Tick) -> Sums
     let size = plane.size();
     let all = Rect::within(size, 0, 0, size.width() as u32, size.height() as u32).unwrap();
     probe(plane, all, tick)
-}
-
-/// The sums of particles by their counts in four classes of columns and rows.
-pub(crate) fn sums_by_counts(counts: [u64; 4], tick: Tick) -> Sums
-    requires { AreSmall counts }
-    ensures { result ≡ sums_of_counts tick counts }
-{
-    let [even_even, odd_even, even_odd, odd_odd] = counts;
-    Sums {
-        count: (even_even + odd_even + even_odd + odd_odd) as i64,
-        px: momentum(tick, even_even + even_odd, odd_even + odd_odd),
-        py: momentum(tick, even_even + odd_even, even_odd + odd_odd),
-    }
-}
-
-// the momentum of particles at even and at odd places along an axis
-fn momentum(tick: Tick, even: u64, odd: u64) -> i64
-    requires even { even < 2 ^ 34 }
-    requires odd { odd < 2 ^ 34 }
-    ensures { result ≡ sign (parity tick == 0) *ℤ (pos even -ℤ pos odd) }
-{
-    let more = even as i64 - odd as i64;
-    if tick.parity() == 0 { more } else { -more }
 }

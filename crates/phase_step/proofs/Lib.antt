@@ -1,4 +1,8 @@
 pub mod Rings
+pub mod Counting
+pub mod ActedTiles
+pub mod ActionRuns
+pub mod PortedSteps
 pub mod TurnedTiles
 pub mod PhaseSweeps
 pub mod TakenSums

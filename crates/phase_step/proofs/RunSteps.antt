@@ -22,7 +22,7 @@ use Rattle.phase_step.proofs.RunTakes.{pair_made, sides_after}
 other : (p q k : ℕ) → p < 2 → q ≡ 1 - (p + k) % 2 → q ≡ (p + suc k) % 2
 other p q k small e = omega (arith, e)
 
-later : (t : ℤ) (k : ℕ) → parity (t +ℤ pos k) ≡ parity_at (parity t) k
+pub later : (t : ℤ) (k : ℕ) → parity (t +ℤ pos k) ≡ parity_at (parity t) k
 later t zero = ap parity (let e : t +ℤ pos 0 ≡ t = omega (arith, ints) in e) ∙ (let small = parity-small t in let e : parity t ≡ (parity t + 0) % 2 = omega arith in e)
 later t (suc k) =
     other (parity t) _ k (parity-small t)
@@ -55,23 +55,25 @@ plus_none a = pair_made _ _ _ _ (omega (arith, ints)) (omega (arith, ints))
 minus_none : (a : Pair) → a ≡ pair_minus a (record { x = pos 0; y = pos 0 })
 minus_none a = pair_made _ _ _ _ (omega (arith, ints)) (omega (arith, ints))
 
-taken_twice : (l : Ledger) (t u : Took) → with_taken (with_taken l t) u ≡ with_taken l (took_plus t u)
+pub taken_twice : (l : Ledger) (t u : Took) → with_taken (with_taken l t) u ≡ with_taken l (took_plus t u)
 taken_twice l t u = made l _ _ _ _ (plus_twice l.walls t.walls u.walls) (plus_twice l.obstacles t.obstacles u.obstacles)
+
+pub taken_none : (l : Ledger) → l ≡ with_taken l nothing
+taken_none l = made l l.walls l.obstacles _ _ (plus_none l.walls) (plus_none l.obstacles)
 
 given_twice : (l : Ledger) (t u : Took) → with_given_back (with_given_back l t) u ≡ with_given_back l (took_plus t u)
 given_twice l t u = made l _ _ _ _ (minus_twice l.walls t.walls u.walls) (minus_twice l.obstacles t.obstacles u.obstacles)
 
 -- a gas with its ledger, by what moves
-abbrev at : BookedGas → ℤ → Cells → Ledger → BookedGas
+abbrev pub at : BookedGas → ℤ → Cells → Ledger → BookedGas
 at b t c l = record { gas = record b.gas { tick = t; particles = c }; ledger = l }
 
-at_same : (b : BookedGas) (t u : ℤ) (c d : Cells) (l m : Ledger) → t ≡ u → c ≡ d → l ≡ m → at b t c l ≡ at b u d m
+pub at_same : (b : BookedGas) (t u : ℤ) (c d : Cells) (l m : Ledger) → t ≡ u → c ≡ d → l ≡ m → at b t c l ≡ at b u d m
 at_same b t u c d l m e f g = ap₂ (λ t c. at b t c l) e f ∙ ap (at b u d) g
 
 pub forward_run : (n : ℕ) (b : BookedGas) → iterate moved n b ≡ ran n b
 forward_run zero b =
-    at_same b b.gas.tick (b.gas.tick +ℤ pos 0) b.gas.particles b.gas.particles b.ledger (with_taken b.ledger nothing) (omega (arith, ints)) refl
-    (made b.ledger _ _ _ _ (plus_none b.ledger.walls) (plus_none b.ledger.obstacles))
+    at_same b b.gas.tick (b.gas.tick +ℤ pos 0) b.gas.particles b.gas.particles b.ledger (with_taken b.ledger nothing) (omega (arith, ints)) refl (taken_none b.ledger)
 forward_run (suc n) b =
     let g = b.gas in
     let now = after (parity g.tick) (solid g) g.particles n in

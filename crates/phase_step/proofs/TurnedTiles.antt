@@ -1,6 +1,5 @@
 -- What a plane's tiles show of the torus.
 use Rattle.std.specs.Borrow.{Bor}
-use Rattle.std.specs.Prelude.{MatchOption}
 use Rattle.std.proofs.Common.{◌≡◌, Bool, Option, None, Some, [], refl, ℕ, ◌+◌, ◌*◌, ◌/◌, ◌%◌, ◌<◌, ◌≤◌, ◌-◌, ◌∙◌, ap, ap₂, subst, sym, arith}
 use Rattle.std.proofs.lemmas.Nat.{mod-mul-add}
 use Rattle.bit_tile.specs.Tile.{HasCells}
@@ -9,9 +8,8 @@ use Rattle.tile_border.specs.declared.Border.{Border}
 use Rattle.gas_terms.specs.Cells.{Cells, HasSidesOf, has, tile_rectangle}
 use Rattle.gas_plane.specs.Planes.{IsTileFrom, IsRingRound, IsBare, IsBareRound}
 use Rattle.block_rule.specs.Around.{around, none}
-use Rattle.tile_border.specs.Ring.{IsBorderOf, IsBorderOfRound}
+use Rattle.tile_border.specs.Ring.{IsBorderOfRound}
 use Rattle.block_rule.specs.Windows.{IsView, IsWindow}
-use Rattle.block_rule.specs.Rows.{ShowsTile, ShowsRound}
 use Rattle.block_rule.specs.Lent.{IsSeenInside, IsSeenIn, IsSeen}
 use Rattle.block_rule.specs.declared.Window.{Window}
 use Rattle.tile_border.specs.declared.Round.{Round}

@@ -13,6 +13,7 @@ ghost use Rattle.gas_plane.specs.Planes.{IsTileFrom, IsRingRound};
 ghost use Rattle.block_rule.specs.Around.{around};
 ghost use Rattle.block_rule.specs.Windows.{IsWindow};
 ghost use Rattle.phase_step.specs.Runs.{ran, ran_back};
+ghost use Rattle.phase_step.specs.PortedRuns.{stepped_on};
 
 /// A plane's tile and its border are a window of the torus.
 pub fn tile_and_border_are_a_window()
@@ -35,11 +36,13 @@ pub fn phases_are_steps()
         taken (parity (g.tick -ℤ pos 1)) g.particles g.walls g.obstacles ≡ gas_taken (back g) }
 {}
 
-/// A run of phases is as many steps, tick and ledger included: forward without the action of the ports, and back.
+/// A run of phases is as many steps, tick and ledger included: forward without the action of the ports, forward with it
+/// after each phase, and back.
 pub fn runs_are_steps()
     ensures forward { (n : ℕ) (b : BookedGas) → iterate moved n b ≡ ran n b }
     ensures whole { (n : ℕ) (b : BookedGas) → IsEvenTorus b.gas.particles → HasNoPorts b.gas →
         iterate stepped n b ≡ ran n b }
+    ensures ported { (n : ℕ) (b : BookedGas) → iterate stepped n b ≡ stepped_on n b }
     ensures back { (n : ℕ) (b : BookedGas) →
         HasEvenSides b.gas.particles.width b.gas.particles.height →
         iterate stepped_back n b ≡ ran_back n b }

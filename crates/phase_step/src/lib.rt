@@ -6,15 +6,32 @@ ghost use Rattle.gas_terms.specs.Cells.{joined, HasSidesOf};
 ghost use Rattle.gas_terms.specs.Gas.{streamed};
 ghost use Rattle.gas_terms.specs.Accounts.{taken};
 ghost use Rattle.phase_step.specs.Runs.{parity_at, after, run_takes};
+ghost use Rattle.phase_step.specs.Actions.{after_with, flow_with};
 
+mod action;
+mod change;
 pub mod laws;
+mod moved;
 mod tiles;
 
+pub use action::{Acting, Action, act_on};
+pub use change::{Change, sums_by_counts};
 use gas_plane::Plane;
 use gas_terms::Took;
+pub use moved::{Flow, Moved, NO_FLOW, UNMOVED};
 use std::mem;
 use tiles::NOTHING;
 pub use tiles::turn_tile_at;
+
+/// A run of n phases in which particles meet these walls and obstacles, from the given parity on, with an action after each.
+#[derive(Drop)]
+pub struct Run<'a, A: Action> {
+    pub walls: &'a Plane,
+    pub obstacles: &'a Plane,
+    pub parity: u8,
+    pub n: u16,
+    pub action: &'a A,
+}
 
 /// What turns the blocks of a plane. It never refuses and takes no memory.
 pub trait Stepper: Drop {
@@ -65,6 +82,38 @@ pub trait Stepper: Drop {
             mem::swap(particles, spare);
         }
         took
+    }
+
+    /// The same with an action after each phase: after phase k that of k. The answer is what walls and obstacles took, and
+    /// what the actions brought in and took out.
+    fn run_with<A: Action>(
+        &mut self,
+        particles: &mut Plane,
+        run: Run<'_, A>,
+        spare: &mut Plane,
+    ) -> Flow
+        requires parity { run.parity < 2 }
+        requires walls { HasSidesOf run.walls.now particles.old }
+        requires obstacles { HasSidesOf run.obstacles.now particles.old }
+        requires spare { HasSidesOf spare.old particles.old }
+        ensures particles { let r = run.entry in particles.new ≡
+            after_with r.parity (joined r.walls.now r.obstacles.now) (A.leaves r.action.now)
+            particles.old r.n }
+        ensures spare { HasSidesOf spare.new particles.old }
+        ensures flow { let r = run.entry in result ≡
+            flow_with r.parity r.walls.now r.obstacles.now (A.leaves r.action.now)
+            particles.old r.n }
+    {
+        let mut flow = NO_FLOW;
+        for k in 0..run.n {
+            let now = parity_at(run.parity, k);
+            let took = self.phase(particles, run.walls, run.obstacles, now, spare);
+            mem::swap(particles, spare);
+            let turn = run.action.after_phase(k);
+            let moved = act_on(particles, &turn, 1 - now);
+            flow = flow.plus(Flow { took, moved });
+        }
+        flow
     }
 }
 

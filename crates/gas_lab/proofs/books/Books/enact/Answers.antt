@@ -1,22 +1,23 @@
-use Rattle.std.proofs.Common.{◌≡◌, ◌≤◌, ◌∙◌, false, ap, subst, le_trans}
+use Rattle.std.proofs.Common.{◌≡◌, ◌≤◌, ◌∙◌, false, ap, subst}
 use Rattle.gas_terms.specs.BookedGas.{changes}
 use Rattle.gas_terms.specs.declared.command.Command.TheVariants.{Step, Back}
 use Rattle.gas_terms.specs.Commands.{is_move}
 use Rattle.gas_terms.proofs.LabBounds.{few_changes}
-use Rattle.gas_lab.specs.Labs.{books_of, with_moved}
+use Rattle.phase_step.specs.PortedRuns.{with_moved}
+use Rattle.gas_lab.specs.Labs.{books_of}
 use Rattle.gas_lab.proofs.Stepping.{pair}
 use Rattle.gas_lab.proofs.Editing.{no_move, edit_booked, edit_fits}
 use Rattle.gas_lab.proofs.books.Books.enact.Goals as goal
 
 pub steps-requires-clause-fits : goal.steps-requires-clause-fits
-steps-requires-clause-fits g c = λ k h.
+steps-requires-clause-fits g c =
     let few = subst (λ m. changes m ≤ 4096) c.in-Step.is (few_changes _ c.args.command.now c.requires.in_order) in
-    c.requires.fits (Step k) (le_trans h few)
+    c.requires.fits (Step c.in-Step.n) few
 
 pub steps_back-requires-clause-fits : goal.steps_back-requires-clause-fits
-steps_back-requires-clause-fits g c = λ k h.
+steps_back-requires-clause-fits g c =
     let few = subst (λ m. changes m ≤ 4096) c.in-Back.is (few_changes _ c.args.command.now c.requires.in_order) in
-    c.requires.fits (Back k) (le_trans h few)
+    c.requires.fits (Back c.in-Back.n) few
 
 pub with_moved-self-requires : goal.with_moved-self-requires
 with_moved-self-requires g c =

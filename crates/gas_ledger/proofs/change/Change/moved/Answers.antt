@@ -1,5 +1,0 @@
-use Rattle.std.proofs.Common.{rules}
-use Rattle.gas_ledger.proofs.change.Change.moved.Goals as goal
-
-pub returns : goal.returns
-returns c = search rules

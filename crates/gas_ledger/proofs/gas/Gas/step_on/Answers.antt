@@ -1,0 +1,46 @@
+use Rattle.std.proofs.Common.{◌≡◌, ℕ, Bool, true, false, Option, Some, None, if◌then◌else◌, ℤ, pos, ◌+ℤ◌, ap, ap₂, sym, ◌∙◌}
+use Rattle.gas_terms.specs.Cells.{Cells, joined}
+use Rattle.gas_terms.specs.Velocity.{parity}
+use Rattle.phase_step.specs.Actions.{Leaves, after_with, takes_with, moves_with}
+use Rattle.phase_step.specs.declared.moved.Flow.{Flow}
+use Rattle.phase_step.proofs.ActionRuns.{sides_as_with}
+use Rattle.gas_ledger.specs.PortLists.{left_by}
+use Rattle.gas_ledger.specs.Gases.{gas_of}
+use Rattle.gas_ledger.proofs.Running.{fit_with}
+use Rattle.gas_ledger.proofs.gas.Gas.step_on.Goals as goal
+
+pub invariant_of-self : goal.invariant_of-self
+invariant_of-self g c =
+    let l = c.self.inside in
+    fit_with c.parity-parity.result (joined l.walls l.obstacles) (λ k. left_by l.ports (l.tick +ℤ pos k +ℤ pos 1)) l.particles c.run_with.new.particles l.walls l.obstacles l.ports c.args.n c.run_with.ensures.particles c.self.invariant
+
+pub returns-clause-spare : goal.returns-clause-spare
+returns-clause-spare g c =
+    let l = c.self.inside in
+    sides_as_with c.parity-parity.result (joined l.walls l.obstacles) (λ k. left_by l.ports (l.tick +ℤ pos k +ℤ pos 1)) l.particles c.run_with.new.particles c.run_with.new.spare c.args.n c.run_with.ensures.particles c.run_with.ensures.spare
+
+-- the tick n ticks on is one
+chosen : (fits : Bool) (t u : ℤ) → (let o : Option ℤ = Some u in o) ≡ (if fits then Some t else None) → u ≡ t
+chosen true t u e = cc
+chosen false t u e = cc
+
+pub returns-clause-gas : goal.returns-clause-gas
+returns-clause-gas g c =
+    let l = c.self.inside in
+    let leaves : ℕ → Leaves = λ k. left_by l.ports (l.tick +ℤ pos k +ℤ pos 1) in
+    let tick : c.unwrap.result ≡ c.self.inside.tick +ℤ pos c.args.n = chosen _ _ _ (sym c.unwrap.ensures ∙ c.ahead.ensures) in
+    let particles : c.run_with.new.particles ≡ after_with (parity l.tick) (joined l.walls l.obstacles) leaves l.particles c.args.n =
+    c.run_with.ensures.particles ∙ ap (λ p. after_with p (joined l.walls l.obstacles) leaves l.particles c.args.n) c.parity-parity.ensures in
+    rw (← c.self.view_is) (ap₂ (λ t (cells : Cells). gas_of t cells l.walls l.obstacles l.ports) tick particles)
+
+pub returns-clause-took : goal.returns-clause-took
+returns-clause-took g c =
+    let l = c.self.inside in
+    let leaves : ℕ → Leaves = λ k. left_by l.ports (l.tick +ℤ pos k +ℤ pos 1) in
+    rw (← c.self.view_is) (ap (λ (f : Flow). f.took) c.run_with.ensures.flow ∙ ap (λ p. takes_with p l.walls l.obstacles leaves l.particles c.args.n) c.parity-parity.ensures)
+
+pub returns-clause-moved : goal.returns-clause-moved
+returns-clause-moved g c =
+    let l = c.self.inside in
+    let leaves : ℕ → Leaves = λ k. left_by l.ports (l.tick +ℤ pos k +ℤ pos 1) in
+    rw (← c.self.view_is) (ap (λ (f : Flow). f.moved) c.run_with.ensures.flow ∙ ap (λ p. moves_with p (joined l.walls l.obstacles) leaves l.particles c.args.n) c.parity-parity.ensures)

@@ -1,0 +1,201 @@
+//! What ports do to the particles at a tick.
+
+ghost use Rattle.std.specs.Prelude.{◌≡◌, true, ℕ, ℤ, ◌<◌, ◌≤◌, ◌/◌, ◌+◌, ◌||◌, ◌&&◌, not, IsTrue, pos, ◌+ℤ◌};
+ghost use Rattle.std.specs.List.{list_any};
+ghost use Rattle.bit_tile.specs.Tile.{HasCells};
+ghost use Rattle.bit_tile.specs.Tile as in_tile;
+ghost use Rattle.gas_terms.specs.Cells.{most_side, is_inside};
+ghost use Rattle.gas_ledger.specs.PortLists.{due_areas, left_by};
+ghost use Rattle.gas_ledger.specs.Exchanges.{Areas, is_in_any, is_left, HasTilesOf};
+
+use crate::few::Few;
+use crate::ports::Ports;
+use bit_tile::Tile;
+use gas_plane::part_of;
+use gas_terms::{Rect, Tick};
+use phase_step::{Acting, Action};
+use std::marker::Model;
+
+/// Drains that empty their cells, and sources that fill theirs then. What is drained and filled again has stayed.
+#[derive(Drop)]
+pub struct Exchange {
+    drains: Few<Rect>,
+    sources: Few<Rect>,
+    // the tiles that they meet: a cell here stands for a tile
+    met: Tile,
+}
+
+impl Model for Exchange {
+    ghost use Rattle.gas_ledger.specs.Exchanges.{Areas, HasTilesOf};
+
+    ghost Value = { Areas };
+
+    ghost view = { λ e. record { drains = e.drains; sources = e.sources } };
+
+    ghost invariant = { λ e. HasTilesOf e.met e.drains × HasTilesOf e.met e.sources };
+}
+
+impl Exchange {
+    /// What the ports do at this tick.
+    pub fn at(ports: &Ports, tick: i64) -> Exchange
+        ensures { result ≡ record {
+          drains = ports.now.drains;
+          sources = due_areas tick ports.now.sources;
+        } }
+    {
+        let drains = ports.drain_areas();
+        let sources = ports.due(tick);
+        let met = tiles_met(drains.as_slice(), sources.as_slice());
+        Exchange {
+            drains,
+            sources,
+            met,
+        }
+    }
+}
+
+impl Acting for Exchange {
+    ghost leaves = { λ e x y held. is_left held e.drains e.sources x y };
+
+    fn is_still(&self) -> bool {
+        self.drains.len() == 0 && self.sources.len() == 0
+    }
+
+    fn on_tile(&self, left: u32, top: u32, tile: &Tile) -> Option<Tile> {
+        if !self.met.get(left / 64, top / 64) {
+            return None;
+        }
+        let new = exchanged_tile(
+            tile,
+            self.drains.as_slice(),
+            self.sources.as_slice(),
+            left,
+            top,
+        );
+        if new.has_same_cells(tile) {
+            None
+        } else {
+            Some(new)
+        }
+    }
+}
+
+/// What ports do after each phase of a run that begins at the tick.
+#[derive(Drop)]
+pub struct PortsFrom<'a> {
+    pub ports: &'a Ports,
+    pub tick: Tick,
+}
+
+impl Action for PortsFrom<'_> {
+    ghost leaves = { λ p k x y held. left_by p.ports.now (p.tick +ℤ pos k +ℤ pos 1) x y held };
+
+    type Turn = Exchange;
+
+    fn after_phase(&self, k: u16) -> Exchange {
+        Exchange::at(self.ports, self.tick.get() + i64::from(k) + 1)
+    }
+}
+
+// which tiles have a cell of some rectangle: a cell here stands for a tile
+fn tiles_met(drains: &[Rect], sources: &[Rect]) -> Tile
+    ensures drains { HasTilesOf result drains.now }
+    ensures sources { HasTilesOf result sources.now }
+{
+    let mut met = tiles_of(drains);
+    met.join(&tiles_of(sources));
+    met
+}
+
+fn tiles_of(areas: &[Rect]) -> Tile
+    ensures { HasTilesOf result areas.now }
+{
+    let mut met = Tile::empty();
+    for area in areas {
+        let (x, w) = tiles_along(area.x(), area.w());
+        let (y, h) = tiles_along(area.y(), area.h());
+        met.join(&Tile::rect(x, y, w, h));
+    }
+    met
+}
+
+// of the first 64 tiles along an axis, the first that has one of the `len` places from `start` on, and how many have
+fn tiles_along(start: u16, len: u16) -> (u32, u32)
+    ensures within { result.0 + result.1 ≤ 64 }
+    ensures met { (k : ℕ) → k < most_side → start ≤ k → k < start + len →
+        (result.0 ≤ k / 64) × (k / 64 < result.0 + result.1) }
+{
+    let end = (start as u32 + len as u32).div_ceil(64).min(64);
+    let first = (start as u32 / 64).min(end);
+    (first, end - first)
+}
+
+// what is left of a tile: where one rectangle has all of it, no further one is asked for
+fn exchanged_tile(old: &Tile, drains: &[Rect], sources: &[Rect], left: u32, top: u32) -> Tile
+    ensures { HasCells result
+        (λ x y. is_left (in_tile.has old.now x y) drains.now sources.now (left + x) (top + y)) }
+{
+    if one_covers(sources, left, top) {
+        return Tile::full();
+    }
+    let mut new = drained(old, drains, left, top);
+    fill(&mut new, sources, left, top);
+    new
+}
+
+// the tile without the cells of any rectangle
+fn drained(old: &Tile, areas: &[Rect], left: u32, top: u32) -> Tile
+    ensures { HasCells result
+        (λ x y. in_tile.has old.now x y && not (is_in_any areas.now (left + x) (top + y))) }
+{
+    if one_covers(areas, left, top) {
+        return Tile::empty();
+    }
+    let mut new = *old;
+    for area in areas {
+        if let Some(part) = part_of(*area, left, top) {
+            new.cut(&part);
+        }
+    }
+    new
+}
+
+// puts the cells of all rectangles into a tile
+fn fill(tile: &mut Tile, areas: &[Rect], left: u32, top: u32)
+    ensures { HasCells tile.new
+        (λ x y. in_tile.has tile.old x y || is_in_any areas.now (left + x) (top + y)) }
+{
+    for area in areas {
+        if let Some(part) = part_of(*area, left, top) {
+            tile.join(&part);
+        }
+    }
+}
+
+// whether one of the rectangles has all the 64 by 64 cells from the place (left, top) on
+fn one_covers(areas: &[Rect], left: u32, top: u32) -> bool
+    ensures { IsTrue result →
+        (x y : ℕ) → x < 64 → y < 64 → is_in_any areas.now (left + x) (top + y) ≡ true }
+{
+    for area in areas {
+        if covers(*area, left, top) {
+            return true;
+        }
+    }
+    false
+}
+
+fn covers(area: Rect, left: u32, top: u32) -> bool
+    ensures { IsTrue result →
+        (x y : ℕ) → x < 64 → y < 64 → is_inside area (left + x) (top + y) ≡ true }
+{
+    spans(area.x(), area.w(), left) && spans(area.y(), area.h(), top)
+}
+
+// whether the `len` places from `start` on have all 64 from `from` on
+fn spans(start: u16, len: u16, from: u32) -> bool
+    ensures { IsTrue result → (start ≤ from) × (from + 64 ≤ start + len) }
+{
+    let start = u32::from(start);
+    start <= from && 64 <= (start + u32::from(len)).saturating_sub(from)
+}

@@ -1,0 +1,21 @@
+use Rattle.std.specs.Prelude.{◌≡◌, ℕ, ◌+◌, ◌*◌, ◌^◌, ◌<◌, ℤ, List, slice_index}
+use Rattle.gas_terms.specs.Cells.{Cells, Rectangle}
+use Rattle.gas_terms.specs.Accounts.{parity_count, sums_by_parity}
+use Rattle.gas_terms.specs.declared.accounts.Sums.{Sums}
+use Rattle.phase_step.specs.declared.moved.Moved.{Moved}
+use Rattle.phase_step.specs.declared.change.Change.{Change}
+
+-- Four counts, of even column and even row, odd and even, even and odd, odd and odd: those of a set's cells in a rectangle.
+pub record AreCounts (counts : List ℕ) (cells : Cells) (r : Rectangle) : Type 0 where
+  pub count : (a b : ℕ) → a < 2 → b < 2 → slice_index counts (2 * b + a) ≡ parity_count cells r a b
+
+-- each count is that of a lattice's cells at most
+pub record AreSmall (counts : List ℕ) : Type 0 where
+  pub small : (k : ℕ) → k < 4 → slice_index counts k < 2 ^ 32
+
+-- the sums of particles that are so counted
+abbrev pub sums_of_counts : ℤ → List ℕ → Sums
+sums_of_counts tick counts = sums_by_parity tick (slice_index counts 0) (slice_index counts 1) (slice_index counts 2) (slice_index counts 3)
+
+abbrev pub moved_by_counts : ℤ → Change → Moved
+moved_by_counts tick change = record { injected = sums_of_counts tick change.gained; drained = sums_of_counts tick change.lost }

@@ -1,0 +1,90 @@
+//! Actions on the particles after the phases of a run.
+
+ghost use Rattle.std.specs.Prelude.{◌≡◌, ℕ, ℤ, ◌+◌, ◌<◌, ◌&&◌, Bool, not, IsTrue, MatchOption};
+ghost use Rattle.bit_tile.specs.Tile.{HasCells};
+ghost use Rattle.bit_tile.specs.Tile as in_tile;
+ghost use Rattle.gas_terms.specs.Cells.{whole, without};
+ghost use Rattle.gas_terms.specs.Velocity.{parity as of_tick};
+ghost use Rattle.gas_plane.specs.Planes.{IsLattice};
+ghost use Rattle.phase_step.specs.Actions.{IsStill, IsTileCorner, IsLeftOf, acted};
+ghost use Rattle.phase_step.specs.Counts.{AreCounts};
+ghost use Rattle.phase_step.specs.Moves.{moved_by};
+
+use crate::change::Change;
+use crate::moved::Moved;
+use gas_plane::{Plane, Tile, sums};
+
+/// What changes cells of the particles, each by itself: by its place, and by whether it is held.
+pub trait Acting: Drop {
+    ghost leaves: { Self → ℕ → ℕ → Bool → Bool };
+
+    /// Whether it is known to change no cell.
+    fn is_still(&self) -> bool
+        ensures { IsTrue result → IsStill (leaves self.now) };
+
+    /// What becomes of a tile that begins at the place (left, top), or nothing where it stays as it is.
+    fn on_tile(&self, left: u32, top: u32, tile: &Tile) -> Option<Tile>
+        requires { IsTileCorner left top }
+        ensures { MatchOption result
+            (IsLeftOf (leaves self.now) left top tile.now tile.now)
+            (λ new. IsLeftOf (leaves self.now) left top tile.now new) };
+}
+
+/// What acts on the particles after each phase of a run.
+pub trait Action: Drop {
+    ghost leaves: { Self → ℕ → ℕ → ℕ → Bool → Bool };
+
+    /// What it does after one phase.
+    type Turn: Acting;
+
+    /// What it does after phase k: the first phase has number 0.
+    fn after_phase(&self, k: u16) -> Self::Turn
+        ensures { (x y : ℕ) (held : Bool) →
+            Self.Turn.leaves result x y held ≡ leaves self.now k x y held };
+}
+
+/// Acts on every cell, and says what came in and what went, at a tick of this parity.
+pub fn act_on<T: Acting>(plane: &mut Plane, acting: &T, parity: u8) -> Moved
+    requires { parity < 2 }
+    ensures lattice { IsLattice plane.old }
+    ensures cells { plane.new ≡ acted (T.leaves acting.now) plane.old }
+    ensures moved { (tick : ℤ) → of_tick tick ≡ parity → result ≡ moved_by tick plane.old plane.new }
+{
+    act(plane, acting).moved(parity)
+}
+
+fn act<T: Acting>(plane: &mut Plane, acting: &T) -> Change
+    ensures lattice { IsLattice plane.old }
+    ensures cells { plane.new ≡ acted (T.leaves acting.now) plane.old }
+    ensures gained { AreCounts result.gained (without plane.new plane.old) (whole plane.old) }
+    ensures lost { AreCounts result.lost (without plane.old plane.new) (whole plane.old) }
+{
+    let across = plane.size().width() as u32 / 64;
+    let end = plane.size().tiles();
+    let mut gained = [0; 4];
+    let mut lost = [0; 4];
+    if acting.is_still() {
+        return Change { gained, lost };
+    }
+    for i in 0..end {
+        let old = plane.tile(i);
+        let Some(new) = acting.on_tile(i % across * 64, i / across * 64, old) else {
+            continue;
+        };
+        let more = sums(gained, only_in(&new, old).count_by_parity());
+        let less = sums(lost, only_in(old, &new).count_by_parity());
+        plane.set_tile(i, new);
+        gained = more;
+        lost = less;
+    }
+    Change { gained, lost }
+}
+
+// the cells that one tile has and another lacks
+fn only_in(tile: &Tile, other: &Tile) -> Tile
+    ensures { HasCells result (λ x y. in_tile.has tile.now x y && not (in_tile.has other.now x y)) }
+{
+    let mut only = *tile;
+    only.cut(other);
+    only
+}
