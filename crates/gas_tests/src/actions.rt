@@ -1,0 +1,219 @@
+//! Runs with an action after each phase: worked examples, with values that were found by hand.
+
+ghost use Rattle.std.specs.Prelude.{◌≡◌, ◌<◌, true, false};
+ghost use Rattle.gas_terms.specs.Cells.{lies_within, extent};
+
+use gas_ledger::{Flow, Gas, Moved, Port, Ports, Sums};
+use gas_plane::{Plane, Tile};
+use gas_terms::{Pair, Rect, Size, Tick, Took};
+use phase_step::{Acting, Action, Change, Run, Serial, Stepper, act_on, sums_by_counts};
+use std::process::Abort;
+
+fn sums(count: i64, px: i64, py: i64) -> Sums {
+    Sums { count, px, py }
+}
+
+fn took(x: i64, y: i64) -> Took {
+    Took {
+        walls: Pair { x, y },
+        obstacles: Pair { x: 0, y: 0 },
+    }
+}
+
+// A gas of four tiles at the tick, with one port.
+fn gas_with(rt: &(impl Abort + AllocGlobal), number: i64, port: Port) -> Gas {
+    let size = Size::new(128, 128).expect(rt, "a size");
+    let tick = Tick::new(number).expect(rt, "a tick");
+    let particles = Plane::empty(rt.alloc(), size).expect(rt, "memory");
+    let walls = Plane::empty(rt.alloc(), size).expect(rt, "memory");
+    let obstacles = Plane::empty(rt.alloc(), size).expect(rt, "memory");
+    let mut gas = Gas::new(tick, particles, walls, obstacles, Ports::none());
+    let (area, period) = match port {
+        Port::Drain(area) => (area, 1),
+        Port::Source(area, period) => (area, period),
+    };
+    assert!(rt; area.fits(gas.size()));
+    assert!(rt; 1 <= period);
+    assert!(rt; gas.add_port(port).is_ok());
+    gas
+}
+
+fn cell(rt: &impl Abort, x: u32, y: u32) -> Rect {
+    let size = Size::new(128, 128).expect(rt, "a size");
+    Rect::within(size, x, y, 1, 1).expect(rt, "a cell")
+}
+
+fn put(rt: &impl Abort, gas: &mut Gas, x: u32, y: u32) {
+    let area = cell(rt, x, y);
+    assert!(rt; area.fits(gas.size()));
+    let moved = gas.fill_particles(area);
+    assert_eq!(rt; moved.injected.count, 1);
+}
+
+fn step_on(rt: &(impl Abort + AllocGlobal), gas: &mut Gas, n: u16) -> Flow {
+    let mut spare = Plane::empty(rt.alloc(), gas.size()).expect(rt, "memory");
+    assert!(rt; gas.tick().ahead(n).is_some());
+    gas.step_on(n, &mut spare, &mut Serial)
+}
+
+fn holds(plane: &Plane, x: u32, y: u32) -> bool {
+    let size = plane.size();
+    x < size.width() as u32 && y < size.height() as u32 && plane.get(x, y)
+}
+
+fn count(plane: &Plane) -> usize {
+    (0..128)
+        .map(|y| (0..128).filter(|x| holds(plane, *x, y)).count())
+        .sum()
+}
+
+// A source that acts at each tick: at tick 1 its particle goes up and to the left, and at tick 2 the next one down and to
+// the right.
+#[test]
+fn source_acts_at_each_tick_of_a_run(rt: HostRuntime) {
+    let mut gas = gas_with(&rt, 0, Port::Source(cell(&rt, 10, 10), 1));
+    let flow = step_on(&rt, &mut gas, 2);
+    assert_eq!(rt; gas.tick().get(), 2);
+    assert_eq!(rt; flow.moved.injected, sums(2, 0, 0));
+    assert_eq!(rt; flow.moved.drained, sums(0, 0, 0));
+    assert_eq!(rt; flow.took, took(0, 0));
+    assert!(rt; holds(gas.particles(), 9, 9) && holds(gas.particles(), 10, 10));
+    assert_eq!(rt; count(gas.particles()), 2);
+}
+
+#[test]
+fn source_of_a_run_keeps_its_period(rt: HostRuntime) {
+    for (start, n, times) in [(0, 1, 0), (0, 2, 1), (0, 3, 1), (1, 1, 1), (1, 3, 2), (-3, 3, 2)] {
+        let mut gas = gas_with(&rt, start, Port::Source(cell(&rt, 20, 30), 2));
+        let flow = step_on(&rt, &mut gas, n);
+        assert_eq!(rt; flow.moved.injected.count, times, "{n} from {start}");
+    }
+}
+
+// A particle crosses its block, is drained at tick 1, and is gone.
+#[test]
+fn drain_of_a_run_takes_once(rt: HostRuntime) {
+    let mut gas = gas_with(&rt, 0, Port::Drain(cell(&rt, 1, 1)));
+    put(&rt, &mut gas, 0, 0);
+    let flow = step_on(&rt, &mut gas, 3);
+    assert_eq!(rt; flow.moved.drained, sums(1, 1, 1));
+    assert_eq!(rt; flow.moved.injected, sums(0, 0, 0));
+    assert_eq!(rt; count(gas.particles()), 0);
+}
+
+// A wall takes what it turns back, before the port acts.
+#[test]
+fn wall_takes_in_a_run_with_ports(rt: HostRuntime) {
+    let mut gas = gas_with(&rt, 0, Port::Drain(cell(&rt, 100, 100)));
+    put(&rt, &mut gas, 0, 0);
+    gas.add_walls(cell(&rt, 1, 1));
+    let flow = step_on(&rt, &mut gas, 1);
+    assert_eq!(rt; flow.took, took(2, 2));
+    assert_eq!(rt; flow.moved.drained, sums(0, 0, 0));
+    assert!(rt; holds(gas.particles(), 0, 0));
+}
+
+// What leaves no cell held.
+#[derive(Drop)]
+struct Empties;
+
+impl Acting for Empties {
+    ghost leaves = { λ _ x y held. false };
+
+    fn is_still(&self) -> bool {
+        false
+    }
+
+    fn on_tile(&self, _left: u32, _top: u32, _tile: &Tile) -> Option<Tile> {
+        Some(Tile::empty())
+    }
+}
+
+impl Action for Empties {
+    ghost leaves = { λ _ k x y held. false };
+
+    type Turn = Empties;
+
+    fn after_phase(&self, _k: u16) -> Empties {
+        Empties
+    }
+}
+
+// two particles at tick 0, which both go right and down
+fn two(rt: &(impl Abort + AllocGlobal)) -> Plane {
+    let size = Size::new(128, 128).expect(rt, "a size");
+    let mut plane = Plane::empty(rt.alloc(), size).expect(rt, "memory");
+    plane.fill(cell(rt, 0, 0));
+    plane.fill(cell(rt, 70, 90));
+    plane
+}
+
+#[test]
+fn action_after_the_first_phase(rt: HostRuntime) {
+    let mut particles = two(&rt);
+    let size = particles.size();
+    let mut spare = Plane::empty(rt.alloc(), size).expect(&rt, "memory");
+    let walls = Plane::empty(rt.alloc(), size).expect(&rt, "memory");
+    let obstacles = Plane::empty(rt.alloc(), size).expect(&rt, "memory");
+    let run = Run {
+        walls: &walls,
+        obstacles: &obstacles,
+        parity: 0,
+        n: 3,
+        action: &Empties,
+    };
+    let flow = Serial.run_with(&mut particles, run, &mut spare);
+    assert_eq!(rt; flow.moved.drained, sums(2, 2, 2));
+    assert_eq!(rt; flow.moved.injected, sums(0, 0, 0));
+    assert_eq!(rt; flow.took, took(0, 0));
+    assert_eq!(rt; count(&particles), 0);
+}
+
+#[test]
+fn action_at_a_tick_of_each_parity(rt: HostRuntime) {
+    let mut particles = two(&rt);
+    let moved = act_on(&mut particles, &Empties, 0);
+    assert_eq!(rt; moved.drained, sums(2, 2, 2));
+    assert_eq!(rt; count(&particles), 0);
+    let mut others = two(&rt);
+    let moved = act_on(&mut others, &Empties, 1);
+    assert_eq!(rt; moved.drained, sums(2, -2, -2));
+}
+
+#[test]
+fn sums_by_classes(rt: HostRuntime) {
+    assert_eq!(rt; sums_by_counts([1, 2, 3, 4], 0), sums(10, -2, -4));
+    assert_eq!(rt; sums_by_counts([1, 2, 3, 4], 1), sums(10, 2, 4));
+    let change = Change {
+        gained: [1, 0, 0, 0],
+        lost: [0, 0, 0, 2],
+    };
+    let moved = change.moved(1);
+    assert_eq!(rt; moved.injected, sums(1, -1, -1));
+    assert_eq!(rt; moved.drained, sums(2, 2, 2));
+}
+
+#[test]
+fn flows_add_up(rt: HostRuntime) {
+    let some = Moved {
+        injected: sums(1, 1, -1),
+        drained: sums(2, 0, 2),
+    };
+    let more = Moved {
+        injected: sums(3, -1, 1),
+        drained: sums(5, 3, 1),
+    };
+    assert_eq!(rt; some.plus(more).injected, sums(4, 0, 0));
+    assert_eq!(rt; some.plus(more).drained, sums(7, 3, 3));
+    let first = Flow {
+        took: Took {
+            walls: Pair { x: 2, y: -2 },
+            obstacles: Pair { x: 0, y: 4 },
+        },
+        moved: some,
+    };
+    let flow = first.plus(first);
+    assert_eq!(rt; flow.took.walls, Pair { x: 4, y: -4 });
+    assert_eq!(rt; flow.took.obstacles, Pair { x: 0, y: 8 });
+    assert_eq!(rt; flow.moved.injected, sums(2, 2, -2));
+}
