@@ -127,6 +127,61 @@ fn wall_in_a_tile_at_an_even_tick(rt: HostRuntime) {
     assert!(rt; took.walls == Pair { x: -2, y: 2 } && took.obstacles == Pair { x: 0, y: 0 });
 }
 
+#[test]
+fn wall_in_the_last_row_holds_in_the_tile_below(rt: HostRuntime) {
+    // at an odd tick (10, 64) goes to the left and up, into the block of the wall in the last row of the tile above
+    let old = plane(&rt, 128, 128, &[(10, 64), (12, 64)]);
+    let none = plane(&rt, 128, 128, &[]);
+    let nothing = Pair { x: 0, y: 0 };
+    let back = Pair { x: -2, y: -2 };
+    let edge = plane(&rt, 128, 128, &[(9, 63)]);
+    for (walls, obstacles, by_walls, by_obstacles) in [
+        (&edge, &none, back, nothing),
+        (&none, &edge, nothing, back),
+    ] {
+        let mut out = plane(&rt, 128, 128, &[]);
+        let took = phase(&rt, &old, walls, obstacles, 1, &mut out);
+        let want = plane(&rt, 128, 128, &[(10, 64), (11, 63)]);
+        assert!(rt; are_same(&out, &want, 128, 128));
+        assert!(rt; took.walls == by_walls && took.obstacles == by_obstacles);
+    }
+}
+
+// where a particle at place k goes in its block, round a circle of 128 places
+fn across(k: u32, parity: u8) -> u32 {
+    if k % 2 == u32::from(parity) {
+        k.wrapping_add(1) % 128
+    } else {
+        k.wrapping_add(127) % 128
+    }
+}
+
+// what it gives where it is turned back
+fn given(k: u32, parity: u8) -> i64 {
+    if k % 2 == u32::from(parity) { 2 } else { -2 }
+}
+
+#[test]
+fn one_wall_in_each_row(rt: HostRuntime) {
+    let none = plane(&rt, 128, 128, &[]);
+    for parity in 0..2u8 {
+        for y in 0..64u32 {
+            let walls = plane(&rt, 128, 128, &[(5, y)]);
+            let old = plane(&rt, 128, 128, &[(5, y), (41, y)]);
+            let mut out = plane(&rt, 128, 128, &[]);
+            let took = phase(&rt, &old, &walls, &none, parity, &mut out);
+            let free = (across(41, parity), across(y, parity));
+            let want = plane(&rt, 128, 128, &[(5, y), free]);
+            assert!(rt; are_same(&out, &want, 128, 128));
+            let back = Pair {
+                x: given(5, parity),
+                y: given(y, parity),
+            };
+            assert!(rt; took.walls == back && took.obstacles == Pair { x: 0, y: 0 });
+        }
+    }
+}
+
 // a particle in each of the four corners steps over the seams to the corner across, and back
 fn cross_the_seams(rt: &(impl Abort + AllocGlobal), width: u32, height: u32) {
     assert!(rt; width > 0 && height > 0);
