@@ -16,7 +16,8 @@ impl Plane {
     /// even and odd, odd and odd.
     pub fn counts_in(&self, area: Rect) -> [u64; 4]
         requires { lies_within (extent self.now) area ≡ true }
-        ensures { (a b : ℕ) → a < 2 → b < 2 → slice_index result (2 * b + a) ≡ parity_count self.now area a b }
+        ensures { (a b : ℕ) → a < 2 → b < 2 →
+            slice_index result (2 * b + a) ≡ parity_count self.now area a b }
     {
         let across = self.across();
         let (left, right) = tiles_met(area.x() as u32, area.w() as u32, across);
