@@ -243,9 +243,7 @@ impl<S: Stepper> Lab<S> {
     {
         let particles = self.books.gas.particles();
         let len = particles.size().width() as usize / 8;
-        let Ok(mut row) = RowBits::zero(*self.journal.allocator(), len) else {
-            return Err(Refusal::Memory);
-        };
+        let mut row = RowBits::zero(*self.journal.allocator(), len)?;
         particles.row_bytes(y as u32, row.bytes_mut());
         Ok(Answer::RowIs(row))
     }
@@ -257,9 +255,7 @@ impl<S: Stepper> Lab<S> {
         ensures err { IfErr result (λ refusal. refusal ≡ Memory) }
     {
         let entry = &self.journal[k as usize];
-        let Ok(command) = entry.command.copy(*self.journal.allocator()) else {
-            return Err(Refusal::Memory);
-        };
+        let command = entry.command.copy(*self.journal.allocator())?;
         Ok(Answer::EntryIs(Entry {
             seat: entry.seat,
             command,
