@@ -8,3 +8,4 @@ pub mod Windows
 pub mod Transport
 pub mod Turned
 pub mod Gathered
+pub mod ActionLocality

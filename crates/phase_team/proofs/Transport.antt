@@ -29,7 +29,7 @@ cell_same : (q x y z : ℕ) (a b : Bool) → a ≡ b → has_parity q y ≡ has_
 cell_same q x y z a b e f = ap₂ (λ (t : Bool) (d : Bool). let v : Velocity = record { right = has_parity q x; down = d } in if t then v ∷ [] else []) e f
 
 -- the particles in a square, and in one that holds the same
-total_same : (q : ℕ) (some others : Cells) (x0 y0 y1 : ℕ) → y0 % 2 ≡ y1 % 2 → ((i j : ℕ) → i < 64 → j < 64 → has some (x0 + i) (y0 + j) ≡ has others (x0 + i) (y1 + j))
+pub total_same : (q : ℕ) (some others : Cells) (x0 y0 y1 : ℕ) → y0 % 2 ≡ y1 % 2 → ((i j : ℕ) → i < 64 → j < 64 → has some (x0 + i) (y0 + j) ≡ has others (x0 + i) (y1 + j))
     → total_in (pos q) some (square x0 y0) ≡ total_in (pos q) others (square x0 y1)
 total_same q some others x0 y0 y1 even same =
     ap sums_of
@@ -62,7 +62,7 @@ pub record IsPart (shift : ℕ) (hw ho w o : Cells) (cw ch width height : ℕ) :
   pub walls : (x y : ℕ) → x < cw → y < height → has hw x y ≡ has w x ((shift + y) % ch)
   pub obstacles : (x y : ℕ) → x < cw → y < height → has ho x y ≡ has o x ((shift + y) % ch)
 
-joined_row : (shift : ℕ) (hw ho w o : Cells) (cw ch width height : ℕ) → IsPart shift hw ho w o cw ch width height
+pub joined_row : (shift : ℕ) (hw ho w o : Cells) (cw ch width height : ℕ) → IsPart shift hw ho w o cw ch width height
     → (x y : ℕ) → x < cw → y < height → has (joined hw ho) x y ≡ has (joined w o) x ((shift + y) % ch)
 joined_row shift hw ho w o cw ch width height is x y l m =
     let z = (shift + y) % ch in
@@ -153,13 +153,13 @@ strip_after p shift hw ho w o c sc is start (suc k) =
     (subst (λ n. IsStrip (after p (joined hw ho) sc (suc k)) (after p (joined w o) c (suc k)) shift (k + 1) n) (let e : sc.height - k - 1 ≡ sc.height - suc k = omega arith in e) next)
 
 -- tiles that take the same
-tiles_same : (p : ℕ) (sc hw ho c w o : Cells) (a b n : ℕ) → ((i : ℕ) → i < n → taken_in (pos p) sc hw ho (tile_rectangle sc (a + i)) ≡ taken_in (pos p) c w o (tile_rectangle c (b + i)))
+pub tiles_same : (p : ℕ) (sc hw ho c w o : Cells) (a b n : ℕ) → ((i : ℕ) → i < n → taken_in (pos p) sc hw ho (tile_rectangle sc (a + i)) ≡ taken_in (pos p) c w o (tile_rectangle c (b + i)))
     → tiles_take p sc hw ho a n ≡ tiles_take p c w o b n
 tiles_same p sc hw ho c w o a b zero same = refl
 tiles_same p sc hw ho c w o a b (suc n) same = ap₂ took_plus (tiles_same p sc hw ho c w o a b n (λ i l. same i (omega arith))) (same n (omega arith))
 
 -- a tile of the strip's own, and the lattice's tile that it is
-tile_same : (p first rows down i : ℕ) (hw ho w o c sc : Cells) → let shift = (first + down - 1) * 64 in let a = c.width / 64 in
+pub tile_same : (p first rows down i : ℕ) (hw ho w o c sc : Cells) → let shift = (first + down - 1) * 64 in let a = c.width / 64 in
     IsPart shift hw ho w o c.width c.height sc.width sc.height → a * 64 ≡ c.width → 0 < a → c.height ≡ down * 64 → sc.height ≡ (rows + 2) * 64 → first + rows ≤ down → i < rows * a
     → ((x y : ℕ) → x < c.width → 64 ≤ y → y < 64 + rows * 64 → has sc x y ≡ has c x ((shift + y) % c.height))
     → taken_in (pos p) sc hw ho (tile_rectangle sc (a + i)) ≡ taken_in (pos p) c w o (tile_rectangle c (first * a + i))

@@ -2,3 +2,4 @@ pub mod Tiles
 pub mod Teamwork
 pub mod Strips
 pub mod Work
+pub mod ActionStrips
