@@ -9,3 +9,4 @@ pub mod Transport
 pub mod Turned
 pub mod Gathered
 pub mod ActionLocality
+pub mod ActionMoves
