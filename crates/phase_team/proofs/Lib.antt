@@ -10,3 +10,4 @@ pub mod Turned
 pub mod Gathered
 pub mod ActionLocality
 pub mod ActionMoves
+pub mod ActionSums
