@@ -11,3 +11,4 @@ pub mod Gathered
 pub mod ActionLocality
 pub mod ActionMoves
 pub mod ActionSums
+pub mod ActionTurned

@@ -13,7 +13,7 @@ window_row c shift h m e x y l q = has-cells_where c.width h (λ x y. has c x ((
 two_rows : (rows : ℕ) → (rows + 2) * 64 % 2 ≡ 0
 two_rows rows = omega arith
 
-part_is : (first rows : ℕ) (w o c : Cells) → is_size (extent c) ≡ true → HasSidesOf w c → HasSidesOf o c → let shift = shift_of c first in let h = (rows + 2) * 64 in
+pub part_is : (first rows : ℕ) (w o c : Cells) → is_size (extent c) ≡ true → HasSidesOf w c → HasSidesOf o c → let shift = shift_of c first in let h = (rows + 2) * 64 in
     IsPart shift (window w shift h) (window o shift h) w o c.width c.height c.width h
 part_is first rows w o c sized of_walls of_obstacles =
     let shift = shift_of c first in
@@ -39,7 +39,7 @@ part_is first rows w o c sized of_walls of_obstacles =
       obstacles = λ x y l m. window_row o shift h c.height of_obstacles.high x y (subst (λ n. x < n) (sym of_obstacles.wide) l) m;
     }
 
-start_is : (first rows : ℕ) (c : Cells) → let shift = shift_of c first in IsStrip (window c shift ((rows + 2) * 64)) c shift 0 ((rows + 2) * 64)
+pub start_is : (first rows : ℕ) (c : Cells) → let shift = shift_of c first in IsStrip (window c shift ((rows + 2) * 64)) c shift 0 ((rows + 2) * 64)
 start_is first rows c = record { wide = refl; row = λ x y l _ m. window_row c (shift_of c first) ((rows + 2) * 64) c.height refl x y l m }
 
 pub own_is : (p first rows k : ℕ) (w o c : Cells) → is_size (extent c) ≡ true → HasSidesOf w c → HasSidesOf o c → k ≤ 64 → let shift = shift_of c first in let h = (rows + 2) * 64 in
