@@ -12,3 +12,4 @@ pub mod ActionLocality
 pub mod ActionMoves
 pub mod ActionSums
 pub mod ActionTurned
+pub mod ActionBounds
