@@ -3,7 +3,7 @@
 ghost use Rattle.std.specs.Prelude.{◌≡◌, ◌<◌, true, false};
 ghost use Rattle.gas_terms.specs.Cells.{lies_within, extent};
 
-use gas_ledger::{Flow, Gas, Moved, Port, Ports, Sums};
+use gas_ledger::{Flow, Gas, Moved, Port, Ports, Sums, tally};
 use gas_plane::{Plane, Tile};
 use gas_terms::{Pair, Rect, Size, Tick, Took};
 use phase_step::{Acting, Action, Change, Run, Serial, Stepper, act_on, sums_by_counts};
@@ -20,32 +20,41 @@ fn took(x: i64, y: i64) -> Took {
     }
 }
 
-// A gas of four tiles at the tick, with one port.
-fn gas_with(rt: &(impl Abort + AllocGlobal), number: i64, port: Port) -> Gas {
+fn tick(rt: &impl Abort, number: i64) -> Tick {
+    Tick::new(number).expect(rt, "a tick")
+}
+
+// A gas of four tiles without cells and ports.
+fn gas_at(rt: &(impl Abort + AllocGlobal), number: i64) -> Gas {
     let size = Size::new(128, 128).expect(rt, "a size");
-    let tick = Tick::new(number).expect(rt, "a tick");
     let particles = Plane::empty(rt.alloc(), size).expect(rt, "memory");
     let walls = Plane::empty(rt.alloc(), size).expect(rt, "memory");
     let obstacles = Plane::empty(rt.alloc(), size).expect(rt, "memory");
-    let mut gas = Gas::new(tick, particles, walls, obstacles, Ports::none());
-    let (area, period) = match port {
-        Port::Drain(area) => (area, 1),
-        Port::Source(area, period) => (area, period),
-    };
-    assert!(rt; area.fits(gas.size()));
-    assert!(rt; 1 <= period);
-    assert!(rt; gas.add_port(port).is_ok());
-    gas
+    Gas::new(tick(rt, number), particles, walls, obstacles, Ports::none())
 }
 
-fn cell(rt: &impl Abort, x: u32, y: u32) -> Rect {
-    let size = Size::new(128, 128).expect(rt, "a size");
-    Rect::within(size, x, y, 1, 1).expect(rt, "a cell")
+// a cell of the gas
+fn cell(rt: &impl Abort, gas: &Gas, x: u32, y: u32) -> Rect
+    ensures { lies_within (extent gas.now.particles) result ≡ true }
+{
+    let cell = Rect::within(gas.size(), x, y, 1, 1).expect(rt, "a cell");
+    assert!(rt; cell.fits(gas.size()));
+    cell
+}
+
+fn source(rt: &impl Abort, gas: &mut Gas, x: u32, y: u32, period: u16) {
+    let area = cell(rt, gas, x, y);
+    assert!(rt; 1 <= period);
+    assert!(rt; gas.add_port(Port::Source(area, period)).is_ok());
+}
+
+fn drain(rt: &impl Abort, gas: &mut Gas, x: u32, y: u32) {
+    let area = cell(rt, gas, x, y);
+    assert!(rt; gas.add_port(Port::Drain(area)).is_ok());
 }
 
 fn put(rt: &impl Abort, gas: &mut Gas, x: u32, y: u32) {
-    let area = cell(rt, x, y);
-    assert!(rt; area.fits(gas.size()));
+    let area = cell(rt, gas, x, y);
     let moved = gas.fill_particles(area);
     assert_eq!(rt; moved.injected.count, 1);
 }
@@ -61,30 +70,37 @@ fn holds(plane: &Plane, x: u32, y: u32) -> bool {
     x < size.width() as u32 && y < size.height() as u32 && plane.get(x, y)
 }
 
-fn count(plane: &Plane) -> usize {
-    (0..128)
-        .map(|y| (0..128).filter(|x| holds(plane, *x, y)).count())
-        .sum()
+fn count(rt: &impl Abort, plane: &Plane) -> i64 {
+    tally(plane, tick(rt, 0)).count
 }
 
 // A source that acts at each tick: at tick 1 its particle goes up and to the left, and at tick 2 the next one down and to
 // the right.
 #[test]
 fn source_acts_at_each_tick_of_a_run(rt: HostRuntime) {
-    let mut gas = gas_with(&rt, 0, Port::Source(cell(&rt, 10, 10), 1));
+    let mut gas = gas_at(&rt, 0);
+    source(&rt, &mut gas, 10, 10, 1);
     let flow = step_on(&rt, &mut gas, 2);
     assert_eq!(rt; gas.tick().get(), 2);
     assert_eq!(rt; flow.moved.injected, sums(2, 0, 0));
     assert_eq!(rt; flow.moved.drained, sums(0, 0, 0));
     assert_eq!(rt; flow.took, took(0, 0));
     assert!(rt; holds(gas.particles(), 9, 9) && holds(gas.particles(), 10, 10));
-    assert_eq!(rt; count(gas.particles()), 2);
+    assert_eq!(rt; count(&rt, gas.particles()), 2);
 }
 
 #[test]
 fn source_of_a_run_keeps_its_period(rt: HostRuntime) {
-    for (start, n, times) in [(0, 1, 0), (0, 2, 1), (0, 3, 1), (1, 1, 1), (1, 3, 2), (-3, 3, 2)] {
-        let mut gas = gas_with(&rt, start, Port::Source(cell(&rt, 20, 30), 2));
+    for (start, n, times) in [
+        (0, 1, 0),
+        (0, 2, 1),
+        (0, 3, 1),
+        (1, 1, 1),
+        (1, 3, 2),
+        (-3, 3, 2),
+    ] {
+        let mut gas = gas_at(&rt, start);
+        source(&rt, &mut gas, 20, 30, 2);
         let flow = step_on(&rt, &mut gas, n);
         assert_eq!(rt; flow.moved.injected.count, times, "{n} from {start}");
     }
@@ -93,20 +109,23 @@ fn source_of_a_run_keeps_its_period(rt: HostRuntime) {
 // A particle crosses its block, is drained at tick 1, and is gone.
 #[test]
 fn drain_of_a_run_takes_once(rt: HostRuntime) {
-    let mut gas = gas_with(&rt, 0, Port::Drain(cell(&rt, 1, 1)));
+    let mut gas = gas_at(&rt, 0);
+    drain(&rt, &mut gas, 1, 1);
     put(&rt, &mut gas, 0, 0);
     let flow = step_on(&rt, &mut gas, 3);
     assert_eq!(rt; flow.moved.drained, sums(1, 1, 1));
     assert_eq!(rt; flow.moved.injected, sums(0, 0, 0));
-    assert_eq!(rt; count(gas.particles()), 0);
+    assert_eq!(rt; count(&rt, gas.particles()), 0);
 }
 
 // A wall takes what it turns back, before the port acts.
 #[test]
 fn wall_takes_in_a_run_with_ports(rt: HostRuntime) {
-    let mut gas = gas_with(&rt, 0, Port::Drain(cell(&rt, 100, 100)));
+    let mut gas = gas_at(&rt, 0);
+    drain(&rt, &mut gas, 100, 100);
     put(&rt, &mut gas, 0, 0);
-    gas.add_walls(cell(&rt, 1, 1));
+    let wall = cell(&rt, &gas, 1, 1);
+    gas.add_walls(wall);
     let flow = step_on(&rt, &mut gas, 1);
     assert_eq!(rt; flow.took, took(2, 2));
     assert_eq!(rt; flow.moved.drained, sums(0, 0, 0));
@@ -143,8 +162,9 @@ impl Action for Empties {
 fn two(rt: &(impl Abort + AllocGlobal)) -> Plane {
     let size = Size::new(128, 128).expect(rt, "a size");
     let mut plane = Plane::empty(rt.alloc(), size).expect(rt, "memory");
-    plane.fill(cell(rt, 0, 0));
-    plane.fill(cell(rt, 70, 90));
+    for (x, y) in [(0, 0), (70, 90)] {
+        plane.fill(Rect::within(size, x, y, 1, 1).expect(rt, "a cell"));
+    }
     plane
 }
 
@@ -166,7 +186,7 @@ fn action_after_the_first_phase(rt: HostRuntime) {
     assert_eq!(rt; flow.moved.drained, sums(2, 2, 2));
     assert_eq!(rt; flow.moved.injected, sums(0, 0, 0));
     assert_eq!(rt; flow.took, took(0, 0));
-    assert_eq!(rt; count(&particles), 0);
+    assert_eq!(rt; count(&rt, &particles), 0);
 }
 
 #[test]
@@ -174,7 +194,7 @@ fn action_at_a_tick_of_each_parity(rt: HostRuntime) {
     let mut particles = two(&rt);
     let moved = act_on(&mut particles, &Empties, 0);
     assert_eq!(rt; moved.drained, sums(2, 2, 2));
-    assert_eq!(rt; count(&particles), 0);
+    assert_eq!(rt; count(&rt, &particles), 0);
     let mut others = two(&rt);
     let moved = act_on(&mut others, &Empties, 1);
     assert_eq!(rt; moved.drained, sums(2, -2, -2));

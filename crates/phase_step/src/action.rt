@@ -48,7 +48,8 @@ pub fn act_on<T: Acting>(plane: &mut Plane, acting: &T, parity: u8) -> Moved
     requires { parity < 2 }
     ensures lattice { IsLattice plane.old }
     ensures cells { plane.new ≡ acted (T.leaves acting.now) plane.old }
-    ensures moved { (tick : ℤ) → of_tick tick ≡ parity → result ≡ moved_by tick plane.old plane.new }
+    ensures moved { (tick : ℤ) → of_tick tick ≡ parity →
+        result ≡ moved_by tick plane.old plane.new }
 {
     act(plane, acting).moved(parity)
 }
