@@ -3,7 +3,7 @@
 ghost use Rattle.std.specs.Prelude.{◌≡◌, ◌<◌, true, false};
 ghost use Rattle.gas_terms.specs.Cells.{lies_within, extent};
 
-use gas_ledger::{Flow, Gas, Moved, Port, Ports, Sums, tally};
+use gas_ledger::{Flow, Gas, Port, Ports, Sums, tally};
 use gas_plane::{Plane, Tile};
 use gas_terms::{Pair, Rect, Size, Tick, Took};
 use phase_step::{Acting, Action, Change, Run, Serial, Stepper, act_on, sums_by_counts};
@@ -211,29 +211,4 @@ fn sums_by_classes(rt: HostRuntime) {
     let moved = change.moved(1);
     assert_eq!(rt; moved.injected, sums(1, -1, -1));
     assert_eq!(rt; moved.drained, sums(2, 2, 2));
-}
-
-#[test]
-fn flows_add_up(rt: HostRuntime) {
-    let some = Moved {
-        injected: sums(1, 1, -1),
-        drained: sums(2, 0, 2),
-    };
-    let more = Moved {
-        injected: sums(3, -1, 1),
-        drained: sums(5, 3, 1),
-    };
-    assert_eq!(rt; some.plus(more).injected, sums(4, 0, 0));
-    assert_eq!(rt; some.plus(more).drained, sums(7, 3, 3));
-    let first = Flow {
-        took: Took {
-            walls: Pair { x: 2, y: -2 },
-            obstacles: Pair { x: 0, y: 4 },
-        },
-        moved: some,
-    };
-    let flow = first.plus(first);
-    assert_eq!(rt; flow.took.walls, Pair { x: 4, y: -4 });
-    assert_eq!(rt; flow.took.obstacles, Pair { x: 0, y: 8 });
-    assert_eq!(rt; flow.moved.injected, sums(2, 2, -2));
 }
