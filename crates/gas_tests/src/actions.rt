@@ -6,10 +6,12 @@ ghost use Rattle.gas_terms.specs.Cells.{lies_within, extent};
 use gas_ledger::{Flow, Gas, Port, Ports, Sums, tally};
 use gas_plane::{Plane, Tile};
 use gas_terms::{Pair, Rect, Size, Tick, Took};
-use phase_step::{Acting, Action, Change, Run, Serial, Stepper, act_on, sums_by_counts};
+use phase_step::{Acting, Action, Change, Moved, Run, Serial, Stepper, act_on, sums_by_counts};
 use std::process::Abort;
 
-fn sums(count: i64, px: i64, py: i64) -> Sums {
+fn sums(count: i64, px: i64, py: i64) -> Sums
+    ensures { result ≡ record { count = count; px = px; py = py } }
+{
     Sums { count, px, py }
 }
 
@@ -211,4 +213,48 @@ fn sums_by_classes(rt: HostRuntime) {
     let moved = change.moved(1);
     assert_eq!(rt; moved.injected, sums(1, -1, -1));
     assert_eq!(rt; moved.drained, sums(2, 2, 2));
+}
+
+#[test]
+fn changes_add_up(rt: HostRuntime) {
+    let some = Moved {
+        injected: sums(9, 1, -3),
+        drained: sums(80, 20, -40),
+    };
+    let more = Moved {
+        injected: sums(700, -500, 600),
+        drained: sums(6000, 4000, -2000),
+    };
+    let both = some.plus(more);
+    assert_eq!(rt; both.injected, sums(709, -499, 597));
+    assert_eq!(rt; both.drained, sums(6080, 4020, -2040));
+}
+
+#[test]
+fn flows_add_up(rt: HostRuntime) {
+    let some = Flow {
+        took: Took {
+            walls: Pair { x: 2, y: -4 },
+            obstacles: Pair { x: 6, y: -8 },
+        },
+        moved: Moved {
+            injected: sums(9, 1, -3),
+            drained: sums(7, -5, -1),
+        },
+    };
+    let more = Flow {
+        took: Took {
+            walls: Pair { x: 20, y: 400 },
+            obstacles: Pair { x: -60, y: -600 },
+        },
+        moved: Moved {
+            injected: sums(70, -50, 30),
+            drained: sums(900, 300, 700),
+        },
+    };
+    let both = some.plus(more);
+    assert_eq!(rt; both.took.walls, Pair { x: 22, y: 396 });
+    assert_eq!(rt; both.took.obstacles, Pair { x: -54, y: -608 });
+    assert_eq!(rt; both.moved.injected, sums(79, -49, 27));
+    assert_eq!(rt; both.moved.drained, sums(907, 295, 699));
 }
