@@ -1,10 +1,10 @@
 -- Runs with an action after each phase, phase by phase, and how much they move.
-use Rattle.std.proofs.Common.{◌≡◌, ℕ, zero, suc, ◌+◌, ◌-◌, ◌*◌, ◌/◌, ◌%◌, ◌<◌, ◌≤◌, ◌^◌, Bool, true, ℤ, pos, nat_abs, w64, FitsSigned, refl, sym, ap, ap₂, ◌∙◌, subst, arith, add-one}
+use Rattle.std.proofs.Common.{◌≡◌, ℕ, zero, suc, ◌+◌, ◌-◌, ◌*◌, ◌/◌, ◌%◌, ◌<◌, ◌≤◌, ◌^◌, Bool, true, ℤ, pos, nat_abs, refl, sym, ap, ap₂, ◌∙◌, subst, arith, add-one}
 use Rattle.std.proofs.lemmas.Int.{ints}
 use Rattle.gas_terms.specs.Cells.{Cells, HasSidesOf, has, joined, without, extent, is_size, tile_count}
 use Rattle.gas_terms.specs.Gas.{streamed}
 use Rattle.gas_terms.specs.Velocity.{parity as of_tick}
-use Rattle.gas_terms.specs.Accounts.{taken, took_plus, plus, SumsFit, IsOfAtMost}
+use Rattle.gas_terms.specs.Accounts.{taken, took_plus, SumsFit, IsOfAtMost}
 use Rattle.gas_terms.specs.Accounts as accounts
 use Rattle.gas_terms.specs.declared.accounts.Sums.{Sums}
 use Rattle.gas_terms.specs.declared.accounts.Took.{Took}
@@ -19,7 +19,7 @@ use Rattle.phase_step.specs.Actions.{Leaves, acted, after_with, takes_with, move
 use Rattle.phase_step.specs.declared.moved.Moved.{Moved}
 use Rattle.phase_step.specs.declared.moved.Flow.{Flow}
 use Rattle.phase_step.proofs.PhaseSweeps.{sized_as, tiles_as}
-use Rattle.phase_step.proofs.RunTakes.{IsWithin, within_nothing, within_plus, within_fits, taken_within}
+use Rattle.phase_step.proofs.RunTakes.{IsWithin, within_nothing, within_plus, int_fits, within_fits, taken_within}
 
 -- what leaves the same cells acts alike
 pub acted_same : (some others : Leaves) (cells : Cells) → ((x y : ℕ) (held : Bool) → some x y held ≡ others x y held) → acted some cells ≡ acted others cells
@@ -133,15 +133,12 @@ moves_with_bounded p solid leaves c (suc k) sized =
       drained = plus-bounded (2 ^ 24 * k) (2 ^ 24) _ _ before.drained now.drained;
     } in both)
 
-fits : (z : ℤ) (n : ℕ) → nat_abs z ≤ n → n ≤ 2 ^ 48 → FitsSigned w64 z
-fits z n h few = omega (arith, ints)
-
 pub bounded_fits : (n : ℕ) (s : Sums) → IsOfAtMost n s → n ≤ 2 ^ 48 → SumsFit s
 bounded_fits n s is few =
     let count = is.count in
     let x : nat_abs s.px ≤ n = let h = is.x in omega arith in
     let y : nat_abs s.py ≤ n = let h = is.y in omega arith in
-    (fits s.count n count few, fits s.px n x few, fits s.py n y few)
+    (int_fits s.count n count few, int_fits s.px n x few, int_fits s.py n y few)
 
 -- the particles on the way are of the start's size
 come_sides : (p : ℕ) (w o : Cells) (leaves : ℕ → Leaves) (c : Cells) (k : ℕ) (now come next : Cells) (here : Flow) → IsPhaseWith p w o leaves c k now come next here → HasSidesOf come c

@@ -16,7 +16,8 @@ use Rattle.gas_terms.proofs.Steps.{unstreamed-streamed}
 use Rattle.gas_terms.proofs.Stretches.{IsReady, stepped-ready, stepped-plain}
 use Rattle.gas_terms.proofs.StoppedTotals.{taken-streamed}
 use Rattle.phase_step.specs.Runs.{parity_at, after, nothing, takes_after, takes_before, ran, ran_back}
-use Rattle.phase_step.proofs.RunTakes.{pair_made, sides_after}
+use Rattle.phase_step.proofs.TakenSums.{pair_same}
+use Rattle.phase_step.proofs.RunTakes.{sides_after}
 
 -- the parity so many ticks later
 other : (p q k : ℕ) → p < 2 → q ≡ 1 - (p + k) % 2 → q ≡ (p + suc k) % 2
@@ -44,16 +45,16 @@ made : (l : Ledger) (a b c d : Pair) → a ≡ c → b ≡ d → record l { wall
 made l a b c d e f = ap₂ (λ w o. record l { walls = w; obstacles = o }) e f
 
 plus_twice : (a b c : Pair) → pair_plus (pair_plus a b) c ≡ pair_plus a (pair_plus b c)
-plus_twice a b c = pair_made _ _ _ _ (omega (arith, ints)) (omega (arith, ints))
+plus_twice a b c = pair_same (omega (arith, ints)) (omega (arith, ints))
 
 minus_twice : (a b c : Pair) → pair_minus (pair_minus a b) c ≡ pair_minus a (pair_plus b c)
-minus_twice a b c = pair_made _ _ _ _ (omega (arith, ints)) (omega (arith, ints))
+minus_twice a b c = pair_same (omega (arith, ints)) (omega (arith, ints))
 
 plus_none : (a : Pair) → a ≡ pair_plus a (record { x = pos 0; y = pos 0 })
-plus_none a = pair_made _ _ _ _ (omega (arith, ints)) (omega (arith, ints))
+plus_none a = pair_same (omega (arith, ints)) (omega (arith, ints))
 
 minus_none : (a : Pair) → a ≡ pair_minus a (record { x = pos 0; y = pos 0 })
-minus_none a = pair_made _ _ _ _ (omega (arith, ints)) (omega (arith, ints))
+minus_none a = pair_same (omega (arith, ints)) (omega (arith, ints))
 
 pub taken_twice : (l : Ledger) (t u : Took) → with_taken (with_taken l t) u ≡ with_taken l (took_plus t u)
 taken_twice l t u = made l _ _ _ _ (plus_twice l.walls t.walls u.walls) (plus_twice l.obstacles t.obstacles u.obstacles)

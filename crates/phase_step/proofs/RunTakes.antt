@@ -6,13 +6,12 @@ use Rattle.gas_terms.specs.Cells.{Cells, HasSidesOf, joined, extent, is_size, ti
 use Rattle.gas_terms.specs.Gas.{streamed, takes_for_walls, takes_for_obstacles}
 use Rattle.gas_terms.specs.Velocity.{parity}
 use Rattle.gas_terms.specs.Accounts.{taken, took_plus, pair_plus, TakenFits, total_in, stopped}
-use Rattle.gas_terms.specs.declared.accounts.Pair.{Pair}
 use Rattle.gas_terms.specs.declared.accounts.Took.{Took}
 use Rattle.gas_terms.proofs.StoppedTotals.{taken-stopped}
 use Rattle.gas_terms.proofs.TileTotals.{total-tiles}
 use Rattle.gas_terms.proofs.RectangleTotals.{parity_count-small, total_in-parities}
 use Rattle.block_rule.specs.Windows.{taken_in}
-use Rattle.phase_step.proofs.TakenSums.{small_tile, took_below, took_next, took_all}
+use Rattle.phase_step.proofs.TakenSums.{pair_same, took_same, small_sum, small_tile, took_below, took_next, took_all}
 use Rattle.phase_step.specs.Runs.{parity_at, after, nothing, run_takes, tiles_take, tiles_take_in_run}
 
 -- no component is above k
@@ -25,9 +24,6 @@ pub record IsWithin (k : ℕ) (t : Took) : Type 0 where
 pub within_nothing : (k : ℕ) → IsWithin k nothing
 within_nothing k = record { wx = omega arith; wy = omega arith; ox = omega arith; oy = omega arith }
 
-small_sum : (a b : ℤ) (m n : ℕ) → nat_abs a ≤ m → nat_abs b ≤ n → nat_abs (a +ℤ b) ≤ m + n
-small_sum a b m n p q = omega (arith, ints)
-
 pub within_plus : (a b : Took) (m n : ℕ) → IsWithin m a → IsWithin n b → IsWithin (m + n) (took_plus a b)
 within_plus a b m n p q = record {
   wx = small_sum a.walls.x b.walls.x m n p.wx q.wx;
@@ -36,18 +32,18 @@ within_plus a b m n p q = record {
   oy = small_sum a.obstacles.y b.obstacles.y m n p.oy q.oy;
 }
 
-fits : (z : ℤ) (k : ℕ) → nat_abs z ≤ k → k ≤ 2 ^ 48 → FitsSigned w64 z
-fits z k h few = omega (arith, ints)
+pub int_fits : (z : ℤ) (k : ℕ) → nat_abs z ≤ k → k ≤ 2 ^ 48 → FitsSigned w64 z
+int_fits z k h few = omega (arith, ints)
 
 -- two amounts of which the sum may be made
 pub within_fits : (a b : Took) (m n : ℕ) → IsWithin m a → IsWithin n b → m + n ≤ 2 ^ 48
     → TakenFits (pair_plus a.walls b.walls) × TakenFits (pair_plus a.obstacles b.obstacles)
 within_fits a b m n p q few =
     let all = within_plus a b m n p q in
-    ((fits _ (m + n) all.wx few, fits _ (m + n) all.wy few), (fits _ (m + n) all.ox few, fits _ (m + n) all.oy few))
+    ((int_fits _ (m + n) all.wx few, int_fits _ (m + n) all.wy few), (int_fits _ (m + n) all.ox few, int_fits _ (m + n) all.oy few))
 
-twice : (z : ℤ) → nat_abs z ≤ 8192 → nat_abs (pos 2 *ℤ z) ≤ 16384
-twice z h = omega (arith, ints)
+pub twice_small_tile : (z : ℤ) → nat_abs z ≤ 8192 → nat_abs (pos 2 *ℤ z) ≤ 16384
+twice_small_tile z h = omega (arith, ints)
 
 pub tile_within : (p : ℕ) (c w o : Cells) (i : ℕ) → IsWithin 16384 (taken_in (pos p) c w o (tile_rectangle c i))
 tile_within p c w o i =
@@ -55,7 +51,7 @@ tile_within p c w o i =
     let of_obstacles = small_tile (pos p) (stopped (parity (pos p)) c (takes_for_obstacles w o)) i parity_count-small total_in-parities in
     let s = total_in (pos p) (stopped (parity (pos p)) c (takes_for_walls w o)) (tile_rectangle c i) in
     let t = total_in (pos p) (stopped (parity (pos p)) c (takes_for_obstacles w o)) (tile_rectangle c i) in
-    record { wx = twice s.px of_walls.x; wy = twice s.py of_walls.y; ox = twice t.px of_obstacles.x; oy = twice t.py of_obstacles.y }
+    record { wx = twice_small_tile s.px of_walls.x; wy = twice_small_tile s.py of_walls.y; ox = twice_small_tile t.px of_obstacles.x; oy = twice_small_tile t.py of_obstacles.y }
 
 pub tiles_within : (p : ℕ) (c w o : Cells) (first n : ℕ) → IsWithin (16384 * n) (tiles_take p c w o first n)
 tiles_within p c w o first zero = within_nothing (16384 * 0)
@@ -71,38 +67,31 @@ run_within p w o c first n (suc k) =
     subst (λ m. IsWithin m (tiles_take_in_run p w o c first n (suc k))) e
     (within_plus _ _ (16384 * n * k) (16384 * n) (run_within p w o c first n k) (tiles_within (parity_at p k) (after p (joined w o) c k) w o first n))
 
--- amounts by their components
-pub pair_made : (a b c d : ℤ) → a ≡ c → b ≡ d → (let p : Pair = record { x = a; y = b } in p) ≡ (let q : Pair = record { x = c; y = d } in q)
-pair_made a b c d e f = ap₂ (λ x y. let p : Pair = record { x = x; y = y } in p) e f
-
-took_made : (a b c d : Pair) → a ≡ c → b ≡ d → (let p : Took = record { walls = a; obstacles = b } in p) ≡ (let q : Took = record { walls = c; obstacles = d } in q)
-took_made a b c d e f = ap₂ (λ x y. let p : Took = record { walls = x; obstacles = y } in p) e f
-
-four : (a b c d : ℤ) → (a +ℤ b) +ℤ (c +ℤ d) ≡ (a +ℤ c) +ℤ (b +ℤ d)
-four a b c d = omega (arith, ints)
+pub ints_crossed : (a b c d : ℤ) → (a +ℤ b) +ℤ (c +ℤ d) ≡ (a +ℤ c) +ℤ (b +ℤ d)
+ints_crossed a b c d = omega (arith, ints)
 
 -- two sums of two
 pub crossed : (a b c d : Took) → took_plus (took_plus a b) (took_plus c d) ≡ took_plus (took_plus a c) (took_plus b d)
 crossed a b c d =
-    took_made _ _ _ _
-    (pair_made _ _ _ _ (four a.walls.x b.walls.x c.walls.x d.walls.x) (four a.walls.y b.walls.y c.walls.y d.walls.y))
-    (pair_made _ _ _ _ (four a.obstacles.x b.obstacles.x c.obstacles.x d.obstacles.x) (four a.obstacles.y b.obstacles.y c.obstacles.y d.obstacles.y))
+    took_same
+    (pair_same (ints_crossed a.walls.x b.walls.x c.walls.x d.walls.x) (ints_crossed a.walls.y b.walls.y c.walls.y d.walls.y))
+    (pair_same (ints_crossed a.obstacles.x b.obstacles.x c.obstacles.x d.obstacles.x) (ints_crossed a.obstacles.y b.obstacles.y c.obstacles.y d.obstacles.y))
 
-three : (a b c : ℤ) → (a +ℤ b) +ℤ c ≡ a +ℤ (b +ℤ c)
-three a b c = omega (arith, ints)
+pub ints_regrouped : (a b c : ℤ) → (a +ℤ b) +ℤ c ≡ a +ℤ (b +ℤ c)
+ints_regrouped a b c = omega (arith, ints)
 
 pub regrouped : (a b c : Took) → took_plus (took_plus a b) c ≡ took_plus a (took_plus b c)
 regrouped a b c =
-    took_made _ _ _ _
-    (pair_made _ _ _ _ (three a.walls.x b.walls.x c.walls.x) (three a.walls.y b.walls.y c.walls.y))
-    (pair_made _ _ _ _ (three a.obstacles.x b.obstacles.x c.obstacles.x) (three a.obstacles.y b.obstacles.y c.obstacles.y))
+    took_same
+    (pair_same (ints_regrouped a.walls.x b.walls.x c.walls.x) (ints_regrouped a.walls.y b.walls.y c.walls.y))
+    (pair_same (ints_regrouped a.obstacles.x b.obstacles.x c.obstacles.x) (ints_regrouped a.obstacles.y b.obstacles.y c.obstacles.y))
 
-none : (a : ℤ) → a ≡ a +ℤ pos 0
-none a = omega (arith, ints)
+pub int_plus_zero : (a : ℤ) → a ≡ a +ℤ pos 0
+int_plus_zero a = omega (arith, ints)
 
 pub plus_nothing : (a : Took) → a ≡ took_plus a nothing
 plus_nothing a =
-    took_made _ _ _ _ (pair_made _ _ _ _ (none a.walls.x) (none a.walls.y)) (pair_made _ _ _ _ (none a.obstacles.x) (none a.obstacles.y))
+    took_same (pair_same (int_plus_zero a.walls.x) (int_plus_zero a.walls.y)) (pair_same (int_plus_zero a.obstacles.x) (int_plus_zero a.obstacles.y))
 
 -- tiles one after another
 pub tiles_split : (p : ℕ) (c w o : Cells) (first a b : ℕ) → tiles_take p c w o first (a + b) ≡ took_plus (tiles_take p c w o first a) (tiles_take p c w o (first + a) b)

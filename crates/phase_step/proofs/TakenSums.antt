@@ -14,21 +14,26 @@ use Rattle.gas_plane.proofs.Places.{wide, high}
 use Rattle.block_rule.specs.Windows.{taken_in}
 use Rattle.phase_step.proofs.PhaseSweeps.{even_sides, whole_tiles}
 
+-- lists and sums, one more at the end
 range_last : (a n : ℕ) → range_with_len a (suc n) ≡ range_with_len a n ++ (a + n) ∷ []
 range_last a zero = ap (λ k. k ∷ []) (let e : a ≡ a + 0 = omega arith in e)
 range_last a (suc n) = ap (λ ks. a ∷ ks) (range_last (a + 1) n ∙ ap (λ k. range_with_len (a + 1) n ++ k ∷ []) (let e : a + 1 + n ≡ a + suc n = omega arith in e))
 
-plus_last : (f : ℕ → Sums) (n : ℕ) → plus_all f (range_with_len 0 (suc n)) ≡ plus (plus_all f (range_with_len 0 n)) (f n)
+pub plus_last : (f : ℕ → Sums) (n : ℕ) → plus_all f (range_with_len 0 (suc n)) ≡ plus (plus_all f (range_with_len 0 n)) (f n)
 plus_last f n =
     ap (plus_all f) (range_last 0 n)
     ∙ (fold-append (λ s x. plus s (f x)) nothing (range_with_len 0 n) ((0 + n) ∷ [])
     ∙ ap (λ k. plus (plus_all f (range_with_len 0 n)) (f k)) (let e : 0 + n ≡ n = omega arith in e))
 
-pair_same : (a b c d : ℤ) → a ≡ c → b ≡ d → (let p : Pair = record { x = a; y = b } in p) ≡ (let q : Pair = record { x = c; y = d } in q)
-pair_same a b c d e f = ap₂ (λ x y. let p : Pair = record { x = x; y = y } in p) e f
+-- amounts by their components
+pub pair_same : {a b c d : ℤ} → a ≡ c → b ≡ d → (let p : Pair = record { x = a; y = b } in p) ≡ (let q : Pair = record { x = c; y = d } in q)
+pair_same e f = ap₂ (λ x y. let p : Pair = record { x = x; y = y } in p) e f
+
+pub took_same : {a b c d : Pair} → a ≡ c → b ≡ d → (let p : Took = record { walls = a; obstacles = b } in p) ≡ (let q : Took = record { walls = c; obstacles = d } in q)
+took_same e f = ap₂ (λ x y. let p : Took = record { walls = x; obstacles = y } in p) e f
 
 twice-plus : (a b : Sums) → twice_momentum (plus a b) ≡ pair_plus (twice_momentum a) (twice_momentum b)
-twice-plus a b = pair_same _ _ _ _ (omega (arith, ints)) (omega (arith, ints))
+twice-plus a b = pair_same (omega (arith, ints)) (omega (arith, ints))
 
 -- what the tiles below n take, of particles that stand at sites which pass a test
 abbrev pub momentum_below : (ℕ → Sums) → ℕ → Pair
@@ -56,7 +61,7 @@ small_classes tick a b c d k p q r s =
       y = small_by_sign (parity tick == 0) (pos (a + b) -ℤ pos (c + d)) (2 * k) (small_difference a b c d k p q r s);
     }
 
-small_sum : (a b : ℤ) (m k : ℕ) → nat_abs a ≤ m → nat_abs b ≤ k → nat_abs (a +ℤ b) ≤ m + k
+pub small_sum : (a b : ℤ) (m k : ℕ) → nat_abs a ≤ m → nat_abs b ≤ k → nat_abs (a +ℤ b) ≤ m + k
 small_sum a b m k p q = omega (arith, ints)
 
 small_below : (f : ℕ → Sums) (k : ℕ) → ((i : ℕ) → IsSmall k (f i)) → (n : ℕ) → IsSmall (k * n) (plus_all f (range_with_len 0 n))
@@ -80,13 +85,10 @@ took_below tick particles walls obstacles n =
       obstacles = momentum_below (λ i. total_in tick (stopped (parity tick) particles (takes_for_obstacles walls obstacles)) (tile_rectangle particles i)) n;
     }
 
-took_same : (a b c d : Pair) → a ≡ c → b ≡ d → (let p : Took = record { walls = a; obstacles = b } in p) ≡ (let q : Took = record { walls = c; obstacles = d } in q)
-took_same a b c d e f = ap₂ (λ x y. let p : Took = record { walls = x; obstacles = y } in p) e f
-
 pub took_next : (tick : ℤ) (particles walls obstacles : Cells) (i : ℕ) (took more : Took) → took ≡ took_below tick particles walls obstacles i → more ≡ taken_in tick particles walls obstacles (tile_rectangle particles i) → took_plus took more ≡ took_below tick particles walls obstacles (i + 1)
 took_next tick particles walls obstacles i took more so_far here =
     ap₂ took_plus so_far here
-    ∙ took_same _ _ _ _
+    ∙ took_same
     (sym (momentum_last (λ i. total_in tick (stopped (parity tick) particles (takes_for_walls walls obstacles)) (tile_rectangle particles i)) i))
     (sym (momentum_last (λ i. total_in tick (stopped (parity tick) particles (takes_for_obstacles walls obstacles)) (tile_rectangle particles i)) i))
 
@@ -130,7 +132,7 @@ took_all p particles walls obstacles small sized by_walls by_obstacles by_tiles 
     let across : particles.width % 64 ≡ 0 = whole_tiles particles.width (wide (extent particles) sized) in
     let down : particles.height % 64 ≡ 0 = whole_tiles particles.height (high (extent particles) sized) in
     let same : p % 2 ≡ p = omega arith in
-    took_same _ _ _ _
+    took_same
     (sym (by_walls (pos p) particles walls obstacles even ∙ ap twice_momentum (by_tiles (pos p) (stopped (parity (pos p)) particles (takes_for_walls walls obstacles)) across down)))
     (sym (by_obstacles (pos p) particles walls obstacles even ∙ ap twice_momentum (by_tiles (pos p) (stopped (parity (pos p)) particles (takes_for_obstacles walls obstacles)) across down)))
     ∙ ap (λ q. taken q particles walls obstacles) same

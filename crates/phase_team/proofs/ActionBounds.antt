@@ -1,6 +1,5 @@
 -- How much the actions on a strip move.
-use Rattle.std.proofs.Common.{◌≡◌, ℕ, zero, suc, ◌+◌, ◌*◌, ◌≤◌, ◌^◌, ℤ, pos, ◌+ℤ◌, nat_abs, w64, FitsSigned, sym, subst, arith}
-use Rattle.std.proofs.lemmas.Int.{ints}
+use Rattle.std.proofs.Common.{◌≡◌, ℕ, zero, suc, ◌+◌, ◌*◌, ◌≤◌, ◌^◌, ℤ, pos, nat_abs, sym, subst, arith}
 use Rattle.gas_terms.specs.Cells.{Cells, Rectangle, without, tile_rectangle}
 use Rattle.gas_terms.specs.Gas.{streamed}
 use Rattle.gas_terms.specs.Accounts.{plus, total_in, parity_count, SumsFit}
@@ -9,7 +8,8 @@ use Rattle.gas_terms.proofs.RectangleTotals.{parity_count-small, total_in-pariti
 use Rattle.phase_step.specs.Runs.{parity_at}
 use Rattle.phase_step.specs.Actions.{Leaves, acted, after_with, moved_plus, unmoved}
 use Rattle.phase_step.specs.declared.moved.Moved.{Moved}
-use Rattle.phase_step.proofs.TakenSums.{small_tile}
+use Rattle.phase_step.proofs.TakenSums.{small_sum, small_tile}
+use Rattle.phase_step.proofs.RunTakes.{int_fits}
 use Rattle.phase_team.specs.ActionStrips.{tile_moves, tiles_move, tiles_move_with}
 
 -- no component is above k
@@ -21,9 +21,6 @@ pub record AreWithin (k : ℕ) (s : Sums) : Type 0 where
 pub record IsMovedWithin (k : ℕ) (m : Moved) : Type 0 where
   pub injected : AreWithin k m.injected
   pub drained : AreWithin k m.drained
-
-small_sum : (a b : ℤ) (m n : ℕ) → nat_abs a ≤ m → nat_abs b ≤ n → nat_abs (a +ℤ b) ≤ m + n
-small_sum a b m n p q = omega (arith, ints)
 
 within_sum : (a b : Sums) (m n : ℕ) → AreWithin m a → AreWithin n b → AreWithin (m + n) (plus a b)
 within_sum a b m n p q =
@@ -40,13 +37,10 @@ moved_within_plus a b m n p q =
 within_none : (k : ℕ) → IsMovedWithin k unmoved
 within_none k = record { injected = record { count = omega arith; x = omega arith; y = omega arith }; drained = record { count = omega arith; x = omega arith; y = omega arith } }
 
-fits : (z : ℤ) (k : ℕ) → nat_abs z ≤ k → k ≤ 2 ^ 48 → FitsSigned w64 z
-fits z k h few = omega (arith, ints)
-
 sums_fit : (a b : Sums) (m n : ℕ) → AreWithin m a → AreWithin n b → m + n ≤ 2 ^ 48 → SumsFit (plus a b)
 sums_fit a b m n p q few =
     let both = within_sum a b m n p q in
-    (fits _ (m + n) both.count few, fits _ (m + n) both.x few, fits _ (m + n) both.y few)
+    (int_fits _ (m + n) both.count few, int_fits _ (m + n) both.x few, int_fits _ (m + n) both.y few)
 
 -- two amounts of which the sum may be made
 pub moved_fits : (a b : Moved) (m n : ℕ) → IsMovedWithin m a → IsMovedWithin n b → m + n ≤ 2 ^ 48 → SumsFit (plus a.injected b.injected) × SumsFit (plus a.drained b.drained)

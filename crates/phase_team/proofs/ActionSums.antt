@@ -1,11 +1,9 @@
 -- What strips take and move with an action adds up to what their lattice does.
-use Rattle.std.proofs.Common.{◌≡◌, ℕ, zero, suc, ◌+◌, ◌*◌, ◌%◌, ◌≤◌, true, [], ◌∷◌, ◌++◌, ℤ, pos, ◌+ℤ◌, refl, sym, ap, ap₂, ◌∙◌, subst, arith}
+use Rattle.std.proofs.Common.{◌≡◌, ℕ, zero, suc, ◌+◌, ◌*◌, ◌%◌, ◌≤◌, true, ℤ, pos, refl, sym, ap, ap₂, ◌∙◌, subst, arith}
 use Rattle.std.specs.List.{range_with_len}
-use Rattle.std.proofs.lemmas.Int.{ints}
-use Rattle.std.proofs.lemmas.List.Sums.{fold-append}
 use Rattle.gas_terms.specs.Cells.{Cells, joined, without, extent, is_size, tile_count, tile_rectangle}
 use Rattle.gas_terms.specs.Gas.{streamed}
-use Rattle.gas_terms.specs.Accounts.{plus, plus_all, total_in, took_plus, parity_count, sums_by_parity, SumsFit}
+use Rattle.gas_terms.specs.Accounts.{plus, plus_all, total_in, took_plus}
 use Rattle.gas_terms.specs.Accounts as accounts
 use Rattle.gas_terms.specs.declared.accounts.Sums.{Sums}
 use Rattle.gas_terms.proofs.TileTotals.{total-tiles}
@@ -16,7 +14,9 @@ use Rattle.phase_step.specs.Actions.{Leaves, acted, after_with, takes_with, move
 use Rattle.phase_step.specs.declared.moved.Moved.{Moved}
 use Rattle.phase_step.proofs.ActionRuns.{sized_with, count_with}
 use Rattle.phase_step.proofs.PhaseSweeps.{whole_tiles}
-use Rattle.phase_step.proofs.RunTakes.{IsWithin, within_nothing, within_plus, crossed, tiles_split, tiles_within, all_take}
+use Rattle.phase_step.proofs.Counting.{same_moved}
+use Rattle.phase_step.proofs.TakenSums.{plus_last}
+use Rattle.phase_step.proofs.RunTakes.{IsWithin, within_nothing, within_plus, ints_crossed, ints_regrouped, int_plus_zero, crossed, tiles_split, tiles_within, all_take}
 use Rattle.phase_team.specs.ActionStrips.{tiles_take_with, tile_moves, tiles_move, tiles_move_with}
 
 -- tiles one after another take what they take together
@@ -50,35 +50,23 @@ takes_all_with p w o leaves c (suc k) sized =
 sums_made : (a b c d e f : ℤ) → a ≡ d → b ≡ e → c ≡ f → (let s : Sums = record { count = a; px = b; py = c } in s) ≡ (let t : Sums = record { count = d; px = e; py = f } in t)
 sums_made a b c d e f p q r = ap₂ (λ x y. let s : Sums = record { count = x; px = y; py = c } in s) p q ∙ ap (λ z. let s : Sums = record { count = d; px = e; py = z } in s) r
 
-moved_made : (a b c d : Sums) → a ≡ c → b ≡ d → (let p : Moved = record { injected = a; drained = b } in p) ≡ (let q : Moved = record { injected = c; drained = d } in q)
-moved_made a b c d e f = ap₂ (λ x y. let p : Moved = record { injected = x; drained = y } in p) e f
-
-four : (a b c d : ℤ) → (a +ℤ b) +ℤ (c +ℤ d) ≡ (a +ℤ c) +ℤ (b +ℤ d)
-four a b c d = omega (arith, ints)
-
-three : (a b c : ℤ) → (a +ℤ b) +ℤ c ≡ a +ℤ (b +ℤ c)
-three a b c = omega (arith, ints)
-
-none : (a : ℤ) → a ≡ a +ℤ pos 0
-none a = omega (arith, ints)
-
 plus_crossed : (a b c d : Sums) → plus (plus a b) (plus c d) ≡ plus (plus a c) (plus b d)
-plus_crossed a b c d = sums_made _ _ _ _ _ _ (four a.count b.count c.count d.count) (four a.px b.px c.px d.px) (four a.py b.py c.py d.py)
+plus_crossed a b c d = sums_made _ _ _ _ _ _ (ints_crossed a.count b.count c.count d.count) (ints_crossed a.px b.px c.px d.px) (ints_crossed a.py b.py c.py d.py)
 
 plus_regrouped : (a b c : Sums) → plus (plus a b) c ≡ plus a (plus b c)
-plus_regrouped a b c = sums_made _ _ _ _ _ _ (three a.count b.count c.count) (three a.px b.px c.px) (three a.py b.py c.py)
+plus_regrouped a b c = sums_made _ _ _ _ _ _ (ints_regrouped a.count b.count c.count) (ints_regrouped a.px b.px c.px) (ints_regrouped a.py b.py c.py)
 
 plus_none : (a : Sums) → a ≡ plus a accounts.nothing
-plus_none a = sums_made _ _ _ _ _ _ (none a.count) (none a.px) (none a.py)
+plus_none a = sums_made _ _ _ _ _ _ (int_plus_zero a.count) (int_plus_zero a.px) (int_plus_zero a.py)
 
 pub moved_crossed : (a b c d : Moved) → moved_plus (moved_plus a b) (moved_plus c d) ≡ moved_plus (moved_plus a c) (moved_plus b d)
-moved_crossed a b c d = moved_made _ _ _ _ (plus_crossed a.injected b.injected c.injected d.injected) (plus_crossed a.drained b.drained c.drained d.drained)
+moved_crossed a b c d = same_moved _ _ (plus_crossed a.injected b.injected c.injected d.injected) (plus_crossed a.drained b.drained c.drained d.drained)
 
 moved_regrouped : (a b c : Moved) → moved_plus (moved_plus a b) c ≡ moved_plus a (moved_plus b c)
-moved_regrouped a b c = moved_made _ _ _ _ (plus_regrouped a.injected b.injected c.injected) (plus_regrouped a.drained b.drained c.drained)
+moved_regrouped a b c = same_moved _ _ (plus_regrouped a.injected b.injected c.injected) (plus_regrouped a.drained b.drained c.drained)
 
 moved_none : (a : Moved) → a ≡ moved_plus a unmoved
-moved_none a = moved_made _ _ _ _ (plus_none a.injected) (plus_none a.drained)
+moved_none a = same_moved _ _ (plus_none a.injected) (plus_none a.drained)
 
 -- tiles one after another move what they move together
 pub moves_split : (tick : ℤ) (old new : Cells) (first a b : ℕ) → tiles_move tick old new first (a + b) ≡ moved_plus (tiles_move tick old new first a) (tiles_move tick old new (first + a) b)
@@ -97,14 +85,7 @@ moves_split_with p solid leaves c first a b (suc k) =
     ap₂ moved_plus (moves_split_with p solid leaves c first a b k) (moves_split (pos (parity_at p (suc k))) come (acted (leaves k) come) first a b)
     ∙ moved_crossed (tiles_move_with p solid leaves c first a k) (tiles_move_with p solid leaves c (first + a) b k) (move first a) (move (first + a) b)
 
--- sums over tiles, one more at the end
-range_last : (a n : ℕ) → range_with_len a (suc n) ≡ range_with_len a n ++ (a + n) ∷ []
-range_last a zero = ap (λ k. k ∷ []) (let e : a ≡ a + 0 = omega arith in e)
-range_last a (suc n) = ap (λ ks. a ∷ ks) (range_last (a + 1) n ∙ ap (λ k. range_with_len (a + 1) n ++ k ∷ []) (let e : a + 1 + n ≡ a + suc n = omega arith in e))
-
-plus_last : (f : ℕ → Sums) (n : ℕ) → plus (plus_all f (range_with_len 0 n)) (f (0 + n)) ≡ plus_all f (range_with_len 0 (suc n))
-plus_last f n = sym (ap (plus_all f) (range_last 0 n) ∙ fold-append (λ s x. plus s (f x)) accounts.nothing (range_with_len 0 n) ((0 + n) ∷ []))
-
+-- sums over tiles
 abbrev came_in : ℤ → Cells → Cells → ℕ → Sums
 came_in tick old new i = total_in tick (without new old) (tile_rectangle old i)
 
@@ -115,8 +96,8 @@ moves_below : (tick : ℤ) (old new : Cells) (n : ℕ)
     → tiles_move tick old new 0 n ≡ (let m : Moved = record { injected = plus_all (came_in tick old new) (range_with_len 0 n); drained = plus_all (went_in tick old new) (range_with_len 0 n) } in m)
 moves_below tick old new zero = refl
 moves_below tick old new (suc n) =
-    ap (λ m. moved_plus m (tile_moves tick old new (0 + n))) (moves_below tick old new n)
-    ∙ moved_made _ _ _ _ (plus_last (came_in tick old new) n) (plus_last (went_in tick old new) n)
+    ap₂ (λ m i. moved_plus m (tile_moves tick old new i)) (moves_below tick old new n) (let e : 0 + n ≡ n = omega arith in e)
+    ∙ same_moved _ _ (sym (plus_last (came_in tick old new) n)) (sym (plus_last (went_in tick old new) n))
 
 -- all tiles move what the lattice does
 pub moves_all : (tick : ℤ) (leaves : Leaves) (come : Cells) → is_size (extent come) ≡ true → tiles_move tick come (acted leaves come) 0 (tile_count come) ≡ moved_by tick come (acted leaves come)
@@ -125,7 +106,7 @@ moves_all tick leaves come sized =
     let down : come.height % 64 ≡ 0 = whole_tiles come.height (high (extent come) sized) in
     let next = acted leaves come in
     moves_below tick come next (tile_count come)
-    ∙ moved_made _ _ _ _ (sym (total-tiles tick (without next come) across down)) (sym (total-tiles tick (without come next) across down))
+    ∙ same_moved _ _ (sym (total-tiles tick (without next come) across down)) (sym (total-tiles tick (without come next) across down))
 
 pub moves_all_with : (p : ℕ) (solid : Cells) (leaves : ℕ → Leaves) (c : Cells) (k : ℕ) → is_size (extent c) ≡ true → tiles_move_with p solid leaves c 0 (tile_count c) k ≡ moves_with p solid leaves c k
 moves_all_with p solid leaves c zero sized = refl

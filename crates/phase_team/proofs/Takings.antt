@@ -1,5 +1,5 @@
 -- What the tiles of a list of numbers take.
-use Rattle.std.proofs.Common.{◌≡◌, ℕ, zero, suc, ◌+◌, ◌*◌, ◌<◌, ◌≤◌, ◌^◌, List, [], ◌∷◌, ◌++◌, length, length-append, ℤ, pos, ◌*ℤ◌, nat_abs, w64, FitsSigned, refl, sym, ap, ap₂, ◌∙◌, subst, arith, add-one}
+use Rattle.std.proofs.Common.{◌≡◌, ℕ, zero, suc, ◌+◌, ◌*◌, ◌<◌, ◌≤◌, ◌^◌, List, [], ◌∷◌, ◌++◌, length, length-append, ℤ, pos, nat_abs, w64, FitsSigned, refl, sym, ap, ap₂, ◌∙◌, subst, arith, add-one}
 use Rattle.std.proofs.lemmas.Int.{ints}
 use Rattle.std.proofs.lemmas.List.{length_push}
 use Rattle.gas_terms.specs.Velocity.{parity}
@@ -7,18 +7,12 @@ use Rattle.gas_terms.specs.Cells.{Cells, tile_rectangle}
 use Rattle.gas_terms.specs.Gas.{takes_for_walls, takes_for_obstacles}
 use Rattle.gas_terms.specs.Accounts.{took_plus, pair_plus, total_in, stopped, TakenFits}
 use Rattle.gas_terms.proofs.RectangleTotals.{parity_count-small, total_in-parities}
-use Rattle.gas_terms.specs.declared.accounts.Pair.{Pair}
 use Rattle.gas_terms.specs.declared.accounts.Took.{Took}
-use Rattle.phase_step.proofs.TakenSums.{small_tile, took_below, took_next}
+use Rattle.phase_step.proofs.TakenSums.{pair_same, took_same, small_tile, took_below, took_next}
+use Rattle.phase_step.proofs.RunTakes.{twice_small_tile}
 use Rattle.claim_desk.specs.Draws.{times, once_below}
 use Rattle.phase_team.specs.Tiles.{tile_takes, tiles_take}
 use Rattle.phase_team.proofs.NumberSums.{int_sum-append, int_sum-push, int_sum-small, upto, each_once}
-
-pair_same : {a b c d : ℤ} → a ≡ c → b ≡ d → (let p : Pair = record { x = a; y = b } in p) ≡ (let q : Pair = record { x = c; y = d } in q)
-pair_same e f = ap₂ (λ x y. let p : Pair = record { x = x; y = y } in p) e f
-
-took_same : {a b c d : Pair} → a ≡ c → b ≡ d → (let p : Took = record { walls = a; obstacles = b } in p) ≡ (let q : Took = record { walls = c; obstacles = d } in q)
-took_same e f = ap₂ (λ x y. let p : Took = record { walls = x; obstacles = y } in p) e f
 
 module _ (p : ℕ) (particles walls obstacles : Cells) where
   takes : ℕ → Took
@@ -55,9 +49,6 @@ module _ (p : ℕ) (particles walls obstacles : Cells) where
       (pair_same (each_once (λ i. (tile_takes p particles walls obstacles i).obstacles.x) n numbers once) (each_once (λ i. (tile_takes p particles walls obstacles i).obstacles.y) n numbers once))
       ∙ take_upto n
 
-twice : (z : ℤ) → nat_abs z ≤ 8192 → nat_abs (pos 2 *ℤ z) ≤ 16384
-twice z h = omega (arith, ints)
-
 fits : (z : ℤ) (n : ℕ) → nat_abs z ≤ 16384 * n → n ≤ 2 ^ 20 → FitsSigned w64 z
 fits z n h few = omega (arith, ints)
 
@@ -69,12 +60,12 @@ take_fits p particles walls obstacles numbers took few is =
     let by_obstacles = λ (i : ℕ). small_tile (pos p) (stopped (parity (pos p)) particles (takes_for_obstacles walls obstacles)) i parity_count-small total_in-parities in
     subst (λ (t : Took). TakenFits t.walls × TakenFits t.obstacles) (sym is) (
       (
-        fits _ (length numbers) (int_sum-small (λ i. (tile_takes p particles walls obstacles i).walls.x) 16384 (λ i. twice (total_in (pos p) (stopped (parity (pos p)) particles (takes_for_walls walls obstacles)) (tile_rectangle particles i)).px (by_walls i).x) numbers) few,
-        fits _ (length numbers) (int_sum-small (λ i. (tile_takes p particles walls obstacles i).walls.y) 16384 (λ i. twice (total_in (pos p) (stopped (parity (pos p)) particles (takes_for_walls walls obstacles)) (tile_rectangle particles i)).py (by_walls i).y) numbers) few,
+        fits _ (length numbers) (int_sum-small (λ i. (tile_takes p particles walls obstacles i).walls.x) 16384 (λ i. twice_small_tile (total_in (pos p) (stopped (parity (pos p)) particles (takes_for_walls walls obstacles)) (tile_rectangle particles i)).px (by_walls i).x) numbers) few,
+        fits _ (length numbers) (int_sum-small (λ i. (tile_takes p particles walls obstacles i).walls.y) 16384 (λ i. twice_small_tile (total_in (pos p) (stopped (parity (pos p)) particles (takes_for_walls walls obstacles)) (tile_rectangle particles i)).py (by_walls i).y) numbers) few,
       ),
       (
-        fits _ (length numbers) (int_sum-small (λ i. (tile_takes p particles walls obstacles i).obstacles.x) 16384 (λ i. twice (total_in (pos p) (stopped (parity (pos p)) particles (takes_for_obstacles walls obstacles)) (tile_rectangle particles i)).px (by_obstacles i).x) numbers) few,
-        fits _ (length numbers) (int_sum-small (λ i. (tile_takes p particles walls obstacles i).obstacles.y) 16384 (λ i. twice (total_in (pos p) (stopped (parity (pos p)) particles (takes_for_obstacles walls obstacles)) (tile_rectangle particles i)).py (by_obstacles i).y) numbers) few,
+        fits _ (length numbers) (int_sum-small (λ i. (tile_takes p particles walls obstacles i).obstacles.x) 16384 (λ i. twice_small_tile (total_in (pos p) (stopped (parity (pos p)) particles (takes_for_obstacles walls obstacles)) (tile_rectangle particles i)).px (by_obstacles i).x) numbers) few,
+        fits _ (length numbers) (int_sum-small (λ i. (tile_takes p particles walls obstacles i).obstacles.y) 16384 (λ i. twice_small_tile (total_in (pos p) (stopped (parity (pos p)) particles (takes_for_obstacles walls obstacles)) (tile_rectangle particles i)).py (by_obstacles i).y) numbers) few,
       ),
     )
 
