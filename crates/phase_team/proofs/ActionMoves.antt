@@ -1,21 +1,18 @@
 -- What an action moves in a strip's own tiles, it moves in the lattice's.
 use Rattle.std.proofs.Common.{◌≡◌, ℕ, zero, suc, ◌+◌, ◌-◌, ◌*◌, ◌/◌, ◌%◌, ◌<◌, ◌≤◌, not, ◌&&◌, pos, refl, sym, ap, ap₂, ◌∙◌, subst, arith}
-use Rattle.std.proofs.Math.Nat.{mod-lt}
-use Rattle.std.proofs.lemmas.Nat.{mod-mul-add, div-mul-add, div-add-mod', row-Below}
-use Rattle.gas_terms.specs.Cells.{Cells, HasSidesOf, has, joined, without}
+use Rattle.gas_terms.specs.Cells.{Cells, Rectangle, HasSidesOf, has, joined, without}
 use Rattle.gas_terms.specs.Gas.{streamed}
 use Rattle.gas_terms.specs.Accounts.{total_in}
-use Rattle.gas_terms.specs.declared.accounts.Sums.{Sums}
 use Rattle.gas_terms.proofs.Cells.{has-cells_where}
 use Rattle.block_rule.specs.Windows.{square}
 use Rattle.phase_step.specs.Runs.{parity_at}
 use Rattle.phase_step.specs.Actions.{Leaves, acted, after_with, moved_plus}
 use Rattle.phase_step.specs.declared.moved.Moved.{Moved}
 use Rattle.phase_step.proofs.ActionRuns.{sides_with}
+use Rattle.phase_step.proofs.Counting.{same_moved}
 use Rattle.phase_team.specs.Strips.{IsStrip}
 use Rattle.phase_team.specs.ActionStrips.{shifted_all, tile_moves, tiles_move, tiles_move_with}
-use Rattle.phase_team.proofs.Windows.{row_turns}
-use Rattle.phase_team.proofs.Transport.{IsPart, total_same}
+use Rattle.phase_team.proofs.Transport.{IsPart, total_same, own_tile}
 use Rattle.phase_team.proofs.ActionLocality.{strip_come, strip_with}
 
 -- what one set lacks of another in a square, and in one that holds the same
@@ -30,9 +27,6 @@ square_without q x0 y0 y1 a b c d wide wide_there high high_there even same same
     ∙ (ap₂ (λ s t. s && not t) (same i j il jl) (same_less i j il jl)
     ∙ sym (has-cells_where c.width c.height (λ x y. has c x y && not (has d x y)) (x0 + i) (y1 + j) (omega arith) (omega arith))))
 
-moved_made : (a b c d : Sums) → a ≡ c → b ≡ d → (let p : Moved = record { injected = a; drained = b } in p) ≡ (let q : Moved = record { injected = c; drained = d } in q)
-moved_made a b c d e f = ap₂ (λ x y. let p : Moved = record { injected = x; drained = y } in p) e f
-
 -- the strip's rows of tiles agree with the lattice's
 abbrev HasOwnRows : ℕ → ℕ → Cells → Cells → Type 0
 HasOwnRows shift rows strip cells = (x y : ℕ) → x < cells.width → 64 ≤ y → y < 64 + rows * 64 → has strip x y ≡ has cells x ((shift + y) % cells.height)
@@ -43,23 +37,10 @@ tile_moves_same : (q first rows down i : ℕ) (old new c next : Cells) → let s
     → HasOwnRows shift rows old c → HasOwnRows shift rows new next
     → tile_moves (pos q) old new (a + i) ≡ tile_moves (pos q) c next (first * a + i)
 tile_moves_same q first rows down i old new c next wide sides sides_there whole some high strip inside within same same_new =
-    let a = c.width / 64 in
     let shift = (first + down - 1) * 64 in
-    let r = i / a in
-    let column = i % a in
-    let column_less : column < a = mod-lt i some in
-    let row_less : r < rows = (row-Below i a a rows (let e : i < a * rows = omega (arith, within) in e) (let e : a ≤ a = omega arith in e)).1 in
-    let split : r * a + column ≡ i = div-add-mod' i a in
-    let here : a + i ≡ (1 + r) * a + column = omega arith in
-    let there : first * a + i ≡ (first + r) * a + column = omega arith in
-    let down_some : 0 < down = omega arith in
-    let x_here : (a + i) % a ≡ column = ap (λ n. n % a) here ∙ mod-mul-add (1 + r) a column column_less in
-    let y_here : (a + i) / a ≡ 1 + r = ap (λ n. n / a) here ∙ div-mul-add (1 + r) a column column_less in
-    let x_there : (first * a + i) % a ≡ column = ap (λ n. n % a) there ∙ mod-mul-add (first + r) a column column_less in
-    let y_there : (first * a + i) / a ≡ first + r = ap (λ n. n / a) there ∙ div-mul-add (first + r) a column column_less in
-    let place : (j : ℕ) → j < 64 → (shift + ((1 + r) * 64 + j)) % c.height ≡ (first + r) * 64 + j = λ j jl.
-    let turn : (first + down - 1 + (1 + r)) % down ≡ first + r = let e : first + down - 1 + (1 + r) ≡ 1 * down + (first + r) = omega arith in ap (λ n. n % down) e ∙ mod-mul-add 1 down (first + r) (omega arith) in
-    ap (λ h. (shift + ((1 + r) * 64 + j)) % h) high ∙ (row_turns (first + down - 1) (1 + r) down j down_some jl ∙ ap (λ n. n * 64 + j) turn) in
+    let moved : (Cells → Cells → Rectangle → Moved) = λ some others r. record { injected = total_in (pos q) (without others some) r; drained = total_in (pos q) (without some others) r } in
+    own_tile (moved old new) (moved c next) first rows down i c old wide some high inside within
+    (λ column r column_less row_less place.
     let right : column * 64 + 64 ≤ c.width = omega (arith, whole, column_less) in
     let right_here : column * 64 + 64 ≤ old.width = omega (arith, right, wide) in
     let right_new : column * 64 + 64 ≤ new.width = let e = sides.wide in omega (arith, right_here, e) in
@@ -74,13 +55,9 @@ tile_moves_same q first rows down i old new c next wide sides sides_there whole 
     let of_new : (i j : ℕ) → i < 64 → j < 64 → has new (column * 64 + i) ((1 + r) * 64 + j) ≡ has next (column * 64 + i) ((first + r) * 64 + j) = λ i j il jl.
     same_new (column * 64 + i) ((1 + r) * 64 + j) (omega (arith, right_next, il)) (omega arith) (omega (arith, row_less, jl))
     ∙ (ap (λ h. has next (column * 64 + i) ((shift + ((1 + r) * 64 + j)) % h)) sides_there.high ∙ ap (has next (column * 64 + i)) (place j jl)) in
-    let moved : (Cells → Cells → ℕ → ℕ → Moved) = λ some others m n. record { injected = total_in (pos q) (without others some) (square (m * 64) (n * 64)); drained = total_in (pos q) (without some others) (square (m * 64) (n * 64)) } in
-    let both : moved old new column (1 + r) ≡ moved c next column (first + r) =
-    moved_made _ _ _ _
+    same_moved _ _
     (square_without q (column * 64) ((1 + r) * 64) ((first + r) * 64) new old next c right_new right_next bottom_new bottom_next even of_new of_old)
-    (square_without q (column * 64) ((1 + r) * 64) ((first + r) * 64) old new c next right_here right bottom bottom_there even of_old of_new) in
-    ap₂ (moved old new) (ap (λ v. (a + i) % (v / 64)) wide ∙ x_here) (ap (λ v. (a + i) / (v / 64)) wide ∙ y_here)
-    ∙ (both ∙ sym (ap₂ (moved c next) x_there y_there))
+    (square_without q (column * 64) ((1 + r) * 64) ((first + r) * 64) old new c next right_here right bottom bottom_there even of_old of_new))
 
 -- tiles that move the same
 tiles_move_same : (q : ℕ) (old new c next : Cells) (a b n : ℕ) → ((i : ℕ) → i < n → tile_moves (pos q) old new (a + i) ≡ tile_moves (pos q) c next (b + i))

@@ -4,17 +4,16 @@ use Rattle.std.specs.List.{range_with_len, flat_map}
 use Rattle.std.proofs.Math.Nat.{mod-lt}
 use Rattle.std.proofs.lemmas.Nat.{mod-mul-add, div-mul-add, div-add-mod', row-Below}
 use Rattle.gas_terms.specs.Velocity.{Velocity, velocity_at, has_parity, parity}
-use Rattle.gas_terms.specs.Cells.{Cells, HasEvenSides, has, joined, tile_rectangle}
-use Rattle.gas_terms.specs.Gas.{is_walled, is_obstructed, site_of, takes_for_walls, takes_for_obstacles}
+use Rattle.gas_terms.specs.Cells.{Cells, Rectangle, HasEvenSides, HasSidesOf, has, joined, tile_rectangle}
+use Rattle.gas_terms.specs.Gas.{streamed, is_walled, is_obstructed, site_of, takes_for_walls, takes_for_obstacles}
 use Rattle.gas_terms.specs.Accounts.{total_in, stopped, sums_of, twice_momentum, took_plus}
-use Rattle.gas_terms.specs.declared.accounts.Pair.{Pair}
-use Rattle.gas_terms.specs.declared.accounts.Took.{Took}
 use Rattle.gas_terms.proofs.Cells.{has-cells_where}
 use Rattle.block_rule.specs.Windows.{square, taken_in}
 use Rattle.phase_step.specs.Runs.{parity_at, after, tiles_take, tiles_take_in_run}
 use Rattle.phase_team.specs.Strips.{IsStrip}
 use Rattle.phase_team.proofs.Locality.{phase_keeps, walled_same}
 use Rattle.phase_step.proofs.RunTakes.{sides_after}
+use Rattle.phase_step.proofs.TakenSums.{took_same}
 use Rattle.phase_team.proofs.Windows.{row_turns}
 
 -- lists that agree piece by piece
@@ -36,9 +35,6 @@ total_same q some others x0 y0 y1 even same =
     (flat_same _ _ 0 64
     (λ j _ jl. flat_same _ _ 0 64
     (λ i _ il. cell_same (parity (pos q)) (x0 + i) (y0 + j) (y1 + j) _ _ (same i j (omega arith) (omega arith)) (parity_same (parity (pos q)) (y0 + j) (y1 + j) (omega arith)))))
-
-taken_made : (a b c d : Pair) → a ≡ c → b ≡ d → (let p : Took = record { walls = a; obstacles = b } in p) ≡ (let q : Took = record { walls = c; obstacles = d } in q)
-taken_made a b c d e f = ap₂ (λ x y. let p : Took = record { walls = x; obstacles = y } in p) e f
 
 -- a set of cells of these sides
 pub record IsSized (cells : Cells) (width height : ℕ) : Type 0 where
@@ -118,7 +114,7 @@ square_same shift hw ho w o c sc is p x0 y0 y1 right past bottom even place same
     has-cells_where sc.width sc.height (λ x y. has sc x y && test (site_of q sc.width sc.height x y)) (x0 + i) (y0 + j) xs (omega arith)
     ∙ (ap₂ (λ s t. s && t) (same (x0 + i) j xl jl) (tests (x0 + i) (y0 + j) xl (omega arith) (omega arith) ∙ ap (λ z. test' (site_of q c.width c.height (x0 + i) z)) (place j jl))
     ∙ sym (has-cells_where c.width c.height (λ x y. has c x y && test' (site_of q c.width c.height x y)) (x0 + i) (y1 + j) xl yl)) in
-    taken_made _ _ _ _
+    took_same
     (ap twice_momentum (total_same p (stopped q sc (takes_for_walls hw ho)) (stopped q c (takes_for_walls w o)) x0 y0 y1 even (at (takes_for_walls hw ho) (takes_for_walls w o) (λ x y l past within. for_walls_same shift hw ho w o c.width c.height sc.width sc.height is q x y l past within))))
     (ap twice_momentum (total_same p (stopped q sc (takes_for_obstacles hw ho)) (stopped q c (takes_for_obstacles w o)) x0 y0 y1 even (at (takes_for_obstacles hw ho) (takes_for_obstacles w o) (λ x y l past within. for_obstacles_same shift hw ho w o c.width c.height sc.width sc.height is q x y l past within))))
 
@@ -130,16 +126,10 @@ part_as shift hw ho w o cw ch width height cw' ch' width' height' e f g h is =
     (subst (λ n. IsPart shift hw ho w o cw ch n height') g
     (subst (λ n. IsPart shift hw ho w o cw ch width n) h is)))
 
--- the rows that are left after k phases
-pub strip_after : (p shift : ℕ) (hw ho w o c sc : Cells) → IsPart shift hw ho w o c.width c.height sc.width sc.height → IsStrip sc c shift 0 sc.height → (k : ℕ) →
-    IsStrip (after p (joined hw ho) sc k) (after p (joined w o) c k) shift k (sc.height - k)
-strip_after p shift hw ho w o c sc is start zero = subst (λ n. IsStrip sc c shift 0 n) (let e : sc.height ≡ sc.height - 0 = omega arith in e) start
-strip_after p shift hw ho w o c sc is start (suc k) =
-    let now = after p (joined hw ho) sc k in
-    let there = after p (joined w o) c k in
-    let sides = sides_after p (joined hw ho) sc k in
-    let sides_there = sides_after p (joined w o) c k in
-    let before = strip_after p shift hw ho w o c sc is start k in
+-- a phase takes one row at either end from what a strip has of its lattice
+pub part_phase : (p shift k : ℕ) (hw ho w o c sc now there : Cells) → IsPart shift hw ho w o c.width c.height sc.width sc.height → HasSidesOf now sc → HasSidesOf there c
+    → IsStrip now there shift k (sc.height - k) → IsStrip (streamed p now (joined hw ho)) (streamed p there (joined w o)) shift (suc k) (sc.height - suc k)
+part_phase p shift k hw ho w o c sc now there is sides sides_there before =
     let even : HasEvenSides now.width now.height = record { wide = ap (λ n. n % 2) sides.wide ∙ is.even_wide; high = ap (λ n. n % 2) sides.high ∙ is.even } in
     let even_there : HasEvenSides there.width there.height = record { wide = ap (λ n. n % 2) (sides_there.wide ∙ sym is.wide) ∙ is.even_wide; high = ap (λ n. n % 2) sides_there.high ∙ is.even_whole } in
     let solid : IsStrip (joined hw ho) (joined w o) shift k (sc.height - k) =
@@ -147,23 +137,34 @@ strip_after p shift hw ho w o c sc is start (suc k) =
       wide = is.walls_wide ∙ (is.wide ∙ sym is.of_walls.wide);
       row = λ x y l low high. joined_row shift hw ho w o c.width c.height sc.width sc.height is x y (subst (λ n. x < n) is.of_walls.wide l) (omega arith) ∙ ap (λ h. has (joined w o) x ((shift + y) % h)) (sym is.of_walls.high);
     } in
-    let next = phase_keeps (parity_at p k) shift k (sc.height - k) now there (joined hw ho) (joined w o) even even_there (subst (λ h. 0 < h) (sym sides_there.high) is.some) is.even_shift (let h = sides.high in omega arith)
+    let next = phase_keeps p shift k (sc.height - k) now there (joined hw ho) (joined w o) even even_there (subst (λ h. 0 < h) (sym sides_there.high) is.some) is.even_shift (let h = sides.high in omega arith)
     (is.walls_wide ∙ sym sides.wide) (is.walls_high ∙ sym sides.high) (is.of_walls.wide ∙ sym sides_there.wide) (is.of_walls.high ∙ sym sides_there.high) before solid in
-    subst (λ n. IsStrip (after p (joined hw ho) sc (suc k)) (after p (joined w o) c (suc k)) shift n (sc.height - suc k)) (add-one k)
-    (subst (λ n. IsStrip (after p (joined hw ho) sc (suc k)) (after p (joined w o) c (suc k)) shift (k + 1) n) (let e : sc.height - k - 1 ≡ sc.height - suc k = omega arith in e) next)
+    let come = streamed p now (joined hw ho) in
+    let come_there = streamed p there (joined w o) in
+    subst (λ n. IsStrip come come_there shift n (sc.height - suc k)) (add-one k)
+    (subst (λ n. IsStrip come come_there shift (k + 1) n) (let e : sc.height - k - 1 ≡ sc.height - suc k = omega arith in e) next)
+
+-- the rows that are left after k phases
+pub strip_after : (p shift : ℕ) (hw ho w o c sc : Cells) → IsPart shift hw ho w o c.width c.height sc.width sc.height → IsStrip sc c shift 0 sc.height → (k : ℕ) →
+    IsStrip (after p (joined hw ho) sc k) (after p (joined w o) c k) shift k (sc.height - k)
+strip_after p shift hw ho w o c sc is start zero = subst (λ n. IsStrip sc c shift 0 n) (let e : sc.height ≡ sc.height - 0 = omega arith in e) start
+strip_after p shift hw ho w o c sc is start (suc k) =
+    part_phase (parity_at p k) shift k hw ho w o c sc (after p (joined hw ho) sc k) (after p (joined w o) c k) is
+    (sides_after p (joined hw ho) sc k) (sides_after p (joined w o) c k) (strip_after p shift hw ho w o c sc is start k)
 
 -- tiles that take the same
-pub tiles_same : (p : ℕ) (sc hw ho c w o : Cells) (a b n : ℕ) → ((i : ℕ) → i < n → taken_in (pos p) sc hw ho (tile_rectangle sc (a + i)) ≡ taken_in (pos p) c w o (tile_rectangle c (b + i)))
+tiles_same : (p : ℕ) (sc hw ho c w o : Cells) (a b n : ℕ) → ((i : ℕ) → i < n → taken_in (pos p) sc hw ho (tile_rectangle sc (a + i)) ≡ taken_in (pos p) c w o (tile_rectangle c (b + i)))
     → tiles_take p sc hw ho a n ≡ tiles_take p c w o b n
 tiles_same p sc hw ho c w o a b zero same = refl
 tiles_same p sc hw ho c w o a b (suc n) same = ap₂ took_plus (tiles_same p sc hw ho c w o a b n (λ i l. same i (omega arith))) (same n (omega arith))
 
--- a tile of the strip's own, and the lattice's tile that it is
-pub tile_same : (p first rows down i : ℕ) (hw ho w o c sc : Cells) → let shift = (first + down - 1) * 64 in let a = c.width / 64 in
-    IsPart shift hw ho w o c.width c.height sc.width sc.height → a * 64 ≡ c.width → 0 < a → c.height ≡ down * 64 → sc.height ≡ (rows + 2) * 64 → first + rows ≤ down → i < rows * a
-    → ((x y : ℕ) → x < c.width → 64 ≤ y → y < 64 + rows * 64 → has sc x y ≡ has c x ((shift + y) % c.height))
-    → taken_in (pos p) sc hw ho (tile_rectangle sc (a + i)) ≡ taken_in (pos p) c w o (tile_rectangle c (first * a + i))
-tile_same p first rows down i hw ho w o c sc is whole some high strip inside within same =
+-- what is found in a tile of the strip's own is what is found in the lattice's tile that it is
+pub own_tile : {X : Type 0} (here there : Rectangle → X) (first rows down i : ℕ) (c sc : Cells) → let shift = (first + down - 1) * 64 in let a = c.width / 64 in
+    sc.width ≡ c.width → 0 < a → c.height ≡ down * 64 → first + rows ≤ down → i < rows * a
+    → ((column r : ℕ) → column < a → r < rows → ((j : ℕ) → j < 64 → (shift + ((1 + r) * 64 + j)) % c.height ≡ (first + r) * 64 + j)
+    → here (square (column * 64) ((1 + r) * 64)) ≡ there (square (column * 64) ((first + r) * 64)))
+    → here (tile_rectangle sc (a + i)) ≡ there (tile_rectangle c (first * a + i))
+own_tile here there first rows down i c sc wide some high inside within same =
     let a = c.width / 64 in
     let shift = (first + down - 1) * 64 in
     let r = i / a in
@@ -171,21 +172,46 @@ tile_same p first rows down i hw ho w o c sc is whole some high strip inside wit
     let column_less : column < a = mod-lt i some in
     let row_less : r < rows = (row-Below i a a rows (let e : i < a * rows = omega (arith, within) in e) (let e : a ≤ a = omega arith in e)).1 in
     let split : r * a + column ≡ i = div-add-mod' i a in
-    let here : a + i ≡ (1 + r) * a + column = omega arith in
-    let there : first * a + i ≡ (first + r) * a + column = omega arith in
+    let at_here : a + i ≡ (1 + r) * a + column = omega arith in
+    let at_there : first * a + i ≡ (first + r) * a + column = omega arith in
     let down_some : 0 < down = omega arith in
-    let x_here : (a + i) % a ≡ column = ap (λ n. n % a) here ∙ mod-mul-add (1 + r) a column column_less in
-    let y_here : (a + i) / a ≡ 1 + r = ap (λ n. n / a) here ∙ div-mul-add (1 + r) a column column_less in
-    let x_there : (first * a + i) % a ≡ column = ap (λ n. n % a) there ∙ mod-mul-add (first + r) a column column_less in
-    let y_there : (first * a + i) / a ≡ first + r = ap (λ n. n / a) there ∙ div-mul-add (first + r) a column column_less in
+    let x_here : (a + i) % a ≡ column = ap (λ n. n % a) at_here ∙ mod-mul-add (1 + r) a column column_less in
+    let y_here : (a + i) / a ≡ 1 + r = ap (λ n. n / a) at_here ∙ div-mul-add (1 + r) a column column_less in
+    let x_there : (first * a + i) % a ≡ column = ap (λ n. n % a) at_there ∙ mod-mul-add (first + r) a column column_less in
+    let y_there : (first * a + i) / a ≡ first + r = ap (λ n. n / a) at_there ∙ div-mul-add (first + r) a column column_less in
     let place : (j : ℕ) → j < 64 → (shift + ((1 + r) * 64 + j)) % c.height ≡ (first + r) * 64 + j = λ j jl.
     let turn : (first + down - 1 + (1 + r)) % down ≡ first + r = let e : first + down - 1 + (1 + r) ≡ 1 * down + (first + r) = omega arith in ap (λ n. n % down) e ∙ mod-mul-add 1 down (first + r) (omega arith) in
     ap (λ h. (shift + ((1 + r) * 64 + j)) % h) high ∙ (row_turns (first + down - 1) (1 + r) down j down_some jl ∙ ap (λ n. n * 64 + j) turn) in
-    let both : taken_in (pos p) sc hw ho (square (column * 64) ((1 + r) * 64)) ≡ taken_in (pos p) c w o (square (column * 64) ((first + r) * 64)) =
+    ap₂ (λ m n. here (square (m * 64) (n * 64))) (ap (λ v. (a + i) % (v / 64)) wide ∙ x_here) (ap (λ v. (a + i) / (v / 64)) wide ∙ y_here)
+    ∙ (same column r column_less row_less place ∙ sym (ap₂ (λ m n. there (square (m * 64) (n * 64))) x_there y_there))
+
+-- what walls and obstacles take in it
+tile_same : (p first rows down i : ℕ) (hw ho w o c sc : Cells) → let shift = (first + down - 1) * 64 in let a = c.width / 64 in
+    IsPart shift hw ho w o c.width c.height sc.width sc.height → a * 64 ≡ c.width → 0 < a → c.height ≡ down * 64 → sc.height ≡ (rows + 2) * 64 → first + rows ≤ down → i < rows * a
+    → ((x y : ℕ) → x < c.width → 64 ≤ y → y < 64 + rows * 64 → has sc x y ≡ has c x ((shift + y) % c.height))
+    → taken_in (pos p) sc hw ho (tile_rectangle sc (a + i)) ≡ taken_in (pos p) c w o (tile_rectangle c (first * a + i))
+tile_same p first rows down i hw ho w o c sc is whole some high strip inside within same =
+    let shift = (first + down - 1) * 64 in
+    own_tile (taken_in (pos p) sc hw ho) (taken_in (pos p) c w o) first rows down i c sc is.wide some high inside within
+    (λ column r column_less row_less place.
     square_same shift hw ho w o c sc is p (column * 64) ((1 + r) * 64) ((first + r) * 64) (omega (arith, whole, column_less)) (omega arith) (omega arith) (omega arith) place
-    (λ x j l jl. same x ((1 + r) * 64 + j) l (omega arith) (omega arith) ∙ ap (has c x) (place j jl)) in
-    ap₂ (λ m n. taken_in (pos p) sc hw ho (square (m * 64) (n * 64))) (ap (λ v. (a + i) % (v / 64)) is.wide ∙ x_here) (ap (λ v. (a + i) / (v / 64)) is.wide ∙ y_here)
-    ∙ (both ∙ sym (ap₂ (λ m n. taken_in (pos p) c w o (square (m * 64) (n * 64))) x_there y_there))
+    (λ x j l jl. same x ((1 + r) * 64 + j) l (omega arith) (omega arith) ∙ ap (has c x) (place j jl)))
+
+-- in the strip's own tiles, in one phase
+pub own_tiles_same : (p first rows down k : ℕ) (hw ho w o c sc now there : Cells) → let shift = (first + down - 1) * 64 in let a = c.width / 64 in
+    IsPart shift hw ho w o c.width c.height sc.width sc.height → HasSidesOf now sc → HasSidesOf there c → IsStrip now there shift k (sc.height - k) → k < 64
+    → a * 64 ≡ c.width → 0 < a → c.height ≡ down * 64 → sc.height ≡ (rows + 2) * 64 → first + rows ≤ down
+    → tiles_take p now hw ho a (rows * a) ≡ tiles_take p there w o (first * a) (rows * a)
+own_tiles_same p first rows down k hw ho w o c sc now there is sides sides_there kept few whole some high strip inside =
+    let a = c.width / 64 in
+    let shift = (first + down - 1) * 64 in
+    let is' : IsPart shift hw ho w o there.width there.height now.width now.height = part_as shift hw ho w o _ _ _ _ _ _ _ _ (sym sides_there.wide) (sym sides_there.high) (sym sides.wide) (sym sides.high) is in
+    tiles_same p now hw ho there w o a (first * a) (rows * a)
+    (λ i l.
+    subst (λ b. i < rows * b → b * 64 ≡ there.width → 0 < b → taken_in (pos p) now hw ho (tile_rectangle now (b + i)) ≡ taken_in (pos p) there w o (tile_rectangle there (first * b + i))) (ap (λ n. n / 64) sides_there.wide)
+    (λ l whole some. tile_same p first rows down i hw ho w o there now is' whole some (sides_there.high ∙ high) (sides.high ∙ strip) inside l
+    (λ x y l low top. kept.row x y l (omega arith) (omega arith)))
+    l (whole ∙ sym sides_there.wide) some)
 
 -- in a whole run
 pub run_same : (p first rows down : ℕ) (hw ho w o c sc : Cells) → let shift = (first + down - 1) * 64 in let a = c.width / 64 in
@@ -193,18 +219,9 @@ pub run_same : (p first rows down : ℕ) (hw ho w o c sc : Cells) → let shift 
     → (k : ℕ) → k ≤ 64 → tiles_take_in_run p hw ho sc a (rows * a) k ≡ tiles_take_in_run p w o c (first * a) (rows * a) k
 run_same p first rows down hw ho w o c sc is start whole some high strip inside zero few = refl
 run_same p first rows down hw ho w o c sc is start whole some high strip inside (suc k) few =
-    let a = c.width / 64 in
     let shift = (first + down - 1) * 64 in
     let now = after p (joined hw ho) sc k in
     let there = after p (joined w o) c k in
-    let sides = sides_after p (joined hw ho) sc k in
-    let sides_there = sides_after p (joined w o) c k in
-    let kept = strip_after p shift hw ho w o c sc is start k in
-    let is' : IsPart shift hw ho w o there.width there.height now.width now.height = part_as shift hw ho w o _ _ _ _ _ _ _ _ (sym sides_there.wide) (sym sides_there.high) (sym sides.wide) (sym sides.high) is in
-    let tile : (i : ℕ) → i < rows * a → taken_in (pos (parity_at p k)) now hw ho (tile_rectangle now (a + i)) ≡ taken_in (pos (parity_at p k)) there w o (tile_rectangle there (first * a + i)) = λ i l.
-    subst (λ b. i < rows * b → b * 64 ≡ there.width → 0 < b → taken_in (pos (parity_at p k)) now hw ho (tile_rectangle now (b + i)) ≡ taken_in (pos (parity_at p k)) there w o (tile_rectangle there (first * b + i))) (ap (λ n. n / 64) sides_there.wide)
-    (λ l whole some. tile_same (parity_at p k) first rows down i hw ho w o there now is' whole some (sides_there.high ∙ high) (sides.high ∙ strip) inside l
-    (λ x y l low top. kept.row x y l (omega arith) (omega arith)))
-    l (whole ∙ sym sides_there.wide) some in
     ap₂ took_plus (run_same p first rows down hw ho w o c sc is start whole some high strip inside k (omega arith))
-    (tiles_same (parity_at p k) now hw ho there w o a (first * a) (rows * a) tile)
+    (own_tiles_same (parity_at p k) first rows down k hw ho w o c sc now there is (sides_after p (joined hw ho) sc k) (sides_after p (joined w o) c k)
+    (strip_after p shift hw ho w o c sc is start k) (omega arith) whole some high strip inside)
