@@ -17,16 +17,39 @@ use std::time::Instant;
 /// A laboratory that a team steps.
 pub type TeamLab<'a, R> = Lab<Team<&'a R, NoGate>>;
 
+/// What stands on the lattice.
+#[derive(Clone, Copy, PartialEq, Eq)]
+enum Scene {
+    Free,
+    Channels,
+    Tunnel,
+    /// A source that acts at each tick and a drain, both over the whole lattice.
+    WholePair,
+    /// Sixteen of each.
+    WholePairs,
+}
+
+impl Scene {
+    fn name(self) -> &'static str {
+        match self {
+            Scene::Free => "no walls",
+            Scene::Channels => "channels",
+            Scene::Tunnel => "a tunnel with ports",
+            Scene::WholePair => "a source and a drain over all",
+            Scene::WholePairs => "16 sources and 16 drains over all",
+        }
+    }
+}
+
 /// What is stepped, and how many steps a command makes.
 #[derive(Drop)]
 struct Course {
     size: Size,
-    has_channels: bool,
-    has_ports: bool,
+    scene: Scene,
     steps: u16,
 }
 
-/// Each size, length of run and count of workers, side by side: without walls, with channels, and a tunnel with ports.
+/// Each size, length of run and count of workers, side by side: without walls, with channels, and with ports.
 pub fn run(
     rt: &(impl Threads + Clock + Eprint + AllocGlobal),
     start: Instant,
@@ -49,27 +72,22 @@ fn scenes(
     side: u32,
     steps: u16,
 ) -> io::Result<()> {
-    let free = course_of(side, steps, false, false);
-    by_workers(rt, start, "no walls", &free)?;
-    let walled = course_of(side, steps, true, false);
-    by_workers(rt, start, "channels", &walled)?;
-    let open = course_of(side, steps, false, true);
-    by_workers(rt, start, "a tunnel with ports", &open)
-}
-
-fn course_of(side: u32, steps: u16, has_channels: bool, has_ports: bool) -> Course {
-    Course {
-        size: size_of(side),
-        has_channels,
-        has_ports,
-        steps,
+    let size = size_of(side);
+    for scene in [
+        Scene::Free,
+        Scene::Channels,
+        Scene::Tunnel,
+        Scene::WholePair,
+        Scene::WholePairs,
+    ] {
+        by_workers(rt, start, &Course { size, scene, steps })?;
     }
+    Ok(())
 }
 
 fn by_workers(
     rt: &(impl Threads + Clock + Eprint + AllocGlobal),
     start: Instant,
-    scene: &str,
     course: &Course,
 ) -> io::Result<()> {
     let one = timed(rt, start, course, 1)?;
@@ -77,6 +95,7 @@ fn by_workers(
     let four = timed(rt, start, course, 4)?;
     let side = course.size.width();
     let n = course.steps;
+    let scene = course.scene.name();
     eprintln!(rt;
         "{side} by {side}, step {n}, {scene}: {one}, {two} and {four} ns a step by 1, 2 and 4 workers"
     )
@@ -100,7 +119,7 @@ fn opened<'a, R: Threads>(
     course: &Course,
     workers: u8,
 ) -> Result<TeamLab<'a, R>, NoMemory> {
-    let gas = gas_of(alloc, course.size, course.has_channels)?;
+    let gas = gas_of(alloc, course.size, course.scene == Scene::Channels)?;
     let team = Team::new(rt, alloc, workers.clamp(1, 16), NoGate);
     Lab::open(alloc, gas, 64, team)
 }
@@ -135,8 +154,11 @@ fn worked<R: Threads>(
     lab: &mut TeamLab<'_, R>,
     course: &Course,
 ) -> u64 {
-    if course.has_ports {
-        open_tunnel(lab, course.size);
+    match course.scene {
+        Scene::Free | Scene::Channels => {}
+        Scene::Tunnel => open_tunnel(lab, course.size),
+        Scene::WholePair => open_all(lab, course.size, 1),
+        Scene::WholePairs => open_all(lab, course.size, 16),
     }
     ask(lab, Command::Step(1));
     let mut least = u64::MAX;
@@ -163,6 +185,15 @@ fn open_tunnel<R: Threads>(lab: &mut TeamLab<'_, R>, size: Size) {
         lab,
         Command::Drain(area_of(size, width - 4, height / 2, 4, height / 2)),
     );
+}
+
+// sources and drains over the whole lattice
+fn open_all<R: Threads>(lab: &mut TeamLab<'_, R>, size: Size, each: u8) {
+    let all = area_of(size, 0, 0, size.width() as u32, size.height() as u32);
+    for _ in 0..each {
+        ask(lab, Command::Source(all, 1));
+        ask(lab, Command::Drain(all));
+    }
 }
 
 /// Asks the laboratory. What is refused shows in the figures.
