@@ -4,13 +4,13 @@ ghost use Rattle.std.specs.Prelude.{◌≡◌, ℕ, ◌+◌, ◌*◌, ◌<◌, �
 ghost use Rattle.bit_tile.specs.Bit.{bit};
 ghost use Rattle.bit_tile.specs.Tile.{has, HasCells};
 ghost use Rattle.block_rule.specs.Around.{twice_momentum};
-ghost use Rattle.block_rule.specs.Classes.{HasAtMost, AreCounts, AreParticlesIn, IsBlankRow, IsHeldIn, kept};
+ghost use Rattle.block_rule.specs.Classes.{HasAtMost, AreCounts, AreParticlesIn, AreWordsFrom, IsBlankRow, IsHeldIn, kept};
 
 use bit_tile::{Tile, joined};
 use gas_terms::Pair;
 
-// Rows of a class that are looked at together.
-const TOGETHER: usize = 8;
+/// Rows of a class that are looked at together.
+pub const TOGETHER: usize = 8;
 
 // 0 just if none of the rows from `from` on has a cell
 #[inline]
@@ -36,43 +36,59 @@ fn any_in_classes(places: &Tile, from: usize) -> u32
     even_rows | odd_rows
 }
 
+// eight rows of a class, from `from` on
+#[inline]
+fn eight(rows: &[u32; 32], from: usize) -> [u32; 8]
+    requires { from + 8 ≤ 32 }
+    ensures { AreWordsFrom from result (λ j. slice_index rows.now j) }
+{
+    let mut some = [0; TOGETHER];
+    for k in 0..TOGETHER {
+        some[k] = rows[from + k];
+    }
+    some
+}
+
 // The rows of a class from `from` on, with the old cells of these places put back.
 #[inline]
-fn kept_rows(old: &[u32; 32], places: &[u32; 32], from: usize, class: &[u32; 32]) -> [u32; 8]
+fn kept_rows(old: &[u32; 32], places: &[u32; 8], from: usize, class: &[u32; 32]) -> [u32; 8]
     requires { from + 8 ≤ 32 }
-    ensures { (i k : ℕ) → i < 32 → k < 8 →
-        bit (slice_index result k) i ≡ kept old.now places.now class.now (from + k) i }
+    ensures { (words : ℕ → ℕ) → AreWordsFrom from places.now words → (i k : ℕ) → i < 32 → k < 8 →
+        bit (slice_index result k) i ≡ kept old.now words class.now (from + k) i }
 {
     let mut rows = [0; TOGETHER];
     for k in 0..TOGETHER {
         let j = from + k;
-        rows[k] = (old[j] & places[j]) | (class[j] & !places[j]);
+        rows[k] = (old[j] & places[k]) | (class[j] & !places[k]);
     }
     rows
 }
 
 // How many old cells there are in these places, two rows at a time.
 #[inline]
-fn count_rows(old: &[u32; 32], places: &[u32; 32], from: usize) -> u32
+fn count_rows(old: &[u32; 32], places: &[u32; 8], from: usize) -> u32
     requires { from + 8 ≤ 32 }
-    ensures count { AreParticlesIn from (from + 8) old.now places.now result }
+    ensures count { (words : ℕ → ℕ) → AreWordsFrom from places.now words →
+        AreParticlesIn from (from + 8) old.now words result }
     ensures bound { result ≤ 256 }
 {
     let mut n = 0;
     for k in 0..TOGETHER / 2 {
         let j = from + 2 * k;
-        let particles = joined(old[j], old[j + 1]) & joined(places[j], places[j + 1]);
+        let particles = joined(old[j], old[j + 1]) & joined(places[2 * k], places[2 * k + 1]);
         n += particles.count_ones();
     }
     n
 }
 
-// Puts the old cells of these places back into the rows from `from` on, and answers how many there are.
+/// Puts the old cells of these places back into the rows from `from` on, and answers how many there are.
 #[inline]
-fn hold_rows(old: &[u32; 32], places: &[u32; 32], from: usize, class: &mut [u32; 32]) -> u32
+pub fn hold_rows(old: &[u32; 32], places: &[u32; 8], from: usize, class: &mut [u32; 32]) -> u32
     requires { from + 8 ≤ 32 }
-    ensures cells { IsHeldIn from (from + 8) old.now places.now class.old class.new }
-    ensures count { AreParticlesIn from (from + 8) old.now places.now result }
+    ensures cells { (words : ℕ → ℕ) → AreWordsFrom from places.now words →
+        IsHeldIn from (from + 8) old.now words class.old class.new }
+    ensures count { (words : ℕ → ℕ) → AreWordsFrom from places.now words →
+        AreParticlesIn from (from + 8) old.now words result }
     ensures bound { result ≤ 256 }
 {
     let rows = kept_rows(old, places, from, class);
@@ -82,14 +98,22 @@ fn hold_rows(old: &[u32; 32], places: &[u32; 32], from: usize, class: &mut [u32;
     count_rows(old, places, from)
 }
 
-// How many particles there are in even columns of even rows, in odd of even, even of odd, and odd of odd.
+/// How many particles there are in even columns of even rows, in odd of even, even of odd, and odd of odd.
 #[derive(Clone, Copy)]
-struct Classes {
-    even_even: u32,
-    odd_even: u32,
-    even_odd: u32,
-    odd_odd: u32,
+pub struct Classes {
+    pub even_even: u32,
+    pub odd_even: u32,
+    pub even_odd: u32,
+    pub odd_odd: u32,
 }
+
+/// None at all.
+pub const NO_PARTICLES: Classes = Classes {
+    even_even: 0,
+    odd_even: 0,
+    even_odd: 0,
+    odd_odd: 0,
+};
 
 // twice the difference
 fn twice(forward: u32, back: u32) -> i64
@@ -100,9 +124,9 @@ fn twice(forward: u32, back: u32) -> i64
     2 * i64::from(forward) - 2 * i64::from(back)
 }
 
-// Twice their momentum. Where blocks begin at even places, those of even columns go to the right and those of even rows
-// down; where they begin at odd ones, those of odd columns and rows do.
-fn momentum(counts: Classes, parity: u8) -> Pair
+/// Twice their momentum. Where blocks begin at even places, those of even columns go to the right and those of even rows
+/// down; where they begin at odd ones, those of odd columns and rows do.
+pub fn momentum(counts: Classes, parity: u8) -> Pair
     requires counts { HasAtMost 1024 counts }
     requires parity { parity < 2 }
     ensures { (cells : ℕ → ℕ → Bool) → AreCounts counts cells →
@@ -132,25 +156,19 @@ pub fn hold(tile: &Tile, places: &Tile, parity: u8, out: &mut Tile) -> Pair
         if has places.now x y then has tile.now x y else has out.old x y) }
     ensures took { result ≡ twice_momentum parity (λ x y. has tile.now x y && has places.now x y) }
 {
-    let mut counts = Classes {
-        even_even: 0,
-        odd_even: 0,
-        even_odd: 0,
-        odd_odd: 0,
-    };
+    let mut counts = NO_PARTICLES;
     for k in 0..4usize {
         let from = k * TOGETHER;
         // most rows have no places
         if any_in_classes(places, from) != 0 {
-            counts.even_even += hold_rows(
-                &tile.even_even,
-                &places.even_even,
-                from,
-                &mut out.even_even,
-            );
-            counts.odd_even += hold_rows(&tile.odd_even, &places.odd_even, from, &mut out.odd_even);
-            counts.even_odd += hold_rows(&tile.even_odd, &places.even_odd, from, &mut out.even_odd);
-            counts.odd_odd += hold_rows(&tile.odd_odd, &places.odd_odd, from, &mut out.odd_odd);
+            let even_even = eight(&places.even_even, from);
+            counts.even_even += hold_rows(&tile.even_even, &even_even, from, &mut out.even_even);
+            let odd_even = eight(&places.odd_even, from);
+            counts.odd_even += hold_rows(&tile.odd_even, &odd_even, from, &mut out.odd_even);
+            let even_odd = eight(&places.even_odd, from);
+            counts.even_odd += hold_rows(&tile.even_odd, &even_odd, from, &mut out.even_odd);
+            let odd_odd = eight(&places.odd_odd, from);
+            counts.odd_odd += hold_rows(&tile.odd_odd, &odd_odd, from, &mut out.odd_odd);
         }
     }
     momentum(counts, parity)

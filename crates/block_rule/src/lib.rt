@@ -12,12 +12,14 @@ ghost use Rattle.tile_border.specs.declared.Border.{Border as BorderValue};
 ghost use Rattle.block_rule.specs.Lent.{IsSeenInside, IsSeenIn, IsSeen};
 
 mod blocks;
+mod even;
 mod held;
 pub mod laws;
 mod made;
 
 use bit_tile::Tile;
 use blocks::{AnyCorner, Collision};
+use even::hold_even;
 use gas_terms::accounts::{Pair, Took};
 use held::hold;
 use made::{make_even, make_odd};
@@ -50,21 +52,7 @@ pub struct Window<'a> {
 // What nobody takes.
 const NOTHING: Pair = Pair { x: 0, y: 0 };
 
-// In a tile that was turned as if there were no walls, puts back what stood in blocks with a cell of the set. Blocks begin
-// at even columns and rows.
-fn hold_even(tile: &Tile, set: &Tile, out: &mut Tile) -> Pair
-    ensures cells { (walled : ℕ → ℕ → Bool) → ShowsTile walled set.now →
-        HasCells out.new (λ x y.
-        if is_walled_at 0 walled x y then has tile.now x y else has out.old x y) }
-    ensures took { (walled : ℕ → ℕ → Bool) → ShowsTile walled set.now →
-        result ≡ twice_momentum 0 (λ x y. has tile.now x y && is_walled_at 0 walled x y) }
-{
-    let mut places = Tile::empty();
-    make_even(AnyCorner, set, &mut places);
-    hold(tile, &places, 0, out)
-}
-
-// The same with walls and obstacles. Blocks with both count for the obstacles.
+// `hold_even` with walls and obstacles. Blocks with both count for the obstacles.
 fn hold_both_even(tile: &Tile, walls: &Tile, obstacles: &Tile, out: &mut Tile) -> Took
     ensures cells { (walled obstructed : ℕ → ℕ → Bool) → ShowsTile walled walls.now →
         ShowsTile obstructed obstacles.now →

@@ -172,3 +172,16 @@ module _ (cells : Cells) (column row : ℕ) (wide : IsWholeTiles cells.width) (h
                   ∙ far.cell (d * 64 + x) (f * 64 + y) (omega arith) (omega arith);
             };
       }
+
+  pub own_is_known : IsBareFarRound cells (column * 64) (row * 64) → IsBare cells (column * 64) (row * 64)
+  own_is_known far =
+      record {
+        cell = λ x y p q.
+            ap₂ (has cells) (sym (own_spot cells.width column x wide in_row p)) (sym (own_spot cells.height row y high in_column q))
+            ∙ far.cell (64 + x) (64 + y) (omega arith) (omega arith);
+      }
+    where
+      own_spot : (n k x : ℕ) → IsWholeTiles n → k < n / 64 → x < 64 → (k * 64 + (64 + x) + n - 64) % n ≡ k * 64 + x
+      own_spot n k x whole within p =
+          let e : k * 64 + (64 + x) + n - 64 ≡ k * 64 + x + n = omega arith in
+          ap (λ m. m % n) e ∙ wraps n (k * 64 + x) (cell_below n k x whole within p)

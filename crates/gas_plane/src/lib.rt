@@ -176,6 +176,10 @@ impl Plane {
         }
         let across = self.across();
         let down = self.down();
+        // a tile that has cells needs no look round it
+        if !self.is_bare(i) {
+            return false;
+        }
         let column = i % across;
         let row = i / across;
         let above = self.are_three_bare(column, before(row, down));

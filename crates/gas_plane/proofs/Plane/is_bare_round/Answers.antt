@@ -1,15 +1,28 @@
-use Rattle.std.proofs.Common.{◌≡◌, ◌+◌, ◌-◌, ◌/◌, ◌%◌, ◌<◌, ◌∙◌, ap, arith}
+use Rattle.std.proofs.Common.{◌≡◌, ◌+◌, ◌-◌, ◌/◌, ◌%◌, ◌<◌, ◌∙◌, ap, arith, Bool, false, IsTrue}
 use Rattle.std.proofs.lemmas.Nat.{row-Below}
 use Rattle.std.proofs.Math.Nat.{mod-lt}
 use Rattle.gas_terms.specs.Cells.{extent}
 use Rattle.gas_plane.specs.Planes.{AreThreeBare}
 use Rattle.gas_plane.proofs.Places.{wide, high}
-use Rattle.gas_plane.proofs.BareTiles.{all_three, three_all, by_places, from_places, nine_are_round, nine_are_known, nothing_round}
+use Rattle.gas_plane.proofs.BareTiles.{all_three, three_all, by_places, from_places, nine_are_round, nine_are_known, own_is_known, nothing_round}
 use Rattle.gas_plane.proofs.Plane.is_bare_round.Goals as goal
 
 pub returns-then-self-clause-bare : goal.returns-then-self-clause-bare
 returns-then-self-clause-bare c = λ _.
     nothing_round c.self.inside.tiles.items c.self.inside.size c.args.self.now _ _ c.self.invariant.cover c.self.view_is (c.self.invariant.none c.if-self.true)
+
+-- what is known and told to be false
+known_false : (b : Bool) → IsTrue b → b ≡ false → IsTrue false
+known_false b h k = grind arith
+
+pub returns-then-not-is_bare-clause-known : goal.returns-then-not-is_bare-clause-known
+returns-then-not-is_bare-clause-known c = λ far.
+    let cells = c.args.self.now in
+    let is = c.across-across.ensures.lattice in
+    let across : c.across-across.result ≡ cells.width / 64 = c.across-across.ensures.across in
+    let column : c.args.i % (cells.width / 64) < cells.width / 64 = mod-lt c.args.i c.across-across.ensures.positive in
+    let row : c.args.i / (cells.width / 64) < cells.height / 64 = (row-Below c.args.i (cells.width / 64) (cells.width / 64) (cells.height / 64) c.requires (omega arith)).1 in
+    known_false c.is_bare.result (c.is_bare.ensures.known (own_is_known cells (c.args.i % (cells.width / 64)) (c.args.i / (cells.width / 64)) (wide (extent cells) is.sized) (high (extent cells) is.sized) column row far)) c.if-not-is_bare.true
 
 pub returns-clause-bare : goal.returns-clause-bare
 returns-clause-bare c = λ all.

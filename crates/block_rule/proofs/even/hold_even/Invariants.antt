@@ -1,0 +1,12 @@
+use Rattle.block_rule.specs.Classes.{any_of_row}
+use Rattle.block_rule.proofs.Holding.{HeldSoFar}
+use Rattle.block_rule.proofs.even.hold_even.Given as goal
+
+abbrev pub invariant-loop-k : goal.invariant-loop-k
+invariant-loop-k l =
+    record {
+      even_even : HeldSoFar l.tile.even_even (any_of_row l.set) l.initial.out.even_even l.out.even_even l.counts.even_even l.k;
+      odd_even : HeldSoFar l.tile.odd_even (any_of_row l.set) l.initial.out.odd_even l.out.odd_even l.counts.odd_even l.k;
+      even_odd : HeldSoFar l.tile.even_odd (any_of_row l.set) l.initial.out.even_odd l.out.even_odd l.counts.even_odd l.k;
+      odd_odd : HeldSoFar l.tile.odd_odd (any_of_row l.set) l.initial.out.odd_odd l.out.odd_odd l.counts.odd_odd l.k;
+    }
