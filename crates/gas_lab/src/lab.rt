@@ -13,7 +13,9 @@ ghost use Rattle.gas_lab.specs.Labs.{Changes, entry_of};
 use crate::books::Books;
 use gas_ledger::{Gas, probe, tally};
 use gas_plane::Plane;
-use gas_terms::{Answer, Command, Entry, Ledger, NoMemory, Pair, Refusal, RowBits, Size, Sums};
+use gas_terms::{
+    Answer, Command, Entry, Ledger, MOST_PORTS, NoMemory, Pair, Refusal, RowBits, Size, Sums,
+};
 use phase_step::Stepper;
 use std::alloc::Global;
 use std::marker::Model;
@@ -204,8 +206,8 @@ impl<S: Stepper> Lab<S> {
         ensures { result ≡ has_all_ports self.now.gas command.now }
     {
         match command {
-            Command::Source(_, _) => 16 <= self.books.gas.ports().sources().len(),
-            Command::Drain(_) => 16 <= self.books.gas.ports().drains().len(),
+            Command::Source(_, _) => MOST_PORTS <= self.books.gas.ports().sources().len(),
+            Command::Drain(_) => MOST_PORTS <= self.books.gas.ports().drains().len(),
             _ => false,
         }
     }
@@ -270,9 +272,7 @@ impl<S: Stepper> Lab<S> {
         ensures few { length self.new.journal ≤ 65536 }
     {
         let count = self.journal.len();
-        if self.journal.reserve(1).is_err() {
-            return Err(Refusal::Memory);
-        }
+        self.journal.reserve(1)?;
         self.books
             .enact(&command, &mut self.spare, &mut self.stepper);
         self.journal.push_reserved(Entry { seat, command });
