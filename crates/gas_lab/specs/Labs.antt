@@ -4,7 +4,7 @@ use Rattle.gas_terms.specs.Gas.{Gas}
 use Rattle.gas_terms.specs.Accounts.{FitsI64, TakenFits}
 use Rattle.gas_terms.specs.Commands.{is_tick, most_steps}
 use Rattle.gas_terms.specs.BookedGas.{BookedGas, book, changes}
-use Rattle.gas_terms.specs.Laboratory.{Laboratory, accepted, IsSound}
+use Rattle.gas_terms.specs.Laboratory.{Laboratory, most_entries, accepted, IsSound}
 use Rattle.gas_terms.specs.declared.accounts.Ledger.{Ledger}
 use Rattle.gas_terms.specs.declared.command.Command.{Command}
 use Rattle.gas_terms.specs.declared.command.Command.TheVariants.{Step, Back}
@@ -40,7 +40,7 @@ Affords b = (command : Command) → changes command ≤ most_steps → FitsI64 (
 -- What a laboratory's type keeps beside what the types of its parts keep.
 pub record IsKept (lab : Laboratory) (others : Cells) : Type 0 where
   pub sound : IsSound lab
-  pub cap : lab.cap ≤ 65536
+  pub cap : lab.cap ≤ most_entries
   pub lattice : IsLattice lab.start.particles
   pub tick : is_tick lab.gas.tick ≡ true
   pub spare : HasSidesOf others lab.gas.particles
