@@ -67,10 +67,10 @@ fn phases(
     Ok(since(rt, start).saturating_sub(before))
 }
 
-// Planes of different sizes are left as they are.
+// Planes of different sizes are left as they are. What the walls take is no part of the figures.
 fn stepped(cells: &mut Plane, walls: &Plane, none: &Plane, spare: &mut Plane, steps: u16) {
     if has_sides(walls, cells) && has_sides(none, cells) && has_sides(spare, cells) {
-        let _ = Serial.run(cells, walls, none, 0, steps, spare);
+        drop(Serial.run(cells, walls, none, 0, steps, spare));
     }
 }
 

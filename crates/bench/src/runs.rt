@@ -199,6 +199,6 @@ fn open_all<R: Threads>(lab: &mut TeamLab<'_, R>, size: Size, each: u8) {
 /// Asks the laboratory. What is refused shows in the figures.
 pub fn ask<R: Threads>(lab: &mut TeamLab<'_, R>, command: Command) {
     if command.fits(lab.size()) {
-        let _ = lab.apply(0, command);
+        drop(lab.apply(0, command));
     }
 }

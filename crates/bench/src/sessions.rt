@@ -5,7 +5,7 @@ use crate::lattice::Scale;
 use crate::watch::{report, since};
 use gas_lab::{Gas, Lab, Stepper};
 use gas_snapshot::NoShelf;
-use gas_talk::serve_alone;
+use gas_talk::{SessionEnd, serve_alone};
 use gas_terms::NoMemory;
 use phase_team::{NoGate, Team};
 use std::alloc::Global;
@@ -53,12 +53,14 @@ fn fed(
     let gas = Gas::empty(alloc, size_of(scale.side))?;
     let mut lab = Lab::open(alloc, gas, 65_536, Team::new(rt, alloc, 1, NoGate))?;
     let before = since(rt, start);
-    answered(alloc, input.as_slice(), &mut lab);
-    Ok(since(rt, start).saturating_sub(before))
+    match answered(alloc, input.as_slice(), &mut lab) {
+        SessionEnd::InputEnd => Ok(since(rt, start).saturating_sub(before)),
+        _ => Err(NoMemory),
+    }
 }
 
-fn answered<S: Stepper>(alloc: Global, input: &[u8], lab: &mut Lab<S>) {
+fn answered<S: Stepper>(alloc: Global, input: &[u8], lab: &mut Lab<S>) -> SessionEnd {
     let mut reader = input;
     let mut output = Vec::new(alloc);
-    let _ = serve_alone(alloc, &mut reader, &mut output, lab, 0, &mut NoShelf::new());
+    serve_alone(alloc, &mut reader, &mut output, lab, 0, &mut NoShelf::new())
 }

@@ -5,7 +5,7 @@ use crate::lattice::{Scale, cells_of};
 use crate::runs::gas_of;
 use crate::watch::{report, since};
 use gas_ledger::Gas;
-use gas_snapshot::{decode, encode, write_to};
+use gas_snapshot::{SnapFault, WriteFault, decode, encode, write_to};
 use gas_terms::NoMemory;
 use std::alloc::Global;
 use std::io;
@@ -32,16 +32,20 @@ fn all(
     start: Instant,
     scale: Scale,
     times: u16,
-) -> Result<[u64; 3], NoMemory> {
+) -> io::Result<[u64; 3]> {
     let alloc = rt.alloc();
     let gas = gas_of(alloc, size_of(scale.side), true)?;
     let bytes = encode(alloc, &gas)?;
     let first = since(rt, start);
-    encode_often(alloc, &gas, times);
+    encode_often(alloc, &gas, times)?;
     let second = since(rt, start);
-    decode_often(alloc, bytes.as_slice(), times);
+    if decode_often(alloc, bytes.as_slice(), times).is_err() {
+        return Err(io::ErrorKind::InvalidData.into());
+    }
     let third = since(rt, start);
-    write_often(alloc, &gas, times);
+    if write_often(alloc, &gas, times).is_err() {
+        return Err(io::ErrorKind::WriteZero.into());
+    }
     let fourth = since(rt, start);
     Ok([
         second.saturating_sub(first),
@@ -50,22 +54,25 @@ fn all(
     ])
 }
 
-fn encode_often(alloc: Global, gas: &Gas, times: u16) {
+fn encode_often(alloc: Global, gas: &Gas, times: u16) -> Result<(), NoMemory> {
     for _ in 0..times {
-        let _ = encode(alloc, gas);
+        drop(encode(alloc, gas)?);
     }
+    Ok(())
 }
 
-fn decode_often(alloc: Global, bytes: &[u8], times: u16) {
+fn decode_often(alloc: Global, bytes: &[u8], times: u16) -> Result<(), SnapFault> {
     for _ in 0..times {
-        let _ = decode(alloc, bytes);
+        drop(decode(alloc, bytes)?);
     }
+    Ok(())
 }
 
-fn write_often(alloc: Global, gas: &Gas, times: u16) {
+fn write_often(alloc: Global, gas: &Gas, times: u16) -> Result<(), WriteFault> {
     let mut page = Vec::new(alloc);
     for _ in 0..times {
         page.clear();
-        let _ = write_to(gas, &mut page);
+        write_to(gas, &mut page)?;
     }
+    Ok(())
 }

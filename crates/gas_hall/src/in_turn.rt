@@ -3,7 +3,7 @@
 ghost use Rattle.std.specs.Prelude.{◌≡◌, ◌≤◌, ⊤, true, length};
 ghost use Rattle.gas_terms.specs.Cells.{extent};
 ghost use Rattle.gas_terms.specs.Commands.{fits};
-ghost use Rattle.gas_terms.specs.Laboratory.{Applies, IsSound};
+ghost use Rattle.gas_terms.specs.Laboratory.{most_entries, Applies, IsSound};
 ghost use Rattle.gas_lab.specs.Labs.{entry_of};
 ghost use Rattle.gas_talk.specs.LabTalk.{Copies};
 
@@ -44,7 +44,7 @@ impl<S: Stepper> Call<InTurn<S>> for Asked {
 
     ghost needs = { λ c by opened. (by ≤ 65535) × (fits (extent opened.0.particles) c.command ≡ true) };
 
-    ghost does = { λ c by x reply y. IsSound x.lab × IsSound y.lab × (length y.lab.journal ≤ 65536)
+    ghost does = { λ c by x reply y. IsSound x.lab × IsSound y.lab × (length y.lab.journal ≤ most_entries)
         × Applies x.lab (entry_of by c.command) reply y.lab };
 
     fn call(self, by: u64, value: &mut InTurn<S>) -> Result<Answer, Refusal> {

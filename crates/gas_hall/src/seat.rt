@@ -1,6 +1,7 @@
 //! A seat of a hall.
 
 ghost use Rattle.std.specs.Prelude.{◌≡◌, ◌≤◌};
+ghost use Rattle.gas_terms.specs.Laboratory.{most_entries};
 ghost use Rattle.gas_hall.specs.Seats.{Seat};
 
 use crate::name::HallName;
@@ -18,13 +19,14 @@ pub struct HallSeat<N: HallName> {
 
 impl<N: HallName> Model for HallSeat<N> {
     ghost use Rattle.std.specs.Prelude.{◌≡◌, ◌≤◌};
+    ghost use Rattle.gas_terms.specs.Laboratory.{most_entries};
     ghost use Rattle.gas_hall.specs.Seats.{Seat};
 
     ghost Value = { Seat };
 
     ghost view = { λ s. record { number = s.number; entries = s.entries } };
 
-    ghost invariant = { λ s. (s.share.parts ≡ 1) × (s.share.amount ≡ s.entries) × (s.entries ≤ 65536) };
+    ghost invariant = { λ s. (s.share.parts ≡ 1) × (s.share.amount ≡ s.entries) × (s.entries ≤ most_entries) };
 }
 
 impl<N: HallName> HallSeat<N> {
@@ -38,7 +40,7 @@ impl<N: HallName> HallSeat<N> {
     /// How many entries of the journal the seat made.
     pub fn entries(&self) -> u32
         ensures entries { result ≡ self.now.entries }
-        ensures bound { result ≤ 65536 }
+        ensures bound { result ≤ most_entries }
     {
         self.entries
     }

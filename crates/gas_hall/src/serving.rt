@@ -2,6 +2,7 @@
 
 ghost use Rattle.std.specs.Prelude.{◌≡◌, ℕ, ◌+◌, ◌≤◌, ⊤, All, IfOk, IfErr, length, map, vec_len, vec_capacity};
 ghost use Rattle.std.specs.List.{sum_by};
+ghost use Rattle.gas_terms.specs.Laboratory.{most_entries};
 ghost use Rattle.gas_hall.specs.Seats.{Seat, numbers};
 ghost use Rattle.gas_hall.specs.TurnSeats.{SeatView, but_for_seen, entries_made, made_in_all};
 
@@ -69,7 +70,7 @@ pub(crate) trait Seating<T, R> {
 
     fn entries_of(seat: &T) -> u32
         ensures made { result ≡ made seat.now }
-        ensures bound { result ≤ 65536 };
+        ensures bound { result ≤ most_entries };
 
     fn serve_guest<In: Read + Drop, Out: Write + Drop, K: Shelf + Drop>(
         &self,

@@ -3,7 +3,7 @@
 ghost use Rattle.std.specs.Prelude.{◌≡◌, ◌<◌, ◌≤◌, ◌⊎◌, [], true, All, IfOk, IfErr, vec_len};
 ghost use Rattle.gas_terms.specs.Cells.{extent};
 ghost use Rattle.gas_terms.specs.Commands.{fits};
-ghost use Rattle.gas_terms.specs.Laboratory.{IsPrefix, made_by};
+ghost use Rattle.gas_terms.specs.Laboratory.{most_entries, IsPrefix, made_by};
 ghost use Rattle.gas_hall.specs.Seats.{AreNumbered};
 ghost use Rattle.gas_hall.specs.TurnSeats.{SeatView, NoteView, entries_made, opening_seat, AsksInTurn, CopiesInTurn};
 
@@ -48,7 +48,7 @@ impl<S: Stepper> Model for TurnSeat<S> {
     ghost use Rattle.std.specs.Prelude.{◌≡◌, ◌≤◌, IfSome, length};
     ghost use Rattle.gas_terms.specs.Cells.{extent};
     ghost use Rattle.gas_hall.specs.TurnSeats.{SeatView};
-    ghost use Rattle.gas_terms.specs.Laboratory.{made_by};
+    ghost use Rattle.gas_terms.specs.Laboratory.{most_entries, made_by};
 
     ghost Value = { SeatView };
 
@@ -56,7 +56,7 @@ impl<S: Stepper> Model for TurnSeat<S> {
 
     ghost invariant = { λ s. (s.door.number ≡ s.number)
         × IfSome s.door.fixed (λ opened. extent opened.0.particles ≡ s.size)
-        × (s.made ≡ length (made_by s.number s.door.seen)) × (s.made ≤ 65536) };
+        × (s.made ≡ length (made_by s.number s.door.seen)) × (s.made ≤ most_entries) };
 }
 
 impl<S: Stepper> TurnSeat<S> {
@@ -70,7 +70,7 @@ impl<S: Stepper> TurnSeat<S> {
     /// How many entries of the journal the seat made.
     pub fn entries(&self) -> u32
         ensures entries { result ≡ entries_made self.now }
-        ensures bound { result ≤ 65536 }
+        ensures bound { result ≤ most_entries }
     {
         self.made
     }

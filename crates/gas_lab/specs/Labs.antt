@@ -2,9 +2,9 @@ use Rattle.std.specs.Prelude.{◌≡◌, ◌≤◌, ℕ, List, true, length, Res
 use Rattle.gas_terms.specs.Cells.{Cells, HasSidesOf}
 use Rattle.gas_terms.specs.Gas.{Gas}
 use Rattle.gas_terms.specs.Accounts.{FitsI64, TakenFits}
-use Rattle.gas_terms.specs.Commands.{is_tick}
+use Rattle.gas_terms.specs.Commands.{is_tick, most_steps}
 use Rattle.gas_terms.specs.BookedGas.{BookedGas, book, changes}
-use Rattle.gas_terms.specs.Laboratory.{Laboratory, accepted, IsSound}
+use Rattle.gas_terms.specs.Laboratory.{Laboratory, most_entries, accepted, IsSound}
 use Rattle.gas_terms.specs.declared.accounts.Ledger.{Ledger}
 use Rattle.gas_terms.specs.declared.command.Command.{Command}
 use Rattle.gas_terms.specs.declared.command.Command.TheVariants.{Step, Back}
@@ -35,12 +35,12 @@ TakesFit l = TakenFits l.walls × TakenFits l.obstacles
 
 -- the accounts stay within 64 bits whatever the next command is
 abbrev pub Affords : BookedGas → Type 0
-Affords b = (command : Command) → changes command ≤ 4096 → FitsI64 (book b command).ledger
+Affords b = (command : Command) → changes command ≤ most_steps → FitsI64 (book b command).ledger
 
 -- What a laboratory's type keeps beside what the types of its parts keep.
 pub record IsKept (lab : Laboratory) (others : Cells) : Type 0 where
   pub sound : IsSound lab
-  pub cap : lab.cap ≤ 65536
+  pub cap : lab.cap ≤ most_entries
   pub lattice : IsLattice lab.start.particles
   pub tick : is_tick lab.gas.tick ≡ true
   pub spare : HasSidesOf others lab.gas.particles

@@ -4,7 +4,7 @@ ghost use Rattle.std.specs.Prelude.{◌≡◌, ◌≤◌, ◌<◌, ◌↔◌, tr
 ghost use Rattle.gas_terms.specs.Cells.{extent};
 ghost use Rattle.gas_terms.specs.Rows.{row_bytes};
 ghost use Rattle.gas_terms.specs.Commands.{fits};
-ghost use Rattle.gas_terms.specs.Laboratory.{opening, answer as answer_of, cause, lacks_entry, has_all_ports, bars_way_back, leaves_ticks, lacks_room, Applies, IsAcceptable, IsSound};
+ghost use Rattle.gas_terms.specs.Laboratory.{most_entries, opening, answer as answer_of, cause, lacks_entry, has_all_ports, bars_way_back, leaves_ticks, lacks_room, Applies, IsAcceptable, IsSound};
 ghost use Rattle.gas_terms.specs.declared.command.Command.TheVariants.{Entry as EntryAt};
 ghost use Rattle.gas_terms.specs.declared.refusal.Refusal.TheVariants.{Memory};
 ghost use Rattle.gas_terms.specs.declared.answer.Answer.TheVariants.{RowIs};
@@ -13,7 +13,9 @@ ghost use Rattle.gas_lab.specs.Labs.{Changes, entry_of};
 use crate::books::Books;
 use gas_ledger::{Gas, probe, tally};
 use gas_plane::Plane;
-use gas_terms::{Answer, Command, Entry, Ledger, NoMemory, Pair, Refusal, RowBits, Size, Sums};
+use gas_terms::{
+    Answer, Command, Entry, Ledger, MOST_PORTS, NoMemory, Pair, Refusal, RowBits, Size, Sums,
+};
 use phase_step::Stepper;
 use std::alloc::Global;
 use std::marker::Model;
@@ -56,7 +58,7 @@ impl<S: Stepper> Lab<S> {
     /// gas's sums at the start and nothing else.
     pub fn open(alloc: Global, start: Gas, cap: u32, stepper: S) -> Result<Lab<S>, NoMemory>
         requires some { 1 ≤ cap }
-        requires cap { cap ≤ 65536 }
+        requires cap { cap ≤ most_entries }
         ensures { IfOk result (λ lab. lab ≡ opening start cap) }
     {
         let gas = start.copy(alloc)?;
@@ -85,7 +87,7 @@ impl<S: Stepper> Lab<S> {
         ensures applied { Applies self.old (entry_of seat command) result self.new }
         ensures before { IsSound self.old }
         ensures after { IsSound self.new }
-        ensures few { length self.new.journal ≤ 65536 }
+        ensures few { length self.new.journal ≤ most_entries }
     {
         if let Some(refusal) = self.cause(&command) {
             return Err(refusal);
@@ -140,7 +142,7 @@ impl<S: Stepper> Lab<S> {
     pub fn journal(&self) -> &[Entry]
         ensures journal { result.now ≡ self.now.journal }
         ensures room { length self.now.journal ≤ self.now.cap }
-        ensures few { length self.now.journal ≤ 65536 }
+        ensures few { length self.now.journal ≤ most_entries }
     {
         self.journal.as_slice()
     }
@@ -148,7 +150,7 @@ impl<S: Stepper> Lab<S> {
     /// What a laboratory's type keeps, for whoever holds one. It does nothing: its contract is the invariant.
     pub fn invariant(&self)
         ensures sound { IsSound self.now }
-        ensures cap { self.now.cap ≤ 65536 }
+        ensures cap { self.now.cap ≤ most_entries }
     {
         // the prover shows what a type keeps where a field is read
         let _cap = self.cap;
@@ -159,7 +161,7 @@ impl<S: Stepper> Lab<S> {
         ensures start { result ≡ extent self.now.start.particles }
         ensures gas { result ≡ extent self.now.gas.particles }
         ensures sound { IsSound self.now }
-        ensures cap { self.now.cap ≤ 65536 }
+        ensures cap { self.now.cap ≤ most_entries }
     {
         self.books.gas.size()
     }
@@ -204,8 +206,8 @@ impl<S: Stepper> Lab<S> {
         ensures { result ≡ has_all_ports self.now.gas command.now }
     {
         match command {
-            Command::Source(_, _) => 16 <= self.books.gas.ports().sources().len(),
-            Command::Drain(_) => 16 <= self.books.gas.ports().drains().len(),
+            Command::Source(_, _) => MOST_PORTS <= self.books.gas.ports().sources().len(),
+            Command::Drain(_) => MOST_PORTS <= self.books.gas.ports().drains().len(),
             _ => false,
         }
     }
@@ -267,12 +269,10 @@ impl<S: Stepper> Lab<S> {
         requires acceptable { IsAcceptable self.old (entry_of seat command) }
         ensures changed { Changes self.old (entry_of seat command) result self.new }
         ensures sound { IsSound self.new }
-        ensures few { length self.new.journal ≤ 65536 }
+        ensures few { length self.new.journal ≤ most_entries }
     {
         let count = self.journal.len();
-        if self.journal.reserve(1).is_err() {
-            return Err(Refusal::Memory);
-        }
+        self.journal.reserve(1)?;
         self.books
             .enact(&command, &mut self.spare, &mut self.stepper);
         self.journal.push_reserved(Entry { seat, command });

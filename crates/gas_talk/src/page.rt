@@ -5,7 +5,7 @@ ghost use Rattle.std.specs.Fmt.{decimal, signed_decimal};
 ghost use Rattle.hex.specs.Hex.{encode_lower};
 ghost use Rattle.gas_talk.specs.declared.reply.Reply.TheVariants.{Answered};
 ghost use Rattle.gas_talk.specs.Verbs.{verb_word};
-ghost use Rattle.gas_talk.specs.Texts.{spaced, area_words, command_text, sums_numbers, ledger_numbers, parted, reply_words, reply_line};
+ghost use Rattle.gas_talk.specs.Texts.{reply_limit, spaced, area_words, command_text, sums_numbers, ledger_numbers, parted, reply_words, reply_line};
 
 use crate::reply::Reply;
 use crate::verb::Verb;
@@ -13,21 +13,25 @@ use gas_terms::{Answer, Command, Ledger, Rect, RowBits, Sums};
 use hex::encode_to_slice;
 use std::marker::Model;
 
-/// One reply's line, of at most 2,048 bytes. It holds no memory.
+// how many bytes a reply may have
+const REPLY_LIMIT: usize = 2048;
+
+/// One reply's line, of at most `REPLY_LIMIT` bytes. It holds no memory.
 #[derive(Drop)]
 pub struct ReplyPage {
-    bytes: [u8; 2048],
+    bytes: [u8; REPLY_LIMIT],
     len: usize,
 }
 
 impl Model for ReplyPage {
     ghost use Rattle.std.specs.Prelude.{ℕ, List, ◌≤◌, take};
+    ghost use Rattle.gas_talk.specs.Texts.{reply_limit};
 
     ghost Value = { List ℕ };
 
     ghost view = { λ p. take p.len p.bytes };
 
-    ghost invariant = { λ p. p.len ≤ 2048 };
+    ghost invariant = { λ p. p.len ≤ reply_limit };
 }
 
 fn write_hex(bytes: &[u8], text: &mut [u8])
@@ -45,7 +49,7 @@ impl ReplyPage {
         ensures { result ≡ [] }
     {
         ReplyPage {
-            bytes: [0; 2048],
+            bytes: [0; REPLY_LIMIT],
             len: 0,
         }
     }
@@ -64,7 +68,7 @@ impl ReplyPage {
     }
 
     fn push(&mut self, text: &[u8])
-        requires { length self.old + length text.now ≤ 2048 }
+        requires { length self.old + length text.now ≤ reply_limit }
         ensures text { self.new ≡ self.old ++ text.now }
         ensures len { length self.new ≡ length self.old + length text.now }
     {
@@ -75,7 +79,7 @@ impl ReplyPage {
 
     // Bytes in hex, in lower case.
     fn push_hex(&mut self, bytes: &[u8])
-        requires { length self.old + 2 * length bytes.now ≤ 2048 }
+        requires { length self.old + 2 * length bytes.now ≤ reply_limit }
         ensures text { self.new ≡ self.old ++ encode_lower bytes.now }
         ensures len { length self.new ≡ length self.old + 2 * length bytes.now }
     {
@@ -86,7 +90,7 @@ impl ReplyPage {
 
     // The digits of a number.
     fn push_digits(&mut self, n: u64)
-        requires { length self.old + length (decimal n) ≤ 2048 }
+        requires { length self.old + length (decimal n) ≤ reply_limit }
         ensures { self.new ≡ self.old ++ decimal n }
     {
         if n < 10 {
@@ -100,7 +104,7 @@ impl ReplyPage {
     // A space, and the number.
     #[tactic(auto, using(crate::proofs::Decimals::decimal_short))]
     fn push_number(&mut self, n: u64)
-        requires { length self.old + 21 ≤ 2048 }
+        requires { length self.old + 21 ≤ reply_limit }
         ensures text { self.new ≡ self.old ++ spaced (decimal n ∷ []) }
         ensures short { length self.new ≤ length self.old + 21 }
     {
@@ -110,7 +114,7 @@ impl ReplyPage {
 
     // A space, and the number, with a sign where it is negative.
     fn push_signed(&mut self, n: i64)
-        requires { length self.old + 21 ≤ 2048 }
+        requires { length self.old + 21 ≤ reply_limit }
         ensures text { self.new ≡ self.old ++ spaced (signed_decimal n ∷ []) }
         ensures short { length self.new ≤ length self.old + 21 }
     {
@@ -124,7 +128,7 @@ impl ReplyPage {
 
     // Each number after a space.
     fn push_numbers(&mut self, numbers: &[u32])
-        requires { length self.old + 21 * length numbers.now ≤ 2048 }
+        requires { length self.old + 21 * length numbers.now ≤ reply_limit }
         ensures text { self.new ≡ self.old ++ spaced (map decimal numbers.now) }
         ensures short { length self.new ≤ length self.old + 21 * length numbers.now }
     {
@@ -134,7 +138,7 @@ impl ReplyPage {
     }
 
     fn push_all_signed(&mut self, numbers: &[i64])
-        requires { length self.old + 21 * length numbers.now ≤ 2048 }
+        requires { length self.old + 21 * length numbers.now ≤ reply_limit }
         ensures text { self.new ≡ self.old ++ spaced (map signed_decimal numbers.now) }
         ensures short { length self.new ≤ length self.old + 21 * length numbers.now }
     {
@@ -145,7 +149,7 @@ impl ReplyPage {
 
     // A space, and a row's digits.
     fn push_row(&mut self, bits: &RowBits)
-        requires { length self.old + 1025 ≤ 2048 }
+        requires { length self.old + 1025 ≤ reply_limit }
         ensures text { self.new ≡ self.old ++ spaced (encode_lower bits.now ∷ []) }
         ensures short { length self.new ≤ length self.old + 1025 }
     {
@@ -155,7 +159,7 @@ impl ReplyPage {
 
     // A verb, and its numbers.
     fn push_verb(&mut self, verb: Verb, numbers: &[u32])
-        requires { length self.old + 21 * length numbers.now + 10 ≤ 2048 }
+        requires { length self.old + 21 * length numbers.now + 10 ≤ reply_limit }
         ensures text { self.new ≡ self.old ++ parted (verb_word verb ∷ map decimal numbers.now) }
         ensures short { length self.new ≤ length self.old + 21 * length numbers.now + 10 }
     {
@@ -164,7 +168,7 @@ impl ReplyPage {
     }
 
     fn push_area(&mut self, verb: Verb, area: Rect)
-        requires { length self.old + 100 ≤ 2048 }
+        requires { length self.old + 100 ≤ reply_limit }
         ensures text { self.new ≡ self.old ++ parted (area_words verb area) }
         ensures short { length self.new ≤ length self.old + 100 }
     {
@@ -174,7 +178,7 @@ impl ReplyPage {
 
     // The canonical text of a command.
     fn push_command(&mut self, command: &Command)
-        requires { length self.old + 1100 ≤ 2048 }
+        requires { length self.old + 1100 ≤ reply_limit }
         ensures text { self.new ≡ self.old ++ command_text command.now }
         ensures short { length self.new ≤ length self.old + 1100 }
     {
@@ -205,7 +209,7 @@ impl ReplyPage {
     }
 
     fn push_ledger(&mut self, ledger: Ledger)
-        requires { length self.old + 273 ≤ 2048 }
+        requires { length self.old + 273 ≤ reply_limit }
         ensures text { self.new ≡ self.old ++ spaced (map signed_decimal (ledger_numbers ledger)) }
         ensures short { length self.new ≤ length self.old + 273 }
     {
@@ -227,7 +231,7 @@ impl ReplyPage {
     }
 
     fn push_sums(&mut self, sums: Sums)
-        requires { length self.old + 63 ≤ 2048 }
+        requires { length self.old + 63 ≤ reply_limit }
         ensures text { self.new ≡ self.old ++ spaced (map signed_decimal (sums_numbers sums)) }
         ensures short { length self.new ≤ length self.old + 63 }
     {
@@ -237,7 +241,7 @@ impl ReplyPage {
     fn push_answer(&mut self, answer: &Answer)
         requires { self.old ≡ [] }
         ensures text { self.new ≡ parted (reply_words (Answered answer.now)) }
-        ensures short { length self.new < 2048 }
+        ensures short { length self.new < reply_limit }
     {
         match answer {
             Answer::Taken(k) => {
@@ -273,7 +277,7 @@ impl ReplyPage {
     fn push_reply(&mut self, reply: &Reply)
         requires { self.old ≡ [] }
         ensures text { self.new ≡ parted (reply_words reply.now) }
-        ensures short { length self.new < 2048 }
+        ensures short { length self.new < reply_limit }
     {
         match reply {
             Reply::Answered(answer) => self.push_answer(answer),

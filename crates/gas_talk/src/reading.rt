@@ -14,7 +14,7 @@ use crate::number::read_numbers;
 use crate::request::Request;
 use crate::verb::Verb;
 use crate::word::{count_words, next_word};
-use gas_terms::{Command, Rect, Refusal, RowBits, Size};
+use gas_terms::{Command, MOST_PERIOD, MOST_STEPS, Rect, Refusal, RowBits, Size};
 use hex::decode_to_slice;
 use std::alloc::Global;
 
@@ -42,7 +42,7 @@ fn read_step_count(n: u32) -> Result<u16, Refusal>
     ensures exact { result ≡ step_count (n ∷ []) }
     ensures fits { IfOk result (λ n. is_step_count n ≡ true) }
 {
-    if n < 1 || 4096 < n {
+    if n < 1 || u32::from(MOST_STEPS) < n {
         return Err(Refusal::Steps);
     }
     Ok(n as u16)
@@ -52,7 +52,7 @@ fn read_period(n: u32) -> Result<u16, Refusal>
     ensures exact { result ≡ period (n ∷ []) }
     ensures fits { IfOk result (λ n. is_period n ≡ true) }
 {
-    if n < 1 || 65_535 < n {
+    if n < 1 || u32::from(MOST_PERIOD) < n {
         return Err(Refusal::Period);
     }
     Ok(n as u16)

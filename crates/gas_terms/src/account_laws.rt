@@ -9,6 +9,7 @@ ghost use Rattle.gas_terms.specs.Accounts.{plus_all, taken_at, taken, together, 
 ghost use Rattle.gas_terms.specs.Commands.{most_steps, replay};
 ghost use Rattle.gas_terms.specs.SmallRuns.{at_cell, sums, pair, sourced, drained_and_sourced, seam, walled_pair, wall_removed, shut_in, let_go, rows, one_step, one_back, collision, three, bounce, on_a_wall, drained, drain_on_a_particle, two_drains, drained_and_filled, obstructed, wall_and_obstacle, wall_alone};
 ghost use Rattle.gas_terms.specs.BookedGas.{BookedGas, opened, changed, book_all, changes, IsStretch};
+ghost use Rattle.gas_terms.specs.Laboratory.{most_entries};
 ghost use Rattle.gas_terms.specs.declared.command.Command.{Command};
 ghost use Rattle.gas_terms.specs.declared.command.Command.TheVariants.{Step, Back};
 ghost use Rattle.gas_terms.specs.declared.accounts.Ledger.{Ledger};
@@ -129,7 +130,7 @@ pub fn accounts_are_bounded()
         let cells = g.particles.width * g.particles.height in
         IsLedgerOfAtMost (sum_by changes commands * cells) (book_all (opened g) commands).ledger }
     ensures by_limits { (g : Gas) (commands : List Command) → is_size (extent g.particles) ≡ true →
-        length commands ≤ 65536 → All (λ c. changes c ≤ most_steps) commands →
+        length commands ≤ most_entries → All (λ c. changes c ≤ most_steps) commands →
         IsLedgerOfAtMost (2 ^ 52) (book_all (opened g) commands).ledger }
     ensures start { (g : Gas) (commands : List Command) →
         (book_all (opened g) commands).ledger.start ≡ gas_total g }

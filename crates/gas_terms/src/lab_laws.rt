@@ -7,7 +7,7 @@ ghost use Rattle.gas_terms.specs.Gas.{Gas};
 ghost use Rattle.gas_terms.specs.Accounts.{IsOfAtMost, IsLedgerOfAtMost};
 ghost use Rattle.gas_terms.specs.Commands.{most_steps, fits};
 ghost use Rattle.gas_terms.specs.BookedGas.{book, changes};
-ghost use Rattle.gas_terms.specs.Laboratory.{Laboratory, opening, booked, cause, reply, event, run, IsPrefix, IsSound};
+ghost use Rattle.gas_terms.specs.Laboratory.{Laboratory, most_entries, opening, booked, cause, reply, event, run, IsPrefix, IsSound};
 ghost use Rattle.gas_terms.specs.declared.command.Command.{Command};
 ghost use Rattle.gas_terms.specs.declared.command.Command.TheVariants.{Put, Source, Drain, Unport, Step, Back, Probe, Tally, Entry as EntryAt};
 ghost use Rattle.gas_terms.specs.declared.command.Entry.{Entry};
@@ -46,10 +46,10 @@ pub fn run_extends_the_journal()
 /// A sound laboratory's accounts are far within 64 bits, and so are those after one command more.
 pub fn accounts_fit()
     ensures now { (lab : Laboratory) →
-        is_size (extent lab.start.particles) ≡ true → lab.cap ≤ 65536 → IsSound lab →
+        is_size (extent lab.start.particles) ≡ true → lab.cap ≤ most_entries → IsSound lab →
         IsLedgerOfAtMost (2 ^ 52) lab.ledger }
     ensures next { (lab : Laboratory) (command : Command) →
-        is_size (extent lab.start.particles) ≡ true → lab.cap ≤ 65536 → IsSound lab →
+        is_size (extent lab.start.particles) ≡ true → lab.cap ≤ most_entries → IsSound lab →
         length lab.journal < lab.cap → changes command ≤ most_steps →
         IsLedgerOfAtMost (2 ^ 52) (book (booked lab) command).ledger }
     // These leave out the start's sums, which never change.

@@ -19,7 +19,7 @@ pub mod velocity;
 pub use accounts::{Ledger, Pair, Sums, Took};
 pub use answer::Answer;
 pub use command::{Command, Entry};
-pub use limits::{MOST_PORTS, MOST_ROW_BYTES, MOST_SIDE, MOST_STEPS};
+pub use limits::{MOST_ENTRIES, MOST_PERIOD, MOST_PORTS, MOST_ROW_BYTES, MOST_SIDE, MOST_STEPS};
 pub use rect::Rect;
 pub use refusal::Refusal;
 pub use row_bits::RowBits;

@@ -11,3 +11,9 @@ pub const MOST_PORTS: usize = 16;
 
 /// How many steps one command may make.
 pub const MOST_STEPS: u16 = 4096;
+
+/// How many ticks may lie from one act of a source to the next: its period.
+pub const MOST_PERIOD: u16 = 65535;
+
+/// How many entries a journal may have.
+pub const MOST_ENTRIES: u32 = 65536;

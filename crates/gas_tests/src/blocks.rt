@@ -3,6 +3,7 @@
 use bit_tile::Tile;
 use block_rule::{Window, turn_block, turn_tile, turn_tile_even, turn_tile_into, turn_tile_odd};
 use gas_terms::{Pair, Took};
+use std::process::Abort;
 use tile_border::{Border, Neighbors};
 
 // the cells in the order upper left, upper right, lower left, lower right: old and new
@@ -96,12 +97,12 @@ fn window<'a>(tile: &'a Tile, near: &'a Neighbors) -> Window<'a> {
     Window { tile, round }
 }
 
-// the tile with this border after the rule at an odd tick, without walls
-fn turned_odd(old: &Tile, border: &Border) -> Tile {
+// the tile with this border after the rule at an odd tick, without walls, of which nothing is taken
+fn turned_odd(rt: &impl Abort, old: &Tile, border: &Border) -> Tile {
     let near = border.neighbors();
     let particles = window(old, &near);
     let mut out = Tile::full();
-    let _ = turn_tile_odd(&particles, None, None, &mut out);
+    assert_eq!(rt; turn_tile_odd(&particles, None, None, &mut out), NOTHING);
     out
 }
 
@@ -122,7 +123,7 @@ fn particles_cross_their_blocks(rt: HostRuntime) {
 
     // at odd parity (10, 10) and (11, 11) are in blocks of their own, and (0, 0) and (63, 62) leave the tile
     let odd = [(9, 9), (12, 12)].as_slice();
-    assert!(rt; has_just(&turned_odd(&old, &no_border()), odd));
+    assert!(rt; has_just(&turned_odd(&rt, &old, &no_border()), odd));
     let border = no_border();
     let (again, took) = turn_tile(&old, &border, &none, &border, &none, &border, 1);
     assert!(rt; has_just(&again, odd));
@@ -137,17 +138,17 @@ fn particles_come_in_over_the_corners(rt: HostRuntime) {
     let last = tile_of([(63, 63)].as_slice());
 
     // from the tile above to the left, and from the tile below to the right
-    let out = turned_odd(&none, &border_of(&none, &none, &corner, &first));
+    let out = turned_odd(&rt, &none, &border_of(&none, &none, &corner, &first));
     assert!(rt; has_just(&out, [(0, 0), (63, 63)].as_slice()));
 
     // a head-on pair across the corner goes to the tiles above and to the left
-    let out = turned_odd(&first, &border_of(&none, &none, &corner, &none));
+    let out = turned_odd(&rt, &first, &border_of(&none, &none, &corner, &none));
     assert!(rt; has_just(&out, [].as_slice()));
 
     // and a pair of those tiles comes to the corner
     let above = tile_of([(0, 63)].as_slice());
     let left = tile_of([(63, 0)].as_slice());
-    let out = turned_odd(&last, &border_of(&above, &left, &none, &none));
+    let out = turned_odd(&rt, &last, &border_of(&above, &left, &none, &none));
     assert!(rt; has_just(&out, [(0, 0)].as_slice()));
 }
 

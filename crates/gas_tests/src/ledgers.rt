@@ -165,7 +165,7 @@ fn source_refills_a_drain(rt: HostRuntime) {
 #[test]
 fn drained_and_refilled_cancels(rt: HostRuntime) {
     let mut gas = gas_at(&rt, 3);
-    let _ = put(&rt, &mut gas, 5, 6, 1, 1);
+    assert_eq!(rt; put(&rt, &mut gas, 5, 6, 1, 1).injected.count, 1);
     source(&rt, &mut gas, 5, 6, 1, 1, 1);
     drain(&rt, &mut gas, 5, 6, 1, 1);
     let moved = gas.act();
@@ -188,8 +188,8 @@ fn add_ports_across_tiles(rt: &impl Abort, gas: &mut Gas) {
 fn ports_across_tiles(rt: HostRuntime) {
     let mut gas = gas_at(&rt, 0);
     add_ports_across_tiles(&rt, &mut gas);
-    let _ = put(&rt, &mut gas, 63, 10, 2, 1);
-    let _ = put(&rt, &mut gas, 99, 127, 2, 1);
+    assert_eq!(rt; put(&rt, &mut gas, 63, 10, 2, 1).injected.count, 2);
+    assert_eq!(rt; put(&rt, &mut gas, 99, 127, 2, 1).injected.count, 2);
     let moved = gas.act();
     // (63, 10) and (100, 127) are gone, (64, 10) has stayed, (65, 10) and (0, 127) are new
     assert_eq!(rt; moved.drained, sums(2, 0, 0));
@@ -220,9 +220,9 @@ fn sums_are(rt: &impl Abort, gas: &Gas, number: i64, all: Sums, row: Sums, far: 
 // the cells (0, 0), (1, 0), (0, 1) and (65, 67)
 fn four_cells(rt: &(impl Abort + AllocGlobal)) -> Gas {
     let mut gas = gas_at(rt, 0);
-    let _ = put(rt, &mut gas, 0, 0, 2, 1);
-    let _ = put(rt, &mut gas, 0, 1, 1, 1);
-    let _ = put(rt, &mut gas, 65, 67, 1, 1);
+    assert_eq!(rt; put(rt, &mut gas, 0, 0, 2, 1).injected.count, 2);
+    assert_eq!(rt; put(rt, &mut gas, 0, 1, 1, 1).injected.count, 1);
+    assert_eq!(rt; put(rt, &mut gas, 65, 67, 1, 1).injected.count, 1);
     gas
 }
 
@@ -249,7 +249,7 @@ fn probe_and_tally_by_parities(rt: HostRuntime) {
             sums(1, 1, 1),
         );
     }
-    let _ = erase(&rt, &mut gas, 65, 67, 1, 1);
+    assert_eq!(rt; erase(&rt, &mut gas, 65, 67, 1, 1).drained.count, 1);
     assert_eq!(rt; tally(gas.particles(), tick(&rt, 0)), sums(3, 1, 1));
     assert_eq!(rt; tally(gas.particles(), tick(&rt, -7)), sums(3, -1, -1));
 }
@@ -335,9 +335,9 @@ fn go_back(rt: &impl Abort, gas: &mut Gas, last: &mut Plane) {
 #[test]
 fn ticks_take_the_next_particles(rt: HostRuntime) {
     let mut gas = gas_at(&rt, -1);
-    let _ = put(&rt, &mut gas, 0, 0, 1, 1);
+    assert_eq!(rt; put(&rt, &mut gas, 0, 0, 1, 1).injected.count, 1);
     let mut other = gas_at(&rt, 0);
-    let _ = put(&rt, &mut other, 1, 1, 1, 1);
+    assert_eq!(rt; put(&rt, &mut other, 1, 1, 1, 1).injected.count, 1);
     let mut next = other.particles().copy(rt.alloc()).expect(&rt, "memory");
     go_on(&rt, &mut gas, &mut next);
     assert_eq!(rt; gas.tick().get(), 0);
@@ -349,7 +349,7 @@ fn ticks_take_the_next_particles(rt: HostRuntime) {
 
 // A gas with a particle, a wall, an obstacle and a source.
 fn fill_in(rt: &impl Abort, gas: &mut Gas) {
-    let _ = put(rt, gas, 2, 3, 1, 1);
+    assert_eq!(rt; put(rt, gas, 2, 3, 1, 1).injected.count, 1);
     let wall = area(rt, gas, 4, 5, 1, 1);
     gas.add_walls(wall);
     let obstacle = area(rt, gas, 6, 70, 1, 1);

@@ -43,7 +43,8 @@ impl Call<Roll> for Sign {
 
     fn call(self, by: u64, value: &mut Roll) -> usize {
         if value.numbers.len() < value.most {
-            let _ = value.numbers.push(by);
+            // without memory the number does not sign, and the answer shows it
+            drop(value.numbers.push(by));
         }
         value.numbers.len()
     }

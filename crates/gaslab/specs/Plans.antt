@@ -1,5 +1,6 @@
 -- What the program may be set up with.
 use Rattle.std.specs.Prelude.{◌≤◌, ⊤}
+use Rattle.gas_terms.specs.Laboratory.{most_entries}
 use Rattle.gaslab.specs.declared.setup.Setup.{Setup}
 use Rattle.gaslab.specs.declared.setup.Service.{Service}
 use Rattle.gaslab.specs.declared.setup.Service.TheVariants.{Run, Serve}
@@ -9,7 +10,7 @@ pub record IsInRange (setup : Setup) : Type 0 where
   pub some_workers : 1 ≤ setup.workers
   pub few_workers : setup.workers ≤ 16
   pub some_entries : 1 ≤ setup.cap
-  pub few_entries : setup.cap ≤ 65536
+  pub few_entries : setup.cap ≤ most_entries
 
 -- A server has 1 to 64 sessions.
 abbrev pub HasSessions : Service → Type 0

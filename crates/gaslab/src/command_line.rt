@@ -6,7 +6,7 @@ ghost use Rattle.gaslab.specs.Plans.{IsInRange, HasSessions};
 use crate::setup::{Plan, PlanFault, Service, Setup};
 use clap::error::ErrorKind;
 use clap::{Arg, ArgMatches, Command};
-use gas_terms::{NoMemory, Size};
+use gas_terms::{MOST_ENTRIES, MOST_SIDE, NoMemory, Size};
 use std::alloc::Global;
 use std::convert::AsStr;
 use std::net::SocketAddr;
@@ -70,7 +70,7 @@ const WIDTH: NumberOption = NumberOption {
     help: "How many cells a new lattice is wide: a multiple of 64, from 64 to 4096, as in --width 256",
     default: "64",
     least: 64,
-    most: 4096,
+    most: MOST_SIDE,
 };
 
 const HEIGHT: NumberOption = NumberOption {
@@ -78,7 +78,7 @@ const HEIGHT: NumberOption = NumberOption {
     help: "How many cells a new lattice is high: a multiple of 64, from 64 to 4096, as in --height 128",
     default: "64",
     least: 64,
-    most: 4096,
+    most: MOST_SIDE,
 };
 
 const WORKERS: NumberOption = NumberOption {
@@ -94,7 +94,7 @@ const CAP: NumberOption = NumberOption {
     help: "How many changes the journal has room for: from 1 to 65536, as in --cap 5000",
     default: "1024",
     least: 1,
-    most: 65536,
+    most: MOST_ENTRIES,
 };
 
 const SESSIONS: NumberOption = NumberOption {

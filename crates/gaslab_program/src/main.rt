@@ -40,7 +40,7 @@ fn start_of(
         Err(LoadFault::Snap(SnapFault::Memory)) => Err(Status::NoMemory),
         Err(fault) => {
             // the status tells of the fault, whether or not this can be written
-            let _ = eprintln!(rt; "load: {fault}");
+            drop(eprintln!(rt; "load: {fault}"));
             Err(Status::NotLoaded)
         }
     }
@@ -147,7 +147,7 @@ fn plan_of<'a>(rt: &(impl Eprint + AllocGlobal), words: &'a [String]) -> Result<
         Err(PlanFault::Memory) => Err(Status::NoMemory),
         Err(PlanFault::Line(text)) => {
             // the status tells that there is no plan, whether or not this can be written
-            let _ = eprint!(rt; "{text}");
+            drop(eprint!(rt; "{text}"));
             Err(Status::NoPlan)
         }
     }

@@ -84,8 +84,11 @@ fn ramble<R: Net<Stream = TcpStream>>(
     let mut stream = TcpStream::connect(rt, addr)?;
     stream.write_all(input.as_slice())?;
     let mut replies = Vec::new(alloc);
-    let _ = stream.read_to_end(&mut replies);
-    Ok(replies)
+    match stream.read_to_end(&mut replies) {
+        Ok(_) => Ok(replies),
+        Err(e) if e.kind() == ErrorKind::ConnectionReset => Ok(replies),
+        Err(e) => Err(e),
+    }
 }
 
 // Sends lines with long replies, which it doesn't read, until a write has waited for a second: the server reads no more,

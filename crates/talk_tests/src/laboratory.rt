@@ -140,7 +140,9 @@ fn copied_tick(lab: &Lab<Serial>) -> Option<i64> {
 // Puts a row, unless memory is refused.
 fn put_a_row(rt: &(impl Abort + AllocGlobal), lab: &mut Lab<Serial>) {
     if let Ok(row) = RowBits::zero(rt.alloc(), 8) {
-        let _ = ask(rt, lab, 0, Command::Row(3, row));
+        if let Err(refusal) = ask(rt, lab, 0, Command::Row(3, row)) {
+            assert_eq!(rt; refusal, Refusal::Memory);
+        }
     }
 }
 
