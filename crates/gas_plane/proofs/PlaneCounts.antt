@@ -125,13 +125,13 @@ counts_end cells r a b i end is fits past reach none =
     none (left_of cells t + x) (top_of cells t + y) (cell_below cells.width (t % (cells.width / 64)) x across column p) (cell_below cells.height (t / (cells.width / 64)) y down row q) (omega arith))))))
 
 -- a tile's count, as a sum over its cells
-tile_sum : (test : ℕ → ℕ → Bool) → count_cells test ≡ cell_sum 64 64 (λ x y. cond (test x y) 1 0)
+pub tile_sum : (test : ℕ → ℕ → Bool) → count_cells test ≡ cell_sum 64 64 (λ x y. cond (test x y) 1 0)
 unfolding bits.sum_below bits.count_below
 tile_sum test =
     sum_by-range (λ y. count_by (λ x. test x y) (range_with_len 0 64)) 64
     ∙ sum_below-cong 64 (λ y. count_by (λ x. test x y) (range_with_len 0 64)) (λ y. sum_below 64 (λ x. cond (test x y) 1 0)) (λ y _. sum_by-range (λ x. cond (test x y) 1 0) 64)
 
-same_parity : (k x a : ℕ) → (x % 2 == a) ≡ ((k * 64 + x) % 2 == a)
+pub same_parity : (k x a : ℕ) → (x % 2 == a) ≡ ((k * 64 + x) % 2 == a)
 same_parity k x a = ap (λ n. n == a) (let e : x % 2 ≡ (k * 64 + x) % 2 = omega arith in e)
 
 class_counts_by : (cells : Cells) (r : Rectangle) (a b i : ℕ) (test : ℕ → ℕ → Bool) → ((x y : ℕ) → x < 64 → y < 64 → test x y ≡ (has cells (left_of cells i + x) (top_of cells i + y) && is_inside r (left_of cells i + x) (top_of cells i + y))) → count_cells (λ x y. test x y && x % 2 == a && y % 2 == b) ≡ tile_counted cells r a b i

@@ -37,13 +37,16 @@ no_sums tick a b c d e f g h =
     ∙ same_sums (sums_by_parity tick 0 0 0 0) nothing refl (no_momentum (parity tick == 0)) (no_momentum (parity tick == 0))
 
 -- no cells have no sums
+pub total_in-none : (tick : ℤ) (cells : Cells) (r : Rectangle) → ((i j : ℕ) → i < r.w → j < r.h → has cells (r.x + i) (r.y + j) ≡ false) → total_in tick cells r ≡ nothing
+total_in-none tick cells r none =
+    let counts : (a b : ℕ) → parity_count cells r a b ≡ 0 = λ a b. parity_count-none cells r a b none in
+    total_in-parities tick cells r
+    ∙ no_sums tick (parity_count cells r 0 0) (parity_count cells r 1 0) (parity_count cells r 0 1) (parity_count cells r 1 1) (counts 0 0) (counts 1 0) (counts 0 1) (counts 1 1)
+
 pub total-none : (tick : ℤ) (cells : Cells) → HasEvenSides cells.width cells.height → ((x y : ℕ) → x < cells.width → y < cells.height → has cells x y ≡ false) → total tick cells ≡ nothing
 total-none tick cells even none =
-    let counts : (a b : ℕ) → parity_count cells (whole cells) a b ≡ 0 =
-    λ a b. parity_count-none cells (whole cells) a b (λ i j p q. ap₂ (has cells) (let e : 0 + i ≡ i = omega arith in e) (let e : 0 + j ≡ j = omega arith in e) ∙ none i j p q) in
     total-whole tick cells even
-    ∙ (total_in-parities tick cells (whole cells)
-    ∙ no_sums tick (parity_count cells (whole cells) 0 0) (parity_count cells (whole cells) 1 0) (parity_count cells (whole cells) 0 1) (parity_count cells (whole cells) 1 1) (counts 0 0) (counts 1 0) (counts 0 1) (counts 1 1))
+    ∙ total_in-none tick cells (whole cells) (λ i j p q. ap₂ (has cells) (let e : 0 + i ≡ i = omega arith in e) (let e : 0 + j ≡ j = omega arith in e) ∙ none i j p q)
 
 -- a set less one that has its cells has none
 pub total-without : (tick : ℤ) (cells others : Cells) → HasEvenSides cells.width cells.height → ((x y : ℕ) → x < cells.width → y < cells.height → (has cells x y && not (has others x y)) ≡ false) → total tick (without cells others) ≡ nothing

@@ -6,7 +6,9 @@ ghost use Rattle.gas_terms.specs.Cells.{lies_within, extent};
 use gas_ledger::{Flow, Gas, Port, Ports, Sums, tally};
 use gas_plane::{Plane, Tile};
 use gas_terms::{Pair, Rect, Size, Tick, Took};
-use phase_step::{Acting, Action, Change, Moved, Run, Serial, Stepper, act_on, sums_by_counts};
+use phase_step::{
+    Acting, Action, Change, Moved, Run, Serial, Stepper, act_on, change_of, sums_by_counts,
+};
 use std::process::Abort;
 
 fn sums(count: i64, px: i64, py: i64) -> Sums
@@ -257,4 +259,14 @@ fn flows_add_up(rt: HostRuntime) {
     assert_eq!(rt; both.took.obstacles, Pair { x: -54, y: -608 });
     assert_eq!(rt; both.moved.injected, sums(79, -49, 27));
     assert_eq!(rt; both.moved.drained, sums(907, 295, 699));
+}
+
+// The cells (0, 0) and (1, 0) give way to (1, 0), (2, 0) and (3, 0): one of each class of that row comes, and (0, 0) goes.
+#[test]
+fn change_of_a_tile(rt: HostRuntime) {
+    let old = Tile::rect(0, 0, 2, 1);
+    let new = Tile::rect(1, 0, 3, 1);
+    let change = change_of(&old, &new);
+    assert_eq!(rt; change.gained, [1, 1, 0, 0]);
+    assert_eq!(rt; change.lost, [1, 0, 0, 0]);
 }

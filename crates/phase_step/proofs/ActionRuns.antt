@@ -77,15 +77,15 @@ with_next p w o leaves c k now come next here is =
     ∙ (ap (acted (leaves k)) (is.phase ∙ ap (λ (now : Cells). streamed (parity_at p k) now (joined w o)) is.at)
     ∙ ap (after_with p (joined w o) leaves c) (sym (add-one k)))
 
-same_took : (a b : Flow) → a.took ≡ b.took → a.moved ≡ b.moved → a ≡ b
-same_took a b e f = let flow : Took → Moved → Flow = λ t m. record { took = t; moved = m } in ap₂ flow e f
+pub same_flow : (a b : Flow) → a.took ≡ b.took → a.moved ≡ b.moved → a ≡ b
+same_flow a b e f = let flow : Took → Moved → Flow = λ t m. record { took = t; moved = m } in ap₂ flow e f
 
 pub flow_next : (p : ℕ) (w o : Cells) (leaves : ℕ → Leaves) (c : Cells) (k : ℕ) (now come next : Cells) (flow here : Flow) → IsPhaseWith p w o leaves c k now come next here
     → flow ≡ flow_with p w o leaves c k → flow_plus flow here ≡ flow_with p w o leaves c (k + 1)
 flow_next p w o leaves c k now come next flow here is so_far =
     let come_is : come ≡ streamed (parity_at p k) (after_with p (joined w o) leaves c k) (joined w o) = is.phase ∙ ap (λ (now : Cells). streamed (parity_at p k) now (joined w o)) is.at in
     let next_is : next ≡ acted (leaves k) (streamed (parity_at p k) (after_with p (joined w o) leaves c k) (joined w o)) = is.action ∙ ap (acted (leaves k)) come_is in
-    same_took (flow_plus flow here) (flow_with p w o leaves c (suc k))
+    same_flow (flow_plus flow here) (flow_with p w o leaves c (suc k))
     (ap₂ took_plus (ap (λ (f : Flow). f.took) so_far) (is.took ∙ ap (λ (now : Cells). taken (parity_at p k) now w o) is.at))
     (ap₂ moved_plus (ap (λ (f : Flow). f.moved) so_far) (is.moved ∙ ap₂ (moved_by (pos (parity_at p (suc k)))) come_is next_is))
     ∙ ap (flow_with p w o leaves c) (sym (add-one k))

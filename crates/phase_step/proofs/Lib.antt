@@ -1,7 +1,10 @@
 pub mod Rings
 pub mod Counting
 pub mod ActedTiles
+pub mod TileChanges
 pub mod ActionRuns
+pub mod MovedSums
+pub mod ActionParts
 pub mod PortedSteps
 pub mod TurnedTiles
 pub mod PhaseSweeps

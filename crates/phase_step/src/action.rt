@@ -7,12 +7,13 @@ ghost use Rattle.gas_terms.specs.Cells.{whole, without};
 ghost use Rattle.gas_terms.specs.Velocity.{parity as of_tick};
 ghost use Rattle.gas_plane.specs.Planes.{IsLattice};
 ghost use Rattle.phase_step.specs.Actions.{IsStill, IsTileCorner, IsLeftOf, acted};
-ghost use Rattle.phase_step.specs.Counts.{AreCounts};
+ghost use Rattle.phase_step.specs.Counts.{AreCounts, AreTileCounts};
 ghost use Rattle.phase_step.specs.Moves.{moved_by};
 
 use crate::change::Change;
 use crate::moved::Moved;
 use gas_plane::{Plane, Tile, sums};
+use std::marker::Sync;
 
 /// What changes cells of the particles, each by itself: by its place, and by whether it is held.
 pub trait Acting: Drop {
@@ -30,12 +31,12 @@ pub trait Acting: Drop {
             (λ new. IsLeftOf (leaves self.now) left top tile.now new) };
 }
 
-/// What acts on the particles after each phase of a run.
-pub trait Action: Drop {
+/// What acts on the particles after each phase of a run. Threads may share it, each for some rows of a lattice.
+pub trait Action: Drop + Sync {
     ghost leaves: { Self → ℕ → ℕ → ℕ → Bool → Bool };
 
     /// What it does after one phase.
-    type Turn: Acting;
+    type Turn: Acting + Sync;
 
     /// What it does after phase k: the first phase has number 0.
     fn after_phase(&self, k: u16) -> Self::Turn
@@ -79,6 +80,19 @@ fn act<T: Acting>(plane: &mut Plane, acting: &T) -> Change
         lost = less;
     }
     Change { gained, lost }
+}
+
+/// What comes in and goes out where a tile is put in another's place.
+pub fn change_of(old: &Tile, new: &Tile) -> Change
+    ensures gained { AreTileCounts result.gained
+        (λ x y. in_tile.has new.now x y && not (in_tile.has old.now x y)) }
+    ensures lost { AreTileCounts result.lost
+        (λ x y. in_tile.has old.now x y && not (in_tile.has new.now x y)) }
+{
+    Change {
+        gained: sums([0; 4], only_in(new, old).count_by_parity()),
+        lost: sums([0; 4], only_in(old, new).count_by_parity()),
+    }
 }
 
 // the cells that one tile has and another lacks

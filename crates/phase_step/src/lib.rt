@@ -10,16 +10,20 @@ ghost use Rattle.phase_step.specs.Actions.{after_with, flow_with};
 
 mod action;
 mod change;
+mod later;
 pub mod laws;
 mod moved;
+mod still;
 mod tiles;
 
-pub use action::{Acting, Action, act_on};
+pub use action::{Acting, Action, act_on, change_of};
 pub use change::{Change, sums_by_counts};
 use gas_plane::Plane;
 use gas_terms::Took;
+pub use later::Later;
 pub use moved::{Flow, Moved, NO_FLOW, UNMOVED};
 use std::mem;
+pub use still::Still;
 use tiles::NOTHING;
 pub use tiles::turn_tile_at;
 
@@ -72,16 +76,15 @@ pub trait Stepper: Drop {
         ensures spare { HasSidesOf spare.new particles.old }
         ensures took { result ≡ run_takes parity walls.now obstacles.now particles.old n }
     {
-        // they are a lattice, so that what is taken in a phase has a bound
-        let _ = particles.size();
-        let mut took = NOTHING;
-        for k in 0..n {
-            let turn = parity_at(parity, k);
-            let more = self.phase(particles, walls, obstacles, turn, spare);
-            took = took.plus(more);
-            mem::swap(particles, spare);
-        }
-        took
+        let action = &Still;
+        let run = Run {
+            walls,
+            obstacles,
+            parity,
+            n,
+            action,
+        };
+        self.run_with(particles, run, spare).took
     }
 
     /// The same with an action after each phase: after phase k that of k. The answer is what walls and obstacles took, and

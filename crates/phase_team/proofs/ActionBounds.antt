@@ -65,6 +65,10 @@ tile_within tick cells i =
     let s = total_in tick cells (tile_rectangle cells i) in
     record { count = tile_count_small tick cells i; x = twice (nat_abs s.px) small.x; y = twice (nat_abs s.py) small.y }
 
+pub tile_moves_within : (tick : ℤ) (leaves : Leaves) (come : Cells) (i : ℕ) → IsMovedWithin 16384 (tile_moves tick come (acted leaves come) i)
+tile_moves_within tick leaves come i =
+    record { injected = tile_within tick (without (acted leaves come) come) i; drained = tile_within tick (without come (acted leaves come)) i }
+
 -- what an action moves in tiles
 pub tiles_move_within : (tick : ℤ) (leaves : Leaves) (come : Cells) (first n : ℕ) → IsMovedWithin (16384 * n) (tiles_move tick come (acted leaves come) first n)
 tiles_move_within tick leaves come first zero = within_none (16384 * 0)
@@ -73,7 +77,7 @@ tiles_move_within tick leaves come first (suc n) =
     let e : 16384 * n + 16384 ≡ 16384 * suc n = omega arith in
     subst (λ k. IsMovedWithin k (tiles_move tick come next first (suc n))) e
     (moved_within_plus (tiles_move tick come next first n) (tile_moves tick come next (first + n)) (16384 * n) 16384 (tiles_move_within tick leaves come first n)
-    (record { injected = tile_within tick (without next come) (first + n); drained = tile_within tick (without come next) (first + n) }))
+    (tile_moves_within tick leaves come (first + n)))
 
 -- and in so many phases
 pub moves_within_with : (p : ℕ) (solid : Cells) (leaves : ℕ → Leaves) (c : Cells) (first n k : ℕ) → IsMovedWithin (16384 * n * k) (tiles_move_with p solid leaves c first n k)

@@ -3,20 +3,20 @@ use Rattle.std.proofs.Common.{◌≡◌, ℕ, zero, suc, ◌+◌, ◌*◌, ◌%�
 use Rattle.std.specs.List.{range_with_len}
 use Rattle.gas_terms.specs.Cells.{Cells, joined, without, extent, is_size, tile_count, tile_rectangle}
 use Rattle.gas_terms.specs.Gas.{streamed}
-use Rattle.gas_terms.specs.Accounts.{plus, plus_all, total_in, took_plus}
-use Rattle.gas_terms.specs.Accounts as accounts
+use Rattle.gas_terms.specs.Accounts.{plus_all, total_in, took_plus}
 use Rattle.gas_terms.specs.declared.accounts.Sums.{Sums}
 use Rattle.gas_terms.proofs.TileTotals.{total-tiles}
 use Rattle.gas_plane.proofs.Places.{wide, high}
 use Rattle.phase_step.specs.Runs.{parity_at, tiles_take}
 use Rattle.phase_step.specs.Moves.{moved_by}
-use Rattle.phase_step.specs.Actions.{Leaves, acted, after_with, takes_with, moves_with, moved_plus, unmoved}
+use Rattle.phase_step.specs.Actions.{Leaves, acted, after_with, takes_with, moves_with, moved_plus}
 use Rattle.phase_step.specs.declared.moved.Moved.{Moved}
 use Rattle.phase_step.proofs.ActionRuns.{sized_with, count_with}
-use Rattle.phase_step.proofs.PhaseSweeps.{whole_tiles}
 use Rattle.phase_step.proofs.Counting.{same_moved}
+use Rattle.phase_step.proofs.MovedSums.{moved_crossed, moved_regrouped, moved_none}
+use Rattle.phase_step.proofs.PhaseSweeps.{whole_tiles}
 use Rattle.phase_step.proofs.TakenSums.{plus_last}
-use Rattle.phase_step.proofs.RunTakes.{IsWithin, within_nothing, within_plus, ints_crossed, ints_regrouped, int_plus_zero, crossed, tiles_split, tiles_within, all_take}
+use Rattle.phase_step.proofs.RunTakes.{IsWithin, within_nothing, within_plus, crossed, tiles_split, tiles_within, all_take}
 use Rattle.phase_team.specs.ActionStrips.{tiles_take_with, tile_moves, tiles_move, tiles_move_with}
 
 -- tiles one after another take what they take together
@@ -45,28 +45,6 @@ takes_all_with p w o leaves c (suc k) sized =
     let now = after_with p (joined w o) leaves c k in
     ap₂ took_plus (takes_all_with p w o leaves c k sized)
     (ap (tiles_take (parity_at p k) now w o 0) (sym (count_with p (joined w o) leaves c k)) ∙ all_take (parity_at p k) now w o (let h = two (p + k) in omega arith) (sized_with p (joined w o) leaves c k sized))
-
--- sums and moves by their parts
-sums_made : (a b c d e f : ℤ) → a ≡ d → b ≡ e → c ≡ f → (let s : Sums = record { count = a; px = b; py = c } in s) ≡ (let t : Sums = record { count = d; px = e; py = f } in t)
-sums_made a b c d e f p q r = ap₂ (λ x y. let s : Sums = record { count = x; px = y; py = c } in s) p q ∙ ap (λ z. let s : Sums = record { count = d; px = e; py = z } in s) r
-
-plus_crossed : (a b c d : Sums) → plus (plus a b) (plus c d) ≡ plus (plus a c) (plus b d)
-plus_crossed a b c d = sums_made _ _ _ _ _ _ (ints_crossed a.count b.count c.count d.count) (ints_crossed a.px b.px c.px d.px) (ints_crossed a.py b.py c.py d.py)
-
-plus_regrouped : (a b c : Sums) → plus (plus a b) c ≡ plus a (plus b c)
-plus_regrouped a b c = sums_made _ _ _ _ _ _ (ints_regrouped a.count b.count c.count) (ints_regrouped a.px b.px c.px) (ints_regrouped a.py b.py c.py)
-
-plus_none : (a : Sums) → a ≡ plus a accounts.nothing
-plus_none a = sums_made _ _ _ _ _ _ (int_plus_zero a.count) (int_plus_zero a.px) (int_plus_zero a.py)
-
-pub moved_crossed : (a b c d : Moved) → moved_plus (moved_plus a b) (moved_plus c d) ≡ moved_plus (moved_plus a c) (moved_plus b d)
-moved_crossed a b c d = same_moved _ _ (plus_crossed a.injected b.injected c.injected d.injected) (plus_crossed a.drained b.drained c.drained d.drained)
-
-moved_regrouped : (a b c : Moved) → moved_plus (moved_plus a b) c ≡ moved_plus a (moved_plus b c)
-moved_regrouped a b c = same_moved _ _ (plus_regrouped a.injected b.injected c.injected) (plus_regrouped a.drained b.drained c.drained)
-
-moved_none : (a : Moved) → a ≡ moved_plus a unmoved
-moved_none a = same_moved _ _ (plus_none a.injected) (plus_none a.drained)
 
 -- tiles one after another move what they move together
 pub moves_split : (tick : ℤ) (old new : Cells) (first a b : ℕ) → tiles_move tick old new first (a + b) ≡ moved_plus (tiles_move tick old new first a) (tiles_move tick old new (first + a) b)

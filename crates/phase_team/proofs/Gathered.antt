@@ -1,31 +1,36 @@
 -- The strips' own rows are put together.
-use Rattle.std.proofs.Common.{◌≡◌, ℕ, zero, suc, ◌+◌, ◌-◌, ◌*◌, ◌/◌, ◌%◌, ◌<◌, ◌≤◌, ◌^◌, true, sym, ap, ap₂, ◌∙◌, subst, arith}
+use Rattle.std.proofs.Common.{◌≡◌, ℕ, zero, suc, refl, ◌+◌, ◌-◌, ◌*◌, ◌/◌, ◌%◌, ◌<◌, ◌≤◌, ◌^◌, true, sym, ap, ap₂, ◌∙◌, subst, arith}
 use Rattle.std.proofs.Math.Nat.{mod-lt}
 use Rattle.std.proofs.lemmas.Nat.{mod-mul-add, div-mul-add, div-add-mod', row-Below, mul-le}
 use Rattle.bit_tile.specs.Tile as tile
 use Rattle.bit_tile.specs.declared.Tile.{Tile}
 use Rattle.gas_terms.specs.Cells.{Cells, HasSidesOf, IsFull, has, cells_where, joined, extent, is_size, tile_count, tile_rectangle}
-use Rattle.gas_terms.specs.Gas.{arrived, site_of}
-use Rattle.gas_terms.specs.Velocity.{velocity_at}
-use Rattle.gas_terms.specs.Accounts.{took_plus, pair_plus, TakenFits}
-use Rattle.gas_terms.specs.declared.accounts.Took.{Took}
+use Rattle.gas_terms.specs.Gas.{streamed}
+use Rattle.gas_terms.specs.Accounts.{took_plus}
 use Rattle.gas_terms.proofs.Cells.{has-cells_where, full-cells_where, same_cells}
 use Rattle.gas_plane.specs.Planes.{IsLattice, IsTileFrom, with_tile}
 use Rattle.gas_plane.proofs.Places.{wide, high, cell_below}
 use Rattle.gas_plane.proofs.Sweeps.{left_of, top_of, sweep_tile, sweep_is_whole}
-use Rattle.phase_step.specs.Runs.{parity_at, after, run_takes}
+use Rattle.phase_step.specs.Runs.{parity_at, nothing}
+use Rattle.phase_step.specs.Actions.{Leaves, after_with, moved_plus, unmoved, flow_plus, no_flow, FlowsFit}
+use Rattle.phase_step.specs.declared.moved.Flow.{Flow}
+use Rattle.phase_step.proofs.ActionRuns.{sides_with, same_flow}
+use Rattle.phase_step.proofs.MovedSums.{moved_none}
 use Rattle.phase_team.specs.Strips.{shift_of}
-use Rattle.phase_team.specs.Work.{result_of, tiles_give, filled_up, IsDone}
+use Rattle.phase_team.specs.Work.{result_of, flow_of, tiles_give, filled_up, IsDone}
+use Rattle.phase_team.specs.ActionStrips.{tiles_flow}
 use Rattle.phase_team.specs.declared.course.Course.{Course}
 use Rattle.phase_team.specs.declared.strip.Strip.{Strip}
 use Rattle.phase_team.proofs.Windows.{row_turns}
-use Rattle.phase_step.proofs.RunTakes.{IsWithin, within_fits, run_within, run_split, run_all, sides_after}
+use Rattle.phase_step.proofs.RunTakes.{IsWithin, within_fits}
+use Rattle.phase_team.proofs.ActionSums.{takes_split_with, moves_split_with, takes_within_with, takes_all_with, moves_all_with}
+use Rattle.phase_team.proofs.ActionBounds.{IsMovedWithin, moved_fits, moves_within_with}
 
 -- one more of a strip's own tiles
-pub one_more : (course : Course) (s : Strip) (start now next : Cells) (i : ℕ) (t : Tile) → IsLattice start → HasSidesOf start course.cells.now → IsDone course s
+pub one_more : (course : Course) (leaves : ℕ → Leaves) (s : Strip) (start now next : Cells) (i : ℕ) (t : Tile) → IsLattice start → HasSidesOf start course.cells.now → IsDone course leaves s
     → let a = course.cells.now.width / 64 in i < s.rows * a → IsTileFrom t s.cells (tile_rectangle s.cells (a + i)).x (tile_rectangle s.cells (a + i)).y
-    → now ≡ filled_up course start (s.first * a + i) → next ≡ with_tile now (s.first * a + i) t → next ≡ filled_up course start (s.first * a + (i + 1))
-one_more course s start now next i t is same done within from so_far put =
+    → now ≡ filled_up course leaves start (s.first * a + i) → next ≡ with_tile now (s.first * a + i) t → next ≡ filled_up course leaves start (s.first * a + (i + 1))
+one_more course leaves s start now next i t is same done within from so_far put =
     let c = course.cells.now in
     let a = c.width / 64 in
     let first = s.first in
@@ -49,63 +54,93 @@ one_more course s start now next i t is same done within from so_far put =
     let turn : (first + d - 1 + (1 + r)) % d ≡ first + r = let e : first + d - 1 + (1 + r) ≡ 1 * d + (first + r) = omega arith in ap (λ n. n % d) e ∙ mod-mul-add 1 d (first + r) (omega arith) in
     let place : (j : ℕ) → j < 64 → (shift_of c first + ((1 + r) * 64 + j)) % c.height ≡ (first + r) * 64 + j = λ j jl.
     ap (λ h. (shift_of c first + ((1 + r) * 64 + j)) % h) (sym down.tiles) ∙ (row_turns (first + d - 1) (1 + r) d j down.some jl ∙ ap (λ n. n * 64 + j) turn) in
-    let cell : (x y : ℕ) → x < 64 → y < 64 → tile.has t x y ≡ has (result_of course) (left_of start (first * a + i) + x) (top_of start (first * a + i) + y) = λ x y xl yl.
+    let cell : (x y : ℕ) → x < 64 → y < 64 → tile.has t x y ≡ has (result_of course leaves) (left_of start (first * a + i) + x) (top_of start (first * a + i) + y) = λ x y xl yl.
     from.cell x y xl yl
     ∙ (ap₂ (λ m n. has s.cells (m * 64 + x) (n * 64 + y)) (ap (λ w. (a + i) % (w / 64)) done.of_course.wide ∙ x_here) (ap (λ w. (a + i) / (w / 64)) done.of_course.wide ∙ y_here)
-    ∙ (done.own.row (column * 64 + x) ((1 + r) * 64 + y) (subst (λ w. column * 64 + x < w) (sym (sides_after course.parity (joined course.walls.now course.obstacles.now) c course.phases).wide) (cell_below c.width column x across column_less xl)) (omega arith) (omega arith)
-    ∙ (ap (λ h. has (result_of course) (column * 64 + x) ((shift_of c first + ((1 + r) * 64 + y)) % h)) (sides_after course.parity (joined course.walls.now course.obstacles.now) c course.phases).high
-    ∙ (ap (has (result_of course) (column * 64 + x)) (place y yl)
-    ∙ sym (ap₂ (λ m n. has (result_of course) (m * 64 + x) (n * 64 + y)) (ap (λ w. (first * a + i) % (w / 64)) same.wide ∙ x_there) (ap (λ w. (first * a + i) / (w / 64)) same.wide ∙ y_there)))))) in
+    ∙ (done.own.row (column * 64 + x) ((1 + r) * 64 + y) (subst (λ w. column * 64 + x < w) (sym (sides_with course.parity (joined course.walls.now course.obstacles.now) leaves c course.phases).wide) (cell_below c.width column x across column_less xl)) (omega arith) (omega arith)
+    ∙ (ap (λ h. has (result_of course leaves) (column * 64 + x) ((shift_of c first + ((1 + r) * 64 + y)) % h)) (sides_with course.parity (joined course.walls.now course.obstacles.now) leaves c course.phases).high
+    ∙ (ap (has (result_of course leaves) (column * 64 + x)) (place y yl)
+    ∙ sym (ap₂ (λ m n. has (result_of course leaves) (m * 64 + x) (n * 64 + y)) (ap (λ w. (first * a + i) % (w / 64)) same.wide ∙ x_there) (ap (λ w. (first * a + i) / (w / 64)) same.wide ∙ y_there)))))) in
     put ∙ (ap (λ (now : Cells). with_tile now (first * a + i) t) so_far
-    ∙ (sweep_tile start (λ x y. has (result_of course) x y) (first * a + i) t is cell
-    ∙ ap (filled_up course start) (let e : first * a + i + 1 ≡ first * a + (i + 1) = omega arith in e)))
+    ∙ (sweep_tile start (λ x y. has (result_of course leaves) x y) (first * a + i) t is cell
+    ∙ ap (filled_up course leaves start) (let e : first * a + i + 1 ≡ first * a + (i + 1) = omega arith in e)))
 
-full_after : (p : ℕ) (solid c : Cells) (k : ℕ) → IsFull c → IsFull (after p solid c k)
-full_after p solid c zero full = full
-full_after p solid c (suc k) full =
-    let now = after p solid c k in
-    full-cells_where now.width now.height (λ x y. arrived now solid (site_of (parity_at p k + 1) now.width now.height x y) (velocity_at (parity_at p k + 1) x y))
+full_with : (p : ℕ) (solid : Cells) (leaves : ℕ → Leaves) (c : Cells) (k : ℕ) → IsFull c → IsFull (after_with p solid leaves c k)
+full_with p solid leaves c zero full = full
+full_with p solid leaves c (suc k) full =
+    let come = streamed (parity_at p k) (after_with p solid leaves c k) solid in
+    full-cells_where come.width come.height (λ x y. leaves k x y (has come x y))
 
 -- all of them
-pub all_filled : (course : Course) (start now : Cells) (n : ℕ) → IsLattice start → IsFull course.cells.now → HasSidesOf start course.cells.now → n ≡ tile_count start → now ≡ filled_up course start n → now ≡ result_of course
-all_filled course start now n is full same e so_far =
-    let target = result_of course in
-    let sides = sides_after course.parity (joined course.walls.now course.obstacles.now) course.cells.now course.phases in
+pub all_filled : (course : Course) (leaves : ℕ → Leaves) (start now : Cells) (n : ℕ) → IsLattice start → IsFull course.cells.now → HasSidesOf start course.cells.now → n ≡ tile_count start → now ≡ filled_up course leaves start n → now ≡ result_of course leaves
+all_filled course leaves start now n is full same e so_far =
+    let target = result_of course leaves in
+    let sides = sides_with course.parity (joined course.walls.now course.obstacles.now) leaves course.cells.now course.phases in
     so_far
-    ∙ (ap (filled_up course start) e
+    ∙ (ap (filled_up course leaves start) e
     ∙ (sweep_is_whole start (λ x y. has target x y) is
     ∙ same_cells (cells_where start.width start.height (λ x y. has target x y)) target (full-cells_where start.width start.height (λ x y. has target x y))
-    (full_after course.parity (joined course.walls.now course.obstacles.now) course.cells.now course.phases full) (same.wide ∙ sym sides.wide) (same.high ∙ sym sides.high)
+    (full_with course.parity (joined course.walls.now course.obstacles.now) leaves course.cells.now course.phases full) (same.wide ∙ sym sides.wide) (same.high ∙ sym sides.high)
     (has-cells_where start.width start.height (λ x y. has target x y))))
 
--- one strip more
-pub strip_takes : (course : Course) (s : Strip) (a next : ℕ) (took : Took) → a ≡ course.cells.now.width / 64 → s.first ≡ next → IsDone course s → took ≡ tiles_give course 0 (next * a)
-    → took_plus took s.took ≡ tiles_give course 0 ((next + s.rows) * a)
-strip_takes course s a next took across at done so_far =
-    let here : s.took ≡ tiles_give course (0 + next * a) (s.rows * a) = done.took ∙ ap₂ (λ f a. tiles_give course (f * a) (s.rows * a)) at (sym across) ∙ ap (λ f. tiles_give course f (s.rows * a)) (let e : next * a ≡ 0 + next * a = omega arith in e) in
-    ap₂ took_plus so_far here
-    ∙ (sym (run_split course.parity course.walls.now course.obstacles.now course.cells.now 0 (next * a) (s.rows * a) course.phases)
-    ∙ ap (tiles_give course 0) (let e : next * a + s.rows * a ≡ (next + s.rows) * a = omega arith in e))
+-- nothing comes of no tiles
+none_flows : (p : ℕ) (w o : Cells) (leaves : ℕ → Leaves) (c : Cells) (first k : ℕ) → no_flow ≡ tiles_flow p w o leaves c first 0 k
+none_flows p w o leaves c first zero = refl
+none_flows p w o leaves c first (suc k) =
+    let before = none_flows p w o leaves c first k in
+    same_flow no_flow (tiles_flow p w o leaves c first 0 (suc k)) (ap (λ (f : Flow). took_plus f.took nothing) before) (moved_none unmoved ∙ ap (λ (f : Flow). moved_plus f.moved unmoved) before)
 
-pub strip_fits : (course : Course) (s : Strip) (a next : ℕ) (took : Took) → a ≡ course.cells.now.width / 64 → a ≤ 64 → next ≤ 64 → s.rows ≤ 64 → IsDone course s → took ≡ tiles_give course 0 (next * a)
-    → TakenFits (pair_plus took.walls s.took.walls) × TakenFits (pair_plus took.obstacles s.took.obstacles)
-strip_fits course s a next took across few some rows done so_far =
+pub none_give : (course : Course) (leaves : ℕ → Leaves) (a : ℕ) → no_flow ≡ tiles_give course leaves 0 (0 * a)
+none_give course leaves a =
+    none_flows course.parity course.walls.now course.obstacles.now leaves course.cells.now 0 course.phases ∙ ap (tiles_give course leaves 0) (let e : 0 ≡ 0 * a = omega arith in e)
+
+-- one strip more
+flows_split : (course : Course) (leaves : ℕ → Leaves) (a b : ℕ) → tiles_give course leaves 0 (a + b) ≡ flow_plus (tiles_give course leaves 0 a) (tiles_give course leaves (0 + a) b)
+flows_split course leaves a b =
+    same_flow _ _ (takes_split_with course.parity course.walls.now course.obstacles.now leaves course.cells.now 0 a b course.phases)
+    (moves_split_with course.parity (joined course.walls.now course.obstacles.now) leaves course.cells.now 0 a b course.phases)
+
+pub strip_flows : (course : Course) (leaves : ℕ → Leaves) (s : Strip) (a next : ℕ) (flow : Flow) → a ≡ course.cells.now.width / 64 → s.first ≡ next → IsDone course leaves s → flow ≡ tiles_give course leaves 0 (next * a)
+    → flow_plus flow s.flow ≡ tiles_give course leaves 0 ((next + s.rows) * a)
+strip_flows course leaves s a next flow across at done so_far =
+    let here : s.flow ≡ tiles_give course leaves (0 + next * a) (s.rows * a) =
+    done.flow ∙ ap₂ (λ f a. tiles_give course leaves (f * a) (s.rows * a)) at (sym across) ∙ ap (λ f. tiles_give course leaves f (s.rows * a)) (let e : next * a ≡ 0 + next * a = omega arith in e) in
+    ap₂ flow_plus so_far here
+    ∙ (sym (flows_split course leaves (next * a) (s.rows * a)) ∙ ap (tiles_give course leaves 0) (let e : next * a + s.rows * a ≡ (next + s.rows) * a = omega arith in e))
+
+few_cells : (rows a k : ℕ) → rows ≤ 64 → a ≤ 64 → k ≤ 64 → 16384 * (rows * a) * k ≤ 2 ^ 26 * 64
+few_cells rows a k few some short =
+    let most : rows * a ≤ 4096 = mul-le rows a 64 64 few some in
+    let e : 16384 * (rows * a) ≤ 2 ^ 26 = omega arith in
+    mul-le (16384 * (rows * a)) k (2 ^ 26) 64 e short
+
+pub strip_fits : (course : Course) (leaves : ℕ → Leaves) (s : Strip) (a next : ℕ) (flow : Flow) → a ≡ course.cells.now.width / 64 → a ≤ 64 → next ≤ 64 → s.rows ≤ 64 → IsDone course leaves s → flow ≡ tiles_give course leaves 0 (next * a)
+    → FlowsFit flow s.flow
+strip_fits course leaves s a next flow across few some rows done so_far =
+    let p = course.parity in
+    let w = course.walls.now in
+    let o = course.obstacles.now in
+    let c = course.cells.now in
     let k = course.phases in
-    let k_few : k ≤ 64 = course.few in
     let m = 16384 * (next * a) * k in
     let n = 16384 * (s.rows * a) * k in
-    let most : next * a ≤ 4096 = mul-le next a 64 64 some few in
-    let most' : s.rows * a ≤ 4096 = mul-le s.rows a 64 64 rows few in
-    let m_few : m ≤ 2 ^ 26 * 64 = let e : 16384 * (next * a) ≤ 2 ^ 26 = omega arith in mul-le (16384 * (next * a)) k (2 ^ 26) 64 e k_few in
-    let n_few : n ≤ 2 ^ 26 * 64 = let e : 16384 * (s.rows * a) ≤ 2 ^ 26 = omega arith in mul-le (16384 * (s.rows * a)) k (2 ^ 26) 64 e k_few in
-    within_fits took s.took m n
-    (subst (IsWithin m) (sym so_far) (run_within course.parity course.walls.now course.obstacles.now course.cells.now 0 (next * a) k))
-    (subst (IsWithin n) (sym (done.took ∙ ap (λ a. tiles_give course (s.first * a) (s.rows * a)) (sym across))) (run_within course.parity course.walls.now course.obstacles.now course.cells.now (s.first * a) (s.rows * a) k))
-    (omega (arith, m_few, n_few))
+    let m_few : m ≤ 2 ^ 26 * 64 = few_cells next a k some few course.few in
+    let n_few : n ≤ 2 ^ 26 * 64 = few_cells s.rows a k rows few course.few in
+    let here : s.flow ≡ tiles_give course leaves (s.first * a) (s.rows * a) = done.flow ∙ ap (λ a. tiles_give course leaves (s.first * a) (s.rows * a)) (sym across) in
+    let took = within_fits flow.took s.flow.took m n
+    (subst (λ (f : Flow). IsWithin m f.took) (sym so_far) (takes_within_with p w o leaves c 0 (next * a) k))
+    (subst (λ (f : Flow). IsWithin n f.took) (sym here) (takes_within_with p w o leaves c (s.first * a) (s.rows * a) k)) (omega (arith, m_few, n_few)) in
+    let moved = moved_fits flow.moved s.flow.moved m n
+    (subst (λ (f : Flow). IsMovedWithin m f.moved) (sym so_far) (moves_within_with p (joined w o) leaves c 0 (next * a) k))
+    (subst (λ (f : Flow). IsMovedWithin n f.moved) (sym here) (moves_within_with p (joined w o) leaves c (s.first * a) (s.rows * a) k)) (omega (arith, m_few, n_few)) in
+    record { walls = took.0; obstacles = took.1; injected = moved.0; drained = moved.1 }
 
-pub all_took : (course : Course) (n : ℕ) (took : Took) → is_size (extent course.cells.now) ≡ true → n ≡ tile_count course.cells.now → took ≡ tiles_give course 0 n
-    → took ≡ run_takes course.parity course.walls.now course.obstacles.now course.cells.now course.phases
-all_took course n took sized e so_far = so_far ∙ (ap (tiles_give course 0) e ∙ run_all course.parity course.walls.now course.obstacles.now course.cells.now course.phases sized)
+pub all_flow : (course : Course) (leaves : ℕ → Leaves) (n : ℕ) (flow : Flow) → is_size (extent course.cells.now) ≡ true → n ≡ tile_count course.cells.now → flow ≡ tiles_give course leaves 0 n → flow ≡ flow_of course leaves
+all_flow course leaves n flow sized e so_far =
+    so_far
+    ∙ (ap (tiles_give course leaves 0) e
+    ∙ same_flow _ _ (takes_all_with course.parity course.walls.now course.obstacles.now leaves course.cells.now course.phases sized)
+    (moves_all_with course.parity (joined course.walls.now course.obstacles.now) leaves course.cells.now course.phases sized))
 
 pub unload_within : (first rows a d i : ℕ) → first + rows ≤ d → i < rows * a → first * a + i < a * d
 unload_within first rows a d i inside within =

@@ -13,3 +13,5 @@ pub mod ActionMoves
 pub mod ActionSums
 pub mod ActionTurned
 pub mod ActionBounds
+pub mod OwnPhases
+pub mod ActedStrips

@@ -34,12 +34,3 @@ pub struct Course<'a> {
     pub ghost of_walls: { HasSidesOf walls.now cells.now },
     pub ghost of_obstacles: { HasSidesOf obstacles.now cells.now },
 }
-
-/// What a run is given besides the particles: n phases, the first of this parity.
-#[derive(Clone, Copy)]
-pub struct Run<'a> {
-    pub walls: &'a Plane,
-    pub obstacles: &'a Plane,
-    pub parity: u8,
-    pub n: u16,
-}

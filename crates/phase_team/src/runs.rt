@@ -1,16 +1,17 @@
 //! Runs of many phases, each worker on a strip of the lattice.
 
 ghost use Rattle.std.specs.Prelude.{◌≡◌, ◌+◌, ◌*◌, ◌/◌, ◌<◌, ◌≤◌, All, IfSome};
-ghost use Rattle.gas_terms.specs.Cells.{Cells, extent, HasSidesOf};
+ghost use Rattle.gas_terms.specs.Cells.{Cells, extent, joined, HasSidesOf};
+ghost use Rattle.std.specs.Thread.{IsSync};
 ghost use Rattle.gas_plane.specs.Planes.{IsLattice};
-ghost use Rattle.phase_team.specs.Work.{result_of, takes_of, after_run, takes_in, filled_up, IsOf, IsFor, IsDone};
+ghost use Rattle.phase_step.specs.Actions.{after_with, flow_with};
+ghost use Rattle.phase_team.specs.Work.{result_of, flow_of, filled_up, IsOf, IsFor, IsDone};
 
-use crate::course::{Course, Run};
+use crate::course::Course;
 use crate::strip::Strip;
-use crate::worker::NOTHING;
 use gas_plane::Plane;
-use gas_terms::{Size, Took};
-use phase_step::{Serial, Stepper, parity_at};
+use gas_terms::Size;
+use phase_step::{Action, Flow, Later, NO_FLOW, Run, Serial, Stepper, parity_at};
 use std::alloc::Global;
 use std::thread::Threads;
 use std::{mem, thread};
@@ -36,13 +37,15 @@ pub fn is_worth_strips(size: Size, workers: u8, n: u16) -> bool
 }
 
 // Puts a strip's own rows into `out`, whose tiles before them are those after the course.
-fn unload(course: Course<'_>, strip: &Strip, out: &mut Plane)
-    requires done { IsDone course strip.now }
+fn unload<A: Action>(course: Course<'_>, action: &A, strip: &Strip, out: &mut Plane)
+    requires done { IsDone course (A.leaves action.now) strip.now }
     requires out { HasSidesOf out.old course.cells.now }
     ensures sides { HasSidesOf out.new course.entry.cells.now }
     ensures filled { (start : Cells) → IsLattice start → HasSidesOf start course.entry.cells.now →
-        out.old ≡ filled_up course.entry start (strip.now.first * (course.entry.cells.now.width / 64)) →
-        out.new ≡ filled_up course.entry start ((strip.now.first + strip.now.rows) * (course.entry.cells.now.width / 64)) }
+        out.old ≡ filled_up course.entry (A.leaves action.now) start
+        (strip.now.first * (course.entry.cells.now.width / 64)) →
+        out.new ≡ filled_up course.entry (A.leaves action.now) start
+        ((strip.now.first + strip.now.rows) * (course.entry.cells.now.width / 64)) }
 {
     let across = u32::from(course.cells.size().width() / 64);
     for i in 0..strip.rows * across {
@@ -50,80 +53,94 @@ fn unload(course: Course<'_>, strip: &Strip, out: &mut Plane)
     }
 }
 
-// Puts the strips' own rows into `out`, from the first strip on, if they are all rows: what was taken in all of them.
-fn gather(course: Course<'_>, strips: &[Strip], out: &mut Plane) -> Option<Took>
-    requires done { All (IsDone course) strips.now }
+// Puts the strips' own rows into `out`, from the first strip on, if they are all rows: what the course comes to in them.
+fn gather<A: Action>(
+    course: Course<'_>,
+    action: &A,
+    strips: &[Strip],
+    out: &mut Plane,
+) -> Option<Flow>
+    requires done { All (IsDone course (A.leaves action.now)) strips.now }
     requires lattice { IsLattice out.old }
     requires out { HasSidesOf out.old course.cells.now }
-    ensures out { IfSome result (λ _. out.new ≡ result_of course.entry) }
+    ensures out { IfSome result (λ _. out.new ≡ result_of course.entry (A.leaves action.now)) }
     ensures sides { HasSidesOf out.new course.entry.cells.now }
-    ensures took { IfSome result (λ took. took ≡ takes_of course.entry) }
+    ensures flow { IfSome result (λ flow. flow ≡ flow_of course.entry (A.leaves action.now)) }
 {
     let down = u32::from(course.cells.size().height() / 64);
     let mut next = 0;
-    let mut took = NOTHING;
+    let mut flow = NO_FLOW;
     for strip in strips {
         if strip.first != next {
             return None;
         }
-        unload(course, strip, out);
+        unload(course, action, strip, out);
         next += strip.rows;
-        took = took.plus(strip.took);
+        flow = flow.plus(strip.flow);
     }
-    if next == down { Some(took) } else { None }
+    if next == down { Some(flow) } else { None }
 }
 
 // Turns the strips, each in a thread of its own where one can be made, and the calling thread's own.
-fn turn_all<R: Threads>(rt: &R, course: Course<'_>, strips: &mut [Strip], own: &mut Strip)
+fn turn_all<R: Threads, A: Action>(
+    rt: &R,
+    course: Course<'_>,
+    action: &A,
+    strips: &mut [Strip],
+    own: &mut Strip,
+)
+    requires sync { IsSync A.row × IsSync A.Turn.row }
     requires strips { All (IsOf (extent course.cells.now)) strips.old }
     requires own { IsOf (extent course.cells.now) own.old }
-    ensures strips { All (IsDone course.entry) strips.new }
-    ensures own { IsDone course.entry own.new }
+    ensures strips { All (IsDone course.entry (A.leaves action.now)) strips.new }
+    ensures own { IsDone course.entry (A.leaves action.now) own.new }
 {
     let Some((last, rest)) = strips.split_last_mut() else {
-        own.turn(course);
+        own.turn(course, action);
         return;
     };
     thread::join_mut(
         rt,
         &mut ||
             requires { IsOf (extent course.cells.now) last.now }
-            ensures { IsDone course.entry last.exit.now }
-        { last.turn(course) },
+            ensures { IsDone course.entry (A.leaves action.entry.now) last.exit.now }
+        { last.turn(course, action) },
         &mut ||
             requires { All (IsOf (extent course.cells.now)) rest.now
                 × IsOf (extent course.cells.now) own.now }
-            ensures { All (IsDone course.entry) rest.exit.now × IsDone course.entry own.exit.now }
-        { turn_all(rt, course, rest, own) },
+            ensures { All (IsDone course.entry (A.leaves action.entry.now)) rest.exit.now
+                × IsDone course.entry (A.leaves action.entry.now) own.exit.now }
+        { turn_all(rt, course, action, rest, own) },
     );
 }
 
 // Turns the strips, of which the last is the calling thread's, and puts them together in `out`.
-fn round<R: Threads>(
+fn round<R: Threads, A: Action>(
     rt: &R,
     course: Course<'_>,
+    action: &A,
     strips: &mut [Strip],
     out: &mut Plane,
-) -> Option<Took>
+) -> Option<Flow>
     requires strips { All (IsFor course) strips.old }
     requires lattice { IsLattice out.old }
     requires out { HasSidesOf out.old course.cells.now }
     ensures strips { All (IsFor course.entry) strips.new }
-    ensures out { IfSome result (λ _. out.new ≡ result_of course.entry) }
+    ensures out { IfSome result (λ _. out.new ≡ result_of course.entry (A.leaves action.now)) }
     ensures sides { HasSidesOf out.new course.entry.cells.now }
-    ensures took { IfSome result (λ took. took ≡ takes_of course.entry) }
+    ensures flow { IfSome result (λ flow. flow ≡ flow_of course.entry (A.leaves action.now)) }
 {
-    turn_strips(rt, course, strips);
-    gather(course, strips, out)
+    turn_strips(rt, course, action, strips);
+    gather(course, action, strips, out)
 }
 
 // Turns the strips, of which the last is the calling thread's.
-fn turn_strips<R: Threads>(rt: &R, course: Course<'_>, strips: &mut [Strip])
+fn turn_strips<R: Threads, A: Action>(rt: &R, course: Course<'_>, action: &A, strips: &mut [Strip])
     requires { All (IsFor course) strips.old }
-    ensures { All (IsDone course.entry) strips.new }
+    ensures { All (IsDone course.entry (A.leaves action.now)) strips.new }
 {
     if let Some((own, others)) = strips.split_last_mut() {
-        turn_all(rt, course, others, own);
+        turn_all(rt, course, action, others, own);
     }
 }
 
@@ -204,13 +221,13 @@ pub fn strips_for(
 }
 
 // Up to 64 phases: by the strips, or on the calling thread where they are not all rows.
-fn stretch<R: Threads>(
+fn stretch<R: Threads, A: Action>(
     rt: &R,
     strips: &mut Strips,
-    run: Run<'_>,
     particles: &mut Plane,
+    run: Run<'_, A>,
     spare: &mut Plane,
-) -> Took
+) -> Flow
     requires size { strips.old.size ≡ extent particles.old }
     requires parity { run.parity < 2 }
     requires few { run.n ≤ 64 }
@@ -218,9 +235,12 @@ fn stretch<R: Threads>(
     requires obstacles { HasSidesOf run.obstacles.now particles.old }
     requires spare { HasSidesOf spare.old particles.old }
     ensures size { strips.new.size ≡ strips.old.size }
-    ensures particles { particles.new ≡ after_run run.entry particles.old }
+    ensures particles { let r = run.entry in particles.new ≡
+        after_with r.parity (joined r.walls.now r.obstacles.now) (A.leaves r.action.now)
+        particles.old r.n }
     ensures spare { HasSidesOf spare.new particles.old }
-    ensures took { result ≡ takes_in run.entry particles.old }
+    ensures flow { let r = run.entry in result ≡
+        flow_with r.parity r.walls.now r.obstacles.now (A.leaves r.action.now) particles.old r.n }
 {
     // both are lattices
     let _ = (particles.size(), spare.size());
@@ -231,54 +251,55 @@ fn stretch<R: Threads>(
         parity: run.parity,
         phases: run.n,
     };
-    match round(rt, course, strips.strips.as_mut_slice(), spare) {
-        Some(took) => {
+    match round(rt, course, run.action, strips.strips.as_mut_slice(), spare) {
+        Some(flow) => {
             mem::swap(particles, spare);
-            took
+            flow
         }
-        None => Serial.run(
-            particles,
-            run.walls,
-            run.obstacles,
-            run.parity,
-            run.n,
-            spare,
-        ),
+        None => Serial.run_with(particles, run, spare),
     }
 }
 
 /// A run by strips of the lattice's size: each worker makes up to 64 phases of its strip, and then the strips are put
 /// together. Where no thread can be made the calling thread does its part.
-pub fn run_by<R: Threads>(
+pub fn run_by<R: Threads, A: Action>(
     rt: &R,
     strips: &mut Strips,
-    run: Run<'_>,
     particles: &mut Plane,
+    run: Run<'_, A>,
     spare: &mut Plane,
-) -> Took
+) -> Flow
     requires size { strips.old.size ≡ extent particles.old }
     requires lattice { IsLattice particles.old }
     requires parity { run.parity < 2 }
     requires walls { HasSidesOf run.walls.now particles.old }
     requires obstacles { HasSidesOf run.obstacles.now particles.old }
     requires spare { HasSidesOf spare.old particles.old }
-    ensures particles { particles.new ≡ after_run run.entry particles.old }
+    ensures particles { let r = run.entry in particles.new ≡
+        after_with r.parity (joined r.walls.now r.obstacles.now) (A.leaves r.action.now)
+        particles.old r.n }
     ensures spare { HasSidesOf spare.new particles.old }
-    ensures took { result ≡ takes_in run.entry particles.old }
+    ensures flow { let r = run.entry in result ≡
+        flow_with r.parity r.walls.now r.obstacles.now (A.leaves r.action.now) particles.old r.n }
 {
-    let mut took = NOTHING;
+    let mut flow = NO_FLOW;
     let mut done = 0;
     while done < run.n {
         let next = (run.n - done).min(AT_ONCE);
+        let later = Later {
+            action: run.action,
+            by: done,
+        };
         let part = Run {
             walls: run.walls,
             obstacles: run.obstacles,
             parity: parity_at(run.parity, done),
             n: next,
+            action: &later,
         };
-        let here = stretch(rt, strips, part, particles, spare);
-        took = took.plus(here);
+        let here = stretch(rt, strips, particles, part, spare);
+        flow = flow.plus(here);
         done += next;
     }
-    took
+    flow
 }

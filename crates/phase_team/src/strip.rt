@@ -4,15 +4,18 @@ ghost use Rattle.std.specs.Prelude.{◌≡◌, ℕ, ◌+◌, ◌-◌, ◌*◌, �
 ghost use Rattle.gas_terms.specs.Cells.{joined, HasSidesOf};
 ghost use Rattle.gas_terms.specs.Gas.{streamed};
 ghost use Rattle.gas_plane.specs.Planes.{IsLattice};
-ghost use Rattle.phase_step.specs.Runs.{after};
+ghost use Rattle.phase_step.specs.Actions.{acted, after_with};
 ghost use Rattle.phase_team.specs.Strips.{window, shift_of};
-ghost use Rattle.phase_team.specs.Work.{own_take, own_take_in_run, IsFor, IsDone};
+ghost use Rattle.phase_team.specs.ActionStrips.{acts_there, all_there, own_take, own_moves, own_flow};
+ghost use Rattle.phase_team.specs.Work.{IsFor, IsDone};
 
 use crate::course::Course;
 use crate::worker::NOTHING;
 use gas_plane::Plane;
 use gas_terms::{NoMemory, Size, Took};
-use phase_step::{parity_at, turn_tile_at};
+use phase_step::{
+    Acting, Action, Flow, Moved, NO_FLOW, UNMOVED, change_of, parity_at, turn_tile_at,
+};
 use std::alloc::Global;
 use std::mem;
 
@@ -25,7 +28,7 @@ pub struct Strip {
     pub spare: Plane,
     pub walls: Plane,
     pub obstacles: Plane,
-    pub took: Took,
+    pub flow: Flow,
 }
 
 // where row k of a strip's tiles lies in the lattice
@@ -88,34 +91,89 @@ fn phase_of(old: &Plane, walls: &Plane, obstacles: &Plane, parity: u8, out: &mut
     took
 }
 
-// So many phases of a strip as a torus of its own, and what is taken in its own tiles.
-fn make(
+// What an action does to a strip whose own rows begin at row of tiles `first` of `down`, at a tick of this parity: what
+// comes in and goes out in its own tiles.
+fn act_on_strip<T: Acting>(
+    strip: &mut Plane,
+    acting: &T,
+    first: u32,
+    down: u32,
     parity: u8,
-    phases: u16,
+) -> Moved
+    requires parity { parity < 2 }
+    requires down { (first < down) × (down ≤ 64) }
+    requires rows { 2 ≤ strip.old.height / 64 }
+    ensures lattice { IsLattice strip.old }
+    ensures cells { strip.new ≡ acted (acts_there (T.leaves acting.now) first down) strip.old }
+    ensures moved { result ≡ own_moves parity strip.old strip.new }
+{
+    let across = u32::from(strip.size().width() / 64);
+    let tiles = strip.size().tiles();
+    let end = tiles - across;
+    let mut moved = UNMOVED;
+    if acting.is_still() {
+        return moved;
+    }
+    for i in 0..tiles {
+        let old = strip.tile(i);
+        let top = row_of(first, i / across, down) * 64;
+        let Some(new) = acting.on_tile(i % across * 64, top, old) else {
+            continue;
+        };
+        let here = change_of(old, &new).moved(parity);
+        strip.set_tile(i, new);
+        if is_own(i, across, end) {
+            moved = moved.plus(here);
+        }
+    }
+    moved
+}
+
+// What happens on a strip: n phases, the first of this parity, with an action of its lattice after each. Its own rows begin at
+// row of tiles `first` of `down`.
+#[derive(Drop)]
+struct Plan<'a, A: Action> {
+    parity: u8,
+    n: u16,
+    action: &'a A,
+    first: u32,
+    down: u32,
+}
+
+// Makes the plan on a strip as a torus of its own: what it comes to in the strip's own tiles.
+fn make<A: Action>(
+    plan: Plan<'_, A>,
     walls: &Plane,
     obstacles: &Plane,
     cells: &mut Plane,
     spare: &mut Plane,
-) -> Took
-    requires parity { parity < 2 }
-    requires phases { phases ≤ 64 }
+) -> Flow
+    requires parity { plan.parity < 2 }
+    requires phases { plan.n ≤ 64 }
+    requires down { (plan.first < plan.down) × (plan.down ≤ 64) }
     requires lattice { IsLattice cells.old }
     requires rows { 2 ≤ cells.old.height / 64 }
     requires walls { HasSidesOf walls.now cells.old }
     requires obstacles { HasSidesOf obstacles.now cells.old }
     requires spare { HasSidesOf spare.old cells.old }
-    ensures cells { cells.new ≡ after parity (joined walls.now obstacles.now) cells.old phases }
+    ensures cells { let p = plan.entry in cells.new ≡
+        after_with p.parity (joined walls.now obstacles.now)
+        (all_there (A.leaves p.action.now) p.first p.down) cells.old p.n }
     ensures spare { HasSidesOf spare.new cells.old }
-    ensures took { result ≡ own_take_in_run parity walls.now obstacles.now cells.old phases }
+    ensures flow { let p = plan.entry in result ≡
+        own_flow p.parity walls.now obstacles.now
+        (all_there (A.leaves p.action.now) p.first p.down) cells.old p.n }
 {
-    let mut took = NOTHING;
-    for k in 0..phases {
-        let turn = parity_at(parity, k);
-        let here = phase_of(cells, walls, obstacles, turn, spare);
-        took = took.plus(here);
+    let mut flow = NO_FLOW;
+    for k in 0..plan.n {
+        let now = parity_at(plan.parity, k);
+        let took = phase_of(cells, walls, obstacles, now, spare);
         mem::swap(cells, spare);
+        let turn = plan.action.after_phase(k);
+        let moved = act_on_strip(cells, &turn, plan.first, plan.down, 1 - now);
+        flow = flow.plus(Flow { took, moved });
     }
-    took
+    flow
 }
 
 impl Strip {
@@ -131,14 +189,14 @@ impl Strip {
             spare: Plane::empty(alloc, size)?,
             walls: Plane::empty(alloc, size)?,
             obstacles: Plane::empty(alloc, size)?,
-            took: NOTHING,
+            flow: NO_FLOW,
         })
     }
 
     /// Makes the course on the strip: its own rows become those of the lattice after it.
-    pub fn turn(&mut self, course: Course<'_>)
+    pub fn turn<A: Action>(&mut self, course: Course<'_>, action: &A)
         requires { IsFor course self.old }
-        ensures { IsDone course.entry self.new }
+        ensures { IsDone course.entry (A.leaves action.now) self.new }
     {
         let Strip {
             first,
@@ -147,11 +205,19 @@ impl Strip {
             spare,
             walls,
             obstacles,
-            took,
+            flow,
         } = self;
         load(cells, course.cells, *first);
         load(walls, course.walls, *first);
         load(obstacles, course.obstacles, *first);
-        *took = make(course.parity, course.phases, walls, obstacles, cells, spare);
+        let down = u32::from(course.cells.size().height() / 64);
+        let plan = Plan {
+            parity: course.parity,
+            n: course.phases,
+            action,
+            first: *first,
+            down,
+        };
+        *flow = make(plan, walls, obstacles, cells, spare);
     }
 }

@@ -5,18 +5,19 @@ ghost use Rattle.std.specs.Vec.{vec_capacity};
 ghost use Rattle.gas_terms.specs.Cells.{joined, tile_count, HasSidesOf};
 ghost use Rattle.gas_terms.specs.Gas.{streamed};
 ghost use Rattle.gas_terms.specs.Accounts.{taken};
+ghost use Rattle.phase_step.specs.Actions.{after_with, flow_with};
 ghost use Rattle.claim_desk.specs.Desk.{fresh};
 ghost use Rattle.phase_team.specs.Teamwork.{IsReady, HasWorked, HasTurned, IsRight, IsRoom, AreTurned, StayTurned};
 ghost use Rattle.phase_team.specs.Teamwork.{HasDrawnAll, HaveDrawn, cells_after, taken_in_all, drawn};
 
-use crate::course::{Run, Task};
+use crate::course::Task;
 use crate::gate::{Gate, NoGate};
 use crate::runs::{Strips, is_worth_strips, run_by, strips_for};
 use crate::worker::{NOTHING, Turned, Worker, work_on};
 use claim_desk::{Desk, DeskSeat};
 use gas_plane::Plane;
 use gas_terms::Took;
-use phase_step::{Serial, Stepper};
+use phase_step::{Action, Flow, Run, Serial, Stepper, Still};
 use std::alloc::Global;
 use std::marker::Model;
 use std::thread;
@@ -317,6 +318,46 @@ impl<R: Threads + Drop, G: Gate + Drop> Team<R, G> {
     }
 }
 
+impl<R: Threads + Drop> Team<R, NoGate> {
+    /// What `Stepper::run_with` says, by strips where these are worth it.
+    pub fn run_by_strips<A: Action>(
+        &mut self,
+        particles: &mut Plane,
+        run: Run<'_, A>,
+        spare: &mut Plane,
+    ) -> Flow
+        requires parity { run.parity < 2 }
+        requires walls { HasSidesOf run.walls.now particles.old }
+        requires obstacles { HasSidesOf run.obstacles.now particles.old }
+        requires spare { HasSidesOf spare.old particles.old }
+        ensures particles { let r = run.entry in particles.new ≡
+            after_with r.parity (joined r.walls.now r.obstacles.now) (A.leaves r.action.now)
+            particles.old r.n }
+        ensures spare { HasSidesOf spare.new particles.old }
+        ensures flow { let r = run.entry in result ≡
+            flow_with r.parity r.walls.now r.obstacles.now (A.leaves r.action.now)
+            particles.old r.n }
+        ensures team { self.new ≡ self.old }
+    {
+        let size = particles.size();
+        if !is_worth_strips(size, self.workers, run.n) {
+            return Serial.run_with(particles, run, spare);
+        }
+        let (alloc, workers) = (self.alloc, self.workers);
+        let Team {
+            rt,
+            strips: kept,
+            ..
+        } = self;
+        let Some(mut strips) = strips_for(kept, alloc, size, workers) else {
+            return Serial.run_with(particles, run, spare);
+        };
+        let flow = run_by(rt, &mut strips, particles, run, spare);
+        *kept = Some(strips);
+        flow
+    }
+}
+
 impl<R: Threads + Drop> Stepper for Team<R, NoGate> {
     fn phase(
         &mut self,
@@ -341,27 +382,24 @@ impl<R: Threads + Drop> Stepper for Team<R, NoGate> {
         n: u16,
         spare: &mut Plane,
     ) -> Took {
-        let size = particles.size();
-        if !is_worth_strips(size, self.workers, n) {
-            return Serial.run(particles, walls, obstacles, parity, n, spare);
-        }
-        let (alloc, workers) = (self.alloc, self.workers);
-        let Team {
-            rt,
-            strips: kept,
-            ..
-        } = self;
-        let Some(mut strips) = strips_for(kept, alloc, size, workers) else {
-            return Serial.run(particles, walls, obstacles, parity, n, spare);
-        };
+        let action = &Still;
         let run = Run {
             walls,
             obstacles,
             parity,
             n,
+            action,
         };
-        let took = run_by(rt, &mut strips, run, particles, spare);
-        *kept = Some(strips);
-        took
+        self.run_by_strips(particles, run, spare).took
+    }
+
+    // The prover lets no parameter of a trait's own method go to a thread, so the calling thread is alone here.
+    fn run_with<A: Action>(
+        &mut self,
+        particles: &mut Plane,
+        run: Run<'_, A>,
+        spare: &mut Plane,
+    ) -> Flow {
+        Serial.run_with(particles, run, spare)
     }
 }

@@ -1,14 +1,13 @@
 //! Worked examples with values that were found by hand, and comparisons with the step on one thread.
 
-ghost use Rattle.std.specs.Prelude.{◌≡◌, ◌<◌, ◌≤◌};
-ghost use Rattle.gas_terms.specs.Cells.{HasSidesOf};
+ghost use Rattle.std.specs.Prelude.{◌≡◌, ◌<◌, ◌≤◌, ◌%◌, ◌==◌, ◌&&◌, ◌||◌, not, if◌then◌else◌};
+ghost use Rattle.gas_terms.specs.Cells.{HasSidesOf, is_inside};
 
-use crate::course::Run;
 use crate::runs::{Strips, run_by};
 use crate::{Gate, NoGate, Team};
-use gas_plane::Plane;
-use gas_terms::{Pair, Rect, Size, Took};
-use phase_step::{Serial, Stepper, parity_at};
+use gas_plane::{Plane, Tile, part_of};
+use gas_terms::{Pair, Rect, Size, Sums, Took};
+use phase_step::{Acting, Action, Flow, Run, Serial, Stepper, Still, parity_at};
 use std::process::Abort;
 use std::sync::atomic::{AtomicBool, AtomicU64, Ordering};
 use std::thread;
@@ -302,26 +301,43 @@ fn refused_team_without_memory(rt: HostRuntime) {
     assert!(rt; are_same(&out, &alone, 128, 128) && took == by_one);
 }
 
+// walls and obstacles of a run of n phases, the first of this parity
+#[derive(Clone, Copy)]
+struct Ground<'a> {
+    walls: &'a Plane,
+    obstacles: &'a Plane,
+    parity: u8,
+    n: u16,
+}
+
 // a run by strips, however short and low
-fn by_strips<R: Threads + Abort + AllocGlobal>(
+fn by_strips<R: Threads + Abort + AllocGlobal, A: Action>(
     rt: &R,
     workers: u8,
-    run: Run<'_>,
+    ground: Ground<'_>,
+    action: &A,
     particles: &mut Plane,
     spare: &mut Plane,
-) -> Took {
+) -> Flow {
     let size = particles.size();
     assert!(rt; 0 < workers && workers <= 16);
-    assert!(rt; run.parity < 2);
-    assert!(rt; run.walls.size() == size);
-    assert!(rt; run.obstacles.size() == size);
+    assert!(rt; ground.parity < 2);
+    assert!(rt; ground.walls.size() == size);
+    assert!(rt; ground.obstacles.size() == size);
     assert!(rt; spare.size() == size);
     let mut strips = Strips::new(rt.alloc(), size, workers).expect(rt, "memory");
-    run_by(rt, &mut strips, run, particles, spare)
+    let run = Run {
+        walls: ground.walls,
+        obstacles: ground.obstacles,
+        parity: ground.parity,
+        n: ground.n,
+        action,
+    };
+    run_by(rt, &mut strips, particles, run, spare)
 }
 
 // the same on one thread, phase by phase
-fn by_phases(rt: &impl Abort, run: Run<'_>, particles: &mut Plane, spare: &mut Plane) -> Took {
+fn by_phases(rt: &impl Abort, run: Ground<'_>, particles: &mut Plane, spare: &mut Plane) -> Took {
     assert!(rt; run.parity < 2);
     let mut took = [0i64; 4];
     for k in 0..run.n {
@@ -354,7 +370,7 @@ fn by_phases(rt: &impl Abort, run: Run<'_>, particles: &mut Plane, spare: &mut P
 fn strips_agree<R: Threads + Abort + AllocGlobal>(rt: &R, size: Size, n: u16, workers: &[u8]) {
     let walls = seeded(rt, size, 77172645463325252, 7);
     let obstacles = seeded(rt, size, 66172645463325252, 8);
-    let run = Run {
+    let run = Ground {
         walls: &walls,
         obstacles: &obstacles,
         parity: (n / 32 % 2) as u8,
@@ -365,7 +381,7 @@ fn strips_agree<R: Threads + Abort + AllocGlobal>(rt: &R, size: Size, n: u16, wo
     let by_one = by_phases(rt, run, &mut alone, &mut spare);
     for workers in workers {
         let mut now = seeded(rt, size, 88172645463325252, 1);
-        let took = by_strips(rt, *workers, run, &mut now, &mut spare);
+        let took = by_strips(rt, *workers, run, &Still, &mut now, &mut spare).took;
         assert!(rt; took == by_one && have_same_rows(&now, &alone));
     }
 }
@@ -409,23 +425,118 @@ fn run_of_sixty_five_by_two_strips(rt: HostRuntime) {
     let obstacles = scattered_over(&rt, 3, 700, 128);
     let mut now = scattered_over(&rt, 1, 3, 128);
     let mut spare = scattered_over(&rt, 4, 2, 128);
-    let run = Run {
+    let run = Ground {
         walls: &walls,
         obstacles: &obstacles,
         parity: 0,
         n: 65,
     };
-    let took = by_strips(&rt, 2, run, &mut now, &mut spare);
+    let took = by_strips(&rt, 2, run, &Still, &mut now, &mut spare).took;
     assert!(rt; took.walls == Pair { x: -82, y: 18 });
     assert!(rt; took.obstacles == Pair { x: 0, y: -80 });
     assert!(rt; places(&now, 128) == (10959, 179345058));
+}
+
+// Empties one rectangle and fills another.
+#[derive(Drop)]
+struct Stroke {
+    acts: bool,
+    drained: Rect,
+    filled: Rect,
+}
+
+impl Acting for Stroke {
+    ghost leaves = { λ s x y held. if s.acts
+        then (held && not (is_inside s.drained x y)) || is_inside s.filled x y else held };
+
+    fn is_still(&self) -> bool {
+        !self.acts
+    }
+
+    fn on_tile(&self, left: u32, top: u32, tile: &Tile) -> Option<Tile> {
+        if !self.acts {
+            return None;
+        }
+        let mut new = *tile;
+        if let Some(part) = part_of(self.drained, left, top) {
+            new.cut(&part);
+        }
+        if let Some(part) = part_of(self.filled, left, top) {
+            new.join(&part);
+        }
+        Some(new)
+    }
+}
+
+// The stroke after each third phase, from the second on.
+#[derive(Drop)]
+struct Strokes {
+    drained: Rect,
+    filled: Rect,
+}
+
+impl Action for Strokes {
+    ghost leaves = { λ s k x y held. if k % 3 == 1
+        then (held && not (is_inside s.drained x y)) || is_inside s.filled x y else held };
+
+    type Turn = Stroke;
+
+    fn after_phase(&self, k: u16) -> Stroke {
+        let acts = k % 3 == 1;
+        let (drained, filled) = (self.drained, self.filled);
+        Stroke {
+            acts,
+            drained,
+            filled,
+        }
+    }
+}
+
+// the sums are those of tools/channel_gas.py, with such an action after its steps
+#[test]
+fn strokes_in_a_run_by_two_strips(rt: HostRuntime) {
+    let walls = scattered_over(&rt, 2, 400, 128);
+    let obstacles = scattered_over(&rt, 3, 700, 128);
+    let mut now = scattered_over(&rt, 1, 3, 128);
+    let mut spare = scattered_over(&rt, 4, 2, 128);
+    let size = now.size();
+    let strokes = Strokes {
+        drained: Rect::within(size, 60, 50, 10, 30).expect(&rt, "a rectangle"),
+        filled: Rect::within(size, 120, 118, 20, 8).expect(&rt, "a rectangle"),
+    };
+    let ground = Ground {
+        walls: &walls,
+        obstacles: &obstacles,
+        parity: 0,
+        n: 65,
+    };
+    let flow = by_strips(&rt, 2, ground, &strokes, &mut now, &mut spare);
+    assert!(rt; flow.took.walls == Pair { x: -56, y: 80 });
+    assert!(rt; flow.took.obstacles == Pair { x: -20, y: -52 });
+    assert!(rt;
+        flow.moved.injected
+            == Sums {
+                count: 1322,
+                px: 0,
+                py: 96
+            }
+    );
+    assert!(rt;
+        flow.moved.drained
+            == Sums {
+                count: 1019,
+                px: 51,
+                py: 37
+            }
+    );
+    assert!(rt; places(&now, 128) == (11262, 186152991));
 }
 
 // a run as a laboratory makes it
 fn make<S: Stepper>(
     rt: &impl Abort,
     stepper: &mut S,
-    run: Run<'_>,
+    run: Ground<'_>,
     particles: &mut Plane,
     spare: &mut Plane,
 ) -> Took {
@@ -481,7 +592,7 @@ fn team_runs_as_one_thread(rt: HostRuntime) {
     let mut team = team(&rt, rt, rt.alloc(), 4, NoGate);
     // the strips of the first run serve the second, of which the second stretch is of one phase
     for (n, parity) in [(64, 0), (65, 1)] {
-        let run = Run {
+        let run = Ground {
             walls: &walls,
             obstacles: &obstacles,
             parity,

@@ -1,15 +1,15 @@
 use Rattle.std.proofs.Common.{◌≡◌, ◌≤◌, ◌-◌}
 use Rattle.gas_terms.specs.Cells.{joined, HasSidesOf}
-use Rattle.phase_step.specs.Runs.{after, run_takes}
+use Rattle.phase_step.specs.Actions.{after_with, flow_with}
 use Rattle.phase_team.proofs.runs.run_by.Given as goal
 
 abbrev pub invariant-loop-done : goal.invariant-loop-done
 invariant-loop-done g l = record {
   crew : l.strips.size ≡ l.initial.strips.size;
   few : l.done ≤ l.run.n;
-  cells : l.particles ≡ after l.run.parity (joined l.run.walls.now l.run.obstacles.now) l.initial.particles l.done;
+  cells : l.particles ≡ after_with l.run.parity (joined l.run.walls.now l.run.obstacles.now) (g.A.Action.leaves l.run.action.now) l.initial.particles l.done;
   spare : HasSidesOf l.spare l.initial.particles;
-  took : l.took ≡ run_takes l.run.parity l.run.walls.now l.run.obstacles.now l.initial.particles l.done;
+  flow : l.flow ≡ flow_with l.run.parity l.run.walls.now l.run.obstacles.now (g.A.Action.leaves l.run.action.now) l.initial.particles l.done;
 }
 
 abbrev pub decreases-loop-done : goal.decreases-loop-done

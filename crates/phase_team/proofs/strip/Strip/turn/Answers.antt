@@ -1,17 +1,20 @@
-use Rattle.std.proofs.Common.{◌≡◌, ◌+◌, ◌-◌, ◌*◌, ◌/◌, sym, ap, ap₂, ◌∙◌, subst, arith}
-use Rattle.gas_terms.specs.Cells.{Cells, joined, tile_count}
-use Rattle.phase_step.specs.Runs.{after, tiles_take_in_run}
+use Rattle.std.proofs.Common.{◌≡◌, ℕ, ◌+◌, ◌*◌, ◌/◌, sym, ap, ap₂, ◌∙◌, subst, arith}
+use Rattle.gas_terms.specs.Cells.{Cells, Extent, joined}
+use Rattle.phase_step.specs.Actions.{Leaves, after_with}
+use Rattle.phase_step.proofs.ActionRuns.{sides_with}
 use Rattle.phase_team.specs.Strips.{IsStrip, window, shift_of}
-use Rattle.phase_step.proofs.RunTakes.{sides_after}
-use Rattle.phase_team.proofs.Turned.{own_is, took_is, own_count, window_as, same_sides}
+use Rattle.phase_team.specs.ActionStrips.{shifted_all, own_flow, tiles_flow}
+use Rattle.phase_team.proofs.Turned.{own_count, window_as, same_sides}
+use Rattle.phase_team.proofs.ActionTurned.{own_is_with, flow_is_with, acts_are}
 use Rattle.phase_team.proofs.strip.Strip.turn.Goals as goal
 
 pub load-requires-clause-first : goal.load-requires-clause-first
-load-requires-clause-first c = omega (arith, c.requires.inside, c.requires.some)
+load-requires-clause-first g c = omega (arith, c.requires.inside, c.requires.some)
 
 pub returns : goal.returns
-returns c =
+returns g c =
     let course = c.args.course in
+    let leaves = g.A.Action.leaves c.args.action.now in
     let first = c.args.self.now.first in
     let rows = c.args.self.now.rows in
     let cells = course.cells.now in
@@ -26,12 +29,18 @@ returns c =
     let hw_is : hw ≡ window walls shift h = window_as walls cells hw first h c.args.self.now.walls.height c.load-2.ensures.window course.of_walls (c.requires.walls.high ∙ c.requires.high) in
     let ho_is : ho ≡ window obstacles shift h = window_as obstacles cells ho first h c.args.self.now.obstacles.height c.load-3.ensures.window course.of_obstacles (c.requires.obstacles.high ∙ c.requires.high) in
     let solid_is : joined hw ho ≡ joined (window walls shift h) (window obstacles shift h) = ap₂ joined hw_is ho_is in
-    let made : c.make.new.cells ≡ after course.parity (joined (window walls shift h) (window obstacles shift h)) (window cells shift h) course.phases =
-    c.make.ensures.cells ∙ ap₂ (λ (s d : Cells). after course.parity s d course.phases) solid_is sc_is in
-    let sides = sides_after course.parity (joined (window walls shift h) (window obstacles shift h)) (window cells shift h) course.phases in
+    let sized = course.lattice.sized in
+    let down : c.from-down.result ≡ cells.height / 64 = c.from-down.ensures ∙ ap (λ n. n / 64) (c.height.ensures ∙ ap (λ (s : Extent). s.height) c.size.ensures.extent) in
+    let acts = acts_are cells leaves first c.from-down.result sized down in
+    let turns = shifted_all leaves shift cells.height in
+    let solid = joined (window walls shift h) (window obstacles shift h) in
+    let made : c.make.new.cells ≡ after_with course.parity solid turns (window cells shift h) course.phases =
+    c.make.ensures.cells
+    ∙ (ap (λ (acts : ℕ → Leaves). after_with course.parity (joined hw ho) acts sc course.phases) acts
+    ∙ ap₂ (λ (s d : Cells). after_with course.parity s turns d course.phases) solid_is sc_is) in
+    let sides = sides_with course.parity solid turns (window cells shift h) course.phases in
     let wide : c.make.new.cells.width ≡ cells.width = ap (λ (d : Cells). d.width) made ∙ sides.wide in
     let high : c.make.new.cells.height ≡ h = ap (λ (d : Cells). d.height) made ∙ sides.high in
-    let sized = course.lattice.sized in
     record {
       of_course = record {
         wide = wide;
@@ -42,11 +51,12 @@ returns c =
         inside = c.requires.inside;
         some = c.requires.some;
       };
-      own = subst (λ (d : Cells). IsStrip d (after course.parity (joined walls obstacles) cells course.phases) shift 64 (64 + rows * 64)) (sym made)
-          (own_is course.parity first rows course.phases walls obstacles cells sized course.of_walls course.of_obstacles course.few);
-      took = c.make.ensures.took
-          ∙ (ap₂ (λ (hw ho : Cells). tiles_take_in_run course.parity hw ho sc (sc.width / 64) (tile_count sc - 2 * (sc.width / 64)) course.phases) hw_is ho_is
-          ∙ (ap (λ (sc : Cells). tiles_take_in_run course.parity (window walls shift h) (window obstacles shift h) sc (sc.width / 64) (tile_count sc - 2 * (sc.width / 64)) course.phases) sc_is
-          ∙ (ap (λ n. tiles_take_in_run course.parity (window walls shift h) (window obstacles shift h) (window cells shift h) (cells.width / 64) n course.phases) (own_count (cells.width / 64) rows)
-          ∙ took_is course.parity first rows course.phases walls obstacles cells sized course.of_walls course.of_obstacles c.requires.inside course.few)));
+      own = subst (λ (d : Cells). IsStrip d (after_with course.parity (joined walls obstacles) leaves cells course.phases) shift 64 (64 + rows * 64)) (sym made)
+          (own_is_with course.parity first rows course.phases walls obstacles cells leaves sized course.of_walls course.of_obstacles course.few);
+      flow = c.make.ensures.flow
+          ∙ (ap (λ (acts : ℕ → Leaves). own_flow course.parity hw ho acts sc course.phases) acts
+          ∙ (ap₂ (λ (hw ho : Cells). own_flow course.parity hw ho turns sc course.phases) hw_is ho_is
+          ∙ (ap (λ (sc : Cells). own_flow course.parity (window walls shift h) (window obstacles shift h) turns sc course.phases) sc_is
+          ∙ (ap (λ n. tiles_flow course.parity (window walls shift h) (window obstacles shift h) turns (window cells shift h) (cells.width / 64) n course.phases) (own_count (cells.width / 64) rows)
+          ∙ flow_is_with course.parity first rows course.phases walls obstacles cells leaves sized course.of_walls course.of_obstacles c.requires.inside course.few))));
     }
