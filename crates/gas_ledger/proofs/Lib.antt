@@ -1,5 +1,4 @@
 pub mod Counting
-pub mod Exchanging
 pub mod Strips
 pub mod Moving
 pub mod Running

@@ -15,7 +15,8 @@ use Rattle.phase_step.specs.Counts.{AreCounts, AreSmall, moved_by_counts}
 use Rattle.phase_step.specs.Moves.{moved_by}
 use Rattle.phase_step.specs.Actions.{acted}
 use Rattle.phase_step.proofs.ActionRuns.{acted_same}
-use Rattle.gas_ledger.specs.Exchanges.{is_in_any, is_left, row_of}
+use Rattle.phase_step.specs.Exchanges.{is_in_any, is_left}
+use Rattle.gas_ledger.specs.Gases.{row_of}
 use Rattle.phase_step.proofs.Counting.{counted_sums, counts_small, same_moved}
 use Rattle.gas_terms.proofs.RowSums.{row_alone, other_row}
 use Rattle.gas_terms.proofs.Emptied.{not_both, gained-filled, lost-filled, gained-cleared, lost-cleared}

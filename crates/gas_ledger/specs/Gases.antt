@@ -1,5 +1,5 @@
-use Rattle.std.specs.Prelude.{◌≡◌, false, true, ℤ, pos, ◌+ℤ◌, ◌-ℤ◌}
-use Rattle.gas_terms.specs.Cells.{Cells, Extent, cells_where, extent, HasSidesOf}
+use Rattle.std.specs.Prelude.{◌≡◌, ℕ, false, true, ℤ, pos, ◌+ℤ◌, ◌-ℤ◌}
+use Rattle.gas_terms.specs.Cells.{Cells, Extent, Rectangle, cells_where, extent, HasSidesOf}
 use Rattle.gas_terms.specs.Gas.{Gas}
 use Rattle.gas_terms.specs.Commands.{is_tick}
 use Rattle.gas_plane.specs.Planes.{IsLattice}
@@ -34,6 +34,10 @@ no_cells size = cells_where size.width size.height (λ _ _. false)
 -- without cells and ports, at tick 0
 abbrev pub empty_gas : Extent → Gas
 empty_gas size = gas_of (pos 0) (no_cells size) (no_cells size) (no_cells size) no_ports
+
+-- row y of a set of cells
+abbrev pub row_of : Cells → ℕ → Rectangle
+row_of cells y = record { x = 0; y = y; w = cells.width; h = 1 }
 
 -- the gas at the next tick, or at the last one, with other particles
 abbrev pub ahead_with : Gas → Cells → Gas

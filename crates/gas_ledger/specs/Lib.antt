@@ -1,3 +1,2 @@
 pub mod PortLists
 pub mod Gases
-pub mod Exchanges

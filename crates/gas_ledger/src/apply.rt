@@ -4,8 +4,8 @@ ghost use Rattle.std.specs.Prelude.{◌≡◌};
 ghost use Rattle.gas_ledger.specs.PortLists.{ported_by};
 ghost use Rattle.phase_step.specs.Moves.{moved_by};
 
-use crate::exchange::Exchange;
 use crate::ports::Ports;
+use crate::ports_from::exchange_at;
 use gas_plane::Plane;
 use gas_terms::Tick;
 use phase_step::{Moved, act_on};
@@ -16,5 +16,5 @@ pub fn apply_ports(plane: &mut Plane, ports: &Ports, tick: Tick) -> Moved
     ensures cells { plane.new ≡ ported_by ports.now tick plane.old }
     ensures moved { result ≡ moved_by tick plane.old plane.new }
 {
-    act_on(plane, &Exchange::at(ports, tick.get()), tick.parity())
+    act_on(plane, &exchange_at(ports, tick.get()), tick.parity())
 }

@@ -5,7 +5,7 @@ ghost use Rattle.gas_terms.specs.Cells.{without};
 ghost use Rattle.gas_terms.specs.Rows.{row_has, row_replaced};
 ghost use Rattle.gas_plane.specs.Planes.{IsLattice};
 ghost use Rattle.phase_step.specs.Counts.{AreCounts};
-ghost use Rattle.gas_ledger.specs.Exchanges.{row_of};
+ghost use Rattle.gas_ledger.specs.Gases.{row_of};
 
 use gas_plane::Plane;
 use phase_step::Change;

@@ -13,9 +13,9 @@ ghost use Rattle.phase_step.specs.PortedRuns.{gas_stepped, steps_take, steps_mov
 
 use crate::apply::apply_ports;
 use crate::change::row_change;
-use crate::exchange::PortsFrom;
 use crate::port::{Full, Port};
 use crate::ports::Ports;
+use crate::ports_from::PortsFrom;
 use crate::sums::probe;
 use gas_plane::Plane;
 use gas_terms::{NoMemory, Rect, Size, Sums, Tick, Took};

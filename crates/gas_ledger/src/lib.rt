@@ -3,11 +3,10 @@
 
 pub mod apply;
 mod change;
-mod exchange;
-mod few;
 pub mod gas;
 pub mod port;
 pub mod ports;
+mod ports_from;
 pub mod sums;
 
 pub use apply::apply_ports;

@@ -3,9 +3,9 @@
 ghost use Rattle.std.specs.Prelude.{◌≡◌, ◌<◌, ◌%◌, ◌==◌, ◌||◌, ◌↔◌, nat_lt, nat_abs, true, false, length, IsErr, OnOk, OnErr};
 ghost use Rattle.gas_ledger.specs.PortLists.{no_ports, with_port, has_all, has_period, due_areas, IsPortSet};
 
-use crate::few::Few;
 use crate::port::{Full, Port, Source};
-use gas_terms::{MOST_PORTS, Rect, Size};
+use gas_terms::{MOST_PORTS, Rect};
+use phase_step::{Few, any_area};
 use std::marker::Model;
 
 /// At most `MOST_PORTS` drains and as many sources, in the order in which they were added.
@@ -23,12 +23,6 @@ impl Model for Ports {
     ghost view = { λ p. record { drains = p.drains; sources = p.sources } };
 
     ghost invariant = { λ p. IsPortSet (record { drains = p.drains; sources = p.sources }) };
-}
-
-// a rectangle that stands for none
-fn any_area() -> Rect {
-    let size = Size::new(64, 64).unwrap();
-    Rect::within(size, 0, 0, 1, 1).unwrap()
 }
 
 impl Ports {

@@ -39,6 +39,10 @@ moves_same p solid some others c (suc n) same =
     (ap (λ (now : Cells). streamed (parity_at p n) now solid) (after_same p solid some others c n before))
     (after_same p solid some others c (suc n) same))
 
+pub flow_same : (p : ℕ) (w o : Cells) (some others : ℕ → Leaves) (c : Cells) (n : ℕ) → AreSameBelow n some others → flow_with p w o some c n ≡ flow_with p w o others c n
+flow_same p w o some others c n same =
+    same_flow (flow_with p w o some c n) (flow_with p w o others c n) (takes_same p w o some others c n same) (moves_same p (joined w o) some others c n same)
+
 -- what an action does from phase m on
 abbrev pub from : ℕ → (ℕ → Leaves) → ℕ → Leaves
 from m leaves k = leaves (m + k)

@@ -1,63 +1,45 @@
 //! Actions on the particles after the phases of a run.
 
-ghost use Rattle.std.specs.Prelude.{◌≡◌, ℕ, ℤ, ◌+◌, ◌<◌, ◌&&◌, Bool, not, IsTrue, MatchOption};
+ghost use Rattle.std.specs.Prelude.{◌≡◌, ℕ, ℤ, ◌<◌, ◌&&◌, Bool, not};
 ghost use Rattle.bit_tile.specs.Tile.{HasCells};
 ghost use Rattle.bit_tile.specs.Tile as in_tile;
 ghost use Rattle.gas_terms.specs.Cells.{whole, without};
 ghost use Rattle.gas_terms.specs.Velocity.{parity as of_tick};
 ghost use Rattle.gas_plane.specs.Planes.{IsLattice};
-ghost use Rattle.phase_step.specs.Actions.{IsStill, IsTileCorner, IsLeftOf, acted};
+ghost use Rattle.phase_step.specs.Actions.{acted};
 ghost use Rattle.phase_step.specs.Counts.{AreCounts, AreTileCounts};
+ghost use Rattle.phase_step.specs.Exchanges.{leaves_of};
 ghost use Rattle.phase_step.specs.Moves.{moved_by};
 
 use crate::change::Change;
+use crate::exchange::Exchange;
 use crate::moved::Moved;
 use gas_plane::{Plane, Tile, sums};
-use std::marker::Sync;
 
-/// What changes cells of the particles, each by itself: by its place, and by whether it is held.
-pub trait Acting: Drop {
-    ghost leaves: { Self → ℕ → ℕ → Bool → Bool };
-
-    /// Whether it is known to change no cell.
-    fn is_still(&self) -> bool
-        ensures { IsTrue result → IsStill (leaves self.now) };
-
-    /// What becomes of a tile that begins at the place (left, top), or nothing where it stays as it is.
-    fn on_tile(&self, left: u32, top: u32, tile: &Tile) -> Option<Tile>
-        requires { IsTileCorner left top }
-        ensures { MatchOption result
-            (IsLeftOf (leaves self.now) left top tile.now tile.now)
-            (λ new. IsLeftOf (leaves self.now) left top tile.now new) };
-}
-
-/// What acts on the particles after each phase of a run. Threads may share it, each for some rows of a lattice.
-pub trait Action: Drop + Sync {
+/// What acts on the particles after each phase of a run.
+pub trait Action: Drop {
     ghost leaves: { Self → ℕ → ℕ → ℕ → Bool → Bool };
 
-    /// What it does after one phase.
-    type Turn: Acting + Sync;
-
     /// What it does after phase k: the first phase has number 0.
-    fn after_phase(&self, k: u16) -> Self::Turn
+    fn after_phase(&self, k: u16) -> Exchange
         ensures { (x y : ℕ) (held : Bool) →
-            Self.Turn.leaves result x y held ≡ leaves self.now k x y held };
+            leaves_of result x y held ≡ leaves self.now k x y held };
 }
 
 /// Acts on every cell, and says what came in and what went, at a tick of this parity.
-pub fn act_on<T: Acting>(plane: &mut Plane, acting: &T, parity: u8) -> Moved
+pub fn act_on(plane: &mut Plane, exchange: &Exchange, parity: u8) -> Moved
     requires { parity < 2 }
     ensures lattice { IsLattice plane.old }
-    ensures cells { plane.new ≡ acted (T.leaves acting.now) plane.old }
+    ensures cells { plane.new ≡ acted (leaves_of exchange.now) plane.old }
     ensures moved { (tick : ℤ) → of_tick tick ≡ parity →
         result ≡ moved_by tick plane.old plane.new }
 {
-    act(plane, acting).moved(parity)
+    act(plane, exchange).moved(parity)
 }
 
-fn act<T: Acting>(plane: &mut Plane, acting: &T) -> Change
+fn act(plane: &mut Plane, exchange: &Exchange) -> Change
     ensures lattice { IsLattice plane.old }
-    ensures cells { plane.new ≡ acted (T.leaves acting.now) plane.old }
+    ensures cells { plane.new ≡ acted (leaves_of exchange.now) plane.old }
     ensures gained { AreCounts result.gained (without plane.new plane.old) (whole plane.old) }
     ensures lost { AreCounts result.lost (without plane.old plane.new) (whole plane.old) }
 {
@@ -65,12 +47,12 @@ fn act<T: Acting>(plane: &mut Plane, acting: &T) -> Change
     let end = plane.size().tiles();
     let mut gained = [0; 4];
     let mut lost = [0; 4];
-    if acting.is_still() {
+    if exchange.is_still() {
         return Change { gained, lost };
     }
     for i in 0..end {
         let old = plane.tile(i);
-        let Some(new) = acting.on_tile(i % across * 64, i / across * 64, old) else {
+        let Some(new) = exchange.on_tile(i % across * 64, i / across * 64, old) else {
             continue;
         };
         let more = sums(gained, only_in(&new, old).count_by_parity());

@@ -3,6 +3,7 @@
 ghost use Rattle.std.specs.Prelude.{◌+◌, min};
 
 use crate::action::Action;
+use crate::exchange::Exchange;
 
 /// What an action does from phase `by` on: the part of a run that begins there has phases 0, 1, .. of its own. No phase
 /// has a number above 65,535.
@@ -15,9 +16,7 @@ pub struct Later<'a, A: Action> {
 impl<A: Action> Action for Later<'_, A> {
     ghost leaves = { λ l k x y held. A.leaves l.action.now (min (l.by + k) 65535) x y held };
 
-    type Turn = A::Turn;
-
-    fn after_phase(&self, k: u16) -> A::Turn {
+    fn after_phase(&self, k: u16) -> Exchange {
         self.action.after_phase(self.by.saturating_add(k))
     }
 }

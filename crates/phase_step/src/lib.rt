@@ -10,17 +10,23 @@ ghost use Rattle.phase_step.specs.Actions.{after_with, flow_with};
 
 mod action;
 mod change;
+mod exchange;
+mod few;
 mod later;
 pub mod laws;
+mod listed;
 mod moved;
 mod still;
 mod tiles;
 
-pub use action::{Acting, Action, act_on, change_of};
+pub use action::{Action, act_on, change_of};
 pub use change::{Change, sums_by_counts};
+pub use exchange::{Exchange, any_area};
+pub use few::Few;
 use gas_plane::Plane;
 use gas_terms::Took;
 pub use later::Later;
+pub use listed::Listed;
 pub use moved::{Flow, Moved, NO_FLOW, UNMOVED};
 use std::mem;
 pub use still::Still;

@@ -5,6 +5,7 @@ ghost use Rattle.gas_terms.specs.Cells.{HasSidesOf};
 ghost use Rattle.gas_plane.specs.Planes.{IsLattice};
 
 use gas_plane::Plane;
+use phase_step::Exchange;
 
 /// The planes of a phase and its parity.
 #[derive(Clone, Copy)]
@@ -19,13 +20,14 @@ pub struct Task<'a> {
     pub ghost of_obstacles: { HasSidesOf obstacles.now old.now },
 }
 
-/// Particles, walls and obstacles, the parity of the first phase, and how many phases there are: no more than a strip can
-/// make alone.
+/// Particles, walls and obstacles, what acts after each phase, the parity of the first phase, and how many phases there are:
+/// no more than a strip can make alone.
 #[derive(Clone, Copy)]
 pub struct Course<'a> {
     pub cells: &'a Plane,
     pub walls: &'a Plane,
     pub obstacles: &'a Plane,
+    pub turns: &'a [Exchange],
     pub parity: u8,
     pub phases: u16,
     pub ghost parity_is: { parity < 2 },

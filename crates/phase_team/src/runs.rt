@@ -2,16 +2,15 @@
 
 ghost use Rattle.std.specs.Prelude.{◌≡◌, ◌+◌, ◌*◌, ◌/◌, ◌<◌, ◌≤◌, All, IfSome};
 ghost use Rattle.gas_terms.specs.Cells.{Cells, extent, joined, HasSidesOf};
-ghost use Rattle.std.specs.Thread.{IsSync};
 ghost use Rattle.gas_plane.specs.Planes.{IsLattice};
 ghost use Rattle.phase_step.specs.Actions.{after_with, flow_with};
-ghost use Rattle.phase_team.specs.Work.{result_of, flow_of, filled_up, IsOf, IsFor, IsDone};
+ghost use Rattle.phase_team.specs.Work.{result_of, flow_of, filled_up, Lists, IsOf, IsFor, IsDone};
 
 use crate::course::Course;
 use crate::strip::Strip;
 use gas_plane::Plane;
 use gas_terms::Size;
-use phase_step::{Action, Flow, Later, NO_FLOW, Run, Serial, Stepper, parity_at};
+use phase_step::{Action, Exchange, Flow, Later, NO_FLOW, Run, Serial, Stepper, parity_at};
 use std::alloc::Global;
 use std::thread::Threads;
 use std::{mem, thread};
@@ -37,14 +36,14 @@ pub fn is_worth_strips(size: Size, workers: u8, n: u16) -> bool
 }
 
 // Puts a strip's own rows into `out`, whose tiles before them are those after the course.
-fn unload<A: Action>(course: Course<'_>, action: &A, strip: &Strip, out: &mut Plane)
-    requires done { IsDone course (A.leaves action.now) strip.now }
+fn unload(course: Course<'_>, strip: &Strip, out: &mut Plane)
+    requires done { IsDone course strip.now }
     requires out { HasSidesOf out.old course.cells.now }
     ensures sides { HasSidesOf out.new course.entry.cells.now }
     ensures filled { (start : Cells) → IsLattice start → HasSidesOf start course.entry.cells.now →
-        out.old ≡ filled_up course.entry (A.leaves action.now) start
+        out.old ≡ filled_up course.entry start
         (strip.now.first * (course.entry.cells.now.width / 64)) →
-        out.new ≡ filled_up course.entry (A.leaves action.now) start
+        out.new ≡ filled_up course.entry start
         ((strip.now.first + strip.now.rows) * (course.entry.cells.now.width / 64)) }
 {
     let across = u32::from(course.cells.size().width() / 64);
@@ -54,18 +53,13 @@ fn unload<A: Action>(course: Course<'_>, action: &A, strip: &Strip, out: &mut Pl
 }
 
 // Puts the strips' own rows into `out`, from the first strip on, if they are all rows: what the course comes to in them.
-fn gather<A: Action>(
-    course: Course<'_>,
-    action: &A,
-    strips: &[Strip],
-    out: &mut Plane,
-) -> Option<Flow>
-    requires done { All (IsDone course (A.leaves action.now)) strips.now }
+fn gather(course: Course<'_>, strips: &[Strip], out: &mut Plane) -> Option<Flow>
+    requires done { All (IsDone course) strips.now }
     requires lattice { IsLattice out.old }
     requires out { HasSidesOf out.old course.cells.now }
-    ensures out { IfSome result (λ _. out.new ≡ result_of course.entry (A.leaves action.now)) }
+    ensures out { IfSome result (λ _. out.new ≡ result_of course.entry) }
     ensures sides { HasSidesOf out.new course.entry.cells.now }
-    ensures flow { IfSome result (λ flow. flow ≡ flow_of course.entry (A.leaves action.now)) }
+    ensures flow { IfSome result (λ flow. flow ≡ flow_of course.entry) }
 {
     let down = u32::from(course.cells.size().height() / 64);
     let mut next = 0;
@@ -74,7 +68,7 @@ fn gather<A: Action>(
         if strip.first != next {
             return None;
         }
-        unload(course, action, strip, out);
+        unload(course, strip, out);
         next += strip.rows;
         flow = flow.plus(strip.flow);
     }
@@ -82,43 +76,35 @@ fn gather<A: Action>(
 }
 
 // Turns the strips, each in a thread of its own where one can be made, and the calling thread's own.
-fn turn_all<R: Threads, A: Action>(
-    rt: &R,
-    course: Course<'_>,
-    action: &A,
-    strips: &mut [Strip],
-    own: &mut Strip,
-)
-    requires sync { IsSync A.row × IsSync A.Turn.row }
+fn turn_all<R: Threads>(rt: &R, course: Course<'_>, strips: &mut [Strip], own: &mut Strip)
     requires strips { All (IsOf (extent course.cells.now)) strips.old }
     requires own { IsOf (extent course.cells.now) own.old }
-    ensures strips { All (IsDone course.entry (A.leaves action.now)) strips.new }
-    ensures own { IsDone course.entry (A.leaves action.now) own.new }
+    ensures strips { All (IsDone course.entry) strips.new }
+    ensures own { IsDone course.entry own.new }
 {
     let Some((last, rest)) = strips.split_last_mut() else {
-        own.turn(course, action);
+        own.turn(course);
         return;
     };
     thread::join_mut(
         rt,
         &mut ||
             requires { IsOf (extent course.cells.now) last.now }
-            ensures { IsDone course.entry (A.leaves action.entry.now) last.exit.now }
-        { last.turn(course, action) },
+            ensures { IsDone course.entry last.exit.now }
+        { last.turn(course) },
         &mut ||
             requires { All (IsOf (extent course.cells.now)) rest.now
                 × IsOf (extent course.cells.now) own.now }
-            ensures { All (IsDone course.entry (A.leaves action.entry.now)) rest.exit.now
-                × IsDone course.entry (A.leaves action.entry.now) own.exit.now }
-        { turn_all(rt, course, action, rest, own) },
+            ensures { All (IsDone course.entry) rest.exit.now
+                × IsDone course.entry own.exit.now }
+        { turn_all(rt, course, rest, own) },
     );
 }
 
 // Turns the strips, of which the last is the calling thread's, and puts them together in `out`.
-fn round<R: Threads, A: Action>(
+fn round<R: Threads>(
     rt: &R,
     course: Course<'_>,
-    action: &A,
     strips: &mut [Strip],
     out: &mut Plane,
 ) -> Option<Flow>
@@ -126,21 +112,21 @@ fn round<R: Threads, A: Action>(
     requires lattice { IsLattice out.old }
     requires out { HasSidesOf out.old course.cells.now }
     ensures strips { All (IsFor course.entry) strips.new }
-    ensures out { IfSome result (λ _. out.new ≡ result_of course.entry (A.leaves action.now)) }
+    ensures out { IfSome result (λ _. out.new ≡ result_of course.entry) }
     ensures sides { HasSidesOf out.new course.entry.cells.now }
-    ensures flow { IfSome result (λ flow. flow ≡ flow_of course.entry (A.leaves action.now)) }
+    ensures flow { IfSome result (λ flow. flow ≡ flow_of course.entry) }
 {
-    turn_strips(rt, course, action, strips);
-    gather(course, action, strips, out)
+    turn_strips(rt, course, strips);
+    gather(course, strips, out)
 }
 
 // Turns the strips, of which the last is the calling thread's.
-fn turn_strips<R: Threads, A: Action>(rt: &R, course: Course<'_>, action: &A, strips: &mut [Strip])
+fn turn_strips<R: Threads>(rt: &R, course: Course<'_>, strips: &mut [Strip])
     requires { All (IsFor course) strips.old }
-    ensures { All (IsDone course.entry (A.leaves action.now)) strips.new }
+    ensures { All (IsDone course.entry) strips.new }
 {
     if let Some((own, others)) = strips.split_last_mut() {
-        turn_all(rt, course, action, others, own);
+        turn_all(rt, course, others, own);
     }
 }
 
@@ -149,6 +135,8 @@ fn turn_strips<R: Threads, A: Action>(rt: &R, course: Course<'_>, action: &A, st
 pub struct Strips {
     pub size: Size,
     strips: Vec<Strip>,
+    // what acts after each phase of a stretch
+    turns: Vec<Exchange>,
     pub ghost ready: { All (IsOf size) strips.items },
 }
 
@@ -198,7 +186,12 @@ impl Strips {
         ensures { IfSome result (λ strips. strips.size ≡ size) }
     {
         let strips = strips_of(alloc, size, workers)?;
-        Some(Strips { size, strips })
+        let turns = Vec::with_capacity(alloc, AT_ONCE as usize).ok()?;
+        Some(Strips {
+            size,
+            strips,
+            turns,
+        })
     }
 }
 
@@ -220,7 +213,18 @@ pub fn strips_for(
     Strips::new(alloc, size, workers)
 }
 
-// Up to 64 phases: by the strips, or on the calling thread where they are not all rows.
+// Lists what an action does after each of so many phases.
+fn list<A: Action>(action: &A, n: u16, turns: &mut Vec<Exchange>) -> Option<()>
+    ensures { IfSome result (λ _. Lists turns.new.items (A.leaves action.now) n) }
+{
+    turns.clear();
+    for k in 0..n {
+        turns.push(action.after_phase(k)).ok()?;
+    }
+    Some(())
+}
+
+// Up to 64 phases: by the strips, or on the calling thread where they are not all rows or memory is refused.
 fn stretch<R: Threads, A: Action>(
     rt: &R,
     strips: &mut Strips,
@@ -244,14 +248,18 @@ fn stretch<R: Threads, A: Action>(
 {
     // both are lattices
     let _ = (particles.size(), spare.size());
+    if list(run.action, run.n, &mut strips.turns).is_none() {
+        return Serial.run_with(particles, run, spare);
+    }
     let course = Course {
         cells: &*particles,
         walls: run.walls,
         obstacles: run.obstacles,
+        turns: strips.turns.as_slice(),
         parity: run.parity,
         phases: run.n,
     };
-    match round(rt, course, run.action, strips.strips.as_mut_slice(), spare) {
+    match round(rt, course, strips.strips.as_mut_slice(), spare) {
         Some(flow) => {
             mem::swap(particles, spare);
             flow

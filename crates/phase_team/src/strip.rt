@@ -5,6 +5,7 @@ ghost use Rattle.gas_terms.specs.Cells.{joined, HasSidesOf};
 ghost use Rattle.gas_terms.specs.Gas.{streamed};
 ghost use Rattle.gas_plane.specs.Planes.{IsLattice};
 ghost use Rattle.phase_step.specs.Actions.{acted, after_with};
+ghost use Rattle.phase_step.specs.Exchanges.{leaves_of, listed};
 ghost use Rattle.phase_team.specs.Strips.{window, shift_of};
 ghost use Rattle.phase_team.specs.ActionStrips.{acts_there, all_there, own_take, own_moves, own_flow};
 ghost use Rattle.phase_team.specs.Work.{IsFor, IsDone};
@@ -14,7 +15,7 @@ use crate::worker::NOTHING;
 use gas_plane::Plane;
 use gas_terms::{NoMemory, Size, Took};
 use phase_step::{
-    Acting, Action, Flow, Moved, NO_FLOW, UNMOVED, change_of, parity_at, turn_tile_at,
+    Action, Exchange, Flow, Listed, Moved, NO_FLOW, UNMOVED, change_of, parity_at, turn_tile_at,
 };
 use std::alloc::Global;
 use std::mem;
@@ -91,11 +92,11 @@ fn phase_of(old: &Plane, walls: &Plane, obstacles: &Plane, parity: u8, out: &mut
     took
 }
 
-// What an action does to a strip whose own rows begin at row of tiles `first` of `down`, at a tick of this parity: what
+// What an exchange does to a strip whose own rows begin at row of tiles `first` of `down`, at a tick of this parity: what
 // comes in and goes out in its own tiles.
-fn act_on_strip<T: Acting>(
+fn act_on_strip(
     strip: &mut Plane,
-    acting: &T,
+    exchange: &Exchange,
     first: u32,
     down: u32,
     parity: u8,
@@ -104,20 +105,20 @@ fn act_on_strip<T: Acting>(
     requires down { (first < down) × (down ≤ 64) }
     requires rows { 2 ≤ strip.old.height / 64 }
     ensures lattice { IsLattice strip.old }
-    ensures cells { strip.new ≡ acted (acts_there (T.leaves acting.now) first down) strip.old }
+    ensures cells { strip.new ≡ acted (acts_there (leaves_of exchange.now) first down) strip.old }
     ensures moved { result ≡ own_moves parity strip.old strip.new }
 {
     let across = u32::from(strip.size().width() / 64);
     let tiles = strip.size().tiles();
     let end = tiles - across;
     let mut moved = UNMOVED;
-    if acting.is_still() {
+    if exchange.is_still() {
         return moved;
     }
     for i in 0..tiles {
         let old = strip.tile(i);
         let top = row_of(first, i / across, down) * 64;
-        let Some(new) = acting.on_tile(i % across * 64, top, old) else {
+        let Some(new) = exchange.on_tile(i % across * 64, top, old) else {
             continue;
         };
         let here = change_of(old, &new).moved(parity);
@@ -129,20 +130,20 @@ fn act_on_strip<T: Acting>(
     moved
 }
 
-// What happens on a strip: n phases, the first of this parity, with an action of its lattice after each. Its own rows begin at
-// row of tiles `first` of `down`.
+// What happens on a strip: n phases, the first of this parity, with an exchange on its lattice after each. Its own rows begin
+// at row of tiles `first` of `down`.
 #[derive(Drop)]
-struct Plan<'a, A: Action> {
+struct Plan<'a> {
     parity: u8,
     n: u16,
-    action: &'a A,
+    turns: &'a [Exchange],
     first: u32,
     down: u32,
 }
 
 // Makes the plan on a strip as a torus of its own: what it comes to in the strip's own tiles.
-fn make<A: Action>(
-    plan: Plan<'_, A>,
+fn make(
+    plan: Plan<'_>,
     walls: &Plane,
     obstacles: &Plane,
     cells: &mut Plane,
@@ -158,18 +159,19 @@ fn make<A: Action>(
     requires spare { HasSidesOf spare.old cells.old }
     ensures cells { let p = plan.entry in cells.new ≡
         after_with p.parity (joined walls.now obstacles.now)
-        (all_there (A.leaves p.action.now) p.first p.down) cells.old p.n }
+        (all_there (listed p.turns.now) p.first p.down) cells.old p.n }
     ensures spare { HasSidesOf spare.new cells.old }
     ensures flow { let p = plan.entry in result ≡
         own_flow p.parity walls.now obstacles.now
-        (all_there (A.leaves p.action.now) p.first p.down) cells.old p.n }
+        (all_there (listed p.turns.now) p.first p.down) cells.old p.n }
 {
+    let action = Listed { turns: plan.turns };
     let mut flow = NO_FLOW;
     for k in 0..plan.n {
         let now = parity_at(plan.parity, k);
         let took = phase_of(cells, walls, obstacles, now, spare);
         mem::swap(cells, spare);
-        let turn = plan.action.after_phase(k);
+        let turn = action.after_phase(k);
         let moved = act_on_strip(cells, &turn, plan.first, plan.down, 1 - now);
         flow = flow.plus(Flow { took, moved });
     }
@@ -194,9 +196,9 @@ impl Strip {
     }
 
     /// Makes the course on the strip: its own rows become those of the lattice after it.
-    pub fn turn<A: Action>(&mut self, course: Course<'_>, action: &A)
+    pub fn turn(&mut self, course: Course<'_>)
         requires { IsFor course self.old }
-        ensures { IsDone course.entry (A.leaves action.now) self.new }
+        ensures { IsDone course.entry self.new }
     {
         let Strip {
             first,
@@ -214,7 +216,7 @@ impl Strip {
         let plan = Plan {
             parity: course.parity,
             n: course.phases,
-            action,
+            turns: course.turns,
             first: *first,
             down,
         };

@@ -17,7 +17,7 @@ use crate::worker::{NOTHING, Turned, Worker, work_on};
 use claim_desk::{Desk, DeskSeat};
 use gas_plane::Plane;
 use gas_terms::Took;
-use phase_step::{Action, Flow, Run, Serial, Stepper, Still};
+use phase_step::{Action, Flow, Run, Serial, Stepper};
 use std::alloc::Global;
 use std::marker::Model;
 use std::thread;
@@ -318,27 +318,28 @@ impl<R: Threads + Drop, G: Gate + Drop> Team<R, G> {
     }
 }
 
-impl<R: Threads + Drop> Team<R, NoGate> {
-    /// What `Stepper::run_with` says, by strips where these are worth it.
-    pub fn run_by_strips<A: Action>(
+impl<R: Threads + Drop> Stepper for Team<R, NoGate> {
+    fn phase(
+        &mut self,
+        old: &Plane,
+        walls: &Plane,
+        obstacles: &Plane,
+        parity: u8,
+        out: &mut Plane,
+    ) -> Took {
+        if self.workers == 1 {
+            return Serial.phase(old, walls, obstacles, parity, out);
+        }
+        self.phase(old, walls, obstacles, parity, out)
+    }
+
+    // by strips, where these are worth it
+    fn run_with<A: Action>(
         &mut self,
         particles: &mut Plane,
         run: Run<'_, A>,
         spare: &mut Plane,
-    ) -> Flow
-        requires parity { run.parity < 2 }
-        requires walls { HasSidesOf run.walls.now particles.old }
-        requires obstacles { HasSidesOf run.obstacles.now particles.old }
-        requires spare { HasSidesOf spare.old particles.old }
-        ensures particles { let r = run.entry in particles.new ≡
-            after_with r.parity (joined r.walls.now r.obstacles.now) (A.leaves r.action.now)
-            particles.old r.n }
-        ensures spare { HasSidesOf spare.new particles.old }
-        ensures flow { let r = run.entry in result ≡
-            flow_with r.parity r.walls.now r.obstacles.now (A.leaves r.action.now)
-            particles.old r.n }
-        ensures team { self.new ≡ self.old }
-    {
+    ) -> Flow {
         let size = particles.size();
         if !is_worth_strips(size, self.workers, run.n) {
             return Serial.run_with(particles, run, spare);
@@ -355,51 +356,5 @@ impl<R: Threads + Drop> Team<R, NoGate> {
         let flow = run_by(rt, &mut strips, particles, run, spare);
         *kept = Some(strips);
         flow
-    }
-}
-
-impl<R: Threads + Drop> Stepper for Team<R, NoGate> {
-    fn phase(
-        &mut self,
-        old: &Plane,
-        walls: &Plane,
-        obstacles: &Plane,
-        parity: u8,
-        out: &mut Plane,
-    ) -> Took {
-        if self.workers == 1 {
-            return Serial.phase(old, walls, obstacles, parity, out);
-        }
-        self.phase(old, walls, obstacles, parity, out)
-    }
-
-    fn run(
-        &mut self,
-        particles: &mut Plane,
-        walls: &Plane,
-        obstacles: &Plane,
-        parity: u8,
-        n: u16,
-        spare: &mut Plane,
-    ) -> Took {
-        let action = &Still;
-        let run = Run {
-            walls,
-            obstacles,
-            parity,
-            n,
-            action,
-        };
-        self.run_by_strips(particles, run, spare).took
-    }
-
-    // The prover lets no parameter of a trait's own method go to a thread, so the calling thread is alone here.
-    fn run_with<A: Action>(
-        &mut self,
-        particles: &mut Plane,
-        run: Run<'_, A>,
-        spare: &mut Plane,
-    ) -> Flow {
-        Serial.run_with(particles, run, spare)
     }
 }

@@ -1,6 +1,7 @@
 use Rattle.std.proofs.Common.{refl, ◌∙◌, arith}
 use Rattle.gas_terms.specs.Cells.{joined}
 use Rattle.phase_step.specs.declared.moved.Flow.{Flow}
+use Rattle.phase_step.specs.Exchanges.{leaves_of}
 use Rattle.phase_step.proofs.ActionRuns.{phase_with, sides_as_with, next_sides, with_next, flow_next, flow_fits}
 use Rattle.phase_step.proofs.Stepper.run_with.Goals as goal
 
@@ -28,7 +29,7 @@ plus-flow-requires g c =
     let run = c.args.run in
     let here : Flow = record { took = c.phase-took.result; moved = c.act_on-moved.result } in
     flow_fits run.parity run.walls.now run.obstacles.now (g.A.Action.leaves run.action.now) c.args.particles.now c.loop-k.k c.loop-k.particles c.swap.new.x c.act_on-moved.new.plane c.loop-k.flow here
-    (phase_with run.parity c.parity_at-now.result c.loop-k.k run.walls.now run.obstacles.now (g.A.Action.leaves run.action.now) (g.A.Turn.Acting.leaves c.after_phase-turn.result) c.args.particles.now c.loop-k.particles c.swap.new.x c.act_on-moved.new.plane here
+    (phase_with run.parity c.parity_at-now.result c.loop-k.k run.walls.now run.obstacles.now (g.A.Action.leaves run.action.now) (leaves_of c.after_phase-turn.result) c.args.particles.now c.loop-k.particles c.swap.new.x c.act_on-moved.new.plane here
     c.requires.parity c.loop-k.invariant.cells c.parity_at-now.ensures.parity (c.swap.ensures.x_after ∙ c.phase-took.ensures.out) c.phase-took.ensures.took c.act_on-moved.ensures.cells c.after_phase-turn.ensures c.act_on-moved.ensures.moved)
     c.loop-k.invariant.flow c.act_on-moved.ensures.lattice (omega arith)
 
@@ -37,7 +38,7 @@ loop-k-preserved g c =
     let run = c.args.run in
     let here : Flow = record { took = c.phase-took.result; moved = c.act_on-moved.result } in
     let leaves = g.A.Action.leaves run.action.now in
-    let made = phase_with run.parity c.parity_at-now.result c.loop-k.k run.walls.now run.obstacles.now leaves (g.A.Turn.Acting.leaves c.after_phase-turn.result) c.args.particles.now c.loop-k.particles c.swap.new.x c.act_on-moved.new.plane here
+    let made = phase_with run.parity c.parity_at-now.result c.loop-k.k run.walls.now run.obstacles.now leaves (leaves_of c.after_phase-turn.result) c.args.particles.now c.loop-k.particles c.swap.new.x c.act_on-moved.new.plane here
     c.requires.parity c.loop-k.invariant.cells c.parity_at-now.ensures.parity (c.swap.ensures.x_after ∙ c.phase-took.ensures.out) c.phase-took.ensures.took c.act_on-moved.ensures.cells c.after_phase-turn.ensures c.act_on-moved.ensures.moved in
     record {
       cells = with_next run.parity run.walls.now run.obstacles.now leaves c.args.particles.now c.loop-k.k c.loop-k.particles c.swap.new.x c.act_on-moved.new.plane here made;

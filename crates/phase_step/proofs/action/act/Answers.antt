@@ -5,12 +5,13 @@ use Rattle.gas_plane.specs.Planes.{IsLattice}
 use Rattle.gas_plane.proofs.Sweeps.{sweep_within, sweep_next}
 use Rattle.gas_plane.proofs.PlaneCounts.{counts_next, class_place, few_tiles, tile_counted}
 use Rattle.phase_step.proofs.ActedTiles.{acting, came, went, came_count, went_count, action_makes, action_was, action_starts, action_ends, still_acts, still_counts, all_tiles, row_of_tiles, tile_within, corner_of, passed_by, same_tile, came_counted, went_counted}
+use Rattle.phase_step.specs.Exchanges.{leaves_of}
 use Rattle.phase_step.proofs.action.act.Goals as goal
 
 pub loop-i-init : goal.loop-i-init
-loop-i-init g c =
+loop-i-init c =
     record {
-      cells = action_starts (g.T.Acting.leaves c.args.acting.now) c.args.plane.now c.size.ensures.lattice;
+      cells = action_starts (leaves_of c.args.exchange.now) c.args.plane.now c.size.ensures.lattice;
       gained = λ a b p q. get_or-replicate_zero 4 (2 * b + a);
       lost = λ a b p q. get_or-replicate_zero 4 (2 * b + a);
       few_gained = λ k h. omega (arith, get_or-replicate_zero 4 k);
@@ -18,37 +19,37 @@ loop-i-init g c =
     }
 
 pub tile-old-requires : goal.tile-old-requires
-tile-old-requires g c =
-    sweep_within c.args.plane.now c.loop-i.plane (acting (g.T.Acting.leaves c.args.acting.now) c.args.plane.now) c.loop-i.i c.tiles-end.result c.loop-i.invariant.cells c.loop-i-test.true
+tile-old-requires c =
+    sweep_within c.args.plane.now c.loop-i.plane (acting (leaves_of c.args.exchange.now) c.args.plane.now) c.loop-i.i c.tiles-end.result c.loop-i.invariant.cells c.loop-i-test.true
     (let all = all_tiles c.args.plane.now c.size-2.result c.tiles-end.result c.tiles-end.ensures.tiles c.size-2.ensures.extent in omega (arith, all))
 
 pub set_tile-requires : goal.set_tile-requires
-set_tile-requires g c =
-    sweep_within c.args.plane.now c.loop-i.plane (acting (g.T.Acting.leaves c.args.acting.now) c.args.plane.now) c.loop-i.i c.tiles-end.result c.loop-i.invariant.cells c.loop-i-test.true
+set_tile-requires c =
+    sweep_within c.args.plane.now c.loop-i.plane (acting (leaves_of c.args.exchange.now) c.args.plane.now) c.loop-i.i c.tiles-end.result c.loop-i.invariant.cells c.loop-i-test.true
     (let all = all_tiles c.args.plane.now c.size-2.result c.tiles-end.result c.tiles-end.ensures.tiles c.size-2.ensures.extent in omega (arith, all))
 
 few : (cells : Cells) (i : ℕ) → IsLattice cells → i < tile_count cells → i ≤ 4096
 few cells i is h = few_tiles cells i is (omega arith)
 
 pub on_tile-requires : goal.on_tile-requires
-on_tile-requires g c =
+on_tile-requires c =
     corner_of c.args.plane.now c.loop-i.i (c.width.result / 64) c.size.ensures.lattice
     (tile_within c.args.plane.now c.size-2.result c.tiles-end.result c.loop-i.i c.tiles-end.ensures.tiles c.size-2.ensures.extent c.loop-i-test.true)
     (row_of_tiles c.args.plane.now c.size.result c.width.result c.width.ensures c.size.ensures.extent)
 
 pub sums-more-requires : goal.sums-more-requires
-sums-more-requires g c = λ k h.
+sums-more-requires c = λ k h.
     let within = tile_within c.args.plane.now c.size-2.result c.tiles-end.result c.loop-i.i c.tiles-end.ensures.tiles c.size-2.ensures.extent c.loop-i-test.true in
     omega (arith, c.loop-i.invariant.few_gained k h, c.count_by_parity.ensures.bound k, few c.args.plane.now c.loop-i.i c.size.ensures.lattice within)
 
 pub sums-less-requires : goal.sums-less-requires
-sums-less-requires g c = λ k h.
+sums-less-requires c = λ k h.
     let within = tile_within c.args.plane.now c.size-2.result c.tiles-end.result c.loop-i.i c.tiles-end.ensures.tiles c.size-2.ensures.extent c.loop-i-test.true in
     omega (arith, c.loop-i.invariant.few_lost k h, c.count_by_parity-in-loop-i.ensures.bound k, few c.args.plane.now c.loop-i.i c.size.ensures.lattice within)
 
 pub loop-i-preserved : goal.loop-i-preserved
-loop-i-preserved g c =
-    let leaves = g.T.Acting.leaves c.args.acting.now in
+loop-i-preserved c =
+    let leaves = leaves_of c.args.exchange.now in
     let cells = c.args.plane.now in
     let i = c.loop-i.i in
     let is = c.size.ensures.lattice in
@@ -74,34 +75,34 @@ loop-i-preserved g c =
 
 -- nothing is said of the tile: it stays
 pub loop-i-preserved-in_default : goal.loop-i-preserved-in_default
-loop-i-preserved-in_default g c =
-    let leaves = g.T.Acting.leaves c.args.acting.now in
+loop-i-preserved-in_default c =
+    let leaves = leaves_of c.args.exchange.now in
     let within = tile_within c.args.plane.now c.size-2.result c.tiles-end.result c.loop-i.i c.tiles-end.ensures.tiles c.size-2.ensures.extent c.loop-i-test.true in
     passed_by leaves c.args.plane.now c.loop-i.plane c.loop-i.i c.loop-i.gained c.loop-i.lost c.size.ensures.lattice within c.loop-i.invariant
     (same_tile leaves c.args.plane.now c.loop-i.plane c.loop-i.i (c.width.result / 64) c.tile-old.result.now c.size.ensures.lattice
     (row_of_tiles c.args.plane.now c.size.result c.width.result c.width.ensures c.size.ensures.extent) within c.loop-i.invariant.cells c.tile-old.ensures c.in_default.ensures)
 
 pub returns-then-is_still-clause-cells : goal.returns-then-is_still-clause-cells
-returns-then-is_still-clause-cells g c =
-    still_acts (g.T.Acting.leaves c.args.acting.now) c.args.plane.now c.size.ensures.lattice.full (c.is_still.ensures c.if-is_still.true)
+returns-then-is_still-clause-cells c =
+    still_acts (leaves_of c.args.exchange.now) c.args.plane.now c.size.ensures.lattice.full (c.is_still.ensures c.if-is_still.true)
 
 pub returns-then-is_still-clause-gained : goal.returns-then-is_still-clause-gained
-returns-then-is_still-clause-gained g c = still_counts c.args.plane.now
+returns-then-is_still-clause-gained c = still_counts c.args.plane.now
 
 pub returns-then-is_still-clause-lost : goal.returns-then-is_still-clause-lost
-returns-then-is_still-clause-lost g c = still_counts c.args.plane.now
+returns-then-is_still-clause-lost c = still_counts c.args.plane.now
 
 pub returns-clause-cells : goal.returns-clause-cells
-returns-clause-cells g c =
-    action_ends (g.T.Acting.leaves c.args.acting.now) c.args.plane.now c.loop-i.plane c.loop-i.i c.tiles-end.result c.size.ensures.lattice
+returns-clause-cells c =
+    action_ends (leaves_of c.args.exchange.now) c.args.plane.now c.loop-i.plane c.loop-i.i c.tiles-end.result c.size.ensures.lattice
     (all_tiles c.args.plane.now c.size-2.result c.tiles-end.result c.tiles-end.ensures.tiles c.size-2.ensures.extent) c.loop-i-test.false c.loop-i.invariant.cells
 
 pub returns-clause-gained : goal.returns-clause-gained
-returns-clause-gained g c =
-    came_counted (g.T.Acting.leaves c.args.acting.now) c.args.plane.now c.loop-i.plane c.loop-i.i c.tiles-end.result c.loop-i.gained c.loop-i.lost c.size.ensures.lattice
+returns-clause-gained c =
+    came_counted (leaves_of c.args.exchange.now) c.args.plane.now c.loop-i.plane c.loop-i.i c.tiles-end.result c.loop-i.gained c.loop-i.lost c.size.ensures.lattice
     (all_tiles c.args.plane.now c.size-2.result c.tiles-end.result c.tiles-end.ensures.tiles c.size-2.ensures.extent) c.loop-i-test.false c.loop-i.auto.i-end c.loop-i.invariant
 
 pub returns-clause-lost : goal.returns-clause-lost
-returns-clause-lost g c =
-    went_counted (g.T.Acting.leaves c.args.acting.now) c.args.plane.now c.loop-i.plane c.loop-i.i c.tiles-end.result c.loop-i.gained c.loop-i.lost c.size.ensures.lattice
+returns-clause-lost c =
+    went_counted (leaves_of c.args.exchange.now) c.args.plane.now c.loop-i.plane c.loop-i.i c.tiles-end.result c.loop-i.gained c.loop-i.lost c.size.ensures.lattice
     (all_tiles c.args.plane.now c.size-2.result c.tiles-end.result c.tiles-end.ensures.tiles c.size-2.ensures.extent) c.loop-i-test.false c.loop-i.auto.i-end c.loop-i.invariant

@@ -10,9 +10,9 @@ join_mut-requires-after_bounds g t c κs within =
     let split = c.in-Some.ensures.cases.0 in
     let last = all_last fit c.args.strips.now c.in-Some.rest.now c.in-Some.last.now split c.requires.strips in
     let rest = all_before fit c.args.strips.now c.in-Some.rest.now c.in-Some.last.now split c.requires.strips in
-    ((last, (record { shared = c.requires.sync.0.shared }, record { shared = c.requires.sync.1.shared })), (search rules, ((λ a m. m), ((λ a m. m), ((λ a m. m), ((rest, c.requires.own), (c.requires.sync.0, c.requires.sync.1)))))))
+    (last, (search rules, ((λ a m. m), (rest, c.requires.own))))
 
 pub returns-clause-strips : goal.returns-clause-strips
 returns-clause-strips g t c =
-    let done = IsDone c.args.course (g.A.Action.leaves c.args.action.now) in
+    let done = IsDone c.args.course in
     all_push done _ _ (subst (All done) (search (of_calls, rules)) c.join_mut.ensures.1.met.1.0) (subst done (search (of_calls, rules)) c.join_mut.ensures.0.met.1)

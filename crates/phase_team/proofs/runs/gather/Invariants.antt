@@ -4,9 +4,9 @@ use Rattle.phase_team.specs.Work.{filled_up, tiles_give}
 use Rattle.phase_team.proofs.runs.gather.Given as goal
 
 abbrev pub invariant-loop-strip : goal.invariant-loop-strip
-invariant-loop-strip g l = record {
+invariant-loop-strip l = record {
   sides : HasSidesOf l.out l.course.cells.now;
-  filled : l.out ≡ filled_up l.course (g.A.Action.leaves l.action) l.initial.out (l.next * (l.course.cells.now.width / 64));
-  flow : l.flow ≡ tiles_give l.course (g.A.Action.leaves l.action) 0 (l.next * (l.course.cells.now.width / 64));
+  filled : l.out ≡ filled_up l.course l.initial.out (l.next * (l.course.cells.now.width / 64));
+  flow : l.flow ≡ tiles_give l.course 0 (l.next * (l.course.cells.now.width / 64));
   few : l.next ≤ l.course.cells.now.height / 64;
 }

@@ -11,24 +11,24 @@ pub loop-done-init : goal.loop-done-init
 loop-done-init g c = record { crew = refl; few = omega arith; cells = refl; spare = c.requires.spare; flow = refl }
 
 pub stretch-here-requires-clause-size : goal.stretch-here-requires-clause-size
-stretch-here-requires-clause-size g c κs within =
+stretch-here-requires-clause-size g c =
     let run = c.args.run in
     let was = c.loop-done.invariant in
     let sides = sides_with run.parity (joined run.walls.now run.obstacles.now) (g.A.Action.leaves run.action.now) c.args.particles.now c.loop-done.done in
     was.crew ∙ (c.requires.size ∙ ap₂ (λ w h. let e : Extent = record { width = w; height = h } in e) (sym (ap (λ (d : Cells). d.width) was.cells ∙ sides.wide)) (sym (ap (λ (d : Cells). d.height) was.cells ∙ sides.high)))
 
 pub stretch-here-requires-clause-walls : goal.stretch-here-requires-clause-walls
-stretch-here-requires-clause-walls g c κs within =
+stretch-here-requires-clause-walls g c =
     let run = c.args.run in
     sides_as_with run.parity (joined run.walls.now run.obstacles.now) (g.A.Action.leaves run.action.now) c.args.particles.now c.loop-done.particles run.walls.now c.loop-done.done c.loop-done.invariant.cells c.requires.walls
 
 pub stretch-here-requires-clause-obstacles : goal.stretch-here-requires-clause-obstacles
-stretch-here-requires-clause-obstacles g c κs within =
+stretch-here-requires-clause-obstacles g c =
     let run = c.args.run in
     sides_as_with run.parity (joined run.walls.now run.obstacles.now) (g.A.Action.leaves run.action.now) c.args.particles.now c.loop-done.particles run.obstacles.now c.loop-done.done c.loop-done.invariant.cells c.requires.obstacles
 
 pub stretch-here-requires-clause-spare : goal.stretch-here-requires-clause-spare
-stretch-here-requires-clause-spare g c κs within =
+stretch-here-requires-clause-spare g c =
     let run = c.args.run in
     sides_as_with run.parity (joined run.walls.now run.obstacles.now) (g.A.Action.leaves run.action.now) c.args.particles.now c.loop-done.particles c.loop-done.spare c.loop-done.done c.loop-done.invariant.cells c.loop-done.invariant.spare
 

@@ -6,7 +6,7 @@ use Rattle.phase_team.proofs.Gathered.{one_more, unload_within}
 use Rattle.phase_team.proofs.runs.unload.Goals as goal
 
 pub tile_mut-requires : goal.tile_mut-requires
-tile_mut-requires g c =
+tile_mut-requires c =
     let cells = c.args.course.cells.now in
     let across : c.from-across.result ≡ cells.width / 64 = c.from-across.ensures ∙ ap (λ n. n / 64) (c.width.ensures ∙ ap (λ (s : Extent). s.width) c.size.ensures.extent) in
     let s = c.args.strip.now in
@@ -15,7 +15,7 @@ tile_mut-requires g c =
     subst (λ n. s.first * c.from-across.result + c.loop-i.i < n) (sym count) (subst (λ a. s.first * a + c.loop-i.i < tile_count cells) (sym across) within)
 
 pub loop-i-preserved : goal.loop-i-preserved
-loop-i-preserved g c =
+loop-i-preserved c =
     let course = c.args.course in
     let cells = course.cells.now in
     let across : c.from-across.result ≡ cells.width / 64 = c.from-across.ensures ∙ ap (λ n. n / 64) (c.width.ensures ∙ ap (λ (s : Extent). s.width) c.size.ensures.extent) in
@@ -27,15 +27,15 @@ loop-i-preserved g c =
     record {
       sides = record { wide = was.sides.wide; high = was.sides.high };
       filled = λ start is same e.
-          one_more course (g.A.Action.leaves c.args.action.now) s start out (with_tile out (s.first * c.from-across.result + i) t) i t is same c.requires.done (subst (λ a. i < s.rows * a) across c.loop-i-test.true)
+          one_more course s start out (with_tile out (s.first * c.from-across.result + i) t) i t is same c.requires.done (subst (λ a. i < s.rows * a) across c.loop-i-test.true)
           (subst (λ a. IsTileFrom t s.cells (tile_rectangle s.cells (a + i)).x (tile_rectangle s.cells (a + i)).y) across c.tile.ensures) (was.filled start is same e) (ap (λ a. with_tile out (s.first * a + i) t) across);
     }
 
 pub returns-clause-filled : goal.returns-clause-filled
-returns-clause-filled g c = λ start is same e.
+returns-clause-filled c = λ start is same e.
     let cells = c.args.course.cells.now in
     let across : c.from-across.result ≡ cells.width / 64 = c.from-across.ensures ∙ ap (λ n. n / 64) (c.width.ensures ∙ ap (λ (s : Extent). s.width) c.size.ensures.extent) in
     let s = c.args.strip.now in
     let a = cells.width / 64 in
     let end : c.loop-i.i ≡ s.rows * a = (let k : c.loop-i.i ≡ s.rows * c.from-across.result = omega arith in k) ∙ ap (λ a. s.rows * a) across in
-    c.loop-i.invariant.filled start is same e ∙ ap (filled_up c.args.course (g.A.Action.leaves c.args.action.now) start) (let k : s.first * a + c.loop-i.i ≡ (s.first + s.rows) * a = omega (arith, end) in k)
+    c.loop-i.invariant.filled start is same e ∙ ap (filled_up c.args.course start) (let k : s.first * a + c.loop-i.i ≡ (s.first + s.rows) * a = omega (arith, end) in k)

@@ -7,20 +7,21 @@ use Rattle.phase_step.proofs.ActedTiles.{acting, action_starts, action_ends, sti
 use Rattle.phase_step.proofs.TileChanges.{none_moved}
 use Rattle.phase_team.specs.ActionStrips.{acts_there, tiles_move}
 use Rattle.phase_team.proofs.ActedStrips.{IsActedTile, left_there, square_of, acted_makes, acted_moves, moves_more, moves_past, moves_fit, none_of_still}
+use Rattle.phase_step.specs.Exchanges.{leaves_of}
 use Rattle.phase_team.proofs.strip.act_on_strip.Goals as goal
 use Rattle.phase_team.proofs.strip.act_on_strip.Goals.{then-is_own, else-is_own}
 
 pub returns-then-is_still-clause-cells : goal.returns-then-is_still-clause-cells
-returns-then-is_still-clause-cells g c =
-    still_acts (acts_there (g.T.Acting.leaves c.args.acting.now) c.args.first c.args.down) c.args.strip.now c.size.ensures.lattice.full (λ x y held. c.is_still.ensures c.if-is_still.true x _ held)
+returns-then-is_still-clause-cells c =
+    still_acts (acts_there (leaves_of c.args.exchange.now) c.args.first c.args.down) c.args.strip.now c.size.ensures.lattice.full (λ x y held. c.is_still.ensures c.if-is_still.true x _ held)
 
 pub returns-then-is_still-clause-moved : goal.returns-then-is_still-clause-moved
-returns-then-is_still-clause-moved g c =
-    none_of_still c.args.parity (acts_there (g.T.Acting.leaves c.args.acting.now) c.args.first c.args.down) c.args.strip.now c.size.ensures.lattice (λ x y held. c.is_still.ensures c.if-is_still.true x _ held) c.requires.rows
+returns-then-is_still-clause-moved c =
+    none_of_still c.args.parity (acts_there (leaves_of c.args.exchange.now) c.args.first c.args.down) c.args.strip.now c.size.ensures.lattice (λ x y held. c.is_still.ensures c.if-is_still.true x _ held) c.requires.rows
 
 pub loop-i-init : goal.loop-i-init
-loop-i-init g c =
-    let leaves = acts_there (g.T.Acting.leaves c.args.acting.now) c.args.first c.args.down in
+loop-i-init c =
+    let leaves = acts_there (leaves_of c.args.exchange.now) c.args.first c.args.down in
     record {
       cells = action_starts leaves c.args.strip.now c.size.ensures.lattice;
       moved = let e : 0 ≡ 0 - c.from-across.result - (0 - (c.tiles-tiles.result - c.from-across.result)) = omega arith in
@@ -28,27 +29,27 @@ loop-i-init g c =
     }
 
 pub tile-old-requires : goal.tile-old-requires
-tile-old-requires g c =
-    sweep_within c.args.strip.now c.loop-i.strip (acting (acts_there (g.T.Acting.leaves c.args.acting.now) c.args.first c.args.down) c.args.strip.now) c.loop-i.i c.tiles-tiles.result c.loop-i.invariant.cells c.loop-i-test.true
+tile-old-requires c =
+    sweep_within c.args.strip.now c.loop-i.strip (acting (acts_there (leaves_of c.args.exchange.now) c.args.first c.args.down) c.args.strip.now) c.loop-i.i c.tiles-tiles.result c.loop-i.invariant.cells c.loop-i-test.true
     (let all = all_tiles c.args.strip.now c.size-2.result c.tiles-tiles.result c.tiles-tiles.ensures.tiles c.size-2.ensures.extent in omega (arith, all))
 
 pub set_tile-requires : goal.set_tile-requires
-set_tile-requires g c =
-    sweep_within c.args.strip.now c.loop-i.strip (acting (acts_there (g.T.Acting.leaves c.args.acting.now) c.args.first c.args.down) c.args.strip.now) c.loop-i.i c.tiles-tiles.result c.loop-i.invariant.cells c.loop-i-test.true
+set_tile-requires c =
+    sweep_within c.args.strip.now c.loop-i.strip (acting (acts_there (leaves_of c.args.exchange.now) c.args.first c.args.down) c.args.strip.now) c.loop-i.i c.tiles-tiles.result c.loop-i.invariant.cells c.loop-i-test.true
     (let all = all_tiles c.args.strip.now c.size-2.result c.tiles-tiles.result c.tiles-tiles.ensures.tiles c.size-2.ensures.extent in omega (arith, all))
 
 -- a tile of which nothing is said stays
 pub loop-i-preserved-in_default : goal.loop-i-preserved-in_default
-loop-i-preserved-in_default g c =
+loop-i-preserved-in_default c =
     let cells = c.args.strip.now in
     let i = c.loop-i.i in
-    let leaves = acts_there (g.T.Acting.leaves c.args.acting.now) c.args.first c.args.down in
+    let leaves = acts_there (leaves_of c.args.exchange.now) c.args.first c.args.down in
     let is = c.size.ensures.lattice in
     let across : c.from-across.result ≡ cells.width / 64 = c.from-across.ensures ∙ row_of_tiles cells c.size.result c.width.result c.width.ensures c.size.ensures.extent in
     let within = tile_within cells c.size-2.result c.tiles-tiles.result i c.tiles-tiles.ensures.tiles c.size-2.ensures.extent c.loop-i-test.true in
     let old = c.tile-old.result.now in
     let stays = same_tile leaves cells c.loop-i.strip i c.from-across.result old is across within c.loop-i.invariant.cells c.tile-old.ensures
-    (left_there (g.T.Acting.leaves c.args.acting.now) c.args.first c.args.down i c.from-across.result c.row_of-top.result old old (let h = c.requires.down.0 in omega arith) c.row_of-top.ensures.row c.in_default.ensures) in
+    (left_there (leaves_of c.args.exchange.now) c.args.first c.args.down i c.from-across.result c.row_of-top.result old old (let h = c.requires.down.0 in omega arith) c.row_of-top.ensures.row c.in_default.ensures) in
     record {
       cells = c.loop-i.invariant.cells ∙ sweep_past cells (acting leaves cells) i is stays;
       moved = moves_past (pos c.args.parity) cells (acted leaves cells) c.from-across.result (c.tiles-tiles.result - c.from-across.result) i c.loop-i.moved
@@ -56,13 +57,13 @@ loop-i-preserved-in_default g c =
     }
 
 pub plus-moved-requires-clause-injected : goal.plus-moved-requires-clause-injected
-plus-moved-requires-clause-injected g c =
+plus-moved-requires-clause-injected c =
     let cells = c.args.strip.now in
-    let leaves = acts_there (g.T.Acting.leaves c.args.acting.now) c.args.first c.args.down in
+    let leaves = acts_there (leaves_of c.args.exchange.now) c.args.first c.args.down in
     let few = few_tiles cells (tile_count cells) c.size.ensures.lattice (omega arith) in
     let all = all_tiles cells c.size-2.result c.tiles-tiles.result c.tiles-tiles.ensures.tiles c.size-2.ensures.extent in
     let end : c.tiles-tiles.result - c.from-across.result ≤ 4096 = omega (arith, few, all) in
-    let is : IsActedTile c.args.parity c.args.first c.args.down c.loop-i.i c.from-across.result c.row_of-top.result (g.T.Acting.leaves c.args.acting.now) c.args.strip.now c.loop-i.strip c.tile-old.result.now c.in-Some.new c.change_of.result c.moved-here.result =
+    let is : IsActedTile c.args.parity c.args.first c.args.down c.loop-i.i c.from-across.result c.row_of-top.result (leaves_of c.args.exchange.now) c.args.strip.now c.loop-i.strip c.tile-old.result.now c.in-Some.new c.change_of.result c.moved-here.result =
     record {
       small = c.requires.parity;
       some = c.requires.down.0;
@@ -77,16 +78,16 @@ plus-moved-requires-clause-injected g c =
       lost = c.change_of.ensures.lost;
       moved = c.moved-here.ensures;
     } in
-    (moves_fit (pos c.args.parity) leaves cells c.from-across.result (c.tiles-tiles.result - c.from-across.result) c.loop-i.i c.loop-i.moved c.moved-here.result end c.loop-i.invariant.moved (acted_moves c.args.parity c.args.first c.args.down c.loop-i.i c.from-across.result c.row_of-top.result (g.T.Acting.leaves c.args.acting.now) c.args.strip.now c.loop-i.strip c.tile-old.result.now c.in-Some.new c.change_of.result c.moved-here.result is)).0
+    (moves_fit (pos c.args.parity) leaves cells c.from-across.result (c.tiles-tiles.result - c.from-across.result) c.loop-i.i c.loop-i.moved c.moved-here.result end c.loop-i.invariant.moved (acted_moves c.args.parity c.args.first c.args.down c.loop-i.i c.from-across.result c.row_of-top.result (leaves_of c.args.exchange.now) c.args.strip.now c.loop-i.strip c.tile-old.result.now c.in-Some.new c.change_of.result c.moved-here.result is)).0
 
 pub plus-moved-requires-clause-drained : goal.plus-moved-requires-clause-drained
-plus-moved-requires-clause-drained g c =
+plus-moved-requires-clause-drained c =
     let cells = c.args.strip.now in
-    let leaves = acts_there (g.T.Acting.leaves c.args.acting.now) c.args.first c.args.down in
+    let leaves = acts_there (leaves_of c.args.exchange.now) c.args.first c.args.down in
     let few = few_tiles cells (tile_count cells) c.size.ensures.lattice (omega arith) in
     let all = all_tiles cells c.size-2.result c.tiles-tiles.result c.tiles-tiles.ensures.tiles c.size-2.ensures.extent in
     let end : c.tiles-tiles.result - c.from-across.result ≤ 4096 = omega (arith, few, all) in
-    let is : IsActedTile c.args.parity c.args.first c.args.down c.loop-i.i c.from-across.result c.row_of-top.result (g.T.Acting.leaves c.args.acting.now) c.args.strip.now c.loop-i.strip c.tile-old.result.now c.in-Some.new c.change_of.result c.moved-here.result =
+    let is : IsActedTile c.args.parity c.args.first c.args.down c.loop-i.i c.from-across.result c.row_of-top.result (leaves_of c.args.exchange.now) c.args.strip.now c.loop-i.strip c.tile-old.result.now c.in-Some.new c.change_of.result c.moved-here.result =
     record {
       small = c.requires.parity;
       some = c.requires.down.0;
@@ -101,14 +102,14 @@ plus-moved-requires-clause-drained g c =
       lost = c.change_of.ensures.lost;
       moved = c.moved-here.ensures;
     } in
-    (moves_fit (pos c.args.parity) leaves cells c.from-across.result (c.tiles-tiles.result - c.from-across.result) c.loop-i.i c.loop-i.moved c.moved-here.result end c.loop-i.invariant.moved (acted_moves c.args.parity c.args.first c.args.down c.loop-i.i c.from-across.result c.row_of-top.result (g.T.Acting.leaves c.args.acting.now) c.args.strip.now c.loop-i.strip c.tile-old.result.now c.in-Some.new c.change_of.result c.moved-here.result is)).1
+    (moves_fit (pos c.args.parity) leaves cells c.from-across.result (c.tiles-tiles.result - c.from-across.result) c.loop-i.i c.loop-i.moved c.moved-here.result end c.loop-i.invariant.moved (acted_moves c.args.parity c.args.first c.args.down c.loop-i.i c.from-across.result c.row_of-top.result (leaves_of c.args.exchange.now) c.args.strip.now c.loop-i.strip c.tile-old.result.now c.in-Some.new c.change_of.result c.moved-here.result is)).1
 
 pub loop-i-preserved : goal.loop-i-preserved
-loop-i-preserved g c =
+loop-i-preserved c =
     let cells = c.args.strip.now in
     let i = c.loop-i.i in
-    let leaves = acts_there (g.T.Acting.leaves c.args.acting.now) c.args.first c.args.down in
-    let is : IsActedTile c.args.parity c.args.first c.args.down c.loop-i.i c.from-across.result c.row_of-top.result (g.T.Acting.leaves c.args.acting.now) c.args.strip.now c.loop-i.strip c.tile-old.result.now c.in-Some.new c.change_of.result c.moved-here.result =
+    let leaves = acts_there (leaves_of c.args.exchange.now) c.args.first c.args.down in
+    let is : IsActedTile c.args.parity c.args.first c.args.down c.loop-i.i c.from-across.result c.row_of-top.result (leaves_of c.args.exchange.now) c.args.strip.now c.loop-i.strip c.tile-old.result.now c.in-Some.new c.change_of.result c.moved-here.result =
     record {
       small = c.requires.parity;
       some = c.requires.down.0;
@@ -123,10 +124,10 @@ loop-i-preserved g c =
       lost = c.change_of.ensures.lost;
       moved = c.moved-here.ensures;
     } in
-    let here = acted_moves c.args.parity c.args.first c.args.down c.loop-i.i c.from-across.result c.row_of-top.result (g.T.Acting.leaves c.args.acting.now) c.args.strip.now c.loop-i.strip c.tile-old.result.now c.in-Some.new c.change_of.result c.moved-here.result is in
+    let here = acted_moves c.args.parity c.args.first c.args.down c.loop-i.i c.from-across.result c.row_of-top.result (leaves_of c.args.exchange.now) c.args.strip.now c.loop-i.strip c.tile-old.result.now c.in-Some.new c.change_of.result c.moved-here.result is in
     record {
       cells = sweep_next cells c.loop-i.strip c.set_tile.new.self (acting leaves cells) i c.tile-old.result.now c.in-Some.new is.lattice is.within c.loop-i.invariant.cells c.tile-old.ensures c.set_tile.ensures
-          (acted_makes c.args.parity c.args.first c.args.down c.loop-i.i c.from-across.result c.row_of-top.result (g.T.Acting.leaves c.args.acting.now) c.args.strip.now c.loop-i.strip c.tile-old.result.now c.in-Some.new c.change_of.result c.moved-here.result is);
+          (acted_makes c.args.parity c.args.first c.args.down c.loop-i.i c.from-across.result c.row_of-top.result (leaves_of c.args.exchange.now) c.args.strip.now c.loop-i.strip c.tile-old.result.now c.in-Some.new c.change_of.result c.moved-here.result is);
       moved = elim c.if-is_own.branch [
         | then-is_own w ↦
             let inside = c.is_own.ensures.own w.if-is_own.true in
@@ -136,14 +137,14 @@ loop-i-preserved g c =
     }
 
 pub returns-clause-cells : goal.returns-clause-cells
-returns-clause-cells g c =
-    action_ends (acts_there (g.T.Acting.leaves c.args.acting.now) c.args.first c.args.down) c.args.strip.now c.loop-i.strip c.loop-i.i c.tiles-tiles.result c.size.ensures.lattice
+returns-clause-cells c =
+    action_ends (acts_there (leaves_of c.args.exchange.now) c.args.first c.args.down) c.args.strip.now c.loop-i.strip c.loop-i.i c.tiles-tiles.result c.size.ensures.lattice
     (all_tiles c.args.strip.now c.size-2.result c.tiles-tiles.result c.tiles-tiles.ensures.tiles c.size-2.ensures.extent) c.loop-i-test.false c.loop-i.invariant.cells
 
 pub returns-clause-moved : goal.returns-clause-moved
-returns-clause-moved g c =
+returns-clause-moved c =
     let cells = c.args.strip.now in
-    let leaves = acts_there (g.T.Acting.leaves c.args.acting.now) c.args.first c.args.down in
+    let leaves = acts_there (leaves_of c.args.exchange.now) c.args.first c.args.down in
     let all = all_tiles cells c.size-2.result c.tiles-tiles.result c.tiles-tiles.ensures.tiles c.size-2.ensures.extent in
     let across : c.from-across.result ≡ cells.width / 64 = c.from-across.ensures ∙ row_of_tiles cells c.size.result c.width.result c.width.ensures c.size.ensures.extent in
     let last : c.loop-i.strip ≡ acted leaves cells = action_ends leaves cells c.loop-i.strip c.loop-i.i c.tiles-tiles.result c.size.ensures.lattice all c.loop-i-test.false c.loop-i.invariant.cells in

@@ -6,15 +6,16 @@ use Rattle.phase_team.specs.Strips.{IsStrip, window, shift_of}
 use Rattle.phase_team.specs.ActionStrips.{shifted_all, own_flow, tiles_flow}
 use Rattle.phase_team.proofs.Turned.{own_count, window_as, same_sides}
 use Rattle.phase_team.proofs.ActionTurned.{own_is_with, flow_is_with, acts_are}
+use Rattle.phase_step.specs.Exchanges.{listed}
 use Rattle.phase_team.proofs.strip.Strip.turn.Goals as goal
 
 pub load-requires-clause-first : goal.load-requires-clause-first
-load-requires-clause-first g c = omega (arith, c.requires.inside, c.requires.some)
+load-requires-clause-first c = omega (arith, c.requires.inside, c.requires.some)
 
 pub returns : goal.returns
-returns g c =
+returns c =
     let course = c.args.course in
-    let leaves = g.A.Action.leaves c.args.action.now in
+    let leaves = listed course.turns.now in
     let first = c.args.self.now.first in
     let rows = c.args.self.now.rows in
     let cells = course.cells.now in

@@ -1,19 +1,15 @@
-//! What ports do to the particles at a tick.
+//! What becomes of the cells of rectangles that are emptied, and of others that are then filled.
 
-ghost use Rattle.std.specs.Prelude.{◌≡◌, true, ℕ, ℤ, ◌<◌, ◌≤◌, ◌/◌, ◌+◌, ◌||◌, ◌&&◌, not, IsTrue, pos, ◌+ℤ◌};
-ghost use Rattle.std.specs.List.{list_any};
+ghost use Rattle.std.specs.Prelude.{◌≡◌, true, ℕ, ◌<◌, ◌≤◌, ◌/◌, ◌+◌, ◌||◌, ◌&&◌, not, IsTrue, MatchOption};
 ghost use Rattle.bit_tile.specs.Tile.{HasCells};
 ghost use Rattle.bit_tile.specs.Tile as in_tile;
 ghost use Rattle.gas_terms.specs.Cells.{most_side, is_inside};
-ghost use Rattle.gas_ledger.specs.PortLists.{due_areas, left_by};
-ghost use Rattle.gas_ledger.specs.Exchanges.{Areas, is_in_any, is_left, HasTilesOf};
+ghost use Rattle.phase_step.specs.Actions.{IsStill, IsTileCorner, IsLeftOf};
+ghost use Rattle.phase_step.specs.Exchanges.{leaves_of, nowhere, is_in_any, is_left, HasTilesOf};
 
 use crate::few::Few;
-use crate::ports::Ports;
-use bit_tile::Tile;
-use gas_plane::part_of;
-use gas_terms::{Rect, Tick};
-use phase_step::{Acting, Action};
+use gas_plane::{Tile, part_of};
+use gas_terms::{Rect, Size};
 use std::marker::Model;
 
 /// Drains that empty their cells, and sources that fill theirs then. What is drained and filled again has stayed.
@@ -26,7 +22,7 @@ pub struct Exchange {
 }
 
 impl Model for Exchange {
-    ghost use Rattle.gas_ledger.specs.Exchanges.{Areas, HasTilesOf};
+    ghost use Rattle.phase_step.specs.Exchanges.{Areas, HasTilesOf};
 
     ghost Value = { Areas };
 
@@ -36,15 +32,10 @@ impl Model for Exchange {
 }
 
 impl Exchange {
-    /// What the ports do at this tick.
-    pub fn at(ports: &Ports, tick: i64) -> Exchange
-        ensures { result ≡ record {
-          drains = ports.now.drains;
-          sources = due_areas tick ports.now.sources;
-        } }
+    /// The exchange by these drains and sources.
+    pub fn new(drains: Few<Rect>, sources: Few<Rect>) -> Exchange
+        ensures { result ≡ record { drains = drains; sources = sources } }
     {
-        let drains = ports.drain_areas();
-        let sources = ports.due(tick);
         let met = tiles_met(drains.as_slice(), sources.as_slice());
         Exchange {
             drains,
@@ -52,16 +43,39 @@ impl Exchange {
             met,
         }
     }
-}
 
-impl Acting for Exchange {
-    ghost leaves = { λ e x y held. is_left held e.drains e.sources x y };
+    /// Without drains and sources: every cell stays.
+    pub fn none() -> Exchange
+        ensures { result ≡ nowhere }
+    {
+        Exchange::new(Few::none(any_area()), Few::none(any_area()))
+    }
 
-    fn is_still(&self) -> bool {
+    /// The same again.
+    pub fn copy(&self) -> Exchange
+        ensures { result ≡ self.now }
+    {
+        Exchange {
+            drains: self.drains.copy(),
+            sources: self.sources.copy(),
+            met: self.met,
+        }
+    }
+
+    /// Whether it has neither drains nor sources.
+    pub fn is_still(&self) -> bool
+        ensures { IsTrue result → IsStill (leaves_of self.now) }
+    {
         self.drains.len() == 0 && self.sources.len() == 0
     }
 
-    fn on_tile(&self, left: u32, top: u32, tile: &Tile) -> Option<Tile> {
+    /// What becomes of a tile that begins at the place (left, top), or nothing where it stays as it is.
+    pub fn on_tile(&self, left: u32, top: u32, tile: &Tile) -> Option<Tile>
+        requires { IsTileCorner left top }
+        ensures { MatchOption result
+            (IsLeftOf (leaves_of self.now) left top tile.now tile.now)
+            (λ new. IsLeftOf (leaves_of self.now) left top tile.now new) }
+    {
         if !self.met.get(left / 64, top / 64) {
             return None;
         }
@@ -80,21 +94,10 @@ impl Acting for Exchange {
     }
 }
 
-/// What ports do after each phase of a run that begins at the tick.
-#[derive(Drop)]
-pub struct PortsFrom<'a> {
-    pub ports: &'a Ports,
-    pub tick: Tick,
-}
-
-impl Action for PortsFrom<'_> {
-    ghost leaves = { λ p k x y held. left_by p.ports.now (p.tick +ℤ pos k +ℤ pos 1) x y held };
-
-    type Turn = Exchange;
-
-    fn after_phase(&self, k: u16) -> Exchange {
-        Exchange::at(self.ports, self.tick.get() + i64::from(k) + 1)
-    }
+/// A rectangle that stands for none.
+pub fn any_area() -> Rect {
+    let size = Size::new(64, 64).unwrap();
+    Rect::within(size, 0, 0, 1, 1).unwrap()
 }
 
 // which tiles have a cell of some rectangle: a cell here stands for a tile

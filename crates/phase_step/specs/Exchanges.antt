@@ -1,12 +1,10 @@
-use Rattle.std.specs.Prelude.{◌≡◌, ℕ, ◌/◌, ◌<◌, Bool, true, not, ◌&&◌, ◌||◌, List}
+-- Rectangles whose cells are emptied, and others whose cells are then filled.
+use Rattle.std.specs.Prelude.{◌≡◌, ℕ, ◌/◌, ◌<◌, Bool, true, not, ◌&&◌, ◌||◌, List, [], get_or}
 use Rattle.std.specs.List.{list_any}
 use Rattle.bit_tile.specs.Tile as tile
 use Rattle.bit_tile.specs.declared.Tile.{Tile}
-use Rattle.gas_terms.specs.Cells.{Cells, Rectangle, most_side, is_inside}
-
--- row y of a set of cells
-abbrev pub row_of : Cells → ℕ → Rectangle
-row_of cells y = record { x = 0; y = y; w = cells.width; h = 1 }
+use Rattle.gas_terms.specs.Cells.{Rectangle, most_side, is_inside}
+use Rattle.phase_step.specs.Actions.{Leaves}
 
 -- the rectangles of drains, and of sources that are due
 pub record Areas : Type 0 where
@@ -20,6 +18,18 @@ is_in_any areas x y = list_any (λ r. is_inside r x y) areas
 -- whether the cell (x, y) is held when the drains have emptied their cells, and then the sources have filled theirs
 abbrev pub is_left : Bool → List Rectangle → List Rectangle → ℕ → ℕ → Bool
 is_left was drains sources x y = (was && not (is_in_any drains x y)) || is_in_any sources x y
+
+-- what they leave of each cell
+abbrev pub leaves_of : Areas → Leaves
+leaves_of areas x y held = is_left held areas.drains areas.sources x y
+
+-- no rectangle
+abbrev pub nowhere : Areas
+nowhere = record { drains = []; sources = [] }
+
+-- what a list of them leaves after each phase: after phase k the one in place k of it, and none after its end
+abbrev pub listed : List Areas → ℕ → Leaves
+listed turns k = leaves_of (get_or turns k nowhere)
 
 -- The set has each tile in which a rectangle has a cell: a cell of the set stands for one of the first 64 by 64 tiles.
 abbrev pub HasTilesOf : Tile → List Rectangle → Type 0

@@ -5,7 +5,7 @@ use Rattle.bit_tile.specs.Tile as tile
 use Rattle.bit_tile.specs.declared.Tile.{Tile}
 use Rattle.gas_terms.specs.Cells.{Rectangle}
 use Rattle.phase_step.specs.Actions.{IsStill, IsTileCorner, IsLeftOf}
-use Rattle.gas_ledger.specs.Exchanges.{is_in_any, is_left, HasTilesOf}
+use Rattle.phase_step.specs.Exchanges.{is_in_any, is_left, HasTilesOf}
 
 -- a tile that no rectangle meets stays
 implies_not : (some met : Bool) → (some ≡ true → met ≡ true) → met ≡ false → some ≡ false
@@ -43,9 +43,9 @@ pub same_stays : (drains sources : List Rectangle) (t new : Tile) (left top : �
 same_stays drains sources t new left top left_of same x y p q = sym (same x y p q) ∙ left_of x y p q
 
 -- and without rectangles every cell stays
-nowhere : (areas : List Rectangle) (x y : ℕ) → (length areas == 0) ≡ true → is_in_any areas x y ≡ false
-nowhere [] x y e = refl
-nowhere (r ∷ areas) x y e = absurd (grind (arith, nat_tests))
+in_none : (areas : List Rectangle) (x y : ℕ) → (length areas == 0) ≡ true → is_in_any areas x y ≡ false
+in_none [] x y e = refl
+in_none (r ∷ areas) x y e = absurd (grind (arith, nat_tests))
 
 pub still : (drains sources : List Rectangle) → (length drains == 0) ≡ true → (length sources == 0) ≡ true → IsStill (λ x y held. is_left held drains sources x y)
-still drains sources e f x y held = stays held (is_in_any drains x y) (is_in_any sources x y) (nowhere drains x y e) (nowhere sources x y f)
+still drains sources e f x y held = stays held (is_in_any drains x y) (is_in_any sources x y) (in_none drains x y e) (in_none sources x y f)

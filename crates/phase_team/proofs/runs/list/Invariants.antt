@@ -1,0 +1,9 @@
+use Rattle.std.proofs.Common.{◌≡◌, length}
+use Rattle.phase_team.specs.Work.{Lists}
+use Rattle.phase_team.proofs.runs.list.Given as goal
+
+abbrev pub invariant-loop-k : goal.invariant-loop-k
+invariant-loop-k g l = record {
+  so_far : Lists l.turns.items (g.A.Action.leaves l.action) l.k;
+  len : length l.turns.items ≡ l.k;
+}

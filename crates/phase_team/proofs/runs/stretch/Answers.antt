@@ -1,0 +1,23 @@
+use Rattle.std.proofs.Common.{rules, List, ◌∙◌, sym, subst}
+use Rattle.gas_terms.specs.Cells.{joined}
+use Rattle.phase_step.specs.Exchanges.{Areas, listed}
+use Rattle.phase_step.proofs.ActionParts.{after_same, flow_same}
+use Rattle.phase_team.specs.Work.{Lists}
+use Rattle.phase_team.proofs.runs.stretch.Goals as goal
+
+pub returns-in-Some-clause-particles : goal.returns-in-Some-clause-particles
+returns-in-Some-clause-particles g c =
+    let run = c.args.run in
+    let leaves = g.A.Action.leaves run.action.now in
+    let all : Lists c.list.new.turns.items leaves run.n = search rules in
+    let same : Lists c.as_slice.result.now leaves run.n = subst (λ (turns : List Areas). Lists turns leaves run.n) (sym c.as_slice.ensures.value) all in
+    c.swap.ensures.x_after
+    ∙ (c.in-Some.ensures.out ∙ after_same run.parity (joined run.walls.now run.obstacles.now) (listed c.as_slice.result.now) leaves c.args.particles.now run.n same)
+
+pub returns-in-Some-clause-flow : goal.returns-in-Some-clause-flow
+returns-in-Some-clause-flow g c =
+    let run = c.args.run in
+    let leaves = g.A.Action.leaves run.action.now in
+    let all : Lists c.list.new.turns.items leaves run.n = search rules in
+    let same : Lists c.as_slice.result.now leaves run.n = subst (λ (turns : List Areas). Lists turns leaves run.n) (sym c.as_slice.ensures.value) all in
+    c.in-Some.ensures.flow ∙ flow_same run.parity run.walls.now run.obstacles.now (listed c.as_slice.result.now) leaves c.args.particles.now run.n same
