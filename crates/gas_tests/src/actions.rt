@@ -7,7 +7,8 @@ use gas_ledger::{Flow, Gas, Port, Ports, Sums, tally};
 use gas_plane::{Plane, Tile};
 use gas_terms::{Pair, Rect, Size, Tick, Took};
 use phase_step::{
-    Acting, Action, Change, Moved, Run, Serial, Stepper, act_on, change_of, sums_by_counts,
+    Action, Change, Exchange, Few, Later, Listed, Moved, Run, Serial, Stepper, act_on, change_of,
+    sums_by_counts,
 };
 use std::process::Abort;
 
@@ -136,30 +137,13 @@ fn wall_takes_in_a_run_with_ports(rt: HostRuntime) {
     assert!(rt; holds(gas.particles(), 0, 0));
 }
 
-// What leaves no cell held.
-#[derive(Drop)]
-struct Empties;
-
-impl Acting for Empties {
-    ghost leaves = { λ _ x y held. false };
-
-    fn is_still(&self) -> bool {
-        false
-    }
-
-    fn on_tile(&self, _left: u32, _top: u32, _tile: &Tile) -> Option<Tile> {
-        Some(Tile::empty())
-    }
-}
-
-impl Action for Empties {
-    ghost leaves = { λ _ k x y held. false };
-
-    type Turn = Empties;
-
-    fn after_phase(&self, _k: u16) -> Empties {
-        Empties
-    }
+// Empties all cells of a lattice.
+fn emptied(rt: &impl Abort, size: Size) -> Exchange {
+    let (w, h) = (u32::from(size.width()), u32::from(size.height()));
+    let all = Rect::within(size, 0, 0, w, h).expect(rt, "a rectangle");
+    let mut drains = Few::none(all);
+    drains.push(all);
+    Exchange::new(drains, Few::none(all))
 }
 
 // two particles at tick 0, which both go right and down
@@ -179,12 +163,13 @@ fn action_after_the_first_phase(rt: HostRuntime) {
     let mut spare = Plane::empty(rt.alloc(), size).expect(&rt, "memory");
     let walls = Plane::empty(rt.alloc(), size).expect(&rt, "memory");
     let obstacles = Plane::empty(rt.alloc(), size).expect(&rt, "memory");
+    let turns = [emptied(&rt, size)];
     let run = Run {
         walls: &walls,
         obstacles: &obstacles,
         parity: 0,
         n: 3,
-        action: &Empties,
+        action: &Listed { turns: &turns },
     };
     let flow = Serial.run_with(&mut particles, run, &mut spare);
     assert_eq!(rt; flow.moved.drained, sums(2, 2, 2));
@@ -196,11 +181,12 @@ fn action_after_the_first_phase(rt: HostRuntime) {
 #[test]
 fn action_at_a_tick_of_each_parity(rt: HostRuntime) {
     let mut particles = two(&rt);
-    let moved = act_on(&mut particles, &Empties, 0);
+    let all = emptied(&rt, particles.size());
+    let moved = act_on(&mut particles, &all, 0);
     assert_eq!(rt; moved.drained, sums(2, 2, 2));
     assert_eq!(rt; count(&rt, &particles), 0);
     let mut others = two(&rt);
-    let moved = act_on(&mut others, &Empties, 1);
+    let moved = act_on(&mut others, &all, 1);
     assert_eq!(rt; moved.drained, sums(2, -2, -2));
 }
 
@@ -269,4 +255,66 @@ fn change_of_a_tile(rt: HostRuntime) {
     let change = change_of(&old, &new);
     assert_eq!(rt; change.gained, [1, 1, 0, 0]);
     assert_eq!(rt; change.lost, [1, 0, 0, 0]);
+}
+
+fn area(rt: &impl Abort, x: u32, w: u32) -> Rect {
+    let size = Size::new(128, 64).expect(rt, "a size");
+    Rect::within(size, x, 0, w, 1).expect(rt, "a rectangle")
+}
+
+// Empties the first two cells of row 0, and fills the second of them and the third.
+fn shift(rt: &impl Abort) -> Exchange {
+    let (two, next) = (area(rt, 0, 2), area(rt, 1, 2));
+    let mut drains = Few::none(two);
+    drains.push(two);
+    let mut sources = Few::none(next);
+    sources.push(next);
+    Exchange::new(drains, sources)
+}
+
+#[test]
+fn exchange_of_a_tile(rt: HostRuntime) {
+    let old = Tile::rect(0, 0, 2, 2);
+    let mut want = Tile::rect(1, 0, 2, 1);
+    want.join(&Tile::rect(0, 1, 2, 1));
+    for exchange in [shift(&rt), shift(&rt).copy()] {
+        assert!(rt; !exchange.is_still());
+        let new = exchange.on_tile(0, 0, &old).expect(&rt, "another tile");
+        assert!(rt; new.has_same_cells(&want));
+        // what is so already stays, and so does a tile that no rectangle meets
+        assert!(rt; exchange.on_tile(0, 0, &want).is_none());
+        assert!(rt; exchange.on_tile(64, 0, &old).is_none());
+    }
+}
+
+#[test]
+fn exchange_without_ports_is_still(rt: HostRuntime) {
+    let none = Exchange::none();
+    assert!(rt; none.is_still() && none.on_tile(0, 0, &Tile::full()).is_none());
+}
+
+#[test]
+fn few_rectangles(rt: HostRuntime) {
+    let (first, second) = (area(&rt, 3, 1), area(&rt, 5, 1));
+    let mut few = Few::none(first);
+    assert!(rt; few.len() == 0);
+    few.push(second);
+    let before = few.copy();
+    assert!(rt; before.len() == 1);
+    assert!(rt; before.as_slice().iter().all(|area| area.x() == 5));
+    few.clear();
+    assert!(rt; few.len() == 0 && before.len() == 1);
+}
+
+#[test]
+fn listed_exchanges_end(rt: HostRuntime) {
+    let turns = [Exchange::none(), shift(&rt)];
+    let listed = Listed { turns: &turns };
+    assert!(rt; listed.after_phase(0).is_still() && !listed.after_phase(1).is_still());
+    assert!(rt; listed.after_phase(2).is_still());
+    let later = Later {
+        action: &listed,
+        by: 1,
+    };
+    assert!(rt; !later.after_phase(0).is_still() && later.after_phase(1).is_still());
 }

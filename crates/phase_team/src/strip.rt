@@ -94,13 +94,7 @@ fn phase_of(old: &Plane, walls: &Plane, obstacles: &Plane, parity: u8, out: &mut
 
 // What an exchange does to a strip whose own rows begin at row of tiles `first` of `down`, at a tick of this parity: what
 // comes in and goes out in its own tiles.
-fn act_on_strip(
-    strip: &mut Plane,
-    exchange: &Exchange,
-    first: u32,
-    down: u32,
-    parity: u8,
-) -> Moved
+fn act_on_strip(strip: &mut Plane, exchange: &Exchange, first: u32, down: u32, parity: u8) -> Moved
     requires parity { parity < 2 }
     requires down { (first < down) × (down ≤ 64) }
     requires rows { 2 ≤ strip.old.height / 64 }

@@ -1,13 +1,13 @@
 //! Worked examples with values that were found by hand, and comparisons with the step on one thread.
 
-ghost use Rattle.std.specs.Prelude.{◌≡◌, ◌<◌, ◌≤◌, ◌%◌, ◌==◌, ◌&&◌, ◌||◌, not, if◌then◌else◌};
-ghost use Rattle.gas_terms.specs.Cells.{HasSidesOf, is_inside};
+ghost use Rattle.std.specs.Prelude.{◌≡◌, ◌<◌, ◌≤◌};
+ghost use Rattle.gas_terms.specs.Cells.{HasSidesOf};
 
 use crate::runs::{Strips, run_by};
 use crate::{Gate, NoGate, Team};
-use gas_plane::{Plane, Tile, part_of};
+use gas_plane::Plane;
 use gas_terms::{Pair, Rect, Size, Sums, Took};
-use phase_step::{Acting, Action, Flow, Run, Serial, Stepper, Still, parity_at};
+use phase_step::{Action, Exchange, Few, Flow, Listed, Run, Serial, Stepper, Still, parity_at};
 use std::process::Abort;
 use std::sync::atomic::{AtomicBool, AtomicU64, Ordering};
 use std::thread;
@@ -438,58 +438,26 @@ fn run_of_sixty_five_by_two_strips(rt: HostRuntime) {
 }
 
 // Empties one rectangle and fills another.
-#[derive(Drop)]
-struct Stroke {
-    acts: bool,
-    drained: Rect,
-    filled: Rect,
+fn stroke(drained: Rect, filled: Rect) -> Exchange {
+    let mut drains = Few::none(drained);
+    drains.push(drained);
+    let mut sources = Few::none(filled);
+    sources.push(filled);
+    Exchange::new(drains, sources)
 }
 
-impl Acting for Stroke {
-    ghost leaves = { λ s x y held. if s.acts
-        then (held && not (is_inside s.drained x y)) || is_inside s.filled x y else held };
-
-    fn is_still(&self) -> bool {
-        !self.acts
+// That after each third phase of n, from the second on.
+fn strokes(rt: &(impl Abort + AllocGlobal), drained: Rect, filled: Rect, n: u16) -> Vec<Exchange> {
+    let mut turns = Vec::with_capacity(rt.alloc(), n as usize).expect(rt, "memory");
+    for k in 0..n {
+        let turn = if k % 3 == 1 {
+            stroke(drained, filled)
+        } else {
+            Exchange::none()
+        };
+        turns.push(turn).expect(rt, "memory");
     }
-
-    fn on_tile(&self, left: u32, top: u32, tile: &Tile) -> Option<Tile> {
-        if !self.acts {
-            return None;
-        }
-        let mut new = *tile;
-        if let Some(part) = part_of(self.drained, left, top) {
-            new.cut(&part);
-        }
-        if let Some(part) = part_of(self.filled, left, top) {
-            new.join(&part);
-        }
-        Some(new)
-    }
-}
-
-// The stroke after each third phase, from the second on.
-#[derive(Drop)]
-struct Strokes {
-    drained: Rect,
-    filled: Rect,
-}
-
-impl Action for Strokes {
-    ghost leaves = { λ s k x y held. if k % 3 == 1
-        then (held && not (is_inside s.drained x y)) || is_inside s.filled x y else held };
-
-    type Turn = Stroke;
-
-    fn after_phase(&self, k: u16) -> Stroke {
-        let acts = k % 3 == 1;
-        let (drained, filled) = (self.drained, self.filled);
-        Stroke {
-            acts,
-            drained,
-            filled,
-        }
-    }
+    turns
 }
 
 // the sums are those of tools/channel_gas.py, with such an action after its steps
@@ -500,9 +468,11 @@ fn strokes_in_a_run_by_two_strips(rt: HostRuntime) {
     let mut now = scattered_over(&rt, 1, 3, 128);
     let mut spare = scattered_over(&rt, 4, 2, 128);
     let size = now.size();
-    let strokes = Strokes {
-        drained: Rect::within(size, 60, 50, 10, 30).expect(&rt, "a rectangle"),
-        filled: Rect::within(size, 120, 118, 20, 8).expect(&rt, "a rectangle"),
+    let drained = Rect::within(size, 60, 50, 10, 30).expect(&rt, "a rectangle");
+    let filled = Rect::within(size, 120, 118, 20, 8).expect(&rt, "a rectangle");
+    let turns = strokes(&rt, drained, filled, 65);
+    let action = Listed {
+        turns: turns.as_slice(),
     };
     let ground = Ground {
         walls: &walls,
@@ -510,7 +480,7 @@ fn strokes_in_a_run_by_two_strips(rt: HostRuntime) {
         parity: 0,
         n: 65,
     };
-    let flow = by_strips(&rt, 2, ground, &strokes, &mut now, &mut spare);
+    let flow = by_strips(&rt, 2, ground, &action, &mut now, &mut spare);
     assert!(rt; flow.took.walls == Pair { x: -56, y: 80 });
     assert!(rt; flow.took.obstacles == Pair { x: -20, y: -52 });
     assert!(rt;
@@ -602,4 +572,56 @@ fn team_runs_as_one_thread(rt: HostRuntime) {
         let by_one = make(&rt, &mut Serial, run, &mut alone, &mut spare);
         assert!(rt; took == by_one && have_same_rows(&now, &alone));
     }
+}
+
+// a run with actions as a laboratory makes it
+fn act_along<S: Stepper, A: Action>(
+    rt: &impl Abort,
+    stepper: &mut S,
+    ground: Ground<'_>,
+    action: &A,
+    particles: &mut Plane,
+    spare: &mut Plane,
+) -> Flow {
+    let size = particles.size();
+    assert!(rt; ground.parity < 2);
+    assert!(rt; ground.walls.size() == size);
+    assert!(rt; ground.obstacles.size() == size);
+    assert!(rt; spare.size() == size);
+    let run = Run {
+        walls: ground.walls,
+        obstacles: ground.obstacles,
+        parity: ground.parity,
+        n: ground.n,
+        action,
+    };
+    stepper.run_with(particles, run, spare)
+}
+
+// of the second stretch the first phase has a stroke, and the last
+#[test]
+fn team_acts_as_one_thread(rt: HostRuntime) {
+    let size = Size::new(2048, 1024).expect(&rt, "a size");
+    let walls = seeded(&rt, size, 77172645463325252, 7);
+    let obstacles = seeded(&rt, size, 66172645463325252, 10);
+    let mut now = seeded(&rt, size, 88172645463325252, 1);
+    let mut alone = seeded(&rt, size, 88172645463325252, 1);
+    let mut spare = seeded(&rt, size, 1, 1);
+    let drained = Rect::within(size, 60, 250, 1700, 30).expect(&rt, "a rectangle");
+    let filled = Rect::within(size, 1200, 200, 20, 800).expect(&rt, "a rectangle");
+    let turns = strokes(&rt, drained, filled, 68);
+    let action = Listed {
+        turns: turns.as_slice(),
+    };
+    let ground = Ground {
+        walls: &walls,
+        obstacles: &obstacles,
+        parity: 1,
+        n: 68,
+    };
+    let mut team = team(&rt, rt, rt.alloc(), 4, NoGate);
+    let flow = act_along(&rt, &mut team, ground, &action, &mut now, &mut spare);
+    let by_one = act_along(&rt, &mut Serial, ground, &action, &mut alone, &mut spare);
+    assert!(rt; flow == by_one && have_same_rows(&now, &alone));
+    assert!(rt; flow.moved.injected.count > 0 && flow.moved.drained.count > 0);
 }
