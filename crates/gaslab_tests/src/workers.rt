@@ -121,8 +121,8 @@ fn most_until(rt: &(impl Files + AllocGlobal), is_over: &AtomicBool) -> u32 {
 // two workers make 512 steps, and then the flag is set
 fn step_by_two(rt: &(impl Abort + AllocGlobal + Threads), is_over: &AtomicBool) {
     let room = Room {
-        width: 2048,
-        height: 1024,
+        width: 4096,
+        height: 2048,
         workers: 2,
         cap: 1,
     };

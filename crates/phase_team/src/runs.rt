@@ -18,21 +18,22 @@ use std::{mem, thread};
 /// So many phases a strip can make alone: each takes a row from what it has of its neighbors.
 const AT_ONCE: u16 = 64;
 
-/// Threads are started, and strips filled and put together, once in a stretch. That costs some 60 microseconds and as much as
-/// a few phases of each tile, so that shorter stretches, and stretches of fewer phases of a tile, are left to one thread.
+/// Threads are started, and strips filled and put together, once in a stretch. That takes about a millisecond, so that
+/// shorter stretches are left to one thread, and those in which it would turn fewer tiles more than a worker does.
 const SHORTEST: u16 = 16;
 
 const LEAST: u32 = 32_768;
 
-/// Whether a run is long enough, and the strips so high that their margins leave a gain of a third.
+/// Whether a run is long enough, and the strips, with their margins, are so much lower than the lattice.
 pub fn is_worth_strips(size: Size, workers: u8, n: u16) -> bool
     requires { 0 < workers }
 {
+    let across = u32::from(size.width() / 64);
     let down = u32::from(size.height() / 64);
     let workers = u32::from(workers);
-    let rows = (down + workers - 1) / workers;
-    let work = size.tiles() * u32::from(n.min(AT_ONCE));
-    SHORTEST <= n && LEAST <= work && 4 * (rows + 2) <= 3 * down
+    let rows = (down + workers - 1) / workers + 2;
+    let saved = across * down.saturating_sub(rows) * u32::from(n.min(AT_ONCE));
+    SHORTEST <= n && LEAST <= saved
 }
 
 // Puts a strip's own rows into `out`, whose tiles before them are those after the course.

@@ -553,13 +553,13 @@ fn have_same_rows(some: &Plane, others: &Plane) -> bool {
 
 #[test]
 fn team_runs_as_one_thread(rt: HostRuntime) {
-    let size = Size::new(2048, 1024).expect(&rt, "a size");
+    let size = Size::new(640, 4096).expect(&rt, "a size");
     let walls = seeded(&rt, size, 77172645463325252, 7);
     let obstacles = seeded(&rt, size, 66172645463325252, 10);
     let mut now = seeded(&rt, size, 88172645463325252, 1);
     let mut alone = seeded(&rt, size, 88172645463325252, 1);
     let mut spare = seeded(&rt, size, 1, 1);
-    let mut team = team(&rt, rt, rt.alloc(), 4, NoGate);
+    let mut team = team(&rt, rt, rt.alloc(), 16, NoGate);
     // the strips of the first run serve the second, of which the second stretch is of one phase
     for (n, parity) in [(64, 0), (65, 1)] {
         let run = Ground {
@@ -601,14 +601,14 @@ fn act_along<S: Stepper, A: Action>(
 // of the second stretch the first phase has a stroke, and the last
 #[test]
 fn team_acts_as_one_thread(rt: HostRuntime) {
-    let size = Size::new(2048, 1024).expect(&rt, "a size");
+    let size = Size::new(640, 4096).expect(&rt, "a size");
     let walls = seeded(&rt, size, 77172645463325252, 7);
     let obstacles = seeded(&rt, size, 66172645463325252, 10);
     let mut now = seeded(&rt, size, 88172645463325252, 1);
     let mut alone = seeded(&rt, size, 88172645463325252, 1);
     let mut spare = seeded(&rt, size, 1, 1);
-    let drained = Rect::within(size, 60, 250, 1700, 30).expect(&rt, "a rectangle");
-    let filled = Rect::within(size, 1200, 200, 20, 800).expect(&rt, "a rectangle");
+    let drained = Rect::within(size, 60, 250, 500, 30).expect(&rt, "a rectangle");
+    let filled = Rect::within(size, 400, 200, 20, 1800).expect(&rt, "a rectangle");
     let turns = strokes(&rt, drained, filled, 68);
     let action = Listed {
         turns: turns.as_slice(),
@@ -619,7 +619,7 @@ fn team_acts_as_one_thread(rt: HostRuntime) {
         parity: 1,
         n: 68,
     };
-    let mut team = team(&rt, rt, rt.alloc(), 4, NoGate);
+    let mut team = team(&rt, rt, rt.alloc(), 16, NoGate);
     let flow = act_along(&rt, &mut team, ground, &action, &mut now, &mut spare);
     let by_one = act_along(&rt, &mut Serial, ground, &action, &mut alone, &mut spare);
     assert!(rt; flow == by_one && have_same_rows(&now, &alone));
