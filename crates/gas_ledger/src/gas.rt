@@ -111,7 +111,8 @@ impl Gas {
         ensures extent { result ≡ extent self.now.particles }
         ensures sound { IsSoundGas self.now }
     {
-        // what the types of the parts keep
+        // The types of the parts keep it: the tick is in its range, walls and obstacles are lattices of the size, and the
+        // ports are a port set.
         let _ = self.tick.get();
         let _ = self.walls.size();
         let _ = self.obstacles.size();

@@ -108,12 +108,16 @@ EndsAs size WriteFault items turns later written = IsCutShort turns written ⊎ 
 abbrev pub EndsWith : List ℕ → SessionEnd → SessionEnd → Type 0
 EndsWith missing wanted end = ((missing ≡ []) × (end ≡ wanted)) ⊎ (end ≡ WriteFault)
 
+-- how many bytes a read asks for at most: `READ_LIMIT`
+abbrev pub read_limit : ℕ
+read_limit = 4096
+
 -- So many reads gave the input, each of them a byte at least and 4,096 bytes at most. There are at most 2^24: all of them
 -- where another was needed, and fewer where one gave nothing.
 pub record AreReads (reads : ℕ) (input : List ℕ) (end : SessionEnd) : Type 0 where
   pub few : reads ≤ 2 ^ 24
   pub some : reads ≤ length input
-  pub short : length input ≤ 4096 * reads
+  pub short : length input ≤ read_limit * reads
   pub all : end ≡ TooManyReads → reads ≡ 2 ^ 24
   pub fewer : (end ≡ InputEnd) ⊎ (end ≡ ReadFault) → reads < 2 ^ 24
 

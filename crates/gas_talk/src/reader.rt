@@ -2,6 +2,7 @@
 
 ghost use Rattle.std.specs.Prelude.{◌≡◌, ℕ, ◌+◌, ◌<◌, ◌≤◌, List, [], ◌++◌, length, IfOk, OnOk, OnErr};
 ghost use Rattle.std.specs.Io.KnownBytes.{Consumes, Keeps as KeepsBytes, IsAtEnd};
+ghost use Rattle.gas_talk.specs.Ends.{read_limit};
 ghost use Rattle.gas_talk.specs.Unread.{Keeps, kept_len, Finds, IsShorter};
 
 use crate::reads::{READ_LIMIT, SessionReads};
@@ -66,7 +67,7 @@ impl LineReader {
         }
     }
 
-    /// Reads once, at most 4,096 bytes, and keeps what the read gives.
+    /// Reads once, at most `READ_LIMIT` bytes, and keeps what the read gives.
     pub fn read_more<R: Read>(
         &mut self,
         reads: &mut SessionReads<'_, R>,
@@ -77,7 +78,7 @@ impl LineReader {
         ensures read { IfOk result (λ n. (more : List ℕ) × (length more ≡ n)
             × Consumes (R.remaining reads.old.reader.now) (R.remaining reads.new.reader.now) more
             × ((unread : List ℕ) → Keeps self.old unread → Keeps self.new (unread ++ more))) }
-        ensures short { IfOk result (λ n. n ≤ 4096) }
+        ensures short { IfOk result (λ n. n ≤ read_limit) }
         ensures end { IfOk result (λ n. n ≡ 0 → IsAtEnd (R.remaining reads.new.reader.now)) }
         ensures err { OnErr result (KeepsBytes (R.remaining reads.old.reader.now)
             (R.remaining reads.new.reader.now)) }

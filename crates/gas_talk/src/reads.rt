@@ -3,6 +3,7 @@
 ghost use Rattle.std.specs.Prelude.{◌≡◌, ◌+◌, ◌^◌, ◌<◌, ◌≤◌, nat_lt, length};
 ghost use Rattle.std.specs.Io.{ReadsAtMost};
 ghost use Rattle.std.specs.Io.KnownBytes.{ReadConsumes};
+ghost use Rattle.gas_talk.specs.Ends.{read_limit};
 
 use std::io;
 use std::io::Read;
@@ -43,7 +44,7 @@ impl<'a, R: Read> SessionReads<'a, R> {
     /// Reads once into a page.
     pub fn read(&mut self, page: &mut [u8]) -> io::Result<usize>
         requires left { 0 < self.old.left }
-        requires page { length page.old ≤ 4096 }
+        requires page { length page.old ≤ read_limit }
         ensures same { self.new.reader.ghost_name ≡ self.old.reader.ghost_name }
         ensures left { self.new.left + 1 ≡ self.old.left }
         ensures bound { ReadsAtMost result page.new }
