@@ -1,17 +1,14 @@
 -- What a laboratory's type keeps.
-use Rattle.std.proofs.Common.{◌≡◌, ℕ, true, ◌≤◌, ◌<◌, ◌^◌, nat_lt, List, [], ◌∷◌, ◌++◌, length, pos, sym, ap, ap₂, ◌∙◌, subst, arith}
+use Rattle.std.proofs.Common.{◌≡◌, ℕ, true, ◌≤◌, ◌<◌, ◌^◌, nat_lt, List, [], ◌∷◌, ◌++◌, length, sym, ap, ap₂, ◌∙◌, subst, arith}
 use Rattle.std.proofs.lemmas.Bool.Decides.{nat_tests}
 use Rattle.gas_terms.specs.Cells.{Cells, extent, HasSidesOf, IsEvenTorus}
 use Rattle.gas_terms.specs.Gas.{Gas}
-use Rattle.gas_terms.specs.Accounts.{nothing, total}
 use Rattle.gas_terms.specs.Commands.{fits, is_tick}
 use Rattle.gas_terms.specs.BookedGas.{BookedGas, opened, book}
 use Rattle.gas_terms.specs.Laboratory.{Laboratory, opening, booked, accepted, commands, IsAcceptable, IsSound}
 use Rattle.gas_terms.specs.declared.command.Entry.{Entry}
 use Rattle.gas_terms.specs.declared.command.Command.{Command}
 use Rattle.gas_terms.specs.declared.command.Command.TheVariants.{Read}
-use Rattle.gas_terms.specs.declared.accounts.Ledger.{Ledger}
-use Rattle.gas_terms.specs.declared.accounts.Sums.{Sums}
 use Rattle.gas_terms.proofs.Bounds.{ledger_fits}
 use Rattle.gas_terms.proofs.Bookings.{book_all-sides, book_all-torus}
 use Rattle.gas_terms.proofs.LabBounds.{next_accounts_fit}
@@ -71,13 +68,10 @@ kept_by_change start cap b b' journal journal' others others' entry kept accepta
     }
 
 -- A laboratory opens with it.
-pub kept_at_opening : (start gas : Gas) (cap : ℕ) (sums : Sums) (journal : List Entry) (others : Cells) →
-    IsLattice start.particles → is_tick start.tick ≡ true → cap ≤ 65536 → gas ≡ start → sums ≡ total start.tick start.particles → journal ≡ [] → HasSidesOf others start.particles →
-    IsKept
-    (lab_of start cap (record { gas = gas; ledger = record { start = sums; injected = nothing; drained = nothing; walls = record { x = pos 0; y = pos 0 }; obstacles = record { x = pos 0; y = pos 0 } } }) journal)
-    others
-kept_at_opening start gas cap sums journal others lattice tick small gas_is sums_are none sides =
-    let ledger_of : Sums → Ledger = λ s. record { start = s; injected = nothing; drained = nothing; walls = record { x = pos 0; y = pos 0 }; obstacles = record { x = pos 0; y = pos 0 } } in
+pub kept_at_opening : (start : Gas) (cap : ℕ) (b : BookedGas) (journal : List Entry) (others : Cells) →
+    IsLattice start.particles → is_tick start.tick ≡ true → cap ≤ 65536 → b ≡ opened start → journal ≡ [] → HasSidesOf others start.particles →
+    IsKept (lab_of start cap b journal) others
+kept_at_opening start cap b journal others lattice tick small booked none sides =
     let there : IsKept (opening start cap) others = record {
       sound = opening_sound start cap (torus_of start.particles lattice);
       cap = small;
@@ -85,7 +79,5 @@ kept_at_opening start gas cap sums journal others lattice tick small gas_is sums
       tick = tick;
       spare = sides;
     } in
-    let Kept : Gas → Sums → List Entry → Type 0 = λ g s j. IsKept (lab_of start cap (record { gas = g; ledger = ledger_of s }) j) others in
-    subst (λ g. Kept g sums journal) (sym gas_is)
-    (subst (λ s. Kept start s journal) (sym sums_are)
-    (subst (λ j. Kept start (total start.tick start.particles) j) (sym none) there))
+    subst (λ c. IsKept (lab_of start cap c journal) others) (sym booked)
+    (subst (λ j. IsKept (lab_of start cap (opened start) j) others) (sym none) there)

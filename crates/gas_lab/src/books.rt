@@ -1,11 +1,11 @@
 //! A gas with its ledger, and what each change does to both.
 
-ghost use Rattle.std.specs.Prelude.{◌≡◌, ◌≤◌, ℕ, true, false, ◌+ℤ◌, ◌-ℤ◌, pos};
+ghost use Rattle.std.specs.Prelude.{◌≡◌, ◌≤◌, ℕ, true, false, ◌+ℤ◌, ◌-ℤ◌, pos, IfOk};
 ghost use Rattle.std.specs.Fn.{iterate};
 ghost use Rattle.gas_terms.specs.Cells.{extent, HasSidesOf, IsEvenTorus};
 ghost use Rattle.gas_terms.specs.Accounts.{FitsI64, SumsFit, plus};
 ghost use Rattle.gas_terms.specs.Commands.{enact, fits, is_change, is_move, is_tick};
-ghost use Rattle.gas_terms.specs.BookedGas.{stepped, stepped_back, book};
+ghost use Rattle.gas_terms.specs.BookedGas.{opened, stepped, stepped_back, book};
 ghost use Rattle.gas_terms.specs.Laboratory.{has_all_ports};
 ghost use Rattle.phase_step.specs.Runs.{ran};
 ghost use Rattle.phase_step.specs.PortedRuns.{with_moved, stepped_on};
@@ -14,10 +14,11 @@ ghost use Rattle.phase_step.specs.Moves.{moved_by};
 ghost use Rattle.gas_ledger.specs.PortLists.{adding, has_all};
 ghost use Rattle.gas_lab.specs.Labs.{books_of, TickHolds, TakesFit, Affords};
 
-use gas_ledger::{Gas, Moved, Port};
+use gas_ledger::{Gas, Moved, Port, tally};
 use gas_plane::Plane;
-use gas_terms::{Command, Ledger};
+use gas_terms::{Command, Ledger, NoMemory, Pair, Sums};
 use phase_step::{Stepper, UNMOVED};
+use std::alloc::Global;
 
 /// A gas with its ledger.
 #[derive(Drop)]
@@ -39,7 +40,28 @@ fn with_moved(ledger: Ledger, moved: Moved) -> Ledger
     }
 }
 
+const ZERO: Sums = Sums {
+    count: 0,
+    px: 0,
+    py: 0,
+};
+
 impl Books {
+    /// A copy of the gas, and a ledger with its sums at the start and nothing else.
+    pub fn open(alloc: Global, start: &Gas) -> Result<Books, NoMemory>
+        ensures { IfOk result (λ books. books_of books ≡ opened start.now) }
+    {
+        let gas = start.copy(alloc)?;
+        let ledger = Ledger {
+            start: tally(start.particles(), start.tick()),
+            injected: ZERO,
+            drained: ZERO,
+            walls: Pair { x: 0, y: 0 },
+            obstacles: Pair { x: 0, y: 0 },
+        };
+        Ok(Books { gas, ledger })
+    }
+
     // steps forward on which no port acts: walls and obstacles take their part
     fn run<S: Stepper>(&mut self, n: u16, spare: &mut Plane, stepper: &mut S)
         requires tick { is_tick (self.old.gas.tick +ℤ pos n) ≡ true }

@@ -13,9 +13,7 @@ ghost use Rattle.gas_lab.specs.Labs.{Changes, entry_of};
 use crate::books::Books;
 use gas_ledger::{Gas, probe, tally};
 use gas_plane::Plane;
-use gas_terms::{
-    Answer, Command, Entry, Ledger, MOST_PORTS, NoMemory, Pair, Refusal, RowBits, Size, Sums,
-};
+use gas_terms::{Answer, Command, Entry, Ledger, MOST_PORTS, NoMemory, Refusal, RowBits, Size};
 use phase_step::Stepper;
 use std::alloc::Global;
 use std::marker::Model;
@@ -47,12 +45,6 @@ impl<S: Stepper> Model for Lab<S> {
     ghost invariant = { λ l. IsKept (lab_of l.start l.cap (books_of l.books) l.journal.items) l.spare };
 }
 
-const ZERO: Sums = Sums {
-    count: 0,
-    px: 0,
-    py: 0,
-};
-
 impl<S: Stepper> Lab<S> {
     /// A laboratory with this gas, an empty journal of at most `cap` entries, from 1 to 65,536, and a ledger with the
     /// gas's sums at the start and nothing else.
@@ -61,19 +53,12 @@ impl<S: Stepper> Lab<S> {
         requires cap { cap ≤ most_entries }
         ensures { IfOk result (λ lab. lab ≡ opening start cap) }
     {
-        let gas = start.copy(alloc)?;
+        let books = Books::open(alloc, &start)?;
         let spare = Plane::empty(alloc, start.size())?;
-        let ledger = Ledger {
-            start: tally(start.particles(), start.tick()),
-            injected: ZERO,
-            drained: ZERO,
-            walls: Pair { x: 0, y: 0 },
-            obstacles: Pair { x: 0, y: 0 },
-        };
         Ok(Lab {
             start,
             cap,
-            books: Books { gas, ledger },
+            books,
             journal: Vec::new(alloc),
             spare,
             stepper,
