@@ -1,6 +1,6 @@
 //! The fields before the cells, each from the front of the bytes.
 
-ghost use Rattle.std.specs.Prelude.{◌≡◌, ◌≤◌, ◌<◌, ◌+◌, ◌*◌, ◌&&◌, nat_le, ℕ, [], Some, None, Ok, Err, IfOk, if◌then◌else◌, length, bytes_eq};
+ghost use Rattle.std.specs.Prelude.{◌≡◌, ◌≤◌, ◌<◌, ◌+◌, ◌*◌, ◌&&◌, true, nat_le, ℕ, [], Some, None, Ok, Err, IfOk, if◌then◌else◌, length, bytes_eq};
 ghost use Rattle.gas_terms.specs.Cells.{lies_within};
 ghost use Rattle.gas_terms.specs.Gas.{most_ports};
 ghost use Rattle.gas_terms.specs.Commands.{is_tick, is_period};
@@ -8,7 +8,7 @@ ghost use Rattle.gas_ledger.specs.PortLists.{no_ports};
 ghost use Rattle.gas_snapshot.specs.declared.version.Version.TheVariants.{One, Two};
 ghost use Rattle.gas_snapshot.specs.declared.fault.SnapFault.TheVariants.{Magic, Size as SizeFault, Tick as TickFault, Port as PortFault};
 ghost use Rattle.gas_snapshot.specs.Spelling.{magic};
-ghost use Rattle.gas_snapshot.specs.Reading.{Reads, greatest_side, is_size_of, field_at, number, size_in, tick_in, are_few, counts_in, area_in, source_in, drain_at, source_at, many, ports_at, head_with, head_at};
+ghost use Rattle.gas_snapshot.specs.Reading.{Reads, magic_at, size_at, tick_at, counts_at, greatest_side, is_size_of, field_at, number, size_in, tick_in, are_few, counts_in, area_in, source_in, drain_at, source_at, many, ports_at, head_with, head_at};
 
 use crate::fault::SnapFault;
 use crate::version::Version;
@@ -197,20 +197,55 @@ fn add_ports<'a>(
     Ok(rest)
 }
 
+#[tactic(auto, unfolding(crate::specs::Reading::magic_at))]
+fn read_version(bytes: &[u8]) -> Result<(Version, &[u8]), SnapFault>
+    ensures { Reads (λ x. (x.0, x.1.now)) result (magic_at bytes.now) }
+{
+    let (magic, rest) = field(8, bytes)?;
+    Ok((version(magic)?, rest))
+}
+
+#[tactic(auto, unfolding(crate::specs::Reading::size_at))]
+fn read_size(version: Version, bytes: &[u8]) -> Result<(Size, &[u8]), SnapFault>
+    ensures { Reads (λ x. (x.0, x.1.now)) result (size_at version bytes.now) }
+{
+    let (sides, rest) = field(4, bytes)?;
+    Ok((size(version, sides)?, rest))
+}
+
+#[tactic(auto, unfolding(crate::specs::Reading::tick_at))]
+fn read_tick(bytes: &[u8]) -> Result<(Tick, &[u8]), SnapFault>
+    ensures { Reads (λ x. (x.0, x.1.now)) result (tick_at bytes.now) }
+{
+    let (moment, rest) = field(8, bytes)?;
+    Ok((tick(moment)?, rest))
+}
+
+#[tactic(auto, unfolding(crate::specs::Reading::counts_at))]
+fn read_counts(bytes: &[u8]) -> Result<((u8, u8), &[u8]), SnapFault>
+    ensures counts { Reads (λ x. (x.0, x.1.now)) result (counts_at bytes.now) }
+    ensures few { IfOk result (λ x. are_few x.0 ≡ true) }
+{
+    let (numbers, rest) = field(2, bytes)?;
+    Ok((counts(numbers)?, rest))
+}
+
 /// Reads what stands before the cells, and gives the bytes after it. The ports are added to those there are.
-#[tactic(auto, unfolding(crate::specs::Reading::head_at, crate::specs::Reading::magic_at, crate::specs::Reading::size_at, crate::specs::Reading::tick_at, crate::specs::Reading::counts_at))]
+#[tactic(auto, unfolding(crate::specs::Reading::head_at))]
 pub fn read_head<'a>(bytes: &'a [u8], ports: &mut Ports) -> Result<(Head, &'a [u8]), SnapFault>
     requires { ports.old ≡ no_ports }
     ensures { Reads (λ x. (head_with x.0 ports.new, x.1.now)) result (head_at bytes.now) }
 {
-    let (magic, rest) = field(8, bytes)?;
-    let version = version(magic)?;
-    let (sides, rest) = field(4, rest)?;
-    let size = size(version, sides)?;
-    let (moment, rest) = field(8, rest)?;
-    let tick = tick(moment)?;
-    let (numbers, rest) = field(2, rest)?;
-    let counts = counts(numbers)?;
+    let (version, rest) = read_version(bytes)?;
+    let (size, rest) = match read_size(version, rest) {
+        Ok(read) => read,
+        Err(fault) => return Err(fault),
+    };
+    let (tick, rest) = match read_tick(rest) {
+        Ok(read) => read,
+        Err(fault) => return Err(fault),
+    };
+    let (counts, rest) = read_counts(rest)?;
     let rest = add_ports(size, counts, ports, rest)?;
     let head = Head {
         version,
