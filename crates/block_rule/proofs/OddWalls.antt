@@ -81,3 +81,10 @@ next_from rows from eight are k below = are k below ∙ ap (here rows) (let e : 
 pub none_here : (words : ℕ → ℕ) (from : ℕ) (eight : List ℕ) → AreWordsFrom from eight words → ((k : ℕ) → k < 8 → get_or eight k 0 ≡ 0) → (j : ℕ) → from ≤ j → j < from + 8 → words j ≡ 0
 none_here words from eight are none j low high =
     ap words (let e : j ≡ from + (j - from) = omega arith in e) ∙ (sym (are (j - from) (omega arith)) ∙ none (j - from) (omega arith))
+
+pub none_next : (rows : List ℕ) (from : ℕ) (eight : List ℕ) → AreWordsFrom from eight (here rows) → ((k : ℕ) → k < 8 → get_or eight k 0 ≡ 0) → get_or rows (from + 8) 0 ≡ 0 → (j : ℕ) → from ≤ j → j < from + 8 → next rows j ≡ 0
+none_next rows from eight are none last j low high =
+    elim (cases_eq (j + 1) (from + 8)) [
+      | inl e ↦ ap (here rows) e ∙ last
+      | inr ne ↦ none_here (here rows) from eight are none (j + 1) (omega arith) (omega arith)
+    ]

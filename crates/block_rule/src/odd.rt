@@ -81,12 +81,12 @@ pub fn hold_odd(tile: &Tile, set: &Window, out: &mut Tile) -> Pair
         let from = k * TOGETHER;
         let begin = eight(&rows.begin, from);
         let end = eight(&rows.end, from);
-        let next_begin = eight(&rows.begin, from + 1);
-        let next_end = eight(&rows.end, from + 1);
-        let any_upper = any_of(&next_begin) | any_of(&next_end);
-        let any_lower = any_of(&begin) | any_of(&end);
+        let any = any_of(&begin) | any_of(&end);
+        let any_below = rows.begin[from + TOGETHER] | rows.end[from + TOGETHER];
         // most rows have no walls
-        if any_upper | any_lower != 0 {
+        if any | any_below != 0 {
+            let next_begin = eight(&rows.begin, from + 1);
+            let next_end = eight(&rows.end, from + 1);
             counts.even_even += hold_rows(&tile.even_even, &end, from, &mut out.even_even);
             counts.odd_even += hold_rows(&tile.odd_even, &begin, from, &mut out.odd_even);
             counts.even_odd += hold_rows(&tile.even_odd, &next_end, from, &mut out.even_odd);

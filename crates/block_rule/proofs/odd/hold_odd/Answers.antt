@@ -2,10 +2,10 @@ use Rattle.std.proofs.Common.{◌≡◌, ◌*◌, ◌<◌, arith}
 use Rattle.bit_tile.proofs.Classes.{by_class, is_even_even, is_odd_even, is_even_odd, is_odd_odd}
 use Rattle.bit_tile.specs.Tile.{has}
 use Rattle.block_rule.specs.Around.{is_walled_at}
-use Rattle.block_rule.proofs.OddWalls.{here, next, next_from, none_here, walls_are}
+use Rattle.block_rule.proofs.OddWalls.{here, next, next_from, none_here, none_next, walls_are}
 use Rattle.block_rule.proofs.Holding.{or_is_zero, all_held, all_counted, class_held, class_among, nothing_held, held_more, none_more}
 use Rattle.block_rule.proofs.odd.hold_odd.Goals as goal
-use Rattle.block_rule.proofs.odd.hold_odd.Goals.{then-any_upper-any_lower-ne0, else-any_upper-any_lower-ne0}
+use Rattle.block_rule.proofs.odd.hold_odd.Goals.{then-any-any_below-ne0, else-any-any_below-ne0}
 
 pub loop-k-init : goal.loop-k-init
 loop-k-init c =
@@ -26,27 +26,29 @@ loop-k-preserved c =
     let r = c.walled_rows-rows.result in
     let was = c.loop-k.invariant in
     let k = c.loop-k.k in
-    let next_begin = next_from r.begin (k * 8) _ c.eight-next_begin.ensures in
-    let next_end = next_from r.end (k * 8) _ c.eight-next_end.ensures in
-    elim c.if-any_upper-any_lower-ne0.branch [
-      | then-any_upper-any_lower-ne0 w ↦
+    elim c.if-any-any_below-ne0.branch [
+      | then-any-any_below-ne0 w ↦
+          let next_begin = next_from r.begin (k * 8) _ w.eight-next_begin.ensures in
+          let next_end = next_from r.end (k * 8) _ w.eight-next_end.ensures in
           rw (w.out-is, w.counts-is)
           record {
             even_even = held_more t.even_even (here r.end) o.even_even _ _ _ _ k was.even_even (w.hold_rows.ensures.cells (here r.end) c.eight-end.ensures) (w.hold_rows.ensures.count (here r.end) c.eight-end.ensures) w.hold_rows.ensures.bound;
-            odd_even = held_more t.odd_even (here r.begin) o.odd_even _ _ _ _ k was.odd_even (w.hold_rows-then-any_upper-any_lower-ne0.ensures.cells (here r.begin) c.eight-begin.ensures) (w.hold_rows-then-any_upper-any_lower-ne0.ensures.count (here r.begin) c.eight-begin.ensures) w.hold_rows-then-any_upper-any_lower-ne0.ensures.bound;
-            even_odd = held_more t.even_odd (next r.end) o.even_odd _ _ _ _ k was.even_odd (w.hold_rows-then-any_upper-any_lower-ne0-2.ensures.cells (next r.end) next_end) (w.hold_rows-then-any_upper-any_lower-ne0-2.ensures.count (next r.end) next_end) w.hold_rows-then-any_upper-any_lower-ne0-2.ensures.bound;
-            odd_odd = held_more t.odd_odd (next r.begin) o.odd_odd _ _ _ _ k was.odd_odd (w.hold_rows-then-any_upper-any_lower-ne0-3.ensures.cells (next r.begin) next_begin) (w.hold_rows-then-any_upper-any_lower-ne0-3.ensures.count (next r.begin) next_begin) w.hold_rows-then-any_upper-any_lower-ne0-3.ensures.bound;
+            odd_even = held_more t.odd_even (here r.begin) o.odd_even _ _ _ _ k was.odd_even (w.hold_rows-then-any-any_below-ne0.ensures.cells (here r.begin) c.eight-begin.ensures) (w.hold_rows-then-any-any_below-ne0.ensures.count (here r.begin) c.eight-begin.ensures) w.hold_rows-then-any-any_below-ne0.ensures.bound;
+            even_odd = held_more t.even_odd (next r.end) o.even_odd _ _ _ _ k was.even_odd (w.hold_rows-then-any-any_below-ne0-2.ensures.cells (next r.end) next_end) (w.hold_rows-then-any-any_below-ne0-2.ensures.count (next r.end) next_end) w.hold_rows-then-any-any_below-ne0-2.ensures.bound;
+            odd_odd = held_more t.odd_odd (next r.begin) o.odd_odd _ _ _ _ k was.odd_odd (w.hold_rows-then-any-any_below-ne0-3.ensures.cells (next r.begin) next_begin) (w.hold_rows-then-any-any_below-ne0-3.ensures.count (next r.begin) next_begin) w.hold_rows-then-any-any_below-ne0-3.ensures.bound;
           }
-      | else-any_upper-any_lower-ne0 w ↦
-          let both = or_is_zero _ _ (omega (arith, w.if-any_upper-any_lower-ne0.false)) in
-          let upper = or_is_zero _ _ both.0 in
-          let lower = or_is_zero _ _ both.1 in
+      | else-any-any_below-ne0 w ↦
+          let both = or_is_zero _ _ (omega (arith, w.if-any-any_below-ne0.false)) in
+          let first = or_is_zero _ _ both.0 in
+          let last = or_is_zero _ _ both.1 in
+          let no_begin = c.any_of.ensures first.0 in
+          let no_end = c.any_of-in-loop-k.ensures first.1 in
           rw (w.out-is, w.counts-is)
           record {
-            even_even = none_more t.even_even (here r.end) o.even_even _ _ k was.even_even (none_here (here r.end) (k * 8) _ c.eight-end.ensures (c.any_of-in-loop-k-3.ensures lower.1));
-            odd_even = none_more t.odd_even (here r.begin) o.odd_even _ _ k was.odd_even (none_here (here r.begin) (k * 8) _ c.eight-begin.ensures (c.any_of-in-loop-k-2.ensures lower.0));
-            even_odd = none_more t.even_odd (next r.end) o.even_odd _ _ k was.even_odd (none_here (next r.end) (k * 8) _ next_end (c.any_of-in-loop-k.ensures upper.1));
-            odd_odd = none_more t.odd_odd (next r.begin) o.odd_odd _ _ k was.odd_odd (none_here (next r.begin) (k * 8) _ next_begin (c.any_of.ensures upper.0));
+            even_even = none_more t.even_even (here r.end) o.even_even _ _ k was.even_even (none_here (here r.end) (k * 8) _ c.eight-end.ensures no_end);
+            odd_even = none_more t.odd_even (here r.begin) o.odd_even _ _ k was.odd_even (none_here (here r.begin) (k * 8) _ c.eight-begin.ensures no_begin);
+            even_odd = none_more t.even_odd (next r.end) o.even_odd _ _ k was.even_odd (none_next r.end (k * 8) _ c.eight-end.ensures no_end last.1);
+            odd_odd = none_more t.odd_odd (next r.begin) o.odd_odd _ _ k was.odd_odd (none_next r.begin (k * 8) _ c.eight-begin.ensures no_begin last.0);
           }
     ]
 
