@@ -10,7 +10,7 @@ use Rattle.block_rule.proofs.Windows.{AreClasses, even_words}
 use Rattle.block_rule.proofs.Words.{any_upper_left, any_upper_right, any_lower_left, any_lower_right}
 
 -- whether a block has a cell, by the one of a corner, the one beside it, the one that faces it and the one across
-abbrev any : Bool → Bool → Bool → Bool → Bool
+abbrev pub any : Bool → Bool → Bool → Bool → Bool
 any own beside facing across = (own || facing) || (beside || across)
 
 any_made : (t : Tile) (j : ℕ) → IsMade any (even_row t j) (record { upper_left = any_of_row t j; upper_right = any_of_row t j; lower_left = any_of_row t j; lower_right = any_of_row t j })

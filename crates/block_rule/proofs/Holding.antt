@@ -13,7 +13,7 @@ use Rattle.bit_tile.specs.Tile.{has, HasCells}
 use Rattle.bit_tile.specs.declared.Tile.{Tile}
 use Rattle.bit_tile.proofs.Bits.{bit-zero, bit-and, bit-or}
 use Rattle.bit_tile.proofs.Words32.{bit-not}
-use Rattle.bit_tile.proofs.Sums.{ones_are_bits, sum_below-zero, sum_below-more, sum_below-same, count_below-same, count_below-none, count_below-parts}
+use Rattle.bit_tile.proofs.Sums.{ones_are_bits, sum_below-zero, sum_below-more, sum_below-same, count_below-same, count_below-none}
 use Rattle.bit_tile.proofs.Counts.{class_count}
 use Rattle.bit_tile.proofs.Classes.{IsClass}
 use Rattle.gas_terms.specs.declared.accounts.Pair.{Pair}
@@ -66,18 +66,11 @@ none_among row places e = count_below-same 32 _ (λ _. false) (λ i _. and_false
 abbrev pub among : List ℕ → (ℕ → ℕ) → ℕ → ℕ
 among old places k = count_below 32 (λ i. bit (get_or old k 0) i && bit (places k) i)
 
--- those of two rows more, by a word that has both rows
-pub two_rows_among : (u v a b c d : ℕ) → u < 2 ^ 64 → ((i : ℕ) → i < 32 → bit u i ≡ bit a i) → ((i : ℕ) → i < 32 → bit u (32 + i) ≡ bit b i) → ((i : ℕ) → i < 32 → bit v i ≡ bit c i) → ((i : ℕ) → i < 32 → bit v (32 + i) ≡ bit d i) →
-    count_ones (bit_and u v) ≡ count_below 32 (λ i. bit a i && bit c i) + count_below 32 (λ i. bit b i && bit d i)
-two_rows_among u v a b c d fits u_low u_high v_low v_high =
-    ones_are_bits (bit_and u v) 64 (omega (arith, and_le_l u v))
-    ∙ (count_below-parts 32 32 (bit (bit_and u v))
-    ∙ ap₂ (λ m n. m + n) (count_below-same 32 _ _ (λ i h. bit-and u v i ∙ ap₂ (λ p q. p && q) (u_low i h) (v_low i h)))
-    (count_below-same 32 _ _ (λ i h. bit-and u v (32 + i) ∙ ap₂ (λ p q. p && q) (u_high i h) (v_high i h))))
-
-pub two_rows_more : (old : List ℕ) (places : ℕ → ℕ) (n j more before next : ℕ) → n + before ≡ sum_below j (among old places) → more ≡ among old places j + among old places (j + 1) → next ≡ j + 1 + 1 → n + more + before ≡ sum_below next (among old places)
-two_rows_more old places n j more before next so_far here e =
-    rw e (omega (arith, so_far, here, sum_below-more j (among old places), sum_below-more (j + 1) (among old places)))
+-- those of one row more
+pub row_more : (old : List ℕ) (places : ℕ → ℕ) (n j there before next : ℕ) → get_or old j 0 < 2 ^ 32 → there ≡ places j → n + before ≡ sum_below j (among old places) → next ≡ j + 1 → n + count_ones (bit_and (get_or old j 0) there) + before ≡ sum_below next (among old places)
+row_more old places n j there before next fits is so_far e =
+    let here = ones_among (get_or old j 0) there fits ∙ ap (λ w. count_below 32 (λ i. bit (get_or old j 0) i && bit w i)) is in
+    rw e (omega (arith, so_far, here, sum_below-more j (among old places)))
 
 no_row_more : (old : List ℕ) (places : ℕ → ℕ) (j : ℕ) → places j ≡ 0 → sum_below (j + 1) (among old places) ≡ sum_below j (among old places)
 no_row_more old places j e = omega (arith, none_among (get_or old j 0) (places j) e, sum_below-more j (among old places))

@@ -5,6 +5,7 @@ pub mod Took
 pub mod Blank
 pub mod Holding
 pub mod EvenWalls
+pub mod OddWalls
 pub mod Torus
 pub mod TorusTook
 pub mod Borders

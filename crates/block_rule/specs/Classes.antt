@@ -3,6 +3,7 @@ use Rattle.bit_tile.specs.Bit.{bit}
 use Rattle.bit_tile.specs.Sums.{sum_below, count_below}
 use Rattle.bit_tile.specs.Tile.{count_cells}
 use Rattle.bit_tile.specs.declared.Tile.{Tile}
+use Rattle.block_rule.specs.Around.{is_block_walled}
 use Rattle.block_rule.specs.declared.held.Classes.{Classes}
 
 -- none of the four counts is above n
@@ -59,3 +60,9 @@ pub record IsBlankRow (t : Tile) (j : ℕ) : Type 0 where
 abbrev pub any_of_row : Tile → ℕ → ℕ
 any_of_row t j =
     bit_or (bit_or (slice_index t.even_even j) (slice_index t.even_odd j)) (bit_or (slice_index t.odd_even j) (slice_index t.odd_odd j))
+
+-- a row of odd blocks as two words, where the blocks begin in the window's row y: bit i is whether the one that begins in the
+-- tile's odd column i, and whether the one that ends in its even column i, has a cell
+pub record AreWalls (window : ℕ → ℕ → Bool) (y begins ends : ℕ) : Type 0 where
+  pub begin : (i : ℕ) → i < 32 → bit begins i ≡ is_block_walled window (2 * i + 2) y
+  pub end : (i : ℕ) → i < 32 → bit ends i ≡ is_block_walled window (2 * i) y

@@ -1,12 +1,12 @@
 //! Walls where blocks begin at even columns and rows: eight rows of blocks at a time, and only those that have any.
 
-ghost use Rattle.std.specs.Prelude.{◌≡◌, ℕ, ◌+◌, ◌<◌, ◌≤◌, Bool, ◌&&◌, if◌then◌else◌, slice_index};
+ghost use Rattle.std.specs.Prelude.{◌≡◌, ℕ, ◌+◌, ◌≤◌, Bool, ◌&&◌, if◌then◌else◌};
 ghost use Rattle.bit_tile.specs.Tile.{has, HasCells};
 ghost use Rattle.block_rule.specs.Around.{is_walled_at, twice_momentum};
 ghost use Rattle.block_rule.specs.Classes.{AreWordsFrom, any_of_row};
 ghost use Rattle.block_rule.specs.Rows.{ShowsTile};
 
-use crate::held::{NO_PARTICLES, TOGETHER, hold_rows, momentum};
+use crate::held::{NO_PARTICLES, TOGETHER, any_of, hold_rows, momentum};
 use bit_tile::Tile;
 use gas_terms::Pair;
 
@@ -24,18 +24,6 @@ fn walled_rows(set: &Tile, from: usize) -> [u32; 8]
         places[k] = left | right;
     }
     places
-}
-
-// 0 just if none of eight rows has a place
-#[inline]
-fn any_of(places: &[u32; 8]) -> u32
-    ensures { result ≡ 0 → (k : ℕ) → k < 8 → slice_index places.now k ≡ 0 }
-{
-    let mut any = 0;
-    for k in 0..TOGETHER {
-        any |= places[k];
-    }
-    any
 }
 
 /// In a tile that was turned as if there were no walls, puts back what stood in blocks with a cell of the set. The answer is

@@ -1,12 +1,12 @@
 //! Walls: in walled blocks the old cells stay, and their particles give twice their momentum.
 
-ghost use Rattle.std.specs.Prelude.{◌≡◌, ℕ, ◌+◌, ◌*◌, ◌<◌, ◌≤◌, ◌&&◌, if◌then◌else◌, Bool, slice_index, pos, ◌-ℤ◌};
+ghost use Rattle.std.specs.Prelude.{◌≡◌, ℕ, ◌+◌, ◌*◌, ◌<◌, ◌≤◌, ◌&&◌, if◌then◌else◌, Bool, length, slice_index, pos, ◌-ℤ◌};
 ghost use Rattle.bit_tile.specs.Bit.{bit};
 ghost use Rattle.bit_tile.specs.Tile.{has, HasCells};
 ghost use Rattle.block_rule.specs.Around.{twice_momentum};
 ghost use Rattle.block_rule.specs.Classes.{HasAtMost, AreCounts, AreParticlesIn, AreWordsFrom, IsBlankRow, IsHeldIn, kept};
 
-use bit_tile::{Tile, joined};
+use bit_tile::Tile;
 use gas_terms::Pair;
 
 /// Rows of a class that are looked at together.
@@ -36,10 +36,10 @@ fn any_in_classes(places: &Tile, from: usize) -> u32
     even_rows | odd_rows
 }
 
-// eight rows of a class, from `from` on
+/// Eight of some rows, from `from` on.
 #[inline]
-fn eight(rows: &[u32; 32], from: usize) -> [u32; 8]
-    requires { from + 8 ≤ 32 }
+pub fn eight(rows: &[u32], from: usize) -> [u32; 8]
+    requires { from + 8 ≤ length rows.now }
     ensures { AreWordsFrom from result (λ j. slice_index rows.now j) }
 {
     let mut some = [0; TOGETHER];
@@ -47,6 +47,18 @@ fn eight(rows: &[u32; 32], from: usize) -> [u32; 8]
         some[k] = rows[from + k];
     }
     some
+}
+
+/// 0 just if none of eight rows has a place
+#[inline]
+pub fn any_of(places: &[u32; 8]) -> u32
+    ensures { result ≡ 0 → (k : ℕ) → k < 8 → slice_index places.now k ≡ 0 }
+{
+    let mut any = 0;
+    for k in 0..TOGETHER {
+        any |= places[k];
+    }
+    any
 }
 
 // The rows of a class from `from` on, with the old cells of these places put back.
@@ -64,7 +76,7 @@ fn kept_rows(old: &[u32; 32], places: &[u32; 8], from: usize, class: &[u32; 32])
     rows
 }
 
-// How many old cells there are in these places, two rows at a time.
+// How many old cells there are in these places.
 #[inline]
 fn count_rows(old: &[u32; 32], places: &[u32; 8], from: usize) -> u32
     requires { from + 8 ≤ 32 }
@@ -73,10 +85,8 @@ fn count_rows(old: &[u32; 32], places: &[u32; 8], from: usize) -> u32
     ensures bound { result ≤ 256 }
 {
     let mut n = 0;
-    for k in 0..TOGETHER / 2 {
-        let j = from + 2 * k;
-        let particles = joined(old[j], old[j + 1]) & joined(places[2 * k], places[2 * k + 1]);
-        n += particles.count_ones();
+    for k in 0..TOGETHER {
+        n += (old[from + k] & places[k]).count_ones();
     }
     n
 }

@@ -16,6 +16,7 @@ mod even;
 mod held;
 pub mod laws;
 mod made;
+mod odd;
 
 use bit_tile::Tile;
 use blocks::{AnyCorner, Collision};
@@ -23,6 +24,7 @@ use even::hold_even;
 use gas_terms::accounts::{Pair, Took};
 use held::hold;
 use made::{make_even, make_odd};
+use odd::hold_odd;
 use tile_border::{Border, Neighbors, Round};
 
 /// The cells of a block after the rule, in the order upper left, upper right, lower left, lower right.
@@ -71,19 +73,6 @@ fn hold_both_even(tile: &Tile, walls: &Tile, obstacles: &Tile, out: &mut Tile) -
         walls: hold(tile, &walled, 0, out),
         obstacles: hold(tile, &obstructed, 0, out),
     }
-}
-
-// `hold_even` where blocks begin at odd columns and rows
-fn hold_odd(tile: &Tile, set: &Window, out: &mut Tile) -> Pair
-    ensures cells { (walled : ℕ → ℕ → Bool) → IsSeenIn set.now walled →
-        HasCells out.new (λ x y.
-        if is_walled_at 1 walled x y then has tile.now x y else has out.old x y) }
-    ensures took { (walled : ℕ → ℕ → Bool) → IsSeenIn set.now walled →
-        result ≡ twice_momentum 1 (λ x y. has tile.now x y && is_walled_at 1 walled x y) }
-{
-    let mut places = Tile::empty();
-    make_odd(AnyCorner, set.tile, &set.round, &mut places);
-    hold(tile, &places, 1, out)
 }
 
 // `hold_both_even` where blocks begin at odd columns and rows

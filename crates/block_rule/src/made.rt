@@ -56,6 +56,30 @@ fn made_odd<R: Rule>(rule: R, own: Blocks, left: Beside, right: Beside) -> Block
     }
 }
 
+/// The row of odd blocks that begins in the tile's odd row j, and ends in the tile.
+#[inline]
+pub fn made_inner<R: Rule>(rule: R, tile: &Tile, left: &Tile, right: &Tile, j: usize) -> Blocks
+    requires { j < 31 }
+    ensures { (window : ℕ → ℕ → Bool) → ShowsInnerRows window tile.now left.now right.now →
+        IsMadeOdd (R.cell rule) window (2 * j + 2) result }
+{
+    let own = Blocks {
+        upper_left: tile.odd_odd[j],
+        upper_right: tile.even_odd[j],
+        lower_left: tile.odd_even[j + 1],
+        lower_right: tile.even_even[j + 1],
+    };
+    let left = Beside {
+        upper: left.odd_odd[j],
+        lower: left.odd_even[j + 1],
+    };
+    let right = Beside {
+        upper: right.even_odd[j],
+        lower: right.even_even[j + 1],
+    };
+    made_odd(rule, own, left, right)
+}
+
 // The rows of odd blocks that begin in the tile's odd rows from `from` up to `to`, and end in the tile.
 #[inline]
 fn make_rows_odd<R: Rule>(
@@ -80,21 +104,7 @@ fn make_rows_odd<R: Rule>(
         (slice_index out.new.even_even j ≡ slice_index out.old.even_even j) }
 {
     for j in from..to {
-        let own = Blocks {
-            upper_left: tile.odd_odd[j],
-            upper_right: tile.even_odd[j],
-            lower_left: tile.odd_even[j + 1],
-            lower_right: tile.even_even[j + 1],
-        };
-        let left = Beside {
-            upper: left.odd_odd[j],
-            lower: left.odd_even[j + 1],
-        };
-        let right = Beside {
-            upper: right.even_odd[j],
-            lower: right.even_even[j + 1],
-        };
-        let new = made_odd(rule, own, left, right);
+        let new = made_inner(rule, tile, left, right, j);
         out.odd_odd[j] = new.upper_left;
         out.even_odd[j] = new.upper_right;
         out.odd_even[j + 1] = new.lower_left;
@@ -102,9 +112,9 @@ fn make_rows_odd<R: Rule>(
     }
 }
 
-// The row of blocks at the tile's top, whose upper corners are in the tiles above.
+/// The row of blocks at the tile's top, whose upper corners are in the tiles above.
 #[inline]
-fn made_top<R: Rule>(rule: R, tile: &Tile, near: &Round) -> Blocks
+pub fn made_top<R: Rule>(rule: R, tile: &Tile, near: &Round) -> Blocks
     ensures { (window : ℕ → ℕ → Bool) → ShowsTile window tile.now → ShowsAllRound window near.now →
         IsMadeOdd (R.cell rule) window 0 result }
 {
@@ -125,9 +135,9 @@ fn made_top<R: Rule>(rule: R, tile: &Tile, near: &Round) -> Blocks
     made_odd(rule, own, left, right)
 }
 
-// The row of blocks at its bottom, whose lower corners are in the tiles below.
+/// The row of blocks at its bottom, whose lower corners are in the tiles below.
 #[inline]
-fn made_bottom<R: Rule>(rule: R, tile: &Tile, near: &Round) -> Blocks
+pub fn made_bottom<R: Rule>(rule: R, tile: &Tile, near: &Round) -> Blocks
     ensures { (window : ℕ → ℕ → Bool) → ShowsTile window tile.now → ShowsAllRound window near.now →
         IsMadeOdd (R.cell rule) window 64 result }
 {

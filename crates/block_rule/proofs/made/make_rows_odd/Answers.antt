@@ -14,8 +14,8 @@ loop-j-preserved g c =
       eo = simp length-set c.loop-j.invariant.eo;
       oo = simp length-set c.loop-j.invariant.oo;
       done = λ window shown.
-          odd_row_more (g.R.Rule.cell c.args.rule) window c.loop-j.out c.made_odd-new.result from j (omega arith) (omega arith) (omega arith) (omega arith)
-          (c.loop-j.invariant.done window shown) (c.made_odd-new.ensures window _ (shown j (omega arith)));
+          odd_row_more (g.R.Rule.cell c.args.rule) window c.loop-j.out c.made_inner-new.result from j (omega arith) (omega arith) (omega arith) (omega arith)
+          (c.loop-j.invariant.done window shown) (c.made_inner-new.ensures window shown);
       upper_odd = λ k h. get_or-set_other c.loop-j.out.odd_odd j k _ 0 (upper_outside k from j order h) ∙ c.loop-j.invariant.upper_odd k (upper_before k from j h);
       upper_even = λ k h. get_or-set_other c.loop-j.out.even_odd j k _ 0 (upper_outside k from j order h) ∙ c.loop-j.invariant.upper_even k (upper_before k from j h);
       lower_odd = λ k h. get_or-set_other c.loop-j.out.odd_even (j + 1) k _ 0 (lower_outside k from j order h) ∙ c.loop-j.invariant.lower_odd k (lower_before k from j h);

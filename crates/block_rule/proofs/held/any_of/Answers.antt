@@ -1,6 +1,6 @@
 use Rattle.std.proofs.Common.{arith}
 use Rattle.block_rule.proofs.Holding.{none_so_far}
-use Rattle.block_rule.proofs.even.any_of.Goals as goal
+use Rattle.block_rule.proofs.held.any_of.Goals as goal
 
 pub loop-k-init : goal.loop-k-init
 loop-k-init c = record { none = λ _ k below. absurd (omega arith) }
