@@ -5,6 +5,8 @@ use Rattle.gas_plane.proofs.PlaneCounts.{few_tiles}
 use Rattle.phase_step.specs.Actions.{Leaves}
 use Rattle.phase_step.proofs.ActionRuns.{sides_with, sides_as_with}
 use Rattle.phase_step.proofs.ActionParts.{IsPartWith, part_after_with, part_flow, part_flow_fits}
+use Rattle.phase_team.proofs.runs.run_by.Given.{Over}
+use Rattle.phase_team.proofs.runs.run_by.Goals.{After-stretch-here}
 use Rattle.phase_team.proofs.runs.run_by.Goals as goal
 
 pub loop-done-init : goal.loop-done-init
@@ -32,41 +34,39 @@ stretch-here-requires-clause-spare g c =
     let run = c.args.run in
     sides_as_with run.parity (joined run.walls.now run.obstacles.now) (g.A.Action.leaves run.action.now) c.args.particles.now c.loop-done.particles c.loop-done.spare c.loop-done.done c.loop-done.invariant.cells c.loop-done.invariant.spare
 
+-- what the action does after phase k of a stretch that begins at phase `done`
+abbrev turns_from : (ℕ → Leaves) → ℕ → ℕ → Leaves
+turns_from leaves done k x y held = leaves (min (done + k) 65535) x y held
+
+-- the stretch is the part of the run that comes next
+is_part : (g : Over) (c : After-stretch-here g)
+    → IsPartWith c.args.run.parity c.args.run.walls.now c.args.run.obstacles.now (g.A.Action.leaves c.args.run.action.now) c.args.particles.now c.loop-done.done c.min-next.result c.parity_at.result c.loop-done.particles c.stretch-here.new.particles (turns_from (g.A.Action.leaves c.args.run.action.now) c.loop-done.done) c.stretch-here.result
+is_part g c =
+    record {
+      at = c.loop-done.invariant.cells;
+      parity = c.parity_at.ensures.parity;
+      same = λ k h x y held. ap (λ j. g.A.Action.leaves c.args.run.action.now j x y held) (min-eq_left (let few : c.loop-done.done + c.min-next.result ≤ c.args.run.n = search rules in omega (arith, few, h)));
+      cells = c.stretch-here.ensures.particles;
+      flow = c.stretch-here.ensures.flow;
+    }
+
 pub plus-flow-requires : goal.plus-flow-requires
 plus-flow-requires g c =
     let run = c.args.run in
-    let was = c.loop-done.invariant in
     let leaves = g.A.Action.leaves run.action.now in
-    let turns : ℕ → Leaves = λ k x y held. leaves (min (c.loop-done.done + k) 65535) x y held in
-    let is : IsPartWith run.parity run.walls.now run.obstacles.now leaves c.args.particles.now c.loop-done.done c.min-next.result c.parity_at.result c.loop-done.particles c.stretch-here.new.particles turns c.stretch-here.result =
-    record {
-      at = was.cells;
-      parity = c.parity_at.ensures.parity;
-      same = λ k h x y held. ap (λ j. leaves j x y held) (min-eq_left (let few : c.loop-done.done + c.min-next.result ≤ run.n = search rules in omega (arith, few, h)));
-      cells = c.stretch-here.ensures.particles;
-      flow = c.stretch-here.ensures.flow;
-    } in
-    part_flow_fits run.parity run.walls.now run.obstacles.now leaves c.args.particles.now c.loop-done.done c.min-next.result c.parity_at.result c.loop-done.particles c.stretch-here.new.particles turns c.loop-done.flow c.stretch-here.result is was.flow (omega arith) (search rules) c.requires.lattice.sized (few_tiles c.args.particles.now (tile_count c.args.particles.now) c.requires.lattice (omega arith))
+    part_flow_fits run.parity run.walls.now run.obstacles.now leaves c.args.particles.now c.loop-done.done c.min-next.result c.parity_at.result c.loop-done.particles c.stretch-here.new.particles (turns_from leaves c.loop-done.done) c.loop-done.flow c.stretch-here.result (is_part g (goal.at.plus-flow-requires g c).After-stretch-here) c.loop-done.invariant.flow (omega arith) (search rules) c.requires.lattice.sized (few_tiles c.args.particles.now (tile_count c.args.particles.now) c.requires.lattice (omega arith))
 
 pub loop-done-preserved : goal.loop-done-preserved
 loop-done-preserved g c =
     let run = c.args.run in
     let was = c.loop-done.invariant in
     let leaves = g.A.Action.leaves run.action.now in
-    let turns : ℕ → Leaves = λ k x y held. leaves (min (c.loop-done.done + k) 65535) x y held in
-    let is : IsPartWith run.parity run.walls.now run.obstacles.now leaves c.args.particles.now c.loop-done.done c.min-next.result c.parity_at.result c.loop-done.particles c.stretch-here.new.particles turns c.stretch-here.result =
-    record {
-      at = was.cells;
-      parity = c.parity_at.ensures.parity;
-      same = λ k h x y held. ap (λ j. leaves j x y held) (min-eq_left (let few : c.loop-done.done + c.min-next.result ≤ run.n = search rules in omega (arith, few, h)));
-      cells = c.stretch-here.ensures.particles;
-      flow = c.stretch-here.ensures.flow;
-    } in
+    let is = is_part g (goal.at.loop-done-preserved g c).After-stretch-here in
     let sides = sides_with run.parity (joined run.walls.now run.obstacles.now) leaves c.args.particles.now c.loop-done.done in
     record {
       crew = c.stretch-here.ensures.size ∙ was.crew;
       few = search rules;
-      cells = part_after_with run.parity run.walls.now run.obstacles.now leaves c.args.particles.now c.loop-done.done c.min-next.result c.parity_at.result c.loop-done.particles c.stretch-here.new.particles turns c.stretch-here.result is;
+      cells = part_after_with run.parity run.walls.now run.obstacles.now leaves c.args.particles.now c.loop-done.done c.min-next.result c.parity_at.result c.loop-done.particles c.stretch-here.new.particles (turns_from leaves c.loop-done.done) c.stretch-here.result is;
       spare = record { wide = c.stretch-here.ensures.spare.wide ∙ (ap (λ (d : Cells). d.width) was.cells ∙ sides.wide); high = c.stretch-here.ensures.spare.high ∙ (ap (λ (d : Cells). d.height) was.cells ∙ sides.high) };
-      flow = c.plus-flow.ensures ∙ part_flow run.parity run.walls.now run.obstacles.now leaves c.args.particles.now c.loop-done.done c.min-next.result c.parity_at.result c.loop-done.particles c.stretch-here.new.particles turns c.loop-done.flow c.stretch-here.result is was.flow;
+      flow = c.plus-flow.ensures ∙ part_flow run.parity run.walls.now run.obstacles.now leaves c.args.particles.now c.loop-done.done c.min-next.result c.parity_at.result c.loop-done.particles c.stretch-here.new.particles (turns_from leaves c.loop-done.done) c.loop-done.flow c.stretch-here.result is was.flow;
     }

@@ -5,11 +5,11 @@ use Rattle.gas_plane.proofs.PlaneCounts.{few_tiles}
 use Rattle.phase_step.specs.Actions.{acted}
 use Rattle.phase_step.proofs.ActedTiles.{acting, action_starts, action_ends, still_acts, all_tiles, row_of_tiles, tile_within, same_tile}
 use Rattle.phase_step.proofs.TileChanges.{none_moved}
-use Rattle.phase_team.specs.ActionStrips.{acts_there, tiles_move}
+use Rattle.phase_team.specs.ActionStrips.{acts_there, tile_moves, tiles_move}
 use Rattle.phase_team.proofs.ActedStrips.{IsActedTile, left_there, square_of, acted_makes, acted_moves, moves_more, moves_past, moves_fit, none_of_still}
 use Rattle.phase_step.specs.Exchanges.{leaves_of}
 use Rattle.phase_team.proofs.strip.act_on_strip.Goals as goal
-use Rattle.phase_team.proofs.strip.act_on_strip.Goals.{then-is_own, else-is_own}
+use Rattle.phase_team.proofs.strip.act_on_strip.Goals.{After-moved-here, then-is_own, else-is_own}
 
 pub returns-then-is_still-clause-cells : goal.returns-then-is_still-clause-cells
 returns-then-is_still-clause-cells c =
@@ -56,14 +56,9 @@ loop-i-preserved-in_default c =
           (none_moved (pos c.args.parity) leaves cells i (tile_rectangle cells i) is within (square_of cells i) stays) c.loop-i.invariant.moved;
     }
 
-pub plus-moved-requires-clause-injected : goal.plus-moved-requires-clause-injected
-plus-moved-requires-clause-injected c =
-    let cells = c.args.strip.now in
-    let leaves = acts_there (leaves_of c.args.exchange.now) c.args.first c.args.down in
-    let few = few_tiles cells (tile_count cells) c.size.ensures.lattice (omega arith) in
-    let all = all_tiles cells c.size-2.result c.tiles-tiles.result c.tiles-tiles.ensures.tiles c.size-2.ensures.extent in
-    let end : c.tiles-tiles.result - c.from-across.result ≤ 4096 = omega (arith, few, all) in
-    let is : IsActedTile c.args.parity c.args.first c.args.down c.loop-i.i c.from-across.result c.row_of-top.result (leaves_of c.args.exchange.now) c.args.strip.now c.loop-i.strip c.tile-old.result.now c.in-Some.new c.change_of.result c.moved-here.result =
+-- the tile that was acted on, as the lemmas name it
+is_acted : (c : After-moved-here) → IsActedTile c.args.parity c.args.first c.args.down c.loop-i.i c.from-across.result c.row_of-top.result (leaves_of c.args.exchange.now) c.args.strip.now c.loop-i.strip c.tile-old.result.now c.in-Some.new c.change_of.result c.moved-here.result
+is_acted c =
     record {
       small = c.requires.parity;
       some = c.requires.down.0;
@@ -77,54 +72,30 @@ plus-moved-requires-clause-injected c =
       gained = c.change_of.ensures.gained;
       lost = c.change_of.ensures.lost;
       moved = c.moved-here.ensures;
-    } in
-    (moves_fit (pos c.args.parity) leaves cells c.from-across.result (c.tiles-tiles.result - c.from-across.result) c.loop-i.i c.loop-i.moved c.moved-here.result end c.loop-i.invariant.moved (acted_moves c.args.parity c.args.first c.args.down c.loop-i.i c.from-across.result c.row_of-top.result (leaves_of c.args.exchange.now) c.args.strip.now c.loop-i.strip c.tile-old.result.now c.in-Some.new c.change_of.result c.moved-here.result is)).0
+    }
 
-pub plus-moved-requires-clause-drained : goal.plus-moved-requires-clause-drained
-plus-moved-requires-clause-drained c =
+-- what it moves
+is_moved : (c : After-moved-here) → c.moved-here.result ≡ tile_moves (pos c.args.parity) c.args.strip.now (acted (acts_there (leaves_of c.args.exchange.now) c.args.first c.args.down) c.args.strip.now) c.loop-i.i
+is_moved c =
+    acted_moves c.args.parity c.args.first c.args.down c.loop-i.i c.from-across.result c.row_of-top.result (leaves_of c.args.exchange.now) c.args.strip.now c.loop-i.strip c.tile-old.result.now c.in-Some.new c.change_of.result c.moved-here.result (is_acted c)
+
+pub plus-moved-requires : goal.plus-moved-requires
+plus-moved-requires c =
     let cells = c.args.strip.now in
-    let leaves = acts_there (leaves_of c.args.exchange.now) c.args.first c.args.down in
     let few = few_tiles cells (tile_count cells) c.size.ensures.lattice (omega arith) in
     let all = all_tiles cells c.size-2.result c.tiles-tiles.result c.tiles-tiles.ensures.tiles c.size-2.ensures.extent in
     let end : c.tiles-tiles.result - c.from-across.result ≤ 4096 = omega (arith, few, all) in
-    let is : IsActedTile c.args.parity c.args.first c.args.down c.loop-i.i c.from-across.result c.row_of-top.result (leaves_of c.args.exchange.now) c.args.strip.now c.loop-i.strip c.tile-old.result.now c.in-Some.new c.change_of.result c.moved-here.result =
-    record {
-      small = c.requires.parity;
-      some = c.requires.down.0;
-      lattice = c.size.ensures.lattice;
-      within = tile_within c.args.strip.now c.size-2.result c.tiles-tiles.result c.loop-i.i c.tiles-tiles.ensures.tiles c.size-2.ensures.extent c.loop-i-test.true;
-      wide = c.from-across.ensures ∙ row_of_tiles c.args.strip.now c.size.result c.width.result c.width.ensures c.size.ensures.extent;
-      turn = c.row_of-top.ensures.row;
-      so_far = c.loop-i.invariant.cells;
-      from = c.tile-old.ensures;
-      left = c.in-Some.ensures;
-      gained = c.change_of.ensures.gained;
-      lost = c.change_of.ensures.lost;
-      moved = c.moved-here.ensures;
-    } in
-    (moves_fit (pos c.args.parity) leaves cells c.from-across.result (c.tiles-tiles.result - c.from-across.result) c.loop-i.i c.loop-i.moved c.moved-here.result end c.loop-i.invariant.moved (acted_moves c.args.parity c.args.first c.args.down c.loop-i.i c.from-across.result c.row_of-top.result (leaves_of c.args.exchange.now) c.args.strip.now c.loop-i.strip c.tile-old.result.now c.in-Some.new c.change_of.result c.moved-here.result is)).1
+    let fits = moves_fit (pos c.args.parity) (acts_there (leaves_of c.args.exchange.now) c.args.first c.args.down) cells c.from-across.result (c.tiles-tiles.result - c.from-across.result) c.loop-i.i c.loop-i.moved c.moved-here.result end c.loop-i.invariant.moved (is_moved (goal.at.plus-moved-requires c).After-moved-here) in
+    record { injected = fits.0; drained = fits.1 }
 
 pub loop-i-preserved : goal.loop-i-preserved
 loop-i-preserved c =
     let cells = c.args.strip.now in
     let i = c.loop-i.i in
     let leaves = acts_there (leaves_of c.args.exchange.now) c.args.first c.args.down in
-    let is : IsActedTile c.args.parity c.args.first c.args.down c.loop-i.i c.from-across.result c.row_of-top.result (leaves_of c.args.exchange.now) c.args.strip.now c.loop-i.strip c.tile-old.result.now c.in-Some.new c.change_of.result c.moved-here.result =
-    record {
-      small = c.requires.parity;
-      some = c.requires.down.0;
-      lattice = c.size.ensures.lattice;
-      within = tile_within c.args.strip.now c.size-2.result c.tiles-tiles.result c.loop-i.i c.tiles-tiles.ensures.tiles c.size-2.ensures.extent c.loop-i-test.true;
-      wide = c.from-across.ensures ∙ row_of_tiles c.args.strip.now c.size.result c.width.result c.width.ensures c.size.ensures.extent;
-      turn = c.row_of-top.ensures.row;
-      so_far = c.loop-i.invariant.cells;
-      from = c.tile-old.ensures;
-      left = c.in-Some.ensures;
-      gained = c.change_of.ensures.gained;
-      lost = c.change_of.ensures.lost;
-      moved = c.moved-here.ensures;
-    } in
-    let here = acted_moves c.args.parity c.args.first c.args.down c.loop-i.i c.from-across.result c.row_of-top.result (leaves_of c.args.exchange.now) c.args.strip.now c.loop-i.strip c.tile-old.result.now c.in-Some.new c.change_of.result c.moved-here.result is in
+    let d = (goal.at.loop-i-preserved c).After-moved-here in
+    let is = is_acted d in
+    let here = is_moved d in
     record {
       cells = sweep_next cells c.loop-i.strip c.set_tile.new.self (acting leaves cells) i c.tile-old.result.now c.in-Some.new is.lattice is.within c.loop-i.invariant.cells c.tile-old.ensures c.set_tile.ensures
           (acted_makes c.args.parity c.args.first c.args.down c.loop-i.i c.from-across.result c.row_of-top.result (leaves_of c.args.exchange.now) c.args.strip.now c.loop-i.strip c.tile-old.result.now c.in-Some.new c.change_of.result c.moved-here.result is);
