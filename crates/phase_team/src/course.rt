@@ -1,9 +1,10 @@
 //! What a phase and a run start from.
 
-ghost use Rattle.std.specs.Prelude.{◌<◌, ◌≤◌};
-ghost use Rattle.gas_terms.specs.Cells.{HasSidesOf};
+ghost use Rattle.std.specs.Prelude.{◌≡◌, ◌<◌, ◌≤◌};
+ghost use Rattle.gas_terms.specs.Cells.{tile_count, HasSidesOf};
 ghost use Rattle.gas_plane.specs.Planes.{IsLattice};
 
+use claim_desk::Desk;
 use gas_plane::Plane;
 use phase_step::Exchange;
 
@@ -18,6 +19,14 @@ pub struct Task<'a> {
     pub ghost lattice: { IsLattice old.now },
     pub ghost of_walls: { HasSidesOf walls.now old.now },
     pub ghost of_obstacles: { HasSidesOf obstacles.now old.now },
+}
+
+/// A phase, and the desk at which its tiles are drawn.
+#[derive(Clone, Copy)]
+pub struct Shift<'a> {
+    pub task: Task<'a>,
+    pub desk: &'a Desk,
+    pub ghost limit: { desk.now.id.limit ≡ tile_count task.old.now },
 }
 
 /// Particles, walls and obstacles, what acts after each phase, the parity of the first phase, and how many phases there are:

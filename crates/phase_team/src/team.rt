@@ -10,7 +10,7 @@ ghost use Rattle.claim_desk.specs.Desk.{fresh};
 ghost use Rattle.phase_team.specs.Teamwork.{IsReady, HasWorked, HasTurned, IsRight, IsRoom, AreTurned, StayTurned};
 ghost use Rattle.phase_team.specs.Teamwork.{HasDrawnAll, HaveDrawn, cells_after, taken_in_all, drawn};
 
-use crate::course::Task;
+use crate::course::{Shift, Task};
 use crate::gate::{Gate, NoGate};
 use crate::runs::{Strips, is_worth_strips, run_by, strips_for};
 use crate::worker::{NOTHING, Turned, Worker, work_on};
@@ -100,23 +100,16 @@ fn crew_of(alloc: Global, tiles: u32, workers: u32, rooms: &mut Vec<Vec<Turned>>
 }
 
 // Draws tiles and turns them in the plane, until no tile is left.
-fn draw_here<G: Gate>(
-    task: Task<'_>,
-    gate: &G,
-    desk: &Desk,
-    seat: &mut DeskSeat,
-    out: &mut Plane,
-) -> Took
-    requires limit { desk.now.id.limit ≡ tile_count task.old.now }
-    requires out { IsRoom task out.old }
-    requires seat { seat.old ≡ fresh desk.now.id }
-    ensures seat { HasDrawnAll desk.now.id seat.new }
-    ensures turned { HasTurned task.entry seat.new.numbers result out.new }
+fn draw_here<G: Gate>(shift: Shift<'_>, gate: &G, seat: &mut DeskSeat, out: &mut Plane) -> Took
+    requires out { IsRoom shift.task out.old }
+    requires seat { seat.old ≡ fresh shift.desk.now.id }
+    ensures seat { HasDrawnAll shift.entry.desk.now.id seat.new }
+    ensures turned { HasTurned shift.entry.task seat.new.numbers result out.new }
 {
     let mut took = NOTHING;
-    while let Some(place) = seat.draw(desk) {
+    while let Some(place) = seat.draw(shift.desk) {
         gate.at_tile(0, place);
-        let here = task.turn(place, out.tile_mut(place));
+        let here = shift.task.turn(place, out.tile_mut(place));
         took = took.plus(here);
     }
     took
@@ -125,41 +118,37 @@ fn draw_here<G: Gate>(
 // The workers work, each in a thread of its own where one can be made, and the calling thread turns tiles in the plane.
 fn work_together<R: Threads, G: Gate>(
     rt: &R,
-    task: Task<'_>,
+    shift: Shift<'_>,
     gate: &G,
-    desk: &Desk,
     team: &mut [Worker],
     seat: &mut DeskSeat,
     out: &mut Plane,
 ) -> Took
-    requires limit { desk.now.id.limit ≡ tile_count task.old.now }
     requires few { length team.old < 16 }
-    requires ready { All (IsReady desk.now.id) team.old }
-    requires out { IsRoom task out.old }
-    requires seat { seat.old ≡ fresh desk.now.id }
-    ensures worked { All (HasWorked task.entry desk.now.id) team.new }
-    ensures seat { HasDrawnAll desk.now.id seat.new }
-    ensures turned { HasTurned task.entry seat.new.numbers result out.new }
+    requires ready { All (IsReady shift.desk.now.id) team.old }
+    requires out { IsRoom shift.task out.old }
+    requires seat { seat.old ≡ fresh shift.desk.now.id }
+    ensures worked { All (HasWorked shift.entry.task shift.entry.desk.now.id) team.new }
+    ensures seat { HasDrawnAll shift.entry.desk.now.id seat.new }
+    ensures turned { HasTurned shift.entry.task seat.new.numbers result out.new }
 {
     let Some((last, rest)) = team.split_last_mut() else {
-        return draw_here(task, gate, desk, seat, out);
+        return draw_here(shift, gate, seat, out);
     };
     let number = rest.len() as u8 + 1;
     let (_, took) = thread::join_mut(
         rt,
         &mut ||
-            requires { (desk.now.id.limit ≡ tile_count task.old.now)
-                × IsReady desk.now.id last.now }
-            ensures { HasWorked task.entry desk.entry.now.id last.exit.now }
-        { work_on(last, number, task, desk, gate) },
+            requires { IsReady shift.desk.now.id last.now }
+            ensures { HasWorked shift.entry.task shift.entry.desk.now.id last.exit.now }
+        { work_on(last, number, shift, gate) },
         &mut || -> Took
-            requires { (desk.now.id.limit ≡ tile_count task.old.now) × (length rest.now < 16)
-                × All (IsReady desk.now.id) rest.now
-                × IsRoom task out.now × (seat.now ≡ fresh desk.now.id) }
-            ensures { All (HasWorked task.entry desk.entry.now.id) rest.exit.now
-                × HasDrawnAll desk.entry.now.id seat.exit.now
-                × HasTurned task.entry seat.exit.now.numbers result out.exit.now }
-        { work_together(rt, task, gate, desk, rest, seat, out) },
+            requires { (length rest.now < 16) × All (IsReady shift.desk.now.id) rest.now
+                × IsRoom shift.task out.now × (seat.now ≡ fresh shift.desk.now.id) }
+            ensures { All (HasWorked shift.entry.task shift.entry.desk.now.id) rest.exit.now
+                × HasDrawnAll shift.entry.desk.now.id seat.exit.now
+                × HasTurned shift.entry.task seat.exit.now.numbers result out.exit.now }
+        { work_together(rt, shift, gate, rest, seat, out) },
     );
     took
 }
@@ -171,24 +160,23 @@ fn keep(rooms: &mut Vec<Vec<Turned>>, room: Vec<Turned>) {
 
 // Puts what the workers turned to its places, takes their seats and keeps their room. The answer is what was taken in all.
 fn hand_in(
-    task: Task<'_>,
-    desk: &Desk,
+    shift: Shift<'_>,
     mut team: Vec<Worker>,
     seats: &mut Vec<DeskSeat>,
     rooms: &mut Vec<Vec<Turned>>,
     mut took: Took,
     out: &mut Plane,
 ) -> Took
-    requires limit { desk.now.id.limit ≡ tile_count task.old.now }
-    requires worked { All (HasWorked task desk.now.id) team.items }
+    requires worked { All (HasWorked shift.task shift.desk.now.id) team.items }
     requires count { vec_len seats.old + vec_len team ≤ 16 }
     requires room { vec_len seats.old + vec_len team ≤ vec_capacity seats.old }
-    requires seats { HaveDrawn desk.now.id seats.old.items }
-    requires few { length (drawn seats.old.items) ≤ vec_len seats.old * tile_count task.old.now }
-    requires turned { HasTurned task (drawn seats.old.items) took out.old }
+    requires seats { HaveDrawn shift.desk.now.id seats.old.items }
+    requires few { length (drawn seats.old.items)
+        ≤ vec_len seats.old * tile_count shift.task.old.now }
+    requires turned { HasTurned shift.task (drawn seats.old.items) took out.old }
     ensures count { vec_len seats.new ≡ vec_len seats.old + vec_len team }
-    ensures seats { HaveDrawn desk.now.id seats.new.items }
-    ensures turned { HasTurned task.entry (drawn seats.new.items) result out.new }
+    ensures seats { HaveDrawn shift.entry.desk.now.id seats.new.items }
+    ensures turned { HasTurned shift.entry.task (drawn seats.new.items) result out.new }
 {
     while let Some(worker) = team.pop() {
         let Worker {
@@ -196,45 +184,12 @@ fn hand_in(
             turned,
             took: here,
         } = worker;
-        write_out(task, turned.as_slice(), out);
+        write_out(shift.task, turned.as_slice(), out);
         took = took.plus(here);
         seats.push_reserved(seat);
         keep(rooms, turned);
     }
     took
-}
-
-// A phase by a desk and its workers; `None` where they can't be had, and then nothing was done.
-fn turn_together<R: Threads, G: Gate>(
-    rt: &R,
-    alloc: Global,
-    workers: u32,
-    task: Task<'_>,
-    gate: &G,
-    rooms: &mut Vec<Vec<Turned>>,
-    out: &mut Plane,
-) -> Option<Took>
-    requires workers { (0 < workers) × (workers ≤ 16) }
-    requires out { IsRoom task out.old }
-    ensures out { IfSome result (λ _. out.new ≡ cells_after task.entry) }
-    ensures took { IfSome result (λ took. took ≡ taken_in_all task.entry) }
-    ensures none { IfNone result (out.new ≡ out.old) }
-{
-    let tiles = task.old.size().tiles();
-    let Some(crew) = crew_of(alloc, tiles, workers, rooms) else {
-        return None;
-    };
-    let Crew {
-        desk,
-        mut own,
-        mut team,
-        mut seats,
-    } = crew;
-    let first = work_together(rt, task, gate, &desk, team.as_mut_slice(), &mut own, out);
-    seats.push_reserved(own);
-    let took = hand_in(task, &desk, team, &mut seats, rooms, first, out);
-    desk.close(seats);
-    Some(took)
 }
 
 /// Up to 16 workers that draw the tiles of a plane and turn them. The calling thread is worker 0; for each other worker of a
@@ -304,6 +259,22 @@ impl<R: Threads + Drop, G: Gate + Drop> Team<R, G> {
             obstacles,
             parity,
         };
+        match self.turn_together(workers, task, out) {
+            Some(took) => took,
+            None => Serial.phase(old, walls, obstacles, parity, out),
+        }
+    }
+
+    // A phase by a desk and its workers; `None` where they can't be had, and then nothing was done.
+    fn turn_together(&mut self, workers: u32, task: Task<'_>, out: &mut Plane) -> Option<Took>
+        requires workers { (0 < workers) × (workers ≤ 16) }
+        requires out { IsRoom task out.old }
+        ensures out { IfSome result (λ _. out.new ≡ cells_after task.entry) }
+        ensures took { IfSome result (λ took. took ≡ taken_in_all task.entry) }
+        ensures none { IfNone result (out.new ≡ out.old) }
+        ensures team { self.new ≡ self.old }
+    {
+        let tiles = task.old.size().tiles();
         let Team {
             rt,
             alloc,
@@ -311,10 +282,21 @@ impl<R: Threads + Drop, G: Gate + Drop> Team<R, G> {
             rooms,
             ..
         } = self;
-        match turn_together(rt, *alloc, workers, task, gate, rooms, out) {
-            Some(took) => took,
-            None => Serial.phase(old, walls, obstacles, parity, out),
-        }
+        let Some(crew) = crew_of(*alloc, tiles, workers, rooms) else {
+            return None;
+        };
+        let Crew {
+            desk,
+            mut own,
+            mut team,
+            mut seats,
+        } = crew;
+        let shift = Shift { task, desk: &desk };
+        let first = work_together(rt, shift, gate, team.as_mut_slice(), &mut own, out);
+        seats.push_reserved(own);
+        let took = hand_in(shift, team, &mut seats, rooms, first, out);
+        desk.close(seats);
+        Some(took)
     }
 }
 

@@ -1,12 +1,10 @@
 //! A worker of a team.
 
-ghost use Rattle.std.specs.Prelude.{◌≡◌};
-ghost use Rattle.gas_terms.specs.Cells.{tile_count};
 ghost use Rattle.phase_team.specs.Teamwork.{IsReady, HasWorked};
 
-use crate::course::Task;
+use crate::course::Shift;
 use crate::gate::Gate;
-use claim_desk::{Desk, DeskSeat};
+use claim_desk::DeskSeat;
 use gas_plane::Tile;
 use gas_terms::{Pair, Took};
 
@@ -31,19 +29,18 @@ pub struct Worker {
 }
 
 // Draws tiles and turns them, until no tile is left or one can't be kept.
-pub fn work_on<G: Gate>(worker: &mut Worker, number: u8, task: Task<'_>, desk: &Desk, gate: &G)
-    requires limit { desk.now.id.limit ≡ tile_count task.old.now }
-    requires ready { IsReady desk.now.id worker.old }
-    ensures { HasWorked task.entry desk.now.id worker.new }
+pub fn work_on<G: Gate>(worker: &mut Worker, number: u8, shift: Shift<'_>, gate: &G)
+    requires ready { IsReady shift.desk.now.id worker.old }
+    ensures { HasWorked shift.entry.task shift.entry.desk.now.id worker.new }
 {
     let Worker { seat, turned, took } = worker;
     while turned.reserve(1).is_ok() {
-        let Some(place) = seat.draw(desk) else {
+        let Some(place) = seat.draw(shift.desk) else {
             break;
         };
         gate.at_tile(number, place);
         let mut tile = Tile::empty();
-        let here = task.turn(place, &mut tile);
+        let here = shift.task.turn(place, &mut tile);
         *took = took.plus(here);
         turned.push_reserved(Turned { place, tile });
     }

@@ -5,5 +5,5 @@ use Rattle.phase_team.proofs.team.+fn-work_together-join_mut+arg3+work_together.
 
 pub returns-clause-worked : goal.returns-clause-worked
 returns-clause-worked g t c =
-    let task = c.args.task in
-    all_push (HasWorked task c.args.desk.now.id) _ _ (search of_calls) (search of_calls)
+    let task = c.args.shift.task in
+    all_push (HasWorked task c.args.shift.desk.now.id) _ _ (search of_calls) (search of_calls)

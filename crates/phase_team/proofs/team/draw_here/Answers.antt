@@ -11,15 +11,15 @@ use Rattle.phase_team.proofs.team.draw_here.Goals as goal
 
 pub plus-took-requires-clause-walls : goal.plus-took-requires-clause-walls
 plus-took-requires-clause-walls g c =
-    let task = c.args.task in
+    let task = c.args.shift.task in
     let few = few_tiles task.old.now (tile_count task.old.now) task.lattice (omega arith) in
-    (more_fits task.parity task.old.now task.walls.now task.obstacles.now c.loop-place.seat.numbers c.in-Some.place c.loop-place.took c.turn-here.result (omega (arith, few, c.in-Some.ensures.some.0, c.in-Some.ensures.later, c.requires.limit)) c.loop-place.invariant.turned.took c.turn-here.ensures.took).0
+    (more_fits task.parity task.old.now task.walls.now task.obstacles.now c.loop-place.seat.numbers c.in-Some.place c.loop-place.took c.turn-here.result (omega (arith, few, c.in-Some.ensures.some.0, c.in-Some.ensures.later, c.args.shift.limit)) c.loop-place.invariant.turned.took c.turn-here.ensures.took).0
 
 pub plus-took-requires-clause-obstacles : goal.plus-took-requires-clause-obstacles
 plus-took-requires-clause-obstacles g c =
-    let task = c.args.task in
+    let task = c.args.shift.task in
     let few = few_tiles task.old.now (tile_count task.old.now) task.lattice (omega arith) in
-    (more_fits task.parity task.old.now task.walls.now task.obstacles.now c.loop-place.seat.numbers c.in-Some.place c.loop-place.took c.turn-here.result (omega (arith, few, c.in-Some.ensures.some.0, c.in-Some.ensures.later, c.requires.limit)) c.loop-place.invariant.turned.took c.turn-here.ensures.took).1
+    (more_fits task.parity task.old.now task.walls.now task.obstacles.now c.loop-place.seat.numbers c.in-Some.place c.loop-place.took c.turn-here.result (omega (arith, few, c.in-Some.ensures.some.0, c.in-Some.ensures.later, c.args.shift.limit)) c.loop-place.invariant.turned.took c.turn-here.ensures.took).1
 
 pub loop-place-smaller : goal.loop-place-smaller
 loop-place-smaller g c =
@@ -29,7 +29,7 @@ loop-place-smaller g c =
 
 pub loop-place-preserved : goal.loop-place-preserved
 loop-place-preserved g c =
-    let task = c.args.task in
+    let task = c.args.shift.task in
     let was = c.loop-place.invariant in
     let numbers = c.loop-place.seat.numbers in
     let place = c.in-Some.place in
@@ -37,7 +37,7 @@ loop-place-preserved g c =
     let out = c.loop-place.out in
     let t = c.turn-here.new.out in
     let next = with_tile out place t in
-    let within : place < tile_count task.old.now = omega (arith, some.0, c.requires.limit) in
+    let within : place < tile_count task.old.now = omega (arith, some.0, c.args.shift.limit) in
     record {
       same_desk = c.draw.ensures.desk ∙ was.same_desk;
       few = let long = ap length some.1 ∙ length_push numbers place in omega (arith, long, some.0, c.in-Some.ensures.later);

@@ -4,10 +4,10 @@ use Rattle.phase_team.proofs.team.draw_here.Given as goal
 
 abbrev pub invariant-loop-place : goal.invariant-loop-place
 invariant-loop-place g l = record {
-  same_desk : l.seat.desk ≡ l.desk.id;
-  few : length l.seat.numbers ≤ l.desk.id.limit;
-  turned : HasTurned l.task l.seat.numbers l.took l.out;
+  same_desk : l.seat.desk ≡ l.shift.desk.now.id;
+  few : length l.seat.numbers ≤ l.shift.desk.now.id.limit;
+  turned : HasTurned l.shift.task l.seat.numbers l.took l.out;
 }
 
 abbrev pub decreases-loop-place : goal.decreases-loop-place
-decreases-loop-place g l = l.desk.id.limit - length l.seat.numbers
+decreases-loop-place g l = l.shift.desk.now.id.limit - length l.seat.numbers

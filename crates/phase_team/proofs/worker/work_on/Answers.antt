@@ -10,14 +10,14 @@ use Rattle.phase_team.proofs.worker.work_on.Goals as goal
 
 pub plus-requires-clause-walls : goal.plus-requires-clause-walls
 plus-requires-clause-walls g c =
-    let task = c.args.task in
-    let few = few_tiles task.old.now c.args.desk.now.id.limit task.lattice (omega (arith, c.requires.limit)) in
+    let task = c.args.shift.task in
+    let few = few_tiles task.old.now c.args.shift.desk.now.id.limit task.lattice (omega (arith, c.args.shift.limit)) in
     (more_fits task.parity task.old.now task.walls.now task.obstacles.now c.loop-seat.seat.numbers c.in-Some.place c.loop-seat.took c.turn-here.result (omega (arith, few, c.in-Some.ensures.some.0, c.in-Some.ensures.later)) c.loop-seat.invariant.took c.turn-here.ensures.took).0
 
 pub plus-requires-clause-obstacles : goal.plus-requires-clause-obstacles
 plus-requires-clause-obstacles g c =
-    let task = c.args.task in
-    let few = few_tiles task.old.now c.args.desk.now.id.limit task.lattice (omega (arith, c.requires.limit)) in
+    let task = c.args.shift.task in
+    let few = few_tiles task.old.now c.args.shift.desk.now.id.limit task.lattice (omega (arith, c.args.shift.limit)) in
     (more_fits task.parity task.old.now task.walls.now task.obstacles.now c.loop-seat.seat.numbers c.in-Some.place c.loop-seat.took c.turn-here.result (omega (arith, few, c.in-Some.ensures.some.0, c.in-Some.ensures.later)) c.loop-seat.invariant.took c.turn-here.ensures.took).1
 
 pub push_reserved-requires : goal.push_reserved-requires
@@ -27,11 +27,11 @@ push_reserved-requires g c =
 
 pub loop-seat-preserved : goal.loop-seat-preserved
 loop-seat-preserved g c =
-    let task = c.args.task in
+    let task = c.args.shift.task in
     let was = c.loop-seat.invariant in
     let drawn = c.in-Some.ensures.some in
     let items = c.push_reserved.ensures.items in
-    let P : Turned → Type 0 = IsRight task c.args.desk.now.id.limit in
+    let P : Turned → Type 0 = IsRight task c.args.shift.desk.now.id.limit in
     record {
       same_desk = search rules;
       all_turned =

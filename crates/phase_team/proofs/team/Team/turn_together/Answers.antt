@@ -6,7 +6,7 @@ use Rattle.phase_team.proofs.Closing.{closes_out, closes_took}
 use Rattle.phase_step.proofs.PhaseSweeps.{tiles_are}
 use Rattle.phase_team.specs.Teamwork.{HasWorked}
 use Rattle.phase_team.proofs.Places.{all_lent}
-use Rattle.phase_team.proofs.team.turn_together.Goals as goal
+use Rattle.phase_team.proofs.team.Team.turn_together.Goals as goal
 
 pub returns-clause-out : goal.returns-clause-out
 returns-clause-out g c =
