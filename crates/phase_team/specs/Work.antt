@@ -1,6 +1,9 @@
 -- What the workers have to do, and have done.
-use Rattle.std.specs.Prelude.{◌≡◌, ℕ, ◌+◌, ◌*◌, ◌/◌, ◌<◌, ◌≤◌, Bool, List}
+use Rattle.std.specs.Prelude.{◌≡◌, ℕ, ◌+◌, ◌*◌, ◌/◌, ◌<◌, ◌≤◌, Bool, List, [], All}
 use Rattle.gas_terms.specs.Cells.{Cells, Extent, extent, has, joined, HasSidesOf}
+use Rattle.std.specs.declared.vec.Vec.{Vec}
+use Rattle.std.specs.declared.alloc.Global.{Global}
+use Rattle.claim_desk.specs.Desk.{DeskId, fresh}
 use Rattle.gas_plane.specs.Planes.{swept}
 use Rattle.phase_step.specs.Actions.{Leaves, after_with, flow_with}
 use Rattle.phase_step.specs.Exchanges.{Areas, listed}
@@ -9,6 +12,7 @@ use Rattle.phase_team.specs.Strips.{IsStrip, shift_of}
 use Rattle.phase_team.specs.ActionStrips.{tiles_flow}
 use Rattle.phase_team.specs.declared.course.Course.{Course}
 use Rattle.phase_team.specs.declared.strip.Strip.{Strip}
+use Rattle.phase_team.specs.declared.hand.Hand.{Hand}
 
 -- the list has what an action does after each of the first n phases of a run
 abbrev pub Lists : List Areas → (ℕ → Leaves) → ℕ → Type 0
@@ -41,11 +45,29 @@ pub record IsOf (size : Extent) (s : Strip) : Type 0 where
 abbrev pub IsFor : Course → Strip → Type 0
 IsFor course = IsOf (extent course.cells.now)
 
+-- room for strips of a lattice of this size
+abbrev pub AreRooms : Extent → List Strip → Type 0
+AreRooms size rooms = All (IsOf size) rooms
+
+abbrev pub AllAreRooms : Extent → List (Vec Strip Global) → Type 0
+AllAreRooms size rooms = All (λ room. AreRooms size room.items) rooms
+
 -- its own rows are those after the course, and it knows what the course comes to in them
 pub record IsDone (course : Course) (s : Strip) : Type 0 where
   pub of_course : IsFor course s
   pub own : IsStrip s.cells (result_of course) (shift_of course.cells.now s.first) 64 (64 + s.rows * 64)
   pub flow : s.flow ≡ tiles_give course (s.first * (course.cells.now.width / 64)) (s.rows * (course.cells.now.width / 64))
+
+-- the worker has drawn nothing, and its rooms are for the course
+pub record IsSeated (course : Course) (desk : DeskId) (h : Hand) : Type 0 where
+  pub seat : h.seat ≡ fresh desk
+  pub rooms : AreRooms (extent course.cells.now) h.rooms.items
+  pub none : h.made.items ≡ []
+
+-- the strips that it has made are done, and its rooms are for the course still
+pub record HasMade (course : Course) (h : Hand) : Type 0 where
+  pub rooms : AreRooms (extent course.cells.now) h.rooms.items
+  pub made : All (IsDone course) h.made.items
 
 -- the set whose tiles below n are those after the course, and whose others are as at the start
 abbrev pub filled_up : Course → Cells → ℕ → Cells

@@ -45,3 +45,13 @@ pub struct Course<'a> {
     pub ghost of_walls: { HasSidesOf walls.now cells.now },
     pub ghost of_obstacles: { HasSidesOf obstacles.now cells.now },
 }
+
+/// A course, into how many strips its lattice is parted, and the desk at which they are drawn.
+#[derive(Clone, Copy)]
+pub struct Stretch<'a> {
+    pub course: Course<'a>,
+    pub count: u32,
+    pub desk: &'a Desk,
+    pub ghost limit: { desk.now.id.limit ≡ count },
+    pub ghost few: { count ≤ 64 },
+}

@@ -3,6 +3,7 @@
 
 mod course;
 mod gate;
+mod hand;
 pub mod laws;
 mod runs;
 mod strip;

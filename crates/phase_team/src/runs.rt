@@ -1,19 +1,21 @@
-//! Runs of many phases, each worker on a strip of the lattice.
+//! Runs of many phases, by strips of the lattice that the workers draw.
 
 ghost use Rattle.std.specs.Prelude.{◌≡◌, ◌+◌, ◌*◌, ◌/◌, ◌<◌, ◌≤◌, All, IfSome};
 ghost use Rattle.gas_terms.specs.Cells.{Cells, extent, joined, HasSidesOf};
 ghost use Rattle.gas_plane.specs.Planes.{IsLattice};
 ghost use Rattle.phase_step.specs.Actions.{after_with, flow_with};
-ghost use Rattle.phase_team.specs.Work.{result_of, flow_of, filled_up, Lists, IsOf, IsFor, IsDone};
+ghost use Rattle.phase_team.specs.Work.{result_of, flow_of, filled_up, Lists, AllAreRooms, IsDone, HasMade};
 
-use crate::course::Course;
+use crate::course::{Course, Stretch};
+use crate::hand::{Hand, keep_rooms, make_all, seated};
 use crate::strip::Strip;
+use claim_desk::Desk;
 use gas_plane::Plane;
 use gas_terms::Size;
 use phase_step::{Action, Exchange, Flow, Later, NO_FLOW, Run, Serial, Stepper, parity_at};
 use std::alloc::Global;
+use std::mem;
 use std::thread::Threads;
-use std::{mem, thread};
 
 /// So many phases a strip can make alone: each takes a row from what it has of its neighbors.
 const AT_ONCE: u16 = 64;
@@ -24,14 +26,30 @@ const SHORTEST: u16 = 16;
 
 const LEAST: u32 = 32_768;
 
-/// Whether a run is long enough, and the strips, with their margins, are so much lower than the lattice.
+/// Where the strips are at least so many rows of tiles high, there are two for each worker, so that one that is held up leaves
+/// some of its share to the others. Their margins cost a ninth more than those of one strip for each.
+const HIGH: u32 = 8;
+
+// How many strips there are for each worker.
+fn strips_each(down: u32, workers: u8) -> u32
+    ensures { (0 < result) × (result ≤ 2) }
+{
+    if 2 * HIGH * u32::from(workers) <= down {
+        2
+    } else {
+        1
+    }
+}
+
+/// Whether a run is long enough, and what a worker turns, with the margins of its strips, so much less than the lattice.
 pub fn is_worth_strips(size: Size, workers: u8, n: u16) -> bool
     requires { 0 < workers }
 {
     let across = u32::from(size.width() / 64);
     let down = u32::from(size.height() / 64);
-    let workers = u32::from(workers);
-    let rows = (down + workers - 1) / workers + 2;
+    let each = strips_each(down, workers);
+    let strips = each * u32::from(workers);
+    let rows = each * ((down + strips - 1) / strips + 2);
     let saved = across * down.saturating_sub(rows) * u32::from(n.min(AT_ONCE));
     SHORTEST <= n && LEAST <= saved
 }
@@ -53,9 +71,35 @@ fn unload(course: Course<'_>, strip: &Strip, out: &mut Plane)
     }
 }
 
-// Puts the strips' own rows into `out`, from the first strip on, if they are all rows: what the course comes to in them.
-fn gather(course: Course<'_>, strips: &[Strip], out: &mut Plane) -> Option<Flow>
-    requires done { All (IsDone course) strips.now }
+// The strip that begins at this row of tiles, if it is among these.
+fn strip_from<'a>(course: Course<'_>, made: &'a [Strip], first: u32) -> Option<&'a Strip>
+    requires { All (IsDone course) made.now }
+    ensures { IfSome result (λ s. (s.now.first ≡ first) × IsDone course.entry s.now) }
+{
+    for strip in made {
+        if strip.first == first {
+            return Some(strip);
+        }
+    }
+    None
+}
+
+// The same, if one of the workers made it.
+fn made_from<'a>(course: Course<'_>, team: &'a [Hand], first: u32) -> Option<&'a Strip>
+    requires { All (HasMade course) team.now }
+    ensures { IfSome result (λ s. (s.now.first ≡ first) × IsDone course.entry s.now) }
+{
+    for hand in team {
+        if let Some(strip) = strip_from(course, hand.made.as_slice(), first) {
+            return Some(strip);
+        }
+    }
+    None
+}
+
+// Puts the strips' own rows into `out`, from the first row on, if they are all rows: what the course comes to in them.
+fn gather(course: Course<'_>, team: &[Hand], out: &mut Plane) -> Option<Flow>
+    requires done { All (HasMade course) team.now }
     requires lattice { IsLattice out.old }
     requires out { HasSidesOf out.old course.cells.now }
     ensures out { IfSome result (λ _. out.new ≡ result_of course.entry) }
@@ -65,132 +109,83 @@ fn gather(course: Course<'_>, strips: &[Strip], out: &mut Plane) -> Option<Flow>
     let down = u32::from(course.cells.size().height() / 64);
     let mut next = 0;
     let mut flow = NO_FLOW;
-    for strip in strips {
-        if strip.first != next {
+    while next < down {
+        let Some(strip) = made_from(course, team, next) else {
             return None;
-        }
+        };
         unload(course, strip, out);
         next += strip.rows;
         flow = flow.plus(strip.flow);
     }
-    if next == down { Some(flow) } else { None }
+    Some(flow)
 }
 
-// Turns the strips, each in a thread of its own where one can be made, and the calling thread's own.
-fn turn_all<R: Threads>(rt: &R, course: Course<'_>, strips: &mut [Strip], own: &mut Strip)
-    requires strips { All (IsOf (extent course.cells.now)) strips.old }
-    requires own { IsOf (extent course.cells.now) own.old }
-    ensures strips { All (IsDone course.entry) strips.new }
-    ensures own { IsDone course.entry own.new }
-{
-    let Some((last, rest)) = strips.split_last_mut() else {
-        own.turn(course);
-        return;
-    };
-    thread::join_mut(
-        rt,
-        &mut ||
-            requires { IsOf (extent course.cells.now) last.now }
-            ensures { IsDone course.entry last.exit.now }
-        { last.turn(course) },
-        &mut ||
-            requires { All (IsOf (extent course.cells.now)) rest.now
-                × IsOf (extent course.cells.now) own.now }
-            ensures { All (IsDone course.entry) rest.exit.now
-                × IsDone course.entry own.exit.now }
-        { turn_all(rt, course, rest, own) },
-    );
-}
-
-// Turns the strips, of which the last is the calling thread's, and puts them together in `out`.
+// Has the workers make the strips of a course, and puts these together in `out`.
 fn round<R: Threads>(
     rt: &R,
     course: Course<'_>,
-    strips: &mut [Strip],
+    workers: u32,
+    count: u32,
+    rooms: &mut Vec<Vec<Strip>>,
     out: &mut Plane,
 ) -> Option<Flow>
-    requires strips { All (IsFor course) strips.old }
+    requires workers { (0 < workers) × (workers ≤ 16) }
+    requires count { count ≤ 64 }
+    requires rooms { AllAreRooms (extent course.cells.now) rooms.old.items }
     requires lattice { IsLattice out.old }
     requires out { HasSidesOf out.old course.cells.now }
-    ensures strips { All (IsFor course.entry) strips.new }
+    ensures rooms { AllAreRooms (extent course.entry.cells.now) rooms.new.items }
     ensures out { IfSome result (λ _. out.new ≡ result_of course.entry) }
     ensures sides { HasSidesOf out.new course.entry.cells.now }
     ensures flow { IfSome result (λ flow. flow ≡ flow_of course.entry) }
 {
-    turn_strips(rt, course, strips);
-    gather(course, strips, out)
+    let Ok((desk, mut seats)) = Desk::open(*rooms.allocator(), count, workers) else {
+        return None;
+    };
+    let Some(mut team) = seated(course, &desk, &mut seats, rooms) else {
+        return None;
+    };
+    let stretch = Stretch {
+        course,
+        count,
+        desk: &desk,
+    };
+    make_all(rt, stretch, team.as_mut_slice());
+    let flow = gather(course, team.as_slice(), out);
+    keep_rooms(course, team, rooms);
+    flow
 }
 
-// Turns the strips, of which the last is the calling thread's.
-fn turn_strips<R: Threads>(rt: &R, course: Course<'_>, strips: &mut [Strip])
-    requires { All (IsFor course) strips.old }
-    ensures { All (IsDone course.entry) strips.new }
-{
-    if let Some((own, others)) = strips.split_last_mut() {
-        turn_all(rt, course, others, own);
-    }
-}
-
-/// Strips of a lattice of one size, one for each worker. They are kept between runs.
+/// Into how many strips so many workers part the lattices of one size, and the room of each worker. It is kept between runs.
 #[derive(Drop)]
 pub struct Strips {
     pub size: Size,
-    strips: Vec<Strip>,
+    workers: u32,
+    count: u32,
+    rooms: Vec<Vec<Strip>>,
     // what acts after each phase of a stretch
     turns: Vec<Exchange>,
-    pub ghost ready: { All (IsOf size) strips.items },
-}
-
-// A strip of a lattice of this size.
-fn strip_of(alloc: Global, size: Size, first: u32, rows: u32) -> Option<Strip>
-    requires inside { first + rows ≤ size.height / 64 }
-    requires some { 0 < rows }
-    ensures { IfSome result (IsOf size) }
-{
-    let own = Size::new(u32::from(size.width()), (rows + 2) * 64)?;
-    Strip::new(alloc, own, first, rows).ok()
-}
-
-// Lists a strip of the rows of tiles from `first` on, below `end`, where there are some.
-fn add_strip(alloc: Global, size: Size, first: u32, end: u32, strips: &mut Vec<Strip>) -> Option<()>
-    requires { All (IsOf size) strips.old.items }
-    ensures { IfSome result (λ _. All (IsOf size) strips.new.items) }
-{
-    if end <= first || u32::from(size.height() / 64) < end {
-        return Some(());
-    }
-    let strip = strip_of(alloc, size, first, end - first)?;
-    strips.push(strip).ok()
-}
-
-// Strips for the workers, from the first row of tiles on.
-fn strips_of(alloc: Global, size: Size, workers: u8) -> Option<Vec<Strip>>
-    requires { (0 < workers) × (workers ≤ 16) }
-    ensures { IfSome result (λ strips. All (IsOf size) strips.items) }
-{
-    let down = u32::from(size.height() / 64);
-    let count = u32::from(workers).min(down);
-    let mut strips = Vec::with_capacity(alloc, count as usize).ok()?;
-    let mut first = 0;
-    for k in 0..count {
-        let end = (k + 1) * down / count;
-        add_strip(alloc, size, first, end, &mut strips)?;
-        first = end;
-    }
-    Some(strips)
+    pub ghost some: { 0 < workers },
+    pub ghost few: { workers ≤ 16 },
+    pub ghost low: { count ≤ 64 },
+    pub ghost ready: { AllAreRooms size rooms.items },
 }
 
 impl Strips {
-    /// `None` where memory is refused, or a strip would be higher than a lattice may be.
+    /// `None` where memory is refused.
     pub fn new(alloc: Global, size: Size, workers: u8) -> Option<Strips>
         requires { (0 < workers) × (workers ≤ 16) }
         ensures { IfSome result (λ strips. strips.size ≡ size) }
     {
-        let strips = strips_of(alloc, size, workers)?;
         let turns = Vec::with_capacity(alloc, AT_ONCE as usize).ok()?;
+        let down = u32::from(size.height() / 64);
+        let each = strips_each(down, workers);
+        let workers = u32::from(workers);
         Some(Strips {
             size,
-            strips,
+            workers,
+            count: (each * workers).min(down),
+            rooms: Vec::new(alloc),
             turns,
         })
     }
@@ -260,7 +255,14 @@ fn stretch<R: Threads, A: Action>(
         parity: run.parity,
         phases: run.n,
     };
-    match round(rt, course, strips.strips.as_mut_slice(), spare) {
+    match round(
+        rt,
+        course,
+        strips.workers,
+        strips.count,
+        &mut strips.rooms,
+        spare,
+    ) {
         Some(flow) => {
             mem::swap(particles, spare);
             flow

@@ -1,0 +1,13 @@
+use Rattle.std.proofs.Common.{All, vec_len}
+use Rattle.gas_terms.specs.Cells.{extent}
+use Rattle.phase_team.specs.Work.{AreRooms, IsDone}
+use Rattle.phase_team.proofs.hand.room_of.Given as goal
+
+abbrev pub invariant-loop-strip : goal.invariant-loop-strip
+invariant-loop-strip l = record {
+  rooms : AreRooms (extent l.course.cells.now) l.rooms.items;
+  made : All (IsDone l.course) l.made.items;
+}
+
+abbrev pub decreases-loop-strip : goal.decreases-loop-strip
+decreases-loop-strip l = vec_len l.made
