@@ -404,6 +404,29 @@ fn long_and_high_runs_by_strips_are_the_phases(rt: HostRuntime) {
     strips_agree(&rt, high, 65, &[3, 16]);
 }
 
+// A stretch by strips leaves what it began with in the spare plane, one phase by phase what its last phase began with.
+#[test]
+fn strips_are_put_together(rt: HostRuntime) {
+    let size = Size::new(64, 4096).expect(&rt, "a size");
+    let none = Plane::empty(rt.alloc(), size).expect(&rt, "memory");
+    let run = Ground {
+        walls: &none,
+        obstacles: &none,
+        parity: 1,
+        n: 64,
+    };
+    let start = seeded(&rt, size, 88172645463325252, 1);
+    let mut spare = seeded(&rt, size, 1, 1);
+    let mut alone = seeded(&rt, size, 88172645463325252, 1);
+    by_phases(&rt, run, &mut alone, &mut spare);
+    assert!(rt; !have_same_rows(&spare, &start));
+    for workers in [1, 2, 3, 16] {
+        let mut now = seeded(&rt, size, 88172645463325252, 1);
+        by_strips(&rt, workers, run, &Still, &mut now, &mut spare);
+        assert!(rt; have_same_rows(&spare, &start));
+    }
+}
+
 // how many cells a plane has, and the sum of their places, row by row
 fn places(plane: &Plane, height: u32) -> (u64, u64) {
     let mut sums = (0u64, 0u64);
@@ -571,6 +594,27 @@ fn team_runs_as_one_thread(rt: HostRuntime) {
         let took = make(&rt, &mut team, run, &mut now, &mut spare);
         let by_one = make(&rt, &mut Serial, run, &mut alone, &mut spare);
         assert!(rt; took == by_one && have_same_rows(&now, &alone));
+    }
+}
+
+// seen as in `strips_are_put_together`: 2,048 squared is large enough for four workers and too small for two
+#[test]
+fn team_parts_large_runs_into_strips(rt: HostRuntime) {
+    let size = Size::new(2048, 2048).expect(&rt, "a size");
+    let none = Plane::empty(rt.alloc(), size).expect(&rt, "memory");
+    let run = Ground {
+        walls: &none,
+        obstacles: &none,
+        parity: 0,
+        n: 64,
+    };
+    let start = seeded(&rt, size, 88172645463325252, 1);
+    for (workers, by_strips) in [(1, false), (2, false), (4, true)] {
+        let mut team = team(&rt, rt, rt.alloc(), workers, NoGate);
+        let mut now = seeded(&rt, size, 88172645463325252, 1);
+        let mut spare = seeded(&rt, size, 1, 1);
+        make(&rt, &mut team, run, &mut now, &mut spare);
+        assert!(rt; have_same_rows(&spare, &start) == by_strips);
     }
 }
 
