@@ -3,6 +3,7 @@
 ghost use Rattle.std.specs.Prelude.{◌≡◌, ◌<◌, true, false};
 ghost use Rattle.gas_terms.specs.Cells.{lies_within, extent};
 
+use crate::expected::{expect_same, expect_that};
 use gas_ledger::{Flow, Gas, Port, Ports, Sums, tally};
 use gas_plane::{Plane, Tile};
 use gas_terms::{Pair, Rect, Size, Tick, Took};
@@ -43,30 +44,30 @@ fn cell(rt: &impl Abort, gas: &Gas, x: u32, y: u32) -> Rect
     ensures { lies_within (extent gas.now.particles) result ≡ true }
 {
     let cell = Rect::within(gas.size(), x, y, 1, 1).expect(rt, "a cell");
-    assert!(rt; cell.fits(gas.size()));
+    expect_that(&rt, cell.fits(gas.size()));
     cell
 }
 
 fn source(rt: &impl Abort, gas: &mut Gas, x: u32, y: u32, period: u16) {
     let area = cell(rt, gas, x, y);
     assert!(rt; 1 <= period);
-    assert!(rt; gas.add_port(Port::Source(area, period)).is_ok());
+    expect_that(&rt, gas.add_port(Port::Source(area, period)).is_ok());
 }
 
 fn drain(rt: &impl Abort, gas: &mut Gas, x: u32, y: u32) {
     let area = cell(rt, gas, x, y);
-    assert!(rt; gas.add_port(Port::Drain(area)).is_ok());
+    expect_that(&rt, gas.add_port(Port::Drain(area)).is_ok());
 }
 
 fn put(rt: &impl Abort, gas: &mut Gas, x: u32, y: u32) {
     let area = cell(rt, gas, x, y);
     let moved = gas.fill_particles(area);
-    assert_eq!(rt; moved.injected.count, 1);
+    expect_same(&rt, moved.injected.count, 1);
 }
 
 fn step_on(rt: &(impl Abort + AllocGlobal), gas: &mut Gas, n: u16) -> Flow {
     let mut spare = Plane::empty(rt.alloc(), gas.size()).expect(rt, "memory");
-    assert!(rt; gas.tick().ahead(n).is_some());
+    expect_that(&rt, gas.tick().ahead(n).is_some());
     gas.step_on(n, &mut spare, &mut Serial)
 }
 
@@ -86,12 +87,13 @@ fn source_acts_at_each_tick_of_a_run(rt: HostRuntime) {
     let mut gas = gas_at(&rt, 0);
     source(&rt, &mut gas, 10, 10, 1);
     let flow = step_on(&rt, &mut gas, 2);
-    assert_eq!(rt; gas.tick().get(), 2);
-    assert_eq!(rt; flow.moved.injected, sums(2, 0, 0));
-    assert_eq!(rt; flow.moved.drained, sums(0, 0, 0));
-    assert_eq!(rt; flow.took, took(0, 0));
-    assert!(rt; holds(gas.particles(), 9, 9) && holds(gas.particles(), 10, 10));
-    assert_eq!(rt; count(&rt, gas.particles()), 2);
+    expect_same(&rt, gas.tick().get(), 2);
+    expect_same(&rt, flow.moved.injected, sums(2, 0, 0));
+    expect_same(&rt, flow.moved.drained, sums(0, 0, 0));
+    expect_same(&rt, flow.took, took(0, 0));
+    expect_that(&rt, holds(gas.particles(), 9, 9));
+    expect_that(&rt, holds(gas.particles(), 10, 10));
+    expect_same(&rt, count(&rt, gas.particles()), 2);
 }
 
 #[test]
@@ -107,7 +109,11 @@ fn source_of_a_run_keeps_its_period(rt: HostRuntime) {
         let mut gas = gas_at(&rt, start);
         source(&rt, &mut gas, 20, 30, 2);
         let flow = step_on(&rt, &mut gas, n);
-        assert_eq!(rt; flow.moved.injected.count, times, "{n} from {start}");
+        expect_same(
+            &rt,
+            (n, start, flow.moved.injected.count),
+            (n, start, times),
+        );
     }
 }
 
@@ -118,9 +124,9 @@ fn drain_of_a_run_takes_once(rt: HostRuntime) {
     drain(&rt, &mut gas, 1, 1);
     put(&rt, &mut gas, 0, 0);
     let flow = step_on(&rt, &mut gas, 3);
-    assert_eq!(rt; flow.moved.drained, sums(1, 1, 1));
-    assert_eq!(rt; flow.moved.injected, sums(0, 0, 0));
-    assert_eq!(rt; count(&rt, gas.particles()), 0);
+    expect_same(&rt, flow.moved.drained, sums(1, 1, 1));
+    expect_same(&rt, flow.moved.injected, sums(0, 0, 0));
+    expect_same(&rt, count(&rt, gas.particles()), 0);
 }
 
 // A wall takes what it turns back, before the port acts.
@@ -132,9 +138,9 @@ fn wall_takes_in_a_run_with_ports(rt: HostRuntime) {
     let wall = cell(&rt, &gas, 1, 1);
     gas.add_walls(wall);
     let flow = step_on(&rt, &mut gas, 1);
-    assert_eq!(rt; flow.took, took(2, 2));
-    assert_eq!(rt; flow.moved.drained, sums(0, 0, 0));
-    assert!(rt; holds(gas.particles(), 0, 0));
+    expect_same(&rt, flow.took, took(2, 2));
+    expect_same(&rt, flow.moved.drained, sums(0, 0, 0));
+    expect_that(&rt, holds(gas.particles(), 0, 0));
 }
 
 // Empties all cells of a lattice.
@@ -172,10 +178,10 @@ fn action_after_the_first_phase(rt: HostRuntime) {
         action: &Listed { turns: &turns },
     };
     let flow = Serial.run_with(&mut particles, run, &mut spare);
-    assert_eq!(rt; flow.moved.drained, sums(2, 2, 2));
-    assert_eq!(rt; flow.moved.injected, sums(0, 0, 0));
-    assert_eq!(rt; flow.took, took(0, 0));
-    assert_eq!(rt; count(&rt, &particles), 0);
+    expect_same(&rt, flow.moved.drained, sums(2, 2, 2));
+    expect_same(&rt, flow.moved.injected, sums(0, 0, 0));
+    expect_same(&rt, flow.took, took(0, 0));
+    expect_same(&rt, count(&rt, &particles), 0);
 }
 
 #[test]
@@ -183,24 +189,24 @@ fn action_at_a_tick_of_each_parity(rt: HostRuntime) {
     let mut particles = two(&rt);
     let all = emptied(&rt, particles.size());
     let moved = act_on(&mut particles, &all, 0);
-    assert_eq!(rt; moved.drained, sums(2, 2, 2));
-    assert_eq!(rt; count(&rt, &particles), 0);
+    expect_same(&rt, moved.drained, sums(2, 2, 2));
+    expect_same(&rt, count(&rt, &particles), 0);
     let mut others = two(&rt);
     let moved = act_on(&mut others, &all, 1);
-    assert_eq!(rt; moved.drained, sums(2, -2, -2));
+    expect_same(&rt, moved.drained, sums(2, -2, -2));
 }
 
 #[test]
 fn sums_by_classes(rt: HostRuntime) {
-    assert_eq!(rt; sums_by_counts([1, 2, 3, 4], 0), sums(10, -2, -4));
-    assert_eq!(rt; sums_by_counts([1, 2, 3, 4], 1), sums(10, 2, 4));
+    expect_same(&rt, sums_by_counts([1, 2, 3, 4], 0), sums(10, -2, -4));
+    expect_same(&rt, sums_by_counts([1, 2, 3, 4], 1), sums(10, 2, 4));
     let change = Change {
         gained: [1, 0, 0, 0],
         lost: [0, 0, 0, 2],
     };
     let moved = change.moved(1);
-    assert_eq!(rt; moved.injected, sums(1, -1, -1));
-    assert_eq!(rt; moved.drained, sums(2, 2, 2));
+    expect_same(&rt, moved.injected, sums(1, -1, -1));
+    expect_same(&rt, moved.drained, sums(2, 2, 2));
 }
 
 #[test]
@@ -214,8 +220,8 @@ fn changes_add_up(rt: HostRuntime) {
         drained: sums(6000, 4000, -2000),
     };
     let both = some.plus(more);
-    assert_eq!(rt; both.injected, sums(709, -499, 597));
-    assert_eq!(rt; both.drained, sums(6080, 4020, -2040));
+    expect_same(&rt, both.injected, sums(709, -499, 597));
+    expect_same(&rt, both.drained, sums(6080, 4020, -2040));
 }
 
 #[test]
@@ -241,10 +247,10 @@ fn flows_add_up(rt: HostRuntime) {
         },
     };
     let both = some.plus(more);
-    assert_eq!(rt; both.took.walls, Pair { x: 22, y: 396 });
-    assert_eq!(rt; both.took.obstacles, Pair { x: -54, y: -608 });
-    assert_eq!(rt; both.moved.injected, sums(79, -49, 27));
-    assert_eq!(rt; both.moved.drained, sums(907, 295, 699));
+    expect_same(&rt, both.took.walls, Pair { x: 22, y: 396 });
+    expect_same(&rt, both.took.obstacles, Pair { x: -54, y: -608 });
+    expect_same(&rt, both.moved.injected, sums(79, -49, 27));
+    expect_same(&rt, both.moved.drained, sums(907, 295, 699));
 }
 
 // The cells (0, 0) and (1, 0) give way to (1, 0), (2, 0) and (3, 0): one of each class of that row comes, and (0, 0) goes.
@@ -253,8 +259,8 @@ fn change_of_a_tile(rt: HostRuntime) {
     let old = Tile::rect(0, 0, 2, 1);
     let new = Tile::rect(1, 0, 3, 1);
     let change = change_of(&old, &new);
-    assert_eq!(rt; change.gained, [1, 1, 0, 0]);
-    assert_eq!(rt; change.lost, [1, 0, 0, 0]);
+    expect_same(&rt, change.gained, [1, 1, 0, 0]);
+    expect_same(&rt, change.lost, [1, 0, 0, 0]);
 }
 
 fn area(rt: &impl Abort, x: u32, w: u32) -> Rect {
@@ -278,43 +284,47 @@ fn exchange_of_a_tile(rt: HostRuntime) {
     let mut want = Tile::rect(1, 0, 2, 1);
     want.join(&Tile::rect(0, 1, 2, 1));
     for exchange in [shift(&rt), shift(&rt).copy()] {
-        assert!(rt; !exchange.is_still());
+        expect_that(&rt, !exchange.is_still());
         let new = exchange.on_tile(0, 0, &old).expect(&rt, "another tile");
-        assert!(rt; new.has_same_cells(&want));
+        expect_that(&rt, new.has_same_cells(&want));
         // what is so already stays, and so does a tile that no rectangle meets
-        assert!(rt; exchange.on_tile(0, 0, &want).is_none());
-        assert!(rt; exchange.on_tile(64, 0, &old).is_none());
+        expect_that(&rt, exchange.on_tile(0, 0, &want).is_none());
+        expect_that(&rt, exchange.on_tile(64, 0, &old).is_none());
     }
 }
 
 #[test]
 fn exchange_without_ports_is_still(rt: HostRuntime) {
     let none = Exchange::none();
-    assert!(rt; none.is_still() && none.on_tile(0, 0, &Tile::full()).is_none());
+    expect_that(&rt, none.is_still());
+    expect_that(&rt, none.on_tile(0, 0, &Tile::full()).is_none());
 }
 
 #[test]
 fn few_rectangles(rt: HostRuntime) {
     let (first, second) = (area(&rt, 3, 1), area(&rt, 5, 1));
     let mut few = Few::none(first);
-    assert!(rt; few.len() == 0);
+    expect_that(&rt, few.len() == 0);
     few.push(second);
     let before = few.copy();
-    assert!(rt; before.len() == 1);
-    assert!(rt; before.as_slice().iter().all(|area| area.x() == 5));
+    expect_that(&rt, before.len() == 1);
+    expect_that(&rt, before.as_slice().iter().all(|area| area.x() == 5));
     few.clear();
-    assert!(rt; few.len() == 0 && before.len() == 1);
+    expect_that(&rt, few.len() == 0);
+    expect_that(&rt, before.len() == 1);
 }
 
 #[test]
 fn listed_exchanges_end(rt: HostRuntime) {
     let turns = [Exchange::none(), shift(&rt)];
     let listed = Listed { turns: &turns };
-    assert!(rt; listed.after_phase(0).is_still() && !listed.after_phase(1).is_still());
-    assert!(rt; listed.after_phase(2).is_still());
+    expect_that(&rt, listed.after_phase(0).is_still());
+    expect_that(&rt, !listed.after_phase(1).is_still());
+    expect_that(&rt, listed.after_phase(2).is_still());
     let later = Later {
         action: &listed,
         by: 1,
     };
-    assert!(rt; !later.after_phase(0).is_still() && later.after_phase(1).is_still());
+    expect_that(&rt, !later.after_phase(0).is_still());
+    expect_that(&rt, later.after_phase(1).is_still());
 }

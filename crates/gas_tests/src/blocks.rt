@@ -1,5 +1,6 @@
 //! The block rule: worked examples, with values that were found by hand.
 
+use crate::expected::{expect_same, expect_that};
 use bit_tile::Tile;
 use block_rule::{Window, turn_block, turn_tile, turn_tile_even, turn_tile_into, turn_tile_odd};
 use gas_terms::{Pair, Took};
@@ -38,16 +39,12 @@ fn block(cells: u8) -> [bool; 4] {
 #[test]
 fn blocks_turn_as_the_table_says(rt: HostRuntime) {
     for (old, new) in TABLE {
-        assert_eq!(rt; turn_block(block(old), false), block(new), "at {old}");
-        assert_eq!(rt;
-            turn_block(block(old), true),
-            block(old),
-            "walled, at {old}"
-        );
-        assert_eq!(rt;
-            turn_block(turn_block(block(old), false), false),
-            block(old),
-            "twice, at {old}"
+        expect_same(&rt, (old, turn_block(block(old), false)), (old, block(new)));
+        expect_same(&rt, (old, turn_block(block(old), true)), (old, block(old)));
+        expect_same(
+            &rt,
+            (old, turn_block(turn_block(block(old), false), false)),
+            (old, block(old)),
         );
     }
 }
@@ -102,7 +99,11 @@ fn turned_odd(rt: &impl Abort, old: &Tile, border: &Border) -> Tile {
     let near = border.neighbors();
     let particles = window(old, &near);
     let mut out = Tile::full();
-    assert_eq!(rt; turn_tile_odd(&particles, None, None, &mut out), NOTHING);
+    expect_same(
+        &rt,
+        turn_tile_odd(&particles, None, None, &mut out),
+        NOTHING,
+    );
     out
 }
 
@@ -114,20 +115,20 @@ fn particles_cross_their_blocks(rt: HostRuntime) {
     let even = [(1, 1), (11, 10), (10, 11), (62, 63)].as_slice();
     let mut out = Tile::full();
     let took = turn_tile_even(&old, None, None, &mut out);
-    assert!(rt; has_just(&out, even));
-    assert_eq!(rt; took, NOTHING);
+    expect_that(&rt, has_just(&out, even));
+    expect_same(&rt, took, NOTHING);
     let mut again = Tile::full();
     let took = turn_tile_even(&old, Some(&none), Some(&none), &mut again);
-    assert!(rt; has_just(&again, even));
-    assert_eq!(rt; took, NOTHING);
+    expect_that(&rt, has_just(&again, even));
+    expect_same(&rt, took, NOTHING);
 
     // at odd parity (10, 10) and (11, 11) are in blocks of their own, and (0, 0) and (63, 62) leave the tile
     let odd = [(9, 9), (12, 12)].as_slice();
-    assert!(rt; has_just(&turned_odd(&rt, &old, &no_border()), odd));
+    expect_that(&rt, has_just(&turned_odd(&rt, &old, &no_border()), odd));
     let border = no_border();
     let (again, took) = turn_tile(&old, &border, &none, &border, &none, &border, 1);
-    assert!(rt; has_just(&again, odd));
-    assert_eq!(rt; took, NOTHING);
+    expect_that(&rt, has_just(&again, odd));
+    expect_same(&rt, took, NOTHING);
 }
 
 #[test]
@@ -139,17 +140,17 @@ fn particles_come_in_over_the_corners(rt: HostRuntime) {
 
     // from the tile above to the left, and from the tile below to the right
     let out = turned_odd(&rt, &none, &border_of(&none, &none, &corner, &first));
-    assert!(rt; has_just(&out, [(0, 0), (63, 63)].as_slice()));
+    expect_that(&rt, has_just(&out, [(0, 0), (63, 63)].as_slice()));
 
     // a head-on pair across the corner goes to the tiles above and to the left
     let out = turned_odd(&rt, &first, &border_of(&none, &none, &corner, &none));
-    assert!(rt; has_just(&out, [].as_slice()));
+    expect_that(&rt, has_just(&out, [].as_slice()));
 
     // and a pair of those tiles comes to the corner
     let above = tile_of([(0, 63)].as_slice());
     let left = tile_of([(63, 0)].as_slice());
     let out = turned_odd(&rt, &last, &border_of(&above, &left, &none, &none));
-    assert!(rt; has_just(&out, [(0, 0)].as_slice()));
+    expect_that(&rt, has_just(&out, [(0, 0)].as_slice()));
 }
 
 // the cells of a block that begins at (x, y)
@@ -184,14 +185,14 @@ fn sixteen_states_walled_and_not(rt: HostRuntime) {
         for (old, new) in TABLE {
             let tile = cells_at(old, x, y);
             let (out, took) = turn_tile(&tile, &border, &none, &border, &none, &border, parity);
-            assert!(rt; out.has_same_cells(&cells_at(new, x, y)));
-            assert_eq!(rt; took, NOTHING);
+            expect_that(&rt, out.has_same_cells(&cells_at(new, x, y)));
+            expect_same(&rt, took, NOTHING);
             for wall in [0b1000, 0b0100, 0b0010, 0b0001] {
                 let walls = cells_at(wall, x, y);
                 let (out, _) = turn_tile(&tile, &border, &walls, &border, &none, &border, parity);
-                assert!(rt; out.has_same_cells(&tile));
+                expect_that(&rt, out.has_same_cells(&tile));
                 let (out, _) = turn_tile(&tile, &border, &none, &border, &walls, &border, parity);
-                assert!(rt; out.has_same_cells(&tile));
+                expect_that(&rt, out.has_same_cells(&tile));
             }
         }
     }
@@ -225,15 +226,15 @@ fn a_tile_books_its_own_particles(rt: HostRuntime) {
         (&above, &beside, pair(0, 0), pair(-2, -2)),
     ] {
         let (out, took) = taken_at_corner(walls, obstacles);
-        assert!(rt; has_just(&out, [(0, 0)].as_slice()));
-        assert_eq!(rt; took.walls, of_walls);
-        assert_eq!(rt; took.obstacles, of_obstacles);
+        expect_that(&rt, has_just(&out, [(0, 0)].as_slice()));
+        expect_same(&rt, took.walls, of_walls);
+        expect_same(&rt, took.obstacles, of_obstacles);
     }
 
     // with neither it meets the other head on
     let (out, took) = taken_at_corner(&free, &free);
-    assert!(rt; has_just(&out, [].as_slice()));
-    assert_eq!(rt; took, NOTHING);
+    expect_that(&rt, has_just(&out, [].as_slice()));
+    expect_same(&rt, took, NOTHING);
 }
 
 #[test]
@@ -248,19 +249,19 @@ fn walls_and_obstacles_turn_particles_back(rt: HostRuntime) {
     let took = turn_tile_into(
         &old, &border, &walls, &border, &obstacles, &border, 0, &mut out,
     );
-    assert!(rt; has_just(&out, [(0, 0), (5, 8), (20, 31)].as_slice()));
-    assert_eq!(rt; took.walls, pair(0, 4));
-    assert_eq!(rt; took.obstacles, pair(2, -2));
+    expect_that(&rt, has_just(&out, [(0, 0), (5, 8), (20, 31)].as_slice()));
+    expect_same(&rt, took.walls, pair(0, 4));
+    expect_same(&rt, took.obstacles, pair(2, -2));
 
     // at odd parity they are in other blocks, none of them walled: (0, 0) leaves the tile
     let took = turn_tile_into(
         &old, &border, &walls, &border, &obstacles, &border, 1, &mut out,
     );
-    assert!(rt; has_just(&out, [(6, 7), (19, 32)].as_slice()));
-    assert_eq!(rt; took, NOTHING);
+    expect_that(&rt, has_just(&out, [(6, 7), (19, 32)].as_slice()));
+    expect_same(&rt, took, NOTHING);
     // an obstacle on a particle's own cell takes as well
     let took = turn_tile_into(&old, &border, &none, &border, &old, &border, 1, &mut out);
-    assert!(rt; has_just(&out, [(0, 0), (5, 8), (20, 31)].as_slice()));
-    assert_eq!(rt; took.walls, pair(0, 0));
-    assert_eq!(rt; took.obstacles, pair(-2, -2));
+    expect_that(&rt, has_just(&out, [(0, 0), (5, 8), (20, 31)].as_slice()));
+    expect_same(&rt, took.walls, pair(0, 0));
+    expect_same(&rt, took.obstacles, pair(-2, -2));
 }

@@ -1,5 +1,6 @@
 //! Borders: worked examples, with values that were found by hand.
 
+use crate::expected::expect_that;
 use bit_tile::Tile;
 use tile_border::{Border, Round};
 
@@ -20,58 +21,68 @@ fn the_ring_is_what_the_neighbors_touch(rt: HostRuntime) {
     let none = Tile::empty();
     let border = Border::of(&above, &below, &left, &right, &none, &none, &none, &none);
 
-    assert!(rt;
-        border.cell(5, -1) && border.cell(6, 64) && border.cell(-1, 7) && border.cell(64, 8)
-    );
+    expect_that(&rt, border.cell(5, -1));
+    expect_that(&rt, border.cell(6, 64));
+    expect_that(&rt, border.cell(-1, 7));
+    expect_that(&rt, border.cell(64, 8));
     // each of these on the other side
-    assert!(rt;
-        !border.cell(5, 64) && !border.cell(6, -1) && !border.cell(64, 7) && !border.cell(-1, 8)
-    );
+    expect_that(&rt, !border.cell(5, 64));
+    expect_that(&rt, !border.cell(6, -1));
+    expect_that(&rt, !border.cell(64, 7));
+    expect_that(&rt, !border.cell(-1, 8));
     // cells that do not touch the tile
-    assert!(rt;
-        !border.cell(9, -1) && !border.cell(10, 64) && !border.cell(-1, 11) && !border.cell(64, 12)
-    );
+    expect_that(&rt, !border.cell(9, -1));
+    expect_that(&rt, !border.cell(10, 64));
+    expect_that(&rt, !border.cell(-1, 11));
+    expect_that(&rt, !border.cell(64, 12));
 }
 
+// the neighbors' cells that touch the tile's corners
 #[test]
 fn each_corner_is_a_corner_of_its_tile(rt: HostRuntime) {
     let none = Tile::empty();
-    let all = Tile::rect(0, 0, 64, 64);
-    let upper_left = Tile::rect(0, 0, 1, 1);
-    let upper_right = Tile::rect(63, 0, 1, 1);
-    let lower_left = Tile::rect(0, 63, 1, 1);
-    let lower_right = Tile::rect(63, 63, 1, 1);
-
-    // the neighbors' cells that touch the tile's corners
     let touching = Border::of(
         &none,
         &none,
         &none,
         &none,
-        &lower_right,
-        &lower_left,
-        &upper_right,
-        &upper_left,
+        &Tile::rect(63, 63, 1, 1),
+        &Tile::rect(0, 63, 1, 1),
+        &Tile::rect(63, 0, 1, 1),
+        &Tile::rect(0, 0, 1, 1),
     );
-    assert!(rt; touching.cell(-1, -1) && touching.cell(64, -1));
-    assert!(rt; touching.cell(-1, 64) && touching.cell(64, 64));
-    assert!(rt; !touching.cell(0, -1) && !touching.cell(-1, 0));
-    assert!(rt; !touching.cell(63, 64) && !touching.cell(64, 63));
+    expect_that(&rt, touching.cell(-1, -1));
+    expect_that(&rt, touching.cell(64, -1));
+    expect_that(&rt, touching.cell(-1, 64));
+    expect_that(&rt, touching.cell(64, 64));
+    expect_that(&rt, !touching.cell(0, -1));
+    expect_that(&rt, !touching.cell(-1, 0));
+    expect_that(&rt, !touching.cell(63, 64));
+    expect_that(&rt, !touching.cell(64, 63));
+}
 
-    // the neighbors at the sides are full, and those at the corners have cells that do not touch it
+// the neighbors at the sides are full, and those at the corners have cells that do not touch the tile
+#[test]
+fn sides_end_at_the_corners(rt: HostRuntime) {
+    let all = Tile::rect(0, 0, 64, 64);
     let apart = Border::of(
         &all,
         &all,
         &all,
         &all,
-        &upper_left,
-        &upper_right,
-        &lower_left,
-        &lower_right,
+        &Tile::rect(0, 0, 1, 1),
+        &Tile::rect(63, 0, 1, 1),
+        &Tile::rect(0, 63, 1, 1),
+        &Tile::rect(63, 63, 1, 1),
     );
-    assert!(rt; !apart.cell(-1, -1) && !apart.cell(64, -1));
-    assert!(rt; !apart.cell(-1, 64) && !apart.cell(64, 64));
-    assert!(rt; apart.cell(0, -1) && apart.cell(-1, 0) && apart.cell(63, 64) && apart.cell(64, 63));
+    expect_that(&rt, !apart.cell(-1, -1));
+    expect_that(&rt, !apart.cell(64, -1));
+    expect_that(&rt, !apart.cell(-1, 64));
+    expect_that(&rt, !apart.cell(64, 64));
+    expect_that(&rt, apart.cell(0, -1));
+    expect_that(&rt, apart.cell(-1, 0));
+    expect_that(&rt, apart.cell(63, 64));
+    expect_that(&rt, apart.cell(64, 63));
 }
 
 #[test]
@@ -94,9 +105,15 @@ fn what_stood_in_a_border_is_overwritten(rt: HostRuntime) {
         below_left: &none,
         below_right: &below_right,
     });
-    assert!(rt; border.cell(5, -1) && border.cell(-1, 7) && border.cell(64, 64));
-    assert!(rt; !border.cell(5, 64) && !border.cell(64, 7) && !border.cell(-1, -1));
-    assert!(rt; !border.cell(6, -1) && !border.cell(-1, 8) && !border.cell(64, -1));
+    expect_that(&rt, border.cell(5, -1));
+    expect_that(&rt, border.cell(-1, 7));
+    expect_that(&rt, border.cell(64, 64));
+    expect_that(&rt, !border.cell(5, 64));
+    expect_that(&rt, !border.cell(64, 7));
+    expect_that(&rt, !border.cell(-1, -1));
+    expect_that(&rt, !border.cell(6, -1));
+    expect_that(&rt, !border.cell(-1, 8));
+    expect_that(&rt, !border.cell(64, -1));
 }
 
 #[test]
@@ -120,14 +137,23 @@ fn a_border_has_neighbors(rt: HostRuntime) {
     let round = neighbors.round();
 
     // what touches the tile is there
-    assert!(rt; round.above.get(5, 63) && round.above.get(6, 63));
-    assert!(rt; round.left.get(63, 7) && round.left.get(63, 8) && round.left.get(63, 9));
-    assert!(rt; round.right.get(0, 8) && round.right.get(0, 9) && round.below_left.get(63, 0));
+    expect_that(&rt, round.above.get(5, 63));
+    expect_that(&rt, round.above.get(6, 63));
+    expect_that(&rt, round.left.get(63, 7));
+    expect_that(&rt, round.left.get(63, 8));
+    expect_that(&rt, round.left.get(63, 9));
+    expect_that(&rt, round.right.get(0, 8));
+    expect_that(&rt, round.right.get(0, 9));
+    expect_that(&rt, round.below_left.get(63, 0));
     // and nothing else
-    assert!(rt; round.above.count() == 2 && round.left.count() == 3 && round.right.count() == 2);
-    assert!(rt; round.below_left.count() == 1 && round.below.is_empty());
-    assert!(rt; round.above_left.is_empty() && round.above_right.is_empty());
-    assert!(rt; round.below_right.is_empty());
+    expect_that(&rt, round.above.count() == 2);
+    expect_that(&rt, round.left.count() == 3);
+    expect_that(&rt, round.right.count() == 2);
+    expect_that(&rt, round.below_left.count() == 1);
+    expect_that(&rt, round.below.is_empty());
+    expect_that(&rt, round.above_left.is_empty());
+    expect_that(&rt, round.above_right.is_empty());
+    expect_that(&rt, round.below_right.is_empty());
 }
 
 #[test]
@@ -149,10 +175,16 @@ fn each_neighbor_has_its_own_cells(rt: HostRuntime) {
     );
     let neighbors = border.neighbors();
     let round = neighbors.round();
-    assert!(rt; round.below.get(9, 0) && round.below.count() == 1);
-    assert!(rt; round.above_left.get(63, 63) && round.above_left.count() == 1);
-    assert!(rt; round.above_right.get(0, 63) && round.above_right.count() == 1);
-    assert!(rt; round.below_right.get(0, 0) && round.below_right.count() == 1);
-    assert!(rt; round.above.is_empty() && round.below_left.is_empty());
-    assert!(rt; round.left.is_empty() && round.right.is_empty());
+    expect_that(&rt, round.below.get(9, 0));
+    expect_that(&rt, round.below.count() == 1);
+    expect_that(&rt, round.above_left.get(63, 63));
+    expect_that(&rt, round.above_left.count() == 1);
+    expect_that(&rt, round.above_right.get(0, 63));
+    expect_that(&rt, round.above_right.count() == 1);
+    expect_that(&rt, round.below_right.get(0, 0));
+    expect_that(&rt, round.below_right.count() == 1);
+    expect_that(&rt, round.above.is_empty());
+    expect_that(&rt, round.below_left.is_empty());
+    expect_that(&rt, round.left.is_empty());
+    expect_that(&rt, round.right.is_empty());
 }

@@ -2,6 +2,7 @@
 
 ghost use Rattle.std.specs.Prelude.{◌≡◌, true, OnOk, IfOk};
 
+use crate::expected::{expect_same, expect_that};
 use claim_desk::{Desk, DeskSeat, NoMemory};
 use std::alloc::Global;
 use std::test::Fail;
@@ -42,9 +43,10 @@ fn desk_draws(rt: HostRuntime) -> Result<(), Fail> {
     let again = first.draw(&desk);
     seats.push(first)?;
     seats.push(second)?;
-    assert_eq!(rt; drawn.as_slice(), [0, 1, 2, 3, 4].as_slice());
-    assert!(rt; none.is_none() && again.is_none());
-    assert_eq!(rt; desk.close(seats), 5);
+    expect_same(&rt, drawn.as_slice(), [0, 1, 2, 3, 4].as_slice());
+    expect_that(&rt, none.is_none());
+    expect_that(&rt, again.is_none());
+    expect_same(&rt, desk.close(seats), 5);
     Ok(())
 }
 
@@ -54,8 +56,8 @@ fn desk_draws_none_of_no_numbers(rt: HostRuntime) -> Result<(), Fail> {
     let mut only = seats.remove(0);
     let drawn = draw_all(&mut only, &desk, rt.alloc())?;
     seats.push(only)?;
-    assert!(rt; drawn.is_empty());
-    assert_eq!(rt; desk.close(seats), 0);
+    expect_that(&rt, drawn.is_empty());
+    expect_same(&rt, desk.close(seats), 0);
     Ok(())
 }
 
@@ -75,16 +77,16 @@ fn two_threads_draw_each_number_once(rt: HostRuntime) -> Result<(), Fail> {
     let (second, twos) = two?;
     seats.push(first)?;
     seats.push(second)?;
-    assert_eq!(rt; desk.close(seats), 2000);
+    expect_same(&rt, desk.close(seats), 2000);
     let mut drawn = [false; 2000];
     for number in ones.iter().chain(twos.iter()) {
         let place = drawn
             .get_mut(*number as usize)
             .expect(&rt, "a number below 2,000");
-        assert!(rt; !*place);
+        expect_that(&rt, !*place);
         *place = true;
     }
-    assert!(rt; drawn.iter().all(|place| *place));
+    expect_that(&rt, drawn.iter().all(|place| *place));
     Ok(())
 }
 
@@ -102,8 +104,8 @@ fn refused_memory_opens_no_desk(rt: HostRuntime) {
         first.draw(&desk),
         second.draw(&desk),
     ];
-    assert!(rt; drawn == [Some(0), Some(1), None, None]);
+    expect_that(&rt, drawn == [Some(0), Some(1), None, None]);
     seats.push_reserved(first);
     seats.push_reserved(second);
-    assert_eq!(rt; desk.close(seats), 2);
+    expect_same(&rt, desk.close(seats), 2);
 }

@@ -3,6 +3,7 @@
 ghost use Rattle.std.specs.Prelude.{◌≡◌, true};
 ghost use Rattle.gas_terms.specs.Cells.{lies_within, extent};
 
+use crate::expected::{expect_same, expect_that};
 use gas_ledger::{Full, Gas, Moved, Port, Ports, Source, Sums, probe, tally};
 use gas_plane::Plane;
 use gas_terms::{Rect, Size, Tick};
@@ -29,7 +30,7 @@ fn area(rt: &impl Abort, gas: &Gas, x: u32, y: u32, w: u32, h: u32) -> Rect
     ensures { lies_within (extent gas.now.particles) result ≡ true }
 {
     let area = Rect::within(gas.size(), x, y, w, h).expect(rt, "a rectangle");
-    assert!(rt; area.fits(gas.size()));
+    expect_that(&rt, area.fits(gas.size()));
     area
 }
 
@@ -45,13 +46,13 @@ fn erase(rt: &impl Abort, gas: &mut Gas, x: u32, y: u32, w: u32, h: u32) -> Move
 
 fn drain(rt: &impl Abort, gas: &mut Gas, x: u32, y: u32, w: u32, h: u32) {
     let area = area(rt, gas, x, y, w, h);
-    assert!(rt; gas.add_port(Port::Drain(area)).is_ok());
+    expect_that(&rt, gas.add_port(Port::Drain(area)).is_ok());
 }
 
 fn source(rt: &impl Abort, gas: &mut Gas, x: u32, y: u32, w: u32, h: u32, period: u16) {
     let area = area(rt, gas, x, y, w, h);
     assert!(rt; 1 <= period);
-    assert!(rt; gas.add_port(Port::Source(area, period)).is_ok());
+    expect_that(&rt, gas.add_port(Port::Source(area, period)).is_ok());
 }
 
 fn holds(plane: &Plane, x: u32, y: u32) -> bool {
@@ -64,18 +65,18 @@ fn seventeen_drains(rt: HostRuntime) {
     let gas = gas_at(&rt, 0);
     let area = area(&rt, &gas, 3, 4, 5, 6);
     let mut ports = Ports::none();
-    assert!(rt; !ports.any());
+    expect_that(&rt, !ports.any());
     for k in 0..16 {
-        assert_eq!(rt; ports.add(Port::Drain(area)), Ok(()), "drain {k}");
+        expect_same(&rt, (k, ports.add(Port::Drain(area))), (k, Ok(())));
     }
-    assert_eq!(rt; ports.add(Port::Drain(area)), Err(Full));
-    assert_eq!(rt; ports.add(Port::Source(area, 1)), Ok(()));
-    assert!(rt; ports.any());
-    assert_eq!(rt; ports.drains().len(), 16);
-    assert_eq!(rt; ports.sources().len(), 1);
+    expect_same(&rt, ports.add(Port::Drain(area)), Err(Full));
+    expect_same(&rt, ports.add(Port::Source(area, 1)), Ok(()));
+    expect_that(&rt, ports.any());
+    expect_same(&rt, ports.drains().len(), 16);
+    expect_same(&rt, ports.sources().len(), 1);
     ports.clear();
-    assert!(rt; !ports.any());
-    assert_eq!(rt; ports.add(Port::Drain(area)), Ok(()));
+    expect_that(&rt, !ports.any());
+    expect_same(&rt, ports.add(Port::Drain(area)), Ok(()));
 }
 
 // sixteen sources, in columns 1 to 16 of row 0
@@ -90,33 +91,38 @@ fn seventeen_sources(rt: HostRuntime) {
     let mut gas = gas_at(&rt, 0);
     add_sixteen_sources(&rt, &mut gas);
     let area = area(&rt, &gas, 0, 0, 1, 1);
-    assert_eq!(rt; gas.add_port(Port::Source(area, 1)), Err(Full));
-    assert_eq!(rt; gas.ports().sources().len(), 16);
+    expect_same(&rt, gas.add_port(Port::Source(area, 1)), Err(Full));
+    expect_same(&rt, gas.ports().sources().len(), 16);
     let first = gas.ports().sources().first().copied();
-    assert_eq!(rt; first.map(|s| (s.area.x(), s.period)), Some((1, 1)));
+    expect_same(&rt, first.map(|s| (s.area.x(), s.period)), Some((1, 1)));
     drain(&rt, &mut gas, 0, 0, 1, 1);
-    assert_eq!(rt; gas.ports().drains().len(), 1);
+    expect_same(&rt, gas.ports().drains().len(), 1);
     let moved = gas.act();
-    assert_eq!(rt; moved.injected, sums(16, 0, 16));
+    expect_same(&rt, moved.injected, sums(16, 0, 16));
     gas.remove_ports();
-    assert!(rt; !gas.ports().any());
+    expect_that(&rt, !gas.ports().any());
 }
 
 #[test]
 fn full_says_which(rt: HostRuntime) {
     let text = format!(in rt.alloc(); "{Full}").expect(&rt, "memory");
-    assert_eq!(rt; text.as_str(), "there are 16 ports of that kind already");
+    expect_same(
+        &rt,
+        text.as_str(),
+        "there are 16 ports of that kind already",
+    );
 }
 
 #[test]
 fn drained_particle_is_booked(rt: HostRuntime) {
     let mut gas = gas_at(&rt, 1);
     drain(&rt, &mut gas, 1, 1, 1, 1);
-    assert_eq!(rt; put(&rt, &mut gas, 1, 1, 2, 1).injected, sums(2, 0, 2));
+    expect_same(&rt, put(&rt, &mut gas, 1, 1, 2, 1).injected, sums(2, 0, 2));
     let moved = gas.act();
-    assert_eq!(rt; moved.injected, sums(0, 0, 0));
-    assert_eq!(rt; moved.drained, sums(1, 1, 1));
-    assert!(rt; !holds(gas.particles(), 1, 1) && holds(gas.particles(), 2, 1));
+    expect_same(&rt, moved.injected, sums(0, 0, 0));
+    expect_same(&rt, moved.drained, sums(1, 1, 1));
+    expect_that(&rt, !holds(gas.particles(), 1, 1));
+    expect_that(&rt, holds(gas.particles(), 2, 1));
 }
 
 // a source of this period acts at this tick, or does nothing
@@ -124,9 +130,9 @@ fn acts_at(rt: &(impl Abort + AllocGlobal), number: i64, period: u16, is_due: bo
     let mut gas = gas_at(rt, number);
     source(rt, &mut gas, 10, 10, 1, 1, period);
     let moved = gas.act();
-    assert_eq!(rt; holds(gas.particles(), 10, 10), is_due);
-    assert_eq!(rt; moved.injected.count, if is_due { 1 } else { 0 });
-    assert_eq!(rt; moved.drained, sums(0, 0, 0));
+    expect_same(&rt, holds(gas.particles(), 10, 10), is_due);
+    expect_same(&rt, moved.injected.count, if is_due { 1 } else { 0 });
+    expect_same(&rt, moved.drained, sums(0, 0, 0));
 }
 
 #[test]
@@ -155,25 +161,27 @@ fn source_refills_a_drain(rt: HostRuntime) {
     drain(&rt, &mut gas, 5, 6, 1, 1);
     // an empty cell is filled
     let moved = gas.act();
-    assert_eq!(rt;
+    expect_same(
+        &rt,
         (moved.injected, moved.drained),
-        (sums(1, 1, -1), sums(0, 0, 0))
+        (sums(1, 1, -1), sums(0, 0, 0)),
     );
-    assert!(rt; holds(gas.particles(), 5, 6));
+    expect_that(&rt, holds(gas.particles(), 5, 6));
 }
 
 #[test]
 fn drained_and_refilled_cancels(rt: HostRuntime) {
     let mut gas = gas_at(&rt, 3);
-    assert_eq!(rt; put(&rt, &mut gas, 5, 6, 1, 1).injected.count, 1);
+    expect_same(&rt, put(&rt, &mut gas, 5, 6, 1, 1).injected.count, 1);
     source(&rt, &mut gas, 5, 6, 1, 1, 1);
     drain(&rt, &mut gas, 5, 6, 1, 1);
     let moved = gas.act();
-    assert_eq!(rt;
+    expect_same(
+        &rt,
         (moved.injected, moved.drained),
-        (sums(0, 0, 0), sums(0, 0, 0))
+        (sums(0, 0, 0), sums(0, 0, 0)),
     );
-    assert!(rt; holds(gas.particles(), 5, 6));
+    expect_that(&rt, holds(gas.particles(), 5, 6));
 }
 
 // two drains and two sources, each over an edge of a tile or at the lattice's end
@@ -188,12 +196,12 @@ fn add_ports_across_tiles(rt: &impl Abort, gas: &mut Gas) {
 fn ports_across_tiles(rt: HostRuntime) {
     let mut gas = gas_at(&rt, 0);
     add_ports_across_tiles(&rt, &mut gas);
-    assert_eq!(rt; put(&rt, &mut gas, 63, 10, 2, 1).injected.count, 2);
-    assert_eq!(rt; put(&rt, &mut gas, 99, 127, 2, 1).injected.count, 2);
+    expect_same(&rt, put(&rt, &mut gas, 63, 10, 2, 1).injected.count, 2);
+    expect_same(&rt, put(&rt, &mut gas, 99, 127, 2, 1).injected.count, 2);
     let moved = gas.act();
     // (63, 10) and (100, 127) are gone, (64, 10) has stayed, (65, 10) and (0, 127) are new
-    assert_eq!(rt; moved.drained, sums(2, 0, 0));
-    assert_eq!(rt; moved.injected, sums(2, 0, 0));
+    expect_same(&rt, moved.drained, sums(2, 0, 0));
+    expect_same(&rt, moved.injected, sums(2, 0, 0));
     for (x, y, held) in [
         (63, 10, false),
         (64, 10, true),
@@ -203,26 +211,26 @@ fn ports_across_tiles(rt: HostRuntime) {
         (99, 127, true),
         (100, 127, false),
     ] {
-        assert_eq!(rt; holds(gas.particles(), x, y), held);
+        expect_same(&rt, holds(gas.particles(), x, y), held);
     }
 }
 
 // the sums of the whole gas at a tick, of row 0 and of the tile at (64, 64)
 fn sums_are(rt: &impl Abort, gas: &Gas, number: i64, all: Sums, row: Sums, far: Sums) {
     let at = tick(rt, number);
-    assert_eq!(rt; tally(gas.particles(), at), all);
+    expect_same(&rt, tally(gas.particles(), at), all);
     let area_of_row = area(rt, gas, 0, 0, 128, 1);
-    assert_eq!(rt; probe(gas.particles(), area_of_row, at), row);
+    expect_same(&rt, probe(gas.particles(), area_of_row, at), row);
     let area_of_far = area(rt, gas, 64, 64, 64, 64);
-    assert_eq!(rt; probe(gas.particles(), area_of_far, at), far);
+    expect_same(&rt, probe(gas.particles(), area_of_far, at), far);
 }
 
 // the cells (0, 0), (1, 0), (0, 1) and (65, 67)
 fn four_cells(rt: &(impl Abort + AllocGlobal)) -> Gas {
     let mut gas = gas_at(rt, 0);
-    assert_eq!(rt; put(rt, &mut gas, 0, 0, 2, 1).injected.count, 2);
-    assert_eq!(rt; put(rt, &mut gas, 0, 1, 1, 1).injected.count, 1);
-    assert_eq!(rt; put(rt, &mut gas, 65, 67, 1, 1).injected.count, 1);
+    expect_same(&rt, put(rt, &mut gas, 0, 0, 2, 1).injected.count, 2);
+    expect_same(&rt, put(rt, &mut gas, 0, 1, 1, 1).injected.count, 1);
+    expect_same(&rt, put(rt, &mut gas, 65, 67, 1, 1).injected.count, 1);
     gas
 }
 
@@ -249,32 +257,39 @@ fn probe_and_tally_by_parities(rt: HostRuntime) {
             sums(1, 1, 1),
         );
     }
-    assert_eq!(rt; erase(&rt, &mut gas, 65, 67, 1, 1).drained.count, 1);
-    assert_eq!(rt; tally(gas.particles(), tick(&rt, 0)), sums(3, 1, 1));
-    assert_eq!(rt; tally(gas.particles(), tick(&rt, -7)), sums(3, -1, -1));
+    expect_same(&rt, erase(&rt, &mut gas, 65, 67, 1, 1).drained.count, 1);
+    expect_same(&rt, tally(gas.particles(), tick(&rt, 0)), sums(3, 1, 1));
+    expect_same(&rt, tally(gas.particles(), tick(&rt, -7)), sums(3, -1, -1));
 }
 
 #[test]
 fn full_cells_are_not_injected(rt: HostRuntime) {
     let mut gas = gas_at(&rt, 0);
     let first = put(&rt, &mut gas, 0, 0, 1, 1);
-    assert_eq!(rt;
+    expect_same(
+        &rt,
         (first.injected, first.drained),
-        (sums(1, 1, 1), sums(0, 0, 0))
+        (sums(1, 1, 1), sums(0, 0, 0)),
     );
     let again = put(&rt, &mut gas, 0, 0, 1, 1);
-    assert_eq!(rt;
+    expect_same(
+        &rt,
         (again.injected, again.drained),
-        (sums(0, 0, 0), sums(0, 0, 0))
+        (sums(0, 0, 0), sums(0, 0, 0)),
     );
     let wider = put(&rt, &mut gas, 0, 0, 2, 1);
-    assert_eq!(rt; wider.injected, sums(1, -1, 1));
+    expect_same(&rt, wider.injected, sums(1, -1, 1));
     let out = erase(&rt, &mut gas, 0, 0, 2, 2);
-    assert_eq!(rt; (out.injected, out.drained), (sums(0, 0, 0), sums(2, 0, 2)));
+    expect_same(
+        &rt,
+        (out.injected, out.drained),
+        (sums(0, 0, 0), sums(2, 0, 2)),
+    );
 }
 
 fn row_0_replaced(rt: &impl Abort, gas: &mut Gas, row: &[u8; 16]) -> Moved {
-    assert!(rt; gas.size().width() == 128 && gas.size().height() == 128);
+    expect_that(&rt, gas.size().width() == 128);
+    expect_that(&rt, gas.size().height() == 128);
     gas.replace_row(0, row)
 }
 
@@ -286,23 +301,23 @@ fn rows_are_replaced(rt: HostRuntime) {
     row[7] = 0x01;
     let first = row_0_replaced(&rt, &mut gas, &row);
     // (0, 0) and (63, 0)
-    assert_eq!(rt;
+    expect_same(
+        &rt,
         (first.injected, first.drained),
-        (sums(2, 0, 2), sums(0, 0, 0))
+        (sums(2, 0, 2), sums(0, 0, 0)),
     );
     row[0] = 0xc0;
     row[7] = 0x00;
     let second = row_0_replaced(&rt, &mut gas, &row);
     // (1, 0) comes in and (63, 0) goes out
-    assert_eq!(rt;
+    expect_same(
+        &rt,
         (second.injected, second.drained),
-        (sums(1, -1, 1), sums(1, -1, 1))
+        (sums(1, -1, 1), sums(1, -1, 1)),
     );
-    assert!(rt;
-        holds(gas.particles(), 0, 0)
-            && holds(gas.particles(), 1, 0)
-            && !holds(gas.particles(), 63, 0)
-    );
+    expect_that(&rt, holds(gas.particles(), 0, 0));
+    expect_that(&rt, holds(gas.particles(), 1, 0));
+    expect_that(&rt, !holds(gas.particles(), 63, 0));
 }
 
 #[test]
@@ -312,44 +327,49 @@ fn wall_removed_again(rt: HostRuntime) {
     let part = area(&rt, &gas, 1, 1, 2, 2);
     gas.add_walls(both);
     gas.add_obstacles(both);
-    assert!(rt;
-        holds(gas.walls(), 1, 1) && holds(gas.obstacles(), 3, 1) && !holds(gas.walls(), 1, 2)
-    );
+    expect_that(&rt, holds(gas.walls(), 1, 1));
+    expect_that(&rt, holds(gas.obstacles(), 3, 1));
+    expect_that(&rt, !holds(gas.walls(), 1, 2));
     gas.remove_walls_and_obstacles(part);
-    assert!(rt; !holds(gas.walls(), 1, 1) && !holds(gas.obstacles(), 2, 1));
-    assert!(rt; holds(gas.walls(), 3, 1) && holds(gas.obstacles(), 3, 1));
+    expect_that(&rt, !holds(gas.walls(), 1, 1));
+    expect_that(&rt, !holds(gas.obstacles(), 2, 1));
+    expect_that(&rt, holds(gas.walls(), 3, 1));
+    expect_that(&rt, holds(gas.obstacles(), 3, 1));
 }
 
 fn go_on(rt: &impl Abort, gas: &mut Gas, next: &mut Plane) {
-    assert!(rt; gas.tick().ahead(1).is_some());
-    assert!(rt; gas.size() == next.size());
+    expect_that(&rt, gas.tick().ahead(1).is_some());
+    expect_that(&rt, gas.size() == next.size());
     gas.advance(next);
 }
 
 fn go_back(rt: &impl Abort, gas: &mut Gas, last: &mut Plane) {
-    assert!(rt; gas.tick().behind(1).is_some());
-    assert!(rt; gas.size() == last.size());
+    expect_that(&rt, gas.tick().behind(1).is_some());
+    expect_that(&rt, gas.size() == last.size());
     gas.retreat(last);
 }
 
 #[test]
 fn ticks_take_the_next_particles(rt: HostRuntime) {
     let mut gas = gas_at(&rt, -1);
-    assert_eq!(rt; put(&rt, &mut gas, 0, 0, 1, 1).injected.count, 1);
+    expect_same(&rt, put(&rt, &mut gas, 0, 0, 1, 1).injected.count, 1);
     let mut other = gas_at(&rt, 0);
-    assert_eq!(rt; put(&rt, &mut other, 1, 1, 1, 1).injected.count, 1);
+    expect_same(&rt, put(&rt, &mut other, 1, 1, 1, 1).injected.count, 1);
     let mut next = other.particles().copy(rt.alloc()).expect(&rt, "memory");
     go_on(&rt, &mut gas, &mut next);
-    assert_eq!(rt; gas.tick().get(), 0);
-    assert!(rt; holds(gas.particles(), 1, 1) && holds(&next, 0, 0) && !holds(&next, 1, 1));
+    expect_same(&rt, gas.tick().get(), 0);
+    expect_that(&rt, holds(gas.particles(), 1, 1));
+    expect_that(&rt, holds(&next, 0, 0));
+    expect_that(&rt, !holds(&next, 1, 1));
     go_back(&rt, &mut gas, &mut next);
-    assert_eq!(rt; gas.tick().get(), -1);
-    assert!(rt; holds(gas.particles(), 0, 0) && holds(&next, 1, 1));
+    expect_same(&rt, gas.tick().get(), -1);
+    expect_that(&rt, holds(gas.particles(), 0, 0));
+    expect_that(&rt, holds(&next, 1, 1));
 }
 
 // A gas with a particle, a wall, an obstacle and a source.
 fn fill_in(rt: &impl Abort, gas: &mut Gas) {
-    assert_eq!(rt; put(rt, gas, 2, 3, 1, 1).injected.count, 1);
+    expect_same(&rt, put(rt, gas, 2, 3, 1, 1).injected.count, 1);
     let wall = area(rt, gas, 4, 5, 1, 1);
     gas.add_walls(wall);
     let obstacle = area(rt, gas, 6, 70, 1, 1);
@@ -373,10 +393,11 @@ fn refused_memory_leaves_the_gas(rt: HostRuntime) {
     };
     fill_in(&rt, &mut gas);
     if let Ok(copy) = gas.copy(rt.alloc()) {
-        assert!(rt; copy.size() == size && copy.tick().get() == 0);
-        assert_eq!(rt; tally(copy.particles(), copy.tick()), sums(1, 1, -1));
-        assert!(rt; is_filled_in(&copy));
-        assert_eq!(rt; copy.ports().sources(), gas.ports().sources());
+        expect_that(&rt, copy.size() == size);
+        expect_that(&rt, copy.tick().get() == 0);
+        expect_same(&rt, tally(copy.particles(), copy.tick()), sums(1, 1, -1));
+        expect_that(&rt, is_filled_in(&copy));
+        expect_same(&rt, copy.ports().sources(), gas.ports().sources());
     }
-    assert!(rt; is_filled_in(&gas));
+    expect_that(&rt, is_filled_in(&gas));
 }

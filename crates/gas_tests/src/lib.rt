@@ -11,6 +11,8 @@ mod borders;
 #[cfg(test)]
 mod desks;
 #[cfg(test)]
+mod expected;
+#[cfg(test)]
 mod ledgers;
 #[cfg(test)]
 mod locks;

@@ -3,6 +3,7 @@
 ghost use Rattle.std.specs.Prelude.{◌≡◌, ◌++◌, ◌∷◌, [], ◌⊎◌, ◌↔◌, ⊤, IsTrue, Contains, vec_len};
 ghost use Rattle.turn_lock.specs.Doors.{Adds};
 
+use crate::expected::{expect_same, expect_that};
 use std::alloc::AllocGlobal;
 use std::process::Abort;
 use std::sync::Wait;
@@ -120,28 +121,28 @@ fn sign_both<R: Threads + Wait + Sync>(
 #[test]
 fn two_doors_sign(rt: HostRuntime) {
     let (lock, zero, one) = two_doors(&rt, 150);
-    assert_eq!(rt; sign_both(&rt, &lock, zero, one), (1, 150));
+    expect_same(&rt, sign_both(&rt, &lock, zero, one), (1, 150));
 }
 
 #[test]
 fn note_is_met_by_the_other_door(rt: HostRuntime) {
     let (lock, mut zero, mut one) = two_doors(&rt, 9);
-    assert_eq!(rt; zero.ask(&rt, &lock, Sign), 1);
+    expect_same(&rt, zero.ask(&rt, &lock, Sign), 1);
     let note = zero.note(&lock);
     one.meet(&lock, note);
-    assert!(rt; one.ask(&rt, &lock, HasSigned { number: 0 }));
-    assert!(rt; !one.ask(&rt, &lock, HasSigned { number: 1 }));
-    assert_eq!(rt; one.ask(&rt, &lock, Sign), 2);
-    assert!(rt; zero.ask(&rt, &lock, HasSigned { number: 1 }));
+    expect_that(&rt, one.ask(&rt, &lock, HasSigned { number: 0 }));
+    expect_that(&rt, !one.ask(&rt, &lock, HasSigned { number: 1 }));
+    expect_same(&rt, one.ask(&rt, &lock, Sign), 2);
+    expect_that(&rt, zero.ask(&rt, &lock, HasSigned { number: 1 }));
 }
 
 #[test]
 fn full_roll_stays_as_it_is(rt: HostRuntime) {
     let (lock, mut zero, mut one) = two_doors(&rt, 1);
-    assert_eq!(rt; one.ask(&rt, &lock, Sign), 1);
-    assert_eq!(rt; zero.ask(&rt, &lock, Sign), 1);
-    assert!(rt; zero.ask(&rt, &lock, HasSigned { number: 1 }));
-    assert!(rt; !zero.ask(&rt, &lock, HasSigned { number: 0 }));
+    expect_same(&rt, one.ask(&rt, &lock, Sign), 1);
+    expect_same(&rt, zero.ask(&rt, &lock, Sign), 1);
+    expect_that(&rt, zero.ask(&rt, &lock, HasSigned { number: 1 }));
+    expect_that(&rt, !zero.ask(&rt, &lock, HasSigned { number: 0 }));
 }
 
 #[test]
@@ -151,13 +152,15 @@ fn refused_memory_gives_the_value_back(rt: HostRuntime) {
     };
     match TurnLock::open(rt.alloc(), Roll { most: 5, numbers }, 3) {
         Ok((lock, mut doors)) => {
-            assert_eq!(rt; doors.len(), 3);
+            expect_same(&rt, doors.len(), 3);
             let mut last = doors.remove(2);
-            assert_eq!(rt; last.ask(&rt, &lock, Sign), 1);
-            assert!(rt; last.ask(&rt, &lock, HasSigned { number: 2 }));
+            expect_same(&rt, last.ask(&rt, &lock, Sign), 1);
+            expect_that(&rt, last.ask(&rt, &lock, HasSigned { number: 2 }));
         }
         Err(roll) => {
-            assert!(rt; roll.most == 5 && roll.numbers.is_empty() && roll.numbers.capacity() >= 1);
+            expect_that(&rt, roll.most == 5);
+            expect_that(&rt, roll.numbers.is_empty());
+            expect_that(&rt, roll.numbers.capacity() >= 1);
         }
     }
 }

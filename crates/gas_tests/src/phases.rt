@@ -3,6 +3,7 @@
 ghost use Rattle.std.specs.Prelude.{◌≡◌, ◌<◌, true};
 ghost use Rattle.gas_terms.specs.Cells.{Extent, extent, lies_within, is_inside};
 
+use crate::expected::expect_that;
 use gas_plane::{Plane, Tile};
 use gas_terms::{Pair, Rect, Size, Took};
 use phase_step::{Serial, Stepper, turn_tile_at};
@@ -35,10 +36,10 @@ fn phase(
     out: &mut Plane,
 ) -> Took {
     let size = old.size();
-    assert!(rt; parity < 2);
-    assert!(rt; walls.size() == size);
-    assert!(rt; obstacles.size() == size);
-    assert!(rt; out.size() == size);
+    expect_that(&rt, parity < 2);
+    expect_that(&rt, walls.size() == size);
+    expect_that(&rt, obstacles.size() == size);
+    expect_that(&rt, out.size() == size);
     Serial.phase(old, walls, obstacles, parity, out)
 }
 
@@ -51,9 +52,9 @@ fn first_tile(
     out: &mut gas_plane::Tile,
 ) -> Took {
     let size = old.size();
-    assert!(rt; walls.size() == size);
-    assert!(rt; obstacles.size() == size);
-    assert!(rt; size.tiles() > 0);
+    expect_that(&rt, walls.size() == size);
+    expect_that(&rt, obstacles.size() == size);
+    expect_that(&rt, size.tiles() > 0);
     turn_tile_at(old, walls, obstacles, 1, 0, out)
 }
 
@@ -70,9 +71,10 @@ fn head_on_pair_across_tiles(rt: HostRuntime) {
     let mut out = plane(&rt, 128, 128, &[(63, 63), (5, 5)]);
     let took = phase(&rt, &old, &none, &none, 1, &mut out);
     let want = plane(&rt, 128, 128, &[(64, 63), (63, 64)]);
-    assert!(rt; are_same(&out, &want, 128, 128));
+    expect_that(&rt, are_same(&out, &want, 128, 128));
     let nothing = Pair { x: 0, y: 0 };
-    assert!(rt; took.walls == nothing && took.obstacles == nothing);
+    expect_that(&rt, took.walls == nothing);
+    expect_that(&rt, took.obstacles == nothing);
 }
 
 #[test]
@@ -92,8 +94,9 @@ fn wall_across_tiles_books_once(rt: HostRuntime) {
     ] {
         let mut out = plane(&rt, 128, 128, &[]);
         let took = phase(&rt, &old, walls, obstacles, 1, &mut out);
-        assert!(rt; are_same(&out, &old, 128, 128));
-        assert!(rt; took.walls == by_walls && took.obstacles == by_obstacles);
+        expect_that(&rt, are_same(&out, &old, 128, 128));
+        expect_that(&rt, took.walls == by_walls);
+        expect_that(&rt, took.obstacles == by_obstacles);
     }
 }
 
@@ -109,8 +112,10 @@ fn first_tile_by_itself(rt: HostRuntime) {
     for (walls, by_walls, stays) in [(&corner, twice, true), (&apart, nothing, false)] {
         let mut out = gas_plane::Tile::rect(0, 0, 64, 64);
         let took = first_tile(&rt, &old, walls, &none, &mut out);
-        assert!(rt; out.get(63, 63) == stays && !out.get(5, 5));
-        assert!(rt; took.walls == by_walls && took.obstacles == nothing);
+        expect_that(&rt, out.get(63, 63) == stays);
+        expect_that(&rt, !out.get(5, 5));
+        expect_that(&rt, took.walls == by_walls);
+        expect_that(&rt, took.obstacles == nothing);
     }
 }
 
@@ -123,8 +128,9 @@ fn wall_in_a_tile_at_an_even_tick(rt: HostRuntime) {
     let mut out = plane(&rt, 128, 64, &[]);
     let took = phase(&rt, &old, &walls, &none, 0, &mut out);
     let want = plane(&rt, 128, 64, &[(63, 62), (11, 11)]);
-    assert!(rt; are_same(&out, &want, 128, 64));
-    assert!(rt; took.walls == Pair { x: -2, y: 2 } && took.obstacles == Pair { x: 0, y: 0 });
+    expect_that(&rt, are_same(&out, &want, 128, 64));
+    expect_that(&rt, took.walls == Pair { x: -2, y: 2 });
+    expect_that(&rt, took.obstacles == Pair { x: 0, y: 0 });
 }
 
 #[test]
@@ -142,8 +148,9 @@ fn wall_in_the_last_row_holds_in_the_tile_below(rt: HostRuntime) {
         let mut out = plane(&rt, 128, 128, &[]);
         let took = phase(&rt, &old, walls, obstacles, 1, &mut out);
         let want = plane(&rt, 128, 128, &[(10, 64), (11, 63)]);
-        assert!(rt; are_same(&out, &want, 128, 128));
-        assert!(rt; took.walls == by_walls && took.obstacles == by_obstacles);
+        expect_that(&rt, are_same(&out, &want, 128, 128));
+        expect_that(&rt, took.walls == by_walls);
+        expect_that(&rt, took.obstacles == by_obstacles);
     }
 }
 
@@ -172,19 +179,21 @@ fn one_wall_in_each_row(rt: HostRuntime) {
             let took = phase(&rt, &old, &walls, &none, parity, &mut out);
             let free = (across(41, parity), across(y, parity));
             let want = plane(&rt, 128, 128, &[(5, y), free]);
-            assert!(rt; are_same(&out, &want, 128, 128));
+            expect_that(&rt, are_same(&out, &want, 128, 128));
             let back = Pair {
                 x: given(5, parity),
                 y: given(y, parity),
             };
-            assert!(rt; took.walls == back && took.obstacles == Pair { x: 0, y: 0 });
+            expect_that(&rt, took.walls == back);
+            expect_that(&rt, took.obstacles == Pair { x: 0, y: 0 });
         }
     }
 }
 
 // a particle in each of the four corners steps over the seams to the corner across, and back
 fn cross_the_seams(rt: &(impl Abort + AllocGlobal), width: u32, height: u32) {
-    assert!(rt; width > 0 && height > 0);
+    expect_that(&rt, width > 0);
+    expect_that(&rt, height > 0);
     let none = plane(rt, width, height, &[]);
     let (right, bottom) = (width - 1, height - 1);
     for (from, to) in [
@@ -197,10 +206,10 @@ fn cross_the_seams(rt: &(impl Abort + AllocGlobal), width: u32, height: u32) {
         let mut out = plane(rt, width, height, &[]);
         phase(rt, &old, &none, &none, 1, &mut out);
         let want = plane(rt, width, height, &[to]);
-        assert!(rt; are_same(&out, &want, width, height));
+        expect_that(&rt, are_same(&out, &want, width, height));
         let mut again = plane(rt, width, height, &[]);
         phase(rt, &out, &none, &none, 1, &mut again);
-        assert!(rt; are_same(&again, &old, width, height));
+        expect_that(&rt, are_same(&again, &old, width, height));
     }
 }
 
@@ -247,7 +256,7 @@ fn fifty_steps_and_back(rt: HostRuntime) {
         add(&mut by_obstacles, took.obstacles);
         std::mem::swap(&mut now, &mut next);
     }
-    assert!(rt; !are_same(&now, &start, WIDE, HIGH));
+    expect_that(&rt, !are_same(&now, &start, WIDE, HIGH));
     let mut back_walls = Pair { x: 0, y: 0 };
     let mut back_obstacles = Pair { x: 0, y: 0 };
     for t in (0..50u8).rev() {
@@ -256,6 +265,7 @@ fn fifty_steps_and_back(rt: HostRuntime) {
         add(&mut back_obstacles, took.obstacles);
         std::mem::swap(&mut now, &mut next);
     }
-    assert!(rt; are_same(&now, &start, WIDE, HIGH));
-    assert!(rt; by_walls == back_walls && by_obstacles == back_obstacles);
+    expect_that(&rt, are_same(&now, &start, WIDE, HIGH));
+    expect_that(&rt, by_walls == back_walls);
+    expect_that(&rt, by_obstacles == back_obstacles);
 }

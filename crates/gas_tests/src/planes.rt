@@ -3,6 +3,7 @@
 ghost use Rattle.std.specs.Prelude.{◌≡◌, true};
 ghost use Rattle.gas_terms.specs.Cells.{lies_within, extent};
 
+use crate::expected::{expect_same, expect_that};
 use gas_plane::{Plane, Tile};
 use gas_terms::{Rect, Size};
 use std::process::Abort;
@@ -17,7 +18,7 @@ fn area(rt: &impl Abort, plane: &Plane, x: u32, y: u32, w: u32, h: u32) -> Rect
     ensures { lies_within (extent plane.now) result ≡ true }
 {
     let area = Rect::within(plane.size(), x, y, w, h).expect(rt, "a rectangle");
-    assert!(rt; area.fits(plane.size()));
+    expect_that(&rt, area.fits(plane.size()));
     area
 }
 
@@ -42,7 +43,7 @@ fn fills_and_clears_over_the_seams(rt: HostRuntime) {
         (64, 64, false),
         (65, 65, true),
     ] {
-        assert_eq!(rt; holds(&plane, x, y), held, "at {x} {y}");
+        expect_same(&rt, (x, y, holds(&plane, x, y)), (x, y, held));
     }
 }
 
@@ -52,17 +53,18 @@ fn counts_by_parities(rt: HostRuntime) {
     plane.fill(area(&rt, &plane, 62, 63, 4, 3));
     // columns 62 to 65 and rows 63 to 65
     let all = plane.counts_in(area(&rt, &plane, 0, 0, 128, 128));
-    assert_eq!(rt; all.as_slice(), [2, 2, 4, 4].as_slice());
+    expect_same(&rt, all.as_slice(), [2, 2, 4, 4].as_slice());
     // columns 63 and 64, rows 64 and 65
     let part = plane.counts_in(area(&rt, &plane, 63, 64, 2, 9));
-    assert_eq!(rt; part.as_slice(), [1, 1, 1, 1].as_slice());
+    expect_same(&rt, part.as_slice(), [1, 1, 1, 1].as_slice());
 }
 
 #[test]
 fn reads_and_writes_rows(rt: HostRuntime) {
     let mut plane = four_tiles(&rt);
     let size = plane.size();
-    assert!(rt; size.width() == 128 && size.height() == 128);
+    expect_that(&rt, size.width() == 128);
+    expect_that(&rt, size.height() == 128);
     let mut row = [0; 16];
     row[0] = 0xc0;
     row[7] = 0x01;
@@ -78,14 +80,16 @@ fn reads_and_writes_rows(rt: HostRuntime) {
         (67, true),
         (127, false),
     ] {
-        assert_eq!(rt; holds(&plane, x, 70), held, "at {x}");
+        expect_same(&rt, (x, holds(&plane, x, 70)), (x, held));
     }
-    assert!(rt; !holds(&plane, 0, 69) && !holds(&plane, 0, 71));
+    expect_that(&rt, !holds(&plane, 0, 69));
+    expect_that(&rt, !holds(&plane, 0, 71));
     let again = plane.size();
-    assert!(rt; again.width() == 128 && again.height() == 128);
+    expect_that(&rt, again.width() == 128);
+    expect_that(&rt, again.height() == 128);
     let mut read = [1; 16];
     plane.row_bytes(70, &mut read);
-    assert_eq!(rt; read.as_slice(), row.as_slice());
+    expect_same(&rt, read.as_slice(), row.as_slice());
 }
 
 #[test]
@@ -93,13 +97,16 @@ fn has_borders_round_the_torus(rt: HostRuntime) {
     let mut plane = four_tiles(&rt);
     plane.fill(area(&rt, &plane, 127, 127, 1, 1));
     plane.fill(area(&rt, &plane, 64, 5, 1, 1));
-    assert!(rt; plane.size().tiles() == 4);
+    expect_that(&rt, plane.size().tiles() == 4);
     let first = plane.border(0);
-    assert!(rt;
-        first.cell(-1, -1) && first.cell(64, 5) && !first.cell(-1, 5) && !first.cell(64, 64)
-    );
+    expect_that(&rt, first.cell(-1, -1));
+    expect_that(&rt, first.cell(64, 5));
+    expect_that(&rt, !first.cell(-1, 5));
+    expect_that(&rt, !first.cell(64, 64));
     let second = plane.border(1);
-    assert!(rt; second.cell(63, -1) && !second.cell(64, 5) && !second.cell(-1, -1));
+    expect_that(&rt, second.cell(63, -1));
+    expect_that(&rt, !second.cell(64, 5));
+    expect_that(&rt, !second.cell(-1, -1));
 }
 
 #[test]
@@ -107,14 +114,16 @@ fn replaces_a_tile(rt: HostRuntime) {
     let mut plane = four_tiles(&rt);
     plane.fill(area(&rt, &plane, 0, 0, 128, 128));
     let was = plane.copy(rt.alloc()).expect(&rt, "memory");
-    assert!(rt; plane.size().tiles() == 4);
+    expect_that(&rt, plane.size().tiles() == 4);
     plane.set_tile(2, Tile::rect(1, 2, 3, 4));
     let counts = plane.counts_in(area(&rt, &plane, 0, 64, 64, 64));
     // columns 1 to 3 and rows 66 to 69
-    assert_eq!(rt; counts.as_slice(), [2, 4, 2, 4].as_slice());
-    assert!(rt; holds(&plane, 64, 64) && holds(&plane, 0, 63) && holds(&was, 0, 64));
-    assert!(rt; was.size().tiles() == 4);
-    assert!(rt; was.tile(2).get(0, 0));
+    expect_same(&rt, counts.as_slice(), [2, 4, 2, 4].as_slice());
+    expect_that(&rt, holds(&plane, 64, 64));
+    expect_that(&rt, holds(&plane, 0, 63));
+    expect_that(&rt, holds(&was, 0, 64));
+    expect_that(&rt, was.size().tiles() == 4);
+    expect_that(&rt, was.tile(2).get(0, 0));
 }
 
 #[test]
@@ -142,7 +151,7 @@ fn writes_rows_from_the_highest_bit(rt: HostRuntime) {
         assert!(rt; sides.width() == 64 && sides.height() == 64);
         again.set_row(5, &want);
         for x in 0..64 {
-            assert_eq!(rt; holds(&again, x, 5), holds(&plane, x, 5), "at {x}");
+            expect_same(&rt, (x, holds(&again, x, 5)), (x, holds(&plane, x, 5)));
         }
     }
 }
@@ -150,18 +159,21 @@ fn writes_rows_from_the_highest_bit(rt: HostRuntime) {
 // puts the first bytes of a row into row 37, reads them again, and asks for each of their cells
 fn put_and_read(rt: &impl Abort, plane: &mut Plane, row: &[u8]) {
     let n = usize::from(plane.size().width()) / 8;
-    assert!(rt; plane.size().height() == 64 && n <= row.len() && n <= 512);
+    expect_that(&rt, plane.size().height() == 64);
+    expect_that(&rt, n <= row.len());
+    expect_that(&rt, n <= 512);
     let bytes = &row[..n];
     plane.set_row(37, bytes);
-    assert!(rt; plane.size().height() == 64 && usize::from(plane.size().width()) / 8 == n);
+    expect_that(&rt, plane.size().height() == 64);
+    expect_that(&rt, usize::from(plane.size().width()) / 8 == n);
     let mut room = [1; 512];
     let read = &mut room[..n];
     plane.row_bytes(37, read);
-    assert!(rt; &*read == bytes);
+    expect_that(&rt, &*read == bytes);
     for k in 0..n {
         for i in 0..8u32 {
             let held = (bytes[k] >> (7 - i)) & 1 == 1;
-            assert!(rt; holds(plane, 8 * k as u32 + i, 37) == held);
+            expect_that(&rt, holds(plane, 8 * k as u32 + i, 37) == held);
         }
     }
 }
@@ -188,18 +200,27 @@ fn is_as_wide_as_a_lattice_may_be(rt: HostRuntime) {
     plane.clear(area(&rt, &plane, 4095, 11, 1, 1));
     // columns 4030 to 4095 in row 10, and to 4094 in row 11
     let counts = plane.counts_in(area(&rt, &plane, 0, 0, 4096, 64));
-    assert_eq!(rt; counts.as_slice(), [33, 33, 33, 32].as_slice());
-    assert!(rt; plane.size().tiles() == 64);
+    expect_same(&rt, counts.as_slice(), [33, 33, 33, 32].as_slice());
+    expect_that(&rt, plane.size().tiles() == 64);
     let first = plane.border(0);
-    assert!(rt; first.cell(-1, 10) && !first.cell(-1, 11) && !first.cell(64, 10));
+    expect_that(&rt, first.cell(-1, 10));
+    expect_that(&rt, !first.cell(-1, 11));
+    expect_that(&rt, !first.cell(64, 10));
     // one row of tiles is above and below itself
     let last = plane.border(63);
-    assert!(rt; last.cell(-1, 10) && !last.cell(64, 10) && !last.cell(0, -1) && !last.cell(0, 64));
+    expect_that(&rt, last.cell(-1, 10));
+    expect_that(&rt, !last.cell(64, 10));
+    expect_that(&rt, !last.cell(0, -1));
+    expect_that(&rt, !last.cell(0, 64));
     let sides = plane.size();
-    assert!(rt; sides.width() == 4096 && sides.height() == 64);
+    expect_that(&rt, sides.width() == 4096);
+    expect_that(&rt, sides.height() == 64);
     let mut row = [0; 512];
     plane.row_bytes(11, &mut row);
-    assert!(rt; row[502] == 0 && row[503] == 0x03 && row[504] == 0xff && row[511] == 0xfe);
+    expect_that(&rt, row[502] == 0);
+    expect_that(&rt, row[503] == 0x03);
+    expect_that(&rt, row[504] == 0xff);
+    expect_that(&rt, row[511] == 0xfe);
 }
 
 fn is_bare(plane: &Plane, i: u32) -> bool {
@@ -222,11 +243,11 @@ const NEAR: [u32; 9] = [0, 1, 4, 5, 6, 9, 20, 21, 24];
 
 fn assert_bare_but_near(rt: &impl Abort, plane: &Plane, name: &str) {
     for i in 0..25u32 {
-        assert_eq!(rt; is_bare(plane, i), i > 0, "{name}, tile {i}");
-        assert_eq!(rt;
-            is_bare_round(plane, i),
-            !NEAR.contains(&i),
-            "{name}, round {i}"
+        expect_same(&rt, (name, i, is_bare(plane, i)), (name, i, i > 0));
+        expect_same(
+            &rt,
+            (name, i, is_bare_round(plane, i)),
+            (name, i, !NEAR.contains(&i)),
         );
     }
 }
@@ -243,11 +264,12 @@ fn assert_bare(rt: &impl Abort, plane: &Plane, name: &str) {
 #[test]
 fn reads_what_is_round_a_tile(rt: HostRuntime) {
     let mut plane = five_by_five(&rt);
-    assert!(rt; plane.size().tiles() == 25);
-    assert!(rt; plane.tile_or_bare(0).get(5, 5) && !plane.tile_or_bare(1).get(5, 5));
+    expect_that(&rt, plane.size().tiles() == 25);
+    expect_that(&rt, plane.tile_or_bare(0).get(5, 5));
+    expect_that(&rt, !plane.tile_or_bare(1).get(5, 5));
     // the tile that has tile 0 in each of the eight places
     for i in 0..25u32 {
-        assert!(rt; plane.size().tiles() == 25);
+        expect_that(&rt, plane.size().tiles() == 25);
         let round = plane.round_or_bare(i);
         for (tile, at) in [
             (round.above, 5),
@@ -259,14 +281,15 @@ fn reads_what_is_round_a_tile(rt: HostRuntime) {
             (round.below_left, 21),
             (round.below_right, 24),
         ] {
-            assert_eq!(rt; tile.get(5, 5), i == at, "round {i}");
-            assert_eq!(rt; tile.is_empty(), i != at, "round {i}");
+            expect_same(&rt, (i, tile.get(5, 5)), (i, i == at));
+            expect_same(&rt, (i, tile.is_empty()), (i, i != at));
         }
     }
-    assert!(rt; plane.size().tiles() == 25);
+    expect_that(&rt, plane.size().tiles() == 25);
     plane.tile_mut(12).set(63, 0, true);
-    assert!(rt; plane.size().tiles() == 25);
-    assert!(rt; plane.round_or_bare(13).left.get(63, 0) && plane.border(13).cell(-1, 0));
+    expect_that(&rt, plane.size().tiles() == 25);
+    expect_that(&rt, plane.round_or_bare(13).left.get(63, 0));
+    expect_that(&rt, plane.border(13).cell(-1, 0));
 }
 
 #[test]
@@ -278,7 +301,7 @@ fn knows_where_it_has_no_cells(rt: HostRuntime) {
     assert_bare_but_near(&rt, &plane, "with a cell");
     let copy = plane.copy(rt.alloc()).expect(&rt, "memory");
     assert_bare_but_near(&rt, &copy, "its copy");
-    assert!(rt; holds(&copy, 5, 5));
+    expect_that(&rt, holds(&copy, 5, 5));
 }
 
 #[test]
@@ -299,20 +322,23 @@ fn knows_what_rows_leave(rt: HostRuntime) {
     let mut plane = five_by_five(&rt);
     for y in 0..320u32 {
         let sides = plane.size();
-        assert!(rt; sides.width() == 320 && sides.height() == 320);
+        expect_that(&rt, sides.width() == 320);
+        expect_that(&rt, sides.height() == 320);
         let mut row = [0; 40];
         plane.row_bytes(y, &mut row);
         plane.set_row(y, &row);
         assert_bare_but_near(&rt, &plane, "rows as they were");
     }
     let sides = plane.size();
-    assert!(rt; sides.width() == 320 && sides.height() == 320);
+    expect_that(&rt, sides.width() == 320);
+    expect_that(&rt, sides.height() == 320);
     plane.set_row(5, &[0; 40]);
     assert_bare(&rt, &plane, "a row of zeros");
     let mut row = [0; 40];
     row[0] = 0x01;
     let sides = plane.size();
-    assert!(rt; sides.width() == 320 && sides.height() == 320);
+    expect_that(&rt, sides.width() == 320);
+    expect_that(&rt, sides.height() == 320);
     plane.set_row(63, &row);
     assert_bare_but_near(&rt, &plane, "a row with a cell");
 }
@@ -321,17 +347,19 @@ fn knows_what_rows_leave(rt: HostRuntime) {
 fn knows_what_tiles_leave(rt: HostRuntime) {
     let mut plane = five_by_five(&rt);
     for i in 1..25u32 {
-        assert!(rt; plane.size().tiles() == 25);
+        expect_that(&rt, plane.size().tiles() == 25);
         plane.set_tile(i, Tile::empty());
     }
     assert_bare_but_near(&rt, &plane, "tiles without cells");
-    assert!(rt; plane.size().tiles() == 25);
+    expect_that(&rt, plane.size().tiles() == 25);
     plane.tile_mut(12).set(63, 0, true);
-    assert!(rt; !is_bare(&plane, 12) && !is_bare(&plane, 0) && is_bare(&plane, 11));
-    assert!(rt; plane.size().tiles() == 25);
+    expect_that(&rt, !is_bare(&plane, 12));
+    expect_that(&rt, !is_bare(&plane, 0));
+    expect_that(&rt, is_bare(&plane, 11));
+    expect_that(&rt, plane.size().tiles() == 25);
     plane.tile_mut(12).set(63, 0, false);
     assert_bare_but_near(&rt, &plane, "a tile that was lent");
-    assert!(rt; plane.size().tiles() == 25);
+    expect_that(&rt, plane.size().tiles() == 25);
     plane.set_tile(0, Tile::empty());
     assert_bare(&rt, &plane, "the last one's tile");
 }
@@ -339,12 +367,14 @@ fn knows_what_tiles_leave(rt: HostRuntime) {
 #[test]
 fn lends_a_tile(rt: HostRuntime) {
     let mut plane = four_tiles(&rt);
-    assert!(rt; plane.size().tiles() == 4);
+    expect_that(&rt, plane.size().tiles() == 4);
     plane.tile_mut(3).set(1, 2, true);
-    assert!(rt; holds(&plane, 65, 66) && !holds(&plane, 1, 2) && !is_bare_round(&plane, 0));
-    assert!(rt; plane.size().tiles() == 4);
+    expect_that(&rt, holds(&plane, 65, 66));
+    expect_that(&rt, !holds(&plane, 1, 2));
+    expect_that(&rt, !is_bare_round(&plane, 0));
+    expect_that(&rt, plane.size().tiles() == 4);
     plane.tile_mut(3).set(1, 2, false);
-    assert!(rt; !holds(&plane, 65, 66));
+    expect_that(&rt, !holds(&plane, 65, 66));
 }
 
 // One allocation may be refused here: rt try --test --fail-alloc N, with N from 1 to 6.
@@ -360,6 +390,10 @@ fn refused_memory_leaves_planes(rt: HostRuntime) {
         Ok(copy) => copy,
         Err(_) => plane.copy(rt.alloc()).expect(&rt, "memory"),
     };
-    assert!(rt; holds(&copy, 63, 0) && holds(&copy, 64, 0) && !holds(&copy, 65, 0));
-    assert!(rt; holds(&plane, 63, 0) && holds(&plane, 64, 0) && !holds(&plane, 65, 0));
+    expect_that(&rt, holds(&copy, 63, 0));
+    expect_that(&rt, holds(&copy, 64, 0));
+    expect_that(&rt, !holds(&copy, 65, 0));
+    expect_that(&rt, holds(&plane, 63, 0));
+    expect_that(&rt, holds(&plane, 64, 0));
+    expect_that(&rt, !holds(&plane, 65, 0));
 }

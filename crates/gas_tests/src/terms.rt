@@ -3,6 +3,7 @@
 ghost use Rattle.std.specs.Prelude.{◌≡◌, true};
 ghost use Rattle.gas_terms.specs.Cells.{lies_within};
 
+use crate::expected::{expect_same, expect_that};
 use gas_terms::{
     Command, Entry, Ledger, NoMemory, Pair, Rect, Refusal, RowBits, Size, Sums, Tick, Took, Vel,
     vel,
@@ -31,16 +32,16 @@ fn sides_are_multiples_of_64_to_4096(rt: HostRuntime) {
         (64, 4160, false),
         (4_294_967_232, 64, false),
     ] {
-        assert_eq!(rt;
-            Size::new(width, height).is_some(),
-            is_size,
-            "{width} by {height}"
+        expect_same(
+            &rt,
+            (width, height, Size::new(width, height).is_some()),
+            (width, height, is_size),
         );
     }
     let wide = size(&rt, 2048, 192);
-    assert_eq!(rt; wide.width(), 2048);
-    assert_eq!(rt; wide.height(), 192);
-    assert_eq!(rt; wide.tiles(), 96);
+    expect_same(&rt, wide.width(), 2048);
+    expect_same(&rt, wide.height(), 192);
+    expect_same(&rt, wide.tiles(), 96);
 }
 
 #[test]
@@ -57,15 +58,16 @@ fn rectangles_lie_within_the_lattice(rt: HostRuntime) {
         (0, 0, 1, 4_294_967_295, false),
         (4_294_967_295, 0, 1, 1, false),
     ] {
-        assert_eq!(rt;
-            Rect::within(small, x, y, w, h).is_some(),
-            is_within,
-            "{x} {y} {w} {h}"
+        expect_same(
+            &rt,
+            (x, y, w, h, Rect::within(small, x, y, w, h).is_some()),
+            (x, y, w, h, is_within),
         );
     }
     let area = Rect::within(small, 3, 70, 5, 2).expect(&rt, "a rectangle");
-    assert_eq!(rt; (area.x(), area.y(), area.w(), area.h()), (3, 70, 5, 2));
-    assert!(rt; area.fits(small) && !area.fits(size(&rt, 64, 64)));
+    expect_same(&rt, (area.x(), area.y(), area.w(), area.h()), (3, 70, 5, 2));
+    expect_that(&rt, area.fits(small));
+    expect_that(&rt, !area.fits(size(&rt, 64, 64)));
     for (x, y, held) in [
         (3, 70, true),
         (7, 71, true),
@@ -74,29 +76,33 @@ fn rectangles_lie_within_the_lattice(rt: HostRuntime) {
         (3, 69, false),
         (3, 72, false),
     ] {
-        assert_eq!(rt; area.holds(x, y), held, "{x} {y}");
+        expect_same(&rt, (x, y, area.holds(x, y)), (x, y, held));
     }
 }
 
 #[test]
 fn ticks_stay_in_their_range(rt: HostRuntime) {
     let greatest = 1_099_511_627_776;
-    assert!(rt; Tick::new(greatest).is_some() && Tick::new(greatest + 1).is_none());
-    assert!(rt; Tick::new(-greatest).is_some() && Tick::new(-greatest - 1).is_none());
+    expect_that(&rt, Tick::new(greatest).is_some());
+    expect_that(&rt, Tick::new(greatest + 1).is_none());
+    expect_that(&rt, Tick::new(-greatest).is_some());
+    expect_that(&rt, Tick::new(-greatest - 1).is_none());
     let last = tick(&rt, greatest);
-    assert!(rt; last.ahead(1).is_none());
-    assert_eq!(rt;
+    expect_that(&rt, last.ahead(1).is_none());
+    expect_same(
+        &rt,
         last.behind(4096).expect(&rt, "a tick").get(),
-        1_099_511_623_680
+        1_099_511_623_680,
     );
     let first = tick(&rt, -greatest);
-    assert!(rt; first.behind(1).is_none());
-    assert_eq!(rt;
+    expect_that(&rt, first.behind(1).is_none());
+    expect_same(
+        &rt,
         first.ahead(3).expect(&rt, "a tick").get(),
-        -1_099_511_627_773
+        -1_099_511_627_773,
     );
     for (number, parity) in [(0, 0), (1, 1), (-1, 1), (-2, 0), (7, 1)] {
-        assert_eq!(rt; tick(&rt, number).parity(), parity, "{number}");
+        expect_same(&rt, (number, tick(&rt, number).parity()), (number, parity));
     }
 }
 
@@ -111,10 +117,10 @@ fn velocities_lead_across_the_block(rt: HostRuntime) {
         (63, 63, -1, 1, 1),
         (0, 3, -1, -1, 1),
     ] {
-        assert_eq!(rt;
-            vel(x, y, tick(&rt, number)),
-            Vel { x: right, y: down },
-            "{x} {y} at {number}"
+        expect_same(
+            &rt,
+            (x, y, number, vel(x, y, tick(&rt, number))),
+            (x, y, number, Vel { x: right, y: down }),
         );
     }
 }
@@ -140,26 +146,27 @@ fn sums_add_up(rt: HostRuntime) {
         px: -1,
         py: -1,
     };
-    assert_eq!(rt; some.plus(others), both);
-    assert_eq!(rt; both.minus(others), some);
+    expect_same(&rt, some.plus(others), both);
+    expect_same(&rt, both.minus(others), some);
 }
 
 #[test]
 fn accounts_add_up(rt: HostRuntime) {
     let by_walls = Pair { x: 2, y: -4 };
     let by_obstacles = Pair { x: -6, y: 8 };
-    assert_eq!(rt; by_walls.plus(by_obstacles), Pair { x: -4, y: 4 });
-    assert_eq!(rt; by_walls.minus(by_obstacles), Pair { x: 8, y: -12 });
+    expect_same(&rt, by_walls.plus(by_obstacles), Pair { x: -4, y: 4 });
+    expect_same(&rt, by_walls.minus(by_obstacles), Pair { x: 8, y: -12 });
     let took = Took {
         walls: by_walls,
         obstacles: by_obstacles,
     };
-    assert_eq!(rt;
+    expect_same(
+        &rt,
         took.plus(took),
         Took {
             walls: Pair { x: 4, y: -8 },
             obstacles: Pair { x: -12, y: 16 },
-        }
+        },
     );
     let (start, injected, drained) = (sums(5, -3, 1), sums(2, 2, -2), sums(7, -1, -1));
     let before = Ledger {
@@ -170,13 +177,14 @@ fn accounts_add_up(rt: HostRuntime) {
         obstacles: Pair { x: 0, y: 10 },
     };
     let after = before.with_taken(took);
-    assert_eq!(rt; after.walls, Pair { x: 3, y: -3 });
-    assert_eq!(rt; after.obstacles, Pair { x: -6, y: 18 });
-    assert_eq!(rt;
+    expect_same(&rt, after.walls, Pair { x: 3, y: -3 });
+    expect_same(&rt, after.obstacles, Pair { x: -6, y: 18 });
+    expect_same(
+        &rt,
         (after.start, after.injected, after.drained),
-        (start, injected, drained)
+        (start, injected, drained),
     );
-    assert_eq!(rt; after.with_given_back(took), before);
+    expect_same(&rt, after.with_given_back(took), before);
 }
 
 #[test]
@@ -198,22 +206,26 @@ fn refusals_are_numbered_in_their_order(rt: HostRuntime) {
         (Refusal::Memory, 14, "memory"),
         (Refusal::Save, 15, "save"),
     ] {
-        assert_eq!(rt; refusal.number(), number, "{word}");
-        assert_eq!(rt; refusal.word(), word);
+        expect_same(&rt, (word, refusal.number()), (word, number));
+        expect_same(&rt, refusal.word(), word);
     }
 }
 
 #[test]
 fn rows_are_written_and_copied(rt: HostRuntime) -> Result<(), Fail> {
     let mut row = RowBits::zero(rt.alloc(), 8)?;
-    assert_eq!(rt; row.bytes(), [0; 8].as_slice());
+    expect_same(&rt, row.bytes(), [0; 8].as_slice());
     row.bytes_mut()
         .copy_from_slice(&[0x80, 0, 0, 0x0f, 0xf0, 0, 0, 1]);
     let copy = row.copy(rt.alloc())?;
-    assert_eq!(rt; copy.bytes(), [0x80, 0, 0, 0x0f, 0xf0, 0, 0, 1].as_slice());
-    assert_eq!(rt; row.bytes(), copy.bytes());
+    expect_same(
+        &rt,
+        copy.bytes(),
+        [0x80, 0, 0, 0x0f, 0xf0, 0, 0, 1].as_slice(),
+    );
+    expect_same(&rt, row.bytes(), copy.bytes());
     let widest = RowBits::zero(rt.alloc(), 512)?;
-    assert_eq!(rt; widest.bytes().len(), 512);
+    expect_same(&rt, widest.bytes().len(), 512);
     Ok(())
 }
 
@@ -233,11 +245,11 @@ fn refused_copies_leave_their_source(rt: HostRuntime) {
         let bytes = [0xff, 0, 0, 0, 0, 0, 0, 0x55];
         row.bytes_mut().copy_from_slice(&bytes);
         if let Ok(copy) = row.copy(rt.alloc()) {
-            assert_eq!(rt; copy.bytes(), bytes.as_slice());
+            expect_same(&rt, copy.bytes(), bytes.as_slice());
         }
-        assert_eq!(rt; row.bytes(), bytes.as_slice());
+        expect_same(&rt, row.bytes(), bytes.as_slice());
         let command = Command::Row(7, row);
-        assert!(rt; is_copied(&rt, &command, &bytes));
+        expect_that(&rt, is_copied(&rt, &command, &bytes));
     }
 }
 
@@ -270,8 +282,8 @@ fn commands_fit_their_lattice(rt: HostRuntime) -> Result<(), Fail> {
         (Command::Read(64), false, true),
         (Command::Entry(4_294_967_295), true, true),
     ] {
-        assert_eq!(rt; command.fits(small), in_small);
-        assert_eq!(rt; command.fits(large), in_large);
+        expect_same(&rt, command.fits(small), in_small);
+        expect_same(&rt, command.fits(large), in_large);
     }
     Ok(())
 }
@@ -298,7 +310,7 @@ fn readings_are_no_changes(rt: HostRuntime) {
         (Command::Read(0), false),
         (Command::Entry(0), false),
     ] {
-        assert_eq!(rt; command.is_change(), is_change);
+        expect_same(&rt, command.is_change(), is_change);
     }
 }
 
@@ -306,14 +318,14 @@ fn readings_are_no_changes(rt: HostRuntime) {
 fn commands_are_copied(rt: HostRuntime) -> Result<(), Fail> {
     let area = Rect::within(size(&rt, 64, 64), 1, 2, 3, 4).expect(&rt, "a rectangle");
     let source = Command::Source(area, 9).copy(rt.alloc())?;
-    assert_eq!(rt; source_of(&source), Some((1, 2, 3, 4, 9)));
+    expect_same(&rt, source_of(&source), Some((1, 2, 3, 4, 9)));
     let back = Command::Back(17).copy(rt.alloc())?;
-    assert!(rt; matches!(back, Command::Back(17)));
+    expect_that(&rt, matches!(back, Command::Back(17)));
     let mut row = RowBits::zero(rt.alloc(), 8)?;
     let bytes = [1, 2, 3, 4, 5, 6, 7, 8];
     row.bytes_mut().copy_from_slice(&bytes);
     let command = Command::Row(7, row);
-    assert!(rt; is_copied(&rt, &command, &bytes));
-    assert!(rt; command.copy(rt.alloc()).is_ok());
+    expect_that(&rt, is_copied(&rt, &command, &bytes));
+    expect_that(&rt, command.copy(rt.alloc()).is_ok());
     Ok(())
 }

@@ -1,5 +1,6 @@
 //! Command lines: what they are read as, and the texts that teach.
 
+use crate::expected::{expect_same, expect_that};
 use gaslab::{Plan, PlanFault, Service, Status, plan};
 use std::net::{IpAddr, Ipv4Addr, SocketAddr};
 use std::process::Abort;
@@ -26,8 +27,9 @@ fn plans(
     wanted: [u32; 3],
 ) {
     let found = planned(rt, words);
-    assert_eq!(rt; numbers(&found), wanted);
-    assert!(rt; found.load.is_none() && found.save.is_none());
+    expect_same(&rt, numbers(&found), wanted);
+    expect_that(&rt, found.load.is_none());
+    expect_that(&rt, found.save.is_none());
 }
 
 // the text where the words ask for something else
@@ -137,9 +139,9 @@ fn paths_of_a_plan(rt: HostRuntime) {
         "7",
     ];
     let found = planned(&rt, &words);
-    assert_eq!(rt; numbers(&found), [64, 64, 7]);
-    assert_eq!(rt; found.load, Some("start.gas"));
-    assert_eq!(rt; found.save, Some("end.gas"));
+    expect_same(&rt, numbers(&found), [64, 64, 7]);
+    expect_same(&rt, found.load, Some("start.gas"));
+    expect_same(&rt, found.save, Some("end.gas"));
 }
 
 // the snapshot's size then holds
@@ -156,9 +158,9 @@ fn sizes_beside_a_snapshot(rt: HostRuntime) {
         "start.gas",
     ];
     let found = planned(&rt, &words);
-    assert_eq!(rt; numbers(&found), [64, 64, 1024]);
-    assert_eq!(rt; found.load, Some("start.gas"));
-    assert!(rt; found.save.is_none());
+    expect_same(&rt, numbers(&found), [64, 64, 1024]);
+    expect_same(&rt, found.load, Some("start.gas"));
+    expect_that(&rt, found.save.is_none());
 }
 
 // how many workers the words give
@@ -168,9 +170,17 @@ fn workers_of(rt: &(impl Abort + AllocGlobal), words: &[&str]) -> u8 {
 
 #[test]
 fn limits_of_workers(rt: HostRuntime) {
-    assert_eq!(rt; workers_of(&rt, &["gaslab", "run"]), 1);
-    assert_eq!(rt; workers_of(&rt, &["gaslab", "run", "--workers", "1"]), 1);
-    assert_eq!(rt; workers_of(&rt, &["gaslab", "run", "--workers", "16"]), 16);
+    expect_same(&rt, workers_of(&rt, &["gaslab", "run"]), 1);
+    expect_same(
+        &rt,
+        workers_of(&rt, &["gaslab", "run", "--workers", "1"]),
+        1,
+    );
+    expect_same(
+        &rt,
+        workers_of(&rt, &["gaslab", "run", "--workers", "16"]),
+        16,
+    );
     for n in ["0", "17", "256"] {
         teaches(
             &rt,
@@ -204,8 +214,8 @@ fn here(port: u16, sessions: u8) -> Service {
 
 #[test]
 fn plan_of_a_server(rt: HostRuntime) {
-    assert_eq!(rt; service_of(&rt, &["gaslab", "run"]), Service::Run);
-    assert_eq!(rt; service_of(&rt, &["gaslab", "serve"]), here(0, 1));
+    expect_same(&rt, service_of(&rt, &["gaslab", "run"]), Service::Run);
+    expect_same(&rt, service_of(&rt, &["gaslab", "serve"]), here(0, 1));
     let words = [
         "gaslab",
         "serve",
@@ -214,20 +224,25 @@ fn plan_of_a_server(rt: HostRuntime) {
         "--sessions",
         "2",
     ];
-    assert_eq!(rt; service_of(&rt, &words), here(7878, 2));
+    expect_same(&rt, service_of(&rt, &words), here(7878, 2));
     let words = ["gaslab", "serve", "--sessions", "64"];
-    assert_eq!(rt; service_of(&rt, &words), here(0, 64));
+    expect_same(&rt, service_of(&rt, &words), here(0, 64));
     plans(
         &rt,
         &["gaslab", "serve", "--width", "128", "--cap", "7"],
         [128, 64, 7],
     );
-    assert_eq!(rt; workers_of(&rt, &["gaslab", "serve", "--workers", "3"]), 3);
-    assert!(rt;
+    expect_same(
+        &rt,
+        workers_of(&rt, &["gaslab", "serve", "--workers", "3"]),
+        3,
+    );
+    expect_that(
+        &rt,
         matches!(
             service_of(&rt, &["gaslab", "serve", "--listen", "[::1]:80"]),
             Service::Serve { .. }
-        )
+        ),
     );
 }
 
@@ -374,6 +389,6 @@ fn numbers_of_statuses(rt: HostRuntime) {
         (Status::BadLine, 5),
     ];
     for (status, number) in statuses {
-        assert_eq!(rt; status.number(), number);
+        expect_same(&rt, status.number(), number);
     }
 }

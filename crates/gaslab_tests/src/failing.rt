@@ -1,5 +1,6 @@
 //! Readers, writers and shelves that fail at one of their calls: what was done and written is that of the first lines.
 
+use crate::expected::expect_same;
 use crate::script::{ALL, SMALL, lines, status_on};
 use gas_lab::{Gas, Lab};
 use gas_snapshot::Shelf;
@@ -132,9 +133,9 @@ fn view_of<R: Abort + AllocGlobal + Threads>(rt: &R, lab: &mut Lab<Team<&R, NoGa
 
 // what a session wrote, and the one snapshot that its shelf took
 fn seen_by(rt: &(impl Abort + AllocGlobal), session: &Session) -> Vec<u8> {
-    assert_eq!(rt; session.end, SessionEnd::InputEnd);
+    expect_same(&rt, session.end, SessionEnd::InputEnd);
     let mut view = Vec::from_slice(rt.alloc(), session.sink.taken()).expect(rt, "memory");
-    assert_eq!(rt; session.store.kept().len(), 1);
+    expect_same(&rt, session.store.kept().len(), 1);
     for bytes in session.store.kept() {
         view.extend_from_slice(bytes.as_slice())
             .expect(rt, "memory");
@@ -155,9 +156,9 @@ fn session_and_view(
 
 /// Both shelves have taken the same.
 pub fn are_same(rt: &impl Abort, found: &[Vec<u8>], wanted: &[Vec<u8>]) {
-    assert_eq!(rt; found.len(), wanted.len());
+    expect_same(&rt, found.len(), wanted.len());
     for (found, wanted) in found.iter().zip(wanted) {
-        assert_eq!(rt; found.as_slice(), wanted.as_slice());
+        expect_same(&rt, found.as_slice(), wanted.as_slice());
     }
 }
 
@@ -169,8 +170,8 @@ fn is_as_after(
     input: &[u8],
 ) {
     let (session, wanted) = session_and_view(rt, input, no_fault());
-    assert_eq!(rt; session.end, SessionEnd::InputEnd);
-    assert_eq!(rt; found, wanted.as_slice());
+    expect_same(&rt, session.end, SessionEnd::InputEnd);
+    expect_same(&rt, found, wanted.as_slice());
     are_same(rt, store.kept(), session.store.kept());
 }
 
@@ -185,10 +186,11 @@ fn runs(
     let mut sink = Sink::new(rt.alloc(), failing.write_step, ALL, failing.writes);
     let mut store = Store::new(rt.alloc(), FaultAt::never());
     let status = status_on(rt, SMALL, None, &mut source, &mut sink, &mut store);
-    assert_eq!(rt; status, status_of(wanted.end));
-    assert_eq!(rt;
+    expect_same(&rt, status, status_of(wanted.end));
+    expect_same(
+        &rt,
         sink.taken(),
-        front(exchange.output.as_slice(), wanted.written)
+        front(exchange.output.as_slice(), wanted.written),
     );
 }
 
@@ -201,10 +203,11 @@ fn goes(
 ) {
     runs(rt, exchange, failing, wanted);
     let (session, found) = session_and_view(rt, exchange.input.as_slice(), failing);
-    assert_eq!(rt; session.end, wanted.end);
-    assert_eq!(rt;
+    expect_same(&rt, session.end, wanted.end);
+    expect_same(
+        &rt,
         session.sink.taken(),
-        front(exchange.output.as_slice(), wanted.written)
+        front(exchange.output.as_slice(), wanted.written),
     );
     let asked = first_lines(exchange.input.as_slice(), wanted.asked);
     is_as_after(rt, found.as_slice(), &session.store, asked);
@@ -366,7 +369,7 @@ fn writers_fail(rt: &(impl Abort + AllocGlobal + Threads), exchange: &Exchange) 
         writer_fails(rt, exchange, FaultAt::after(calls as u64), calls);
         writer_fails(rt, exchange, FaultAt::nothing_after(calls as u64), calls);
         let end = cut_by_bytes(output, calls).end;
-        assert_eq!(rt; end == SessionEnd::InputEnd, calls == all_calls);
+        expect_same(&rt, end == SessionEnd::InputEnd, calls == all_calls);
     }
 }
 
@@ -409,10 +412,10 @@ fn puts(
     let mut sink = Sink::new(rt.alloc(), ALL, ALL, FaultAt::never());
     let mut store = Store::new(rt.alloc(), FaultAt::after(calls));
     let status = status_on(rt, SMALL, None, &mut source, &mut sink, &mut store);
-    assert_eq!(rt; status, 0);
-    assert_eq!(rt; sink.taken(), output.as_slice());
-    assert_eq!(rt; store.failures(), failures);
-    assert_eq!(rt; store.kept().len(), kept);
+    expect_same(&rt, status, 0);
+    expect_same(&rt, sink.taken(), output.as_slice());
+    expect_same(&rt, store.failures(), failures);
+    expect_same(&rt, store.kept().len(), kept);
 }
 
 #[test]

@@ -1,5 +1,6 @@
 //! Snapshots in files.
 
+use crate::expected::expect_that;
 use crate::script::{ALL, SMALL, answers, status_on};
 use crate::workers::next;
 use gas_snapshot::{FileShelf, MaybeShelf};
@@ -40,7 +41,7 @@ pub fn file_holds(
 ) {
     let path = format!(in rt.alloc(); "{folder}/{seat}").expect(rt, "memory");
     let read = fs::read(rt, path.as_str()).expect(rt, "a file");
-    assert!(rt; read.as_slice() == bytes);
+    expect_that(&rt, read.as_slice() == bytes);
 }
 
 // A line for each of 64 rows of cells that look random, under the words of a command that lays them.
@@ -82,7 +83,8 @@ fn save_in(
     let mut sink = Sink::new(rt.alloc(), ALL, ALL, FaultAt::never());
     let mut shelf = file_of(rt, folder, 0);
     let status = status_on(rt, SMALL, None, &mut source, &mut sink, &mut shelf);
-    assert!(rt; status == 0 && sink.taken().ends_with(b"SAVED 64 1558\n"));
+    expect_that(&rt, status == 0);
+    expect_that(&rt, sink.taken().ends_with(b"SAVED 64 1558\n"));
 }
 
 /// A run lays 64 rows and saves; what is loaded from the file has all their cells.

@@ -6,6 +6,8 @@ mod command_line;
 #[cfg(test)]
 mod examples;
 #[cfg(test)]
+mod expected;
+#[cfg(test)]
 mod failing;
 #[cfg(test)]
 mod files;

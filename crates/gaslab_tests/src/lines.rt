@@ -1,5 +1,6 @@
 //! Lines that are refused, and inputs that end within a line, come in pieces or have no end.
 
+use crate::expected::{expect_same, expect_that};
 use crate::script::{ALL, Room, SMALL, answers, gives, lines, status_on};
 use std::process::Abort;
 use test_types::faults::{FaultAt, Sink, Source, Store};
@@ -121,8 +122,8 @@ fn writer_fails_within_a_reply(rt: HostRuntime) {
     let mut sink = Sink::new(rt.alloc(), ALL, 7, FaultAt::never());
     let mut store = Store::new(rt.alloc(), FaultAt::never());
     let status = status_on(&rt, SMALL, None, &mut source, &mut sink, &mut store);
-    assert_eq!(rt; status, 1);
-    assert_eq!(rt; sink.taken(), b"OK 0\nOK".as_slice());
+    expect_same(&rt, status, 1);
+    expect_same(&rt, sink.taken(), b"OK 0\nOK".as_slice());
 }
 
 const TALLY: &[u8] = b"tally\n";
@@ -140,7 +141,7 @@ fn count_tallies(rt: &impl Abort, output: &[u8]) -> usize {
         }
         count = count.saturating_add(1);
     }
-    assert!(rt; rest.is_empty());
+    expect_that(&rt, rest.is_empty());
     count
 }
 
@@ -151,9 +152,9 @@ fn too_many_reads(rt: HostRuntime) {
     let mut sink = Sink::new(rt.alloc(), ALL, ALL, FaultAt::never());
     let mut store = Store::new(rt.alloc(), FaultAt::never());
     let status = status_on(&rt, SMALL, None, &mut source, &mut sink, &mut store);
-    assert_eq!(rt; status, 1);
-    assert_eq!(rt; source.reads(), 16_777_216);
-    assert_eq!(rt; count_tallies(&rt, sink.taken()), 2_796_202);
+    expect_same(&rt, status, 1);
+    expect_same(&rt, source.reads(), 16_777_216);
+    expect_same(&rt, count_tallies(&rt, sink.taken()), 2_796_202);
 }
 
 // 12,000 bytes
@@ -167,7 +168,8 @@ fn reads_ask_for_at_most_a_page(rt: HostRuntime) {
     let mut sink = Sink::new(rt.alloc(), ALL, ALL, FaultAt::never());
     let mut store = Store::new(rt.alloc(), FaultAt::never());
     let status = status_on(&rt, SMALL, None, &mut source, &mut sink, &mut store);
-    assert_eq!(rt; status, 0);
-    assert_eq!(rt; count_tallies(&rt, sink.taken()), 2000);
-    assert!(rt; 0 < source.asked() && source.asked() <= 4096);
+    expect_same(&rt, status, 0);
+    expect_same(&rt, count_tallies(&rt, sink.taken()), 2000);
+    expect_that(&rt, 0 < source.asked());
+    expect_that(&rt, source.asked() <= 4096);
 }

@@ -1,5 +1,6 @@
 //! Loads from readers that give a snapshot in pieces, fail, or never end.
 
+use crate::expected::expect_same;
 use gas_snapshot::{SnapFault, encode};
 use gaslab::{LoadFault, load_from};
 use std::io;
@@ -86,7 +87,7 @@ fn load_in_pieces(rt: HostRuntime) {
         let mut reader = Padded::new(&WITH_PORTS, 1064, step, FaultAt::never());
         let gas = load_from(rt.alloc(), &mut reader).expect(&rt, "a gas");
         let bytes = encode(rt.alloc(), &gas).expect(&rt, "memory");
-        assert_eq!(rt; bytes.as_slice(), written_now(&rt).as_slice());
+        expect_same(&rt, bytes.as_slice(), written_now(&rt).as_slice());
     }
 }
 
@@ -100,29 +101,34 @@ fn load_from_a_failing_reader(rt: HostRuntime) {
         } else {
             None
         };
-        assert_eq!(rt; fault_of(&rt, &mut reader), wanted);
+        expect_same(&rt, fault_of(&rt, &mut reader), wanted);
     }
 }
 
 #[test]
 fn load_cut_short(rt: HostRuntime) {
     for len in [0, 1, 7, 22, 39, 40, 1063] {
-        assert_eq!(rt; cut(&rt, len), Some(LoadFault::Snap(SnapFault::Short)));
+        expect_same(&rt, cut(&rt, len), Some(LoadFault::Snap(SnapFault::Short)));
     }
-    assert_eq!(rt; cut(&rt, 1064), None);
-    assert_eq!(rt; cut(&rt, 1065), Some(LoadFault::Snap(SnapFault::Trailing)));
+    expect_same(&rt, cut(&rt, 1064), None);
+    expect_same(
+        &rt,
+        cut(&rt, 1065),
+        Some(LoadFault::Snap(SnapFault::Trailing)),
+    );
 }
 
 #[test]
 fn load_reads_no_more_than_a_snapshot(rt: HostRuntime) {
     let mut whole = Padded::new(&GREATEST, 6_291_478, usize::MAX, FaultAt::never());
-    assert_eq!(rt; fault_of(&rt, &mut whole), None);
+    expect_same(&rt, fault_of(&rt, &mut whole), None);
     let mut endless = Padded::new(&GREATEST, usize::MAX, usize::MAX, FaultAt::never());
-    assert_eq!(rt;
+    expect_same(
+        &rt,
         fault_of(&rt, &mut endless),
-        Some(LoadFault::Snap(SnapFault::Trailing))
+        Some(LoadFault::Snap(SnapFault::Trailing)),
     );
-    assert_eq!(rt; endless.given, 6_291_767);
+    expect_same(&rt, endless.given, 6_291_767);
 }
 
 #[test]
@@ -138,6 +144,6 @@ fn texts_of_load_faults(rt: HostRuntime) {
     ];
     for (fault, word) in faults {
         let text = format!(in rt.alloc(); "{fault}").expect(&rt, "memory");
-        assert_eq!(rt; text.as_str(), word);
+        expect_same(&rt, text.as_str(), word);
     }
 }

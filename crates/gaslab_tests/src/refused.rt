@@ -1,5 +1,6 @@
 //! Whichever allocation is refused: that line alone is answered `ERR 14 memory`, or the session ends there, or nothing begins.
 
+use crate::expected::{expect_same, expect_that};
 use crate::loads::{Padded, WITH_PORTS};
 use crate::script::{Room, SMALL, status_on};
 use gas_snapshot::{Shelf, ShelfFault, SnapFault};
@@ -70,10 +71,10 @@ fn runs_with(
     let status = status_on(rt, room, None, &mut reader, &mut writer, shelf);
     let found = writer.text();
     if status == 0 {
-        assert!(rt; found == known || is_one_of(found, others));
+        expect_that(&rt, found == known || is_one_of(found, others));
     } else {
-        assert_eq!(rt; status, 4);
-        assert!(rt; stops_for_memory(found, known));
+        expect_same(&rt, status, 4);
+        expect_that(&rt, stops_for_memory(found, known));
     }
     status
 }
@@ -95,8 +96,9 @@ fn runs(
 ) {
     let mut shelf = no_snapshots();
     let status = runs_with(rt, room, input, known, others, &mut shelf);
-    assert!(rt; status == 0 || status == 4);
-    assert!(rt; shelf.empty == 0 && shelf.filled == 0);
+    expect_that(&rt, status == 0 || status == 4);
+    expect_that(&rt, shelf.empty == 0);
+    expect_that(&rt, shelf.filled == 0);
 }
 
 #[test]
@@ -144,24 +146,25 @@ fn refused_save_to_a_shelf(rt: HostRuntime) {
         ],
         &mut shelf,
     );
-    assert!(rt; shelf.empty.saturating_add(shelf.filled) <= 1);
-    assert!(rt; shelf.empty == 0 || status == 0);
+    expect_that(&rt, shelf.empty.saturating_add(shelf.filled) <= 1);
+    expect_that(&rt, shelf.empty == 0 || status == 0);
 }
 
 #[test]
 fn refused_load(rt: HostRuntime) {
     let mut reader = Padded::new(&WITH_PORTS, 1064, 100, FaultAt::never());
     match load_from(rt.alloc(), &mut reader) {
-        Ok(gas) => assert_eq!(rt; gas.ports().drains().len(), 1),
-        Err(fault) => assert_eq!(rt; fault, LoadFault::Snap(SnapFault::Memory)),
+        Ok(gas) => expect_same(&rt, gas.ports().drains().len(), 1),
+        Err(fault) => expect_same(&rt, fault, LoadFault::Snap(SnapFault::Memory)),
     }
     // want of memory comes before what the bytes are
     let mut reader = Padded::new(&WITH_PORTS, 1063, 100, FaultAt::never());
     match load_from(rt.alloc(), &mut reader) {
         Ok(_) => panic!(rt; "a gas of bytes that are cut short"),
-        Err(fault) => assert!(rt;
+        Err(fault) => expect_that(
+            &rt,
             fault == LoadFault::Snap(SnapFault::Memory)
-                || fault == LoadFault::Snap(SnapFault::Short)
+                || fault == LoadFault::Snap(SnapFault::Short),
         ),
     }
 }
@@ -170,8 +173,9 @@ fn refused_load(rt: HostRuntime) {
 fn is_planned(rt: &(impl Abort + AllocGlobal + Threads), words: &[&str]) -> bool {
     match plan(rt.alloc(), words) {
         Ok(found) => {
-            assert_eq!(rt; found.setup.cap, 5000);
-            assert!(rt; found.save == Some("tunnel.gas") && found.load.is_none());
+            expect_same(&rt, found.setup.cap, 5000);
+            expect_that(&rt, found.save == Some("tunnel.gas"));
+            expect_that(&rt, found.load.is_none());
             true
         }
         Err(PlanFault::Memory) => true,
@@ -191,7 +195,7 @@ fn refused_plan(rt: HostRuntime) {
         "--save",
         "tunnel.gas",
     ];
-    assert!(rt; is_planned(&rt, &words));
+    expect_that(&rt, is_planned(&rt, &words));
 }
 
 // the fault is one of the line, or want of memory
@@ -204,7 +208,7 @@ fn refused_plan_of_a_bad_line(rt: HostRuntime) {
     ] {
         match plan(rt.alloc(), &words) {
             Ok(_) => panic!(rt; "a bad line was understood"),
-            Err(PlanFault::Line(text)) => assert!(rt; !text.is_empty()),
+            Err(PlanFault::Line(text)) => expect_that(&rt, !text.is_empty()),
             Err(PlanFault::Memory) => {}
         }
     }

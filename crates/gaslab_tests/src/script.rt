@@ -2,6 +2,7 @@
 
 ghost use Rattle.std.specs.Prelude.{◌≤◌};
 
+use crate::expected::{expect_same, expect_that};
 use gas_ledger::Gas;
 use gas_snapshot::Shelf;
 use gas_terms::Size;
@@ -101,8 +102,8 @@ pub fn answers(
     let mut sink = Sink::new(rt.alloc(), ALL, ALL, FaultAt::never());
     let mut store = Store::new(rt.alloc(), FaultAt::never());
     let found = status_on(rt, room, start, &mut source, &mut sink, &mut store);
-    assert_eq!(rt; sink.taken(), output);
-    assert_eq!(rt; found, status);
+    expect_same(&rt, sink.taken(), output);
+    expect_same(&rt, found, status);
 }
 
 /// The script gives this output, on a lattice without anything.

@@ -1,5 +1,6 @@
 //! Servers over sessions in memory.
 
+use crate::expected::{expect_same, expect_that};
 use crate::files::{Files, file_holds, file_of, new_folder};
 use crate::script::{LARGE, Room, SMALL};
 use crate::snapshots::snapshot;
@@ -84,10 +85,10 @@ fn serve_on_a_lobby(rt: HostRuntime) {
     let mut said = Page::new();
     let speeches = [None, Some(Speech::of(ONE_PUT))];
     let status = status_of(&rt, empty(&rt, SMALL, 2), &stage, &speeches, &mut said);
-    assert_eq!(rt; status, 0);
-    assert_eq!(rt; said.text(), b"SERVED 1 1 1\n".as_slice());
-    assert!(rt; stage.shows(0, b""));
-    assert!(rt; stage.shows(1, b"OK 0\nBYE\n"));
+    expect_same(&rt, status, 0);
+    expect_same(&rt, said.text(), b"SERVED 1 1 1\n".as_slice());
+    expect_that(&rt, stage.shows(0, b""));
+    expect_that(&rt, stage.shows(1, b"OK 0\nBYE\n"));
 }
 
 /// Seat 1 speaks between the two lines of seat 0: sessions that run one after the other meet the limit.
@@ -97,11 +98,11 @@ fn served_sessions_take_turns(rt: HostRuntime) {
     let mut said = Page::new();
     let opening = empty(&rt, SMALL, 2);
     let status = status_of(&rt, opening, &stage, &interleaved(), &mut said);
-    assert_eq!(rt; status, 0);
-    assert_eq!(rt; said.text(), b"SERVED 2 0 3\n".as_slice());
-    assert!(rt; !stage.met_limit());
-    assert!(rt; stage.shows(0, b"OK 0\nOK 2\n"));
-    assert!(rt; stage.shows(1, b"OK 1\n"));
+    expect_same(&rt, status, 0);
+    expect_same(&rt, said.text(), b"SERVED 2 0 3\n".as_slice());
+    expect_that(&rt, !stage.met_limit());
+    expect_that(&rt, stage.shows(0, b"OK 0\nOK 2\n"));
+    expect_that(&rt, stage.shows(1, b"OK 1\n"));
 }
 
 /// The sessions are served, and the status says that the last line was not written.
@@ -116,8 +117,8 @@ fn served_line_that_fails(rt: HostRuntime) {
         &speeches,
         &mut Page::full(),
     );
-    assert_eq!(rt; status, 1);
-    assert!(rt; stage.shows(0, b"OK 0\nBYE\n"));
+    expect_same(&rt, status, 1);
+    expect_that(&rt, stage.shows(0, b"OK 0\nBYE\n"));
 }
 
 /// One session steps and undoes a channel with three workers in its turns, and another asks all the while for a row that
@@ -139,19 +140,21 @@ fn workers_under_the_lock(rt: HostRuntime) {
         ..LARGE
     };
     let status = status_of(&rt, empty(&rt, room, 2), &stage, &speeches, &mut said);
-    assert_eq!(rt; status, 0);
-    assert_eq!(rt; said.text(), b"SERVED 2 0 5\n".as_slice());
-    assert!(rt;
+    expect_same(&rt, status, 0);
+    expect_same(&rt, said.text(), b"SERVED 2 0 5\n".as_slice());
+    expect_that(
+        &rt,
         stage.shows(
             0,
-            b"OK 0\nOK 1\nOK 2\nOK 3\nOK 4\nTALLY 0 64 0 0\nLEDGER 0 64 0 0 0 0 0 0 0 0 0 0 0\nBYE\n"
-        )
+            b"OK 0\nOK 1\nOK 2\nOK 3\nOK 4\nTALLY 0 64 0 0\nLEDGER 0 64 0 0 0 0 0 0 0 0 0 0 0\nBYE\n",
+        ),
     );
-    assert!(rt;
+    expect_that(
+        &rt,
         stage.shows(
             1,
-            b"PROBE 0 0 0\nPROBE 0 0 0\nPROBE 0 0 0\nPROBE 0 0 0\nPROBE 0 0 0\nBYE\n"
-        )
+            b"PROBE 0 0 0\nPROBE 0 0 0\nPROBE 0 0 0\nPROBE 0 0 0\nPROBE 0 0 0\nBYE\n",
+        ),
     );
 }
 
@@ -167,9 +170,16 @@ fn server_from_a_snapshot(rt: HostRuntime) {
         shelves: no_shelves(&rt, 1).expect(&rt, "memory"),
     };
     let speeches = [Some(Speech::of(b"tally\nread 0\nquit\n"))];
-    assert_eq!(rt; status_of(&rt, opening, &stage, &speeches, &mut said), 0);
-    assert!(rt; stage.shows(0, b"TALLY 0 1 1 1\nROW 8000000000000000\nBYE\n"));
-    assert_eq!(rt; said.text(), b"SERVED 1 0 0\n".as_slice());
+    expect_same(
+        &rt,
+        status_of(&rt, opening, &stage, &speeches, &mut said),
+        0,
+    );
+    expect_that(
+        &rt,
+        stage.shows(0, b"TALLY 0 1 1 1\nROW 8000000000000000\nBYE\n"),
+    );
+    expect_same(&rt, said.text(), b"SERVED 1 0 0\n".as_slice());
 }
 
 // Shelves of two seats, each a file of this folder with the seat's number.
@@ -211,8 +221,8 @@ fn each_session_saves_in_its_own_file(rt: HostRuntime) {
     let stage = Stage::new();
     let mut said = Page::new();
     let status = status_of(&rt, opening, &stage, &saves_of_two(), &mut said);
-    assert_eq!(rt; status, 0);
-    assert!(rt; stage.shows(1, b"SAVED 1 1558\nBYE\n"));
+    expect_same(&rt, status, 0);
+    expect_that(&rt, stage.shows(1, b"SAVED 1 1558\nBYE\n"));
     let empty = snapshot(&rt, 22, 0);
     file_holds(&rt, folder.as_str(), 0, empty.as_slice());
     let with_a_particle = snapshot(&rt, 22, 0x80);
@@ -237,17 +247,17 @@ fn refused_serve_on(rt: HostRuntime) {
     let speeches = [None, Some(Speech::of(ONE_PUT))];
     let status = status_of(&rt, opening, &stage, &speeches, &mut said);
     if status != 0 {
-        assert_eq!(rt; (status, said.text()), (4, b"".as_slice()));
-        assert!(rt; stage.shows(1, b""));
+        expect_same(&rt, (status, said.text()), (4, b"".as_slice()));
+        expect_that(&rt, stage.shows(1, b""));
     }
     let made = stage.shows(1, b"OK 0\nBYE\n") || stage.shows(1, b"OK 0\nERR 14 memory\n");
     let refused = stage.shows(1, b"ERR 14 memory\nBYE\n") || stage.shows(1, b"ERR 14 memory\n");
     let unserved = stage.shows(1, b"");
-    assert!(rt; stage.shows(0, b""));
+    expect_that(&rt, stage.shows(0, b""));
     match said.text() {
-        b"SERVED 1 1 1\n" => assert!(rt; made),
-        b"SERVED 1 1 0\n" => assert!(rt; refused),
-        b"SERVED 0 2 0\n" => assert!(rt; unserved),
-        text => assert!(rt; text.is_empty() && unserved),
+        b"SERVED 1 1 1\n" => expect_that(&rt, made),
+        b"SERVED 1 1 0\n" => expect_that(&rt, refused),
+        b"SERVED 0 2 0\n" => expect_that(&rt, unserved),
+        text => expect_that(&rt, text.is_empty() && unserved),
     }
 }

@@ -1,5 +1,6 @@
 //! Runs that save, and runs that start from a snapshot, whose bytes were written out by hand from the format.
 
+use crate::expected::{expect_same, expect_that};
 use crate::loads::{Padded, WITH_PORTS};
 use crate::script::{ALL, SMALL, answers, lines, status_on};
 use gas_ledger::Gas;
@@ -35,8 +36,8 @@ fn saves(rt: &(impl Abort + AllocGlobal + Threads), script: &str, output: &str, 
     let mut source = Source::new(input.as_slice(), ALL, FaultAt::never());
     let mut sink = Sink::new(rt.alloc(), ALL, ALL, FaultAt::never());
     let status = status_on(rt, SMALL, None, &mut source, &mut sink, store);
-    assert_eq!(rt; sink.taken(), lines(rt, output).as_slice());
-    assert_eq!(rt; status, 0);
+    expect_same(&rt, sink.taken(), lines(rt, output).as_slice());
+    expect_same(&rt, status, 0);
 }
 
 // the gas of a head, then zeros
@@ -69,10 +70,10 @@ fn save_to_a_shelf(rt: HostRuntime) {
         "OK 0; SAVED 1 1558; TALLY 0 1 1 1",
         &mut store,
     );
-    assert_eq!(rt; store.failures(), 0);
-    assert_eq!(rt; store.kept().len(), 1);
+    expect_same(&rt, store.failures(), 0);
+    expect_same(&rt, store.kept().len(), 1);
     for bytes in store.kept() {
-        assert_eq!(rt; bytes.as_slice(), snapshot(&rt, 22, 0x80).as_slice());
+        expect_same(&rt, bytes.as_slice(), snapshot(&rt, 22, 0x80).as_slice());
     }
 }
 
@@ -85,8 +86,8 @@ fn save_to_a_shelf_that_fails(rt: HostRuntime) {
         "OK 0; ERR 15 save; TALLY 0 1 1 1",
         &mut store,
     );
-    assert_eq!(rt; store.failures(), 1);
-    assert!(rt; store.kept().is_empty());
+    expect_same(&rt, store.failures(), 1);
+    expect_that(&rt, store.kept().is_empty());
 }
 
 #[test]
@@ -98,14 +99,14 @@ fn obstacle_in_a_snapshot(rt: HostRuntime) {
         "OK 0; OK 1; SAVED 2 1558",
         &mut store,
     );
-    assert_eq!(rt; store.kept().len(), 1);
+    expect_same(&rt, store.kept().len(), 1);
     for bytes in store.kept() {
         // the particles stand from byte 22 on, and row 1 of the obstacles from byte 1,054 on
         let mut wanted = snapshot(&rt, 1054, 0x40);
         if wanted.len() > 22 {
             wanted[22] = 0x80;
         }
-        assert_eq!(rt; bytes.as_slice(), wanted.as_slice());
+        expect_same(&rt, bytes.as_slice(), wanted.as_slice());
         let gas = decode(rt.alloc(), bytes.as_slice()).expect(&rt, "a gas");
         goes_on(
             &rt,
@@ -140,15 +141,15 @@ fn old_snapshots_are_read(rt: HostRuntime) {
 #[test]
 fn a_shelf_or_none(rt: HostRuntime) {
     let mut shelf = MaybeShelf::Shelf(Store::new(rt.alloc(), FaultAt::after(1)));
-    assert!(rt; shelf.put(b"one".as_slice()).is_ok());
-    assert!(rt; shelf.put(b"two".as_slice()).is_err());
-    assert_eq!(rt; shelf.failures(), 1);
+    expect_that(&rt, shelf.put(b"one".as_slice()).is_ok());
+    expect_that(&rt, shelf.put(b"two".as_slice()).is_err());
+    expect_same(&rt, shelf.failures(), 1);
     match shelf {
-        MaybeShelf::Shelf(store) => assert_eq!(rt; store.kept().len(), 1),
+        MaybeShelf::Shelf(store) => expect_same(&rt, store.kept().len(), 1),
         MaybeShelf::Nothing(_) => panic!(rt; "no shelf"),
     }
     let mut nothing = MaybeShelf::<Store>::Nothing(NoShelf::new());
-    assert!(rt; nothing.put(b"one".as_slice()).is_err());
-    assert!(rt; nothing.put(b"two".as_slice()).is_err());
-    assert_eq!(rt; nothing.failures(), 2);
+    expect_that(&rt, nothing.put(b"one".as_slice()).is_err());
+    expect_that(&rt, nothing.put(b"two".as_slice()).is_err());
+    expect_same(&rt, nothing.failures(), 2);
 }

@@ -1,5 +1,6 @@
 //! A gas that looks random, stepped by any number of workers.
 
+use crate::expected::{expect_same, expect_that};
 use crate::failing::are_same;
 use crate::script::{ALL, Room, gives_on, status_on};
 use std::io::Write;
@@ -60,8 +61,8 @@ fn saved_by(rt: &(impl Abort + AllocGlobal + Threads), script: &[u8], workers: u
     let mut sink = Sink::new(rt.alloc(), ALL, ALL, FaultAt::never());
     let mut store = Store::new(rt.alloc(), FaultAt::never());
     let status = status_on(rt, room, None, &mut source, &mut sink, &mut store);
-    assert_eq!(rt; status, 0);
-    assert!(rt; sink.taken().ends_with(TOLD));
+    expect_same(&rt, status, 0);
+    expect_that(&rt, sink.taken().ends_with(TOLD));
     store
 }
 
@@ -70,7 +71,7 @@ fn is_back(rt: &impl Abort, kept: &[Vec<u8>]) {
     let [start, _, back, _] = kept else {
         panic!(rt; "four snapshots")
     };
-    assert_eq!(rt; back.as_slice(), start.as_slice());
+    expect_same(&rt, back.as_slice(), start.as_slice());
 }
 
 #[test]
@@ -145,5 +146,5 @@ fn workers_are_threads(rt: HostRuntime) {
         );
         most = most.max(seen);
     }
-    assert!(rt; most >= 3);
+    expect_that(&rt, most >= 3);
 }

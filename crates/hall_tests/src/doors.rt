@@ -3,6 +3,7 @@
 ghost use Rattle.std.specs.Prelude.{◌≡◌, [], vec_len};
 ghost use Rattle.gas_terms.specs.Cells.{extent};
 
+use crate::expected::{expect_same, expect_that};
 use crate::values::{look_at, small_lab, sums_of};
 use gas_hall::{Hall, HallGate, HallName, HallSeat};
 use gas_lab::{Lab, Serial, Stepper};
@@ -52,7 +53,7 @@ fn take_turns<
     let (Some(second), Some(first)) = (seats.pop(), seats.pop()) else {
         panic!(rt; "no seats")
     };
-    assert_eq!(rt; (first.number(), second.number()), (0, 1));
+    expect_same(&rt, (first.number(), second.number()), (0, 1));
     let (first_page, second_page) = (Mutex::new(Page::new()), Mutex::new(Page::new()));
     let (on_first, on_second) = (&first_page, &second_page);
     let (one, two) = thread::join(
@@ -67,8 +68,8 @@ fn take_turns<
         ),
         move || sit_down(rt, alloc, hall, second, b"put 4 0 1 1\n", on_second),
     );
-    assert!(rt; shows(&first_page, b"OK 0\nOK 2\n"));
-    assert!(rt; shows(&second_page, b"OK 1\n"));
+    expect_that(&rt, shows(&first_page, b"OK 0\nOK 2\n"));
+    expect_that(&rt, shows(&second_page, b"OK 1\n"));
     come_back(rt, &mut seats, one, 2);
     come_back(rt, &mut seats, two, 1);
     seats
@@ -82,9 +83,9 @@ fn come_back<N: HallName>(
     entries: u32,
 ) {
     let (seat, end) = back;
-    assert_eq!(rt; end, SessionEnd::InputEnd);
-    assert_eq!(rt; seat.entries(), entries);
-    assert!(rt; seats.push(seat).is_ok());
+    expect_same(&rt, end, SessionEnd::InputEnd);
+    expect_same(&rt, seat.entries(), entries);
+    expect_that(&rt, seats.push(seat).is_ok());
 }
 
 // A hall with two seats, held by turns.
@@ -113,10 +114,10 @@ fn close_two<N: HallName, G: HallGate>(
 )
     requires { N.parts ≡ 2 }
 {
-    assert!(rt; seats.len() == 2);
+    expect_that(&rt, seats.len() == 2);
     let seen = look_at(rt, hall.close(seats), &[(0, 0), (1, 4), (0, 2)]);
-    assert_eq!(rt; seen.tally, (3, 3, 3));
-    assert!(rt; seen.are_puts);
+    expect_same(&rt, seen.tally, (3, 3, 3));
+    expect_that(&rt, seen.are_puts);
 }
 
 // The sessions, and the laboratory afterwards.
@@ -133,7 +134,7 @@ fn both<N: HallName + Send + Sync, R: Threads + Wait + Clock + Abort + Sync + Co
     let turns = TestGate::turns(*rt);
     let (hall, seats) = open_two::<N, R>(rt, alloc, blank, lab, &turns);
     let seats = take_turns(rt, alloc, &hall, seats);
-    assert!(rt; !turns.met_limit());
+    expect_that(&rt, !turns.met_limit());
     close_two(rt, hall, seats);
 }
 
@@ -161,7 +162,7 @@ fn copied<
     let Some(seat) = seats.pop() else {
         panic!(rt; "no seats")
     };
-    assert_eq!(rt; (seat.number(), seat.entries()), (1, 1));
+    expect_same(&rt, (seat.number(), seat.entries()), (1, 1));
     sums_of(rt, alloc, copy_through(rt, &hall, seat))
 }
 
@@ -177,7 +178,7 @@ fn copied_between<
     let turns = TestGate::turns(*rt);
     let (hall, seats) = open_two::<N, R>(rt, alloc, blank, lab, &turns);
     let copied = copy_between(rt, alloc, &hall, seats);
-    assert!(rt; !turns.met_limit());
+    expect_that(&rt, !turns.met_limit());
     copied
 }
 
@@ -209,7 +210,7 @@ fn copy_between<
         ),
         move || sums_of(rt, alloc, copy_through(rt, hall, second)),
     );
-    assert!(rt; shows(&page, b"OK 0\nOK 1\n"));
+    expect_that(&rt, shows(&page, b"OK 0\nOK 1\n"));
     copied
 }
 
@@ -223,12 +224,12 @@ fn two_sessions_take_turns(rt: HostRuntime) {
 fn copy_after_the_hall(rt: HostRuntime) {
     let lab = small_lab(rt.alloc()).expect(&rt, "memory");
     let found = copied::<Brand, HostRuntime>(&rt, rt.alloc(), Blank::new(2), lab);
-    assert_eq!(rt; found, ((3, 3, 3), 3));
+    expect_same(&rt, found, ((3, 3, 3), 3));
 }
 
 #[test]
 fn copy_between_two_changes(rt: HostRuntime) {
     let lab = small_lab(rt.alloc()).expect(&rt, "memory");
     let found = copied_between::<Brand, HostRuntime>(&rt, rt.alloc(), Blank::new(2), lab);
-    assert_eq!(rt; found, ((1, 1, 1), 1));
+    expect_same(&rt, found, ((1, 1, 1), 1));
 }

@@ -4,6 +4,8 @@
 #[cfg(test)]
 mod doors;
 #[cfg(test)]
+mod expected;
+#[cfg(test)]
 mod many;
 #[cfg(test)]
 mod refused;

@@ -1,5 +1,6 @@
 //! As many seats as a hall may have.
 
+use crate::expected::{expect_same, expect_that};
 use crate::served::serve_sessions;
 use crate::values::{no_puts, small_lab};
 use std::process::Abort;
@@ -41,6 +42,6 @@ fn sixty_four_seats_are_served(rt: HostRuntime) {
     let meeting = TestGate::meeting(rt, 64);
     let pages = pages(&rt);
     let found = serve_all(&rt, &meeting, pages.as_slice());
-    assert!(rt; !meeting.met_limit());
-    assert_eq!(rt; found, ((64, 0, 64), [1, 1, 1, 1], (1, 1, 1)));
+    expect_that(&rt, !meeting.met_limit());
+    expect_same(&rt, found, ((64, 0, 64), [1, 1, 1, 1], (1, 1, 1)));
 }

@@ -5,6 +5,7 @@ ghost use Rattle.std.specs.Prelude.{◌≡◌, [], true};
 ghost use Rattle.gas_terms.specs.Cells.{extent};
 ghost use Rattle.gas_terms.specs.Commands.{fits};
 
+use crate::expected::{expect_same, expect_that};
 use crate::served::{Left, serve_sessions};
 use crate::values::{look_at, no_puts, small_lab, summed, taken};
 use gas_hall::{Hall, HallGate, HallName, HallSeat};
@@ -27,7 +28,7 @@ pub fn one_particle(rt: &impl Abort, size: Size) -> Command
 {
     let area = Rect::within(size, 0, 0, 1, 1).expect(rt, "a rectangle");
     let put = Command::Put(area);
-    assert!(rt; put.fits(size));
+    expect_that(&rt, put.fits(size));
     put
 }
 
@@ -35,11 +36,11 @@ pub fn one_particle(rt: &impl Abort, size: Size) -> Command
 pub fn made_by(rt: &impl Abort, reply: &Result<Answer, Refusal>) -> u32 {
     match taken(reply) {
         Ok(k) => {
-            assert_eq!(rt; k, 0);
+            expect_same(&rt, k, 0);
             1
         }
         Err(refusal) => {
-            assert_eq!(rt; refusal, Refusal::Memory);
+            expect_same(&rt, refusal, Refusal::Memory);
             0
         }
     }
@@ -48,9 +49,9 @@ pub fn made_by(rt: &impl Abort, reply: &Result<Answer, Refusal>) -> u32 {
 // The entry can only be missing where none was made, or be refused for want of memory.
 fn entry_is_there(rt: &impl Abort, reply: &Result<Answer, Refusal>, made: u32) {
     match reply {
-        Ok(_) => assert_eq!(rt; made, 1),
+        Ok(_) => expect_same(&rt, made, 1),
         Err(Refusal::Memory) => {}
-        Err(refusal) => assert_eq!(rt; (*refusal, made), (Refusal::Entry, 0)),
+        Err(refusal) => expect_same(&rt, (*refusal, made), (Refusal::Entry, 0)),
     }
 }
 
@@ -79,12 +80,12 @@ fn put_one<D: Door>(rt: &impl Abort, door: &mut D) -> u32 {
 // Readings and a copy, likewise, of a gas with so many particles and entries.
 fn read_all<D: Door>(rt: &impl Abort, door: &mut D, made: u32) {
     let read = Command::Read(0);
-    assert!(rt; read.fits(door.size()));
-    assert!(rt; is_answered_or_wants_memory(&door.ask(read)));
+    expect_that(&rt, read.fits(door.size()));
+    expect_that(&rt, is_answered_or_wants_memory(&door.ask(read)));
     let all = made as i64;
-    assert_eq!(rt; summed(rt, &door.ask(Command::Tally)), (all, all, all));
+    expect_same(&rt, summed(rt, &door.ask(Command::Tally)), (all, all, all));
     let copied = copied_entries(&door.copy_gas());
-    assert!(rt; copied.is_none() || copied == Some(made));
+    expect_that(&rt, copied.is_none() || copied == Some(made));
 }
 
 /// A put, readings and a copy, each answered or refused for want of memory. Tells how many entries there are.
@@ -97,8 +98,8 @@ pub fn use_door<D: Door>(rt: &impl Abort, door: &mut D) -> u32 {
 /// No entry was made, and the gas is empty.
 pub fn is_untouched(rt: &impl Abort, back: Lab<Serial>) {
     let seen = look_at(rt, back, &[]);
-    assert_eq!(rt; seen.entries, 0);
-    assert_eq!(rt; seen.tally, (0, 0, 0));
+    expect_same(&rt, seen.entries, 0);
+    expect_same(&rt, seen.tally, (0, 0, 0));
 }
 
 // The last seat uses its door, and then the hall is closed.
@@ -115,13 +116,13 @@ fn use_and_close<N: HallName, G: HallGate, R: Wait + Abort>(
     let mut door = hall.door(rt, seat);
     let made = use_door(rt, &mut door);
     let seat = door.end();
-    assert_eq!(rt; (seat.number(), seat.entries()), (1, made));
+    expect_same(&rt, (seat.number(), seat.entries()), (1, made));
     // there is room for the seat that was taken out
-    assert!(rt; seats.push(seat).is_ok());
-    assert!(rt; seats.len() == 2);
+    expect_that(&rt, seats.push(seat).is_ok());
+    expect_that(&rt, seats.len() == 2);
     let seen = look_at(rt, hall.close(seats), &[(1, 0)]);
-    assert_eq!(rt; seen.are_puts, made == 1);
-    assert_eq!(rt; seen.entries, made as usize);
+    expect_same(&rt, seen.are_puts, made == 1);
+    expect_same(&rt, seen.entries, made as usize);
 }
 
 fn open_and_use<N: HallName, R: Wait + Clock + Abort + Copy>(
@@ -180,8 +181,8 @@ fn refused_thread_serves_nobody(rt: HostRuntime) {
         return;
     };
     let entries = left.counts.2;
-    assert!(rt; shows(&page[0], told(&rt, left.counts)));
-    assert_eq!(rt; left.of_seats, [entries, 0, 0, 0]);
-    assert_eq!(rt; left.lab.are_puts, entries == 1);
-    assert_eq!(rt; left.lab.entries, entries as usize);
+    expect_that(&rt, shows(&page[0], told(&rt, left.counts)));
+    expect_same(&rt, left.of_seats, [entries, 0, 0, 0]);
+    expect_same(&rt, left.lab.are_puts, entries == 1);
+    expect_same(&rt, left.lab.entries, entries as usize);
 }

@@ -1,5 +1,6 @@
 //! Served sessions in memory.
 
+use crate::expected::{expect_same, expect_that};
 use crate::served::{Left, serve_sessions};
 use crate::values::{counted, no_puts, small_lab};
 use std::process::Abort;
@@ -53,11 +54,11 @@ fn serves<R: Threads + Wait + Clock + Sync + Abort + AllocGlobal>(
 ) {
     let puts = wanted.puts.unwrap_or(&[]);
     let (left, saved) = serve_guests(rt, gate, sessions, pages, puts);
-    assert_eq!(rt; left.counts, wanted.counts);
-    assert_eq!(rt; left.of_seats, wanted.of_seats);
-    assert_eq!(rt; left.lab.tally, wanted.tally);
-    assert_eq!(rt; saved, wanted.saved);
-    assert!(rt; left.lab.are_puts || wanted.puts.is_none());
+    expect_same(&rt, left.counts, wanted.counts);
+    expect_same(&rt, left.of_seats, wanted.of_seats);
+    expect_same(&rt, left.lab.tally, wanted.tally);
+    expect_same(&rt, saved, wanted.saved);
+    expect_that(&rt, left.lab.are_puts || wanted.puts.is_none());
 }
 
 // sessions none of whose readers fails
@@ -91,9 +92,9 @@ fn two_served_sessions_take_turns(rt: HostRuntime) {
         saved: [0, 0, 0],
     };
     serves(&rt, &turns, all_end(&inputs), &pages[..2], wanted);
-    assert!(rt; !turns.met_limit());
-    assert!(rt; shows(&pages[0], b"OK 0\nOK 2\n"));
-    assert!(rt; shows(&pages[1], b"OK 1\n"));
+    expect_that(&rt, !turns.met_limit());
+    expect_that(&rt, shows(&pages[0], b"OK 0\nOK 2\n"));
+    expect_that(&rt, shows(&pages[1], b"OK 1\n"));
 }
 
 #[test]
@@ -114,8 +115,8 @@ fn failed_accept_is_counted(rt: HostRuntime) {
         &pages[..2],
         wanted,
     );
-    assert!(rt; shows(&pages[0], b""));
-    assert!(rt; shows(&pages[1], b"OK 0\nBYE\n"));
+    expect_that(&rt, shows(&pages[0], b""));
+    expect_that(&rt, shows(&pages[1], b"OK 0\nBYE\n"));
 }
 
 // Whether one change was accepted, as the first, second or third entry.
@@ -143,9 +144,9 @@ fn failed_writer_beside_others(rt: HostRuntime) {
         saved: [0, 0, 0],
     };
     serves(&rt, &TestGate::open(rt), all_end(&inputs), &pages, wanted);
-    assert!(rt; shows_one_of_three(&pages[0]));
-    assert!(rt; shows(&pages[1], b""));
-    assert!(rt; shows_one_of_three(&pages[2]));
+    expect_that(&rt, shows_one_of_three(&pages[0]));
+    expect_that(&rt, shows(&pages[1], b""));
+    expect_that(&rt, shows_one_of_three(&pages[2]));
 }
 
 // 3,000 bytes in one line, and a change after it
@@ -174,9 +175,9 @@ fn torn_and_long_lines_beside_others(rt: HostRuntime) {
         saved: [0, 0, 0],
     };
     serves(&rt, &TestGate::open(rt), all_end(&inputs), &pages, wanted);
-    assert!(rt; shows(&pages[0], b""));
-    assert!(rt; shows(&pages[1], b"ERR 1 line\n"));
-    assert!(rt; shows(&pages[2], b"OK 0\nTALLY 0 1 1 1\nBYE\n"));
+    expect_that(&rt, shows(&pages[0], b""));
+    expect_that(&rt, shows(&pages[1], b"ERR 1 line\n"));
+    expect_that(&rt, shows(&pages[2], b"OK 0\nTALLY 0 1 1 1\nBYE\n"));
 }
 
 /// A reader fails in the middle of a line.
@@ -201,7 +202,7 @@ fn failed_reader_beside_others(rt: HostRuntime) {
     };
     serves(&rt, &TestGate::open(rt), sessions, &pages, wanted);
     for page in &pages {
-        assert!(rt; shows_one_of_three(page));
+        expect_that(&rt, shows_one_of_three(page));
     }
 }
 
@@ -221,7 +222,7 @@ fn each_session_saves_on_its_own_shelf(rt: HostRuntime) {
         saved: [2, 1, 0],
     };
     serves(&rt, &TestGate::open(rt), all_end(&inputs), &pages, wanted);
-    assert!(rt; shows(&pages[0], b"SAVED 0 1558\nSAVED 0 1558\nBYE\n"));
-    assert!(rt; shows(&pages[1], b"SAVED 0 1558\nBYE\n"));
-    assert!(rt; shows(&pages[2], b"BYE\n"));
+    expect_that(&rt, shows(&pages[0], b"SAVED 0 1558\nSAVED 0 1558\nBYE\n"));
+    expect_that(&rt, shows(&pages[1], b"SAVED 0 1558\nBYE\n"));
+    expect_that(&rt, shows(&pages[2], b"BYE\n"));
 }

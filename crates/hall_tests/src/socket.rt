@@ -1,5 +1,6 @@
 //! Sessions over sockets.
 
+use crate::expected::{expect_same, expect_that};
 use crate::served::serve_sessions;
 use crate::values::{empty_lab, no_puts};
 use gas_hall::TcpLobby;
@@ -54,9 +55,9 @@ fn serve_over_a_socket(rt: HostRuntime) {
         || serve_some(&rt, listener, 1, 64),
         || talk_to(&rt, alloc, addr, b"put 0 0 1 1\nquit\n"),
     );
-    assert_eq!(rt; served, Some(((1, 0, 1), [1, 0, 0, 0])));
+    expect_same(&rt, served, Some(((1, 0, 1), [1, 0, 0, 0])));
     let replies = replies.expect(&rt, "replies");
-    assert_eq!(rt; replies.as_slice(), b"OK 0\nBYE\n".as_slice());
+    expect_same(&rt, replies.as_slice(), b"OK 0\nBYE\n".as_slice());
 }
 
 // Makes a change, reads its reply, and hangs up in the middle of the next line.
@@ -157,10 +158,14 @@ fn wanted(rt: &(impl Abort + AllocGlobal)) -> Vec<u8> {
 }
 
 fn hears(rt: &(impl Abort + AllocGlobal), heard: &Heard) {
-    assert_eq!(rt; heard.first, *b"OK 0\n");
-    assert_eq!(rt; heard.second.as_slice(), b"OK 1\nERR 1 line\n".as_slice());
-    assert!(rt; heard.waited);
-    assert_eq!(rt; heard.last.as_slice(), wanted(rt).as_slice());
+    expect_same(&rt, heard.first, *b"OK 0\n");
+    expect_same(
+        &rt,
+        heard.second.as_slice(),
+        b"OK 1\nERR 1 line\n".as_slice(),
+    );
+    expect_that(&rt, heard.waited);
+    expect_same(&rt, heard.last.as_slice(), wanted(rt).as_slice());
 }
 
 /// One client hangs up in the middle of a line, one sends a line that is too long, and one never reads. All four
@@ -175,6 +180,6 @@ fn clients_that_misbehave_beside_another(rt: HostRuntime) {
         || serve_some(&rt, listener, 4, 4096),
         || crowd(&rt, alloc, addr),
     );
-    assert_eq!(rt; served, Some(((4, 0, 5), [1, 1, 0, 3])));
+    expect_same(&rt, served, Some(((4, 0, 5), [1, 1, 0, 3])));
     hears(&rt, &heard.expect(&rt, "replies"));
 }

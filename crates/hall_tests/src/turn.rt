@@ -2,6 +2,7 @@
 
 ghost use Rattle.std.specs.Prelude.{◌≡◌, [], IfOk};
 
+use crate::expected::{expect_same, expect_that};
 use crate::refused::{is_untouched, made_by, one_particle, use_door};
 use crate::values::{is_put_at, small_lab, sums_of, taken};
 use gas_hall::{TurnDoor, TurnHall, TurnNote, TurnSeat};
@@ -33,7 +34,7 @@ fn first_put<R: Wait + Abort>(rt: &R, door: &mut TurnDoor<'_, Serial, R>)
     ensures { door.new.seat.hall ≡ door.old.seat.hall }
 {
     let put = one_particle(rt, door.size());
-    assert_eq!(rt; made_by(rt, &door.ask(put)), 1);
+    expect_same(&rt, made_by(rt, &door.ask(put)), 1);
 }
 
 // Whether this tells of seat 0's put.
@@ -65,16 +66,16 @@ fn pass_a_note<R: Wait + Abort>(
 )
     requires { (first.hall ≡ hall.now) × (second.hall ≡ hall.now) }
 {
-    assert_eq!(rt; (first.number(), second.number()), (0, 1));
+    expect_same(&rt, (first.number(), second.number()), (0, 1));
     let mut one = hall.door(rt, first);
     first_put(rt, &mut one);
     let note: TurnNote<Serial> = one.note();
     let mut two = hall.door(rt, second);
     two.meet(note);
-    assert!(rt; tells_of_the_put(&two.ask(Command::Entry(0))));
+    expect_that(&rt, tells_of_the_put(&two.ask(Command::Entry(0))));
     let (copied, entries) = ended(rt, alloc, one, two);
-    assert_eq!(rt; copied, ((1, 1, 1), 1));
-    assert_eq!(rt; entries, (1, 0));
+    expect_same(&rt, copied, ((1, 1, 1), 1));
+    expect_same(&rt, entries, (1, 0));
 }
 
 /// Seat 1 finds what seat 0's note tells of.
@@ -99,7 +100,7 @@ fn put_often<R: Wait + Abort>(
     let mut door = hall.door(rt, seat);
     for _ in 0..100u32 {
         let put = one_particle(rt, door.size());
-        assert!(rt; taken(&door.ask(put)).is_ok());
+        expect_that(&rt, taken(&door.ask(put)).is_ok());
     }
     door.end()
 }
@@ -122,8 +123,8 @@ fn both_put<R: Threads + Wait + Abort + Sync>(
     let mut two = hall.door(rt, second);
     two.meet(one.note());
     let (copied, entries) = ended(rt, alloc, one, two);
-    assert_eq!(rt; copied, ((1, 1, 1), 200));
-    assert_eq!(rt; entries, (100, 100));
+    expect_same(&rt, copied, ((1, 1, 1), 200));
+    expect_same(&rt, entries, (100, 100));
 }
 
 /// Two threads each make a hundred entries, and one seat meets the other's note.
@@ -142,7 +143,7 @@ fn use_seat<R: Wait + Abort>(rt: &R, hall: &TurnHall<Serial>, seat: TurnSeat<Ser
 {
     let mut door = hall.door(rt, seat);
     let made = use_door(rt, &mut door);
-    assert_eq!(rt; door.end().entries(), made);
+    expect_same(&rt, door.end().entries(), made);
 }
 
 /// Whichever allocation is refused: the hall hands the laboratory back, and a door's call leaves it.

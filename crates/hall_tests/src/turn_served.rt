@@ -2,6 +2,7 @@
 
 ghost use Rattle.std.specs.Prelude.{◌≡◌, ◌<◌, ◌≤◌, All, vec_len};
 
+use crate::expected::expect_that;
 use crate::values::{counted, counters, no_puts, small_lab};
 use gas_hall::{TurnHall, TurnSeat, TurnServed, serve_turn};
 use gas_lab::Serial;
@@ -54,8 +55,9 @@ fn serve_all<R: Threads + Wait + Sync + Abort + Clock + Copy + Drop + Send + All
     speeches: &[Option<Speech<'_>>],
     shelves: Vec<Counter<'_>>,
 ) -> ((u32, u32, u32), [u32; 3]) {
-    assert!(rt; 0 < speeches.len() && speeches.len() <= 3);
-    assert!(rt; shelves.len() == speeches.len());
+    expect_that(&rt, 0 < speeches.len());
+    expect_that(&rt, speeches.len() <= 3);
+    expect_that(&rt, shelves.len() == speeches.len());
     let (hall, seats) = open_hall(rt, speeches.len() as u16);
     let mut lobby = Speakers::new(*rt, stage, speeches);
     let TurnServed {
@@ -97,10 +99,10 @@ fn without_saves(counts: (u32, u32, u32), of_seats: [u32; 3]) -> Outcome {
 fn turn_sessions_interleave(rt: HostRuntime) {
     let stage = Stage::new();
     let found = serve_speeches(&rt, &stage, &interleaved());
-    assert!(rt; found == without_saves((2, 0, 3), [2, 1, 0]));
-    assert!(rt; !stage.met_limit());
-    assert!(rt; stage.shows(0, b"OK 0\nOK 2\n"));
-    assert!(rt; stage.shows(1, b"OK 1\n"));
+    expect_that(&rt, found == without_saves((2, 0, 3), [2, 1, 0]));
+    expect_that(&rt, !stage.met_limit());
+    expect_that(&rt, stage.shows(0, b"OK 0\nOK 2\n"));
+    expect_that(&rt, stage.shows(1, b"OK 1\n"));
 }
 
 #[test]
@@ -108,9 +110,9 @@ fn turn_failed_accept(rt: HostRuntime) {
     let stage = Stage::new();
     let second = Speech::of(b"put 0 0 1 1\nquit\n");
     let found = serve_speeches(&rt, &stage, &[None, Some(second)]);
-    assert!(rt; found == without_saves((1, 1, 1), [0, 1, 0]));
-    assert!(rt; stage.shows(0, b""));
-    assert!(rt; stage.shows(1, b"OK 0\nBYE\n"));
+    expect_that(&rt, found == without_saves((1, 1, 1), [0, 1, 0]));
+    expect_that(&rt, stage.shows(0, b""));
+    expect_that(&rt, stage.shows(1, b"OK 0\nBYE\n"));
 }
 
 /// One session's reader fails in the middle of a line, another's page takes nothing, and the first goes on after the one
@@ -139,11 +141,11 @@ fn turn_faults_beside_others(rt: HostRuntime) {
         ..Speech::of(b"")
     };
     let found = serve_speeches(&rt, &stage, &[Some(first), Some(failing), Some(unheard)]);
-    assert!(rt; found.counts == (3, 0, 3));
-    assert!(rt; found.of_seats == [1, 1, 1]);
-    assert!(rt; stage.shows(0, b"OK 1\nTALLY 0 2 2 2\n"));
-    assert!(rt; stage.shows(1, b"OK 0\n"));
-    assert!(rt; stage.shows(2, b""));
+    expect_that(&rt, found.counts == (3, 0, 3));
+    expect_that(&rt, found.of_seats == [1, 1, 1]);
+    expect_that(&rt, stage.shows(0, b"OK 1\nTALLY 0 2 2 2\n"));
+    expect_that(&rt, stage.shows(1, b"OK 0\n"));
+    expect_that(&rt, stage.shows(2, b""));
 }
 
 #[test]
@@ -155,8 +157,8 @@ fn turn_sessions_save_on_their_own_shelves(rt: HostRuntime) {
         Some(Speech::of(b"quit\n")),
     ];
     let found = serve_speeches(&rt, &stage, &speeches);
-    assert!(rt; found.counts == (3, 0, 0));
-    assert!(rt; found.saved == [2, 1, 0]);
-    assert!(rt; stage.shows(0, b"SAVED 0 1558\nSAVED 0 1558\nBYE\n"));
-    assert!(rt; stage.shows(1, b"SAVED 0 1558\nBYE\n"));
+    expect_that(&rt, found.counts == (3, 0, 0));
+    expect_that(&rt, found.saved == [2, 1, 0]);
+    expect_that(&rt, stage.shows(0, b"SAVED 0 1558\nSAVED 0 1558\nBYE\n"));
+    expect_that(&rt, stage.shows(1, b"SAVED 0 1558\nBYE\n"));
 }

@@ -1,5 +1,6 @@
 //! A shelf that is a file, in a folder of the test's own.
 
+use crate::expected::{expect_same, expect_that};
 use gas_snapshot::{FileShelf, Shelf, decode};
 use std::process::Abort;
 use std::rt::Files;
@@ -32,19 +33,19 @@ fn draft_of(rt: &(impl Abort + AllocGlobal), path: &str) -> String {
 }
 
 fn has_no_draft(rt: &(impl Abort + AllocGlobal + Files), path: &str) {
-    assert!(rt; fs::metadata(rt, draft_of(rt, path).as_str()).is_err());
+    expect_that(&rt, fs::metadata(rt, draft_of(rt, path).as_str()).is_err());
 }
 
 fn is_read(rt: &(impl Abort + AllocGlobal), bytes: &[u8]) {
     let gas = decode(rt.alloc(), bytes).expect(rt, "a gas");
-    assert_eq!(rt; gas.tick().get(), -1);
-    assert_eq!(rt; gas.ports().drains().len(), 1);
-    assert_eq!(rt; gas.ports().sources().len(), 1);
+    expect_same(&rt, gas.tick().get(), -1);
+    expect_same(&rt, gas.ports().drains().len(), 1);
+    expect_same(&rt, gas.ports().sources().len(), 1);
 }
 
 fn holds_the_snapshot(rt: &(impl Abort + AllocGlobal + Files), path: &str) {
     let read = fs::read(rt, path).expect(rt, "a file");
-    assert_eq!(rt; read.as_slice(), snapshot().as_slice());
+    expect_same(&rt, read.as_slice(), snapshot().as_slice());
     is_read(rt, read.as_slice());
 }
 
@@ -59,8 +60,8 @@ fn failed_put_leaves_the_file(rt: HostRuntime) {
     fs::create_dir_all(&rt, draft.as_str()).expect(&rt, "a new folder");
     fs::write(&rt, path.as_str(), snapshot().as_slice()).expect(&rt, "a file");
     let mut shelf = FileShelf::new(rt.alloc(), rt, path.as_str(), 7).expect(&rt, "memory");
-    assert!(rt; shelf.put([1, 2, 3].as_slice()).is_err());
-    assert_eq!(rt; shelf.failures(), 1);
+    expect_that(&rt, shelf.put([1, 2, 3].as_slice()).is_err());
+    expect_same(&rt, shelf.failures(), 1);
     holds_the_snapshot(&rt, path.as_str());
     fs::remove_dir_all(&rt, folder.as_str()).expect(&rt, "no folder");
 }
@@ -71,21 +72,24 @@ fn file_shelf_round_trip(rt: HostRuntime) {
     fs::create_dir_all(&rt, folder.as_str()).expect(&rt, "a new folder");
     let path = path_in(&rt, folder.as_str());
     let mut shelf = FileShelf::new(rt.alloc(), rt, path.as_str(), 7).expect(&rt, "memory");
-    assert!(rt; shelf.put([1, 2, 3].as_slice()).is_ok());
-    assert!(rt; shelf.put(snapshot().as_slice()).is_ok());
-    assert_eq!(rt; shelf.failures(), 0);
+    expect_that(&rt, shelf.put([1, 2, 3].as_slice()).is_ok());
+    expect_that(&rt, shelf.put(snapshot().as_slice()).is_ok());
+    expect_same(&rt, shelf.failures(), 0);
     has_no_draft(&rt, path.as_str());
     holds_the_snapshot(&rt, path.as_str());
     fs::remove_dir_all(&rt, folder.as_str()).expect(&rt, "no folder");
     // where the folder isn't there any more, the put fails and is counted
-    assert!(rt; shelf.put(snapshot().as_slice()).is_err());
-    assert_eq!(rt; shelf.failures(), 1);
+    expect_that(&rt, shelf.put(snapshot().as_slice()).is_err());
+    expect_same(&rt, shelf.failures(), 1);
 }
 
 #[test]
 fn refused_shelf_writes_nothing(rt: HostRuntime) {
     if let Ok(shelf) = FileShelf::new(rt.alloc(), rt, "/tmp/gaslab_never_written", 3) {
-        assert_eq!(rt; shelf.failures(), 0);
+        expect_same(&rt, shelf.failures(), 0);
     }
-    assert!(rt; fs::metadata(&rt, "/tmp/gaslab_never_written.3.tmp").is_err());
+    expect_that(
+        &rt,
+        fs::metadata(&rt, "/tmp/gaslab_never_written.3.tmp").is_err(),
+    );
 }

@@ -1,5 +1,6 @@
 //! A laboratory that is asked directly: whichever allocation is refused, it is as before.
 
+use crate::expected::{expect_same, expect_that};
 use gas_lab::{Gas, Lab, Serial};
 use gas_plane::Plane;
 use gas_terms::{Answer, Command, Ledger, Rect, Refusal, RowBits, Size};
@@ -25,7 +26,8 @@ fn cells_of(rt: &impl Abort, plane: &Plane) -> [u8; CELLS] {
     let mut cells = [0; CELLS];
     for y in 0..64u32 {
         let size = plane.size();
-        assert!(rt; size.width() == 64 && size.height() == 64);
+        expect_that(&rt, size.width() == 64);
+        expect_that(&rt, size.height() == 64);
         let from = y as usize * 8;
         plane.row_bytes(y, &mut cells[from..from + 8]);
     }
@@ -58,16 +60,16 @@ fn ask(
     seat: u16,
     command: Command,
 ) -> Result<Answer, Refusal> {
-    assert!(rt; command.fits(lab.size()));
+    expect_that(&rt, command.fits(lab.size()));
     lab.apply(seat, command)
 }
 
 // Entry k is one of the seat, whoever asks for it.
 fn has_entry_of(rt: &impl Abort, lab: &mut Lab<Serial>, k: u32, seat: u16) {
     match ask(rt, lab, 7, Command::Entry(k)) {
-        Ok(Answer::EntryIs(entry)) => assert_eq!(rt; entry.seat, seat),
+        Ok(Answer::EntryIs(entry)) => expect_same(&rt, entry.seat, seat),
         Ok(_) => panic!(rt; "no entry"),
-        Err(refusal) => assert_eq!(rt; refusal, Refusal::Memory),
+        Err(refusal) => expect_same(&rt, refusal, Refusal::Memory),
     }
 }
 
@@ -90,13 +92,13 @@ fn changes_or_not(rt: &impl Abort, lab: &mut Lab<Serial>, command: Command) {
     let before = view_of(rt, lab);
     match ask(rt, lab, 3, command) {
         Ok(Answer::Taken(k)) => {
-            assert_eq!(rt; k as usize, before.entries);
+            expect_same(&rt, k as usize, before.entries);
             has_entry_of(rt, lab, k, 3);
         }
         Ok(_) => panic!(rt; "a reading"),
         Err(refusal) => {
-            assert_eq!(rt; refusal, Refusal::Memory);
-            assert_eq!(rt; view_of(rt, lab), before);
+            expect_same(&rt, refusal, Refusal::Memory);
+            expect_same(&rt, view_of(rt, lab), before);
         }
     }
 }
@@ -114,9 +116,9 @@ fn refused_changes_leave_the_laboratory(rt: HostRuntime) {
 // A row without cells is read, or memory is wanted.
 fn reads_an_empty_row(rt: &impl Abort, reply: &Result<Answer, Refusal>) {
     match reply {
-        Ok(Answer::RowIs(row)) => assert_eq!(rt; row.bytes(), [0; 8].as_slice()),
+        Ok(Answer::RowIs(row)) => expect_same(&rt, row.bytes(), [0; 8].as_slice()),
         Ok(_) => panic!(rt; "no row"),
-        Err(refusal) => assert_eq!(rt; *refusal, Refusal::Memory),
+        Err(refusal) => expect_same(&rt, *refusal, Refusal::Memory),
     }
 }
 
@@ -124,11 +126,11 @@ fn reads_an_empty_row(rt: &impl Abort, reply: &Result<Answer, Refusal>) {
 fn reads_the_entry(rt: &impl Abort, reply: &Result<Answer, Refusal>, entries: usize) {
     match reply {
         Ok(Answer::EntryIs(entry)) => {
-            assert_eq!(rt; entry.seat, 0);
-            assert!(rt; matches!(&entry.command, Command::Row(3, _)));
+            expect_same(&rt, entry.seat, 0);
+            expect_that(&rt, matches!(&entry.command, Command::Row(3, _)));
         }
         Ok(_) => panic!(rt; "no entry"),
-        Err(refusal) => assert!(rt; *refusal == Refusal::Memory || entries == 0),
+        Err(refusal) => expect_that(&rt, *refusal == Refusal::Memory || entries == 0),
     }
 }
 
@@ -141,7 +143,7 @@ fn copied_tick(lab: &Lab<Serial>) -> Option<i64> {
 fn put_a_row(rt: &(impl Abort + AllocGlobal), lab: &mut Lab<Serial>) {
     if let Ok(row) = RowBits::zero(rt.alloc(), 8) {
         if let Err(refusal) = ask(rt, lab, 0, Command::Row(3, row)) {
-            assert_eq!(rt; refusal, Refusal::Memory);
+            expect_same(&rt, refusal, Refusal::Memory);
         }
     }
 }
@@ -152,24 +154,24 @@ fn refused_readings_leave_the_laboratory(rt: HostRuntime) {
         put_a_row(&rt, &mut lab);
         let before = view_of(&rt, &lab);
         reads_an_empty_row(&rt, &ask(&rt, &mut lab, 0, Command::Read(3)));
-        assert_eq!(rt; view_of(&rt, &lab), before);
+        expect_same(&rt, view_of(&rt, &lab), before);
         let reply = ask(&rt, &mut lab, 0, Command::Entry(0));
         reads_the_entry(&rt, &reply, before.entries);
-        assert_eq!(rt; view_of(&rt, &lab), before);
+        expect_same(&rt, view_of(&rt, &lab), before);
         let tick = copied_tick(&lab);
-        assert!(rt; tick.is_none() || tick == Some(before.tick));
-        assert_eq!(rt; view_of(&rt, &lab), before);
+        expect_that(&rt, tick.is_none() || tick == Some(before.tick));
+        expect_same(&rt, view_of(&rt, &lab), before);
     }
 }
 
 fn puts(rt: &impl Abort, lab: &mut Lab<Serial>, area: Rect) {
-    assert!(rt; ask(rt, lab, 0, Command::Put(area)).is_ok());
+    expect_that(&rt, ask(rt, lab, 0, Command::Put(area)).is_ok());
 }
 
 // The particles of a rectangle in a copy of the gas.
 fn copied_counts(rt: &impl Abort, lab: &Lab<Serial>, area: Rect) -> [u64; 4] {
     let gas = lab.copy_gas().expect(rt, "memory");
-    assert!(rt; area.fits(gas.size()));
+    expect_that(&rt, area.fits(gas.size()));
     gas.particles().counts_in(area)
 }
 
@@ -179,7 +181,7 @@ fn a_gas_is_copied(rt: HostRuntime) {
     let area = Rect::within(lab.size(), 5, 6, 3, 2).expect(&rt, "a rectangle");
     puts(&rt, &mut lab, area);
     // columns 5 to 7 and rows 6 and 7
-    assert_eq!(rt; copied_counts(&rt, &lab, area), [1, 2, 1, 2]);
-    assert_eq!(rt; lab.start().tick().get(), 0);
-    assert_eq!(rt; lab.cap(), 8);
+    expect_same(&rt, copied_counts(&rt, &lab, area), [1, 2, 1, 2]);
+    expect_same(&rt, lab.start().tick().get(), 0);
+    expect_same(&rt, lab.cap(), 8);
 }

@@ -1,5 +1,6 @@
 //! Lines with what they ask, or with the first of their faults.
 
+use crate::expected::{expect_same, expect_that};
 use gas_talk::{Request, read_command};
 use gas_terms::{Command, Rect, Refusal, Size};
 use std::process::Abort;
@@ -14,7 +15,7 @@ fn fault(rt: &(impl Abort + AllocGlobal), line: &str) -> Option<Refusal> {
 }
 
 fn is_fault(rt: &(impl Abort + AllocGlobal), line: &str, refusal: Refusal) {
-    assert_eq!(rt; fault(rt, line), Some(refusal), "{line}");
+    expect_same(&rt, (line, fault(rt, line)), (line, Some(refusal)));
 }
 
 #[test]
@@ -34,8 +35,8 @@ fn refused_lines(rt: HostRuntime) {
     ] {
         is_fault(&rt, line, refusal);
     }
-    assert_eq!(rt; fault(&rt, "entry 0"), None);
-    assert_eq!(rt; fault(&rt, "quit"), None);
+    expect_same(&rt, fault(&rt, "entry 0"), None);
+    expect_same(&rt, fault(&rt, "quit"), None);
 }
 
 #[test]
@@ -59,8 +60,8 @@ fn order_of_refusals(rt: HostRuntime) {
     ] {
         is_fault(&rt, line, refusal);
     }
-    assert_eq!(rt; fault(&rt, "entry 65536"), None);
-    assert_eq!(rt; fault(&rt, "  put 0000000000  0 1   1  "), None);
+    expect_same(&rt, fault(&rt, "entry 65536"), None);
+    expect_same(&rt, fault(&rt, "  put 0000000000  0 1   1  "), None);
 }
 
 fn steps_of(rt: &(impl Abort + AllocGlobal), line: &str) -> Option<(bool, u16)> {
@@ -83,9 +84,9 @@ fn bad_numbers_of_steps(rt: HostRuntime) {
     ] {
         is_fault(&rt, line, refusal);
     }
-    assert_eq!(rt; steps_of(&rt, "step 4096"), Some((true, 4096)));
-    assert_eq!(rt; steps_of(&rt, "back 1"), Some((false, 1)));
-    assert_eq!(rt; steps_of(&rt, "back 0000000100"), Some((false, 100)));
+    expect_same(&rt, steps_of(&rt, "step 4096"), Some((true, 4096)));
+    expect_same(&rt, steps_of(&rt, "back 1"), Some((false, 1)));
+    expect_same(&rt, steps_of(&rt, "back 0000000100"), Some((false, 100)));
 }
 
 fn places(area: &Rect) -> (u16, u16, u16, u16) {
@@ -123,7 +124,11 @@ fn rectangles_are_read(rt: HostRuntime) {
         ("source 10 11 1 2 65535", "source", (10, 11, 1, 2), 65535),
     ] {
         match read_command(rt.alloc(), line, size(&rt, 64, 64)) {
-            Ok(request) => assert_eq!(rt; area_of(&request), Some((verb, area, period)), "{line}"),
+            Ok(request) => expect_same(
+                &rt,
+                (line, area_of(&request)),
+                (line, Some((verb, area, period))),
+            ),
             Err(refusal) => panic!(rt; "{line}: {refusal:?}"),
         }
     }
@@ -155,7 +160,7 @@ fn other_requests_are_read(rt: HostRuntime) {
         (" quit ", "quit", 0),
     ] {
         match read_command(rt.alloc(), line, size(&rt, 64, 64)) {
-            Ok(request) => assert_eq!(rt; asked(&request), Some((verb, number)), "{line}"),
+            Ok(request) => expect_same(&rt, (line, asked(&request)), (line, Some((verb, number)))),
             Err(refusal) => panic!(rt; "{line}: {refusal:?}"),
         }
     }
@@ -187,7 +192,7 @@ fn rows_and_hex(rt: HostRuntime) {
         ),
     ] {
         assert!(rt; is_row(&rt, line, y, &bytes), "{line}");
-        assert_eq!(rt; fault(&rt, line), None, "{line}");
+        expect_same(&rt, (line, fault(&rt, line)), (line, None));
     }
     for (line, refusal) in [
         ("row 0 80000000", Refusal::Row),
@@ -210,26 +215,31 @@ fn widest_lattice(rt: HostRuntime) {
     line[6..].copy_from_slice(&digits);
     let line = str::from_utf8(&line).expect(&rt, "text");
     match read_command(rt.alloc(), line, wide) {
-        Ok(Request::Ask(Command::Row(0, bits))) => assert_eq!(rt;
+        Ok(Request::Ask(Command::Row(0, bits))) => expect_same(
+            &rt,
             bits.bytes(),
-            [255; 512].as_slice()
+            [255; 512].as_slice(),
         ),
         _ => panic!(rt; "the widest row is no row"),
     }
-    assert_eq!(rt;
+    expect_same(
+        &rt,
         read_command(rt.alloc(), "put 4096 0 1 1", wide).err(),
-        Some(Refusal::Rect)
+        Some(Refusal::Rect),
     );
-    assert!(rt; read_command(rt.alloc(), "put 4095 63 1 1", wide).is_ok());
+    expect_that(
+        &rt,
+        read_command(rt.alloc(), "put 4095 63 1 1", wide).is_ok(),
+    );
 }
 
 // Passes too where the allocation is refused.
 #[test]
 fn refused_row_reading(rt: HostRuntime) {
     let bytes = [0xff, 0, 0, 0, 0, 0, 0, 0x55];
-    assert!(rt; is_row(&rt, "row 7 ff00000000000055", 7, &bytes));
+    expect_that(&rt, is_row(&rt, "row 7 ff00000000000055", 7, &bytes));
     is_fault(&rt, "row 7 ff000000000000", Refusal::Row);
     is_fault(&rt, "row 64 ff00000000000055", Refusal::Rect);
-    assert_eq!(rt; fault(&rt, "put 0 0 1 1"), None);
-    assert_eq!(rt; fault(&rt, "entry 0"), None);
+    expect_same(&rt, fault(&rt, "put 0 0 1 1"), None);
+    expect_same(&rt, fault(&rt, "entry 0"), None);
 }

@@ -1,5 +1,6 @@
 //! Worked examples of sessions with a laboratory alone.
 
+use crate::expected::{expect_same, expect_that};
 use gas_lab::{Gas, Lab, Serial};
 use gas_talk::session::session;
 use gas_talk::{Alone, SessionEnd, serve_alone};
@@ -42,8 +43,8 @@ fn served(
 ) {
     let mut sink = sink(rt);
     let found = end_of(rt, input, step, &mut sink);
-    assert_eq!(rt; sink.taken(), replies);
-    assert_eq!(rt; found, end);
+    expect_same(&rt, sink.taken(), replies);
+    expect_same(&rt, found, end);
 }
 
 #[test]
@@ -89,20 +90,23 @@ fn answered_in_part(rt: &(impl Abort + AllocGlobal), lab: &mut Lab<Serial>) {
     let mut store = Store::new(rt.alloc(), FaultAt::never());
     let mut door = Alone { lab, seat: 3 };
     let end = session(rt.alloc(), &mut source, &mut sink, &mut door, &mut store);
-    assert_eq!(rt; end, SessionEnd::WriteFault);
-    assert_eq!(rt; sink.taken(), b"OK 0\nOK".as_slice());
+    expect_same(&rt, end, SessionEnd::WriteFault);
+    expect_same(&rt, sink.taken(), b"OK 0\nOK".as_slice());
 }
 
 // the first two puts are there, and are seat 3's
 fn has_two_puts(rt: &impl Abort, lab: &Lab<Serial>) {
-    assert_eq!(rt; lab.journal().len(), 2);
+    expect_same(&rt, lab.journal().len(), 2);
     for entry in lab.journal() {
-        assert!(rt; entry.seat == 3 && matches!(&entry.command, Command::Put(_)));
+        expect_that(&rt, entry.seat == 3);
+        expect_that(&rt, matches!(&entry.command, Command::Put(_)));
     }
     let size = lab.size();
     let particles = lab.gas().particles();
     for at in [0, 2] {
-        assert!(rt; at < size.width() as u32 && at < size.height() as u32 && particles.get(at, at));
+        expect_that(&rt, at < size.width() as u32);
+        expect_that(&rt, at < size.height() as u32);
+        expect_that(&rt, particles.get(at, at));
     }
 }
 
@@ -119,9 +123,9 @@ fn read_fails(rt: &(impl Abort + AllocGlobal), lab: &mut Lab<Serial>) {
     let mut sink = sink(rt);
     let mut store = Store::new(rt.alloc(), FaultAt::never());
     let end = serve_alone(rt.alloc(), &mut source, &mut sink, lab, 0, &mut store);
-    assert_eq!(rt; end, SessionEnd::ReadFault);
-    assert_eq!(rt; sink.taken(), b"TALLY 0 0 0 0\n".as_slice());
-    assert_eq!(rt; sink.flushes(), 1);
+    expect_same(&rt, end, SessionEnd::ReadFault);
+    expect_same(&rt, sink.taken(), b"TALLY 0 0 0 0\n".as_slice());
+    expect_same(&rt, sink.flushes(), 1);
 }
 
 fn write_fails(rt: &(impl Abort + AllocGlobal), lab: &mut Lab<Serial>, fault: FaultAt) {
@@ -129,8 +133,8 @@ fn write_fails(rt: &(impl Abort + AllocGlobal), lab: &mut Lab<Serial>, fault: Fa
     let mut sink = Sink::new(rt.alloc(), ALL, ALL, fault);
     let mut store = Store::new(rt.alloc(), FaultAt::never());
     let end = serve_alone(rt.alloc(), &mut source, &mut sink, lab, 0, &mut store);
-    assert_eq!(rt; end, SessionEnd::WriteFault);
-    assert_eq!(rt; sink.taken(), b"TALLY 0 0 0 0\n".as_slice());
+    expect_same(&rt, end, SessionEnd::WriteFault);
+    expect_same(&rt, sink.taken(), b"TALLY 0 0 0 0\n".as_slice());
 }
 
 #[test]
@@ -154,9 +158,9 @@ fn too_many_reads(rt: HostRuntime) {
     let mut sink = sink(&rt);
     let mut store = Store::new(rt.alloc(), FaultAt::never());
     let end = serve_alone(rt.alloc(), &mut source, &mut sink, &mut lab, 5, &mut store);
-    assert_eq!(rt; end, SessionEnd::TooManyReads);
-    assert_eq!(rt; source.reads(), 16_777_216);
-    assert_eq!(rt; sink.taken().len(), 39_146_828);
+    expect_same(&rt, end, SessionEnd::TooManyReads);
+    expect_same(&rt, source.reads(), 16_777_216);
+    expect_same(&rt, sink.taken().len(), 39_146_828);
 }
 
 fn small_lab(rt: &(impl Abort + AllocGlobal)) -> Result<Lab<Serial>, NoMemory> {
@@ -172,7 +176,8 @@ fn refused_memory_to_a_session_that_cannot_write(rt: HostRuntime) {
         let mut sink = Sink::new(rt.alloc(), ALL, ALL, FaultAt::after(0));
         let mut store = Store::new(rt.alloc(), FaultAt::never());
         let end = serve_alone(rt.alloc(), &mut source, &mut sink, &mut lab, 2, &mut store);
-        assert_eq!(rt; end, SessionEnd::WriteFault);
-        assert!(rt; sink.taken().is_empty() && lab.journal().is_empty());
+        expect_same(&rt, end, SessionEnd::WriteFault);
+        expect_that(&rt, sink.taken().is_empty());
+        expect_that(&rt, lab.journal().is_empty());
     }
 }

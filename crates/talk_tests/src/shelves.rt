@@ -6,6 +6,7 @@ ghost use Rattle.gas_talk.specs.LabTalk.{Outcome, talk};
 ghost use Rattle.gas_talk.specs.Lines.{Item};
 ghost use Rattle.test_types.specs.Stores.{kept_by};
 
+use crate::expected::expect_that;
 use gas_lab::{Gas, Lab, Serial};
 use gas_talk::serve_alone;
 use gas_terms::Size;
@@ -37,8 +38,8 @@ fn store_tells_what_a_session_saved(rt: HostRuntime) {
     let mut lab = Lab::open(rt.alloc(), gas, 1024, Serial).expect(&rt, "memory");
     let mut store = Store::new(rt.alloc(), FaultAt::never());
     speak(&rt, b"put 0 0 1 1\nsave\n", &mut lab, &mut store);
-    assert!(rt; store.kept().len() == 1);
+    expect_that(&rt, store.kept().len() == 1);
     for bytes in store.kept() {
-        assert!(rt; is_one_particle(bytes.as_slice()));
+        expect_that(&rt, is_one_particle(bytes.as_slice()));
     }
 }

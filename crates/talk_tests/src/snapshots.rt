@@ -1,5 +1,6 @@
 //! Worked examples: the bytes were written out by hand from the format.
 
+use crate::expected::{expect_same, expect_that};
 use gas_ledger::Gas;
 use gas_plane::Plane;
 use gas_snapshot::{NoShelf, Shelf, ShelfFault, SnapFault, decode, encode, write_to};
@@ -73,34 +74,37 @@ fn fault_of(rt: &(impl Abort + AllocGlobal), at: usize, change: &[u8]) -> Option
 fn is_written_as(rt: &(impl Abort + AllocGlobal), bytes: &[u8], wanted: &[u8]) {
     let gas = decode(rt.alloc(), bytes).expect(rt, "a gas");
     let bytes = encode(rt.alloc(), &gas).expect(rt, "memory");
-    assert_eq!(rt; bytes.as_slice(), wanted);
+    expect_same(&rt, bytes.as_slice(), wanted);
 }
 
 #[test]
 fn empty_snapshot_lengths(rt: HostRuntime) {
     let wanted = padded(&rt, &NEW, 1558);
     let bytes = encode(rt.alloc(), &empty(&rt)).expect(&rt, "memory");
-    assert_eq!(rt; bytes.as_slice(), wanted.as_slice());
+    expect_same(&rt, bytes.as_slice(), wanted.as_slice());
     is_written_as(&rt, bytes.as_slice(), wanted.as_slice());
     let long = padded(&rt, &NEW, 1559);
-    assert_eq!(rt;
+    expect_same(
+        &rt,
         decode(rt.alloc(), long.as_slice()).err(),
-        Some(SnapFault::Trailing)
+        Some(SnapFault::Trailing),
     );
-    assert_eq!(rt;
+    expect_same(
+        &rt,
         decode(rt.alloc(), front(long.as_slice(), 1557)).err(),
-        Some(SnapFault::Short)
+        Some(SnapFault::Short),
     );
 }
 
 #[test]
 fn short_snapshots(rt: HostRuntime) {
     let bytes = padded(&rt, &WITH_PORTS, 1064);
-    assert!(rt; decode(rt.alloc(), bytes.as_slice()).is_ok());
+    expect_that(&rt, decode(rt.alloc(), bytes.as_slice()).is_ok());
     for len in 0..bytes.len() {
-        assert_eq!(rt;
+        expect_same(
+            &rt,
             decode(rt.alloc(), front(bytes.as_slice(), len)).err(),
-            Some(SnapFault::Short)
+            Some(SnapFault::Short),
         );
     }
 }
@@ -118,43 +122,47 @@ fn old_snapshots_are_read(rt: HostRuntime) {
 
 #[test]
 fn each_change_has_its_fault(rt: HostRuntime) {
-    assert_eq!(rt; fault_of(&rt, 6, &[0x32]), Some(SnapFault::Short));
-    assert_eq!(rt; fault_of(&rt, 6, &[0x33]), Some(SnapFault::Magic));
-    assert_eq!(rt; fault_of(&rt, 8, &[0, 0x41]), Some(SnapFault::Size));
-    assert_eq!(rt; fault_of(&rt, 8, &[0x10, 0]), Some(SnapFault::Size));
-    assert_eq!(rt; fault_of(&rt, 10, &[0, 0]), Some(SnapFault::Size));
-    assert_eq!(rt;
-        fault_of(&rt, 12, &[0, 0, 1, 0, 0, 0, 0, 1]),
-        Some(SnapFault::Tick)
-    );
-    assert_eq!(rt; fault_of(&rt, 12, &[0, 0, 1, 0, 0, 0, 0, 0]), None);
-    assert_eq!(rt; fault_of(&rt, 20, &[17]), Some(SnapFault::Port));
-    assert_eq!(rt;
-        fault_of(&rt, 20, &[1, 0, 0, 0x3f, 0, 0x3f, 0, 2, 0, 1]),
-        Some(SnapFault::Port)
-    );
-    assert_eq!(rt;
-        fault_of(&rt, 20, &[0, 1, 0, 0, 0, 0, 0, 1, 0, 1, 0, 0]),
-        Some(SnapFault::Port)
-    );
-    // the first fault from the left
-    assert_eq!(rt;
-        fault_of(&rt, 8, &[0, 0x41, 0, 0x40, 1]),
-        Some(SnapFault::Size)
-    );
+    for (at, change, fault) in [
+        (6, [0x32].as_slice(), Some(SnapFault::Short)),
+        (6, [0x33].as_slice(), Some(SnapFault::Magic)),
+        (8, [0, 0x41].as_slice(), Some(SnapFault::Size)),
+        (8, [0x10, 0].as_slice(), Some(SnapFault::Size)),
+        // the first fault from the left
+        (8, [0, 0x41, 0, 0x40, 1].as_slice(), Some(SnapFault::Size)),
+        (10, [0, 0].as_slice(), Some(SnapFault::Size)),
+        (
+            12,
+            [0, 0, 1, 0, 0, 0, 0, 1].as_slice(),
+            Some(SnapFault::Tick),
+        ),
+        (12, [0, 0, 1, 0, 0, 0, 0, 0].as_slice(), None),
+        (20, [17].as_slice(), Some(SnapFault::Port)),
+        (
+            20,
+            [1, 0, 0, 0x3f, 0, 0x3f, 0, 2, 0, 1].as_slice(),
+            Some(SnapFault::Port),
+        ),
+        (
+            20,
+            [0, 1, 0, 0, 0, 0, 0, 1, 0, 1, 0, 0].as_slice(),
+            Some(SnapFault::Port),
+        ),
+    ] {
+        expect_same(&rt, (at, fault_of(&rt, at, change)), (at, fault));
+    }
+}
+
+#[test]
+fn each_length_has_its_fault(rt: HostRuntime) {
     let bytes = padded(&rt, &OLD, 1047);
-    assert_eq!(rt;
-        decode(rt.alloc(), bytes.as_slice()).err(),
-        Some(SnapFault::Trailing)
-    );
-    assert_eq!(rt;
-        decode(rt.alloc(), front(bytes.as_slice(), 1045)).err(),
-        Some(SnapFault::Short)
-    );
-    assert_eq!(rt;
-        decode(rt.alloc(), front(bytes.as_slice(), 5)).err(),
-        Some(SnapFault::Short)
-    );
+    for (length, fault) in [
+        (1047, SnapFault::Trailing),
+        (1045, SnapFault::Short),
+        (5, SnapFault::Short),
+    ] {
+        let found = decode(rt.alloc(), front(bytes.as_slice(), length)).err();
+        expect_same(&rt, (length, found), (length, Some(fault)));
+    }
 }
 
 // what is wrong with other bytes when those from a place on are changed
@@ -173,17 +181,20 @@ fn fault_in(
 #[test]
 fn sides_and_ticks_out_of_range(rt: HostRuntime) {
     // version 2, 4,160 wide
-    assert_eq!(rt;
+    expect_same(
+        &rt,
         fault_in(&rt, &NEW, 1558, 8, &[0x10, 0x40]),
-        Some(SnapFault::Size)
+        Some(SnapFault::Size),
     );
-    assert_eq!(rt;
+    expect_same(
+        &rt,
         fault_in(&rt, &WITH_PORTS, 1064, 8, &[0xff]),
-        Some(SnapFault::Size)
+        Some(SnapFault::Size),
     );
-    assert_eq!(rt;
+    expect_same(
+        &rt,
         fault_in(&rt, &WITH_PORTS, 1064, 12, &[0]),
-        Some(SnapFault::Tick)
+        Some(SnapFault::Tick),
     );
 }
 
@@ -196,9 +207,9 @@ fn with_an_obstacle(rt: &(impl Abort + AllocGlobal)) -> Vec<u8> {
 
 fn reads_an_obstacle(rt: &(impl Abort + AllocGlobal), bytes: &[u8]) {
     let again = decode(rt.alloc(), bytes).expect(rt, "a gas");
-    assert!(rt; has(again.obstacles(), 1, 1));
-    assert!(rt; !has(again.walls(), 1, 1));
-    assert!(rt; !has(again.obstacles(), 1, 0));
+    expect_that(&rt, has(again.obstacles(), 1, 1));
+    expect_that(&rt, !has(again.walls(), 1, 1));
+    expect_that(&rt, !has(again.obstacles(), 1, 0));
 }
 
 #[test]
@@ -206,15 +217,15 @@ fn obstacle_in_a_snapshot(rt: HostRuntime) {
     let bytes = with_an_obstacle(&rt);
     let mut wanted = padded(&rt, &NEW, 1558);
     set(&mut wanted, 1054, 0x40);
-    assert_eq!(rt; bytes.as_slice(), wanted.as_slice());
+    expect_same(&rt, bytes.as_slice(), wanted.as_slice());
     reads_an_obstacle(&rt, bytes.as_slice());
 }
 
 // a gas without particles is read, or memory is wanted
 fn reads_an_empty_gas(rt: &(impl Abort + AllocGlobal), bytes: &[u8]) {
     match decode(rt.alloc(), bytes) {
-        Ok(again) => assert!(rt; !has(again.particles(), 0, 0)),
-        Err(fault) => assert_eq!(rt; fault, SnapFault::Memory),
+        Ok(again) => expect_that(&rt, !has(again.particles(), 0, 0)),
+        Err(fault) => expect_same(&rt, fault, SnapFault::Memory),
     }
 }
 
@@ -230,22 +241,26 @@ fn refused_encode_and_decode(rt: HostRuntime) {
     if let Some(bytes) = encoded(&rt) {
         reads_an_empty_gas(&rt, bytes.as_slice());
     }
-    assert_eq!(rt; decode(rt.alloc(), &OLD).err(), Some(SnapFault::Short));
+    expect_same(&rt, decode(rt.alloc(), &OLD).err(), Some(SnapFault::Short));
 }
 
 #[test]
 fn no_shelf_counts_its_failures(rt: HostRuntime) {
     let mut shelf = NoShelf::new();
-    assert_eq!(rt; shelf.failures(), 0);
-    assert_eq!(rt; shelf.put(&OLD), Err(ShelfFault));
-    assert_eq!(rt; shelf.failures(), 1);
+    expect_same(&rt, shelf.failures(), 0);
+    expect_same(&rt, shelf.put(&OLD), Err(ShelfFault));
+    expect_same(&rt, shelf.failures(), 1);
 }
 
 // a writer that takes `left` bytes gets just these
 fn writes_front(rt: &impl Abort, gas: &Gas, mut sink: Sink, wanted: &[u8], left: usize) {
     let answer = write_to(gas, &mut sink);
-    assert_eq!(rt; answer.ok(), if left < 1558 { None } else { Some(1558) });
-    assert_eq!(rt; sink.taken(), front(wanted, left));
+    expect_same(
+        &rt,
+        answer.ok(),
+        if left < 1558 { None } else { Some(1558) },
+    );
+    expect_same(&rt, sink.taken(), front(wanted, left));
 }
 
 // a write beyond that fails, or takes none
@@ -281,14 +296,19 @@ fn set_corners(bytes: &mut Vec<u8>) {
 }
 
 fn has_four_corners(rt: &impl Abort, cells: &Plane) {
-    assert!(rt; has(cells, 0, 0) && has(cells, 127, 0) && has(cells, 0, 63) && has(cells, 127, 63));
-    assert!(rt; !has(cells, 1, 0) && !has(cells, 126, 0) && !has(cells, 7, 63));
+    expect_that(&rt, has(cells, 0, 0));
+    expect_that(&rt, has(cells, 127, 0));
+    expect_that(&rt, has(cells, 0, 63));
+    expect_that(&rt, has(cells, 127, 63));
+    expect_that(&rt, !has(cells, 1, 0));
+    expect_that(&rt, !has(cells, 126, 0));
+    expect_that(&rt, !has(cells, 7, 63));
 }
 
 fn reads_ports_and_corners(rt: &(impl Abort + AllocGlobal), bytes: &[u8]) {
     let gas = decode(rt.alloc(), bytes).expect(rt, "a gas");
-    assert_eq!(rt; gas.ports().drains().len(), 16);
-    assert_eq!(rt; gas.ports().sources().len(), 16);
+    expect_same(&rt, gas.ports().drains().len(), 16);
+    expect_same(&rt, gas.ports().sources().len(), 16);
     has_four_corners(rt, gas.particles());
     has_four_corners(rt, gas.walls());
     has_four_corners(rt, gas.obstacles());

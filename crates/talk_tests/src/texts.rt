@@ -2,6 +2,7 @@
 
 ghost use Rattle.std.specs.Prelude.{◌≤◌, length};
 
+use crate::expected::expect_same;
 use gas_talk::{Reply, ReplyPage, Request, read_command, reply_text};
 use gas_terms::{Answer, Entry, Ledger, NoMemory, Pair, Refusal, RowBits, Size, Sums, Tick};
 use std::alloc::Global;
@@ -17,7 +18,7 @@ fn sums(count: i64, px: i64, py: i64) -> Sums {
 
 fn is_line(rt: &impl Abort, page: &mut ReplyPage, reply: &Reply, line: &str) {
     reply_text(reply, page);
-    assert_eq!(rt; page.text(), line.as_bytes(), "{line}");
+    expect_same(&rt, (line, page.text()), (line, line.as_bytes()));
 }
 
 fn row(alloc: Global, bytes: &[u8]) -> Result<RowBits, NoMemory>
@@ -31,7 +32,7 @@ fn row(alloc: Global, bytes: &[u8]) -> Result<RowBits, NoMemory>
 #[test]
 fn numbers_in_replies(rt: HostRuntime) {
     let mut page = ReplyPage::empty();
-    assert_eq!(rt; page.text(), b"".as_slice());
+    expect_same(&rt, page.text(), b"".as_slice());
     let start = Tick::new(0).expect(&rt, "a tick");
     let last = Tick::new(1_099_511_627_776).expect(&rt, "a tick");
     let first = Tick::new(-1_099_511_627_776).expect(&rt, "a tick");
@@ -87,7 +88,7 @@ fn accounts_in_replies(rt: HostRuntime) {
         obstacles: taken,
     };
     reply_text(&Reply::Answered(Answer::Accounts(ledger)), &mut page);
-    assert_eq!(rt; page.text().len(), 280);
+    expect_same(&rt, page.text().len(), 280);
 }
 
 #[test]
@@ -142,7 +143,7 @@ fn rows_in_replies(rt: HostRuntime) -> Result<(), NoMemory> {
     let widest = row(rt.alloc(), &[255; 512])?;
     reply_text(&Reply::Answered(Answer::RowIs(widest)), &mut page);
     assert_eq!(rt; page.text().len(), 4 + 1024 + 1);
-    assert_eq!(rt; &page.text()[1020..], b"ffffffff\n".as_slice());
+    expect_same(&rt, &page.text()[1020..], b"ffffffff\n".as_slice());
     Ok(())
 }
 
@@ -199,6 +200,10 @@ fn longest_reply(rt: HostRuntime) {
         None => panic!(rt; "no row"),
     }
     assert_eq!(rt; page.text().len(), 19 + 1024 + 1);
-    assert_eq!(rt; &page.text()[..23], b"ENTRY 65535 row 63 ffff".as_slice());
+    expect_same(
+        &rt,
+        &page.text()[..23],
+        b"ENTRY 65535 row 63 ffff".as_slice(),
+    );
     is_line(&rt, &mut page, &Reply::Bye, "BYE\n");
 }
