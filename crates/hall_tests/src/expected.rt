@@ -1,5 +1,5 @@
-//! What stops a test. As calls they cost the prover half of what `assert!` and `assert_eq!` cost in each test, whose
-//! branches stand where they are written.
+//! What stops a test. A test that calls them has one step for the prover where `assert!` and `assert_eq!` put their
+//! branches and messages into the test itself.
 
 ghost use Rattle.std.specs.Prelude.{◌≡◌, true};
 

@@ -609,12 +609,12 @@ fn team_parts_large_runs_into_strips(rt: HostRuntime) {
         n: 64,
     };
     let start = seeded(&rt, size, 88172645463325252, 1);
-    for (workers, by_strips) in [(1, false), (2, false), (4, true)] {
+    for (workers, in_strips) in [(1, false), (2, false), (4, true)] {
         let mut team = team(&rt, rt, rt.alloc(), workers, NoGate);
         let mut now = seeded(&rt, size, 88172645463325252, 1);
         let mut spare = seeded(&rt, size, 1, 1);
         make(&rt, &mut team, run, &mut now, &mut spare);
-        assert!(rt; have_same_rows(&spare, &start) == by_strips);
+        assert!(rt; have_same_rows(&spare, &start) == in_strips);
     }
 }
 
