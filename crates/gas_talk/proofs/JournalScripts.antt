@@ -14,16 +14,16 @@ use Rattle.gas_terms.specs.declared.command.Entry.{Entry}
 use Rattle.gas_terms.specs.declared.answer.Answer.TheVariants.{Taken}
 use Rattle.gas_terms.specs.declared.refusal.Refusal.{Refusal}
 use Rattle.gas_terms.specs.declared.refusal.Refusal.TheVariants.{Entry as NoEntry, Full, Ports, Tick, Journal}
-use Rattle.gas_talk.proofs.CanonicalCommands.{command_again}
+use Rattle.gas_text.proofs.CanonicalCommands.{command_again}
 use Rattle.gas_talk.proofs.Cutting.{lines_nil}
 use Rattle.gas_talk.proofs.ScriptLines.{line_first, command_is_line}
-use Rattle.gas_talk.specs.declared.reply.Reply.TheVariants.{Answered}
+use Rattle.gas_text.specs.declared.reply.Reply.TheVariants.{Answered}
 use Rattle.gas_talk.specs.Ends.{until_end}
 use Rattle.gas_talk.specs.LabTalk.{plain, answered, requested, taken_at, talk}
 use Rattle.gas_talk.specs.Lines.{Item, text, lines}
 use Rattle.gas_talk.specs.Scripts.{script, all_plain, asked_by_script, taken_from, made_alone}
 use Rattle.gas_talk.specs.Talk.{no_put, Turn}
-use Rattle.gas_talk.specs.Texts.{command_text, IsTyped}
+use Rattle.gas_text.specs.Texts.{command_text, IsTyped}
 
 abbrev Typed : Entry → Type 0
 Typed entry = IsTyped entry.command

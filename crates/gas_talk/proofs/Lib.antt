@@ -1,15 +1,10 @@
-pub mod Canonical
-pub mod CanonicalCommands
 pub mod Codec
 pub mod Counting
 pub mod Cutting
-pub mod Decimals
 pub mod Filling
-pub mod LineWords
 pub mod JournalScripts
 pub mod Progress
 pub mod ScriptLines
 pub mod Sending
 pub mod Sequential
-pub mod Spacing
 pub mod Steps

@@ -12,10 +12,10 @@ use Rattle.gas_terms.specs.declared.command.Command.{Command}
 use Rattle.gas_terms.specs.declared.answer.Answer.{Answer}
 use Rattle.gas_terms.specs.declared.refusal.Refusal.{Refusal}
 use Rattle.gas_terms.specs.declared.refusal.Refusal.TheVariants as refusals
-use Rattle.gas_talk.specs.declared.reply.Reply.{Reply}
-use Rattle.gas_talk.specs.declared.reply.Reply.TheVariants.{Refused}
-use Rattle.gas_talk.specs.Requests.{request_of}
-use Rattle.gas_talk.specs.Texts.{reply_line}
+use Rattle.gas_text.specs.declared.reply.Reply.{Reply}
+use Rattle.gas_text.specs.declared.reply.Reply.TheVariants.{Refused}
+use Rattle.gas_text.specs.Requests.{request_of}
+use Rattle.gas_text.specs.Texts.{reply_line}
 use Rattle.gas_talk.specs.declared.end.SessionEnd.{SessionEnd}
 use Rattle.gas_talk.specs.declared.end.SessionEnd.TheVariants.{Quit, WriteFault, BadLine, Memory}
 use Rattle.gas_talk.specs.declared.reader.LineReader.{LineReader}

@@ -19,14 +19,14 @@ use Rattle.gas_terms.specs.Cells.{Extent, Rectangle, is_size, lies_within}
 use Rattle.gas_terms.specs.Commands.{fits, is_period}
 use Rattle.gas_terms.specs.declared.command.Command.{Command}
 use Rattle.gas_terms.specs.declared.command.Command.TheVariants as commands
-use Rattle.gas_talk.proofs.Canonical.{digits_of_number}
-use Rattle.gas_talk.proofs.CanonicalCommands.{AreSmall, area_small, count_small, row_small, period_small}
+use Rattle.gas_text.proofs.Canonical.{digits_of_number}
+use Rattle.gas_text.proofs.CanonicalCommands.{AreSmall, area_small, count_small, row_small, period_small}
 use Rattle.gas_talk.proofs.Cutting.{items_of_line}
 use Rattle.gas_talk.specs.Lines.{text, line_limit, is_newline, line_text, is_good, items_of, lines}
-use Rattle.gas_talk.specs.Texts.{area_numbers, parted, command_text, IsTyped}
-use Rattle.gas_talk.specs.Verbs.{verb_word}
-use Rattle.gas_talk.specs.declared.verb.Verb.{Verb}
-use Rattle.gas_talk.specs.declared.verb.Verb.TheVariants.{Put, Erase, Wall, Block, Unwall, Drain, Probe, Source, Row, Step, Back, Read, Entry, Unport, Tally, Ledger, Save, Quit}
+use Rattle.gas_text.specs.Texts.{area_numbers, parted, command_text, IsTyped}
+use Rattle.gas_text.specs.Verbs.{verb_word}
+use Rattle.gas_text.specs.declared.verb.Verb.{Verb}
+use Rattle.gas_text.specs.declared.verb.Verb.TheVariants.{Put, Erase, Wall, Block, Unwall, Drain, Probe, Source, Row, Step, Back, Read, Entry, Unport, Tally, Ledger, Save, Quit}
 
 -- ---- what is a line, whatever comes after it
 

@@ -13,12 +13,12 @@ use Rattle.gas_terms.specs.declared.refusal.Refusal.{Refusal}
 use Rattle.gas_terms.specs.declared.refusal.Refusal.TheVariants as refusals
 use Rattle.gas_snapshot.specs.Shelved.{Gains}
 use Rattle.gas_talk.specs.declared.door.Copied.{Copied}
-use Rattle.gas_talk.specs.declared.request.Request.{Request}
-use Rattle.gas_talk.specs.declared.request.Request.TheVariants.{Ask, Save, Quit}
-use Rattle.gas_talk.specs.declared.reply.Reply.{Reply}
-use Rattle.gas_talk.specs.declared.reply.Reply.TheVariants.{Refused}
+use Rattle.gas_text.specs.declared.request.Request.{Request}
+use Rattle.gas_text.specs.declared.request.Request.TheVariants.{Ask, Save, Quit}
+use Rattle.gas_text.specs.declared.reply.Reply.{Reply}
+use Rattle.gas_text.specs.declared.reply.Reply.TheVariants.{Refused}
 use Rattle.gas_talk.specs.declared.end.SessionEnd.{SessionEnd}
-use Rattle.gas_talk.specs.Requests.{request_of, Reads, IsRow}
+use Rattle.gas_text.specs.Requests.{request_of, Reads, IsRow}
 use Rattle.gas_talk.specs.Lines.{Item, text, bad, lines}
 use Rattle.gas_talk.specs.Talk.{Put, no_put, Turn, Saves, Answers, Replies, Takes}
 use Rattle.gas_talk.specs.Ends.{until_end, failed_puts, failures_after, shelved_by, EndsAs, Place, IsSession}

@@ -5,7 +5,7 @@ use Rattle.std.proofs.lemmas.Grind.{flat_map-append}
 use Rattle.std.proofs.lemmas.List.Sums.{sum_by-append}
 use Rattle.gas_terms.specs.Cells.{Extent}
 use Rattle.gas_snapshot.specs.Shelved.{Gains}
-use Rattle.gas_talk.specs.Requests.{request_of}
+use Rattle.gas_text.specs.Requests.{request_of}
 use Rattle.gas_talk.specs.declared.end.SessionEnd.TheVariants.{Quit}
 use Rattle.gas_talk.specs.Lines.{Item, text, bad}
 use Rattle.gas_talk.specs.Talk.{Put, no_put, put_taken, put_failed, Turn}

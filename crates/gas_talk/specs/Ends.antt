@@ -10,12 +10,11 @@ use Rattle.gas_terms.specs.declared.command.Command.{Command}
 use Rattle.gas_terms.specs.declared.answer.Answer.{Answer}
 use Rattle.gas_terms.specs.declared.refusal.Refusal.{Refusal}
 use Rattle.gas_terms.specs.declared.refusal.Refusal.TheVariants as refusals
-use Rattle.gas_talk.specs.declared.request.Request.{Request}
-use Rattle.gas_talk.specs.declared.request.Request.TheVariants as requests
-use Rattle.gas_talk.specs.declared.reply.Reply.{Reply}
-use Rattle.gas_talk.specs.declared.reply.Reply.TheVariants.{Bye, Refused}
-use Rattle.gas_talk.specs.Requests.{request_of}
-use Rattle.gas_talk.specs.Texts.{reply_line}
+use Rattle.gas_text.specs.declared.request.Request.{Request}
+use Rattle.gas_text.specs.declared.request.Request.TheVariants as requests
+use Rattle.gas_text.specs.declared.reply.Reply.TheVariants.{Refused}
+use Rattle.gas_text.specs.Requests.{request_of}
+use Rattle.gas_text.specs.Texts.{reply_line}
 use Rattle.gas_talk.specs.declared.end.SessionEnd.{SessionEnd}
 use Rattle.gas_talk.specs.declared.end.SessionEnd.TheVariants.{Quit, InputEnd, ReadFault, WriteFault, BadLine, Memory, TooManyReads}
 use Rattle.gas_talk.specs.Lines.{Item, text, bad, lines}
@@ -28,11 +27,6 @@ is_quit (Ok (requests.Ask command)) = false
 is_quit (Ok requests.Save) = false
 is_quit (Ok requests.Quit) = true
 is_quit (Err refusal) = false
-
--- whether a reply is that to such a line
-abbrev pub is_bye : Reply → Bool
-is_bye Bye = true
-is_bye _ = false
 
 -- the items up to and with the first that is bad or asks to quit
 abbrev pub until_end : Extent → List Item → List Item

@@ -12,12 +12,12 @@ use Rattle.gas_terms.specs.declared.refusal.Refusal.{Refusal}
 use Rattle.gas_terms.specs.declared.refusal.Refusal.TheVariants as refusals
 use Rattle.gas_snapshot.specs.Shelved.{Gains}
 use Rattle.gas_talk.specs.declared.door.Copied.{Copied}
-use Rattle.gas_talk.specs.declared.request.Request.{Request}
-use Rattle.gas_talk.specs.declared.request.Request.TheVariants.{Ask, Save, Quit}
-use Rattle.gas_talk.specs.declared.reply.Reply.TheVariants.{Saved, Bye, Refused}
+use Rattle.gas_text.specs.declared.request.Request.{Request}
+use Rattle.gas_text.specs.declared.request.Request.TheVariants.{Ask, Save, Quit}
+use Rattle.gas_text.specs.declared.reply.Reply.TheVariants.{Saved, Bye, Refused}
 use Rattle.gas_talk.specs.declared.end.SessionEnd.{SessionEnd}
 use Rattle.gas_talk.specs.declared.end.SessionEnd.TheVariants.{InputEnd}
-use Rattle.gas_talk.specs.Requests.{request_of}
+use Rattle.gas_text.specs.Requests.{request_of}
 use Rattle.gas_talk.specs.Lines.{Item, text, bad, lines}
 use Rattle.gas_talk.specs.Talk.{no_put, put_taken, put_failed, Turn, reply_to, snapshot}
 use Rattle.gas_talk.specs.Ends.{until_end, EndsAs, AreReads, Place, shelved_by, failed_puts, failures_after}

@@ -1,10 +1,6 @@
 pub mod Ends
 pub mod LabTalk
 pub mod Lines
-pub mod Requests
 pub mod Scripts
 pub mod Talk
-pub mod Texts
 pub mod Unread
-pub mod Verbs
-pub mod Words

@@ -5,12 +5,12 @@ use Rattle.gas_terms.specs.Cells.{Extent}
 use Rattle.gas_terms.specs.Laboratory.{Laboratory}
 use Rattle.gas_terms.specs.declared.command.Entry.{Entry}
 use Rattle.gas_terms.specs.declared.answer.Answer.TheVariants.{Taken}
-use Rattle.gas_talk.specs.declared.reply.Reply.TheVariants.{Answered}
+use Rattle.gas_text.specs.declared.reply.Reply.TheVariants.{Answered}
 use Rattle.gas_talk.specs.Ends.{until_end}
 use Rattle.gas_talk.specs.Lines.{Item, text, lines}
 use Rattle.gas_talk.specs.Talk.{no_put, Turn}
 use Rattle.gas_talk.specs.LabTalk.{Outcome, plain}
-use Rattle.gas_talk.specs.Texts.{command_text}
+use Rattle.gas_text.specs.Texts.{command_text}
 
 -- the texts of a journal's commands, each a line
 abbrev pub script : List Entry → List ℕ

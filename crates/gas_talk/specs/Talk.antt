@@ -9,11 +9,11 @@ use Rattle.gas_terms.specs.declared.command.Command.{Command}
 use Rattle.gas_terms.specs.declared.answer.Answer.{Answer}
 use Rattle.gas_terms.specs.declared.refusal.Refusal.{Refusal}
 use Rattle.gas_terms.specs.declared.refusal.Refusal.TheVariants as refusals
-use Rattle.gas_talk.specs.declared.request.Request.{Request}
-use Rattle.gas_talk.specs.declared.request.Request.TheVariants.{Ask, Save, Quit}
-use Rattle.gas_talk.specs.declared.reply.Reply.{Reply}
-use Rattle.gas_talk.specs.declared.reply.Reply.TheVariants.{Answered, Saved, Bye, Refused}
-use Rattle.gas_talk.specs.Requests.{request_of, Reads}
+use Rattle.gas_text.specs.declared.request.Request.{Request}
+use Rattle.gas_text.specs.declared.request.Request.TheVariants.{Ask, Save, Quit}
+use Rattle.gas_text.specs.declared.reply.Reply.{Reply}
+use Rattle.gas_text.specs.declared.reply.Reply.TheVariants.{Answered, Saved, Bye, Refused}
+use Rattle.gas_text.specs.Requests.{request_of, Reads}
 use Rattle.gas_talk.specs.Lines.{Item, text, bad}
 
 -- the snapshot of a copy

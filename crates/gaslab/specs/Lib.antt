@@ -1,5 +1,1 @@
-pub mod Loading
-pub mod Plans
-pub mod Running
 pub mod Serving
-pub mod Statuses

@@ -2,8 +2,8 @@
 use Rattle.std.specs.Prelude.{◌≡◌, ℕ, ◌+◌, ◌≤◌, ◌⊎◌, List, [], ◌∷◌, ◌++◌, Option, codes}
 use Rattle.std.specs.Fmt.{decimal}
 use Rattle.std.specs.Io.KnownBytes.{Appends}
-use Rattle.gas_talk.specs.Texts.{parted}
-use Rattle.gaslab.specs.declared.setup.Setup.{Setup}
+use Rattle.gas_text.specs.Texts.{parted}
+use Rattle.gas_run.specs.declared.setup.Setup.{Setup}
 
 -- what is said at the end: how many seats were served and how many were not, and the entries that all made
 abbrev pub served_text : ℕ → ℕ → ℕ → List ℕ

@@ -2,14 +2,12 @@
 
 ghost use Rattle.std.specs.Prelude.{◌<◌, ◌≤◌, IsTrue, vec_len};
 ghost use Rattle.std.specs.Io.KnownBytes.{Appends};
-ghost use Rattle.gaslab.specs.Plans.{IsInRange};
+ghost use Rattle.gas_run.specs.Plans.{IsInRange};
 ghost use Rattle.gaslab.specs.Serving.{Serves, served_line};
 
-use crate::run::opened;
-use crate::setup::Setup;
-use crate::status::Status;
 use gas_hall::{Counts, Lobby, serve_lab};
 use gas_ledger::Gas;
+use gas_run::{Setup, Status, opened};
 use gas_snapshot::Shelf;
 use phase_team::{NoGate, Team};
 use std::alloc::Global;

@@ -3,7 +3,7 @@
 #![tactic(auto)]
 
 ghost use Rattle.std.specs.Prelude.{IfOk};
-ghost use Rattle.gaslab.specs.Plans.{IsInRange};
+ghost use Rattle.gas_run.specs.Plans.{IsInRange};
 
 use gas_hall::TcpLobby;
 use gas_ledger::Gas;

@@ -2,7 +2,7 @@
 #![tactic(auto)]
 
 ghost use Rattle.std.specs.Prelude.{◌≡◌, ◌<◌, ◌≤◌, IfOk, vec_len};
-ghost use Rattle.gaslab.specs.Plans.{IsInRange, HasSessions};
+ghost use Rattle.gas_run.specs.Plans.{IsInRange, HasSessions};
 
 use gas_hall::TcpLobby;
 use gas_ledger::Gas;

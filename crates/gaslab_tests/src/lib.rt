@@ -16,6 +16,8 @@ mod lines;
 #[cfg(test)]
 mod loads;
 #[cfg(test)]
+mod opening;
+#[cfg(test)]
 mod ports;
 #[cfg(test)]
 mod refused;

@@ -1,5 +1,5 @@
 use Rattle.std.proofs.Common.{◌≡◌, ◌∷◌, [], ℕ, List, length, Ok, ap, sym, ◌∙◌, refl, inl, subst}
-use Rattle.gas_talk.specs.declared.reply.Reply.TheVariants.{Saved}
+use Rattle.gas_text.specs.declared.reply.Reply.TheVariants.{Saved}
 use Rattle.gas_snapshot.specs.Shelved.{Gains}
 use Rattle.gas_talk.specs.Talk.{put_taken, snapshot}
 use Rattle.gas_talk.proofs.replying.save.Goals as goal

@@ -1,5 +1,5 @@
 use Rattle.std.proofs.Common.{◌∷◌, ◌++◌, ap, sym, ◌∙◌}
-use Rattle.gas_talk.specs.Requests.{request_of}
+use Rattle.gas_text.specs.Requests.{request_of}
 use Rattle.gas_talk.specs.Lines.{lines, text}
 use Rattle.gas_talk.specs.Ends.{is_quit}
 use Rattle.gas_talk.proofs.Sending.{sent_whole}

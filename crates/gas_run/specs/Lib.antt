@@ -1,0 +1,4 @@
+pub mod Loading
+pub mod Plans
+pub mod Running
+pub mod Statuses

@@ -1,0 +1,32 @@
+-- What a load gives.
+use Rattle.std.specs.Prelude.{◌≡◌, ◌≤◌, ◌⊎◌, ℕ, List, length, Option, Result, Ok, Err}
+use Rattle.std.specs.Io.KnownBytes.{Consumes, IsAtEnd}
+use Rattle.gas_terms.specs.Gas.{Gas}
+use Rattle.gas_snapshot.specs.declared.fault.SnapFault.{SnapFault}
+use Rattle.gas_snapshot.specs.declared.fault.SnapFault.TheVariants.{Memory}
+use Rattle.gas_snapshot.specs.Reading.{reading, Gives}
+use Rattle.gas_run.specs.declared.load.LoadFault.{LoadFault}
+use Rattle.gas_run.specs.declared.load.LoadFault.TheVariants.{Read, Snap}
+
+-- one byte more than the longest snapshot has
+abbrev pub most : ℕ
+most = 6291767
+
+-- These bytes were read: the reader is at its end, or as many bytes are there as may be.
+abbrev pub IsRead : Option (List ℕ) → Option (List ℕ) → List ℕ → Type 0
+IsRead unread_old unread_new bytes =
+    Consumes unread_old unread_new bytes × (length bytes ≤ most) × (IsAtEnd unread_new ⊎ (length bytes ≡ most))
+
+-- a read failed, or memory was refused for what was read
+abbrev pub IsReadFault : LoadFault → Type 0
+IsReadFault fault = (fault ≡ Read) ⊎ (fault ≡ Snap Memory)
+
+abbrev pub loaded : Result Gas SnapFault → Result Gas LoadFault
+loaded (Ok gas) = Ok gas
+loaded (Err fault) = Err (Snap fault)
+
+-- What was read is decoded, unless a read failed or memory was refused.
+abbrev pub Loads : Option (List ℕ) → Option (List ℕ) → Result Gas LoadFault → Type 0
+Loads unread_old unread_new result =
+    (result ≡ Err Read) ⊎ (result ≡ Err (Snap Memory))
+    ⊎ ((bytes : List ℕ) × (decoded : Result Gas SnapFault) × IsRead unread_old unread_new bytes × Gives decoded (reading bytes) × (result ≡ loaded decoded))

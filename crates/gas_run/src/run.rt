@@ -1,0 +1,74 @@
+//! A run of the laboratory: one session, of seat 0.
+
+ghost use Rattle.std.specs.Prelude.{◌≡◌, ◌≤◌, IfOk};
+ghost use Rattle.gas_terms.specs.Laboratory.{opening};
+ghost use Rattle.gas_run.specs.Plans.{IsInRange};
+ghost use Rattle.gas_run.specs.Running.{Runs, status_of, start_of};
+ghost use Rattle.gas_run.specs.Statuses.{number_of};
+
+use crate::setup::Setup;
+use crate::status::Status;
+use gas_lab::Lab;
+use gas_ledger::Gas;
+use gas_snapshot::Shelf;
+use gas_talk::{SessionEnd, serve_alone};
+use gas_terms::NoMemory;
+use phase_step::Stepper;
+use phase_team::{NoGate, Team};
+use std::alloc::Global;
+use std::io::{Read, Write};
+use std::thread::Threads;
+
+/// What the program exits with after a session that ended so.
+fn status_of(end: SessionEnd) -> Status
+    ensures { number_of result ≡ status_of end }
+{
+    match end {
+        SessionEnd::Quit | SessionEnd::InputEnd => Status::Done,
+        SessionEnd::ReadFault | SessionEnd::WriteFault | SessionEnd::TooManyReads => Status::Failed,
+        SessionEnd::Memory => Status::NoMemory,
+        SessionEnd::BadLine => Status::BadLine,
+    }
+}
+
+/// The laboratory of a setup, which opens with the given gas, or else the empty gas of the setup's size.
+pub fn opened<S: Stepper>(
+    alloc: Global,
+    setup: Setup,
+    start: Option<Gas>,
+    stepper: S,
+) -> Result<Lab<S>, NoMemory>
+    requires { IsInRange setup }
+    ensures { IfOk result (λ lab. lab ≡ opening (start_of setup.size start) setup.cap) }
+{
+    let start = match start {
+        Some(gas) => gas,
+        None => Gas::empty(alloc, setup.size)?,
+    };
+    Lab::open(alloc, start, setup.cap, stepper)
+}
+
+/// Serves one session on a laboratory that opens with the given gas, or else the empty gas of the setup's size, and
+/// answers the program's exit status. Where memory is refused for the opening it is 4, and nothing is read or written.
+/// One worker is the calling thread; more take `rt` to start threads.
+pub fn run_on<T: Threads + Drop, R: Read, W: Write, K: Shelf>(
+    rt: T,
+    alloc: Global,
+    setup: Setup,
+    start: Option<Gas>,
+    reader: &mut R,
+    writer: &mut W,
+    shelf: &mut K,
+) -> u8
+    requires { IsInRange setup }
+    ensures { Runs setup start
+        (record { unread = R.remaining reader.old; written = W.contents writer.old; failures = K.failures shelf.old; shelved = K.shelved shelf.old })
+        result
+        (record { unread = R.remaining reader.new; written = W.contents writer.new; failures = K.failures shelf.new; shelved = K.shelved shelf.new }) }
+{
+    let team = Team::new(rt, alloc, setup.workers, NoGate);
+    let Ok(mut lab) = opened(alloc, setup, start, team) else {
+        return Status::NoMemory.number();
+    };
+    status_of(serve_alone(alloc, reader, writer, &mut lab, 0, shelf)).number()
+}

@@ -1,0 +1,37 @@
+//! What the program exits with.
+
+ghost use Rattle.std.specs.Prelude.{◌≡◌};
+ghost use Rattle.gas_run.specs.Statuses.{number_of};
+
+/// How the program has ended. The script `gaslab` has one more, 6: there was no program to run.
+#[derive(Clone, Copy, Debug, PartialEq, Eq)]
+pub enum Status {
+    /// What was asked for was done.
+    Done,
+    /// Reading, writing or listening failed, or a session made as many reads as it may.
+    Failed,
+    /// The command line was refused, or asked for help.
+    NoPlan,
+    /// The snapshot to start from could not be read, or is none.
+    NotLoaded,
+    /// Memory was refused to the plan, to the start or to a reply.
+    NoMemory,
+    /// A line was too long, or no text.
+    BadLine,
+}
+
+impl Status {
+    /// The number by which the system knows it.
+    pub fn number(self) -> u8
+        ensures { result ≡ number_of self }
+    {
+        match self {
+            Status::Done => 0,
+            Status::Failed => 1,
+            Status::NoPlan => 2,
+            Status::NotLoaded => 3,
+            Status::NoMemory => 4,
+            Status::BadLine => 5,
+        }
+    }
+}

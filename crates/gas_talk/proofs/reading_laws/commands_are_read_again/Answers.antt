@@ -1,5 +1,0 @@
-use Rattle.gas_talk.proofs.CanonicalCommands.{command_again}
-use Rattle.gas_talk.proofs.reading_laws.commands_are_read_again.Goals as goal
-
-pub returns : goal.returns
-returns c = command_again

@@ -1,8 +1,0 @@
-use Rattle.std.proofs.Common.{rules}
-use Rattle.gaslab.proofs.run.run_on.Goals as goal
-
-pub returns-in_default : goal.returns-in_default
-returns-in_default g c = search rules
-
-pub returns : goal.returns
-returns g c = search rules
