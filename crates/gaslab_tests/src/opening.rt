@@ -2,35 +2,42 @@
 
 use crate::expected::expect_same;
 use crate::snapshots::snapshot;
-use gas_lab::Serial;
+use gas_lab::{Gas, Lab, Serial};
 use gas_run::{Setup, opened};
 use gas_snapshot::decode;
-use gas_terms::{Size, Sums};
+use gas_terms::Size;
+use std::process::Abort;
 
-// Where no gas is given, an empty one of the setup's size; else that gas, whatever the setup's size.
-#[test]
-fn opened_as_set_up(rt: HostRuntime) {
-    let size = Size::new(128, 64).expect(&rt, "a size");
+// a laboratory of 128 by 64 cells, or else of this gas, with room for seven entries
+fn set_up(rt: &(impl Abort + AllocGlobal), start: Option<Gas>) -> Lab<Serial> {
     let setup = Setup {
-        size,
+        size: Size::new(128, 64).expect(rt, "a size"),
         workers: 1,
         cap: 7,
     };
-    let empty = opened(rt.alloc(), setup, None, Serial).expect(&rt, "memory");
-    expect_same(&rt, (empty.size(), empty.cap()), (size, 7));
-    let nothing = Sums {
-        count: 0,
-        px: 0,
-        py: 0,
-    };
-    expect_same(&rt, empty.ledger().start, nothing);
+    opened(rt.alloc(), setup, start, Serial).expect(rt, "memory")
+}
+
+// the count and the momentum that it started with
+fn start_of(lab: &Lab<Serial>) -> (i64, i64, i64) {
+    let start = lab.ledger().start;
+    (start.count, start.px, start.py)
+}
+
+#[test]
+fn opened_empty(rt: HostRuntime) {
+    let lab = set_up(&rt, None);
+    expect_same(&rt, (lab.size().width(), lab.size().height()), (128, 64));
+    expect_same(&rt, lab.cap(), 7);
+    expect_same(&rt, start_of(&lab), (0, 0, 0));
+}
+
+/// The gas has a size of its own.
+#[test]
+fn opened_with_a_gas(rt: HostRuntime) {
     let gas = decode(rt.alloc(), snapshot(&rt, 22, 0x80).as_slice()).expect(&rt, "a gas");
-    let given = opened(rt.alloc(), setup, Some(gas), Serial).expect(&rt, "memory");
-    expect_same(&rt, given.size(), Size::new(64, 64).expect(&rt, "a size"));
-    let particle = Sums {
-        count: 1,
-        px: 1,
-        py: 1,
-    };
-    expect_same(&rt, given.ledger().start, particle);
+    let lab = set_up(&rt, Some(gas));
+    expect_same(&rt, (lab.size().width(), lab.size().height()), (64, 64));
+    expect_same(&rt, lab.cap(), 7);
+    expect_same(&rt, start_of(&lab), (1, 1, 1));
 }
