@@ -1,5 +1,2 @@
 pub mod Turns
-pub mod Events
-pub mod Numbered
-pub mod TurnSeats
 pub mod Totals

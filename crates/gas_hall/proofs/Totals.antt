@@ -1,5 +1,5 @@
 -- What seats made in all, each with a number of its own, is no more than a journal has that begins with what each has seen.
-use Rattle.std.proofs.Common.{◌≡◌, ℕ, zero, suc, ◌+◌, ◌<◌, ◌≤◌, cond, eqb, nat_lt, List, [], ◌∷◌, ◌++◌, All, length, length-append, append_assoc, Some, slice_get, refl, sym, ap, subst, ◌∙◌, arith}
+use Rattle.std.proofs.Common.{◌≡◌, ℕ, zero, suc, ◌+◌, ◌<◌, ◌≤◌, cond, eqb, nat_lt, List, [], ◌∷◌, ◌++◌, All, length, length-append, Some, slice_get, refl, sym, ap, subst, ◌∙◌, arith}
 use Rattle.std.specs.List.{sum_by}
 use Rattle.std.specs.Prelude.{map}
 use Rattle.std.proofs.lemmas.List.Elements.{All-cons, filter-append}
@@ -7,9 +7,10 @@ use Rattle.std.proofs.lemmas.List.Sums.{sum_by-cons}
 use Rattle.gas_terms.specs.declared.command.Entry.{Entry}
 use Rattle.gas_terms.specs.Laboratory.{Laboratory, IsPrefix}
 use Rattle.atomic_table.specs.Seated.{TableId}
-use Rattle.gas_hall.specs.TurnSeats.{SeatView, but_for_seen, entries_made, opening_seat}
+use Rattle.gas_seats.specs.TurnSeats.{SeatView, but_for_seen, entries_made, opening_seat}
 use Rattle.gas_terms.specs.Laboratory.{made_by}
-use Rattle.gas_hall.proofs.Numbered.{all_of_rule}
+use Rattle.gas_seats.proofs.Numbered.{all_of_rule}
+use Rattle.gas_seats.proofs.Prefixes.{goes_on}
 use Rattle.gas_hall.proofs.Turns.{all_same, same_through}
 
 -- how many entries are of seats from n on
@@ -64,9 +65,6 @@ item_same f (z ∷ xs) (y ∷ ys) same (suc i) x is =
     let rest : map f xs ≡ map f ys = cc same in
     let found = item_same f xs ys rest i x is in
     (found.0, omega (arith, found.1), found.2, found.3)
-
-pub goes_on : (xs ys zs : List Entry) → IsPrefix xs ys → IsPrefix ys zs → IsPrefix xs zs
-goes_on xs ys zs p q = (p.0 ++ q.0, q.1 ∙ ap (λ l. l ++ q.0) p.1 ∙ append_assoc xs p.0 q.0)
 
 -- What all of a list have, the item has that stands before its end.
 pub at_end_of : {X : Type 0} (P : X → Type 0) (all front left rest : List X) (x : X) → front ≡ left ++ x ∷ [] → all ≡ front ++ rest → All P all → P x

@@ -2,13 +2,12 @@
 
 ghost use Rattle.std.specs.Prelude.{◌≡◌, ℕ, ◌+◌, ◌<◌, ◌≤◌, [], All, IfSome, Some, length, slice_get, vec_len};
 ghost use Rattle.gas_terms.specs.Gas.{Gas};
-ghost use Rattle.gas_hall.specs.TurnSeats.{SeatView, made_in_all};
+ghost use Rattle.gas_seats.specs.TurnSeats.{SeatView, made_in_all};
 
 use crate::serving::{Lobby, TurnServed, serve_turn};
-use crate::turn_hall::{TurnHall, TurnNote, TurnSeat};
-use gas_lab::{Lab, Stepper};
+use gas_lab::{Door, Lab, Stepper};
+use gas_seats::{TurnHall, TurnNote, TurnSeat};
 use gas_snapshot::Shelf;
-use gas_talk::Door;
 use gas_terms::Command;
 use std::alloc::Global;
 use std::sync::Wait;

@@ -1,24 +1,14 @@
-//! Several people on one laboratory: each has a seat, and every command is one event under one hold of a lock.
+//! Sessions of several people on one laboratory, one for each seat of a hall, over sockets or any other lobby.
 #![tactic(auto)]
 
-mod gate;
-mod hall;
-mod held;
 mod hosting;
-mod in_turn;
-mod name;
-pub mod receipts;
-mod seat;
 mod serving;
 mod tcp;
-mod turn_hall;
 
-pub use gate::{HallGate, NoHallGate};
-pub use hall::{Hall, HallDoor};
-pub use held::Held;
+pub use gas_seats::{
+    Hall, HallDoor, HallGate, HallName, HallSeat, Held, NoHallGate, TurnDoor, TurnHall, TurnNote,
+    TurnSeat,
+};
 pub use hosting::{Counts, serve_lab};
-pub use name::HallName;
-pub use seat::HallSeat;
 pub use serving::{AcceptFault, Lobby, Served, TurnServed, serve, serve_turn};
 pub use tcp::TcpLobby;
-pub use turn_hall::{TurnDoor, TurnHall, TurnNote, TurnSeat};

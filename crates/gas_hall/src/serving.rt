@@ -3,15 +3,11 @@
 ghost use Rattle.std.specs.Prelude.{◌≡◌, ℕ, ◌+◌, ◌≤◌, ⊤, All, IfOk, IfErr, length, map, vec_len, vec_capacity};
 ghost use Rattle.std.specs.List.{sum_by};
 ghost use Rattle.gas_terms.specs.Laboratory.{most_entries};
-ghost use Rattle.gas_hall.specs.Seats.{Seat, numbers};
-ghost use Rattle.gas_hall.specs.TurnSeats.{SeatView, but_for_seen, entries_made, made_in_all};
+ghost use Rattle.gas_seats.specs.Seats.{Seat, numbers};
+ghost use Rattle.gas_seats.specs.TurnSeats.{SeatView, but_for_seen, entries_made, made_in_all};
 
-use crate::gate::HallGate;
-use crate::hall::{Hall, HallDoor};
-use crate::name::HallName;
-use crate::seat::HallSeat;
-use crate::turn_hall::{TurnDoor, TurnHall, TurnSeat};
 use gas_lab::Stepper;
+use gas_seats::{Hall, HallDoor, HallGate, HallName, HallSeat, TurnDoor, TurnHall, TurnSeat};
 use gas_snapshot::Shelf;
 use gas_talk::session::session;
 use gas_talk::session_laws::kept_by_calls_is_kept_by_sessions;

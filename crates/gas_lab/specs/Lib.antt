@@ -1,1 +1,2 @@
 pub mod Labs
+pub mod Copying

@@ -2,8 +2,10 @@
 #![tactic(auto)]
 
 mod books;
+mod door;
 pub mod lab;
 
+pub use door::{Copied, Door};
 pub use gas_ledger::Gas;
 /// What a command is answered.
 pub use gas_terms::Answer;

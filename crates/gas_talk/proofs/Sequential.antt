@@ -12,7 +12,7 @@ use Rattle.gas_terms.specs.declared.answer.Answer.{Answer}
 use Rattle.gas_terms.specs.declared.refusal.Refusal.{Refusal}
 use Rattle.gas_terms.specs.declared.refusal.Refusal.TheVariants as refusals
 use Rattle.gas_snapshot.specs.Shelved.{Gains}
-use Rattle.gas_talk.specs.declared.door.Copied.{Copied}
+use Rattle.gas_lab.specs.declared.door.Copied.{Copied}
 use Rattle.gas_text.specs.declared.request.Request.{Request}
 use Rattle.gas_text.specs.declared.request.Request.TheVariants.{Ask, Save, Quit}
 use Rattle.gas_text.specs.declared.reply.Reply.{Reply}
@@ -22,7 +22,8 @@ use Rattle.gas_text.specs.Requests.{request_of, Reads, IsRow}
 use Rattle.gas_talk.specs.Lines.{Item, text, bad, lines}
 use Rattle.gas_talk.specs.Talk.{Put, no_put, Turn, Saves, Answers, Replies, Takes}
 use Rattle.gas_talk.specs.Ends.{until_end, failed_puts, failures_after, shelved_by, EndsAs, Place, IsSession}
-use Rattle.gas_talk.specs.LabTalk.{Copies, Outcome, plain, memory, shelf, wants_memory, told, answered, saved, requested, taken_at, talk, IsTalk}
+use Rattle.gas_lab.specs.Copying.{Copies}
+use Rattle.gas_talk.specs.LabTalk.{Outcome, plain, memory, shelf, wants_memory, told, answered, saved, requested, taken_at, talk, IsTalk}
 
 start_of : (b : Bool) (some other : Laboratory) → some.start ≡ other.start → (cond b some other).start ≡ other.start
 start_of true some other same = same

@@ -11,7 +11,8 @@ use Rattle.gas_terms.specs.declared.answer.Answer.{Answer}
 use Rattle.gas_terms.specs.declared.refusal.Refusal.{Refusal}
 use Rattle.gas_terms.specs.declared.refusal.Refusal.TheVariants as refusals
 use Rattle.gas_snapshot.specs.Shelved.{Gains}
-use Rattle.gas_talk.specs.declared.door.Copied.{Copied}
+use Rattle.gas_lab.specs.Copying.{copy_of, Copies}
+use Rattle.gas_lab.specs.declared.door.Copied.{Copied}
 use Rattle.gas_text.specs.declared.request.Request.{Request}
 use Rattle.gas_text.specs.declared.request.Request.TheVariants.{Ask, Save, Quit}
 use Rattle.gas_text.specs.declared.reply.Reply.TheVariants.{Saved, Bye, Refused}
@@ -21,15 +22,6 @@ use Rattle.gas_text.specs.Requests.{request_of}
 use Rattle.gas_talk.specs.Lines.{Item, text, bad, lines}
 use Rattle.gas_talk.specs.Talk.{no_put, put_taken, put_failed, Turn, reply_to, snapshot}
 use Rattle.gas_talk.specs.Ends.{until_end, EndsAs, AreReads, Place, shelved_by, failed_puts, failures_after}
-
--- what a copy of the laboratory holds
-abbrev pub copy_of : Laboratory → Copied
-copy_of lab = record { gas = lab.gas; entries = length lab.journal }
-
--- From old a copy may be given so, and leave new: memory may be refused.
-abbrev pub Copies : Laboratory → Result Copied NoMemory → Laboratory → Type 0
-Copies old (Ok copied) new = (copied ≡ copy_of old) × (new ≡ old)
-Copies old (Err e) new = new ≡ old
 
 -- whether an item finds what it needs: memory may be refused, or the shelf may fail
 pub data Outcome : Type 0 where

@@ -3,7 +3,7 @@ use Rattle.std.specs.Prelude.{◌≡◌, ℕ, ◌⊎◌, List, length, Result, O
 use Rattle.gas_terms.specs.Cells.{Extent}
 use Rattle.gas_snapshot.specs.Spelling.{spelling}
 use Rattle.gas_snapshot.specs.declared.version.Version.TheVariants.{Two}
-use Rattle.gas_talk.specs.declared.door.Copied.{Copied}
+use Rattle.gas_lab.specs.declared.door.Copied.{Copied}
 use Rattle.std.specs.declared.alloc.AllocError.{AllocError as NoMemory}
 use Rattle.gas_terms.specs.declared.command.Command.{Command}
 use Rattle.gas_terms.specs.declared.answer.Answer.{Answer}

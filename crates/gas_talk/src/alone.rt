@@ -3,12 +3,12 @@
 ghost use Rattle.std.specs.Prelude.{◌≡◌};
 ghost use Rattle.gas_terms.specs.Cells.{extent};
 ghost use Rattle.gas_terms.specs.Laboratory.{Applies};
-ghost use Rattle.gas_talk.specs.LabTalk.{Copies, IsTalk};
+ghost use Rattle.gas_lab.specs.Copying.{Copies};
+ghost use Rattle.gas_talk.specs.LabTalk.{IsTalk};
 
-use crate::door::{Copied, Door};
 use crate::end::SessionEnd;
 use crate::session::session;
-use gas_lab::{Lab, Stepper};
+use gas_lab::{Copied, Door, Lab, Stepper};
 use gas_snapshot::Shelf;
 use gas_terms::{Answer, Command, NoMemory, Refusal, Size};
 use std::alloc::Global;

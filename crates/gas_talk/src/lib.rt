@@ -2,7 +2,6 @@
 #![tactic(auto)]
 
 mod alone;
-mod door;
 mod end;
 pub mod journal_laws;
 mod reader;
@@ -13,6 +12,6 @@ pub mod session;
 pub mod session_laws;
 
 pub use alone::{Alone, serve_alone};
-pub use door::{Copied, Door};
 pub use end::SessionEnd;
+pub use gas_lab::{Copied, Door};
 pub use gas_text::{Reply, ReplyPage, Request, read_command, reply_text};

@@ -2,7 +2,7 @@
 
 ghost use Rattle.std.specs.Prelude.{◌≡◌, false, Result};
 ghost use Rattle.gas_snapshot.specs.Shelved.{Gains};
-ghost use Rattle.gas_talk.specs.declared.door.Copied.{Copied};
+ghost use Rattle.gas_lab.specs.declared.door.Copied.{Copied};
 ghost use Rattle.std.specs.declared.alloc.AllocError.{AllocError as NoMemory};
 ghost use Rattle.gas_text.specs.Requests.{request_of};
 ghost use Rattle.gas_text.specs.Texts.{is_bye};
@@ -10,7 +10,7 @@ ghost use Rattle.gas_talk.specs.Lines.{text};
 ghost use Rattle.gas_talk.specs.Talk.{Put, Takes, Saves};
 ghost use Rattle.gas_talk.specs.Ends.{is_quit, taken_by, failed_by, failures_after};
 
-use crate::door::{Copied, Door};
+use gas_lab::{Copied, Door};
 use gas_snapshot::{Shelf, encode};
 use gas_terms::{NoMemory, Refusal};
 use gas_text::{Reply, Request, read_command};

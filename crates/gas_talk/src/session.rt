@@ -5,12 +5,12 @@ ghost use Rattle.std.specs.Io.KnownBytes.{Appends};
 ghost use Rattle.gas_text.specs.Texts.{reply_line};
 ghost use Rattle.gas_talk.specs.Ends.{EndsWith, Place, Progress, AnswersLines, IsSession};
 
-use crate::door::Door;
 use crate::end::SessionEnd;
 use crate::reader::{Found, LineReader, ReadFault};
 use crate::reads::SessionReads;
 use crate::replying::reply_of;
 use crate::send::send;
+use gas_lab::Door;
 use gas_snapshot::Shelf;
 use gas_terms::Refusal;
 use gas_text::{Reply, ReplyPage, reply_text};

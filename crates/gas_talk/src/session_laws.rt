@@ -5,13 +5,13 @@ ghost use Rattle.std.specs.declared.alloc.AllocError.{AllocError as NoMemory};
 ghost use Rattle.gas_terms.specs.declared.command.Command.{Command};
 ghost use Rattle.gas_terms.specs.declared.answer.Answer.{Answer};
 ghost use Rattle.gas_terms.specs.declared.refusal.Refusal.{Refusal};
-ghost use Rattle.gas_talk.specs.declared.door.Copied.{Copied};
+ghost use Rattle.gas_lab.specs.declared.door.Copied.{Copied};
 ghost use Rattle.gas_talk.specs.declared.end.SessionEnd.{SessionEnd};
 ghost use Rattle.gas_talk.specs.Ends.{Place, IsSession};
 ghost use Rattle.gas_talk.specs.LabTalk.{IsAlone, lab_place, IsTalk};
 ghost use Rattle.gas_terms.specs.Laboratory.{Laboratory};
 
-use crate::door::Door;
+use gas_lab::Door;
 
 /// A part of a door that none of its calls changes is the same after a session over it.
 pub fn kept_by_calls_is_kept_by_sessions<D: Door, X>()

@@ -5,7 +5,7 @@ use Rattle.gas_terms.specs.Gas.{Gas}
 use Rattle.gas_terms.specs.Laboratory.{IsPrefix}
 use Rattle.gas_terms.specs.declared.command.Entry.{Entry}
 use Rattle.atomic_table.specs.Seated.{TableId}
-use Rattle.gas_hall.specs.TurnSeats.{SeatView, entries_made}
+use Rattle.gas_seats.specs.TurnSeats.{SeatView, entries_made}
 use Rattle.gas_hall.proofs.Totals.{all_met, at_end_of, one_more_seen}
 use Rattle.gas_hall.proofs.hosting.made_by_all.Goals as goal
 

@@ -2,8 +2,8 @@ use Rattle.std.proofs.Common.{◌≡◌, ℕ, ◌*◌, ◌≤◌, ◌++◌, List
 use Rattle.std.specs.List.{sum_by}
 use Rattle.gas_terms.specs.Gas.{Gas}
 use Rattle.gas_terms.specs.Laboratory.{IsPrefix}
-use Rattle.gas_hall.specs.TurnSeats.{SeatView}
-use Rattle.gas_hall.specs.TurnSeats.{entries_made}
+use Rattle.gas_seats.specs.TurnSeats.{SeatView}
+use Rattle.gas_seats.specs.TurnSeats.{entries_made}
 use Rattle.gas_hall.proofs.hosting.made_by_all.Given as goal
 
 -- The seats that are still to come, and those that the door met: what it has seen begins with what each of them has.

@@ -1,5 +1,5 @@
 use Rattle.std.proofs.Common.{refl}
-use Rattle.gas_hall.specs.Seats.{Seat}
+use Rattle.gas_seats.specs.Seats.{Seat}
 use Rattle.gas_hall.proofs.Turns.{same_through}
 use Rattle.gas_hall.proofs.serving.serve.Goals as goal
 

@@ -1,5 +1,5 @@
 use Rattle.std.proofs.Common.{refl}
-use Rattle.gas_hall.specs.TurnSeats.{SeatView, but_for_seen}
+use Rattle.gas_seats.specs.TurnSeats.{SeatView, but_for_seen}
 use Rattle.gas_hall.proofs.Turns.{all_same, same_through}
 use Rattle.gas_hall.proofs.serving.serve_turn.Goals as goal
 

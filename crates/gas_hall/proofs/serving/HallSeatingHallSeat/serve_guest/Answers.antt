@@ -1,5 +1,5 @@
 use Rattle.std.proofs.Common.{◌∙◌, ap}
-use Rattle.gas_hall.specs.Seats.{Seat}
+use Rattle.gas_seats.specs.Seats.{Seat}
 use Rattle.gas_hall.proofs.serving.HallSeatingHallSeat.serve_guest.Goals as goal
 
 abbrev but_for_entries : Seat → Seat

@@ -1,5 +1,5 @@
 use Rattle.std.proofs.Common.{◌∙◌, ap}
-use Rattle.gas_hall.specs.TurnSeats.{but_for_seen}
+use Rattle.gas_seats.specs.TurnSeats.{but_for_seen}
 use Rattle.gas_hall.proofs.serving.TurnHallSeatingTurnSeat.serve_guest.Goals as goal
 
 pub returns : goal.returns

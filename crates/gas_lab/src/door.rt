@@ -1,0 +1,63 @@
+//! A way to a laboratory.
+
+ghost use Rattle.std.specs.Prelude.{◌≡◌, true, Result};
+ghost use Rattle.std.specs.declared.alloc.AllocError.{AllocError as NoMemory};
+ghost use Rattle.gas_terms.specs.Cells.{Extent};
+ghost use Rattle.gas_terms.specs.Commands.{fits};
+ghost use Rattle.gas_terms.specs.Laboratory.{IsSound};
+ghost use Rattle.gas_terms.specs.declared.command.Command.{Command};
+ghost use Rattle.gas_terms.specs.declared.answer.Answer.{Answer};
+ghost use Rattle.gas_terms.specs.declared.refusal.Refusal.{Refusal};
+ghost use Rattle.gas_lab.specs.declared.door.Copied.{Copied};
+ghost use Rattle.gas_lab.specs.Copying.{Copies};
+
+use crate::lab::Lab;
+use gas_ledger::Gas;
+use gas_terms::{Answer, Command, NoMemory, Refusal, Size};
+use phase_step::Stepper;
+
+/// A laboratory's gas, and how many entries its journal had when the gas was copied.
+#[derive(Drop)]
+pub struct Copied {
+    pub gas: Gas,
+    pub entries: u32,
+}
+
+impl Copied {
+    /// A copy of the laboratory's gas as it is now, unless memory is refused. The laboratory keeps its invariant.
+    pub fn of<S: Stepper>(lab: &Lab<S>) -> Result<Copied, NoMemory>
+        ensures copied { Copies lab.now result lab.now }
+        ensures sound { IsSound lab.now }
+    {
+        let entries = lab.journal().len() as u32;
+        let gas = lab.copy_gas()?;
+        Ok(Copied { gas, entries })
+    }
+}
+
+/// A seat's way to a laboratory. Each kind of door says what its calls may answer and how they leave it.
+pub trait Door {
+    // how wide and high the laboratory's lattice is
+    ghost size_of: { Self → Extent };
+
+    // from the door as it was a command may be answered so, and leave the door as it is then
+    ghost asks: { Self → Command → Result Answer Refusal → Self → Type 0 };
+
+    // the same for a copy of the gas
+    ghost copies: { Self → Result Copied NoMemory → Self → Type 0 };
+
+    /// How wide and high the lattice is, which no call changes.
+    fn size(&self) -> Size
+        ensures { result ≡ size_of self.now };
+
+    /// Asks a command that is in order for the size.
+    fn ask(&mut self, command: Command) -> Result<Answer, Refusal>
+        requires in_order { fits (size_of self.old) command ≡ true }
+        ensures asked { asks self.old command result self.new }
+        ensures size { size_of self.new ≡ size_of self.old };
+
+    /// A copy of the gas with the length of the journal, unless memory is refused.
+    fn copy_gas(&mut self) -> Result<Copied, NoMemory>
+        ensures copied { copies self.old result self.new }
+        ensures size { size_of self.new ≡ size_of self.old };
+}

@@ -1,0 +1,101 @@
+-- What a command leaves of a laboratory: its start, its capacity, and a journal with the seat's entries that the reply tells of.
+use Rattle.std.proofs.Common.{◌≡◌, ℕ, ◌+◌, ◌++◌, Bool, true, false, cond, not, ◌&&◌, List, [], ◌∷◌, All, length, Option, Some, None, Result, Ok, Err, refl, sym, ap, ◌∙◌, inl, inr, arith, length-append}
+use Rattle.std.proofs.lemmas.List.{append-nil}
+use Rattle.std.proofs.lemmas.List.Elements.{All-nil, All-cons}
+use Rattle.std.specs.Prelude.{is_some}
+use Rattle.gas_terms.specs.Cells.{Extent, extent}
+use Rattle.gas_terms.specs.Commands.{is_change}
+use Rattle.gas_terms.specs.Gas.{Gas}
+use Rattle.gas_terms.specs.Laboratory.{Laboratory, IsSound, Applies, accepted, answer, cause, judged}
+use Rattle.gas_terms.specs.declared.command.Command.{Command}
+use Rattle.gas_terms.specs.declared.command.Command.TheVariants.{Put, Erase, Wall, Block, Unwall, Row, Source, Drain, Unport, Step, Back, Probe, Tally, Ledger, Read, Entry as EntryAt}
+use Rattle.gas_terms.specs.declared.command.Entry.{Entry}
+use Rattle.gas_terms.specs.declared.answer.Answer.{Answer}
+use Rattle.gas_terms.specs.declared.answer.Answer.TheVariants.{Taken}
+use Rattle.gas_terms.specs.declared.refusal.Refusal.{Refusal}
+use Rattle.gas_seats.specs.Seats.{taken}
+use Rattle.gas_seats.specs.Halls.{IsNamed}
+
+pub record Extends (entry : Entry) (old : Laboratory) (reply : Result Answer Refusal) (new : Laboratory) : Type 0 where
+  pub start : new.start ≡ old.start
+  pub cap : new.cap ≡ old.cap
+  pub added : List Entry
+  pub journal : new.journal ≡ old.journal ++ added
+  pub own : All (λ (e : Entry). e.seat ≡ entry.seat) added
+  pub told : length added ≡ taken reply
+  pub receipt : (k : ℕ) → reply ≡ Ok (Taken k) → (k ≡ length old.journal) × (added ≡ entry ∷ [])
+
+-- what is refused, and a reading, leaves it
+left : (entry : Entry) (lab : Laboratory) (reply : Result Answer Refusal) → taken reply ≡ 0 → Extends entry lab reply lab
+left entry lab reply none = record {
+  start = refl;
+  cap = refl;
+  added = [];
+  journal = sym (append-nil lab.journal);
+  own = All-nil _;
+  told = sym none;
+  receipt = λ k h. absurd (let one = ap taken h in omega (arith, none, one));
+}
+
+more : (lab : Laboratory) (entry : Entry) (reply : Result Answer Refusal) → reply ≡ Ok (Taken (length lab.journal)) → Extends entry lab reply (accepted lab entry)
+more lab entry reply is = record {
+  start = refl;
+  cap = refl;
+  added = entry ∷ [];
+  journal = refl;
+  own = All-cons (λ (e : Entry). e.seat ≡ entry.seat) entry [] refl (All-nil _);
+  told = sym (ap taken is);
+  receipt = λ k h. (let same : Ok (Taken k) ≡ Ok (Taken (length lab.journal)) = sym h ∙ is in cc same, refl);
+}
+
+-- the laboratory after an entry of the command, where this stands against it or nothing does
+abbrev next : Option Refusal → Laboratory → Entry → Laboratory
+next why lab entry = cond (is_change entry.command && not (is_some why)) (accepted lab entry) lab
+
+refused : (lab : Laboratory) (entry : Entry) (refusal : Refusal) (change : Bool) → Extends entry lab (Err refusal) (cond (change && false) (accepted lab entry) lab)
+refused lab entry refusal true = left entry lab (Err refusal) refl
+refused lab entry refusal false = left entry lab (Err refusal) refl
+
+taken_up : (lab : Laboratory) (seat : ℕ) (command : Command)
+    → Extends (record { seat = seat; command = command }) lab (Ok (answer lab command)) (next None lab (record { seat = seat; command = command }))
+taken_up lab seat (Put r) = more lab _ _ refl
+taken_up lab seat (Erase r) = more lab _ _ refl
+taken_up lab seat (Wall r) = more lab _ _ refl
+taken_up lab seat (Block r) = more lab _ _ refl
+taken_up lab seat (Unwall r) = more lab _ _ refl
+taken_up lab seat (Row y bits) = more lab _ _ refl
+taken_up lab seat (Source r period) = more lab _ _ refl
+taken_up lab seat (Drain r) = more lab _ _ refl
+taken_up lab seat Unport = more lab _ _ refl
+taken_up lab seat (Step n) = more lab _ _ refl
+taken_up lab seat (Back n) = more lab _ _ refl
+taken_up lab seat (Probe r) = left _ lab _ refl
+taken_up lab seat Tally = left _ lab _ refl
+taken_up lab seat Ledger = left _ lab _ refl
+taken_up lab seat (Read y) = left _ lab _ refl
+taken_up lab seat (EntryAt k) = left _ lab _ refl
+
+judged_extends : (why : Option Refusal) (lab : Laboratory) (seat : ℕ) (command : Command)
+    → Extends (record { seat = seat; command = command }) lab (judged why (answer lab command)) (next why lab (record { seat = seat; command = command }))
+judged_extends (Some refusal) lab seat command = refused lab (record { seat = seat; command = command }) refusal (is_change command)
+judged_extends None lab seat command = taken_up lab seat command
+
+pub applies_extends : (old : Laboratory) (seat : ℕ) (command : Command) (reply : Result Answer Refusal) (new : Laboratory)
+    → Applies old (record { seat = seat; command = command }) reply new → Extends (record { seat = seat; command = command }) old reply new
+applies_extends old seat command reply new (inl h) = rw (h.0, h.1) (judged_extends (cause old command) old seat command)
+applies_extends old seat command reply new (inr h) = rw (h.2, h.3) (left _ old _ refl)
+
+pub named_after : (size : Extent) (cap : ℕ) (entry : Entry) (old new : Laboratory) (reply : Result Answer Refusal)
+    → Extends entry old reply new → extent old.start.particles ≡ size → old.cap ≡ cap → IsSound new → IsNamed size cap new
+named_after size cap entry old new reply grown same kept sound = record {
+  sound = sound;
+  size_is = ap (λ (g : Gas). extent g.particles) grown.start ∙ same;
+  cap_is = grown.cap ∙ kept;
+}
+
+pub booked_after : (entry : Entry) (old new : Laboratory) (reply : Result Answer Refusal) (before made after : ℕ)
+    → Extends entry old reply new → before ≡ length old.journal → made ≡ taken reply → after ≡ before + made → after ≡ length new.journal
+booked_after entry old new reply before made after grown total is added =
+    let long = ap length grown.journal ∙ length-append old.journal grown.added in
+    let told = grown.told in
+    omega (arith, total, is, added, long, told)

@@ -1,0 +1,4 @@
+pub mod Prefixes
+pub mod Events
+pub mod Numbered
+pub mod TurnSeats

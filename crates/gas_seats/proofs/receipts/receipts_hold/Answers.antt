@@ -1,0 +1,26 @@
+use Rattle.std.proofs.Common.{◌≡◌, ℕ, ◌∙◌, ◌++◌, ◌∷◌, [], List, length, length-append, Some, slice_get, refl, sym, ap, subst, arith}
+use Rattle.gas_terms.specs.Laboratory.{IsPrefix}
+use Rattle.gas_terms.specs.declared.command.Entry.{Entry}
+use Rattle.gas_seats.proofs.Events.{applies_extends}
+use Rattle.gas_seats.proofs.Numbered.{at_end, before_end}
+use Rattle.gas_seats.proofs.Prefixes.{goes_on}
+use Rattle.gas_seats.proofs.receipts.receipts_hold.Goals as goal
+
+stands : (journal new later : List Entry) (entry : Entry) (k : ℕ) → new ≡ journal ++ entry ∷ [] → k ≡ length journal → IsPrefix new later → slice_get later k ≡ Some entry
+stands journal new later entry k is at p =
+    let long = length-append journal (entry ∷ []) in
+    rw (p.1, is, at) (before_end (journal ++ entry ∷ []) p.0 (length journal) (omega (arith, long)) ∙ at_end journal entry)
+
+pub returns-clause-asks : goal.returns-clause-asks
+returns-clause-asks c old new command reply h =
+    let grown = applies_extends h.0 old.number command reply h.1 h.4 in
+    goes_on old.seen h.0.journal new.seen h.2.begins (grown.added, ap (λ s. s.seen) h.5 ∙ grown.journal)
+
+pub returns-clause-copies : goal.returns-clause-copies
+returns-clause-copies c old new copied h = subst (λ l. IsPrefix old.seen l) (sym (ap (λ s. s.seen) h.3)) h.1.begins
+
+pub returns-clause-entry : goal.returns-clause-entry
+returns-clause-entry c old new command k later h p =
+    let grown = applies_extends h.0 old.number command _ h.1 h.4 in
+    let receipt = grown.receipt k refl in
+    stands h.0.journal new.seen later _ k (ap (λ s. s.seen) h.5 ∙ grown.journal ∙ ap (λ l. h.0.journal ++ l) receipt.1) receipt.0 p
