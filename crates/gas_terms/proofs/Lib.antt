@@ -33,3 +33,12 @@ pub mod LabBounds
 pub mod TotalBounds
 pub mod Emptied
 pub mod RowSums
+pub mod Reversal
+pub mod Transport
+pub mod Mirrors
+pub mod Moves
+pub mod Maps
+pub mod Distance
+pub mod LightCone
+pub mod Clear
+pub mod SideBySide

@@ -13,6 +13,7 @@ pub mod rect;
 pub mod refusal;
 pub mod row_bits;
 pub mod size;
+pub mod symmetry_laws;
 pub mod tick;
 pub mod velocity;
 

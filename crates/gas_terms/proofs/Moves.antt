@@ -1,0 +1,124 @@
+-- Moves along the axes.
+use Rattle.std.proofs.Common.{◌≡◌, ℕ, zero, suc, ◌+◌, ◌-◌, ◌*◌, ◌/◌, ◌%◌, ◌<◌, Bool, true, false, ℤ, pos, negsuc, ◌+ℤ◌, sym, ap, ◌∙◌, arith}
+use Rattle.std.proofs.Math.Nat.{mod-lt, mod-add-mod, add-mod_right}
+use Rattle.std.proofs.lemmas.Int.{ints}
+use Rattle.std.proofs.lemmas.Nat.{div-add-mod', mod-mul-add}
+use Rattle.std.proofs.lemmas.Bool.Decides.{nat_tests}
+use Rattle.gas_terms.specs.Velocity.{has_parity, parity}
+use Rattle.gas_terms.specs.Cells.{Cells, has, cells_where, HasEvenSides, HasSidesOf}
+use Rattle.gas_terms.specs.Gas.{streamed, along}
+use Rattle.gas_terms.specs.Symmetry.{moved_from, moved_by}
+use Rattle.gas_terms.proofs.Parity.{parity-small, parity-next}
+use Rattle.gas_terms.proofs.Cells.{has-cells_where}
+use Rattle.gas_terms.proofs.Transport.{IsCarried, pulled_streamed}
+
+-- The parity of a sum of ticks.
+later_parity : (t : ℤ) (n : ℕ) → parity (t +ℤ pos n) ≡ (parity t + n) % 2
+later_parity t zero =
+    let e : t +ℤ pos zero ≡ t = omega (arith, ints) in
+    ap parity e ∙ omega (arith, parity-small t)
+later_parity t (suc n) =
+    let e : t +ℤ pos (suc n) ≡ (t +ℤ pos n) +ℤ pos 1 = omega (arith, ints) in
+    ap parity e ∙ omega (arith, parity-next (t +ℤ pos n), parity-small t, later_parity t n)
+
+pub parity_after : (t later : ℤ) → parity (t +ℤ later) ≡ (parity t + parity later) % 2
+parity_after t (pos n) = later_parity t n ∙ omega arith
+parity_after t (negsuc n) =
+    let e : (t +ℤ negsuc n) +ℤ pos (n + 1) ≡ t = omega (arith, ints) in
+    let f : parity t ≡ (parity (t +ℤ negsuc n) + (n + 1)) % 2 = ap parity (sym e) ∙ later_parity (t +ℤ negsuc n) (n + 1) in
+    omega (arith, f, parity-small t, parity-small (t +ℤ negsuc n))
+
+-- A move keeps the way along an axis.
+move_up : (n c x : ℕ) → ((x + 1) % n + c) % n ≡ ((x + c) % n + 1) % n
+move_up n c x =
+    mod-add-mod (x + 1) n c ∙ ap (λ k. k % n) (let e : x + 1 + c ≡ x + c + 1 = omega arith in e) ∙ sym (mod-add-mod (x + c) n 1)
+
+move_down : (n c x : ℕ) → 0 < n → ((x + n - 1) % n + c) % n ≡ ((x + c) % n + n - 1) % n
+move_down n c x some =
+    mod-add-mod (x + n - 1) n c
+    ∙ ap (λ k. k % n) (let e : x + n - 1 + c ≡ x + c + (n - 1) = omega arith in e)
+    ∙ sym (mod-add-mod (x + c) n (n - 1))
+    ∙ ap (λ k. k % n) (let e : (x + c) % n + (n - 1) ≡ (x + c) % n + n - 1 = omega arith in e)
+
+move_along : (n c x : ℕ) (b : Bool) → 0 < n → (along n b x + c) % n ≡ along n b ((x + c) % n)
+move_along n c x true some = move_up n c x
+move_along n c x false some = move_down n c x some
+
+-- what is moved by, as a number to add
+abbrev to_add : ℕ → ℕ → ℕ
+to_add n by = n - by % n
+
+from_is : (n by x : ℕ) → 0 < n → moved_from n by x ≡ (x + to_add n by) % n
+from_is n by x some =
+    let l : by % n < n = mod-lt by some in
+    ap (λ k. k % n) (let e : x + n - by % n ≡ x + (n - by % n) = omega arith in e)
+
+-- A remainder of a number of even parts keeps the parity.
+even_rest : (a n q r : ℕ) → n % 2 ≡ 0 → q * n + r ≡ a → r % 2 ≡ a % 2
+even_rest a n q r even e =
+    let half : n ≡ 2 * (n / 2) = omega arith in
+    let h : q * n ≡ 2 * (q * (n / 2)) = ap (λ k. q * k) half ∙ omega arith in
+    omega arith
+
+rest_parity : (a n : ℕ) → n % 2 ≡ 0 → a % n % 2 ≡ a % 2
+rest_parity a n even = even_rest a n (a / n) (a % n) even (div-add-mod' a n)
+
+move_parity : (n by x : ℕ) → n % 2 ≡ 0 → 0 < n → (moved_from n by x + by) % 2 ≡ x % 2
+move_parity n by x even some =
+    let l : by % n < n = mod-lt by some in
+    let e = rest_parity (x + n - by % n) n even in
+    let f = rest_parity by n even in
+    omega arith
+
+same_parity : (p q x y : ℕ) → (x + p) % 2 ≡ (y + q) % 2 → has_parity p x ≡ has_parity q y
+same_parity p q x y e = grind (arith, nat_tests)
+
+pub move_carries : (p q n by : ℕ) → n % 2 ≡ 0 → (p + q + by) % 2 ≡ 0 → IsCarried p q n (moved_from n by)
+move_carries p q n by even turns = record {
+  below = λ x l. let some : 0 < n = omega arith in mod-lt (x + n - by % n) some;
+  other = λ x l.
+      let some : 0 < n = omega arith in
+      let y = moved_from n by x in
+      let m = move_parity n by x even some in
+      from_is n by (along n (has_parity p x) x) some
+      ∙ move_along n (to_add n by) x (has_parity p x) some
+      ∙ ap (along n (has_parity p x)) (sym (from_is n by x some))
+      ∙ ap (λ b. along n b y) (same_parity p q x y (omega arith));
+}
+
+pub moved_streamed : (p q right down : ℕ) (particles walls : Cells) → HasEvenSides particles.width particles.height → HasSidesOf walls particles
+    → (p + q + right) % 2 ≡ 0 → (p + q + down) % 2 ≡ 0
+    → streamed p (moved_by right down particles) (moved_by right down walls) ≡ moved_by right down (streamed q particles walls)
+moved_streamed p q right down particles walls e sides a b =
+    ap (λ n. streamed p (moved_by right down particles)
+    (cells_where walls.width walls.height (λ x y. has walls (moved_from n right x) (moved_from walls.height down y)))) sides.wide
+    ∙ ap (λ n. streamed p (moved_by right down particles)
+    (cells_where walls.width walls.height (λ x y. has walls (moved_from particles.width right x) (moved_from n down y)))) sides.high
+    ∙ pulled_streamed p q particles walls (moved_from particles.width right) (moved_from particles.height down) e sides
+    (move_carries p q particles.width right e.wide a) (move_carries p q particles.height down e.high b)
+
+-- Where a moved cell comes from.
+whole_turns : (n by x : ℕ) → x < n → (x + (by - by % n)) % n ≡ x
+whole_turns n by x l =
+    let e : x + (by - by % n) ≡ by / n * n + x = omega (arith, div-add-mod' by n) in
+    ap (λ k. k % n) e ∙ mod-mul-add (by / n) n x l
+
+from_there : (n by x : ℕ) → x < n → moved_from n by ((x + by) % n) ≡ x
+from_there n by x l =
+    let some : 0 < n = omega arith in
+    let less : by % n < n = mod-lt by some in
+    from_is n by ((x + by) % n) some
+    ∙ mod-add-mod (x + by) n (to_add n by)
+    ∙ ap (λ k. k % n) (let e : x + by + (n - by % n) ≡ x + (by - by % n) + n = omega (arith, div-add-mod' by n) in e)
+    ∙ add-mod_right (x + (by - by % n)) n
+    ∙ whole_turns n by x l
+
+pub moved_there : (right down : ℕ) (cells : Cells) (x y : ℕ) → x < cells.width → y < cells.height
+    → has (moved_by right down cells) ((x + right) % cells.width) ((y + down) % cells.height) ≡ has cells x y
+moved_there right down cells x y l m =
+    let wide : 0 < cells.width = omega arith in
+    let high : 0 < cells.height = omega arith in
+    has-cells_where cells.width cells.height (λ x y. has cells (moved_from cells.width right x) (moved_from cells.height down y))
+    ((x + right) % cells.width) ((y + down) % cells.height) (mod-lt (x + right) wide) (mod-lt (y + down) high)
+    ∙ ap (λ a. has cells a (moved_from cells.height down ((y + down) % cells.height))) (from_there cells.width right x l)
+    ∙ ap (has cells x) (from_there cells.height down y m)

@@ -1,0 +1,111 @@
+-- A run back is a run forward of the reversed gas.
+use Rattle.std.proofs.Common.{◌≡◌, ℕ, zero, suc, ◌+◌, ◌-◌, ◌<◌, Bool, true, false, not, ◌==◌, ℤ, pos, negsuc, ◌*ℤ◌, neg_ℤ, ◌+ℤ◌, ◌-ℤ◌, List, [], refl, sym, ap, ◌∙◌, arith}
+use Rattle.std.proofs.lemmas.Int.{ints}
+use Rattle.std.proofs.lemmas.Bool.Decides.{nat_tests}
+use Rattle.std.specs.Fn.{iterate}
+use Rattle.gas_terms.specs.Velocity.{Velocity, sign, opposite, parity, velocity_at, has_parity}
+use Rattle.gas_terms.specs.Cells.{Cells, Rectangle, whole, HasEvenSides, IsEvenTorus}
+use Rattle.gas_terms.specs.Gas.{Gas, Source, streamed, unstreamed, solid, forward, back, HasNoPorts}
+use Rattle.gas_terms.specs.Accounts.{gas_total, total, parity_count, sums_by_parity}
+use Rattle.gas_terms.specs.declared.accounts.Sums.{Sums}
+use Rattle.gas_terms.specs.Symmetry.{reversed}
+use Rattle.gas_terms.proofs.Iterate.{iterate_keeps}
+use Rattle.gas_terms.proofs.Parity.{parity-small, parity-last}
+use Rattle.gas_terms.proofs.Totals.{same_sums}
+use Rattle.gas_terms.proofs.RectangleTotals.{total-whole, total_in-parities}
+use Rattle.gas_terms.proofs.Steps.{unstreamed-streamed, gas_at, same_gas, full_streamed, backs-forwards}
+
+parity_reversed : (t : ℤ) → parity (pos 1 -ℤ t) ≡ 1 - parity t
+parity_reversed (pos zero) = refl
+parity_reversed (pos (suc zero)) = refl
+parity_reversed (pos (suc (suc n))) =
+    let e : pos 1 -ℤ pos (suc (suc n)) ≡ negsuc n = omega (arith, ints) in
+    ap parity e ∙ omega arith
+parity_reversed (negsuc n) =
+    let e : pos 1 -ℤ negsuc n ≡ pos (n + 2) = omega (arith, ints) in
+    ap parity e ∙ omega arith
+
+-- Each particle moves the other way.
+other_parity : (p x : ℕ) → p < 2 → has_parity (1 - p) x ≡ not (has_parity p x)
+other_parity p x small = grind (arith, nat_tests)
+
+same_way : (r r' d d' : Bool) → r ≡ r' → d ≡ d' → ◌≡◌ {A = Velocity} (record { right = r; down = d }) (record { right = r'; down = d' })
+same_way r r' d d' e f = cc
+
+pub velocity_reversed : (g : Gas) (x y : ℕ) → velocity_at (parity (reversed g).tick) x y ≡ opposite (velocity_at (parity g.tick) x y)
+velocity_reversed g x y =
+    ap (λ p. velocity_at p x y) (parity_reversed g.tick)
+    ∙ same_way _ _ _ _ (other_parity (parity g.tick) x (parity-small g.tick)) (other_parity (parity g.tick) y (parity-small g.tick))
+
+pub back_reversed : (g : Gas) → HasEvenSides g.particles.width g.particles.height → reversed (back g) ≡ forward (reversed g)
+unfolding gas_at
+back_reversed g e =
+    let t = g.tick in
+    let same : parity (t -ℤ pos 1) ≡ parity (pos 1 -ℤ t) =
+    omega (arith, parity-last t, parity-small (t -ℤ pos 1), parity_reversed t) in
+    same_gas (pos 1 -ℤ (t -ℤ pos 1)) ((pos 1 -ℤ t) +ℤ pos 1) (unstreamed (parity (t -ℤ pos 1)) g.particles (solid g))
+    (streamed (parity (pos 1 -ℤ t)) g.particles (solid g)) g.walls g.obstacles [] []
+    (omega (arith, ints))
+    (unstreamed-streamed (parity (t -ℤ pos 1)) g.particles (solid g) e ∙ ap (λ p. streamed p g.particles (solid g)) same)
+
+pub backs_reversed : (n : ℕ) (g : Gas) → HasEvenSides g.particles.width g.particles.height
+    → reversed (iterate back n g) ≡ iterate forward n (reversed g)
+backs_reversed zero g e = refl
+backs_reversed (suc n) g e = backs_reversed n (back g) e ∙ ap (iterate forward n) (back_reversed g e)
+
+-- Reversed twice.
+twice_at : (t : ℤ) → pos 1 -ℤ (pos 1 -ℤ t) ≡ t
+twice_at t = omega (arith, ints)
+
+same_but_ports : (t t' : ℤ) (particles walls obstacles : Cells) (d d' : List Rectangle) (s s' : List Source) → t ≡ t' → d ≡ d' → s ≡ s'
+    → gas_at t particles walls obstacles d s ≡ gas_at t' particles walls obstacles d' s'
+same_but_ports t t' particles walls obstacles d d' s s' e f h = cc
+
+pub reversed-reversed : (g : Gas) → HasNoPorts g → reversed (reversed g) ≡ g
+unfolding gas_at
+reversed-reversed g none =
+    same_but_ports _ g.tick g.particles g.walls g.obstacles [] g.drains [] g.sources (twice_at g.tick) (sym none.no_drains) (sym none.no_sources)
+
+-- What was run, turned round and run as long is the start turned round.
+even_forwards : (n : ℕ) (g : Gas) → IsEvenTorus g.particles → IsEvenTorus (iterate forward n g).particles
+even_forwards =
+    iterate_keeps forward (λ g. IsEvenTorus g.particles)
+    (λ g t. record { sides = t.sides; full = full_streamed (parity g.tick) g.particles (solid g) })
+
+pub run_returns : (n : ℕ) (g : Gas) → IsEvenTorus g.particles → iterate forward n (reversed (iterate forward n g)) ≡ reversed g
+run_returns n g t =
+    sym (backs_reversed n (iterate forward n g) (even_forwards n g t).sides) ∙ ap reversed (backs-forwards n g t)
+
+-- The momenta are opposite.
+other_sign : (b : Bool) (z : ℤ) → sign (not b) *ℤ z ≡ neg_ℤ (sign b *ℤ z)
+other_sign true z = omega (arith, ints)
+other_sign false z = omega (arith, ints)
+
+other_zero : (p : ℕ) → p < 2 → (1 - p == 0) ≡ not (p == 0)
+other_zero p small = grind (arith, nat_tests)
+
+-- sums with the opposite momenta
+opposed : Sums → Sums
+opposed s = record { count = s.count; px = neg_ℤ s.px; py = neg_ℤ s.py }
+
+opposed_parities : (t u : ℤ) (a b c d : ℕ) → parity u ≡ 1 - parity t → sums_by_parity u a b c d ≡ opposed (sums_by_parity t a b c d)
+unfolding opposed
+opposed_parities t u a b c d e =
+    let to_right : (parity u == 0) ≡ not (parity t == 0) = ap (λ p. p == 0) e ∙ other_zero (parity t) (parity-small t) in
+    same_sums (sums_by_parity u a b c d) (opposed (sums_by_parity t a b c d)) refl
+    (ap (λ r. sign r *ℤ (pos (a + c) -ℤ pos (b + d))) to_right ∙ other_sign (parity t == 0) (pos (a + c) -ℤ pos (b + d)))
+    (ap (λ r. sign r *ℤ (pos (a + b) -ℤ pos (c + d))) to_right ∙ other_sign (parity t == 0) (pos (a + b) -ℤ pos (c + d)))
+
+by_parities : (tick : ℤ) (cells : Cells) → HasEvenSides cells.width cells.height
+    → total tick cells
+    ≡ sums_by_parity tick (parity_count cells (whole cells) 0 0) (parity_count cells (whole cells) 1 0) (parity_count cells (whole cells) 0 1)
+    (parity_count cells (whole cells) 1 1)
+by_parities tick cells e = total-whole tick cells e ∙ total_in-parities tick cells (whole cells)
+
+pub total_reversed : (g : Gas) → HasEvenSides g.particles.width g.particles.height
+    → gas_total (reversed g) ≡ record { count = (gas_total g).count; px = neg_ℤ (gas_total g).px; py = neg_ℤ (gas_total g).py }
+unfolding opposed
+total_reversed g e =
+    by_parities (pos 1 -ℤ g.tick) g.particles e
+    ∙ opposed_parities g.tick (pos 1 -ℤ g.tick) _ _ _ _ (parity_reversed g.tick)
+    ∙ ap opposed (sym (by_parities g.tick g.particles e))

@@ -1,0 +1,17 @@
+use Rattle.gas_terms.proofs.Reversal.{velocity_reversed, total_reversed, reversed-reversed, backs_reversed, run_returns}
+use Rattle.gas_terms.proofs.symmetry_laws.time_can_be_reversed.Goals as goal
+
+pub returns-clause-velocities : goal.returns-clause-velocities
+returns-clause-velocities c = velocity_reversed
+
+pub returns-clause-twice : goal.returns-clause-twice
+returns-clause-twice c = reversed-reversed
+
+pub returns-clause-runs : goal.returns-clause-runs
+returns-clause-runs c = backs_reversed
+
+pub returns-clause-returns : goal.returns-clause-returns
+returns-clause-returns c = run_returns
+
+pub returns-clause-momenta : goal.returns-clause-momenta
+returns-clause-momenta c = total_reversed
