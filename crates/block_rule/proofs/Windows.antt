@@ -1,14 +1,15 @@
 -- Rows of blocks, seen in the window of a tile and its ring.
-use Rattle.std.proofs.Common.{◌≡◌, ◌⊎◌, ℕ, ◌+◌, ◌-◌, ◌*◌, ◌%◌, ◌<◌, ◌≤◌, ◌==◌, Bool, if◌then◌else◌, List, length, get_or, set, sym, ◌∙◌, ap, ap₂, arith, inl, inr, get_or-set_other, get_or-set_same}
-use Rattle.std.proofs.lemmas.Bool.{cases_eq, eq-eqb, ne_eqb}
+use Rattle.std.proofs.Common.{◌≡◌, refl, ◌⊎◌, ℕ, ◌+◌, ◌-◌, ◌*◌, ◌%◌, ◌<◌, ◌≤◌, ◌==◌, Bool, if◌then◌else◌, List, length, get_or, set, sym, ◌∙◌, ap, ap₂, arith, inl, inr, get_or-set_other, get_or-set_same}
+use Rattle.std.proofs.lemmas.Bool.{cases_eq, cases_lt, eq-eqb, ne_eqb}
 use Rattle.bit_tile.specs.Bit.{bit}
 use Rattle.bit_tile.specs.Tile.{HasCells}
 use Rattle.bit_tile.specs.declared.Tile.{Tile}
 use Rattle.bit_tile.proofs.Classes.{by_class, even_even_at, odd_even_at, even_odd_at, odd_odd_at}
 use Rattle.block_rule.specs.Cell.{made, partner}
 use Rattle.block_rule.specs.Classes.{AreWordsOf}
-use Rattle.block_rule.specs.Rows.{ShowsTile, ShowsRound, IsMade, ShowsRows, IsMadeOdd, even_row, odd_row, beside_left, beside_right}
+use Rattle.block_rule.specs.Rows.{ShowsTile, ShowsRound, IsMade, ShowsRows, IsMadeOdd, even_row, odd_row, beside_left, beside_right, eight_row}
 use Rattle.block_rule.specs.declared.blocks.Blocks.{Blocks}
+use Rattle.block_rule.specs.declared.blocks.EightRows.{EightRows}
 
 pub cell_by : (cell : Bool → Bool → Bool → Bool → Bool) (a b c d e f g h : Bool) → a ≡ e → b ≡ f → c ≡ g → d ≡ h → cell a b c d ≡ cell e f g h
 cell_by cell a b c d e f g h p q r s = ap₂ (λ u v. cell u v c d) p q ∙ ap₂ (λ u v. cell e f u v) r s
@@ -126,6 +127,17 @@ odd_row_more cell window out new from j oo eo oe ee before here k low below =
           rw (get_or-set_other out.even_even (j + 1) (k + 1) new.lower_right 0 next, get_or-set_other out.odd_even (j + 1) (k + 1) new.lower_left 0 next, get_or-set_other out.even_odd j k new.upper_right 0 other, get_or-set_other out.odd_odd j k new.upper_left 0 other) (before k low less)
     ]
 
+-- one more of eight rows
+pub eight_row_more : (cell : Bool → Bool → Bool → Bool → Bool) (window : ℕ → ℕ → Bool) (rows : EightRows) (new : Blocks) (from k : ℕ) → k < length rows.upper_left → k < length rows.upper_right → k < length rows.lower_left → k < length rows.lower_right →
+    ((m : ℕ) → m < k → IsMadeOdd cell window (2 * (from + m) + 2) (eight_row rows m)) → IsMadeOdd cell window (2 * (from + k) + 2) new → (m : ℕ) → m < k + 1 →
+    IsMadeOdd cell window (2 * (from + m) + 2) (eight_row (record { upper_left = set rows.upper_left k new.upper_left; upper_right = set rows.upper_right k new.upper_right; lower_left = set rows.lower_left k new.lower_left; lower_right = set rows.lower_right k new.lower_right }) m)
+eight_row_more cell window rows new from k ul ur ll lr before here m below =
+    elim (cases_eq m k) [
+      | inl same ↦ rw (same, get_or-set_same rows.upper_left k new.upper_left 0 ul, get_or-set_same rows.upper_right k new.upper_right 0 ur, get_or-set_same rows.lower_left k new.lower_left 0 ll, get_or-set_same rows.lower_right k new.lower_right 0 lr) here
+      | inr other ↦
+          rw (get_or-set_other rows.upper_left k m new.upper_left 0 other, get_or-set_other rows.upper_right k m new.upper_right 0 other, get_or-set_other rows.lower_left k m new.lower_left 0 other, get_or-set_other rows.lower_right k m new.lower_right 0 other) (before m (omega arith))
+    ]
+
 pub upper_outside : (k from j : ℕ) → from ≤ j → (k < from) ⊎ (j + 1 ≤ k) → (k ≡ j → ⊥)
 upper_outside k from j order (inl h) e = omega arith
 upper_outside k from j order (inr h) e = omega arith
@@ -141,6 +153,14 @@ lower_outside k from j order (inr h) e = omega arith
 pub lower_before : (k from j : ℕ) → (k ≤ from) ⊎ (j + 1 < k) → (k ≤ from) ⊎ (j < k)
 lower_before k from j (inl h) = inl h
 lower_before k from j (inr h) = inr (omega arith)
+
+pub upper_end_of : (m from k : ℕ) → (m < from) ⊎ (from + (k + 1) ≤ m) → (m < from) ⊎ (from + k + 1 ≤ m)
+upper_end_of m from k (inl h) = inl h
+upper_end_of m from k (inr h) = inr (omega arith)
+
+pub lower_end_of : (m from k : ℕ) → (m ≤ from) ⊎ (from + (k + 1) < m) → (m ≤ from) ⊎ (from + k + 1 < m)
+lower_end_of m from k (inl h) = inl h
+lower_end_of m from k (inr h) = inr (omega arith)
 
 -- the rows of odd blocks, in the window: between two rows of the tile, at its top and at its bottom
 module _ (window : ℕ → ℕ → Bool) (t : Tile) (shows : ShowsTile window t) (a d l r al ar dl dr : Tile) (round : ShowsRound window a d l r al ar dl dr) where
@@ -223,6 +243,27 @@ upper_same cell window y ul ur vl vr e f is = rw (e, f) is
 
 pub lower_same : (cell : Bool → Bool → Bool → Bool → Bool) (window : ℕ → ℕ → Bool) (y z ll lr ml mr : ℕ) → y ≡ z → ll ≡ ml → lr ≡ mr → AreLower cell window z ml mr → AreLower cell window y ll lr
 lower_same cell window y z ll lr ml mr d e f is = rw (d, e, f) is
+
+-- rows that are made after others
+pub uppers_more : (cell : Bool → Bool → Bool → Bool → Bool) (window : ℕ → ℕ → Bool) (old new : Tile) (from to : ℕ) → ((j : ℕ) → j < from → AreUpper cell window (2 * j + 2) (get_or old.odd_odd j 0) (get_or old.even_odd j 0))
+    → ((j : ℕ) → from ≤ j → j < to → IsMadeOdd cell window (2 * j + 2) (odd_row new j))
+    → ((j : ℕ) → (j < from) ⊎ (to ≤ j) → (get_or new.odd_odd j 0 ≡ get_or old.odd_odd j 0) × (get_or new.even_odd j 0 ≡ get_or old.even_odd j 0))
+    → (j : ℕ) → j < to → AreUpper cell window (2 * j + 2) (get_or new.odd_odd j 0) (get_or new.even_odd j 0)
+uppers_more cell window old new from to before rows rest j below =
+    elim (cases_lt j from) [
+      | inl low ↦ upper_same cell window (2 * j + 2) _ _ _ _ (rest j (inl low)).0 (rest j (inl low)).1 (before j low)
+      | inr high ↦ upper_of cell window (2 * j + 2) (odd_row new j) (rows j high below)
+    ]
+
+pub lowers_more : (cell : Bool → Bool → Bool → Bool → Bool) (window : ℕ → ℕ → Bool) (old new : Tile) (from to : ℕ) → ((j : ℕ) → j < from → AreLower cell window (2 * j + 2) (get_or old.odd_even (j + 1) 0) (get_or old.even_even (j + 1) 0))
+    → ((j : ℕ) → from ≤ j → j < to → IsMadeOdd cell window (2 * j + 2) (odd_row new j))
+    → ((j : ℕ) → (j ≤ from) ⊎ (to < j) → (get_or new.odd_even j 0 ≡ get_or old.odd_even j 0) × (get_or new.even_even j 0 ≡ get_or old.even_even j 0))
+    → (j : ℕ) → j < to → AreLower cell window (2 * j + 2) (get_or new.odd_even (j + 1) 0) (get_or new.even_even (j + 1) 0)
+lowers_more cell window old new from to before rows rest j below =
+    elim (cases_lt j from) [
+      | inl low ↦ lower_same cell window (2 * j + 2) (2 * j + 2) _ _ _ _ refl (rest (j + 1) (inl (omega arith))).0 (rest (j + 1) (inl (omega arith))).1 (before j low)
+      | inr high ↦ lower_of cell window (2 * j + 2) (odd_row new j) (rows j high below)
+    ]
 
 pub upper_end : (cell : Bool → Bool → Bool → Bool → Bool) (window : ℕ → ℕ → Bool) (odd even : List ℕ) (new : Blocks) (j : ℕ) → j ≡ 31 → 31 < length odd → 31 < length even → IsMadeOdd cell window 64 new → AreUpper cell window (2 * j + 2) (get_or (set odd 31 new.upper_left) j 0) (get_or (set even 31 new.upper_right) j 0)
 upper_end cell window odd even new j e h k is =

@@ -5,6 +5,7 @@ use Rattle.bit_tile.specs.declared.Tile.{Tile}
 use Rattle.tile_border.specs.declared.Round.{Round}
 use Rattle.block_rule.specs.declared.blocks.Blocks.{Blocks}
 use Rattle.block_rule.specs.declared.blocks.Beside.{Beside}
+use Rattle.block_rule.specs.declared.blocks.EightRows.{EightRows}
 
 -- the window has the tile's cells
 abbrev pub ShowsTile : (ℕ → ℕ → Bool) → Tile → Type 0
@@ -66,6 +67,16 @@ odd_row t j =
       upper_right = slice_index t.even_odd j;
       lower_left = slice_index t.odd_even (j + 1);
       lower_right = slice_index t.even_even (j + 1);
+    }
+
+-- one of eight rows of blocks
+abbrev pub eight_row : EightRows → ℕ → Blocks
+eight_row r k =
+    record {
+      upper_left = slice_index r.upper_left k;
+      upper_right = slice_index r.upper_right k;
+      lower_left = slice_index r.lower_left k;
+      lower_right = slice_index r.lower_right k;
     }
 
 abbrev pub beside_left : Tile → ℕ → Beside

@@ -14,6 +14,15 @@ pub struct Blocks {
     pub lower_right: u32,
 }
 
+/// Eight rows of blocks.
+#[derive(Clone, Copy)]
+pub struct EightRows {
+    pub upper_left: [u32; 8],
+    pub upper_right: [u32; 8],
+    pub lower_left: [u32; 8],
+    pub lower_right: [u32; 8],
+}
+
 /// The corners that a row of blocks has in the tile beside its own: in its upper and in its lower row.
 #[derive(Clone, Copy)]
 pub struct Beside {

@@ -99,6 +99,7 @@ fn hold_both_odd(tile: &Tile, walls: &Window, obstacles: &Window, out: &mut Tile
 /// Puts the tile into `out` as it is after the rule, where blocks begin at even columns and rows. Blocks lie in the tile,
 /// so nothing is asked of the tiles round it. Sets that have no cell in the tile need not be lent. The answer is what the
 /// walls and the obstacles take of the tile's own particles: twice their momentum, for those in walled blocks.
+#[inline(always)]
 pub fn turn_tile_even(
     tile: &Tile,
     walls: Option<&Tile>,
@@ -132,6 +133,7 @@ pub fn turn_tile_even(
 
 /// The same where blocks begin at odd columns and rows, and reach into the eight tiles round the tile. Sets that have no
 /// cell in any of the nine need not be lent.
+#[inline(always)]
 pub fn turn_tile_odd(
     particles: &Window,
     walls: Option<Window<'_>>,

@@ -3,9 +3,9 @@
 ghost use Rattle.std.specs.Prelude.{◌≡◌, ℕ, ◌+◌, ◌*◌, ◌<◌, ◌≤◌, ◌⊎◌, Bool, slice_index};
 ghost use Rattle.bit_tile.specs.Tile.{HasCells};
 ghost use Rattle.block_rule.specs.Cell.{made};
-ghost use Rattle.block_rule.specs.Rows.{ShowsTile, ShowsAllRound, ShowsRows, ShowsInnerRows, IsMadeOdd, odd_row};
+ghost use Rattle.block_rule.specs.Rows.{ShowsTile, ShowsAllRound, ShowsRows, ShowsInnerRows, IsMadeOdd, odd_row, eight_row};
 
-use crate::blocks::{Beside, Blocks, Rule, next, previous};
+use crate::blocks::{Beside, Blocks, EightRows, Rule, next, previous};
 use bit_tile::Tile;
 use tile_border::Round;
 
@@ -80,35 +80,57 @@ pub fn made_inner<R: Rule>(rule: R, tile: &Tile, left: &Tile, right: &Tile, j: u
     made_odd(rule, own, left, right)
 }
 
-// The rows of odd blocks that begin in the tile's odd rows from `from` up to `to`, and end in the tile.
+// The eight rows of odd blocks that begin in the tile's odd rows from `from` on, and end in the tile.
 #[inline]
-fn make_rows_odd<R: Rule>(
+fn made_eight<R: Rule>(rule: R, tile: &Tile, left: &Tile, right: &Tile, from: usize) -> EightRows
+    requires { from + 8 < 32 }
+    ensures { (window : ℕ → ℕ → Bool) → ShowsInnerRows window tile.now left.now right.now →
+        (k : ℕ) → k < 8 → IsMadeOdd (R.cell rule) window (2 * (from + k) + 2) (eight_row result k) }
+{
+    let mut rows = EightRows {
+        upper_left: [0; 8],
+        upper_right: [0; 8],
+        lower_left: [0; 8],
+        lower_right: [0; 8],
+    };
+    for k in 0..8usize {
+        let made = made_inner(rule, tile, left, right, from + k);
+        rows.upper_left[k] = made.upper_left;
+        rows.upper_right[k] = made.upper_right;
+        rows.lower_left[k] = made.lower_left;
+        rows.lower_right[k] = made.lower_right;
+    }
+    rows
+}
+
+// Writes them: all are made before the first is written, so that they are made as vectors wherever `out` lies.
+#[inline]
+fn make_eight_odd<R: Rule>(
     rule: R,
     tile: &Tile,
     left: &Tile,
     right: &Tile,
     from: usize,
-    to: usize,
     out: &mut Tile,
 )
-    requires order { from ≤ to }
-    requires within { to < 32 }
+    requires { from + 8 < 32 }
     ensures rows { (window : ℕ → ℕ → Bool) →
-        ShowsInnerRows window tile.now left.now right.now → (j : ℕ) → from ≤ j → j < to →
+        ShowsInnerRows window tile.now left.now right.now → (j : ℕ) → from ≤ j → j < from + 8 →
         IsMadeOdd (R.cell rule) window (2 * j + 2) (odd_row out.new j) }
-    ensures upper_rest { (j : ℕ) → (j < from) ⊎ (to ≤ j) →
+    ensures upper_rest { (j : ℕ) → (j < from) ⊎ (from + 8 ≤ j) →
         (slice_index out.new.odd_odd j ≡ slice_index out.old.odd_odd j) ×
         (slice_index out.new.even_odd j ≡ slice_index out.old.even_odd j) }
-    ensures lower_rest { (j : ℕ) → (j ≤ from) ⊎ (to < j) →
+    ensures lower_rest { (j : ℕ) → (j ≤ from) ⊎ (from + 8 < j) →
         (slice_index out.new.odd_even j ≡ slice_index out.old.odd_even j) ×
         (slice_index out.new.even_even j ≡ slice_index out.old.even_even j) }
 {
-    for j in from..to {
-        let new = made_inner(rule, tile, left, right, j);
-        out.odd_odd[j] = new.upper_left;
-        out.even_odd[j] = new.upper_right;
-        out.odd_even[j + 1] = new.lower_left;
-        out.even_even[j + 1] = new.lower_right;
+    let rows = made_eight(rule, tile, left, right, from);
+    for k in 0..8usize {
+        let j = from + k;
+        out.odd_odd[j] = rows.upper_left[k];
+        out.even_odd[j] = rows.upper_right[k];
+        out.odd_even[j + 1] = rows.lower_left[k];
+        out.even_even[j + 1] = rows.lower_right[k];
     }
 }
 
@@ -159,7 +181,7 @@ pub fn made_bottom<R: Rule>(rule: R, tile: &Tile, near: &Round) -> Blocks
 }
 
 /// Where blocks begin at odd columns and rows: those at the tile's edges reach into the tiles round it.
-#[inline]
+#[inline(always)]
 pub fn make_odd<R: Rule>(rule: R, tile: &Tile, round: &Round, out: &mut Tile)
     ensures { (window : ℕ → ℕ → Bool) → ShowsTile window tile.now → ShowsAllRound window round.now →
         HasCells out.new (made (R.cell rule) 1 window) }
@@ -169,9 +191,11 @@ pub fn make_odd<R: Rule>(rule: R, tile: &Tile, round: &Round, out: &mut Tile)
     let top = made_top(rule, tile, &near);
     out.odd_even[0] = top.lower_left;
     out.even_even[0] = top.lower_right;
-    // 28 rows and the last four: row 27 comes twice, so that both are whole vectors
-    make_rows_odd(rule, tile, near.left, near.right, 0, 28, out);
-    make_rows_odd(rule, tile, near.left, near.right, 27, 31, out);
+    // four times eight rows: row 23 comes twice
+    make_eight_odd(rule, tile, near.left, near.right, 0, out);
+    make_eight_odd(rule, tile, near.left, near.right, 8, out);
+    make_eight_odd(rule, tile, near.left, near.right, 16, out);
+    make_eight_odd(rule, tile, near.left, near.right, 23, out);
     let bottom = made_bottom(rule, tile, &near);
     out.odd_odd[31] = bottom.upper_left;
     out.even_odd[31] = bottom.upper_right;

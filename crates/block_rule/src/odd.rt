@@ -61,8 +61,8 @@ fn walled_rows(set: &Window) -> OddRows
     rows.begin[32] = bottom.upper_left;
     rows.end[32] = bottom.upper_right;
     // whole vectors, as in `make_odd`
-    look_between(set.tile, near.left, near.right, 0, 28, &mut rows);
-    look_between(set.tile, near.left, near.right, 27, 31, &mut rows);
+    look_between(set.tile, near.left, near.right, 0, 16, &mut rows);
+    look_between(set.tile, near.left, near.right, 15, 31, &mut rows);
     rows
 }
 

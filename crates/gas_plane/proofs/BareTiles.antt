@@ -13,16 +13,16 @@ use Rattle.gas_plane.proofs.Places.{IsWholeTiles, wide, high, ring_before, ring_
 use Rattle.gas_plane.proofs.Tilings.{tiled, tile_is, tile_there, set_covers, nothing_there}
 
 -- whatever is written to the tile that is lent, which has no mark
-pub marked_lent : (tiles : List Tile) (bare now : List Bool) (i : ℕ) (t : Tile) (size : Extent) → Cover tiles size → length bare ≡ length tiles → i < length tiles
-    → now ≡ set bare i false → AreMarked tiles bare i → IsMarked (set tiles i t) now i false size
-marked_lent tiles bare now i t size cover each low e was =
+pub marked_lent : (tiles : List Tile) (bare now : List Bool) (i : ℕ) (t : Tile) (swept : Bool) (size : Extent) → Cover tiles size → length bare ≡ length tiles → i < length tiles
+    → now ≡ set bare i false → AreMarked tiles bare i → IsMarked (set tiles i t) now i false swept size
+marked_lent tiles bare now i t swept size cover each low e was =
     let same : length now ≡ length bare = ap length e ∙ length-set bare i false in
     let own : is_set now i ≡ false = ap (λ (flags : List Bool). is_set flags i) e ∙ get_or-set_same bare i false false (omega (arith, low, each)) in
     let others = λ (k : ℕ) (other : k ≢ i). ap (λ (flags : List Bool). is_set flags k) e ∙ get_or-set_other bare i k false false other in
     record {
       cover = set_covers tiles size i t cover;
       each = same ∙ (each ∙ sym (length-set tiles i t));
-      marks = record {
+      marks = λ _. record {
         bare = λ k marked.
             elim (cases_eq k i) [
               | inl is_i ↦ let wrong : true ≡ false = sym marked ∙ (ap (is_set now) is_i ∙ own) in absurd (cc)
@@ -33,9 +33,20 @@ marked_lent tiles bare now i t size cover each low e was =
       none = λ e _ _. absurd (cc);
     }
 
+-- the same where all tiles are lent
+pub swept_lent : (tiles : List Tile) (bare : List Bool) (i lent : ℕ) (t : Tile) (swept : Bool) (size : Extent) → Cover tiles size → length bare ≡ length tiles → swept ≡ true
+    → IsMarked (set tiles i t) bare lent false swept size
+swept_lent tiles bare i lent t swept size cover each all =
+    record {
+      cover = set_covers tiles size i t cover;
+      each = each ∙ sym (length-set tiles i t);
+      marks = λ e. let wrong : true ≡ false = sym all ∙ e in absurd (cc);
+      none = λ e _ _. absurd (cc);
+    }
+
 -- all tiles of an empty set
 pub marked_empty : (tiles : List Tile) (bare : List Bool) (size : Extent) (t : Tile) (n m lent : ℕ) → tiles ≡ replicate n t → bare ≡ replicate m true
-    → n ≡ size.width / 64 * (size.height / 64) → m ≡ size.width / 64 * (size.height / 64) → is_size size ≡ true → HasCells t (λ _ _. false) → IsMarked tiles bare lent true size
+    → n ≡ size.width / 64 * (size.height / 64) → m ≡ size.width / 64 * (size.height / 64) → is_size size ≡ true → HasCells t (λ _ _. false) → IsMarked tiles bare lent true false size
 marked_empty tiles bare size t n m lent all flags en em sized none =
     let long : length tiles ≡ n = ap length all ∙ length-replicate n t in
     let long_bare : length bare ≡ m = ap length flags ∙ length-replicate m true in
@@ -44,7 +55,7 @@ marked_empty tiles bare size t n m lent all flags en em sized none =
     record {
       cover = record { sized = sized; enough = long ∙ en };
       each = omega arith;
-      marks = record {
+      marks = λ _. record {
         bare = λ i e.
             elim (cases_lt i m) [
               | inl less ↦ empty i (omega arith)

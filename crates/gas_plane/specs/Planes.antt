@@ -31,6 +31,10 @@ pub record ArePlacesRound (cells : Cells) (i : ℕ) (p : TilePlaces) : Type 0 wh
   pub columns : (p.column < cells.width / 64) × (p.left < cells.width / 64) × (p.right < cells.width / 64)
   pub rows : (p.row < cells.height / 64) × (p.above < cells.height / 64) × (p.below < cells.height / 64)
 
+-- no cell is in the set
+pub record HasNone (cells : Cells) : Type 0 where
+  pub cell : (x y : ℕ) → x < cells.width → y < cells.height → has cells x y ≡ false
+
 -- none of the 64 by 64 cells from the place (x0, y0) on is in the set
 pub record IsBare (cells : Cells) (x0 y0 : ℕ) : Type 0 where
   pub cell : (x y : ℕ) → x < 64 → y < 64 → has cells (x0 + x) (y0 + y) ≡ false

@@ -26,9 +26,9 @@ pub record AreMarked (tiles : List Tile) (flags : List Bool) (lent : ℕ) : Type
   pub bare : (i : ℕ) → is_set flags i ≡ true → HasCells (tile_at tiles i) (λ _ _. false)
   pub known : (i : ℕ) → i ≢ lent → i < length tiles → HasCells (tile_at tiles i) (λ _ _. false) → is_set flags i ≡ true
 
--- the tiles cover the lattice, and each has its mark; and as long as none was lent there is no cell
-pub record IsMarked (tiles : List Tile) (bare : List Bool) (lent : ℕ) (fresh : Bool) (size : Extent) : Type 0 where
+-- the tiles cover the lattice, and each has its mark unless all are lent; and as long as none was lent there is no cell
+pub record IsMarked (tiles : List Tile) (bare : List Bool) (lent : ℕ) (fresh swept : Bool) (size : Extent) : Type 0 where
   pub cover : Cover tiles size
   pub each : length bare ≡ length tiles
-  pub marks : AreMarked tiles bare lent
+  pub marks : swept ≡ false → AreMarked tiles bare lent
   pub none : fresh ≡ true → (i : ℕ) → i < length tiles → HasCells (tile_at tiles i) (λ _ _. false)

@@ -1,6 +1,6 @@
 //! What stands round a tile.
 
-ghost use Rattle.std.specs.Prelude.{◌*◌, ◌/◌, ◌<◌};
+ghost use Rattle.std.specs.Prelude.{◌≡◌, ◌*◌, ◌/◌, ◌%◌, ◌<◌};
 ghost use Rattle.gas_terms.specs.Cells.{tile_count, tile_rectangle};
 ghost use Rattle.gas_plane.specs.Planes.{IsLattice, IsTileFrom, IsRingRound, ArePlacesRound};
 ghost use Rattle.tile_border.specs.Ring.{IsBorderOfRound};
@@ -19,7 +19,20 @@ impl Plane {
         ensures { let r = tile_rectangle self.now i in (b : RingCells) → IsBorderOfRound b result →
             IsRingRound b self.now r.x r.y }
     {
-        let p = self.places(i);
+        let across = self.across();
+        self.round_at(i, i % across, i / across)
+    }
+
+    /// The same where it is known that tile i stands in this column and row of tiles.
+    #[inline]
+    pub fn round_at(&self, i: u32, column: u32, row: u32) -> Round<'_>
+        requires tile { i < tile_count self.now }
+        requires column { column ≡ i % (self.now.width / 64) }
+        requires row { row ≡ i / (self.now.width / 64) }
+        ensures { let r = tile_rectangle self.now i in (b : RingCells) → IsBorderOfRound b result →
+            IsRingRound b self.now r.x r.y }
+    {
+        let p = self.places_at(i, column, row);
         Round {
             above: self.tile_in(p.column, p.above),
             below: self.tile_in(p.column, p.below),
@@ -70,9 +83,20 @@ impl Plane {
         ensures lattice { IsLattice self.now }
     {
         let across = self.across();
+        self.places_at(i, i % across, i / across)
+    }
+
+    // the same, from its column and row
+    #[inline]
+    fn places_at(&self, i: u32, column: u32, row: u32) -> TilePlaces
+        requires tile { i < tile_count self.now }
+        requires column { column ≡ i % (self.now.width / 64) }
+        requires row { row ≡ i / (self.now.width / 64) }
+        ensures places { ArePlacesRound self.now i result }
+        ensures lattice { IsLattice self.now }
+    {
+        let across = self.across();
         let down = self.down();
-        let column = i % across;
-        let row = i / across;
         TilePlaces {
             left: before(column, across),
             column,

@@ -4,7 +4,7 @@
 ghost use Rattle.std.specs.Borrow.{sem};
 ghost use Rattle.std.specs.Prelude.{◌≡◌, IsTrue, ◌*◌, ◌/◌, ◌<◌, false, IfOk};
 ghost use Rattle.gas_terms.specs.Cells.{has, cells_where, extent, tile_count, tile_rectangle};
-ghost use Rattle.gas_plane.specs.Planes.{IsLattice, IsTileFrom, IsBare, IsBareRound, IsBareFarRound, AreThreeBare, with_tile};
+ghost use Rattle.gas_plane.specs.Planes.{IsLattice, IsTileFrom, IsBare, IsBareRound, IsBareFarRound, AreThreeBare, HasNone, with_tile};
 ghost use Rattle.gas_plane.specs.Lending.{LendsTile};
 
 mod around;
@@ -36,6 +36,8 @@ pub struct Plane {
     lent: u32,
     // whether no tile was ever lent: then no mark has to be read
     fresh: bool,
+    // whether all tiles are lent: then no mark is kept or read
+    swept: bool,
 }
 
 impl Model for Plane {
@@ -49,7 +51,7 @@ impl Model for Plane {
         cells_where p.size.width p.size.height
         (tiles_have p.tiles.items (p.size.width / 64)) };
 
-    ghost invariant = { λ p. IsMarked p.tiles.items p.bare.items p.lent p.fresh p.size };
+    ghost invariant = { λ p. IsMarked p.tiles.items p.bare.items p.lent p.fresh p.swept p.size };
 }
 
 impl Plane {
@@ -65,6 +67,7 @@ impl Plane {
             bare,
             lent: size.tiles(),
             fresh: true,
+            swept: false,
         })
     }
 
@@ -80,6 +83,7 @@ impl Plane {
             bare,
             lent: self.lent,
             fresh: self.fresh,
+            swept: self.swept,
         })
     }
 
@@ -140,11 +144,22 @@ impl Plane {
         ensures* writes_back { sem 𝓛 (LendsTile self.entry i result) }
         ensures tile { let r = tile_rectangle self.old i in IsTileFrom result.now self.old r.x r.y }
     {
+        self.fresh = false;
+        if self.swept {
+            return &mut self.tiles[i as usize];
+        }
         settle(self.bare.as_mut_slice(), self.tiles.as_slice(), self.lent);
         self.bare[i as usize] = false;
         self.lent = i;
-        self.fresh = false;
         &mut self.tiles[i as usize]
+    }
+
+    /// All tiles are to be written, again and again: from then on it is not kept which have no cell, and `is_bare` looks.
+    #[inline]
+    pub fn begin_sweep(&mut self)
+        ensures { self.new ≡ self.old }
+    {
+        self.swept = true;
     }
 
     /// Whether tile i has no cell. The plane keeps that for each tile, whatever was written.
@@ -156,10 +171,21 @@ impl Plane {
         ensures known { let r = tile_rectangle self.now i in
             IsBare self.now r.x r.y → IsTrue result }
     {
+        if self.swept {
+            return self.tile(i).is_empty();
+        }
         if self.bare[i as usize] {
             return true;
         }
         i == self.lent && self.tile(i).is_empty()
+    }
+
+    /// Whether no tile was ever lent to be written: then there is no cell.
+    #[inline]
+    pub fn is_fresh(&self) -> bool
+        ensures { IsTrue result → HasNone self.now }
+    {
+        self.fresh
     }
 
     /// Whether neither tile i nor any of the eight tiles round it has a cell.
@@ -203,8 +229,9 @@ impl Plane {
         left & here & right
     }
 
-    // how many tiles stand in a row
-    fn across(&self) -> u32
+    /// How many tiles stand in a row.
+    #[inline]
+    pub fn across(&self) -> u32
         ensures across { result ≡ self.now.width / 64 }
         ensures lattice { IsLattice self.now }
         ensures positive { 0 < self.now.width / 64 }

@@ -2,11 +2,12 @@
 use Rattle.std.specs.Borrow.{Bor}
 use Rattle.std.proofs.Common.{◌≡◌, Bool, Option, None, Some, [], refl, ℕ, ◌+◌, ◌*◌, ◌/◌, ◌%◌, ◌<◌, ◌≤◌, ◌-◌, ◌∙◌, ap, ap₂, subst, sym, arith}
 use Rattle.std.proofs.lemmas.Nat.{mod-mul-add}
+use Rattle.std.proofs.Math.Nat.{mod-lt}
 use Rattle.bit_tile.specs.Tile.{HasCells}
 use Rattle.bit_tile.specs.declared.Tile.{Tile}
 use Rattle.tile_border.specs.declared.Border.{Border}
 use Rattle.gas_terms.specs.Cells.{Cells, HasSidesOf, has, tile_rectangle}
-use Rattle.gas_plane.specs.Planes.{IsTileFrom, IsRingRound, IsBare, IsBareRound}
+use Rattle.gas_plane.specs.Planes.{IsTileFrom, IsRingRound, IsBare, IsBareRound, HasNone}
 use Rattle.block_rule.specs.Around.{around, none}
 use Rattle.tile_border.specs.Ring.{IsBorderOfRound}
 use Rattle.block_rule.specs.Windows.{IsView, IsWindow}
@@ -107,3 +108,18 @@ seen_of i cells others None of right bottom bare =
     record { window = none; seen = λ _ _. refl; view = bare_view 1 i cells others (omega arith) of.wide bare }
 seen_of i cells others (Some w) of right bottom from =
     record { window = around w.tile.now (border_near w.round).0; seen = window_seen w; view = window_view i cells others w of.wide of.high right bottom from }
+
+-- where a set has no cell, nothing need be lent of it
+pub bare_tile : (i : ℕ) (cells others : Cells) → HasSidesOf cells others → (tile_rectangle others i).x + 64 ≤ others.width → (tile_rectangle others i).y + 64 ≤ others.height
+    → HasNone cells → IsBare cells (tile_rectangle cells i).x (tile_rectangle cells i).y
+bare_tile i cells others of right bottom none =
+    let r : i % (cells.width / 64) * 64 + 64 ≤ cells.width = subst (λ w. i % (w / 64) * 64 + 64 ≤ w) (sym of.wide) right in
+    let b : i / (cells.width / 64) * 64 + 64 ≤ cells.height = subst (λ h. i / (cells.width / 64) * 64 + 64 ≤ h) (sym of.high) (subst (λ w. i / (w / 64) * 64 + 64 ≤ others.height) (sym of.wide) bottom) in
+    record { cell = λ x y p q. none.cell _ _ (omega (arith, r)) (omega (arith, b)) }
+
+pub bare_window : (i : ℕ) (cells others : Cells) → HasSidesOf cells others → (tile_rectangle others i).x + 64 ≤ others.width → (tile_rectangle others i).y + 64 ≤ others.height
+    → HasNone cells → IsBareRound cells (tile_rectangle cells i).x (tile_rectangle cells i).y
+bare_window i cells others of right bottom none =
+    let w : 0 < cells.width = subst (λ w. 0 < w) (sym of.wide) (omega (arith, right)) in
+    let h : 0 < cells.height = subst (λ h. 0 < h) (sym of.high) (omega (arith, bottom)) in
+    record { cell = λ i j _ _. none.cell _ _ (mod-lt _ w) (mod-lt _ h) }

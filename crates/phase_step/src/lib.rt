@@ -17,6 +17,7 @@ pub mod laws;
 mod listed;
 mod moved;
 mod still;
+mod sweep;
 mod tiles;
 
 pub use action::{Action, act_on, change_of};
@@ -30,7 +31,7 @@ pub use listed::Listed;
 pub use moved::{Flow, Moved, NO_FLOW, UNMOVED};
 use std::mem;
 pub use still::Still;
-use tiles::NOTHING;
+use sweep::{turn_each, turn_free};
 pub use tiles::turn_tile_at;
 
 /// A run of n phases in which particles meet these walls and obstacles, from the given parity on, with an action after each.
@@ -148,13 +149,12 @@ impl Stepper for Serial {
         parity: u8,
         out: &mut Plane,
     ) -> Took {
-        // its sides are whole tiles
-        let _ = old.size();
-        let mut took = NOTHING;
-        for i in 0..out.size().tiles() {
-            let here = turn_tile_at(old, walls, obstacles, parity, i, out.tile_mut(i));
-            took = took.plus(here);
+        out.begin_sweep();
+        if walls.is_fresh() {
+            if obstacles.is_fresh() {
+                return turn_free(old, walls, obstacles, parity, out);
+            }
         }
-        took
+        turn_each(old, walls, obstacles, parity, out)
     }
 }

@@ -1,8 +1,8 @@
 //! The step of one tile of a plane.
 
-ghost use Rattle.std.specs.Prelude.{◌≡◌, ◌<◌, pos};
+ghost use Rattle.std.specs.Prelude.{◌≡◌, ◌/◌, ◌%◌, ◌<◌, pos};
 ghost use Rattle.gas_terms.specs.Cells.{tile_count, tile_rectangle, HasSidesOf};
-ghost use Rattle.gas_plane.specs.Planes.{IsLattice};
+ghost use Rattle.gas_plane.specs.Planes.{IsLattice, HasNone};
 ghost use Rattle.block_rule.specs.Windows.{taken_in};
 ghost use Rattle.phase_step.specs.Turns.{IsTileAfter, IsPlaceOf, IsLentTile, IsLentWindow};
 
@@ -17,6 +17,7 @@ pub const NOTHING: Took = Took {
 
 /// Puts tile i into `out` as it is after the phase, and answers what walls and obstacles take of its particles: what a phase
 /// does, tile by tile. Each plane is a lattice, as its size tells.
+#[inline(always)]
 pub fn turn_tile_at(
     old: &Plane,
     walls: &Plane,
@@ -39,6 +40,84 @@ pub fn turn_tile_at(
     } else {
         turn_odd(old, walls, obstacles, i, out)
     }
+}
+
+/// The same where neither walls nor obstacles have a cell.
+#[inline(always)]
+pub fn turn_free_tile_at(
+    old: &Plane,
+    walls: &Plane,
+    obstacles: &Plane,
+    parity: u8,
+    i: u32,
+    column: u32,
+    row: u32,
+    out: &mut Tile,
+) -> Took
+    requires parity { parity < 2 }
+    requires lattice { IsLattice old.now }
+    requires tile { i < tile_count old.now }
+    requires walls { HasSidesOf walls.now old.now }
+    requires obstacles { HasSidesOf obstacles.now old.now }
+    requires column { column ≡ i % (old.now.width / 64) }
+    requires row { row ≡ i / (old.now.width / 64) }
+    requires no_walls { HasNone walls.now }
+    requires no_obstacles { HasNone obstacles.now }
+    ensures cells { IsTileAfter parity old.now walls.now obstacles.now i out.new }
+    ensures took { result ≡
+        taken_in (pos parity) old.now walls.now obstacles.now (tile_rectangle old.now i) }
+{
+    if parity == 0 {
+        turn_even_free(old, walls, obstacles, i, out)
+    } else {
+        turn_odd_free(old, walls, obstacles, i, column, row, out)
+    }
+}
+
+#[inline(always)]
+fn turn_even_free(
+    old: &Plane,
+    free_walls: &Plane,
+    free_obstacles: &Plane,
+    i: u32,
+    out: &mut Tile,
+) -> Took
+    requires tile { i < tile_count old.now }
+    requires place { IsPlaceOf old.now free_walls.now free_obstacles.now i }
+    requires no_walls { HasNone free_walls.now }
+    requires no_obstacles { HasNone free_obstacles.now }
+    ensures cells { IsTileAfter 0 old.now free_walls.now free_obstacles.now i out.new }
+    ensures took { result ≡
+        taken_in (pos 0) old.now free_walls.now free_obstacles.now (tile_rectangle old.now i) }
+{
+    turn_tile_even(old.tile(i), None, None, out)
+}
+
+#[inline(always)]
+fn turn_odd_free(
+    old: &Plane,
+    free_walls: &Plane,
+    free_obstacles: &Plane,
+    i: u32,
+    column: u32,
+    row: u32,
+    out: &mut Tile,
+) -> Took
+    requires tile { i < tile_count old.now }
+    requires place { IsPlaceOf old.now free_walls.now free_obstacles.now i }
+    requires column { column ≡ i % (old.now.width / 64) }
+    requires row { row ≡ i / (old.now.width / 64) }
+    requires no_walls { HasNone free_walls.now }
+    requires no_obstacles { HasNone free_obstacles.now }
+    ensures cells { IsTileAfter 1 old.now free_walls.now free_obstacles.now i out.new }
+    ensures took { result ≡
+        taken_in (pos 1) old.now free_walls.now free_obstacles.now (tile_rectangle old.now i) }
+{
+    let particles = Window {
+        tile: old.tile(i),
+        round: old.round_at(i, column, row),
+    };
+    turn_tile_odd(&particles, None, None, out)
 }
 
 // Blocks begin at even columns and rows, so each lies in one tile.

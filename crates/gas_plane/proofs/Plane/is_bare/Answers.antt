@@ -12,7 +12,7 @@ pub returns-then-index-clause-bare : goal.returns-then-index-clause-bare
 returns-then-index-clause-bare c = λ _.
     let own : c.args.i < length c.self.inside.tiles.items = tile_there c.self.inside.tiles.items c.self.inside.size c.args.self.now c.args.i c.self.invariant.cover c.self.view_is c.requires in
     let flag : c.index.result.now ≡ is_set c.self.inside.bare.items c.args.i = get_or_read c.self.inside.bare.items c.args.i c.index.result.now (omega (arith, own, c.self.invariant.each)) c.index.ensures false in
-    let none = c.self.invariant.marks.bare c.args.i (sym flag ∙ true_is c.index.result.now c.if-index.true) in
+    let none = (c.self.invariant.marks c.if-self.false).bare c.args.i (sym flag ∙ true_is c.index.result.now c.if-index.true) in
     let from = tile_here c.self.inside.tiles.items c.self.inside.size c.args.self.now c.args.i c.self.invariant.cover c.self.view_is c.requires in
     record { cell = λ x y p q. sym (from.cell x y p q) ∙ none x y p q }
 
@@ -21,6 +21,6 @@ returns-else-i-self-clause-known c = λ bare.
     let own : c.args.i < length c.self.inside.tiles.items = tile_there c.self.inside.tiles.items c.self.inside.size c.args.self.now c.args.i c.self.invariant.cover c.self.view_is c.requires in
     let flag : c.index.result.now ≡ is_set c.self.inside.bare.items c.args.i = get_or_read c.self.inside.bare.items c.args.i c.index.result.now (omega (arith, own, c.self.invariant.each)) c.index.ensures false in
     let from = tile_here c.self.inside.tiles.items c.self.inside.size c.args.self.now c.args.i c.self.invariant.cover c.self.view_is c.requires in
-    let marked = flag ∙ c.self.invariant.marks.known c.args.i c.if-i-self.false own (λ x y p q. from.cell x y p q ∙ bare.cell x y p q) in
+    let marked = flag ∙ (c.self.invariant.marks c.if-self.false).known c.args.i c.if-i-self.false own (λ x y p q. from.cell x y p q ∙ bare.cell x y p q) in
     let wrong : true ≡ false = sym marked ∙ c.if-index.false in
     absurd (cc)

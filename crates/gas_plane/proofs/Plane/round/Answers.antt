@@ -1,8 +1,5 @@
-use Rattle.gas_plane.proofs.Rings.{ring_of}
+use Rattle.std.proofs.Common.{ap, ◌/◌, ◌%◌}
 use Rattle.gas_plane.proofs.Plane.round.Goals as goal
 
-pub returns : goal.returns
-returns c = λ b.
-    ring_of b c.args.self.now c.args.i c.places-p.result c.places-p.ensures.lattice c.places-p.ensures.places
-    c.tile_in.result.now c.tile_in-2.result.now c.tile_in-3.result.now c.tile_in-4.result.now c.tile_in-5.result.now c.tile_in-6.result.now c.tile_in-7.result.now c.tile_in-8.result.now
-    c.tile_in.ensures c.tile_in-2.ensures c.tile_in-3.ensures c.tile_in-4.ensures c.tile_in-5.ensures c.tile_in-6.ensures c.tile_in-7.ensures c.tile_in-8.ensures
+pub round_at-requires : goal.round_at-requires
+round_at-requires c = record { tile = c.requires; column = ap (λ n. c.args.i % n) c.across-across.ensures.across; row = ap (λ n. c.args.i / n) c.across-across.ensures.across }

@@ -1,0 +1,27 @@
+use Rattle.std.proofs.Common.{None, ◌∙◌, refl, pos, arith}
+use Rattle.gas_terms.specs.Cells.{tile_rectangle}
+use Rattle.block_rule.specs.Around.{around}
+use Rattle.block_rule.proofs.Borders.{shows_tile}
+use Rattle.block_rule.proofs.Torus.{inside_is_view, tiles_turned}
+use Rattle.block_rule.proofs.TorusTook.{tiles_took}
+use Rattle.phase_step.proofs.TurnedTiles.{any_border, tile_cells, seen_inside, bare_tile}
+use Rattle.phase_step.proofs.tiles.turn_even_free.Goals as goal
+
+pub returns : goal.returns
+returns c =
+    let old = c.args.old.now in
+    let r = tile_rectangle c.args.old.now c.args.i in
+    let t = c.tile.result.now in
+    let place = c.requires.place in
+    let cells = tile_cells c.args.i old old t refl c.tile.ensures in
+    let walls = seen_inside c.args.i c.args.free_walls.now old None place.of_walls place.right place.bottom (bare_tile c.args.i c.args.free_walls.now old place.of_walls place.right place.bottom c.requires.no_walls) in
+    let obstacles = seen_inside c.args.i c.args.free_obstacles.now old None place.of_obstacles place.right place.bottom (bare_tile c.args.i c.args.free_obstacles.now old place.of_obstacles place.right place.bottom c.requires.no_obstacles) in
+    record {
+      cells = λ x y h k.
+          c.turn_tile_even.ensures.cells (around t any_border) walls.window obstacles.window (shows_tile t any_border) walls.seen obstacles.seen x y h k
+          ∙ tiles_turned 0 old c.args.free_walls.now c.args.free_obstacles.now r.x r.y (around t any_border) walls.window obstacles.window (omega arith) place
+          (inside_is_view t any_border old r.x r.y place.right place.bottom cells) walls.view obstacles.view x y h k;
+      took =
+          c.turn_tile_even.ensures.took walls.window obstacles.window walls.seen obstacles.seen
+          ∙ tiles_took (pos 0) t old c.args.free_walls.now c.args.free_obstacles.now r.x r.y walls.window obstacles.window place cells walls.view obstacles.view;
+    }
