@@ -1,73 +1,92 @@
 -- Marks of tiles that have no cell.
-use Rattle.std.proofs.Common.{◌≡◌, ℕ, ◌+◌, ◌-◌, ◌*◌, ◌/◌, ◌%◌, ◌<◌, ◌≤◌, ◌≢◌, ◌&&◌, Bool, true, false, IsTrue, List, length, set, replicate, sym, ◌∙◌, ap, ap₂, subst, arith, inl, inr, get_or-set_other, get_or-set_same, length-set, mul_assoc}
+use Rattle.std.proofs.Common.{◌≡◌, ℕ, ◌+◌, ◌-◌, ◌*◌, ◌/◌, ◌%◌, ◌<◌, ◌≤◌, ◌&&◌, Bool, true, false, IsTrue, List, length, set, replicate, sym, ◌∙◌, ap, ap₂, subst, arith, inl, inr, get_or-set_other, get_or-set_same, length-set, mul_assoc}
 use Rattle.std.proofs.lemmas.List.{get_or-replicate, get_or_past, get_or_default, length-replicate}
-use Rattle.std.proofs.lemmas.Nat.{mod-mul-add, div-mul-add, div-add-mod'}
+use Rattle.std.proofs.lemmas.Nat.{mod-mul-add, div-mul-add, div-add-mod', row-Below}
 use Rattle.std.proofs.Math.Nat.{mod-lt}
 use Rattle.std.proofs.lemmas.Bool.{cases_eq, cases_lt}
 use Rattle.bit_tile.specs.Tile.{HasCells}
 use Rattle.bit_tile.specs.declared.Tile.{Tile}
-use Rattle.gas_terms.specs.Cells.{Cells, Extent, has, tile_count, is_size}
-use Rattle.gas_plane.specs.Tiles.{no_cells, tile_at, is_set, AreMarked, IsMarked, Cover}
-use Rattle.gas_plane.specs.Planes.{IsTileFrom, IsBare, IsBareRound, IsBareFarRound, AreThreeBare, place_by}
+use Rattle.gas_terms.specs.Cells.{Cells, Extent, extent, has, tile_count, is_size}
+use Rattle.gas_plane.specs.Tiles.{no_cells, tile_at, is_set, IsMarked, Cover}
+use Rattle.gas_plane.specs.Planes.{IsTileFrom, IsBare, IsBareRound, IsBareFarRound, AreThreeBare, HasNone, place_by}
 use Rattle.gas_plane.proofs.Places.{IsWholeTiles, wide, high, ring_before, ring_after, ring_in, ring_cases, cell_below}
 use Rattle.gas_plane.proofs.Tilings.{tiled, tile_is, tile_there, set_covers, nothing_there}
 
--- whatever is written to the tile that is lent, which has no mark
-pub marked_lent : (tiles : List Tile) (bare now : List Bool) (i : ℕ) (t : Tile) (swept : Bool) (size : Extent) → Cover tiles size → length bare ≡ length tiles → i < length tiles
-    → now ≡ set bare i false → AreMarked tiles bare i → IsMarked (set tiles i t) now i false swept size
-marked_lent tiles bare now i t swept size cover each low e was =
-    let same : length now ≡ length bare = ap length e ∙ length-set bare i false in
-    let own : is_set now i ≡ false = ap (λ (flags : List Bool). is_set flags i) e ∙ get_or-set_same bare i false false (omega (arith, low, each)) in
-    let others = λ (k : ℕ) (other : k ≢ i). ap (λ (flags : List Bool). is_set flags k) e ∙ get_or-set_other bare i k false false other in
+-- what is put in the place of tile i, with a mark only where it has no cell
+pub marked_set : (tiles : List Tile) (bare : List Bool) (i : ℕ) (t : Tile) (mark : Bool) (size : Extent) → IsMarked tiles bare size → i < length tiles → (mark ≡ true → HasCells t (λ _ _. false)) → IsMarked (set tiles i t) (set bare i mark) size
+marked_set tiles bare i t mark size was low none =
     record {
-      cover = set_covers tiles size i t cover;
-      each = same ∙ (each ∙ sym (length-set tiles i t));
-      marks = λ _. record {
-        bare = λ k marked.
-            elim (cases_eq k i) [
-              | inl is_i ↦ let wrong : true ≡ false = sym marked ∙ (ap (is_set now) is_i ∙ own) in absurd (cc)
-              | inr other ↦ subst (λ (t : Tile). HasCells t (λ _ _. false)) (sym (get_or-set_other tiles i k t no_cells other)) (was.bare k (sym (others k other) ∙ marked))
-            ];
-        known = λ k other low none. others k other ∙ was.known k other (omega (arith, low, length-set tiles i t)) (subst (λ (t : Tile). HasCells t (λ _ _. false)) (get_or-set_other tiles i k t no_cells other) none);
-      };
-      none = λ e _ _. absurd (cc);
-    }
-
--- the same where all tiles are lent
-pub swept_lent : (tiles : List Tile) (bare : List Bool) (i lent : ℕ) (t : Tile) (swept : Bool) (size : Extent) → Cover tiles size → length bare ≡ length tiles → swept ≡ true
-    → IsMarked (set tiles i t) bare lent false swept size
-swept_lent tiles bare i lent t swept size cover each all =
-    record {
-      cover = set_covers tiles size i t cover;
-      each = each ∙ sym (length-set tiles i t);
-      marks = λ e. let wrong : true ≡ false = sym all ∙ e in absurd (cc);
-      none = λ e _ _. absurd (cc);
+      cover = set_covers tiles size i t was.cover;
+      each = length-set bare i mark ∙ (was.each ∙ sym (length-set tiles i t));
+      marks = λ k marked.
+          elim (cases_eq k i) [
+            | inl is_i ↦
+                let own : is_set (set bare i mark) k ≡ mark = ap (is_set (set bare i mark)) is_i ∙ get_or-set_same bare i mark false (omega (arith, low, was.each)) in
+                let here : tile_at (set tiles i t) k ≡ t = ap (tile_at (set tiles i t)) is_i ∙ get_or-set_same tiles i t no_cells low in
+                subst (λ (t : Tile). HasCells t (λ _ _. false)) (sym here) (none (sym own ∙ marked))
+            | inr other ↦
+                subst (λ (t : Tile). HasCells t (λ _ _. false)) (sym (get_or-set_other tiles i k t no_cells other)) (was.marks k (sym (get_or-set_other bare i k mark false other) ∙ marked))
+          ];
     }
 
 -- all tiles of an empty set
-pub marked_empty : (tiles : List Tile) (bare : List Bool) (size : Extent) (t : Tile) (n m lent : ℕ) → tiles ≡ replicate n t → bare ≡ replicate m true
-    → n ≡ size.width / 64 * (size.height / 64) → m ≡ size.width / 64 * (size.height / 64) → is_size size ≡ true → HasCells t (λ _ _. false) → IsMarked tiles bare lent true false size
-marked_empty tiles bare size t n m lent all flags en em sized none =
+pub marked_empty : (tiles : List Tile) (bare : List Bool) (size : Extent) (t : Tile) (n m : ℕ) → tiles ≡ replicate n t → bare ≡ replicate m true
+    → n ≡ size.width / 64 * (size.height / 64) → m ≡ size.width / 64 * (size.height / 64) → is_size size ≡ true → HasCells t (λ _ _. false) → IsMarked tiles bare size
+marked_empty tiles bare size t n m all flags en em sized none =
     let long : length tiles ≡ n = ap length all ∙ length-replicate n t in
     let long_bare : length bare ≡ m = ap length flags ∙ length-replicate m true in
     let empty = λ (i : ℕ) (low : i < n). subst (λ (t : Tile). HasCells t (λ _ _. false)) (sym (ap (λ (tiles : List Tile). tile_at tiles i) all ∙ get_or-replicate n i t no_cells low)) none in
-    let marked = λ (i : ℕ) (low : i < m). ap (λ (flags : List Bool). is_set flags i) flags ∙ get_or-replicate m i true false low in
     record {
       cover = record { sized = sized; enough = long ∙ en };
       each = omega arith;
-      marks = λ _. record {
-        bare = λ i e.
-            elim (cases_lt i m) [
-              | inl less ↦ empty i (omega arith)
-              | inr past ↦
-                  let gone : is_set bare i ≡ false = get_or_past bare i false (omega arith) in
-                  let wrong : true ≡ false = sym e ∙ gone in
-                  absurd (cc)
-            ];
-        known = λ i _ low _. marked i (omega arith);
-      };
-      none = λ _ i low. empty i (omega arith);
+      marks = λ i e.
+          elim (cases_lt i m) [
+            | inl less ↦ empty i (omega arith)
+            | inr past ↦
+                let gone : is_set bare i ≡ false = get_or_past bare i false (omega arith) in
+                let wrong : true ≡ false = sym e ∙ gone in
+                absurd (cc)
+          ];
     }
+
+-- the tile of a number
+pub tile_here : (tiles : List Tile) (size : Extent) (cells : Cells) (i : ℕ) → Cover tiles size → tiled tiles size ≡ cells → i < tile_count cells → IsTileFrom (tile_at tiles i) cells (i % (cells.width / 64) * 64) (i / (cells.width / 64) * 64)
+tile_here tiles size cells i cover e within =
+    tile_is tiles size cells i (tile_at tiles i) cover e within (get_or_default tiles i no_cells (tile_at tiles i) (tile_there tiles size cells i cover e within))
+
+-- where each tile is bare there is no cell
+pub none_in_all : (tiles : List Tile) (size : Extent) (cells : Cells) → Cover tiles size → tiled tiles size ≡ cells → ((i : ℕ) → i < tile_count cells → IsBare cells (i % (cells.width / 64) * 64) (i / (cells.width / 64) * 64)) → HasNone cells
+none_in_all tiles size cells cover e bare =
+    let count : length tiles ≡ tile_count cells = cover.enough ∙ ap tile_count e in
+    record {
+      cell = nothing_there tiles size cells cover e
+          (λ i low x y p q.
+          let within : i < tile_count cells = rw count at low in
+          (tile_here tiles size cells i cover e within).cell x y p q ∙ (bare i within).cell x y p q);
+    }
+
+pub one_more_bare : (cells : Cells) (n : ℕ) → ((k : ℕ) → k < n → IsBare cells (k % (cells.width / 64) * 64) (k / (cells.width / 64) * 64)) → IsBare cells (n % (cells.width / 64) * 64) (n / (cells.width / 64) * 64)
+    → (k : ℕ) → k < n + 1 → IsBare cells (k % (cells.width / 64) * 64) (k / (cells.width / 64) * 64)
+one_more_bare cells n before bare k low =
+    elim (cases_eq k n) [
+      | inl e ↦ subst (λ k. IsBare cells (k % (cells.width / 64) * 64) (k / (cells.width / 64) * 64)) (sym e) bare
+      | inr other ↦ before k (omega arith)
+    ]
+
+-- and the other way round
+pub bare_in_none : (cells : Cells) (i : ℕ) → is_size (extent cells) ≡ true → i < tile_count cells → HasNone cells → IsBare cells (i % (cells.width / 64) * 64) (i / (cells.width / 64) * 64)
+bare_in_none cells i sized within none =
+    let across = wide (extent cells) sized in
+    let down = high (extent cells) sized in
+    let column : i % (cells.width / 64) < cells.width / 64 = mod-lt i across.some in
+    let row : i / (cells.width / 64) < cells.height / 64 = (row-Below i (cells.width / 64) (cells.width / 64) (cells.height / 64) within (omega arith)).1 in
+    record { cell = λ x y p q. none.cell _ _ (cell_below cells.width _ x across column p) (cell_below cells.height _ y down row q) }
+
+pub is_true : (b : Bool) → b ≡ true → IsTrue b
+is_true b e = grind arith
+
+pub true_is : (b : Bool) → IsTrue b → b ≡ true
+true_is b h = grind arith
 
 stays : (n k : ℕ) → k < n → k % n ≡ k
 stays n k less = let e : k ≡ 0 * n + k = omega arith in ap (λ m. m % n) e ∙ mod-mul-add 0 n k less
@@ -113,11 +132,6 @@ far_spot n k d x is less in_tile =
     let f : k * 64 + (d * 64 + x) + n - 64 ≡ j / m * n + (j % m * 64 + x) = omega (arith, whole, turns, is.tiles, is.some) in
     ap (λ l. l % n) f ∙ mod-mul-add (j / m) n (j % m * 64 + x) in_circle
 
--- the tile of a number
-pub tile_here : (tiles : List Tile) (size : Extent) (cells : Cells) (i : ℕ) → Cover tiles size → tiled tiles size ≡ cells → i < tile_count cells → IsTileFrom (tile_at tiles i) cells (i % (cells.width / 64) * 64) (i / (cells.width / 64) * 64)
-tile_here tiles size cells i cover e within =
-    tile_is tiles size cells i (tile_at tiles i) cover e within (get_or_default tiles i no_cells (tile_at tiles i) (tile_there tiles size cells i cover e within))
-
 pub all_three : (a b c : Bool) → IsTrue ((a && b) && c) → IsTrue a × IsTrue b × IsTrue c
 all_three a b c h = grind arith
 
@@ -154,13 +168,6 @@ from_places P n k before after less is_before is_after all = (
   subst P (by_one n k less) (all 1 (omega arith)),
   subst P (by_two n k less ∙ sym is_after) (all 2 (omega arith)),
 )
-
--- a plane whose tiles have no cell
-pub nothing_round : (tiles : List Tile) (size : Extent) (cells : Cells) (x0 y0 : ℕ) → Cover tiles size → tiled tiles size ≡ cells → ((i : ℕ) → i < length tiles → HasCells (tile_at tiles i) (λ _ _. false)) → IsBareRound cells x0 y0
-nothing_round tiles size cells x0 y0 cover e none =
-    let w : 0 < cells.width = rw (← (ap (λ (c : Cells). c.width) e)) (let is = wide size cover.sized in omega (arith, is.some)) in
-    let h : 0 < cells.height = rw (← (ap (λ (c : Cells). c.height) e)) (let is = high size cover.sized in omega (arith, is.some)) in
-    record { cell = λ i j _ _. nothing_there tiles size cells cover e none _ _ (mod-lt _ w) (mod-lt _ h) }
 
 -- round tile (column, row)
 module _ (cells : Cells) (column row : ℕ) (wide : IsWholeTiles cells.width) (high : IsWholeTiles cells.height) (in_row : column < cells.width / 64) (in_column : row < cells.height / 64) where

@@ -4,6 +4,7 @@ use Rattle.bit_tile.specs.Bit.{bit}
 use Rattle.bit_tile.specs.declared.Tile.{Tile}
 use Rattle.tile_border.specs.Ring.{ring, IsOnRing}
 use Rattle.tile_border.specs.declared.Border.{Border}
+use Rattle.gas_plane.specs.declared.around.Position.{Position}
 use Rattle.gas_plane.specs.declared.around.TilePlaces.{TilePlaces}
 use Rattle.gas_terms.specs.Cells.{Cells, has, cells_where, extent, is_size, IsFull}
 
@@ -19,6 +20,11 @@ pub record IsTileFrom (t : Tile) (cells : Cells) (x0 y0 : ℕ) : Type 0 where
 -- the border has the torus's cells round the 64 by 64 cells from the place (x0, y0) on
 pub record IsRingRound (b : Border) (cells : Cells) (x0 y0 : ℕ) : Type 0 where
   pub cell : (i j : ℕ) → IsOnRing i j → ring b i j ≡ has cells ((x0 + i + cells.width - 1) % cells.width) ((y0 + j + cells.height - 1) % cells.height)
+
+-- where a row has so many tiles: the column and the row of tiles that a tile is in
+pub record IsPosition (across : ℕ) (p : Position) : Type 0 where
+  pub column : p.column ≡ p.tile % across
+  pub row : p.row ≡ p.tile / across
 
 -- the column and the row of tiles that tile i stands in, and those beside them round the torus
 pub record ArePlacesRound (cells : Cells) (i : ℕ) (p : TilePlaces) : Type 0 where

@@ -1,4 +1,4 @@
-use Rattle.std.specs.Prelude.{◌≡◌, ℕ, ◌+◌, ◌*◌, ◌/◌, ◌%◌, ◌<◌, ◌≢◌, Bool, true, false, List, length, slice_index_or}
+use Rattle.std.specs.Prelude.{◌≡◌, ℕ, ◌+◌, ◌*◌, ◌/◌, ◌%◌, Bool, true, false, List, length, slice_index_or}
 use Rattle.bit_tile.specs.Tile as tile
 use Rattle.bit_tile.specs.Tile.{HasCells}
 pub use Rattle.bit_tile.specs.Tile.{no_cells}
@@ -21,14 +21,8 @@ pub record Cover (tiles : List Tile) (size : Extent) : Type 0 where
 abbrev pub is_set : List Bool → ℕ → Bool
 is_set flags i = slice_index_or flags i false
 
--- a tile that is marked has no cell, and each that has none is marked but for the one that was lent last
-pub record AreMarked (tiles : List Tile) (flags : List Bool) (lent : ℕ) : Type 0 where
-  pub bare : (i : ℕ) → is_set flags i ≡ true → HasCells (tile_at tiles i) (λ _ _. false)
-  pub known : (i : ℕ) → i ≢ lent → i < length tiles → HasCells (tile_at tiles i) (λ _ _. false) → is_set flags i ≡ true
-
--- the tiles cover the lattice, and each has its mark unless all are lent; and as long as none was lent there is no cell
-pub record IsMarked (tiles : List Tile) (bare : List Bool) (lent : ℕ) (fresh swept : Bool) (size : Extent) : Type 0 where
+-- the tiles cover the lattice, and one that is marked has no cell
+pub record IsMarked (tiles : List Tile) (bare : List Bool) (size : Extent) : Type 0 where
   pub cover : Cover tiles size
   pub each : length bare ≡ length tiles
-  pub marks : swept ≡ false → AreMarked tiles bare lent
-  pub none : fresh ≡ true → (i : ℕ) → i < length tiles → HasCells (tile_at tiles i) (λ _ _. false)
+  pub marks : (i : ℕ) → is_set bare i ≡ true → HasCells (tile_at tiles i) (λ _ _. false)

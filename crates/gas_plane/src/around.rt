@@ -1,8 +1,8 @@
 //! What stands round a tile.
 
-ghost use Rattle.std.specs.Prelude.{◌≡◌, ◌*◌, ◌/◌, ◌%◌, ◌<◌};
+ghost use Rattle.std.specs.Prelude.{◌≡◌, ◌+◌, ◌*◌, ◌/◌, ◌<◌};
 ghost use Rattle.gas_terms.specs.Cells.{tile_count, tile_rectangle};
-ghost use Rattle.gas_plane.specs.Planes.{IsLattice, IsTileFrom, IsRingRound, ArePlacesRound};
+ghost use Rattle.gas_plane.specs.Planes.{IsLattice, IsTileFrom, IsRingRound, ArePlacesRound, IsPosition};
 ghost use Rattle.tile_border.specs.Ring.{IsBorderOfRound};
 ghost use Rattle.tile_border.specs.declared.Border.{Border as RingCells};
 
@@ -10,6 +10,41 @@ use crate::Plane;
 use crate::marks::{after, before};
 use bit_tile::Tile;
 use tile_border::{Border, NO_BORDER, Round};
+
+/// A tile's number, and the column and the row of tiles that it is in.
+#[derive(Clone, Copy, Debug, PartialEq, Eq)]
+pub struct Position {
+    pub tile: u32,
+    pub column: u32,
+    pub row: u32,
+}
+
+impl Position {
+    /// Where the next tile is, on a plane that is so many tiles wide. It takes no division.
+    #[inline]
+    pub fn next(self, across: u32) -> Position
+        requires across { 0 < across }
+        requires few { self.tile < 65536 }
+        requires position { IsPosition across self }
+        ensures tile { result.tile ≡ self.tile + 1 }
+        ensures position { IsPosition across result }
+    {
+        let Position { tile, column, row } = self;
+        if column + 1 == across {
+            Position {
+                tile: tile + 1,
+                column: 0,
+                row: row + 1,
+            }
+        } else {
+            Position {
+                tile: tile + 1,
+                column: column + 1,
+                row,
+            }
+        }
+    }
+}
 
 impl Plane {
     /// The eight tiles round tile i: the lattice is a torus.
@@ -19,20 +54,18 @@ impl Plane {
         ensures { let r = tile_rectangle self.now i in (b : RingCells) → IsBorderOfRound b result →
             IsRingRound b self.now r.x r.y }
     {
-        let across = self.across();
-        self.round_at(i, i % across, i / across)
+        self.round_at(self.position(i))
     }
 
-    /// The same where it is known that tile i stands in this column and row of tiles.
+    /// The same of the tile at this position.
     #[inline]
-    pub fn round_at(&self, i: u32, column: u32, row: u32) -> Round<'_>
-        requires tile { i < tile_count self.now }
-        requires column { column ≡ i % (self.now.width / 64) }
-        requires row { row ≡ i / (self.now.width / 64) }
-        ensures { let r = tile_rectangle self.now i in (b : RingCells) → IsBorderOfRound b result →
+    pub fn round_at(&self, at: Position) -> Round<'_>
+        requires tile { at.tile < tile_count self.now }
+        requires position { IsPosition (self.now.width / 64) at }
+        ensures { let r = tile_rectangle self.now at.tile in (b : RingCells) → IsBorderOfRound b result →
             IsRingRound b self.now r.x r.y }
     {
-        let p = self.places_at(i, column, row);
+        let p = self.places_at(at);
         Round {
             above: self.tile_in(p.column, p.above),
             below: self.tile_in(p.column, p.below),
@@ -82,21 +115,20 @@ impl Plane {
         ensures places { ArePlacesRound self.now i result }
         ensures lattice { IsLattice self.now }
     {
-        let across = self.across();
-        self.places_at(i, i % across, i / across)
+        self.places_at(self.position(i))
     }
 
-    // the same, from its column and row
+    // the same of the tile at this position
     #[inline]
-    fn places_at(&self, i: u32, column: u32, row: u32) -> TilePlaces
-        requires tile { i < tile_count self.now }
-        requires column { column ≡ i % (self.now.width / 64) }
-        requires row { row ≡ i / (self.now.width / 64) }
-        ensures places { ArePlacesRound self.now i result }
+    fn places_at(&self, at: Position) -> TilePlaces
+        requires tile { at.tile < tile_count self.now }
+        requires position { IsPosition (self.now.width / 64) at }
+        ensures places { ArePlacesRound self.now at.tile result }
         ensures lattice { IsLattice self.now }
     {
         let across = self.across();
         let down = self.down();
+        let Position { column, row, .. } = at;
         TilePlaces {
             left: before(column, across),
             column,
@@ -104,6 +136,20 @@ impl Plane {
             above: before(row, down),
             row,
             below: after(row, down),
+        }
+    }
+
+    /// Where tile i is.
+    #[inline]
+    pub fn position(&self, i: u32) -> Position
+        ensures tile { result.tile ≡ i }
+        ensures position { IsPosition (self.now.width / 64) result }
+    {
+        let across = self.across();
+        Position {
+            tile: i,
+            column: i % across,
+            row: i / across,
         }
     }
 

@@ -15,10 +15,11 @@ mod paint;
 mod parts;
 mod rows;
 
+pub use around::Position;
 pub use bit_tile::Tile;
 pub use counts::sums;
 use gas_terms::{NoMemory, Size};
-use marks::{after, before, settle};
+use marks::{after, are_all_set, before};
 pub use parts::part_of;
 use std::alloc::Global;
 use std::marker::Model;
@@ -30,14 +31,8 @@ pub struct Plane {
     size: Size,
     // row by row
     tiles: Vec<Tile>,
-    // a tile that is marked has no cell; so is each that has none, but for the one that was lent last, which may be written to
+    // a tile with a mark has no cell; one without may have none too, if it was lent
     bare: Vec<bool>,
-    // that one's number, or how many tiles there are
-    lent: u32,
-    // whether no tile was ever lent: then no mark has to be read
-    fresh: bool,
-    // whether all tiles are lent: then no mark is kept or read
-    swept: bool,
 }
 
 impl Model for Plane {
@@ -51,7 +46,7 @@ impl Model for Plane {
         cells_where p.size.width p.size.height
         (tiles_have p.tiles.items (p.size.width / 64)) };
 
-    ghost invariant = { λ p. IsMarked p.tiles.items p.bare.items p.lent p.fresh p.swept p.size };
+    ghost invariant = { λ p. IsMarked p.tiles.items p.bare.items p.size };
 }
 
 impl Plane {
@@ -61,14 +56,7 @@ impl Plane {
     {
         let tiles = vec![in alloc; Tile::empty(); size.tiles() as usize]?;
         let bare = vec![in alloc; true; size.tiles() as usize]?;
-        Ok(Plane {
-            size,
-            tiles,
-            bare,
-            lent: size.tiles(),
-            fresh: true,
-            swept: false,
-        })
+        Ok(Plane { size, tiles, bare })
     }
 
     /// The same cells in memory of their own. Where that is refused nothing stays taken.
@@ -81,9 +69,6 @@ impl Plane {
             size: self.size,
             tiles,
             bare,
-            lent: self.lent,
-            fresh: self.fresh,
-            swept: self.swept,
         })
     }
 
@@ -134,35 +119,23 @@ impl Plane {
         requires { i < tile_count self.old }
         ensures { self.new ≡ with_tile self.old i tile }
     {
-        *self.tile_mut(i) = tile;
+        self.tiles[i as usize] = tile;
+        self.bare[i as usize] = tile.is_empty();
     }
 
-    /// Tile i, to be written: the plane ends with what is left behind the reference.
+    /// Tile i, to be written: the plane ends with what is left behind the reference. The tile loses its mark, so where it may
+    /// end without cells `set_tile` is better.
     #[inline]
     pub fn tile_mut(&mut self, i: u32) -> &mut Tile
         requires { i < tile_count self.old }
         ensures* writes_back { sem 𝓛 (LendsTile self.entry i result) }
         ensures tile { let r = tile_rectangle self.old i in IsTileFrom result.now self.old r.x r.y }
     {
-        self.fresh = false;
-        if self.swept {
-            return &mut self.tiles[i as usize];
-        }
-        settle(self.bare.as_mut_slice(), self.tiles.as_slice(), self.lent);
         self.bare[i as usize] = false;
-        self.lent = i;
         &mut self.tiles[i as usize]
     }
 
-    /// All tiles are to be written, again and again: from then on it is not kept which have no cell, and `is_bare` looks.
-    #[inline]
-    pub fn begin_sweep(&mut self)
-        ensures { self.new ≡ self.old }
-    {
-        self.swept = true;
-    }
-
-    /// Whether tile i has no cell. The plane keeps that for each tile, whatever was written.
+    /// Whether tile i has no cell. A tile without a mark is looked through.
     #[inline]
     pub fn is_bare(&self, i: u32) -> bool
         requires { i < tile_count self.now }
@@ -171,21 +144,26 @@ impl Plane {
         ensures known { let r = tile_rectangle self.now i in
             IsBare self.now r.x r.y → IsTrue result }
     {
-        if self.swept {
-            return self.tile(i).is_empty();
-        }
         if self.bare[i as usize] {
             return true;
         }
-        i == self.lent && self.tile(i).is_empty()
+        self.tile(i).is_empty()
     }
 
-    /// Whether no tile was ever lent to be written: then there is no cell.
-    #[inline]
-    pub fn is_fresh(&self) -> bool
-        ensures { IsTrue result → HasNone self.now }
+    /// Whether there is no cell. A plane whose tiles all have their marks says so at once.
+    pub fn is_empty(&self) -> bool
+        ensures none { IsTrue result → HasNone self.now }
+        ensures known { HasNone self.now → IsTrue result }
     {
-        self.fresh
+        if are_all_set(self.bare.as_slice()) {
+            return true;
+        }
+        for i in 0..self.size().tiles() {
+            if !self.is_bare(i) {
+                return false;
+            }
+        }
+        true
     }
 
     /// Whether neither tile i nor any of the eight tiles round it has a cell.
@@ -197,9 +175,6 @@ impl Plane {
         ensures known { let r = tile_rectangle self.now i in
             IsBareFarRound self.now r.x r.y → IsTrue result }
     {
-        if self.fresh {
-            return true;
-        }
         let across = self.across();
         let down = self.down();
         // a tile that has cells needs no look round it

@@ -1,21 +1,17 @@
-//! The marks of tiles that have no cell.
+//! The marks of tiles that have no cell, and places round a circle.
 
-ghost use Rattle.std.specs.Prelude.{◌≡◌, ℕ, ◌+◌, ◌-◌, ◌%◌, ◌<◌, length};
-ghost use Rattle.gas_plane.specs.Tiles.{AreMarked};
+ghost use Rattle.std.specs.Prelude.{◌≡◌, IsTrue, ℕ, ◌+◌, ◌-◌, ◌%◌, ◌<◌, length, true};
+ghost use Rattle.gas_plane.specs.Tiles.{is_set};
 
-use bit_tile::Tile;
-
-/// The tile that was lent last is marked as it is now.
-#[inline]
-pub fn settle(bare: &mut [bool], tiles: &[Tile], lent: u32)
-    requires each { length bare.old ≡ length tiles.now }
-    requires marked { AreMarked tiles.now bare.old lent }
-    ensures { (other : ℕ) → AreMarked tiles.now bare.new other }
+/// Whether each mark is set. All are read, so that they are read as vectors.
+pub fn are_all_set(marks: &[bool]) -> bool
+    ensures { IsTrue result → (i : ℕ) → i < length marks.now → is_set marks.now i ≡ true }
 {
-    let i = lent as usize;
-    if i < tiles.len() {
-        bare[i] = tiles[i].is_empty();
+    let mut all = true;
+    for mark in marks {
+        all &= *mark;
     }
+    all
 }
 
 /// Round a circle of n places, the one before place k.

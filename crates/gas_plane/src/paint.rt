@@ -68,11 +68,12 @@ impl Plane {
         ensures { self.new ≡ painted_where self.old
             (λ x y. (tile_of self.old x y == i) && in_tile.has part.now (x % 64) (y % 64)) held }
     {
-        let tile = self.tile_mut(i);
+        let mut tile = *self.tile(i);
         if held {
             tile.join(part);
         } else {
             tile.cut(part);
         }
+        self.set_tile(i, tile);
     }
 }

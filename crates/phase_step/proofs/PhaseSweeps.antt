@@ -1,7 +1,7 @@
 -- The tiles of a plane are turned one after another.
 use Rattle.std.proofs.Common.{◌≡◌, ℕ, ◌+◌, ◌*◌, ◌/◌, ◌%◌, ◌<◌, ◌≤◌, Bool, true, refl, sym, ap, ap₂, subst, ◌∙◌, arith}
-use Rattle.std.proofs.lemmas.Nat.{row-Below, mod-mul-add, div-mul-add, div-add-mod'}
-use Rattle.std.proofs.Math.Nat.{mod-lt, div-le_self}
+use Rattle.std.proofs.lemmas.Nat.{row-Below}
+use Rattle.std.proofs.Math.Nat.{mod-lt}
 use Rattle.bit_tile.specs.Tile.{HasCells}
 use Rattle.bit_tile.specs.declared.Tile.{Tile}
 use Rattle.gas_terms.specs.Cells.{Cells, Extent, HasSidesOf, HasEvenSides, IsFull, cells_where, has, joined, extent, is_size, tile_count, tile_rectangle}
@@ -10,7 +10,7 @@ use Rattle.gas_terms.specs.Velocity.{velocity_at}
 use Rattle.gas_plane.specs.Planes.{IsLattice, with_tile, swept}
 use Rattle.gas_plane.proofs.Places.{IsWholeTiles, wide, high, cell_below}
 use Rattle.block_rule.specs.Windows.{IsTilePlace}
-use Rattle.phase_step.specs.Turns.{IsTileAfter, StandsAt}
+use Rattle.phase_step.specs.Turns.{IsTileAfter}
 
 even_tiles : (n : ℕ) → IsWholeTiles n → n % 2 ≡ 0
 even_tiles n is = omega (arith, is.tiles)
@@ -92,36 +92,3 @@ phase_ends p particles walls obstacles start now i end is same count past reach 
     ∙ (law start (phased p particles walls obstacles) is
     ∙ (ap₂ (λ w h. cells_where w h (phased p particles walls obstacles)) same.wide same.high
     ∙ remade particles.width particles.height (λ x y. arrived particles (joined walls obstacles) (site_of (p + 1) particles.width particles.height x y) (velocity_at (p + 1) x y)) held full agree)))
-
--- where tiles stand
-pub stands_first : (across : ℕ) → 0 < across → StandsAt across 0 0 0
-stands_first across some =
-    let e : 0 ≡ 0 * across + 0 = omega arith in
-    record { column = sym (ap (λ m. m % across) e ∙ mod-mul-add 0 across 0 some); row = sym (ap (λ m. m / across) e ∙ div-mul-add 0 across 0 some) }
-
-pub stands_as : (across same i column row : ℕ) → across ≡ same → StandsAt across i column row → StandsAt same i column row
-stands_as across same i column row e at = subst (λ n. StandsAt n i column row) e at
-
--- tile i + 1 begins a row, or stands beside tile i
-module _ (across i column row : ℕ) (some : 0 < across) (at : StandsAt across i column row) where
-  whole : i ≡ row * across + column
-  whole = rw (at.column, at.row) (sym (div-add-mod' i across))
-
-  pub column_low : column < across
-  column_low = rw at.column (mod-lt i some)
-
-  pub row_low : row ≤ i
-  row_low = rw at.row (div-le_self i across)
-
-  pub stands_below : column + 1 ≡ across → StandsAt across (i + 1) 0 (row + 1)
-  stands_below last =
-      let more : (row + 1) * across ≡ row * across + across = omega arith in
-      let e : i + 1 ≡ (row + 1) * across + 0 = omega (arith, whole, more) in
-      record { column = sym (ap (λ m. m % across) e ∙ mod-mul-add (row + 1) across 0 some); row = sym (ap (λ m. m / across) e ∙ div-mul-add (row + 1) across 0 some) }
-
-  pub stands_beside : (column + 1 ≡ across → ⊥) → StandsAt across (i + 1) (column + 1) row
-  stands_beside other =
-      let low : column < across = rw at.column (mod-lt i some) in
-      let next : column + 1 < across = omega (arith, low) in
-      let e : i + 1 ≡ row * across + (column + 1) = omega (arith, whole) in
-      record { column = sym (ap (λ m. m % across) e ∙ mod-mul-add row across (column + 1) next); row = sym (ap (λ m. m / across) e ∙ div-mul-add row across (column + 1) next) }

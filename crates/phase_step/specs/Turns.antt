@@ -1,4 +1,4 @@
-use Rattle.std.specs.Prelude.{◌≡◌, ℕ, ◌+◌, ◌/◌, ◌%◌, Option, MatchOption}
+use Rattle.std.specs.Prelude.{ℕ, ◌+◌, Option, MatchOption}
 use Rattle.std.specs.Borrow.{Bor}
 use Rattle.bit_tile.specs.Tile.{HasCells}
 use Rattle.bit_tile.specs.declared.Tile.{Tile}
@@ -34,8 +34,3 @@ IsLentWindow cells i lent =
 abbrev pub IsPlaceOf : Cells → Cells → Cells → ℕ → Type 0
 IsPlaceOf particles walls obstacles i =
     let r = tile_rectangle particles i in IsTilePlace particles walls obstacles r.x r.y
-
--- where a row has so many tiles, tile i stands in this column and row of tiles
-pub record StandsAt (across i x y : ℕ) : Type 0 where
-  pub column : x ≡ i % across
-  pub row : y ≡ i / across

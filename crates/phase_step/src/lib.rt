@@ -16,6 +16,7 @@ mod later;
 pub mod laws;
 mod listed;
 mod moved;
+mod solids;
 mod still;
 mod sweep;
 mod tiles;
@@ -29,9 +30,10 @@ use gas_terms::Took;
 pub use later::Later;
 pub use listed::Listed;
 pub use moved::{Flow, Moved, NO_FLOW, UNMOVED};
+pub use solids::{Solids, are_none};
 use std::mem;
 pub use still::Still;
-use sweep::{turn_each, turn_free};
+use sweep::turn_each;
 pub use tiles::turn_tile_at;
 
 /// A run of n phases in which particles meet these walls and obstacles, from the given parity on, with an action after each.
@@ -149,12 +151,23 @@ impl Stepper for Serial {
         parity: u8,
         out: &mut Plane,
     ) -> Took {
-        out.begin_sweep();
-        if walls.is_fresh() {
-            if obstacles.is_fresh() {
-                return turn_free(old, walls, obstacles, parity, out);
-            }
+        // one loop, compiled twice: once without the code for walls
+        if are_none(walls, obstacles) {
+            let none = true;
+            let solids = Solids {
+                walls,
+                obstacles,
+                none,
+            };
+            turn_each(old, solids, parity, out)
+        } else {
+            let none = false;
+            let solids = Solids {
+                walls,
+                obstacles,
+                none,
+            };
+            turn_each(old, solids, parity, out)
         }
-        turn_each(old, walls, obstacles, parity, out)
     }
 }

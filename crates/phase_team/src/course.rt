@@ -1,20 +1,22 @@
 //! What a phase and a run start from.
 
-ghost use Rattle.std.specs.Prelude.{◌≡◌, ◌<◌, ◌≤◌};
+ghost use Rattle.std.specs.Prelude.{◌≡◌, ◌<◌, ◌≤◌, IsTrue};
 ghost use Rattle.gas_terms.specs.Cells.{tile_count, HasSidesOf};
-ghost use Rattle.gas_plane.specs.Planes.{IsLattice};
+ghost use Rattle.gas_plane.specs.Planes.{IsLattice, HasNone};
 
 use claim_desk::Desk;
 use gas_plane::Plane;
 use phase_step::Exchange;
 
-/// The planes of a phase and its parity.
+/// The planes of a phase, whether it is known that walls and obstacles have no cell, and its parity.
 #[derive(Clone, Copy)]
 pub struct Task<'a> {
     pub old: &'a Plane,
     pub walls: &'a Plane,
     pub obstacles: &'a Plane,
+    pub none: bool,
     pub parity: u8,
+    pub ghost known: { IsTrue none → HasNone walls.now × HasNone obstacles.now },
     pub ghost parity_is: { parity < 2 },
     pub ghost lattice: { IsLattice old.now },
     pub ghost of_walls: { HasSidesOf walls.now old.now },

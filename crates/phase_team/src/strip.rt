@@ -15,7 +15,8 @@ use crate::worker::NOTHING;
 use gas_plane::Plane;
 use gas_terms::{NoMemory, Size, Took};
 use phase_step::{
-    Action, Exchange, Flow, Listed, Moved, NO_FLOW, UNMOVED, change_of, parity_at, turn_tile_at,
+    Action, Exchange, Flow, Listed, Moved, NO_FLOW, Solids, UNMOVED, are_none, change_of,
+    parity_at, turn_tile_at,
 };
 use std::alloc::Global;
 use std::mem;
@@ -55,7 +56,7 @@ fn load(strip: &mut Plane, whole: &Plane, first: u32)
         let from = row_of(first, i / across, down) * across + i % across;
         let tile = whole.tile_or_bare(from);
         if !tile.has_same_cells(strip.tile_or_bare(i)) {
-            *strip.tile_mut(i) = *tile;
+            strip.set_tile(i, *tile);
         }
     }
 }
@@ -69,6 +70,34 @@ fn is_own(i: u32, across: u32, end: u32) -> bool
     across <= i && i < end
 }
 
+// turns the blocks of a strip: what is taken in its own tiles
+#[inline(always)]
+fn turn_strip(old: &Plane, solids: Solids<'_>, parity: u8, out: &mut Plane) -> Took
+    requires parity { parity < 2 }
+    requires walls { HasSidesOf solids.walls.now old.now }
+    requires obstacles { HasSidesOf solids.obstacles.now old.now }
+    requires out { HasSidesOf out.old old.now }
+    requires rows { 2 ≤ old.now.height / 64 }
+    ensures out { let s = solids.entry in
+        out.new ≡ streamed parity old.now (joined s.walls.now s.obstacles.now) }
+    ensures took { let s = solids.entry in
+        result ≡ own_take parity old.now s.walls.now s.obstacles.now }
+{
+    let across = u32::from(out.size().width() / 64);
+    let tiles = old.size().tiles();
+    let end = tiles - across;
+    let mut took = NOTHING;
+    let mut at = old.position(0);
+    for i in 0..tiles {
+        let here = turn_tile_at(old, solids, parity, at, out.tile_mut(i));
+        if is_own(i, across, end) {
+            took = took.plus(here);
+        }
+        at = at.next(across);
+    }
+    took
+}
+
 // a phase of a strip, and what is taken in its own tiles
 fn phase_of(old: &Plane, walls: &Plane, obstacles: &Plane, parity: u8, out: &mut Plane) -> Took
     requires parity { parity < 2 }
@@ -79,17 +108,24 @@ fn phase_of(old: &Plane, walls: &Plane, obstacles: &Plane, parity: u8, out: &mut
     ensures out { out.new ≡ streamed parity old.now (joined walls.now obstacles.now) }
     ensures took { result ≡ own_take parity old.now walls.now obstacles.now }
 {
-    let across = u32::from(out.size().width() / 64);
-    let tiles = old.size().tiles();
-    let end = tiles - across;
-    let mut took = NOTHING;
-    for i in 0..tiles {
-        let here = turn_tile_at(old, walls, obstacles, parity, i, out.tile_mut(i));
-        if is_own(i, across, end) {
-            took = took.plus(here);
-        }
+    // one loop, compiled twice, as in `Serial`
+    if are_none(walls, obstacles) {
+        let none = true;
+        let solids = Solids {
+            walls,
+            obstacles,
+            none,
+        };
+        turn_strip(old, solids, parity, out)
+    } else {
+        let none = false;
+        let solids = Solids {
+            walls,
+            obstacles,
+            none,
+        };
+        turn_strip(old, solids, parity, out)
     }
-    took
 }
 
 // What an exchange does to a strip whose own rows begin at row of tiles `first` of `down`, at a tick of this parity: what

@@ -17,7 +17,7 @@ use crate::worker::{NOTHING, Turned, Worker, work_on};
 use claim_desk::{Desk, DeskSeat};
 use gas_plane::Plane;
 use gas_terms::Took;
-use phase_step::{Action, Flow, Run, Serial, Stepper};
+use phase_step::{Action, Flow, Run, Serial, Stepper, are_none};
 use std::alloc::Global;
 use std::marker::Model;
 use std::thread;
@@ -257,6 +257,7 @@ impl<R: Threads + Drop, G: Gate + Drop> Team<R, G> {
             old,
             walls,
             obstacles,
+            none: are_none(walls, obstacles),
             parity,
         };
         match self.turn_together(workers, task, out) {

@@ -1,26 +1,14 @@
-use Rattle.std.proofs.Common.{◌≡◌, ◌<◌, ◌∙◌, sym, arith, length, true, false, IsTrue, Bool}
+use Rattle.std.proofs.Common.{◌≡◌, ◌<◌, ◌∙◌, sym, arith, length, false}
 use Rattle.std.proofs.lemmas.List.{get_or_read}
 use Rattle.gas_plane.specs.Tiles.{is_set}
-use Rattle.gas_plane.proofs.BareTiles.{tile_here}
+use Rattle.gas_plane.proofs.BareTiles.{tile_here, true_is}
 use Rattle.gas_plane.proofs.Tilings.{tile_there}
 use Rattle.gas_plane.proofs.Plane.is_bare.Goals as goal
-
-true_is : (b : Bool) → IsTrue b → b ≡ true
-true_is b h = grind arith
 
 pub returns-then-index-clause-bare : goal.returns-then-index-clause-bare
 returns-then-index-clause-bare c = λ _.
     let own : c.args.i < length c.self.inside.tiles.items = tile_there c.self.inside.tiles.items c.self.inside.size c.args.self.now c.args.i c.self.invariant.cover c.self.view_is c.requires in
     let flag : c.index.result.now ≡ is_set c.self.inside.bare.items c.args.i = get_or_read c.self.inside.bare.items c.args.i c.index.result.now (omega (arith, own, c.self.invariant.each)) c.index.ensures false in
-    let none = (c.self.invariant.marks c.if-self.false).bare c.args.i (sym flag ∙ true_is c.index.result.now c.if-index.true) in
+    let none = c.self.invariant.marks c.args.i (sym flag ∙ true_is c.index.result.now c.if-index.true) in
     let from = tile_here c.self.inside.tiles.items c.self.inside.size c.args.self.now c.args.i c.self.invariant.cover c.self.view_is c.requires in
     record { cell = λ x y p q. sym (from.cell x y p q) ∙ none x y p q }
-
-pub returns-else-i-self-clause-known : goal.returns-else-i-self-clause-known
-returns-else-i-self-clause-known c = λ bare.
-    let own : c.args.i < length c.self.inside.tiles.items = tile_there c.self.inside.tiles.items c.self.inside.size c.args.self.now c.args.i c.self.invariant.cover c.self.view_is c.requires in
-    let flag : c.index.result.now ≡ is_set c.self.inside.bare.items c.args.i = get_or_read c.self.inside.bare.items c.args.i c.index.result.now (omega (arith, own, c.self.invariant.each)) c.index.ensures false in
-    let from = tile_here c.self.inside.tiles.items c.self.inside.size c.args.self.now c.args.i c.self.invariant.cover c.self.view_is c.requires in
-    let marked = flag ∙ (c.self.invariant.marks c.if-self.false).known c.args.i c.if-i-self.false own (λ x y p q. from.cell x y p q ∙ bare.cell x y p q) in
-    let wrong : true ≡ false = sym marked ∙ c.if-index.false in
-    absurd (cc)

@@ -4,12 +4,8 @@ use Rattle.std.proofs.Math.Nat.{mod-lt}
 use Rattle.gas_terms.specs.Cells.{extent}
 use Rattle.gas_plane.specs.Planes.{AreThreeBare}
 use Rattle.gas_plane.proofs.Places.{wide, high}
-use Rattle.gas_plane.proofs.BareTiles.{all_three, three_all, by_places, from_places, nine_are_round, nine_are_known, own_is_known, nothing_round}
+use Rattle.gas_plane.proofs.BareTiles.{all_three, three_all, by_places, from_places, nine_are_round, nine_are_known, own_is_known}
 use Rattle.gas_plane.proofs.Plane.is_bare_round.Goals as goal
-
-pub returns-then-self-clause-bare : goal.returns-then-self-clause-bare
-returns-then-self-clause-bare c = λ _.
-    nothing_round c.self.inside.tiles.items c.self.inside.size c.args.self.now _ _ c.self.invariant.cover c.self.view_is (c.self.invariant.none c.if-self.true)
 
 -- what is known and told to be false
 known_false : (b : Bool) → IsTrue b → b ≡ false → IsTrue false

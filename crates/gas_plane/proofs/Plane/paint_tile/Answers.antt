@@ -1,15 +1,21 @@
-use Rattle.std.proofs.Common.{◌∙◌, sym, true, false}
+use Rattle.std.proofs.Common.{◌∙◌, ap, sym, true, false}
+use Rattle.gas_plane.specs.Planes.{with_tile}
 use Rattle.gas_plane.proofs.Painting.{tile_painted, put_in, taken_out, painted_as}
 use Rattle.gas_plane.proofs.Plane.paint_tile.Goals as goal
+use Rattle.gas_plane.proofs.Plane.paint_tile.Goals.{then-held, else-held}
 
-pub returns-then-held : goal.returns-then-held
-returns-then-held c =
-    tile_painted c.args.self.now c.args.i c.tile_mut-tile.result.now c.args.part.now c.join.new.self true c.requires.lattice c.tile_mut-tile.ensures.tile
-    (put_in c.tile_mut-tile.result.now c.args.part.now c.join.new.self c.join.ensures)
-    ∙ painted_as c.args.self.now c.args.i c.args.part.now true c.args.held (sym c.if-held.true)
-
-pub returns-else-held : goal.returns-else-held
-returns-else-held c =
-    tile_painted c.args.self.now c.args.i c.tile_mut-tile.result.now c.args.part.now c.cut.new.self false c.requires.lattice c.tile_mut-tile.ensures.tile
-    (taken_out c.tile_mut-tile.result.now c.args.part.now c.cut.new.self c.cut.ensures)
-    ∙ painted_as c.args.self.now c.args.i c.args.part.now false c.args.held (sym c.if-held.false)
+pub returns : goal.returns
+returns c =
+    c.set_tile.ensures
+    ∙ elim c.if-held.branch [
+      | then-held w ↦
+          ap (with_tile c.args.self.now c.args.i) w.tile-is
+          ∙ (tile_painted c.args.self.now c.args.i c.tile.result.now c.args.part.now w.join.new.self true c.requires.lattice c.tile.ensures
+          (put_in c.tile.result.now c.args.part.now w.join.new.self w.join.ensures)
+          ∙ painted_as c.args.self.now c.args.i c.args.part.now true c.args.held (sym w.if-held.true))
+      | else-held w ↦
+          ap (with_tile c.args.self.now c.args.i) w.tile-is
+          ∙ (tile_painted c.args.self.now c.args.i c.tile.result.now c.args.part.now w.cut.new.self false c.requires.lattice c.tile.ensures
+          (taken_out c.tile.result.now c.args.part.now w.cut.new.self w.cut.ensures)
+          ∙ painted_as c.args.self.now c.args.i c.args.part.now false c.args.held (sym w.if-held.false))
+    ]

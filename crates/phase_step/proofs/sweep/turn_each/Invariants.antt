@@ -1,12 +1,16 @@
-use Rattle.std.proofs.Common.{◌≡◌, pos}
-use Rattle.gas_plane.specs.Planes.{swept}
+use Rattle.std.proofs.Common.{◌≡◌, ◌/◌, pos}
+use Rattle.gas_plane.specs.Planes.{swept, IsPosition}
 use Rattle.phase_step.proofs.PhaseSweeps.{phased}
 use Rattle.phase_step.proofs.TakenSums.{took_below}
 use Rattle.phase_step.proofs.sweep.turn_each.Given as goal
 
 abbrev pub invariant-loop-i : goal.invariant-loop-i
 invariant-loop-i l =
+    let walls = l.solids.walls.now in
+    let obstacles = l.solids.obstacles.now in
     record {
-      cells : l.out ≡ swept l.initial.out (phased l.parity l.old l.walls l.obstacles) l.i;
-      took : l.took ≡ took_below (pos l.parity) l.old l.walls l.obstacles l.i;
+      cells : l.out ≡ swept l.initial.out (phased l.parity l.old walls obstacles) l.i;
+      took : l.took ≡ took_below (pos l.parity) l.old walls obstacles l.i;
+      tile : l.at.tile ≡ l.i;
+      at : IsPosition (l.old.width / 64) l.at;
     }

@@ -14,14 +14,14 @@ returns c =
     let t = c.tile.result.now in
     let place = c.requires.place in
     let cells = tile_cells c.args.i old old t refl c.tile.ensures in
-    let walls = seen_inside c.args.i c.args.walls.now old c.tile_in.result place.of_walls place.right place.bottom c.tile_in.ensures in
-    let obstacles = seen_inside c.args.i c.args.obstacles.now old c.tile_in-2.result place.of_obstacles place.right place.bottom c.tile_in-2.ensures in
+    let walls = seen_inside c.args.i c.args.solids.walls.now old c.tile_in-walls.result place.of_walls place.right place.bottom c.tile_in-walls.ensures in
+    let obstacles = seen_inside c.args.i c.args.solids.obstacles.now old c.tile_in-obstacles.result place.of_obstacles place.right place.bottom c.tile_in-obstacles.ensures in
     record {
       cells = λ x y h k.
           c.turn_tile_even.ensures.cells (around t any_border) walls.window obstacles.window (shows_tile t any_border) walls.seen obstacles.seen x y h k
-          ∙ tiles_turned 0 old c.args.walls.now c.args.obstacles.now r.x r.y (around t any_border) walls.window obstacles.window (omega arith) place
+          ∙ tiles_turned 0 old c.args.solids.walls.now c.args.solids.obstacles.now r.x r.y (around t any_border) walls.window obstacles.window (omega arith) place
           (inside_is_view t any_border old r.x r.y place.right place.bottom cells) walls.view obstacles.view x y h k;
       took =
           c.turn_tile_even.ensures.took walls.window obstacles.window walls.seen obstacles.seen
-          ∙ tiles_took (pos 0) t old c.args.walls.now c.args.obstacles.now r.x r.y walls.window obstacles.window place cells walls.view obstacles.view;
+          ∙ tiles_took (pos 0) t old c.args.solids.walls.now c.args.solids.obstacles.now r.x r.y walls.window obstacles.window place cells walls.view obstacles.view;
     }

@@ -7,24 +7,24 @@ use Rattle.phase_step.proofs.tiles.turn_tile_at.Goals as goal
 
 pub returns-then-parity-eq0-clause-cells : goal.returns-then-parity-eq0-clause-cells
 returns-then-parity-eq0-clause-cells c =
-    subst (λ p. IsTileAfter p c.args.old.now c.args.walls.now c.args.obstacles.now c.args.i c.turn_even.new.out) (sym c.if-parity-eq0.true) c.turn_even.ensures.cells
+    subst (λ p. IsTileAfter p c.args.old.now c.args.solids.walls.now c.args.solids.obstacles.now c.args.at.tile c.turn_even.new.out) (sym c.if-parity-eq0.true) c.turn_even.ensures.cells
 
 pub returns-then-parity-eq0-clause-took : goal.returns-then-parity-eq0-clause-took
 returns-then-parity-eq0-clause-took c =
-    c.turn_even.ensures.took ∙ ap (λ p. taken_in (pos p) c.args.old.now c.args.walls.now c.args.obstacles.now (tile_rectangle c.args.old.now c.args.i)) (sym c.if-parity-eq0.true)
+    c.turn_even.ensures.took ∙ ap (λ p. taken_in (pos p) c.args.old.now c.args.solids.walls.now c.args.solids.obstacles.now (tile_rectangle c.args.old.now c.args.at.tile)) (sym c.if-parity-eq0.true)
 
 pub returns-else-parity-eq0-clause-cells : goal.returns-else-parity-eq0-clause-cells
 returns-else-parity-eq0-clause-cells c =
     let e : 1 ≡ c.args.parity = omega arith in
-    subst (λ p. IsTileAfter p c.args.old.now c.args.walls.now c.args.obstacles.now c.args.i c.turn_odd.new.out) e c.turn_odd.ensures.cells
+    subst (λ p. IsTileAfter p c.args.old.now c.args.solids.walls.now c.args.solids.obstacles.now c.args.at.tile c.turn_odd.new.out) e c.turn_odd.ensures.cells
 
 pub returns-else-parity-eq0-clause-took : goal.returns-else-parity-eq0-clause-took
 returns-else-parity-eq0-clause-took c =
     let e : 1 ≡ c.args.parity = omega arith in
-    c.turn_odd.ensures.took ∙ ap (λ p. taken_in (pos p) c.args.old.now c.args.walls.now c.args.obstacles.now (tile_rectangle c.args.old.now c.args.i)) e
+    c.turn_odd.ensures.took ∙ ap (λ p. taken_in (pos p) c.args.old.now c.args.solids.walls.now c.args.solids.obstacles.now (tile_rectangle c.args.old.now c.args.at.tile)) e
 
 pub turn_even-requires : goal.turn_even-requires
-turn_even-requires c = record { tile = c.requires.tile; place = place_is c.args.old.now c.args.walls.now c.args.obstacles.now c.args.i c.requires.lattice.sized c.requires.tile c.requires.walls c.requires.obstacles }
+turn_even-requires c = record { tile = c.requires.tile; place = place_is c.args.old.now c.args.solids.walls.now c.args.solids.obstacles.now c.args.at.tile c.requires.lattice.sized c.requires.tile c.requires.walls c.requires.obstacles }
 
 pub turn_odd-requires : goal.turn_odd-requires
-turn_odd-requires c = record { tile = c.requires.tile; place = place_is c.args.old.now c.args.walls.now c.args.obstacles.now c.args.i c.requires.lattice.sized c.requires.tile c.requires.walls c.requires.obstacles }
+turn_odd-requires c = record { tile = c.requires.tile; position = c.requires.position; place = place_is c.args.old.now c.args.solids.walls.now c.args.solids.obstacles.now c.args.at.tile c.requires.lattice.sized c.requires.tile c.requires.walls c.requires.obstacles }

@@ -1,7 +1,7 @@
-use Rattle.std.proofs.Common.{◌≡◌, ◌<◌, ◌/◌, if◌then◌else◌, nat_lt, refl, sym, ap, ◌∙◌, subst, arith}
+use Rattle.std.proofs.Common.{◌≡◌, ◌<◌, ◌/◌, if◌then◌else◌, nat_lt, sym, ap, ◌∙◌, subst, arith}
 use Rattle.gas_terms.specs.Cells.{Extent, has, cells_where, tile_count, tile_rectangle}
 use Rattle.gas_terms.proofs.Cells.{full-cells_where}
-use Rattle.gas_plane.specs.Planes.{IsLattice, IsTileFrom, swept, tile_of, with_tile}
+use Rattle.gas_plane.specs.Planes.{IsLattice, IsTileFrom, swept, tile_of}
 use Rattle.gas_plane.proofs.Sweeps.{sweep_begins, sweep_is_whole, sweep_within}
 use Rattle.phase_step.proofs.PhaseSweeps.{tiles_are}
 use Rattle.phase_team.specs.Strips.{shift_of}
@@ -24,8 +24,8 @@ tile_or_bare-requires c =
     let all = tiles_are c.args.strip.now c.size-3.result c.tiles-i-end.result c.size-3.ensures.extent c.tiles-i-end.ensures.tiles in
     sweep_within c.args.strip.now c.loop-i.strip (seen c.args.whole.now (shift_of c.args.whole.now c.args.first)) c.loop-i.i c.tiles-i-end.result c.loop-i.invariant.strip c.loop-i-test.true (omega (arith, all))
 
-pub tile_mut-requires : goal.tile_mut-requires
-tile_mut-requires c =
+pub set_tile-requires : goal.set_tile-requires
+set_tile-requires c =
     let all = tiles_are c.args.strip.now c.size-3.result c.tiles-i-end.result c.size-3.ensures.extent c.tiles-i-end.ensures.tiles in
     sweep_within c.args.strip.now c.loop-i.strip (seen c.args.whole.now (shift_of c.args.whole.now c.args.first)) c.loop-i.i c.tiles-i-end.result c.loop-i.invariant.strip c.loop-i-test.true (omega (arith, all))
 
@@ -40,7 +40,7 @@ loop-i-preserved c =
     let all = tiles_are c.args.strip.now c.size-3.result c.tiles-i-end.result c.size-3.ensures.extent c.tiles-i-end.ensures.tiles in
     record {
       strip = elim c.if-not-has_same_cells.branch [
-        | then-not-has_same_cells w ↦ w.strip-is ∙ load_writes c.args.first c.args.strip.now c.loop-i.strip (with_tile c.loop-i.strip c.loop-i.i t) whole c.loop-i.i t c.size.ensures.lattice.sized c.size-3.ensures.lattice c.requires.wide c.loop-i.invariant.strip refl from
+        | then-not-has_same_cells w ↦ w.strip-is ∙ load_writes c.args.first c.args.strip.now c.loop-i.strip w.set_tile.new.self whole c.loop-i.i t c.size.ensures.lattice.sized c.size-3.ensures.lattice c.requires.wide c.loop-i.invariant.strip w.set_tile.ensures from
         | else-not-has_same_cells w ↦ w.strip-is ∙ load_leaves c.args.first c.args.strip.now c.loop-i.strip whole c.loop-i.i t c.tile_or_bare.result.now c.size.ensures.lattice.sized c.size-3.ensures.lattice c.requires.wide (omega (arith, all)) c.loop-i.invariant.strip from c.tile_or_bare.ensures
             (c.has_same_cells.ensures.same w.if-not-has_same_cells.false)
       ];
