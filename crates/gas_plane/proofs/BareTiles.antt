@@ -7,45 +7,56 @@ use Rattle.std.proofs.lemmas.Bool.{cases_eq, cases_lt}
 use Rattle.bit_tile.specs.Tile.{HasCells}
 use Rattle.bit_tile.specs.declared.Tile.{Tile}
 use Rattle.gas_terms.specs.Cells.{Cells, Extent, extent, has, tile_count, is_size}
-use Rattle.gas_plane.specs.Tiles.{no_cells, tile_at, is_set, IsMarked, Cover}
+use Rattle.gas_plane.specs.Tiles.{no_cells, tile_at, IsMarked, Cover}
+use Rattle.gas_plane.specs.Marks.{mark_at, IsMarkOf}
+use Rattle.gas_plane.specs.declared.marks.Mark.{Mark}
+use Rattle.gas_plane.specs.declared.marks.Mark.TheVariants.{Bare, Lent}
 use Rattle.gas_plane.specs.Planes.{IsTileFrom, IsBare, IsBareRound, IsBareFarRound, AreThreeBare, HasNone, place_by}
 use Rattle.gas_plane.proofs.Places.{IsWholeTiles, wide, high, ring_before, ring_after, ring_in, ring_cases, cell_below}
 use Rattle.gas_plane.proofs.Tilings.{tiled, tile_is, tile_there, set_covers, nothing_there}
 
--- what is put in the place of tile i, with a mark only where it has no cell
-pub marked_set : (tiles : List Tile) (bare : List Bool) (i : ℕ) (t : Tile) (mark : Bool) (size : Extent) → IsMarked tiles bare size → i < length tiles → (mark ≡ true → HasCells t (λ _ _. false)) → IsMarked (set tiles i t) (set bare i mark) size
-marked_set tiles bare i t mark size was low none =
+-- what is put in the place of tile i, with a mark of its own
+pub marked_set : (tiles : List Tile) (marks : List Mark) (i : ℕ) (t : Tile) (mark : Mark) (size : Extent) → IsMarked tiles marks size → i < length tiles → IsMarkOf t mark → IsMarked (set tiles i t) (set marks i mark) size
+marked_set tiles marks i t mark size was low is =
     record {
       cover = set_covers tiles size i t was.cover;
-      each = length-set bare i mark ∙ (was.each ∙ sym (length-set tiles i t));
-      marks = λ k marked.
+      each = length-set marks i mark ∙ (was.each ∙ sym (length-set tiles i t));
+      mark = λ k.
           elim (cases_eq k i) [
             | inl is_i ↦
-                let own : is_set (set bare i mark) k ≡ mark = ap (is_set (set bare i mark)) is_i ∙ get_or-set_same bare i mark false (omega (arith, low, was.each)) in
+                let own : mark_at (set marks i mark) k ≡ mark = ap (mark_at (set marks i mark)) is_i ∙ get_or-set_same marks i mark Lent (omega (arith, low, was.each)) in
                 let here : tile_at (set tiles i t) k ≡ t = ap (tile_at (set tiles i t)) is_i ∙ get_or-set_same tiles i t no_cells low in
-                subst (λ (t : Tile). HasCells t (λ _ _. false)) (sym here) (none (sym own ∙ marked))
+                subst (IsMarkOf (tile_at (set tiles i t) k)) (sym own) (subst (λ (t : Tile). IsMarkOf t mark) (sym here) is)
             | inr other ↦
-                subst (λ (t : Tile). HasCells t (λ _ _. false)) (sym (get_or-set_other tiles i k t no_cells other)) (was.marks k (sym (get_or-set_other bare i k mark false other) ∙ marked))
+                subst (IsMarkOf (tile_at (set tiles i t) k)) (sym (get_or-set_other marks i k mark Lent other)) (subst (λ (t : Tile). IsMarkOf t (mark_at marks k)) (sym (get_or-set_other tiles i k t no_cells other)) (was.mark k))
           ];
     }
 
+-- a lent tile may hold anything
+pub lent_is_mark : (t : Tile) → IsMarkOf t Lent
+lent_is_mark t = record { bare = λ e. absurd (cc); held = λ e. absurd (cc) }
+
+bare_is_mark : (t : Tile) → HasCells t (λ _ _. false) → IsMarkOf t Bare
+bare_is_mark t none = record { bare = λ _. none; held = λ e. absurd (cc) }
+
 -- all tiles of an empty set
-pub marked_empty : (tiles : List Tile) (bare : List Bool) (size : Extent) (t : Tile) (n m : ℕ) → tiles ≡ replicate n t → bare ≡ replicate m true
-    → n ≡ size.width / 64 * (size.height / 64) → m ≡ size.width / 64 * (size.height / 64) → is_size size ≡ true → HasCells t (λ _ _. false) → IsMarked tiles bare size
-marked_empty tiles bare size t n m all flags en em sized none =
+pub marked_empty : (tiles : List Tile) (marks : List Mark) (size : Extent) (t : Tile) (n m : ℕ) → tiles ≡ replicate n t → marks ≡ replicate m Bare
+    → n ≡ size.width / 64 * (size.height / 64) → m ≡ size.width / 64 * (size.height / 64) → is_size size ≡ true → HasCells t (λ _ _. false) → IsMarked tiles marks size
+marked_empty tiles marks size t n m all flags en em sized none =
     let long : length tiles ≡ n = ap length all ∙ length-replicate n t in
-    let long_bare : length bare ≡ m = ap length flags ∙ length-replicate m true in
-    let empty = λ (i : ℕ) (low : i < n). subst (λ (t : Tile). HasCells t (λ _ _. false)) (sym (ap (λ (tiles : List Tile). tile_at tiles i) all ∙ get_or-replicate n i t no_cells low)) none in
+    let long_marks : length marks ≡ m = ap length flags ∙ length-replicate m Bare in
     record {
       cover = record { sized = sized; enough = long ∙ en };
       each = omega arith;
-      marks = λ i e.
+      mark = λ i.
           elim (cases_lt i m) [
-            | inl less ↦ empty i (omega arith)
+            | inl less ↦
+                let tile : tile_at tiles i ≡ t = ap (λ (tiles : List Tile). tile_at tiles i) all ∙ get_or-replicate n i t no_cells (omega arith) in
+                let mark : mark_at marks i ≡ Bare = ap (λ (marks : List Mark). mark_at marks i) flags ∙ get_or-replicate m i Bare Lent less in
+                subst (IsMarkOf (tile_at tiles i)) (sym mark) (subst (λ (t : Tile). IsMarkOf t Bare) (sym tile) (bare_is_mark t none))
             | inr past ↦
-                let gone : is_set bare i ≡ false = get_or_past bare i false (omega arith) in
-                let wrong : true ≡ false = sym e ∙ gone in
-                absurd (cc)
+                let gone : mark_at marks i ≡ Lent = get_or_past marks i Lent (omega arith) in
+                subst (IsMarkOf (tile_at tiles i)) (sym gone) (lent_is_mark (tile_at tiles i))
           ];
     }
 

@@ -1,3 +1,4 @@
+pub mod Marks
 pub mod Tiles
 pub mod Planes
 pub mod Lending

@@ -1,8 +1,9 @@
-use Rattle.std.specs.Prelude.{◌≡◌, ℕ, ◌+◌, ◌*◌, ◌/◌, ◌%◌, Bool, true, false, List, length, slice_index_or}
+use Rattle.std.specs.Prelude.{◌≡◌, ℕ, ◌+◌, ◌*◌, ◌/◌, ◌%◌, Bool, true, List, length, slice_index_or}
 use Rattle.bit_tile.specs.Tile as tile
-use Rattle.bit_tile.specs.Tile.{HasCells}
 pub use Rattle.bit_tile.specs.Tile.{no_cells}
 use Rattle.bit_tile.specs.declared.Tile.{Tile}
+use Rattle.gas_plane.specs.Marks.{mark_at, IsMarkOf}
+use Rattle.gas_plane.specs.declared.marks.Mark.{Mark}
 use Rattle.gas_terms.specs.Cells.{Extent, is_size}
 
 abbrev pub tile_at : List Tile → ℕ → Tile
@@ -17,12 +18,8 @@ pub record Cover (tiles : List Tile) (size : Extent) : Type 0 where
   pub sized : is_size size ≡ true
   pub enough : length tiles ≡ size.width / 64 * (size.height / 64)
 
--- whether the i-th flag is set
-abbrev pub is_set : List Bool → ℕ → Bool
-is_set flags i = slice_index_or flags i false
-
--- the tiles cover the lattice, and one that is marked has no cell
-pub record IsMarked (tiles : List Tile) (bare : List Bool) (size : Extent) : Type 0 where
+-- the tiles cover the lattice, and each has its mark
+pub record IsMarked (tiles : List Tile) (marks : List Mark) (size : Extent) : Type 0 where
   pub cover : Cover tiles size
-  pub each : length bare ≡ length tiles
-  pub marks : (i : ℕ) → is_set bare i ≡ true → HasCells (tile_at tiles i) (λ _ _. false)
+  pub each : length marks ≡ length tiles
+  pub mark : (i : ℕ) → IsMarkOf (tile_at tiles i) (mark_at marks i)

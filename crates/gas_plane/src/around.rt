@@ -7,7 +7,7 @@ ghost use Rattle.tile_border.specs.Ring.{IsBorderOfRound};
 ghost use Rattle.tile_border.specs.declared.Border.{Border as RingCells};
 
 use crate::Plane;
-use crate::marks::{after, before};
+use crate::circle::{after, before};
 use bit_tile::Tile;
 use tile_border::{Border, NO_BORDER, Round};
 

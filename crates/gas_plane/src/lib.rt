@@ -8,6 +8,7 @@ ghost use Rattle.gas_plane.specs.Planes.{IsLattice, IsTileFrom, IsBare, IsBareRo
 ghost use Rattle.gas_plane.specs.Lending.{LendsTile};
 
 mod around;
+mod circle;
 mod counts;
 pub mod laws;
 mod marks;
@@ -17,9 +18,10 @@ mod rows;
 
 pub use around::Position;
 pub use bit_tile::Tile;
+use circle::{after, before};
 pub use counts::sums;
 use gas_terms::{NoMemory, Size};
-use marks::{after, are_all_set, before};
+use marks::{Mark, are_all_bare, mark_of};
 pub use parts::part_of;
 use std::alloc::Global;
 use std::marker::Model;
@@ -31,8 +33,7 @@ pub struct Plane {
     size: Size,
     // row by row
     tiles: Vec<Tile>,
-    // a tile with a mark has no cell; one without may have none too, if it was lent
-    bare: Vec<bool>,
+    marks: Vec<Mark>,
 }
 
 impl Model for Plane {
@@ -46,7 +47,7 @@ impl Model for Plane {
         cells_where p.size.width p.size.height
         (tiles_have p.tiles.items (p.size.width / 64)) };
 
-    ghost invariant = { λ p. IsMarked p.tiles.items p.bare.items p.size };
+    ghost invariant = { λ p. IsMarked p.tiles.items p.marks.items p.size };
 }
 
 impl Plane {
@@ -55,8 +56,8 @@ impl Plane {
         ensures { IfOk result (λ plane. plane ≡ cells_where size.width size.height (λ _ _. false)) }
     {
         let tiles = vec![in alloc; Tile::empty(); size.tiles() as usize]?;
-        let bare = vec![in alloc; true; size.tiles() as usize]?;
-        Ok(Plane { size, tiles, bare })
+        let marks = vec![in alloc; Mark::Bare; size.tiles() as usize]?;
+        Ok(Plane { size, tiles, marks })
     }
 
     /// The same cells in memory of their own. Where that is refused nothing stays taken.
@@ -64,11 +65,11 @@ impl Plane {
         ensures { IfOk result (λ plane. plane ≡ self.now) }
     {
         let tiles = Vec::from_slice(alloc, self.tiles.as_slice())?;
-        let bare = Vec::from_slice(alloc, self.bare.as_slice())?;
+        let marks = Vec::from_slice(alloc, self.marks.as_slice())?;
         Ok(Plane {
             size: self.size,
             tiles,
-            bare,
+            marks,
         })
     }
 
@@ -120,22 +121,22 @@ impl Plane {
         ensures { self.new ≡ with_tile self.old i tile }
     {
         self.tiles[i as usize] = tile;
-        self.bare[i as usize] = tile.is_empty();
+        self.marks[i as usize] = mark_of(&tile);
     }
 
-    /// Tile i, to be written: the plane ends with what is left behind the reference. The tile loses its mark, so where it may
-    /// end without cells `set_tile` is better.
+    /// Tile i, to be written: the plane ends with what is left behind the reference. From then on it is looked through
+    /// when it is asked whether it has cells, so `set_tile` is better for tiles that may end without any.
     #[inline]
     pub fn tile_mut(&mut self, i: u32) -> &mut Tile
         requires { i < tile_count self.old }
         ensures* writes_back { sem 𝓛 (LendsTile self.entry i result) }
         ensures tile { let r = tile_rectangle self.old i in IsTileFrom result.now self.old r.x r.y }
     {
-        self.bare[i as usize] = false;
+        self.marks[i as usize] = Mark::Lent;
         &mut self.tiles[i as usize]
     }
 
-    /// Whether tile i has no cell. A tile without a mark is looked through.
+    /// Whether tile i has no cell.
     #[inline]
     pub fn is_bare(&self, i: u32) -> bool
         requires { i < tile_count self.now }
@@ -144,18 +145,19 @@ impl Plane {
         ensures known { let r = tile_rectangle self.now i in
             IsBare self.now r.x r.y → IsTrue result }
     {
-        if self.bare[i as usize] {
-            return true;
+        match self.marks[i as usize] {
+            Mark::Bare => true,
+            Mark::Held => false,
+            Mark::Lent => self.tile(i).is_empty(),
         }
-        self.tile(i).is_empty()
     }
 
-    /// Whether there is no cell. A plane whose tiles all have their marks says so at once.
+    /// Whether no tile has a cell.
     pub fn is_empty(&self) -> bool
         ensures none { IsTrue result → HasNone self.now }
         ensures known { HasNone self.now → IsTrue result }
     {
-        if are_all_set(self.bare.as_slice()) {
+        if are_all_bare(self.marks.as_slice()) {
             return true;
         }
         for i in 0..self.size().tiles() {

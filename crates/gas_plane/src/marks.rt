@@ -1,33 +1,38 @@
-//! The marks of tiles that have no cell, and places round a circle.
+//! What a plane keeps of its tiles.
 
-ghost use Rattle.std.specs.Prelude.{◌≡◌, IsTrue, ℕ, ◌+◌, ◌-◌, ◌%◌, ◌<◌, length, true};
-ghost use Rattle.gas_plane.specs.Tiles.{is_set};
+ghost use Rattle.std.specs.Prelude.{◌≡◌, IsTrue, ℕ, ◌<◌, length, false};
+ghost use Rattle.bit_tile.specs.Tile.{HasCells};
+ghost use Rattle.gas_plane.specs.Marks.{mark_at, IsMarkOf};
+ghost use Rattle.gas_plane.specs.declared.marks.Mark.TheVariants.{Bare};
 
-/// Whether each mark is set. All are read, so that they are read as vectors.
-pub fn are_all_set(marks: &[bool]) -> bool
-    ensures { IsTrue result → (i : ℕ) → i < length marks.now → is_set marks.now i ≡ true }
+use bit_tile::Tile;
+
+/// Whether a tile has cells. Of one that was lent to be written, this isn't known.
+#[derive(Clone, Copy)]
+pub enum Mark {
+    Bare,
+    Held,
+    Lent,
+}
+
+/// The mark of a tile that is not lent.
+pub fn mark_of(tile: &Tile) -> Mark
+    ensures { IsMarkOf tile.now result }
+{
+    if tile.is_empty() {
+        Mark::Bare
+    } else {
+        Mark::Held
+    }
+}
+
+/// Whether each tile is marked as bare. All marks are read, so that they are read as vectors.
+pub fn are_all_bare(marks: &[Mark]) -> bool
+    ensures { IsTrue result → (i : ℕ) → i < length marks.now → mark_at marks.now i ≡ Bare }
 {
     let mut all = true;
     for mark in marks {
-        all &= *mark;
+        all &= matches!(mark, Mark::Bare);
     }
     all
-}
-
-/// Round a circle of n places, the one before place k.
-pub fn before(k: u32, n: u32) -> u32
-    requires { k < n }
-    ensures place { result ≡ (k + n - 1) % n }
-    ensures within { result < n }
-{
-    if k == 0 { n - 1 } else { k - 1 }
-}
-
-/// The one after place k.
-pub fn after(k: u32, n: u32) -> u32
-    requires { k < n }
-    ensures place { result ≡ (k + 1) % n }
-    ensures within { result < n }
-{
-    if k + 1 == n { 0 } else { k + 1 }
 }

@@ -4,13 +4,13 @@ use Rattle.gas_plane.proofs.BareTiles.{none_in_all, one_more_bare, is_true}
 use Rattle.gas_plane.proofs.Tilings.{nothing_there}
 use Rattle.gas_plane.proofs.Plane.is_empty.Goals as goal
 
-pub returns-then-are_all_set-clause-none : goal.returns-then-are_all_set-clause-none
-returns-then-are_all_set-clause-none c = λ _.
+pub returns-then-are_all_bare-clause-none : goal.returns-then-are_all_bare-clause-none
+returns-then-are_all_bare-clause-none c = λ _.
     record {
       cell = nothing_there c.self.inside.tiles.items c.self.inside.size c.args.self.now c.self.invariant.cover c.self.view_is
           (λ i low.
           let within : i < length c.as_slice.result.now = omega (arith, low, c.self.invariant.each, ap length c.as_slice.ensures.value) in
-          c.self.invariant.marks i (rw c.as_slice.ensures.value at (c.are_all_set.ensures (is_true c.are_all_set.result c.if-are_all_set.true) i within)));
+          (c.self.invariant.mark i).bare (rw c.as_slice.ensures.value at (c.are_all_bare.ensures (is_true c.are_all_bare.result c.if-are_all_bare.true) i within)));
     }
 
 pub loop-i-preserved : goal.loop-i-preserved

@@ -1,5 +1,6 @@
-use Rattle.std.proofs.Common.{refl, false}
-use Rattle.gas_plane.proofs.BareTiles.{marked_set}
+use Rattle.std.proofs.Common.{refl}
+use Rattle.gas_plane.proofs.BareTiles.{marked_set, lent_is_mark}
+use Rattle.gas_plane.specs.declared.marks.Mark.TheVariants.{Lent}
 use Rattle.gas_plane.proofs.Tilings.{tiled_set, tile_is, tile_there}
 use Rattle.gas_plane.proofs.Plane.tile_mut.Goals as goal
 
@@ -11,4 +12,4 @@ returns c = (
 
 pub invariant_of-self-lent : goal.invariant_of-self-lent
 invariant_of-self-lent c = λ w.
-    marked_set c.self.inside.tiles.items c.self.inside.bare.items c.args.i w false c.self.inside.size c.self.invariant (tile_there c.self.inside.tiles.items c.self.inside.size c.args.self.now c.args.i c.self.invariant.cover c.self.view_is c.requires) (λ e. absurd (cc))
+    marked_set c.self.inside.tiles.items c.self.inside.marks.items c.args.i w Lent c.self.inside.size c.self.invariant (tile_there c.self.inside.tiles.items c.self.inside.size c.args.self.now c.args.i c.self.invariant.cover c.self.view_is c.requires) (lent_is_mark w)

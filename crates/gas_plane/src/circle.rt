@@ -1,0 +1,21 @@
+//! Places round a circle.
+
+ghost use Rattle.std.specs.Prelude.{◌≡◌, ◌+◌, ◌-◌, ◌%◌, ◌<◌};
+
+/// Round a circle of n places, the one before place k.
+pub fn before(k: u32, n: u32) -> u32
+    requires { k < n }
+    ensures place { result ≡ (k + n - 1) % n }
+    ensures within { result < n }
+{
+    if k == 0 { n - 1 } else { k - 1 }
+}
+
+/// The one after place k.
+pub fn after(k: u32, n: u32) -> u32
+    requires { k < n }
+    ensures place { result ≡ (k + 1) % n }
+    ensures within { result < n }
+{
+    if k + 1 == n { 0 } else { k + 1 }
+}
