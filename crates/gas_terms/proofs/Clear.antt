@@ -4,7 +4,7 @@ use Rattle.gas_terms.specs.Velocity.{parity}
 use Rattle.gas_terms.specs.Cells.{Cells, has, joined, HasEvenSides, HasSidesOf}
 use Rattle.gas_terms.specs.Gas.{Gas, streamed, solid, forward}
 use Rattle.gas_terms.specs.Block.{corner_rule, other_coordinate}
-use Rattle.gas_terms.specs.Symmetry.{IsOnOneTorus, distance, AreFar, parts}
+use Rattle.gas_terms.specs.Symmetry.{IsOnOneTorus, distance, AreApart, occupied}
 use Rattle.gas_terms.proofs.Cells.{has-cells_where}
 use Rattle.gas_terms.proofs.Distance.{triangle, distance_self, distance_back, other_near}
 use Rattle.gas_terms.proofs.Transport.{cell_by_eight, other_below}
@@ -70,7 +70,7 @@ four t =
     ]
 
 -- Of two sets that are two apart no block has cells of both.
-pub one_is_clear : (p x y : ℕ) (some others : Cells) → HasSidesOf others some → x < some.width → y < some.height → AreFar 2 some others
+pub one_is_clear : (p x y : ℕ) (some others : Cells) → HasSidesOf others some → x < some.width → y < some.height → AreApart 2 some others
     → ((i j : Bool) → at p some.width some.height some x y i j ≡ false) ⊎ ((i j : Bool) → at p some.width some.height others x y i j ≡ false)
 one_is_clear p x y some others s l m far =
     let w = some.width in
@@ -148,9 +148,9 @@ or_second a b e = grind arith
 other_holds : (a b : Bool) → (a || b) ≡ true → a ≡ false → b ≡ true
 other_holds a b e f = grind arith
 
-part_follows : (x y : ℕ) (g : Gas) → x < g.particles.width → y < g.particles.height
-    → (a : ℕ) × (b : ℕ) × CameFrom x y g.particles a b → (a : ℕ) × (b : ℕ) × CameFrom x y (parts g) a b
-part_follows x y g l m from =
+occupant_follows : (x y : ℕ) (g : Gas) → x < g.particles.width → y < g.particles.height
+    → (a : ℕ) × (b : ℕ) × CameFrom x y g.particles a b → (a : ℕ) × (b : ℕ) × CameFrom x y (occupied g) a b
+occupant_follows x y g l m from =
     let c = from.2 in (
       from.0,
       from.1,
@@ -163,12 +163,12 @@ part_follows x y g l m from =
       },
     )
 
-pub parts_follow : (g : Gas) → IsOnOneTorus g → Follows (parts g) (parts (forward g))
-parts_follow g i = λ x y l m holds.
+pub occupied_follows : (g : Gas) → IsOnOneTorus g → Follows (occupied g) (occupied (forward g))
+occupied_follows g i = λ x y l m holds.
     let after = streamed (parity g.tick) g.particles (solid g) in
     let is : (has after x y || has (solid g) x y) ≡ true = sym (has-joined after (solid g) x y l m) ∙ holds in
     elim (either (has after x y)) [
-      | inr here ↦ part_follows x y g l m (particles_follow (parity g.tick) g.particles (solid g) i.sides (solid_sides g i) x y l m here)
+      | inr here ↦ occupant_follows x y g l m (particles_follow (parity g.tick) g.particles (solid g) i.sides (solid_sides g i) x y l m here)
       | inl none ↦
           let d = distance_self g.particles.width x l in
           let e = distance_self g.particles.height y m in (
@@ -194,7 +194,7 @@ nearer d w x a x' a' l m k o p q r =
     omega arith
 
 pub sets_come_nearer : (d : ℕ) (some others some' others' : Cells) → HasSidesOf others some → HasSidesOf some' some → HasSidesOf others' others
-    → Follows some some' → Follows others others' → AreFar (d + 2) some others → AreFar d some' others'
+    → Follows some some' → Follows others others' → AreApart (d + 2) some others → AreApart d some' others'
 sets_come_nearer d some others some' others' s t u f f' far = λ x y a b l m k o here there.
     let l' : x < some.width = omega (arith, t.wide) in
     let m' : y < some.height = omega (arith, t.high) in
@@ -215,7 +215,7 @@ sets_come_nearer d some others some' others' s t u f f' far = λ x y a b l m k o
           (nearer d some.height y b g.1 h.1 m' o' c.row qo c.down (subst (λ n. distance n b h.1 ≤ 1) s.high q.down) r))
     ]
 
-pub far_less : (d e : ℕ) (some others : Cells) → d ≤ e → AreFar e some others → AreFar d some others
+pub far_less : (d e : ℕ) (some others : Cells) → d ≤ e → AreApart e some others → AreApart d some others
 far_less d e some others less far = λ x y a b l m k o here there.
     elim (far x y a b l m k o here there) [
       | inl r ↦ inl (omega arith)

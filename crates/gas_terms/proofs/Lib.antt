@@ -36,9 +36,9 @@ pub mod RowSums
 pub mod Reversal
 pub mod Transport
 pub mod Mirrors
-pub mod Moves
+pub mod Translations
 pub mod Maps
 pub mod Distance
 pub mod LightCone
 pub mod Clear
-pub mod SideBySide
+pub mod Superposed

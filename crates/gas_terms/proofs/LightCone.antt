@@ -6,7 +6,7 @@ use Rattle.gas_terms.specs.Velocity.{parity}
 use Rattle.gas_terms.specs.Cells.{Cells, Rectangle, has, is_inside, HasEvenSides, HasSidesOf}
 use Rattle.gas_terms.specs.Gas.{Gas, Source, streamed, solid, forward, act, step, is_due, is_drained, is_filled}
 use Rattle.gas_terms.specs.Block.{other_coordinate}
-use Rattle.gas_terms.specs.Symmetry.{IsOnOneTorus, distance, AgreeNear, AgreeingNear}
+use Rattle.gas_terms.specs.Symmetry.{IsOnOneTorus, distance, AgreeWithin, AgreeOnCone}
 use Rattle.gas_terms.proofs.Cells.{has-cells_where}
 use Rattle.gas_terms.proofs.Distance.{triangle, other_near, distance_self}
 use Rattle.gas_terms.proofs.Transport.{IsSameBlock, same_block_streams, other_below}
@@ -19,7 +19,7 @@ one_further m n p x a l k d =
     let s = other_near n p a k o in
     omega arith
 
-near_block : (n p x y a b : ℕ) (some others : Cells) → HasSidesOf others some → AgreeNear (n + 1) x y some others
+near_block : (n p x y a b : ℕ) (some others : Cells) → HasSidesOf others some → AgreeWithin (n + 1) x y some others
     → x < some.width → y < some.height → a < some.width → b < some.height → distance some.width x a ≤ n → distance some.height y b ≤ n
     → IsSameBlock p p some others a b a b
 near_block n p x y a b some others sides agree l m la mb da db =
@@ -43,8 +43,8 @@ near_block n p x y a b some others sides agree l m la mb da db =
 
 pub phase_is_local : (n p x y : ℕ) (some others walls boulders : Cells) → HasEvenSides some.width some.height
     → HasSidesOf others some → HasSidesOf walls some → HasSidesOf boulders some → x < some.width → y < some.height
-    → AgreeNear (n + 1) x y some others → AgreeNear (n + 1) x y walls boulders
-    → AgreeNear n x y (streamed p some walls) (streamed p others boulders)
+    → AgreeWithin (n + 1) x y some others → AgreeWithin (n + 1) x y walls boulders
+    → AgreeWithin n x y (streamed p some walls) (streamed p others boulders)
 phase_is_local n p x y some others walls boulders e s t u l m here solid = λ a b la mb da db.
     let e' : HasEvenSides others.width others.height = record { wide = ap (λ k. k % 2) s.wide ∙ e.wide; high = ap (λ k. k % 2) s.high ∙ e.high } in
     let u' : HasSidesOf boulders others = record { wide = u.wide ∙ sym s.wide; high = u.high ∙ sym s.high } in
@@ -54,20 +54,20 @@ phase_is_local n p x y some others walls boulders e s t u l m here solid = λ a 
     (near_block n p x y a b walls boulders v solid (omega (arith, t.wide)) (omega (arith, t.high)) (omega (arith, t.wide)) (omega (arith, t.high))
     (subst (λ k. distance k x a ≤ n) (sym t.wide) da) (subst (λ k. distance k y b ≤ n) (sym t.high) db))
 
-agree_nearer : (n x y : ℕ) (some others : Cells) → AgreeNear (n + 1) x y some others → AgreeNear n x y some others
+agree_nearer : (n x y : ℕ) (some others : Cells) → AgreeWithin (n + 1) x y some others → AgreeWithin n x y some others
 agree_nearer n x y some others agree = λ a b la mb da db. agree a b la mb (omega arith) (omega arith)
 
 pub agreeing_forward : (n x y : ℕ) (g k : Gas) → g.tick ≡ k.tick → IsOnOneTorus g → IsOnOneTorus k → HasSidesOf k.particles g.particles
-    → x < g.particles.width → y < g.particles.height → AgreeingNear (n + 1) x y g k → AgreeingNear n x y (forward g) (forward k)
+    → x < g.particles.width → y < g.particles.height → AgreeOnCone (n + 1) x y g k → AgreeOnCone n x y (forward g) (forward k)
 agreeing_forward n x y g k e i j s l m agree =
     let there : HasSidesOf (solid k) g.particles = record { wide = j.walls.wide ∙ s.wide; high = j.walls.high ∙ s.high } in
     record {
-      particles = subst (λ t. AgreeNear n x y (streamed (parity g.tick) g.particles (solid g)) (streamed (parity t) k.particles (solid k))) e
+      particles = subst (λ t. AgreeWithin n x y (streamed (parity g.tick) g.particles (solid g)) (streamed (parity t) k.particles (solid k))) e
           (phase_is_local n (parity g.tick) x y g.particles k.particles (solid g) (solid k) i.sides s (solid_sides g i) there l m agree.particles agree.solids);
       solids = agree_nearer n x y (solid g) (solid k) agree.solids;
     }
 
-same_here : (x y : ℕ) (some others : Cells) → x < some.width → y < some.height → AgreeNear 0 x y some others → has some x y ≡ has others x y
+same_here : (x y : ℕ) (some others : Cells) → x < some.width → y < some.height → AgreeWithin 0 x y some others → has some x y ≡ has others x y
 same_here x y some others l m agree =
     agree x y l m (omega (arith, distance_self some.width x l)) (omega (arith, distance_self some.height y m))
 
@@ -83,7 +83,7 @@ same_ported : (a b : Bool) (t u : ℤ) (d d' : List Rectangle) (s s' : List Sour
 same_ported a b t u d d' s s' x y e f g h = cc
 
 agreeing_act : (n x y : ℕ) (g k : Gas) → g.tick ≡ k.tick → g.drains ≡ k.drains → g.sources ≡ k.sources → HasSidesOf k.particles g.particles
-    → AgreeingNear n x y g k → AgreeingNear n x y (act g) (act k)
+    → AgreeOnCone n x y g k → AgreeOnCone n x y (act g) (act k)
 unfolding filled_at drained_at
 agreeing_act n x y g k e d s sides agree = record {
   particles = λ a b l m da db.
@@ -104,7 +104,7 @@ torus_step g i = record {
 
 agreeing_step : (n x y : ℕ) (g k : Gas) → g.tick ≡ k.tick → g.drains ≡ k.drains → g.sources ≡ k.sources → IsOnOneTorus g → IsOnOneTorus k
     → HasSidesOf k.particles g.particles
-    → x < g.particles.width → y < g.particles.height → AgreeingNear (n + 1) x y g k → AgreeingNear n x y (step g) (step k)
+    → x < g.particles.width → y < g.particles.height → AgreeOnCone (n + 1) x y g k → AgreeOnCone n x y (step g) (step k)
 agreeing_step n x y g k e d s i j sides l m agree =
     agreeing_act n x y (forward g) (forward k) (ap (λ t. t +ℤ pos 1) e) d s (record { wide = sides.wide; high = sides.high })
     (agreeing_forward n x y g k e i j sides l m agree)
@@ -112,11 +112,11 @@ agreeing_step n x y g k e d s i j sides l m agree =
 -- So many steps, so many cells.
 pub agreeing_steps : (n m x y : ℕ) (g k : Gas) → g.tick ≡ k.tick → g.drains ≡ k.drains → g.sources ≡ k.sources → IsOnOneTorus g → IsOnOneTorus k
     → HasSidesOf k.particles g.particles
-    → x < g.particles.width → y < g.particles.height → AgreeingNear (n + m) x y g k
-    → AgreeingNear m x y (iterate step n g) (iterate step n k)
-agreeing_steps zero m x y g k e d s i j sides l h agree = subst (λ r. AgreeingNear r x y g k) (let z : 0 + m ≡ m = omega arith in z) agree
+    → x < g.particles.width → y < g.particles.height → AgreeOnCone (n + m) x y g k
+    → AgreeOnCone m x y (iterate step n g) (iterate step n k)
+agreeing_steps zero m x y g k e d s i j sides l h agree = subst (λ r. AgreeOnCone r x y g k) (let z : 0 + m ≡ m = omega arith in z) agree
 agreeing_steps (suc n) m x y g k e d s i j sides l h agree =
-    let nearer = subst (λ r. AgreeingNear r x y g k) (let z : suc n + m ≡ (n + m) + 1 = omega arith in z) agree in
+    let nearer = subst (λ r. AgreeOnCone r x y g k) (let z : suc n + m ≡ (n + m) + 1 = omega arith in z) agree in
     agreeing_steps n m x y (step g) (step k) (ap (λ t. t +ℤ pos 1) e) d s (torus_step g i) (torus_step k j)
     (record { wide = sides.wide; high = sides.high }) l h (agreeing_step (n + m) x y g k e d s i j sides l h nearer)
 
@@ -129,10 +129,10 @@ steps_height zero g = refl
 steps_height (suc n) g = steps_height n (step g)
 
 pub cell_after_steps : (n x y : ℕ) (g k : Gas) → g.tick ≡ k.tick → g.drains ≡ k.drains → g.sources ≡ k.sources → IsOnOneTorus g → IsOnOneTorus k
-    → HasSidesOf k.particles g.particles → x < g.particles.width → y < g.particles.height → AgreeingNear n x y g k
+    → HasSidesOf k.particles g.particles → x < g.particles.width → y < g.particles.height → AgreeOnCone n x y g k
     → has (iterate step n g).particles x y ≡ has (iterate step n k).particles x y
 cell_after_steps n x y g k e d s i j sides l m agree =
-    let far = subst (λ r. AgreeingNear r x y g k) (let z : n ≡ n + 0 = omega arith in z) agree in
+    let far = subst (λ r. AgreeOnCone r x y g k) (let z : n ≡ n + 0 = omega arith in z) agree in
     same_here x y (iterate step n g).particles (iterate step n k).particles
     (omega (arith, steps_width n g)) (omega (arith, steps_height n g))
     (agreeing_steps n 0 x y g k e d s i j sides l m far).particles

@@ -6,13 +6,13 @@ use Rattle.std.specs.Fn.{iterate}
 use Rattle.gas_terms.specs.Velocity.{velocity_at, parity}
 use Rattle.gas_terms.specs.Cells.{Cells, Rectangle, has, cells_where, joined, HasEvenSides, HasSidesOf}
 use Rattle.gas_terms.specs.Gas.{Gas, Source, streamed, solid, forward}
-use Rattle.gas_terms.specs.Symmetry.{IsOnOneTorus, mapped, delayed, moved_from, moved_by, mirrored, upside_down, transposed}
+use Rattle.gas_terms.specs.Symmetry.{IsOnOneTorus, mapped, delayed, translated_from, translated, mirrored, upside_down, transposed}
 use Rattle.gas_terms.proofs.Parity.{parity-small}
 use Rattle.gas_terms.proofs.Cells.{has-cells_where, same_cells_where}
 use Rattle.gas_terms.proofs.Steps.{gas_at}
 use Rattle.gas_terms.proofs.Transport.{pulled_joined}
 use Rattle.gas_terms.proofs.Mirrors.{mirrored_streamed, upside_down_streamed, transposed_streamed, mirror_parity, has-transposed}
-use Rattle.gas_terms.proofs.Moves.{moved_streamed, parity_after}
+use Rattle.gas_terms.proofs.Translations.{translated_streamed, parity_after}
 
 record Commutes (f : Cells → Cells) (clock : ℤ → ℤ) : Type 0 where
   ticks : (t : ℤ) → clock (t +ℤ pos 1) ≡ clock t +ℤ pos 1
@@ -101,27 +101,27 @@ transposed_run =
       streams = λ t particles walls e s. transposed_streamed (parity t) particles walls e s;
     })
 
-moved_joined : (right down : ℕ) (some others : Cells) → HasSidesOf others some
-    → joined (moved_by right down some) (moved_by right down others) ≡ moved_by right down (joined some others)
-moved_joined right down some others sides =
-    ap (λ n. joined (moved_by right down some)
-    (cells_where others.width others.height (λ x y. has others (moved_from n right x) (moved_from others.height down y)))) sides.wide
-    ∙ ap (λ n. joined (moved_by right down some)
-    (cells_where others.width others.height (λ x y. has others (moved_from some.width right x) (moved_from n down y)))) sides.high
-    ∙ pulled_joined some others (moved_from some.width right) (moved_from some.height down) sides
+translated_joined : (right down : ℕ) (some others : Cells) → HasSidesOf others some
+    → joined (translated right down some) (translated right down others) ≡ translated right down (joined some others)
+translated_joined right down some others sides =
+    ap (λ n. joined (translated right down some)
+    (cells_where others.width others.height (λ x y. has others (translated_from n right x) (translated_from others.height down y)))) sides.wide
+    ∙ ap (λ n. joined (translated right down some)
+    (cells_where others.width others.height (λ x y. has others (translated_from some.width right x) (translated_from n down y)))) sides.high
+    ∙ pulled_joined some others (translated_from some.width right) (translated_from some.height down) sides
     (λ x l. let some_cells : 0 < some.width = omega arith in mod-lt (x + some.width - right % some.width) some_cells)
     (λ y m. let some_cells : 0 < some.height = omega arith in mod-lt (y + some.height - down % some.height) some_cells)
 
-pub moved_run : (right down : ℕ) (ticks : ℤ) → right % 2 ≡ parity ticks → down % 2 ≡ parity ticks → (n : ℕ) (g : Gas) → IsOnOneTorus g
-    → delayed ticks (mapped (moved_by right down) (iterate forward n g)) ≡ iterate forward n (delayed ticks (mapped (moved_by right down) g))
-moved_run right down ticks a b =
-    carried_run (moved_by right down) (λ t. t +ℤ ticks) (record {
+pub translated_run : (right down : ℕ) (ticks : ℤ) → right % 2 ≡ parity ticks → down % 2 ≡ parity ticks → (n : ℕ) (g : Gas) → IsOnOneTorus g
+    → delayed ticks (mapped (translated right down) (iterate forward n g)) ≡ iterate forward n (delayed ticks (mapped (translated right down) g))
+translated_run right down ticks a b =
+    carried_run (translated right down) (λ t. t +ℤ ticks) (record {
       ticks = λ t. omega (arith, ints);
-      joins = moved_joined right down;
+      joins = translated_joined right down;
       streams = λ t particles walls e s.
           let k = parity_after t ticks in
           let small = parity-small t in
-          moved_streamed (parity (t +ℤ ticks)) (parity t) right down particles walls e s (omega arith) (omega arith);
+          translated_streamed (parity (t +ℤ ticks)) (parity t) right down particles walls e s (omega arith) (omega arith);
     })
 
 -- The velocities in a mirror.

@@ -28,13 +28,13 @@ abbrev pub reversed : Gas → Gas
 reversed g = record g { tick = pos 1 -ℤ g.tick; drains = []; sources = [] }
 
 -- the coordinate that a move by so many cells brings to x
-abbrev pub moved_from : ℕ → ℕ → ℕ → ℕ
-moved_from size by x = (x + size - by % size) % size
+abbrev pub translated_from : ℕ → ℕ → ℕ → ℕ
+translated_from size by x = (x + size - by % size) % size
 
 -- the cells moved to the right and down by so many columns and rows, over the seams
-abbrev pub moved_by : ℕ → ℕ → Cells → Cells
-moved_by right down cells =
-    cells_where cells.width cells.height (λ x y. has cells (moved_from cells.width right x) (moved_from cells.height down y))
+abbrev pub translated : ℕ → ℕ → Cells → Cells
+translated right down cells =
+    cells_where cells.width cells.height (λ x y. has cells (translated_from cells.width right x) (translated_from cells.height down y))
 
 -- the cells in a mirror: left and right change places
 abbrev pub mirrored : Cells → Cells
@@ -61,29 +61,29 @@ abbrev pub distance : ℕ → ℕ → ℕ → ℕ
 distance size x a = min ((x + size - a) % size) ((a + size - x) % size)
 
 -- two sets hold the same cells within so many columns and rows of (x, y)
-abbrev pub AgreeNear : ℕ → ℕ → ℕ → Cells → Cells → Type 0
-AgreeNear n x y some others =
+abbrev pub AgreeWithin : ℕ → ℕ → ℕ → Cells → Cells → Type 0
+AgreeWithin n x y some others =
     (a b : ℕ) → a < some.width → b < some.height → distance some.width x a ≤ n → distance some.height y b ≤ n
     → has some a b ≡ has others a b
 
 -- two gases hold the same particles there, and the same walls or obstacles
-pub record AgreeingNear (n x y : ℕ) (g k : Gas) : Type 0 where
-  pub particles : AgreeNear n x y g.particles k.particles
-  pub solids : AgreeNear n x y (solid g) (solid k)
+pub record AgreeOnCone (n x y : ℕ) (g k : Gas) : Type 0 where
+  pub particles : AgreeWithin n x y g.particles k.particles
+  pub solids : AgreeWithin n x y (solid g) (solid k)
 
 -- each cell of one set is at least so many columns or rows from each of the other
-abbrev pub AreFar : ℕ → Cells → Cells → Type 0
-AreFar n some others =
+abbrev pub AreApart : ℕ → Cells → Cells → Type 0
+AreApart n some others =
     (x y a b : ℕ) → x < some.width → y < some.height → a < others.width → b < others.height
     → has some x y ≡ true → has others a b ≡ true → (n ≤ distance some.width x a) ⊎ (n ≤ distance some.height y b)
 
 -- the cells in which a gas has a particle, a wall or an obstacle
-abbrev pub parts : Gas → Cells
-parts g = joined g.particles (solid g)
+abbrev pub occupied : Gas → Cells
+occupied g = joined g.particles (solid g)
 
 -- both gases side by side, with the ports of the first
-abbrev pub beside : Gas → Gas → Gas
-beside g k =
+abbrev pub superposed : Gas → Gas → Gas
+superposed g k =
     record g { particles = joined g.particles k.particles; walls = joined g.walls k.walls; obstacles = joined g.obstacles k.obstacles }
 
 -- a gas with other particles

@@ -6,10 +6,10 @@ ghost use Rattle.gas_terms.specs.Velocity.{opposite, parity, velocity_at};
 ghost use Rattle.gas_terms.specs.Cells.{Cells, has, joined, HasEvenSides, HasSidesOf, IsEvenTorus};
 ghost use Rattle.gas_terms.specs.Gas.{Gas, forward, back, step, HasNoPorts};
 ghost use Rattle.gas_terms.specs.Accounts.{gas_total};
-ghost use Rattle.gas_terms.specs.Symmetry.{reversed, IsOnOneTorus, ShareTorus, SharePorts, AgreeingNear, AreFar, parts, beside, with_particles, mapped, delayed, moved_by, mirrored, upside_down, transposed};
+ghost use Rattle.gas_terms.specs.Symmetry.{reversed, IsOnOneTorus, ShareTorus, SharePorts, AgreeOnCone, AreApart, occupied, superposed, with_particles, mapped, delayed, translated, mirrored, upside_down, transposed};
 
 /// Time reversal: a run back is a run forward of the gas whose particles all move the other way.
-pub fn time_can_be_reversed()
+pub fn time_reversal_is_a_symmetry()
     ensures velocities { (g : Gas) (x y : ℕ) →
         velocity_at (parity (reversed g).tick) x y ≡ opposite (velocity_at (parity g.tick) x y) }
     ensures momenta { (g : Gas) → HasEvenSides g.particles.width g.particles.height →
@@ -25,7 +25,7 @@ pub fn time_can_be_reversed()
 {}
 
 /// The gas runs the same in a mirror, upside down and with columns for rows, without a change of the tick.
-pub fn mirrors_keep_the_rule()
+pub fn mirrors_are_symmetries()
     ensures mirror { (n : ℕ) (g : Gas) → IsOnOneTorus g →
         mapped mirrored (iterate forward n g) ≡ iterate forward n (mapped mirrored g) }
     ensures flip { (n : ℕ) (g : Gas) → IsOnOneTorus g →
@@ -42,49 +42,49 @@ pub fn mirrors_keep_the_rule()
 {}
 
 /// Places and ticks are alike: the gas runs the same after a move by columns, rows and ticks that are all even or all odd.
-pub fn places_and_ticks_are_alike()
+pub fn translations_are_symmetries()
     ensures runs { (right down : ℕ) (ticks : ℤ) → right % 2 ≡ parity ticks → down % 2 ≡ parity ticks →
         (n : ℕ) (g : Gas) → IsOnOneTorus g →
-        delayed ticks (mapped (moved_by right down) (iterate forward n g))
-        ≡ iterate forward n (delayed ticks (mapped (moved_by right down) g)) }
+        delayed ticks (mapped (translated right down) (iterate forward n g))
+        ≡ iterate forward n (delayed ticks (mapped (translated right down) g)) }
     // What such a move does: each cell goes so many columns to the right and rows down.
     ensures moves { (right down : ℕ) (cells : Cells) (x y : ℕ) → x < cells.width → y < cells.height →
-        has (moved_by right down cells) ((x + right) % cells.width) ((y + down) % cells.height) ≡ has cells x y }
+        has (translated right down cells) ((x + right) % cells.width) ((y + down) % cells.height) ≡ has cells x y }
 {}
 
 /// Nothing goes faster than one cell a step: what a cell holds after n steps depends on the cells within n columns and rows of it.
-pub fn nothing_outruns_a_cell_a_step()
+pub fn nothing_leaves_the_light_cone()
     ensures cell { (n x y : ℕ) (g k : Gas) → ShareTorus g k → SharePorts g k →
         x < g.particles.width → y < g.particles.height →
-        AgreeingNear n x y g k →
+        AgreeOnCone n x y g k →
         has (iterate step n g).particles x y ≡ has (iterate step n k).particles x y }
     // What is within m of it depends on what is within n + m.
     ensures area { (n m x y : ℕ) (g k : Gas) → ShareTorus g k → SharePorts g k →
         x < g.particles.width → y < g.particles.height →
-        AgreeingNear (n + m) x y g k → AgreeingNear m x y (iterate step n g) (iterate step n k) }
+        AgreeOnCone (n + m) x y g k → AgreeOnCone m x y (iterate step n g) (iterate step n k) }
 {}
 
 /// What doesn't meet runs as each alone, so machines can be put side by side.
-pub fn what_does_not_meet_runs_alone()
+pub fn what_never_meets_is_superposed()
     // Two gases, with the walls and obstacles of each, that keep two cells apart as long as each runs alone.
     ensures gases { (n : ℕ) (g k : Gas) → ShareTorus g k →
-        ((m : ℕ) → m < n → AreFar 2 (parts (iterate forward m g)) (parts (iterate forward m k))) →
-        iterate forward n (beside g k) ≡ beside (iterate forward n g) (iterate forward n k) }
+        ((m : ℕ) → m < n → AreApart 2 (occupied (iterate forward m g)) (occupied (iterate forward m k))) →
+        iterate forward n (superposed g k) ≡ superposed (iterate forward n g) (iterate forward n k) }
     // It is enough that they are twice as many cells apart as there are steps.
     ensures far_gases { (n : ℕ) (g k : Gas) → ShareTorus g k →
-        AreFar (2 * n) (parts g) (parts k) →
-        iterate forward n (beside g k) ≡ beside (iterate forward n g) (iterate forward n k) }
+        AreApart (2 * n) (occupied g) (occupied k) →
+        iterate forward n (superposed g k) ≡ superposed (iterate forward n g) (iterate forward n k) }
     // The same of two sets of particles among one gas's walls and obstacles.
     ensures particles { (n : ℕ) (g : Gas) (others : Cells) →
         IsOnOneTorus g → HasSidesOf others g.particles →
         let k = with_particles g others in
         ((m : ℕ) → m < n →
-        AreFar 2 (iterate forward m g).particles (iterate forward m k).particles) →
+        AreApart 2 (iterate forward m g).particles (iterate forward m k).particles) →
         iterate forward n (with_particles g (joined g.particles others))
         ≡ with_particles (iterate forward n g)
         (joined (iterate forward n g).particles (iterate forward n k).particles) }
     ensures far_particles { (n : ℕ) (g : Gas) (others : Cells) →
-        IsOnOneTorus g → HasSidesOf others g.particles → AreFar (2 * n) g.particles others →
+        IsOnOneTorus g → HasSidesOf others g.particles → AreApart (2 * n) g.particles others →
         iterate forward n (with_particles g (joined g.particles others))
         ≡ with_particles (iterate forward n g)
         (joined (iterate forward n g).particles

@@ -4,12 +4,12 @@ use Rattle.std.specs.Fn.{iterate}
 use Rattle.gas_terms.specs.Velocity.{parity}
 use Rattle.gas_terms.specs.Cells.{Cells, Rectangle, has, joined, HasEvenSides, HasSidesOf}
 use Rattle.gas_terms.specs.Gas.{Gas, Source, streamed, solid, forward}
-use Rattle.gas_terms.specs.Symmetry.{IsOnOneTorus, AreFar, parts, beside, with_particles}
+use Rattle.gas_terms.specs.Symmetry.{IsOnOneTorus, AreApart, occupied, superposed, with_particles}
 use Rattle.gas_terms.proofs.Cells.{full-cells_where, same_cells}
 use Rattle.gas_terms.proofs.Steps.{gas_at, full_streamed}
 use Rattle.gas_terms.proofs.Transport.{IsSameBlock, same_block_streams}
 use Rattle.gas_terms.proofs.Maps.{torus_forward, solid_sides}
-use Rattle.gas_terms.proofs.Clear.{has-joined, neither, at, at_sides, one_of_below, one_is_clear, none_come, particles_follow, parts_follow, sets_come_nearer, far_less}
+use Rattle.gas_terms.proofs.Clear.{has-joined, neither, at, at_sides, one_of_below, one_is_clear, none_come, particles_follow, occupied_follows, sets_come_nearer, far_less}
 
 or_none : (a b : Bool) → b ≡ false → (a || b) ≡ a
 or_none a b e = grind arith
@@ -24,9 +24,9 @@ second_solid : (a b c d : Bool) → (a || c) ≡ false → ((a || b) || (c || d)
 second_solid a b c d e = grind arith
 
 -- the solids of both
-has-solid_beside : (g k : Gas) (a b : ℕ) → IsOnOneTorus g → a < g.particles.width → b < g.particles.height
-    → has (solid (beside g k)) a b ≡ ((has g.walls a b || has k.walls a b) || (has g.obstacles a b || has k.obstacles a b))
-has-solid_beside g k a b i l m =
+has-solid_superposed : (g k : Gas) (a b : ℕ) → IsOnOneTorus g → a < g.particles.width → b < g.particles.height
+    → has (solid (superposed g k)) a b ≡ ((has g.walls a b || has k.walls a b) || (has g.obstacles a b || has k.obstacles a b))
+has-solid_superposed g k a b i l m =
     let l' : a < g.walls.width = omega (arith, i.walls.wide) in
     let m' : b < g.walls.height = omega (arith, i.walls.high) in
     has-joined (joined g.walls k.walls) (joined g.obstacles k.obstacles) a b l' m'
@@ -38,8 +38,8 @@ has-solid : (g : Gas) (a b : ℕ) → IsOnOneTorus g → a < g.particles.width �
     → has (solid g) a b ≡ (has g.walls a b || has g.obstacles a b)
 has-solid g a b i l m = has-joined g.walls g.obstacles a b (omega (arith, i.walls.wide)) (omega (arith, i.walls.high))
 
-torus_beside : (g k : Gas) → IsOnOneTorus g → IsOnOneTorus (beside g k)
-torus_beside g k i = record {
+torus_superposed : (g k : Gas) → IsOnOneTorus g → IsOnOneTorus (superposed g k)
+torus_superposed g k i = record {
   sides = i.sides;
   walls = record { wide = i.walls.wide; high = i.walls.high };
   obstacles = record { wide = i.obstacles.wide; high = i.obstacles.high };
@@ -47,27 +47,27 @@ torus_beside g k i = record {
 
 -- At a block where one of them has nothing, both are as the other.
 like_first : (g k : Gas) (a b : ℕ) → IsOnOneTorus g → IsOnOneTorus k → HasSidesOf k.particles g.particles
-    → a < g.particles.width → b < g.particles.height → has (parts k) a b ≡ false
-    → (has (beside g k).particles a b ≡ has g.particles a b) × (has (solid (beside g k)) a b ≡ has (solid g) a b)
+    → a < g.particles.width → b < g.particles.height → has (occupied k) a b ≡ false
+    → (has (superposed g k).particles a b ≡ has g.particles a b) × (has (solid (superposed g k)) a b ≡ has (solid g) a b)
 like_first g k a b i j s l m none =
     let l' : a < k.particles.width = omega (arith, s.wide) in
     let m' : b < k.particles.height = omega (arith, s.high) in
     let n = neither _ _ (sym (has-joined k.particles (solid k) a b l' m') ∙ none) in (
       has-joined g.particles k.particles a b l m ∙ or_none _ _ n.0,
-      has-solid_beside g k a b i l m
+      has-solid_superposed g k a b i l m
           ∙ first_solid (has g.walls a b) (has k.walls a b) (has g.obstacles a b) (has k.obstacles a b) (sym (has-solid k a b j l' m') ∙ n.1)
           ∙ sym (has-solid g a b i l m),
     )
 
 like_second : (g k : Gas) (a b : ℕ) → IsOnOneTorus g → IsOnOneTorus k → HasSidesOf k.particles g.particles
-    → a < g.particles.width → b < g.particles.height → has (parts g) a b ≡ false
-    → (has (beside g k).particles a b ≡ has k.particles a b) × (has (solid (beside g k)) a b ≡ has (solid k) a b)
+    → a < g.particles.width → b < g.particles.height → has (occupied g) a b ≡ false
+    → (has (superposed g k).particles a b ≡ has k.particles a b) × (has (solid (superposed g k)) a b ≡ has (solid k) a b)
 like_second g k a b i j s l m none =
     let l' : a < k.particles.width = omega (arith, s.wide) in
     let m' : b < k.particles.height = omega (arith, s.high) in
     let n = neither _ _ (sym (has-joined g.particles (solid g) a b l m) ∙ none) in (
       has-joined g.particles k.particles a b l m ∙ none_or _ _ n.0,
-      has-solid_beside g k a b i l m
+      has-solid_superposed g k a b i l m
           ∙ second_solid (has g.walls a b) (has k.walls a b) (has g.obstacles a b) (has k.obstacles a b) (sym (has-solid g a b i l m) ∙ n.1)
           ∙ sym (has-solid k a b j l' m'),
     )
@@ -147,21 +147,21 @@ same_frame t a a' walls obstacles d s e = cc
 sides_of : (g : Gas) (w h : ℕ) → IsOnOneTorus g → g.particles.width ≡ w → g.particles.height ≡ h → HasBoth w h g.particles (solid g)
 sides_of g w h i e f = record { wide = e; high = f; walls_wide = i.walls.wide ∙ e; walls_high = i.walls.high ∙ f }
 
-forward_beside : (g k : Gas) → g.tick ≡ k.tick → IsOnOneTorus g → IsOnOneTorus k → HasSidesOf k.particles g.particles
-    → AreFar 2 (parts g) (parts k) → forward (beside g k) ≡ beside (forward g) (forward k)
+forward_superposed : (g k : Gas) → g.tick ≡ k.tick → IsOnOneTorus g → IsOnOneTorus k → HasSidesOf k.particles g.particles
+    → AreApart 2 (occupied g) (occupied k) → forward (superposed g k) ≡ superposed (forward g) (forward k)
 unfolding gas_at
-forward_beside g k e i j s far =
+forward_superposed g k e i j s far =
     let w = g.particles.width in
     let h = g.particles.height in
     let p = parity g.tick in
-    let b = beside g k in
+    let b = superposed g k in
     same_frame (g.tick +ℤ pos 1) (streamed p b.particles (solid b))
     (joined (streamed p g.particles (solid g)) (streamed (parity k.tick) k.particles (solid k)))
     b.walls b.obstacles g.drains g.sources
     (step_of_both p w h b.particles (solid b) g.particles (solid g) k.particles (solid k) i.sides
-    (sides_of b w h (torus_beside g k i) refl refl) (sides_of g w h i refl refl) (sides_of k w h j s.wide s.high)
+    (sides_of b w h (torus_superposed g k i) refl refl) (sides_of g w h i refl refl) (sides_of k w h j s.wide s.high)
     (λ x y l m.
-    elim (one_is_clear p x y (parts g) (parts k) (record { wide = s.wide; high = s.high }) l m far) [
+    elim (one_is_clear p x y (occupied g) (occupied k) (record { wide = s.wide; high = s.high }) l m far) [
       | inr clear ↦
           inl (record {
             particles = λ a c. (like_first g k _ _ i j s (one_of_below p w x a l) (one_of_below p h y c m) (clear a c)).0;
@@ -181,31 +181,31 @@ forward_beside g k e i j s far =
     ])
     ∙ ap (λ t. joined (streamed p g.particles (solid g)) (streamed (parity t) k.particles (solid k))) e)
 
-pub runs_beside : (n : ℕ) (g k : Gas) → g.tick ≡ k.tick → IsOnOneTorus g → IsOnOneTorus k → HasSidesOf k.particles g.particles
-    → ((m : ℕ) → m < n → AreFar 2 (parts (iterate forward m g)) (parts (iterate forward m k)))
-    → iterate forward n (beside g k) ≡ beside (iterate forward n g) (iterate forward n k)
-runs_beside zero g k e i j s far = refl
-runs_beside (suc n) g k e i j s far =
-    ap (iterate forward n) (forward_beside g k e i j s (far 0 (omega arith)))
-    ∙ runs_beside n (forward g) (forward k) (ap (λ t. t +ℤ pos 1) e) (torus_forward g i) (torus_forward k j)
+pub runs_superposed : (n : ℕ) (g k : Gas) → g.tick ≡ k.tick → IsOnOneTorus g → IsOnOneTorus k → HasSidesOf k.particles g.particles
+    → ((m : ℕ) → m < n → AreApart 2 (occupied (iterate forward m g)) (occupied (iterate forward m k)))
+    → iterate forward n (superposed g k) ≡ superposed (iterate forward n g) (iterate forward n k)
+runs_superposed zero g k e i j s far = refl
+runs_superposed (suc n) g k e i j s far =
+    ap (iterate forward n) (forward_superposed g k e i j s (far 0 (omega arith)))
+    ∙ runs_superposed n (forward g) (forward k) (ap (λ t. t +ℤ pos 1) e) (torus_forward g i) (torus_forward k j)
     (record { wide = s.wide; high = s.high }) (λ m l. far (suc m) (omega arith))
 
 -- What is 2n apart is 2 apart before each of n steps.
-far_for_long : (n : ℕ) (g k : Gas) → IsOnOneTorus g → IsOnOneTorus k → HasSidesOf k.particles g.particles → AreFar (2 * n) (parts g) (parts k)
-    → (m : ℕ) → m < n → AreFar 2 (parts (iterate forward m g)) (parts (iterate forward m k))
-far_for_long n g k i j s far zero l = far_less 2 (2 * n) (parts g) (parts k) (omega arith) far
+far_for_long : (n : ℕ) (g k : Gas) → IsOnOneTorus g → IsOnOneTorus k → HasSidesOf k.particles g.particles → AreApart (2 * n) (occupied g) (occupied k)
+    → (m : ℕ) → m < n → AreApart 2 (occupied (iterate forward m g)) (occupied (iterate forward m k))
+far_for_long n g k i j s far zero l = far_less 2 (2 * n) (occupied g) (occupied k) (omega arith) far
 far_for_long n g k i j s far (suc m) l =
     let d : 2 * n ≡ 2 * (n - 1) + 2 = omega arith in
     far_for_long (n - 1) (forward g) (forward k) (torus_forward g i) (torus_forward k j) (record { wide = s.wide; high = s.high })
-    (sets_come_nearer (2 * (n - 1)) (parts g) (parts k) (parts (forward g)) (parts (forward k)) (record { wide = s.wide; high = s.high })
-    (record { wide = refl; high = refl }) (record { wide = refl; high = refl }) (parts_follow g i) (parts_follow k j)
-    (subst (λ c. AreFar c (parts g) (parts k)) d far))
+    (sets_come_nearer (2 * (n - 1)) (occupied g) (occupied k) (occupied (forward g)) (occupied (forward k)) (record { wide = s.wide; high = s.high })
+    (record { wide = refl; high = refl }) (record { wide = refl; high = refl }) (occupied_follows g i) (occupied_follows k j)
+    (subst (λ c. AreApart c (occupied g) (occupied k)) d far))
     m (omega arith)
 
-pub far_runs_beside : (n : ℕ) (g k : Gas) → g.tick ≡ k.tick → IsOnOneTorus g → IsOnOneTorus k → HasSidesOf k.particles g.particles
-    → AreFar (2 * n) (parts g) (parts k)
-    → iterate forward n (beside g k) ≡ beside (iterate forward n g) (iterate forward n k)
-far_runs_beside n g k e i j s far = runs_beside n g k e i j s (far_for_long n g k i j s far)
+pub far_runs_superposed : (n : ℕ) (g k : Gas) → g.tick ≡ k.tick → IsOnOneTorus g → IsOnOneTorus k → HasSidesOf k.particles g.particles
+    → AreApart (2 * n) (occupied g) (occupied k)
+    → iterate forward n (superposed g k) ≡ superposed (iterate forward n g) (iterate forward n k)
+far_runs_superposed n g k e i j s far = runs_superposed n g k e i j s (far_for_long n g k i j s far)
 
 -- Particles among the same walls.
 torus_with : (g : Gas) (cells : Cells) → IsOnOneTorus g → HasSidesOf cells g.particles → IsOnOneTorus (with_particles g cells)
@@ -215,7 +215,7 @@ torus_with g cells i s = record {
   obstacles = record { wide = i.obstacles.wide ∙ sym s.wide; high = i.obstacles.high ∙ sym s.high };
 }
 
-forward_together : (g : Gas) (others : Cells) → IsOnOneTorus g → HasSidesOf others g.particles → AreFar 2 g.particles others
+forward_together : (g : Gas) (others : Cells) → IsOnOneTorus g → HasSidesOf others g.particles → AreApart 2 g.particles others
     → forward (with_particles g (joined g.particles others))
     ≡ with_particles (forward g) (joined (forward g).particles (forward (with_particles g others)).particles)
 unfolding gas_at
@@ -246,7 +246,7 @@ forward_together g others i s far =
     ]))
 
 pub runs_together : (n : ℕ) (g : Gas) (others : Cells) → IsOnOneTorus g → HasSidesOf others g.particles
-    → ((m : ℕ) → m < n → AreFar 2 (iterate forward m g).particles (iterate forward m (with_particles g others)).particles)
+    → ((m : ℕ) → m < n → AreApart 2 (iterate forward m g).particles (iterate forward m (with_particles g others)).particles)
     → iterate forward n (with_particles g (joined g.particles others))
     ≡ with_particles (iterate forward n g) (joined (iterate forward n g).particles (iterate forward n (with_particles g others)).particles)
 runs_together zero g others i s far = refl
@@ -255,8 +255,8 @@ runs_together (suc n) g others i s far =
     ∙ runs_together n (forward g) (forward (with_particles g others)).particles (torus_forward g i)
     (record { wide = s.wide; high = s.high }) (λ m l. far (suc m) (omega arith))
 
-far_for_long_together : (n : ℕ) (g : Gas) (others : Cells) → IsOnOneTorus g → HasSidesOf others g.particles → AreFar (2 * n) g.particles others
-    → (m : ℕ) → m < n → AreFar 2 (iterate forward m g).particles (iterate forward m (with_particles g others)).particles
+far_for_long_together : (n : ℕ) (g : Gas) (others : Cells) → IsOnOneTorus g → HasSidesOf others g.particles → AreApart (2 * n) g.particles others
+    → (m : ℕ) → m < n → AreApart 2 (iterate forward m g).particles (iterate forward m (with_particles g others)).particles
 far_for_long_together n g others i s far zero l = far_less 2 (2 * n) g.particles others (omega arith) far
 far_for_long_together n g others i s far (suc m) l =
     let d : 2 * n ≡ 2 * (n - 1) + 2 = omega arith in
@@ -267,10 +267,10 @@ far_for_long_together n g others i s far (suc m) l =
     (record { wide = refl; high = refl }) (record { wide = refl; high = refl })
     (particles_follow (parity g.tick) g.particles (solid g) i.sides (solid_sides g i))
     (particles_follow (parity g.tick) others (solid g) j.sides (solid_sides k j))
-    (subst (λ c. AreFar c g.particles others) d far))
+    (subst (λ c. AreApart c g.particles others) d far))
     m (omega arith)
 
-pub far_runs_together : (n : ℕ) (g : Gas) (others : Cells) → IsOnOneTorus g → HasSidesOf others g.particles → AreFar (2 * n) g.particles others
+pub far_runs_together : (n : ℕ) (g : Gas) (others : Cells) → IsOnOneTorus g → HasSidesOf others g.particles → AreApart (2 * n) g.particles others
     → iterate forward n (with_particles g (joined g.particles others))
     ≡ with_particles (iterate forward n g) (joined (iterate forward n g).particles (iterate forward n (with_particles g others)).particles)
 far_runs_together n g others i s far = runs_together n g others i s (far_for_long_together n g others i s far)

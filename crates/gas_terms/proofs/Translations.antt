@@ -1,4 +1,4 @@
--- Moves along the axes.
+-- Translations along the axes.
 use Rattle.std.proofs.Common.{◌≡◌, ℕ, zero, suc, ◌+◌, ◌-◌, ◌*◌, ◌/◌, ◌%◌, ◌<◌, Bool, true, false, ℤ, pos, negsuc, ◌+ℤ◌, sym, ap, ◌∙◌, arith}
 use Rattle.std.proofs.Math.Nat.{mod-lt, mod-add-mod, add-mod_right}
 use Rattle.std.proofs.lemmas.Int.{ints}
@@ -7,7 +7,7 @@ use Rattle.std.proofs.lemmas.Bool.Decides.{nat_tests}
 use Rattle.gas_terms.specs.Velocity.{has_parity, parity}
 use Rattle.gas_terms.specs.Cells.{Cells, has, cells_where, HasEvenSides, HasSidesOf}
 use Rattle.gas_terms.specs.Gas.{streamed, along}
-use Rattle.gas_terms.specs.Symmetry.{moved_from, moved_by}
+use Rattle.gas_terms.specs.Symmetry.{translated_from, translated}
 use Rattle.gas_terms.proofs.Parity.{parity-small, parity-next}
 use Rattle.gas_terms.proofs.Cells.{has-cells_where}
 use Rattle.gas_terms.proofs.Transport.{IsCarried, pulled_streamed}
@@ -48,12 +48,12 @@ move_along n c x false some = move_down n c x some
 abbrev to_add : ℕ → ℕ → ℕ
 to_add n by = n - by % n
 
-from_is : (n by x : ℕ) → 0 < n → moved_from n by x ≡ (x + to_add n by) % n
+from_is : (n by x : ℕ) → 0 < n → translated_from n by x ≡ (x + to_add n by) % n
 from_is n by x some =
     let l : by % n < n = mod-lt by some in
     ap (λ k. k % n) (let e : x + n - by % n ≡ x + (n - by % n) = omega arith in e)
 
--- A remainder of a number of even parts keeps the parity.
+-- A remainder of a number of even occupied keeps the parity.
 even_rest : (a n q r : ℕ) → n % 2 ≡ 0 → q * n + r ≡ a → r % 2 ≡ a % 2
 even_rest a n q r even e =
     let half : n ≡ 2 * (n / 2) = omega arith in
@@ -63,7 +63,7 @@ even_rest a n q r even e =
 rest_parity : (a n : ℕ) → n % 2 ≡ 0 → a % n % 2 ≡ a % 2
 rest_parity a n even = even_rest a n (a / n) (a % n) even (div-add-mod' a n)
 
-move_parity : (n by x : ℕ) → n % 2 ≡ 0 → 0 < n → (moved_from n by x + by) % 2 ≡ x % 2
+move_parity : (n by x : ℕ) → n % 2 ≡ 0 → 0 < n → (translated_from n by x + by) % 2 ≡ x % 2
 move_parity n by x even some =
     let l : by % n < n = mod-lt by some in
     let e = rest_parity (x + n - by % n) n even in
@@ -73,12 +73,12 @@ move_parity n by x even some =
 same_parity : (p q x y : ℕ) → (x + p) % 2 ≡ (y + q) % 2 → has_parity p x ≡ has_parity q y
 same_parity p q x y e = grind (arith, nat_tests)
 
-pub move_carries : (p q n by : ℕ) → n % 2 ≡ 0 → (p + q + by) % 2 ≡ 0 → IsCarried p q n (moved_from n by)
+pub move_carries : (p q n by : ℕ) → n % 2 ≡ 0 → (p + q + by) % 2 ≡ 0 → IsCarried p q n (translated_from n by)
 move_carries p q n by even turns = record {
   below = λ x l. let some : 0 < n = omega arith in mod-lt (x + n - by % n) some;
   other = λ x l.
       let some : 0 < n = omega arith in
-      let y = moved_from n by x in
+      let y = translated_from n by x in
       let m = move_parity n by x even some in
       from_is n by (along n (has_parity p x) x) some
       ∙ move_along n (to_add n by) x (has_parity p x) some
@@ -86,15 +86,15 @@ move_carries p q n by even turns = record {
       ∙ ap (λ b. along n b y) (same_parity p q x y (omega arith));
 }
 
-pub moved_streamed : (p q right down : ℕ) (particles walls : Cells) → HasEvenSides particles.width particles.height → HasSidesOf walls particles
+pub translated_streamed : (p q right down : ℕ) (particles walls : Cells) → HasEvenSides particles.width particles.height → HasSidesOf walls particles
     → (p + q + right) % 2 ≡ 0 → (p + q + down) % 2 ≡ 0
-    → streamed p (moved_by right down particles) (moved_by right down walls) ≡ moved_by right down (streamed q particles walls)
-moved_streamed p q right down particles walls e sides a b =
-    ap (λ n. streamed p (moved_by right down particles)
-    (cells_where walls.width walls.height (λ x y. has walls (moved_from n right x) (moved_from walls.height down y)))) sides.wide
-    ∙ ap (λ n. streamed p (moved_by right down particles)
-    (cells_where walls.width walls.height (λ x y. has walls (moved_from particles.width right x) (moved_from n down y)))) sides.high
-    ∙ pulled_streamed p q particles walls (moved_from particles.width right) (moved_from particles.height down) e sides
+    → streamed p (translated right down particles) (translated right down walls) ≡ translated right down (streamed q particles walls)
+translated_streamed p q right down particles walls e sides a b =
+    ap (λ n. streamed p (translated right down particles)
+    (cells_where walls.width walls.height (λ x y. has walls (translated_from n right x) (translated_from walls.height down y)))) sides.wide
+    ∙ ap (λ n. streamed p (translated right down particles)
+    (cells_where walls.width walls.height (λ x y. has walls (translated_from particles.width right x) (translated_from n down y)))) sides.high
+    ∙ pulled_streamed p q particles walls (translated_from particles.width right) (translated_from particles.height down) e sides
     (move_carries p q particles.width right e.wide a) (move_carries p q particles.height down e.high b)
 
 -- Where a moved cell comes from.
@@ -103,7 +103,7 @@ whole_turns n by x l =
     let e : x + (by - by % n) ≡ by / n * n + x = omega (arith, div-add-mod' by n) in
     ap (λ k. k % n) e ∙ mod-mul-add (by / n) n x l
 
-from_there : (n by x : ℕ) → x < n → moved_from n by ((x + by) % n) ≡ x
+from_there : (n by x : ℕ) → x < n → translated_from n by ((x + by) % n) ≡ x
 from_there n by x l =
     let some : 0 < n = omega arith in
     let less : by % n < n = mod-lt by some in
@@ -113,12 +113,12 @@ from_there n by x l =
     ∙ add-mod_right (x + (by - by % n)) n
     ∙ whole_turns n by x l
 
-pub moved_there : (right down : ℕ) (cells : Cells) (x y : ℕ) → x < cells.width → y < cells.height
-    → has (moved_by right down cells) ((x + right) % cells.width) ((y + down) % cells.height) ≡ has cells x y
-moved_there right down cells x y l m =
+pub translated_there : (right down : ℕ) (cells : Cells) (x y : ℕ) → x < cells.width → y < cells.height
+    → has (translated right down cells) ((x + right) % cells.width) ((y + down) % cells.height) ≡ has cells x y
+translated_there right down cells x y l m =
     let wide : 0 < cells.width = omega arith in
     let high : 0 < cells.height = omega arith in
-    has-cells_where cells.width cells.height (λ x y. has cells (moved_from cells.width right x) (moved_from cells.height down y))
+    has-cells_where cells.width cells.height (λ x y. has cells (translated_from cells.width right x) (translated_from cells.height down y))
     ((x + right) % cells.width) ((y + down) % cells.height) (mod-lt (x + right) wide) (mod-lt (y + down) high)
-    ∙ ap (λ a. has cells a (moved_from cells.height down ((y + down) % cells.height))) (from_there cells.width right x l)
+    ∙ ap (λ a. has cells a (translated_from cells.height down ((y + down) % cells.height))) (from_there cells.width right x l)
     ∙ ap (has cells x) (from_there cells.height down y m)

@@ -1,5 +1,5 @@
 use Rattle.gas_terms.proofs.Reversal.{velocity_reversed, total_reversed, reversed-reversed, backs_reversed, run_returns}
-use Rattle.gas_terms.proofs.symmetry_laws.time_can_be_reversed.Goals as goal
+use Rattle.gas_terms.proofs.symmetry_laws.time_reversal_is_a_symmetry.Goals as goal
 
 pub returns-clause-velocities : goal.returns-clause-velocities
 returns-clause-velocities c = velocity_reversed

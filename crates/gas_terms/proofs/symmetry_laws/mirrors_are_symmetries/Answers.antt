@@ -1,5 +1,5 @@
 use Rattle.gas_terms.proofs.Maps.{mirrored_run, upside_down_run, transposed_run, velocity_mirrored, velocity_upside_down}
-use Rattle.gas_terms.proofs.symmetry_laws.mirrors_keep_the_rule.Goals as goal
+use Rattle.gas_terms.proofs.symmetry_laws.mirrors_are_symmetries.Goals as goal
 
 pub returns-clause-mirror : goal.returns-clause-mirror
 returns-clause-mirror c = mirrored_run

@@ -1,5 +1,5 @@
 use Rattle.gas_terms.proofs.LightCone.{cell_after_steps, agreeing_steps}
-use Rattle.gas_terms.proofs.symmetry_laws.nothing_outruns_a_cell_a_step.Goals as goal
+use Rattle.gas_terms.proofs.symmetry_laws.nothing_leaves_the_light_cone.Goals as goal
 
 pub returns-clause-cell : goal.returns-clause-cell
 returns-clause-cell c = λ n x y g k t p. cell_after_steps n x y g k t.tick p.drains p.sources t.first t.second t.sides
