@@ -1,25 +1,16 @@
 -- What is near a cell, and what comes near it in a step.
-use Rattle.std.proofs.Common.{◌≡◌, ℕ, ◌+◌, ◌<◌, ◌≤◌, ◌⊎◌, inl, inr, Bool, true, false, ◌||◌, refl, sym, ap, subst, ◌∙◌, arith}
+use Rattle.std.proofs.Common.{◌≡◌, ℕ, ◌+◌, ◌<◌, ◌≤◌, ◌⊎◌, inl, inr, Bool, true, false, ◌||◌, sym, ap, subst, ◌∙◌, arith}
 use Rattle.gas_terms.specs.Velocity.{parity}
-use Rattle.gas_terms.specs.Cells.{Cells, has, joined, HasEvenSides, HasSidesOf}
+use Rattle.gas_terms.specs.Cells.{Cells, has, HasEvenSides, HasSidesOf}
 use Rattle.gas_terms.specs.Gas.{Gas, streamed, solid, forward}
 use Rattle.gas_terms.specs.Block.{corner_rule, other_coordinate}
 use Rattle.gas_terms.specs.Symmetry.{IsOnOneTorus, distance, AreApart, occupied}
-use Rattle.gas_terms.proofs.Cells.{has-cells_where}
 use Rattle.gas_terms.proofs.Distance.{triangle, distance_self, distance_back, other_near}
-use Rattle.gas_terms.proofs.Transport.{cell_by_eight, other_below}
-use Rattle.gas_terms.proofs.Maps.{solid_sides}
-
-pub has-joined : (some others : Cells) (x y : ℕ) → x < some.width → y < some.height → has (joined some others) x y ≡ (has some x y || has others x y)
-has-joined some others x y l m = has-cells_where some.width some.height (λ x y. has some x y || has others x y) x y l m
-
-pub either : (b : Bool) → (b ≡ false) ⊎ (b ≡ true)
-either true = inr refl
-either false = inl refl
-
-pub neither : (a b : Bool) → (a || b) ≡ false → (a ≡ false) × (b ≡ false)
-neither true b e = absurd (cc)
-neither false b e = (refl, e)
+use Rattle.gas_terms.proofs.Torus.{solid_sides}
+use Rattle.gas_terms.proofs.Blocks.{cell_by_eight}
+use Rattle.gas_terms.proofs.Axis.{other_below}
+use Rattle.std.proofs.lemmas.Bool.{cases_Bool, or_left, or_right}
+use Rattle.gas_terms.proofs.Cells.{has-joined}
 
 -- One of the four cells of a block.
 abbrev pub one_of : ℕ → ℕ → Bool → ℕ
@@ -52,18 +43,18 @@ all_four t a b c d false false = d
 
 four : (t : Bool → Bool → Bool) → ((i j : Bool) → t i j ≡ false) ⊎ ((i : Bool) × (j : Bool) × (t i j ≡ true))
 four t =
-    elim (either (t true true)) [
-      | inr e ↦ inr (true, true, e)
-      | inl a ↦
-          elim (either (t true false)) [
-            | inr e ↦ inr (true, false, e)
-            | inl b ↦
-                elim (either (t false true)) [
-                  | inr e ↦ inr (false, true, e)
-                  | inl c ↦
-                      elim (either (t false false)) [
-                        | inr e ↦ inr (false, false, e)
-                        | inl d ↦ inl (all_four t a b c d)
+    elim (cases_Bool (t true true)) [
+      | inl e ↦ inr (true, true, e)
+      | inr a ↦
+          elim (cases_Bool (t true false)) [
+            | inl e ↦ inr (true, false, e)
+            | inr b ↦
+                elim (cases_Bool (t false true)) [
+                  | inl e ↦ inr (false, true, e)
+                  | inr c ↦
+                      elim (cases_Bool (t false false)) [
+                        | inl e ↦ inr (false, false, e)
+                        | inr d ↦ inl (all_four t a b c d)
                       ]
                 ]
           ]
@@ -139,12 +130,6 @@ particles_follow p particles walls e s = λ x y l m holds.
       )
     ]
 
-or_first : (a b : Bool) → a ≡ true → (a || b) ≡ true
-or_first a b e = grind arith
-
-or_second : (a b : Bool) → b ≡ true → (a || b) ≡ true
-or_second a b e = grind arith
-
 other_holds : (a b : Bool) → (a || b) ≡ true → a ≡ false → b ≡ true
 other_holds a b e f = grind arith
 
@@ -159,7 +144,7 @@ occupant_follows x y g l m from =
         row = c.row;
         across = c.across;
         down = c.down;
-        held = has-joined g.particles (solid g) from.0 from.1 c.column c.row ∙ or_first _ _ c.held;
+        held = has-joined g.particles (solid g) from.0 from.1 c.column c.row ∙ or_left _ _ c.held;
       },
     )
 
@@ -167,9 +152,9 @@ pub occupied_follows : (g : Gas) → IsOnOneTorus g → Follows (occupied g) (oc
 occupied_follows g i = λ x y l m holds.
     let after = streamed (parity g.tick) g.particles (solid g) in
     let is : (has after x y || has (solid g) x y) ≡ true = sym (has-joined after (solid g) x y l m) ∙ holds in
-    elim (either (has after x y)) [
-      | inr here ↦ occupant_follows x y g l m (particles_follow (parity g.tick) g.particles (solid g) i.sides (solid_sides g i) x y l m here)
-      | inl none ↦
+    elim (cases_Bool (has after x y)) [
+      | inl here ↦ occupant_follows x y g l m (particles_follow (parity g.tick) g.particles (solid g) i.sides (solid_sides g i) x y l m here)
+      | inr none ↦
           let d = distance_self g.particles.width x l in
           let e = distance_self g.particles.height y m in (
             x,
@@ -179,7 +164,7 @@ occupied_follows g i = λ x y l m holds.
               row = m;
               across = omega arith;
               down = omega arith;
-              held = has-joined g.particles (solid g) x y l m ∙ or_second _ _ (other_holds _ _ is none);
+              held = has-joined g.particles (solid g) x y l m ∙ or_right _ _ (other_holds _ _ is none);
             },
           )
     ]

@@ -34,10 +34,11 @@ pub mod TotalBounds
 pub mod Emptied
 pub mod RowSums
 pub mod Reversal
+pub mod Torus
 pub mod Transport
+pub mod Maps
 pub mod Mirrors
 pub mod Translations
-pub mod Maps
 pub mod Distance
 pub mod LightCone
 pub mod Clear

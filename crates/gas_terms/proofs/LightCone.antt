@@ -9,8 +9,9 @@ use Rattle.gas_terms.specs.Block.{other_coordinate}
 use Rattle.gas_terms.specs.Symmetry.{IsOnOneTorus, distance, AgreeWithin, AgreeOnCone}
 use Rattle.gas_terms.proofs.Cells.{has-cells_where}
 use Rattle.gas_terms.proofs.Distance.{triangle, other_near, distance_self}
-use Rattle.gas_terms.proofs.Transport.{IsSameBlock, same_block_streams, other_below}
-use Rattle.gas_terms.proofs.Maps.{solid_sides}
+use Rattle.gas_terms.proofs.Transport.{IsSameBlock, same_block_streams}
+use Rattle.gas_terms.proofs.Torus.{solid_sides, torus_step}
+use Rattle.gas_terms.proofs.Axis.{other_below}
 
 pub one_further : (m n p x a : ℕ) → x < n → a < n → distance n x a ≤ m → distance n x (other_coordinate n p a) ≤ m + 1
 one_further m n p x a l k d =
@@ -93,13 +94,6 @@ agreeing_act n x y g k e d s sides agree = record {
       ∙ sym (has-cells_where k.particles.width k.particles.height (λ x y. (has k.particles x y && not (is_drained k x y)) || is_filled k x y) a b
       (omega (arith, sides.wide)) (omega (arith, sides.high)));
   solids = agree.solids;
-}
-
-torus_step : (g : Gas) → IsOnOneTorus g → IsOnOneTorus (step g)
-torus_step g i = record {
-  sides = i.sides;
-  walls = record { wide = i.walls.wide; high = i.walls.high };
-  obstacles = record { wide = i.obstacles.wide; high = i.obstacles.high };
 }
 
 agreeing_step : (n x y : ℕ) (g k : Gas) → g.tick ≡ k.tick → g.drains ≡ k.drains → g.sources ≡ k.sources → IsOnOneTorus g → IsOnOneTorus k

@@ -1,41 +1,25 @@
 -- A run back is a run forward of the reversed gas.
-use Rattle.std.proofs.Common.{◌≡◌, ℕ, zero, suc, ◌+◌, ◌-◌, ◌<◌, Bool, true, false, not, ◌==◌, ℤ, pos, negsuc, ◌*ℤ◌, neg_ℤ, ◌+ℤ◌, ◌-ℤ◌, List, [], refl, sym, ap, ◌∙◌, arith}
+use Rattle.std.proofs.Common.{◌≡◌, ℕ, ◌+◌, ◌-◌, ◌<◌, Bool, true, false, not, ◌==◌, ℤ, pos, ◌*ℤ◌, neg_ℤ, ◌+ℤ◌, ◌-ℤ◌, List, [], refl, sym, ap, ◌∙◌, arith}
 use Rattle.std.proofs.lemmas.Int.{ints}
 use Rattle.std.proofs.lemmas.Bool.Decides.{nat_tests}
 use Rattle.std.specs.Fn.{iterate}
-use Rattle.gas_terms.specs.Velocity.{Velocity, sign, opposite, parity, velocity_at, has_parity}
+use Rattle.gas_terms.specs.Velocity.{sign, opposite, parity, velocity_at}
 use Rattle.gas_terms.specs.Cells.{Cells, Rectangle, whole, HasEvenSides, IsEvenTorus}
 use Rattle.gas_terms.specs.Gas.{Gas, Source, streamed, unstreamed, solid, forward, back, HasNoPorts}
 use Rattle.gas_terms.specs.Accounts.{gas_total, total, parity_count, sums_by_parity}
 use Rattle.gas_terms.specs.declared.accounts.Sums.{Sums}
 use Rattle.gas_terms.specs.Symmetry.{reversed}
-use Rattle.gas_terms.proofs.Iterate.{iterate_keeps}
-use Rattle.gas_terms.proofs.Parity.{parity-small, parity-last}
+use Rattle.gas_terms.proofs.Iterate.{iterate_keeps, iterate_carried}
+use Rattle.gas_terms.proofs.Parity.{parity-small, parity-last, parity_reversed}
 use Rattle.gas_terms.proofs.Totals.{same_sums}
 use Rattle.gas_terms.proofs.RectangleTotals.{total-whole, total_in-parities}
-use Rattle.gas_terms.proofs.Steps.{unstreamed-streamed, gas_at, same_gas, full_streamed, backs-forwards}
-
-parity_reversed : (t : ℤ) → parity (pos 1 -ℤ t) ≡ 1 - parity t
-parity_reversed (pos zero) = refl
-parity_reversed (pos (suc zero)) = refl
-parity_reversed (pos (suc (suc n))) =
-    let e : pos 1 -ℤ pos (suc (suc n)) ≡ negsuc n = omega (arith, ints) in
-    ap parity e ∙ omega arith
-parity_reversed (negsuc n) =
-    let e : pos 1 -ℤ negsuc n ≡ pos (n + 2) = omega (arith, ints) in
-    ap parity e ∙ omega arith
+use Rattle.gas_terms.proofs.Steps.{unstreamed-streamed, gas_at, same_gas, backs-forwards}
+use Rattle.gas_terms.proofs.StepWeights.{velocity_at-other}
 
 -- Each particle moves the other way.
-other_parity : (p x : ℕ) → p < 2 → has_parity (1 - p) x ≡ not (has_parity p x)
-other_parity p x small = grind (arith, nat_tests)
-
-same_way : (r r' d d' : Bool) → r ≡ r' → d ≡ d' → ◌≡◌ {A = Velocity} (record { right = r; down = d }) (record { right = r'; down = d' })
-same_way r r' d d' e f = cc
-
 pub velocity_reversed : (g : Gas) (x y : ℕ) → velocity_at (parity (reversed g).tick) x y ≡ opposite (velocity_at (parity g.tick) x y)
 velocity_reversed g x y =
-    ap (λ p. velocity_at p x y) (parity_reversed g.tick)
-    ∙ same_way _ _ _ _ (other_parity (parity g.tick) x (parity-small g.tick)) (other_parity (parity g.tick) y (parity-small g.tick))
+    ap (λ p. velocity_at p x y) (parity_reversed g.tick) ∙ velocity_at-other (parity g.tick) x y (parity-small g.tick)
 
 pub back_reversed : (g : Gas) → HasEvenSides g.particles.width g.particles.height → reversed (back g) ≡ forward (reversed g)
 unfolding gas_at
@@ -50,8 +34,8 @@ back_reversed g e =
 
 pub backs_reversed : (n : ℕ) (g : Gas) → HasEvenSides g.particles.width g.particles.height
     → reversed (iterate back n g) ≡ iterate forward n (reversed g)
-backs_reversed zero g e = refl
-backs_reversed (suc n) g e = backs_reversed n (back g) e ∙ ap (iterate forward n) (back_reversed g e)
+backs_reversed =
+    iterate_carried back forward reversed (λ g. HasEvenSides g.particles.width g.particles.height) (λ g e. e) back_reversed
 
 -- Reversed twice.
 twice_at : (t : ℤ) → pos 1 -ℤ (pos 1 -ℤ t) ≡ t
@@ -67,14 +51,9 @@ reversed-reversed g none =
     same_but_ports _ g.tick g.particles g.walls g.obstacles [] g.drains [] g.sources (twice_at g.tick) (sym none.no_drains) (sym none.no_sources)
 
 -- What was run, turned round and run as long is the start turned round.
-even_forwards : (n : ℕ) (g : Gas) → IsEvenTorus g.particles → IsEvenTorus (iterate forward n g).particles
-even_forwards =
-    iterate_keeps forward (λ g. IsEvenTorus g.particles)
-    (λ g t. record { sides = t.sides; full = full_streamed (parity g.tick) g.particles (solid g) })
-
 pub run_returns : (n : ℕ) (g : Gas) → IsEvenTorus g.particles → iterate forward n (reversed (iterate forward n g)) ≡ reversed g
 run_returns n g t =
-    sym (backs_reversed n (iterate forward n g) (even_forwards n g t).sides) ∙ ap reversed (backs-forwards n g t)
+    sym (backs_reversed n (iterate forward n g) (iterate_keeps forward (λ k. HasEvenSides k.particles.width k.particles.height) (λ k e. e) n g t.sides)) ∙ ap reversed (backs-forwards n g t)
 
 -- The momenta are opposite.
 other_sign : (b : Bool) (z : ℤ) → sign (not b) *ℤ z ≡ neg_ℤ (sign b *ℤ z)

@@ -1,15 +1,16 @@
 -- What is far apart runs as each alone.
-use Rattle.std.proofs.Common.{◌≡◌, ℕ, zero, suc, ◌+◌, ◌-◌, ◌*◌, ◌%◌, ◌<◌, ◌⊎◌, inl, inr, Bool, true, false, ◌||◌, ℤ, pos, ◌+ℤ◌, List, refl, sym, ap, subst, ◌∙◌, arith}
+use Rattle.std.proofs.Common.{◌≡◌, ℕ, zero, suc, ◌+◌, ◌-◌, ◌*◌, ◌%◌, ◌<◌, ◌⊎◌, inl, inr, Bool, true, false, ◌||◌, pos, ◌+ℤ◌, refl, sym, ap, subst, ◌∙◌, arith}
 use Rattle.std.specs.Fn.{iterate}
 use Rattle.gas_terms.specs.Velocity.{parity}
-use Rattle.gas_terms.specs.Cells.{Cells, Rectangle, has, joined, HasEvenSides, HasSidesOf}
-use Rattle.gas_terms.specs.Gas.{Gas, Source, streamed, solid, forward}
+use Rattle.gas_terms.specs.Cells.{Cells, has, joined, HasEvenSides, HasSidesOf}
+use Rattle.gas_terms.specs.Gas.{Gas, streamed, solid, forward}
 use Rattle.gas_terms.specs.Symmetry.{IsOnOneTorus, AreApart, occupied, superposed, with_particles}
-use Rattle.gas_terms.proofs.Cells.{full-cells_where, same_cells}
-use Rattle.gas_terms.proofs.Steps.{gas_at, full_streamed}
+use Rattle.gas_terms.proofs.Cells.{full-cells_where, same_cells, has-joined}
+use Rattle.gas_terms.proofs.Steps.{gas_at, full_streamed, same_gas}
 use Rattle.gas_terms.proofs.Transport.{IsSameBlock, same_block_streams}
-use Rattle.gas_terms.proofs.Maps.{torus_forward, solid_sides}
-use Rattle.gas_terms.proofs.Clear.{has-joined, neither, at, at_sides, one_of_below, one_is_clear, none_come, particles_follow, occupied_follows, sets_come_nearer, far_less}
+use Rattle.gas_terms.proofs.Torus.{torus_forward, solid_sides}
+use Rattle.gas_terms.proofs.Clear.{at, at_sides, one_of_below, one_is_clear, none_come, particles_follow, occupied_follows, sets_come_nearer, far_less}
+use Rattle.std.proofs.lemmas.Bool.{or_parts}
 
 or_none : (a b : Bool) → b ≡ false → (a || b) ≡ a
 or_none a b e = grind arith
@@ -52,7 +53,7 @@ like_first : (g k : Gas) (a b : ℕ) → IsOnOneTorus g → IsOnOneTorus k → H
 like_first g k a b i j s l m none =
     let l' : a < k.particles.width = omega (arith, s.wide) in
     let m' : b < k.particles.height = omega (arith, s.high) in
-    let n = neither _ _ (sym (has-joined k.particles (solid k) a b l' m') ∙ none) in (
+    let n = or_parts _ _ (sym (has-joined k.particles (solid k) a b l' m') ∙ none) in (
       has-joined g.particles k.particles a b l m ∙ or_none _ _ n.0,
       has-solid_superposed g k a b i l m
           ∙ first_solid (has g.walls a b) (has k.walls a b) (has g.obstacles a b) (has k.obstacles a b) (sym (has-solid k a b j l' m') ∙ n.1)
@@ -65,7 +66,7 @@ like_second : (g k : Gas) (a b : ℕ) → IsOnOneTorus g → IsOnOneTorus k → 
 like_second g k a b i j s l m none =
     let l' : a < k.particles.width = omega (arith, s.wide) in
     let m' : b < k.particles.height = omega (arith, s.high) in
-    let n = neither _ _ (sym (has-joined g.particles (solid g) a b l m) ∙ none) in (
+    let n = or_parts _ _ (sym (has-joined g.particles (solid g) a b l m) ∙ none) in (
       has-joined g.particles k.particles a b l m ∙ none_or _ _ n.0,
       has-solid_superposed g k a b i l m
           ∙ second_solid (has g.walls a b) (has k.walls a b) (has g.obstacles a b) (has k.obstacles a b) (sym (has-solid g a b i l m) ∙ n.1)
@@ -140,10 +141,6 @@ step_of_both p w h both walls some boulders others rocks e s t u alone =
     ]
     ∙ sym (has-joined c d x y (omega (arith, t.wide)) (omega (arith, t.high))))
 
-same_frame : (t : ℤ) (a a' walls obstacles : Cells) (d : List Rectangle) (s : List Source) → a ≡ a'
-    → gas_at t a walls obstacles d s ≡ gas_at t a' walls obstacles d s
-same_frame t a a' walls obstacles d s e = cc
-
 sides_of : (g : Gas) (w h : ℕ) → IsOnOneTorus g → g.particles.width ≡ w → g.particles.height ≡ h → HasBoth w h g.particles (solid g)
 sides_of g w h i e f = record { wide = e; high = f; walls_wide = i.walls.wide ∙ e; walls_high = i.walls.high ∙ f }
 
@@ -155,9 +152,9 @@ forward_superposed g k e i j s far =
     let h = g.particles.height in
     let p = parity g.tick in
     let b = superposed g k in
-    same_frame (g.tick +ℤ pos 1) (streamed p b.particles (solid b))
+    same_gas (g.tick +ℤ pos 1) (g.tick +ℤ pos 1) (streamed p b.particles (solid b))
     (joined (streamed p g.particles (solid g)) (streamed (parity k.tick) k.particles (solid k)))
-    b.walls b.obstacles g.drains g.sources
+    b.walls b.obstacles g.drains g.sources refl
     (step_of_both p w h b.particles (solid b) g.particles (solid g) k.particles (solid k) i.sides
     (sides_of b w h (torus_superposed g k i) refl refl) (sides_of g w h i refl refl) (sides_of k w h j s.wide s.high)
     (λ x y l m.
@@ -167,7 +164,7 @@ forward_superposed g k e i j s far =
             particles = λ a c. (like_first g k _ _ i j s (one_of_below p w x a l) (one_of_below p h y c m) (clear a c)).0;
             solids = λ a c. (like_first g k _ _ i j s (one_of_below p w x a l) (one_of_below p h y c m) (clear a c)).1;
             none = λ a c.
-                (neither _ _
+                (or_parts _ _
                 (sym (has-joined k.particles (solid k) _ _ (omega (arith, s.wide, one_of_below p w x a l)) (omega (arith, s.high, one_of_below p h y c m)))
                 ∙ clear a c)).0;
           })
@@ -176,7 +173,7 @@ forward_superposed g k e i j s far =
             particles = λ a c. (like_second g k _ _ i j s (one_of_below p w x a l) (one_of_below p h y c m) (clear a c)).0;
             solids = λ a c. (like_second g k _ _ i j s (one_of_below p w x a l) (one_of_below p h y c m) (clear a c)).1;
             none = λ a c.
-                (neither _ _ (sym (has-joined g.particles (solid g) _ _ (one_of_below p w x a l) (one_of_below p h y c m)) ∙ clear a c)).0;
+                (or_parts _ _ (sym (has-joined g.particles (solid g) _ _ (one_of_below p w x a l) (one_of_below p h y c m)) ∙ clear a c)).0;
           })
     ])
     ∙ ap (λ t. joined (streamed p g.particles (solid g)) (streamed (parity t) k.particles (solid k))) e)
@@ -224,8 +221,8 @@ forward_together g others i s far =
     let h = g.particles.height in
     let p = parity g.tick in
     let both = joined g.particles others in
-    same_frame (g.tick +ℤ pos 1) (streamed p both (solid g))
-    (joined (streamed p g.particles (solid g)) (streamed p others (solid g))) g.walls g.obstacles g.drains g.sources
+    same_gas (g.tick +ℤ pos 1) (g.tick +ℤ pos 1) (streamed p both (solid g))
+    (joined (streamed p g.particles (solid g)) (streamed p others (solid g))) g.walls g.obstacles g.drains g.sources refl
     (step_of_both p w h both (solid g) g.particles (solid g) others (solid g) i.sides
     (sides_of (with_particles g both) w h (torus_with g both i (record { wide = refl; high = refl })) refl refl) (sides_of g w h i refl refl)
     (sides_of (with_particles g others) w h (torus_with g others i s) s.wide s.high)

@@ -1,32 +1,17 @@
 -- Translations along the axes.
-use Rattle.std.proofs.Common.{◌≡◌, ℕ, zero, suc, ◌+◌, ◌-◌, ◌*◌, ◌/◌, ◌%◌, ◌<◌, Bool, true, false, ℤ, pos, negsuc, ◌+ℤ◌, sym, ap, ◌∙◌, arith}
+use Rattle.std.proofs.Common.{◌≡◌, ℕ, ◌+◌, ◌-◌, ◌*◌, ◌/◌, ◌%◌, ◌<◌, Bool, true, false, ℤ, ◌+ℤ◌, sym, ap, ◌∙◌, arith}
 use Rattle.std.proofs.Math.Nat.{mod-lt, mod-add-mod, add-mod_right}
 use Rattle.std.proofs.lemmas.Int.{ints}
 use Rattle.std.proofs.lemmas.Nat.{div-add-mod', mod-mul-add}
 use Rattle.std.proofs.lemmas.Bool.Decides.{nat_tests}
 use Rattle.gas_terms.specs.Velocity.{has_parity, parity}
-use Rattle.gas_terms.specs.Cells.{Cells, has, cells_where, HasEvenSides, HasSidesOf}
+use Rattle.gas_terms.specs.Cells.{Cells, has, cells_where, HasEvenSides, HasSidesOf, joined}
 use Rattle.gas_terms.specs.Gas.{streamed, along}
-use Rattle.gas_terms.specs.Symmetry.{translated_from, translated}
-use Rattle.gas_terms.proofs.Parity.{parity-small, parity-next}
+use Rattle.gas_terms.specs.Symmetry.{translated_from, translated, CarriesBlocks, IsSymmetry, gas_translated}
+use Rattle.gas_terms.proofs.Parity.{parity-small, parity_after}
 use Rattle.gas_terms.proofs.Cells.{has-cells_where}
-use Rattle.gas_terms.proofs.Transport.{IsCarried, pulled_streamed}
-
--- The parity of a sum of ticks.
-later_parity : (t : ℤ) (n : ℕ) → parity (t +ℤ pos n) ≡ (parity t + n) % 2
-later_parity t zero =
-    let e : t +ℤ pos zero ≡ t = omega (arith, ints) in
-    ap parity e ∙ omega (arith, parity-small t)
-later_parity t (suc n) =
-    let e : t +ℤ pos (suc n) ≡ (t +ℤ pos n) +ℤ pos 1 = omega (arith, ints) in
-    ap parity e ∙ omega (arith, parity-next (t +ℤ pos n), parity-small t, later_parity t n)
-
-pub parity_after : (t later : ℤ) → parity (t +ℤ later) ≡ (parity t + parity later) % 2
-parity_after t (pos n) = later_parity t n ∙ omega arith
-parity_after t (negsuc n) =
-    let e : (t +ℤ negsuc n) +ℤ pos (n + 1) ≡ t = omega (arith, ints) in
-    let f : parity t ≡ (parity (t +ℤ negsuc n) + (n + 1)) % 2 = ap parity (sym e) ∙ later_parity (t +ℤ negsuc n) (n + 1) in
-    omega (arith, f, parity-small t, parity-small (t +ℤ negsuc n))
+use Rattle.gas_terms.proofs.Transport.{IsCarried, pulled_streamed, pulled_joined}
+use Rattle.gas_terms.proofs.Maps.{commuting_symmetry}
 
 -- A move keeps the way along an axis.
 move_up : (n c x : ℕ) → ((x + 1) % n + c) % n ≡ ((x + c) % n + 1) % n
@@ -73,7 +58,7 @@ move_parity n by x even some =
 same_parity : (p q x y : ℕ) → (x + p) % 2 ≡ (y + q) % 2 → has_parity p x ≡ has_parity q y
 same_parity p q x y e = grind (arith, nat_tests)
 
-pub move_carries : (p q n by : ℕ) → n % 2 ≡ 0 → (p + q + by) % 2 ≡ 0 → IsCarried p q n (translated_from n by)
+move_carries : (p q n by : ℕ) → n % 2 ≡ 0 → (p + q + by) % 2 ≡ 0 → IsCarried p q n (translated_from n by)
 move_carries p q n by even turns = record {
   below = λ x l. let some : 0 < n = omega arith in mod-lt (x + n - by % n) some;
   other = λ x l.
@@ -86,7 +71,7 @@ move_carries p q n by even turns = record {
       ∙ ap (λ b. along n b y) (same_parity p q x y (omega arith));
 }
 
-pub translated_streamed : (p q right down : ℕ) (particles walls : Cells) → HasEvenSides particles.width particles.height → HasSidesOf walls particles
+translated_streamed : (p q right down : ℕ) (particles walls : Cells) → HasEvenSides particles.width particles.height → HasSidesOf walls particles
     → (p + q + right) % 2 ≡ 0 → (p + q + down) % 2 ≡ 0
     → streamed p (translated right down particles) (translated right down walls) ≡ translated right down (streamed q particles walls)
 translated_streamed p q right down particles walls e sides a b =
@@ -97,7 +82,32 @@ translated_streamed p q right down particles walls e sides a b =
     ∙ pulled_streamed p q particles walls (translated_from particles.width right) (translated_from particles.height down) e sides
     (move_carries p q particles.width right e.wide a) (move_carries p q particles.height down e.high b)
 
--- Where a moved cell comes from.
+translated_joined : (right down : ℕ) (some others : Cells) → HasSidesOf others some
+    → joined (translated right down some) (translated right down others) ≡ translated right down (joined some others)
+translated_joined right down some others sides =
+    ap (λ n. joined (translated right down some)
+    (cells_where others.width others.height (λ x y. has others (translated_from n right x) (translated_from others.height down y)))) sides.wide
+    ∙ ap (λ n. joined (translated right down some)
+    (cells_where others.width others.height (λ x y. has others (translated_from some.width right x) (translated_from n down y)))) sides.high
+    ∙ pulled_joined some others (translated_from some.width right) (translated_from some.height down) sides
+    (λ x l. let some_cells : 0 < some.width = omega arith in mod-lt (x + some.width - right % some.width) some_cells)
+    (λ y m. let some_cells : 0 < some.height = omega arith in mod-lt (y + some.height - down % some.height) some_cells)
+
+pub translation_symmetry : (right down : ℕ) (ticks : ℤ) → CarriesBlocks right down ticks → IsSymmetry (gas_translated right down ticks)
+translation_symmetry right down ticks b =
+    commuting_symmetry (translated right down) (λ t. t +ℤ ticks) (record {
+      ticks = λ t. omega (arith, ints);
+      ticks_back = λ t. omega (arith, ints);
+      even = λ cells e. e;
+      joins = translated_joined right down;
+      streams = λ t particles walls e s.
+          let k = parity_after t ticks in
+          let small = parity-small t in
+          translated_streamed (parity (t +ℤ ticks)) (parity t) right down particles walls e s
+          (omega (arith, b.columns)) (omega (arith, b.rows));
+    })
+
+-- Where a translated cell comes from.
 whole_turns : (n by x : ℕ) → x < n → (x + (by - by % n)) % n ≡ x
 whole_turns n by x l =
     let e : x + (by - by % n) ≡ by / n * n + x = omega (arith, div-add-mod' by n) in

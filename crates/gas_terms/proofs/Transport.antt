@@ -1,13 +1,12 @@
 -- Maps of the two axes that keep blocks carry a step over.
-use Rattle.std.proofs.Common.{◌≡◌, ℕ, ◌<◌, Bool, ◌||◌, refl, sym, ap, subst, ◌∙◌, arith}
+use Rattle.std.proofs.Common.{◌≡◌, ℕ, ◌<◌, ◌||◌, refl, sym, ap, subst, ◌∙◌, arith}
 use Rattle.gas_terms.specs.Cells.{Cells, has, cells_where, joined, HasEvenSides, HasSidesOf}
 use Rattle.gas_terms.specs.Gas.{streamed}
-use Rattle.gas_terms.specs.Block.{corner_rule, other_coordinate}
-use Rattle.gas_terms.proofs.Axis.{along_below}
-use Rattle.gas_terms.specs.Velocity.{has_parity}
+use Rattle.gas_terms.specs.Block.{other_coordinate}
+use Rattle.gas_terms.proofs.Axis.{other_below}
 use Rattle.gas_terms.proofs.Cells.{has-cells_where, full-cells_where, same_cells, same_cells_where}
 use Rattle.gas_terms.proofs.Steps.{full_streamed}
-use Rattle.gas_terms.proofs.Blocks.{turned_cell_is}
+use Rattle.gas_terms.proofs.Blocks.{cell_by_eight, same_eight}
 
 -- the cells of a cell's block, and of its block of walls
 pub record IsSameBlock (p q : ℕ) (some others : Cells) (x y a b : ℕ) : Type 0 where
@@ -17,42 +16,19 @@ pub record IsSameBlock (p q : ℕ) (some others : Cells) (x y a b : ℕ) : Type 
   pub besides : has some (other_coordinate some.width p x) y ≡ has others (other_coordinate others.width q a) b
   pub beneath : has some x (other_coordinate some.height p y) ≡ has others a (other_coordinate others.height q b)
 
-rule : Bool → Bool → Bool → Bool → Bool → Bool → Bool → Bool → Bool
-rule k l m n a b c d = corner_rule (k || l || m || n) a b c d
-
-same_rule : (k k' l l' m m' n n' a a' b b' c c' d d' : Bool) → k ≡ k' → l ≡ l' → m ≡ m' → n ≡ n' → a ≡ a' → b ≡ b' → c ≡ c' → d ≡ d'
-    → rule k l m n a b c d ≡ rule k' l' m' n' a' b' c' d'
-same_rule k k' l l' m m' n n' a a' b b' c c' d d' e f g h i j o r = cc
-
-pub other_below : (n p x : ℕ) → x < n → other_coordinate n p x < n
-other_below n p x l = along_below n (has_parity p x) x l
-
--- a cell after a step, by the eight cells that it depends on
-pub cell_by_eight : (p : ℕ) (particles walls : Cells) (x y : ℕ) → HasEvenSides particles.width particles.height → HasSidesOf walls particles
-    → x < particles.width → y < particles.height
-    → let across = other_coordinate particles.width p x in
-    let down = other_coordinate particles.height p y in
-    has (streamed p particles walls) x y
-    ≡ corner_rule (has walls x y || has walls across down || has walls across y || has walls x down)
-    (has particles x y) (has particles across down) (has particles across y) (has particles x down)
-cell_by_eight p particles walls x y e sides l m =
-    sym (turned_cell_is p particles walls x y (other_coordinate particles.width p x) (other_coordinate particles.height p y) _ _ _ _ _ _
-    e sides.wide sides.high l m refl refl refl refl refl refl refl refl)
-
 -- A step makes the same of blocks that hold the same.
 pub same_block_streams : (p q : ℕ) (some others walls boulders : Cells) (x y a b : ℕ)
     → HasEvenSides some.width some.height → HasEvenSides others.width others.height → HasSidesOf walls some → HasSidesOf boulders others
     → x < some.width → y < some.height → a < others.width → b < others.height
     → IsSameBlock p q some others x y a b → IsSameBlock p q walls boulders x y a b
     → has (streamed p some walls) x y ≡ has (streamed q others boulders) a b
-unfolding rule
 same_block_streams p q some others walls boulders x y a b e e' sides sides' l m l' m' here solid =
     let f : ℕ → ℕ = λ n. other_coordinate n p x in
     let g : ℕ → ℕ = λ n. other_coordinate n p y in
     let f' : ℕ → ℕ = λ n. other_coordinate n q a in
     let g' : ℕ → ℕ = λ n. other_coordinate n q b in
     cell_by_eight p some walls x y e sides l m
-    ∙ same_rule _ _ _ _ _ _ _ _ _ _ _ _ _ _ _ _
+    ∙ same_eight _ _ _ _ _ _ _ _ _ _ _ _ _ _ _ _
     solid.own
     (ap (λ n. has walls (f n) (g some.height)) (sym sides.wide) ∙ ap (λ n. has walls (f walls.width) (g n)) (sym sides.high)
     ∙ solid.opposed

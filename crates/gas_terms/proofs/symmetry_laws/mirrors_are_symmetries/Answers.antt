@@ -1,14 +1,14 @@
-use Rattle.gas_terms.proofs.Maps.{mirrored_run, upside_down_run, transposed_run, velocity_mirrored, velocity_upside_down}
+use Rattle.gas_terms.proofs.Mirrors.{mirror_symmetry, upside_down_symmetry, transposed_symmetry, velocity_mirrored, velocity_upside_down}
 use Rattle.gas_terms.proofs.symmetry_laws.mirrors_are_symmetries.Goals as goal
 
 pub returns-clause-mirror : goal.returns-clause-mirror
-returns-clause-mirror c = mirrored_run
+returns-clause-mirror c = mirror_symmetry
 
 pub returns-clause-flip : goal.returns-clause-flip
-returns-clause-flip c = upside_down_run
+returns-clause-flip c = upside_down_symmetry
 
 pub returns-clause-turn : goal.returns-clause-turn
-returns-clause-turn c = transposed_run
+returns-clause-turn c = transposed_symmetry
 
 pub returns-clause-sideways : goal.returns-clause-sideways
 returns-clause-sideways c = velocity_mirrored

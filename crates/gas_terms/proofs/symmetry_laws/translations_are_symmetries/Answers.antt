@@ -1,9 +1,8 @@
-use Rattle.gas_terms.proofs.Maps.{translated_run}
-use Rattle.gas_terms.proofs.Translations.{translated_there}
+use Rattle.gas_terms.proofs.Translations.{translation_symmetry, translated_there}
 use Rattle.gas_terms.proofs.symmetry_laws.translations_are_symmetries.Goals as goal
 
 pub returns-clause-runs : goal.returns-clause-runs
-returns-clause-runs c = translated_run
+returns-clause-runs c = translation_symmetry
 
-pub returns-clause-moves : goal.returns-clause-moves
-returns-clause-moves c = translated_there
+pub returns-clause-cells : goal.returns-clause-cells
+returns-clause-cells c = translated_there
