@@ -39,6 +39,7 @@ pub mod Transport
 pub mod Maps
 pub mod Mirrors
 pub mod Translations
+pub mod MappedTotals
 pub mod Distance
 pub mod LightCone
 pub mod Clear

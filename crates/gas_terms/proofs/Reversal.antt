@@ -1,18 +1,13 @@
 -- A run back is a run forward of the reversed gas.
-use Rattle.std.proofs.Common.{◌≡◌, ℕ, ◌+◌, ◌-◌, ◌<◌, Bool, true, false, not, ◌==◌, ℤ, pos, ◌*ℤ◌, neg_ℤ, ◌+ℤ◌, ◌-ℤ◌, List, [], refl, sym, ap, ◌∙◌, arith}
+use Rattle.std.proofs.Common.{◌≡◌, ℕ, ℤ, pos, ◌+ℤ◌, ◌-ℤ◌, List, [], sym, ap, ◌∙◌, arith}
 use Rattle.std.proofs.lemmas.Int.{ints}
-use Rattle.std.proofs.lemmas.Bool.Decides.{nat_tests}
 use Rattle.std.specs.Fn.{iterate}
-use Rattle.gas_terms.specs.Velocity.{sign, opposite, parity, velocity_at}
-use Rattle.gas_terms.specs.Cells.{Cells, Rectangle, whole, HasEvenSides, IsEvenTorus}
+use Rattle.gas_terms.specs.Velocity.{opposite, parity, velocity_at}
+use Rattle.gas_terms.specs.Cells.{Cells, Rectangle, HasEvenSides, IsEvenTorus}
 use Rattle.gas_terms.specs.Gas.{Gas, Source, streamed, unstreamed, solid, forward, back, HasNoPorts}
-use Rattle.gas_terms.specs.Accounts.{gas_total, total, parity_count, sums_by_parity}
-use Rattle.gas_terms.specs.declared.accounts.Sums.{Sums}
 use Rattle.gas_terms.specs.Symmetry.{reversed}
 use Rattle.gas_terms.proofs.Iterate.{iterate_keeps, iterate_carried}
 use Rattle.gas_terms.proofs.Parity.{parity-small, parity-last, parity_reversed}
-use Rattle.gas_terms.proofs.Totals.{same_sums}
-use Rattle.gas_terms.proofs.RectangleTotals.{total-whole, total_in-parities}
 use Rattle.gas_terms.proofs.Steps.{unstreamed-streamed, gas_at, same_gas, backs-forwards}
 use Rattle.gas_terms.proofs.StepWeights.{velocity_at-other}
 
@@ -54,37 +49,3 @@ reversed-reversed g none =
 pub run_returns : (n : ℕ) (g : Gas) → IsEvenTorus g.particles → iterate forward n (reversed (iterate forward n g)) ≡ reversed g
 run_returns n g t =
     sym (backs_reversed n (iterate forward n g) (iterate_keeps forward (λ k. HasEvenSides k.particles.width k.particles.height) (λ k e. e) n g t.sides)) ∙ ap reversed (backs-forwards n g t)
-
--- The momenta are opposite.
-other_sign : (b : Bool) (z : ℤ) → sign (not b) *ℤ z ≡ neg_ℤ (sign b *ℤ z)
-other_sign true z = omega (arith, ints)
-other_sign false z = omega (arith, ints)
-
-other_zero : (p : ℕ) → p < 2 → (1 - p == 0) ≡ not (p == 0)
-other_zero p small = grind (arith, nat_tests)
-
--- sums with the opposite momenta
-opposed : Sums → Sums
-opposed s = record { count = s.count; px = neg_ℤ s.px; py = neg_ℤ s.py }
-
-opposed_parities : (t u : ℤ) (a b c d : ℕ) → parity u ≡ 1 - parity t → sums_by_parity u a b c d ≡ opposed (sums_by_parity t a b c d)
-unfolding opposed
-opposed_parities t u a b c d e =
-    let to_right : (parity u == 0) ≡ not (parity t == 0) = ap (λ p. p == 0) e ∙ other_zero (parity t) (parity-small t) in
-    same_sums (sums_by_parity u a b c d) (opposed (sums_by_parity t a b c d)) refl
-    (ap (λ r. sign r *ℤ (pos (a + c) -ℤ pos (b + d))) to_right ∙ other_sign (parity t == 0) (pos (a + c) -ℤ pos (b + d)))
-    (ap (λ r. sign r *ℤ (pos (a + b) -ℤ pos (c + d))) to_right ∙ other_sign (parity t == 0) (pos (a + b) -ℤ pos (c + d)))
-
-by_parities : (tick : ℤ) (cells : Cells) → HasEvenSides cells.width cells.height
-    → total tick cells
-    ≡ sums_by_parity tick (parity_count cells (whole cells) 0 0) (parity_count cells (whole cells) 1 0) (parity_count cells (whole cells) 0 1)
-    (parity_count cells (whole cells) 1 1)
-by_parities tick cells e = total-whole tick cells e ∙ total_in-parities tick cells (whole cells)
-
-pub total_reversed : (g : Gas) → HasEvenSides g.particles.width g.particles.height
-    → gas_total (reversed g) ≡ record { count = (gas_total g).count; px = neg_ℤ (gas_total g).px; py = neg_ℤ (gas_total g).py }
-unfolding opposed
-total_reversed g e =
-    by_parities (pos 1 -ℤ g.tick) g.particles e
-    ∙ opposed_parities g.tick (pos 1 -ℤ g.tick) _ _ _ _ (parity_reversed g.tick)
-    ∙ ap opposed (sym (by_parities g.tick g.particles e))

@@ -13,7 +13,7 @@ use Rattle.gas_terms.proofs.Cells.{has-cells_where}
 use Rattle.gas_terms.proofs.Transport.{IsCarried, pulled_streamed, pulled_joined}
 use Rattle.gas_terms.proofs.Maps.{commuting_symmetry}
 
--- A move keeps the way along an axis.
+-- A translation keeps the way along an axis.
 move_up : (n c x : ℕ) → ((x + 1) % n + c) % n ≡ ((x + c) % n + 1) % n
 move_up n c x =
     mod-add-mod (x + 1) n c ∙ ap (λ k. k % n) (let e : x + 1 + c ≡ x + c + 1 = omega arith in e) ∙ sym (mod-add-mod (x + c) n 1)
@@ -29,16 +29,16 @@ move_along : (n c x : ℕ) (b : Bool) → 0 < n → (along n b x + c) % n ≡ al
 move_along n c x true some = move_up n c x
 move_along n c x false some = move_down n c x some
 
--- what is moved by, as a number to add
-abbrev to_add : ℕ → ℕ → ℕ
+-- the way back, as a number to add
+abbrev pub to_add : ℕ → ℕ → ℕ
 to_add n by = n - by % n
 
-from_is : (n by x : ℕ) → 0 < n → translated_from n by x ≡ (x + to_add n by) % n
+pub from_is : (n by x : ℕ) → 0 < n → translated_from n by x ≡ (x + to_add n by) % n
 from_is n by x some =
     let l : by % n < n = mod-lt by some in
     ap (λ k. k % n) (let e : x + n - by % n ≡ x + (n - by % n) = omega arith in e)
 
--- A remainder of a number of even occupied keeps the parity.
+-- A remainder by an even number keeps the parity.
 even_rest : (a n q r : ℕ) → n % 2 ≡ 0 → q * n + r ≡ a → r % 2 ≡ a % 2
 even_rest a n q r even e =
     let half : n ≡ 2 * (n / 2) = omega arith in
@@ -48,14 +48,14 @@ even_rest a n q r even e =
 rest_parity : (a n : ℕ) → n % 2 ≡ 0 → a % n % 2 ≡ a % 2
 rest_parity a n even = even_rest a n (a / n) (a % n) even (div-add-mod' a n)
 
-move_parity : (n by x : ℕ) → n % 2 ≡ 0 → 0 < n → (translated_from n by x + by) % 2 ≡ x % 2
+pub move_parity : (n by x : ℕ) → n % 2 ≡ 0 → 0 < n → (translated_from n by x + by) % 2 ≡ x % 2
 move_parity n by x even some =
     let l : by % n < n = mod-lt by some in
     let e = rest_parity (x + n - by % n) n even in
     let f = rest_parity by n even in
     omega arith
 
-same_parity : (p q x y : ℕ) → (x + p) % 2 ≡ (y + q) % 2 → has_parity p x ≡ has_parity q y
+pub same_parity : (p q x y : ℕ) → (x + p) % 2 ≡ (y + q) % 2 → has_parity p x ≡ has_parity q y
 same_parity p q x y e = grind (arith, nat_tests)
 
 move_carries : (p q n by : ℕ) → n % 2 ≡ 0 → (p + q + by) % 2 ≡ 0 → IsCarried p q n (translated_from n by)

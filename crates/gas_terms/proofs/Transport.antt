@@ -47,7 +47,7 @@ pub record IsCarried (p q n : ℕ) (f : ℕ → ℕ) : Type 0 where
 abbrev pub pulled : Cells → (ℕ → ℕ) → (ℕ → ℕ) → Cells
 pulled cells f g = cells_where cells.width cells.height (λ x y. has cells (f x) (g y))
 
-has-pulled : (cells : Cells) (f g : ℕ → ℕ) (x y : ℕ) → x < cells.width → y < cells.height → has (pulled cells f g) x y ≡ has cells (f x) (g y)
+pub has-pulled : (cells : Cells) (f g : ℕ → ℕ) (x y : ℕ) → x < cells.width → y < cells.height → has (pulled cells f g) x y ≡ has cells (f x) (g y)
 has-pulled cells f g x y l m = has-cells_where cells.width cells.height (λ x y. has cells (f x) (g y)) x y l m
 
 pulled_block : (p q : ℕ) (cells : Cells) (f g : ℕ → ℕ) → IsCarried p q cells.width f → IsCarried p q cells.height g

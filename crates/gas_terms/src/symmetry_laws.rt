@@ -27,6 +27,9 @@ pub fn time_reversal_is_a_symmetry()
 pub fn translations_are_symmetries()
     ensures runs { (right down : ℕ) (ticks : ℤ) → CarriesBlocks right down ticks →
         IsSymmetry (gas_translated right down ticks) }
+    ensures sums { (right down : ℕ) (ticks : ℤ) → CarriesBlocks right down ticks →
+        (g : Gas) → HasEvenSides g.particles.width g.particles.height →
+        gas_total (gas_translated right down ticks g) ≡ gas_total g }
     // A translation takes each cell to the right and down.
     ensures cells { (right down : ℕ) (cells : Cells) (x y : ℕ) →
         x < cells.width → y < cells.height →
@@ -46,6 +49,16 @@ pub fn mirrors_are_symmetries()
     ensures upwards { (p height x y : ℕ) → height % 2 ≡ 0 → y < height →
         let v = velocity_at p x y in
         velocity_at p x (height - 1 - y) ≡ record v { down = not v.down } }
+    // So a mirror negates one component of the momentum, and transposing exchanges them.
+    ensures mirrored_sums { (g : Gas) → HasEvenSides g.particles.width g.particles.height →
+        let sums = gas_total g in
+        gas_total (mapped mirrored g) ≡ record sums { px = neg_ℤ sums.px } }
+    ensures flipped_sums { (g : Gas) → HasEvenSides g.particles.width g.particles.height →
+        let sums = gas_total g in
+        gas_total (mapped upside_down g) ≡ record sums { py = neg_ℤ sums.py } }
+    ensures turned_sums { (g : Gas) → HasEvenSides g.particles.width g.particles.height →
+        let sums = gas_total g in
+        gas_total (mapped transposed g) ≡ record sums { px = sums.py; py = sums.px } }
 {}
 
 /// Nothing acts faster than one cell a step. A cell after n steps depends on the cells within n columns and rows of it.

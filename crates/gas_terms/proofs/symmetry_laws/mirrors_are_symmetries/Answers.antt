@@ -1,3 +1,4 @@
+use Rattle.gas_terms.proofs.MappedTotals.{total_mirrored, total_upside_down, total_transposed}
 use Rattle.gas_terms.proofs.Mirrors.{mirror_symmetry, upside_down_symmetry, transposed_symmetry, velocity_mirrored, velocity_upside_down}
 use Rattle.gas_terms.proofs.symmetry_laws.mirrors_are_symmetries.Goals as goal
 
@@ -15,3 +16,12 @@ returns-clause-sideways c = velocity_mirrored
 
 pub returns-clause-upwards : goal.returns-clause-upwards
 returns-clause-upwards c = velocity_upside_down
+
+pub returns-clause-mirrored_sums : goal.returns-clause-mirrored_sums
+returns-clause-mirrored_sums c = total_mirrored
+
+pub returns-clause-flipped_sums : goal.returns-clause-flipped_sums
+returns-clause-flipped_sums c = total_upside_down
+
+pub returns-clause-turned_sums : goal.returns-clause-turned_sums
+returns-clause-turned_sums c = total_transposed

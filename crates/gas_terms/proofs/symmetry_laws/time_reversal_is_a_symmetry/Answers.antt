@@ -1,4 +1,5 @@
-use Rattle.gas_terms.proofs.Reversal.{velocity_reversed, total_reversed, reversed-reversed, backs_reversed, run_returns}
+use Rattle.gas_terms.proofs.Reversal.{velocity_reversed, reversed-reversed, backs_reversed, run_returns}
+use Rattle.gas_terms.proofs.MappedTotals.{total_reversed}
 use Rattle.gas_terms.proofs.symmetry_laws.time_reversal_is_a_symmetry.Goals as goal
 
 pub returns-clause-velocities : goal.returns-clause-velocities
