@@ -86,7 +86,7 @@ one_is_clear p x y some others s l m far =
           ]
     ]
 
--- Where a block has no particles, none come.
+-- A block without particles gets none.
 rule_of_none : (walled a b c d : Bool) → a ≡ false → b ≡ false → c ≡ false → d ≡ false → corner_rule walled a b c d ≡ false
 rule_of_none true a b c d e f g h = e
 rule_of_none false a b c d e f g h = grind arith

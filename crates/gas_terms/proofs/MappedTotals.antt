@@ -14,8 +14,9 @@ use Rattle.gas_terms.proofs.StepWeights.{velocity_at-other}
 use Rattle.gas_terms.proofs.Totals.{sums_by, total_is, same_sums}
 use Rattle.gas_terms.proofs.Transport.{pulled, has-pulled}
 use Rattle.gas_terms.proofs.Mirrors.{mirror_parity, has-transposed}
-use Rattle.gas_terms.proofs.Translations.{move_parity, same_parity, from_is, to_add}
+use Rattle.gas_terms.proofs.Translations.{move_parity, from_is, to_add}
 use Rattle.gas_terms.specs.declared.accounts.Sums.{Sums}
+use Rattle.gas_terms.proofs.Axis.{same_parity}
 
 -- What the particles weigh at another tick, by another weight.
 same_weight : (f g : Weight) (p q : ℕ) (cells : Cells) → p < 2 → q < 2 → HasEvenSides cells.width cells.height

@@ -45,7 +45,7 @@ unfolding gas_at
 reversed-reversed g none =
     same_but_ports _ g.tick g.particles g.walls g.obstacles [] g.drains [] g.sources (twice_at g.tick) (sym none.no_drains) (sym none.no_sources)
 
--- What was run, turned round and run as long is the start turned round.
+-- A gas that runs, is reversed and runs as long again is its start, reversed.
 pub run_returns : (n : ℕ) (g : Gas) → IsEvenTorus g.particles → iterate forward n (reversed (iterate forward n g)) ≡ reversed g
 run_returns n g t =
     sym (backs_reversed n (iterate forward n g) (iterate_keeps forward (λ k. HasEvenSides k.particles.width k.particles.height) (λ k e. e) n g t.sides)) ∙ ap reversed (backs-forwards n g t)

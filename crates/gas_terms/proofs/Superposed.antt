@@ -1,4 +1,4 @@
--- What is far apart runs as each alone.
+-- Gases that never meet run in one lattice as each runs alone.
 use Rattle.std.proofs.Common.{◌≡◌, ℕ, zero, suc, ◌+◌, ◌-◌, ◌*◌, ◌%◌, ◌<◌, ◌⊎◌, inl, inr, Bool, true, false, ◌||◌, pos, ◌+ℤ◌, refl, sym, ap, subst, ◌∙◌, arith}
 use Rattle.std.specs.Fn.{iterate}
 use Rattle.gas_terms.specs.Velocity.{parity}
@@ -46,7 +46,7 @@ torus_superposed g k i = record {
   obstacles = record { wide = i.obstacles.wide; high = i.obstacles.high };
 }
 
--- At a block where one of them has nothing, both are as the other.
+-- In a block where one gas has nothing, both together are as the other.
 like_first : (g k : Gas) (a b : ℕ) → IsOnOneTorus g → IsOnOneTorus k → HasSidesOf k.particles g.particles
     → a < g.particles.width → b < g.particles.height → has (occupied k) a b ≡ false
     → (has (superposed g k).particles a b ≡ has g.particles a b) × (has (solid (superposed g k)) a b ≡ has (solid g) a b)

@@ -3,7 +3,6 @@ use Rattle.std.proofs.Common.{◌≡◌, ℕ, ◌+◌, ◌-◌, ◌*◌, ◌/◌
 use Rattle.std.proofs.Math.Nat.{mod-lt, mod-add-mod, add-mod_right}
 use Rattle.std.proofs.lemmas.Int.{ints}
 use Rattle.std.proofs.lemmas.Nat.{div-add-mod', mod-mul-add}
-use Rattle.std.proofs.lemmas.Bool.Decides.{nat_tests}
 use Rattle.gas_terms.specs.Velocity.{has_parity, parity}
 use Rattle.gas_terms.specs.Cells.{Cells, has, cells_where, HasEvenSides, HasSidesOf, joined}
 use Rattle.gas_terms.specs.Gas.{streamed, along}
@@ -12,6 +11,7 @@ use Rattle.gas_terms.proofs.Parity.{parity-small, parity_after}
 use Rattle.gas_terms.proofs.Cells.{has-cells_where}
 use Rattle.gas_terms.proofs.Transport.{IsCarried, pulled_streamed, pulled_joined}
 use Rattle.gas_terms.proofs.Maps.{commuting_symmetry}
+use Rattle.gas_terms.proofs.Axis.{rest_parity, same_parity}
 
 -- A translation keeps the way along an axis.
 move_up : (n c x : ℕ) → ((x + 1) % n + c) % n ≡ ((x + c) % n + 1) % n
@@ -38,25 +38,13 @@ from_is n by x some =
     let l : by % n < n = mod-lt by some in
     ap (λ k. k % n) (let e : x + n - by % n ≡ x + (n - by % n) = omega arith in e)
 
--- A remainder by an even number keeps the parity.
-even_rest : (a n q r : ℕ) → n % 2 ≡ 0 → q * n + r ≡ a → r % 2 ≡ a % 2
-even_rest a n q r even e =
-    let half : n ≡ 2 * (n / 2) = omega arith in
-    let h : q * n ≡ 2 * (q * (n / 2)) = ap (λ k. q * k) half ∙ omega arith in
-    omega arith
-
-rest_parity : (a n : ℕ) → n % 2 ≡ 0 → a % n % 2 ≡ a % 2
-rest_parity a n even = even_rest a n (a / n) (a % n) even (div-add-mod' a n)
-
+-- A translation changes the parity by that of its cells.
 pub move_parity : (n by x : ℕ) → n % 2 ≡ 0 → 0 < n → (translated_from n by x + by) % 2 ≡ x % 2
 move_parity n by x even some =
     let l : by % n < n = mod-lt by some in
     let e = rest_parity (x + n - by % n) n even in
     let f = rest_parity by n even in
     omega arith
-
-pub same_parity : (p q x y : ℕ) → (x + p) % 2 ≡ (y + q) % 2 → has_parity p x ≡ has_parity q y
-same_parity p q x y e = grind (arith, nat_tests)
 
 move_carries : (p q n by : ℕ) → n % 2 ≡ 0 → (p + q + by) % 2 ≡ 0 → IsCarried p q n (translated_from n by)
 move_carries p q n by even turns = record {

@@ -1,4 +1,4 @@
--- Maps of the two axes that keep blocks carry a step over.
+-- A map of each axis that takes blocks to blocks commutes with a step.
 use Rattle.std.proofs.Common.{◌≡◌, ℕ, ◌<◌, ◌||◌, refl, sym, ap, subst, ◌∙◌, arith}
 use Rattle.gas_terms.specs.Cells.{Cells, has, cells_where, joined, HasEvenSides, HasSidesOf}
 use Rattle.gas_terms.specs.Gas.{streamed}
@@ -8,7 +8,7 @@ use Rattle.gas_terms.proofs.Cells.{has-cells_where, full-cells_where, same_cells
 use Rattle.gas_terms.proofs.Steps.{full_streamed}
 use Rattle.gas_terms.proofs.Blocks.{cell_by_eight, same_eight}
 
--- the cells of a cell's block, and of its block of walls
+-- Two sets have the same in the block of (x, y) and in the block of (a, b).
 pub record IsSameBlock (p q : ℕ) (some others : Cells) (x y a b : ℕ) : Type 0 where
   pub own : has some x y ≡ has others a b
   pub opposed : has some (other_coordinate some.width p x) (other_coordinate some.height p y)
@@ -38,7 +38,7 @@ same_block_streams p q some others walls boulders x y a b e e' sides sides' l m 
     here.own here.opposed here.besides here.beneath
     ∙ sym (cell_by_eight q others boulders a b e' sides' l' m')
 
--- A map of an axis keeps blocks: those of one parity become those of another.
+-- A map of an axis takes blocks of one parity to blocks of another.
 pub record IsCarried (p q n : ℕ) (f : ℕ → ℕ) : Type 0 where
   pub below : (x : ℕ) → x < n → f x < n
   pub other : (x : ℕ) → x < n → f (other_coordinate n p x) ≡ other_coordinate n q (f x)
@@ -67,7 +67,7 @@ pulled_block p q cells f g c d x y l m =
 carried_elsewhere : (p q n k : ℕ) (f : ℕ → ℕ) → n ≡ k → IsCarried p q n f → IsCarried p q k f
 carried_elsewhere p q n k f e c = subst (λ i. IsCarried p q i f) e c
 
--- A step of moved cells is the moved step.
+-- A step of the mapped cells is the mapped step.
 pub pulled_streamed : (p q : ℕ) (particles walls : Cells) (f g : ℕ → ℕ) → HasEvenSides particles.width particles.height → HasSidesOf walls particles
     → IsCarried p q particles.width f → IsCarried p q particles.height g
     → streamed p (pulled particles f g) (pulled walls f g) ≡ pulled (streamed q particles walls) f g
@@ -86,7 +86,7 @@ pulled_streamed p q particles walls f g e sides c d =
     (pulled_block p q walls f g (carried_elsewhere p q _ _ f (sym sides.wide) c) (carried_elsewhere p q _ _ g (sym sides.high) d) x y l' m')
     ∙ sym (has-pulled later f g x y l m))
 
--- Moved sets together are the moved joined set.
+-- The mapped sets joined are the joined sets mapped.
 pub pulled_joined : (some others : Cells) (f g : ℕ → ℕ) → HasSidesOf others some
     → ((x : ℕ) → x < some.width → f x < some.width) → ((y : ℕ) → y < some.height → g y < some.height)
     → joined (pulled some f g) (pulled others f g) ≡ pulled (joined some others) f g

@@ -24,7 +24,7 @@ pub record SharePorts (g k : Gas) : Type 0 where
   pub drains : g.drains ≡ k.drains
   pub sources : g.sources ≡ k.sources
 
--- A map is a symmetry if mapping a gas before any number of steps, forward or back, is mapping it after them.
+-- A map of gases is a symmetry if it commutes with any number of steps, forward and back.
 pub record IsSymmetry (f : Gas → Gas) : Type 0 where
   pub forth : (n : ℕ) (g : Gas) → IsOnOneTorus g → f (iterate forward n g) ≡ iterate forward n (f g)
   pub back : (n : ℕ) (g : Gas) → IsOnOneTorus g → f (iterate back n g) ≡ iterate back n (f g)
@@ -41,7 +41,7 @@ mapped f g = record g { particles = f g.particles; walls = f g.walls; obstacles 
 abbrev pub delayed : ℤ → Gas → Gas
 delayed ticks g = record g { tick = g.tick +ℤ ticks }
 
--- Its columns, rows and ticks are all even or all odd: then a translation takes blocks to blocks.
+-- The columns, rows and ticks of a translation are all even or all odd, so it takes blocks to blocks.
 pub record CarriesBlocks (right down : ℕ) (ticks : ℤ) : Type 0 where
   pub columns : right % 2 ≡ parity ticks
   pub rows : down % 2 ≡ parity ticks

@@ -42,7 +42,7 @@ pub fn mirrors_are_symmetries()
     ensures mirror { IsSymmetry (mapped mirrored) }
     ensures flip { IsSymmetry (mapped upside_down) }
     ensures turn { IsSymmetry (mapped transposed) }
-    // A mirror turns a velocity's left and right round, and upside down is its up and down.
+    // A mirror exchanges left and right in a velocity. Upside down, up and down are exchanged.
     ensures sideways { (p width x y : ℕ) → width % 2 ≡ 0 → x < width →
         let v = velocity_at p x y in
         velocity_at p (width - 1 - x) y ≡ record v { right = not v.right } }
