@@ -13,6 +13,8 @@ use Rattle.gas_terms.proofs.Bounds.{ledger_fits}
 use Rattle.gas_terms.proofs.Bookings.{book_all-sides, book_all-torus}
 use Rattle.gas_terms.proofs.LabBounds.{next_accounts_fit}
 use Rattle.gas_terms.proofs.Laboratories.{all_booked, opening_sound, accepted_sound, has_room}
+use Rattle.gas_terms.specs.Symmetry.{IsOnOneTorus}
+use Rattle.gas_ledger.specs.Gases.{IsSoundGas}
 use Rattle.gas_plane.specs.Planes.{IsLattice}
 use Rattle.gas_lab.specs.Labs.{lab_of, TickHolds, Affords, IsKept}
 use Rattle.gas_lab.proofs.Stepping.{torus_of, book_tick}
@@ -43,6 +45,10 @@ pub kept_torus : (lab : Laboratory) (others : Cells) → IsKept lab others → I
 kept_torus lab others kept =
     subst (λ (b : BookedGas). IsEvenTorus b.gas.particles) (sym (all_booked lab kept.sound))
     (book_all-torus (commands lab.journal) (opened lab.start) (torus_of lab.start.particles kept.lattice))
+
+-- What a gas's type keeps: its sets have the same even sides.
+pub gas_on_one_torus : (g : Gas) → IsSoundGas g → IsOnOneTorus g
+gas_on_one_torus g ok = record { sides = (torus_of g.particles ok.particles).sides; walls = ok.fit.walls_sides; obstacles = ok.fit.obstacles_sides }
 
 -- Whatever the next command is, the accounts fit.
 pub kept_affords : (lab : Laboratory) (others : Cells) (entry : Entry) → IsKept lab others → IsAcceptable lab entry → Affords (booked lab)

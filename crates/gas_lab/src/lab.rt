@@ -8,6 +8,7 @@ ghost use Rattle.gas_terms.specs.Laboratory.{most_entries, opening, answer as an
 ghost use Rattle.gas_terms.specs.declared.command.Command.TheVariants.{Entry as EntryAt};
 ghost use Rattle.gas_terms.specs.declared.refusal.Refusal.TheVariants.{Memory};
 ghost use Rattle.gas_terms.specs.declared.answer.Answer.TheVariants.{RowIs};
+ghost use Rattle.gas_terms.specs.Symmetry.{IsOnOneTorus};
 ghost use Rattle.gas_lab.specs.Labs.{Changes, entry_of};
 
 use crate::books::Books;
@@ -136,9 +137,12 @@ impl<S: Stepper> Lab<S> {
     pub fn invariant(&self)
         ensures sound { IsSound self.now }
         ensures cap { self.now.cap ≤ most_entries }
+        // So the laws of symmetry hold for the gas of every laboratory.
+        ensures torus { IsOnOneTorus self.now.gas }
     {
-        // the prover shows what a type keeps where a field is read
+        // the prover shows what a type keeps where a field is read, and what a gas keeps where its size is asked for
         let _cap = self.cap;
+        let _size = self.gas().size();
     }
 
     /// How wide and high the lattice is, which never changes.
