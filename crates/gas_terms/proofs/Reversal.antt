@@ -32,6 +32,24 @@ pub backs_reversed : (n : ℕ) (g : Gas) → HasEvenSides g.particles.width g.pa
 backs_reversed =
     iterate_carried back forward reversed (λ g. HasEvenSides g.particles.width g.particles.height) (λ g e. e) back_reversed
 
+-- A run forward is a run back of the reversed gas.
+pub forward_reversed : (g : Gas) → HasEvenSides g.particles.width g.particles.height → reversed (forward g) ≡ back (reversed g)
+unfolding gas_at
+forward_reversed g e =
+    let t = g.tick in
+    let u = (pos 1 -ℤ t) -ℤ pos 1 in
+    let same : parity t ≡ parity u =
+    omega (arith, parity-last (pos 1 -ℤ t), parity-small t, parity-small u, parity_reversed t) in
+    same_gas (pos 1 -ℤ (t +ℤ pos 1)) u (streamed (parity t) g.particles (solid g)) (unstreamed (parity u) g.particles (solid g))
+    g.walls g.obstacles [] []
+    (omega (arith, ints))
+    (ap (λ p. streamed p g.particles (solid g)) same ∙ sym (unstreamed-streamed (parity u) g.particles (solid g) e))
+
+pub forwards_reversed : (n : ℕ) (g : Gas) → HasEvenSides g.particles.width g.particles.height
+    → reversed (iterate forward n g) ≡ iterate back n (reversed g)
+forwards_reversed =
+    iterate_carried forward back reversed (λ g. HasEvenSides g.particles.width g.particles.height) (λ g e. e) forward_reversed
+
 -- Reversed twice.
 twice_at : (t : ℤ) → pos 1 -ℤ (pos 1 -ℤ t) ≡ t
 twice_at t = omega (arith, ints)

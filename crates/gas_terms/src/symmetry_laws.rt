@@ -8,16 +8,18 @@ ghost use Rattle.gas_terms.specs.Gas.{Gas, forward, back, step, HasNoPorts};
 ghost use Rattle.gas_terms.specs.Accounts.{gas_total};
 ghost use Rattle.gas_terms.specs.Symmetry.{IsOnOneTorus, ShareTorus, SharePorts, IsSymmetry, reversed, mapped, CarriesBlocks, gas_translated, translated, mirrored, upside_down, transposed, AgreeOnCone, AreApart, occupied, NeverMeet, ParticlesNeverMeet, superposed, with_particles, with_more};
 
-/// Reversing a gas turns each particle round, and the gas runs back: steps back are steps forward of the reversed gas.
+/// Reversing a gas turns each particle round. Steps back are then steps forward of the reversed gas, and the other way round.
 pub fn time_reversal_is_a_symmetry()
     ensures velocities { (g : Gas) (x y : ℕ) →
         velocity_at (parity (reversed g).tick) x y ≡ opposite (velocity_at (parity g.tick) x y) }
-    ensures momenta { (g : Gas) → HasEvenSides g.particles.width g.particles.height →
+    ensures sums { (g : Gas) → HasEvenSides g.particles.width g.particles.height →
         let sums = gas_total g in
         gas_total (reversed g) ≡ record sums { px = neg_ℤ sums.px; py = neg_ℤ sums.py } }
     ensures twice { (g : Gas) → HasNoPorts g → reversed (reversed g) ≡ g }
     ensures runs { (n : ℕ) (g : Gas) → HasEvenSides g.particles.width g.particles.height →
         reversed (iterate back n g) ≡ iterate forward n (reversed g) }
+    ensures runs_back { (n : ℕ) (g : Gas) → HasEvenSides g.particles.width g.particles.height →
+        reversed (iterate forward n g) ≡ iterate back n (reversed g) }
     // So a gas that runs n steps, is reversed and runs n steps again is its start, reversed.
     ensures returns { (n : ℕ) (g : Gas) → IsEvenTorus g.particles →
         iterate forward n (reversed (iterate forward n g)) ≡ reversed g }

@@ -1,4 +1,4 @@
-use Rattle.gas_terms.proofs.Reversal.{velocity_reversed, reversed-reversed, backs_reversed, run_returns}
+use Rattle.gas_terms.proofs.Reversal.{velocity_reversed, reversed-reversed, backs_reversed, forwards_reversed, run_returns}
 use Rattle.gas_terms.proofs.MappedTotals.{total_reversed}
 use Rattle.gas_terms.proofs.symmetry_laws.time_reversal_is_a_symmetry.Goals as goal
 
@@ -11,8 +11,11 @@ returns-clause-twice c = reversed-reversed
 pub returns-clause-runs : goal.returns-clause-runs
 returns-clause-runs c = backs_reversed
 
+pub returns-clause-runs_back : goal.returns-clause-runs_back
+returns-clause-runs_back c = forwards_reversed
+
 pub returns-clause-returns : goal.returns-clause-returns
 returns-clause-returns c = run_returns
 
-pub returns-clause-momenta : goal.returns-clause-momenta
-returns-clause-momenta c = total_reversed
+pub returns-clause-sums : goal.returns-clause-sums
+returns-clause-sums c = total_reversed
