@@ -37,10 +37,6 @@ reversed g = record g { tick = pos 1 -ℤ g.tick; drains = []; sources = [] }
 abbrev pub mapped : (Cells → Cells) → Gas → Gas
 mapped f g = record g { particles = f g.particles; walls = f g.walls; obstacles = f g.obstacles }
 
--- a gas so many ticks later
-abbrev pub delayed : ℤ → Gas → Gas
-delayed ticks g = record g { tick = g.tick +ℤ ticks }
-
 -- The columns, rows and ticks of a translation are all even or all odd, so it takes blocks to blocks.
 pub record CarriesBlocks (right down : ℕ) (ticks : ℤ) : Type 0 where
   pub columns : right % 2 ≡ parity ticks
@@ -50,14 +46,14 @@ pub record CarriesBlocks (right down : ℕ) (ticks : ℤ) : Type 0 where
 abbrev pub translated_from : ℕ → ℕ → ℕ → ℕ
 translated_from size by x = (x + size - by % size) % size
 
--- the cells, so many columns further right and so many rows further down, over the seams
+-- the cells translated by so many columns to the right and rows down, over the seams
 abbrev pub translated : ℕ → ℕ → Cells → Cells
 translated right down cells =
     cells_where cells.width cells.height (λ x y. has cells (translated_from cells.width right x) (translated_from cells.height down y))
 
--- a gas, so many columns further right, so many rows further down and so many ticks later
+-- a gas translated by so many columns to the right, rows down and ticks
 abbrev pub gas_translated : ℕ → ℕ → ℤ → Gas → Gas
-gas_translated right down ticks g = delayed ticks (mapped (translated right down) g)
+gas_translated right down ticks g = record (mapped (translated right down) g) { tick = g.tick +ℤ ticks }
 
 -- the cells with left and right exchanged
 abbrev pub mirrored : Cells → Cells
