@@ -20,7 +20,7 @@ use std::{fs, io, thread};
 use test_types::faults::{FaultAt, Store};
 
 // what is run alone, on a new lattice of that width and height
-const LESSONS: [(&str, u32, u32); 11] = [
+const LESSONS: [(&str, u32, u32); 15] = [
     ("1_one_particle", 64, 64),
     ("2_head_on", 64, 64),
     ("2_blocks", 64, 64),
@@ -32,6 +32,10 @@ const LESSONS: [(&str, u32, u32); 11] = [
     ("5_empty", 256, 256),
     ("6_reversal", 64, 64),
     ("6_spoiled", 64, 64),
+    ("9_mirror", 64, 64),
+    ("9_translation", 64, 64),
+    ("9_reversed", 64, 64),
+    ("9_light_cone", 128, 128),
 ];
 
 const PEOPLE: [&str; 3] = ["8_first", "8_second", "8_third"];
