@@ -6,7 +6,7 @@ ghost use Rattle.gas_terms.specs.Cells.{Extent, extent, lies_within, is_inside};
 use crate::expected::expect_that;
 use gas_plane::{Plane, Tile};
 use gas_terms::{Pair, Rect, Size, Took};
-use phase_step::{Serial, Stepper, turn_tile_at};
+use phase_step::{Serial, Solids, Stepper, are_none, turn_tile_at};
 use std::process::Abort;
 
 const WIDE: u32 = 192;
@@ -55,7 +55,13 @@ fn first_tile(
     expect_that(&rt, walls.size() == size);
     expect_that(&rt, obstacles.size() == size);
     expect_that(&rt, size.tiles() > 0);
-    turn_tile_at(old, walls, obstacles, 1, 0, out)
+    let none = are_none(walls, obstacles);
+    let solids = Solids {
+        walls,
+        obstacles,
+        none,
+    };
+    turn_tile_at(old, solids, 1, old.position(0), out)
 }
 
 // whether two planes hold the same cells
@@ -75,6 +81,26 @@ fn head_on_pair_across_tiles(rt: HostRuntime) {
     let nothing = Pair { x: 0, y: 0 };
     expect_that(&rt, took.walls == nothing);
     expect_that(&rt, took.obstacles == nothing);
+}
+
+// At an odd tick a particle at (63, 63) goes to the right and down. A wall at (64, 64) holds it back.
+#[test]
+fn wall_that_was_cleared_is_none(rt: HostRuntime) {
+    let old = plane(&rt, 128, 128, &[(63, 63)]);
+    let none = plane(&rt, 128, 128, &[]);
+    let mut walls = plane(&rt, 128, 128, &[(64, 64)]);
+    let mut out = plane(&rt, 128, 128, &[]);
+    expect_that(&rt, !are_none(&walls, &none));
+    expect_that(&rt, !are_none(&none, &walls));
+    let took = phase(&rt, &old, &walls, &none, 1, &mut out);
+    expect_that(&rt, are_same(&out, &old, 128, 128));
+    expect_that(&rt, took.walls == Pair { x: 2, y: 2 });
+    walls.clear(Rect::within(walls.size(), 64, 64, 1, 1).expect(&rt, "a cell"));
+    expect_that(&rt, are_none(&walls, &none));
+    let took = phase(&rt, &old, &walls, &none, 1, &mut out);
+    let want = plane(&rt, 128, 128, &[(64, 64)]);
+    expect_that(&rt, are_same(&out, &want, 128, 128));
+    expect_that(&rt, took.walls == Pair { x: 0, y: 0 });
 }
 
 #[test]

@@ -365,6 +365,41 @@ fn knows_what_tiles_leave(rt: HostRuntime) {
 }
 
 #[test]
+fn knows_whether_it_has_cells(rt: HostRuntime) {
+    let mut plane = four_tiles(&rt);
+    expect_that(&rt, plane.is_empty());
+    plane.fill(area(&rt, &plane, 100, 70, 1, 1));
+    expect_that(&rt, !plane.is_empty());
+    plane.clear(area(&rt, &plane, 100, 70, 1, 1));
+    expect_that(&rt, plane.is_empty());
+    expect_that(&rt, plane.size().tiles() == 4);
+    plane.tile_mut(1).set(63, 63, true);
+    expect_that(&rt, !plane.is_empty());
+    expect_that(&rt, plane.size().tiles() == 4);
+    plane.tile_mut(1).set(63, 63, false);
+    expect_that(&rt, plane.is_empty());
+}
+
+// 5 tiles in a row
+#[test]
+fn positions_follow_one_another(rt: HostRuntime) {
+    let plane = five_by_five(&rt);
+    let across = plane.across();
+    expect_same(&rt, across, 5);
+    for (tile, column, row) in [(0, 0, 0), (4, 4, 0), (5, 0, 1), (23, 3, 4)] {
+        let at = plane.position(tile);
+        expect_same(&rt, (tile, at.column, at.row), (tile, column, row));
+        let next = at.next(across);
+        expect_that(&rt, next == plane.position(tile + 1));
+    }
+    // tile 6 has tile 0 above it and to the left
+    expect_that(&rt, plane.size().tiles() == 25);
+    expect_that(&rt, plane.round_at(plane.position(6)).above_left.get(5, 5));
+    expect_that(&rt, plane.size().tiles() == 25);
+    expect_that(&rt, !plane.round_at(plane.position(7)).above_left.get(5, 5));
+}
+
+#[test]
 fn lends_a_tile(rt: HostRuntime) {
     let mut plane = four_tiles(&rt);
     expect_that(&rt, plane.size().tiles() == 4);
