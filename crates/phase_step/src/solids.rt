@@ -5,7 +5,7 @@ ghost use Rattle.gas_plane.specs.Planes.{HasNone};
 
 use gas_plane::Plane;
 
-/// Walls and obstacles, and whether it is known that there are none: then no tile asks for them.
+/// Walls and obstacles. If it is known that there are none, no tile asks for them.
 #[derive(Clone, Copy)]
 pub struct Solids<'a> {
     pub walls: &'a Plane,

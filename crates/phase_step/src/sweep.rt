@@ -22,8 +22,6 @@ pub fn turn_each(old: &Plane, solids: Solids<'_>, parity: u8, out: &mut Plane) -
     ensures took { let s = solids.entry in
         result ≡ taken parity old.now s.walls.now s.obstacles.now }
 {
-    // its sides are whole tiles
-    let _ = old.size();
     let across = old.across();
     let mut took = NOTHING;
     let mut at = old.position(0);

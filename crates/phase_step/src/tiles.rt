@@ -16,8 +16,8 @@ pub const NOTHING: Took = Took {
     obstacles: Pair { x: 0, y: 0 },
 };
 
-/// Puts the tile at a position into `out` as it is after the phase, and answers what walls and obstacles take of its
-/// particles: what a phase does, tile by tile. Each plane is a lattice, as its size tells.
+/// Puts the tile at this position into `out` as it is after the phase, and returns what walls and obstacles take of its
+/// particles. A phase does this for each tile. Each plane is a lattice, as its size tells.
 #[inline(always)]
 pub fn turn_tile_at(
     old: &Plane,
@@ -35,7 +35,8 @@ pub fn turn_tile_at(
     ensures cells { let s = solids.entry in
         IsTileAfter parity old.now s.walls.now s.obstacles.now at.tile out.new }
     ensures took { let s = solids.entry in
-        result ≡ taken_in (pos parity) old.now s.walls.now s.obstacles.now (tile_rectangle old.now at.tile) }
+        result ≡ taken_in (pos parity) old.now s.walls.now s.obstacles.now
+        (tile_rectangle old.now at.tile) }
 {
     if parity == 0 {
         turn_even(old, solids, at.tile, out)
@@ -52,7 +53,8 @@ fn turn_even(old: &Plane, solids: Solids<'_>, i: u32, out: &mut Tile) -> Took
     ensures cells { let s = solids.entry in
         IsTileAfter 0 old.now s.walls.now s.obstacles.now i out.new }
     ensures took { let s = solids.entry in
-        result ≡ taken_in (pos 0) old.now s.walls.now s.obstacles.now (tile_rectangle old.now i) }
+        result ≡ taken_in (pos 0) old.now s.walls.now s.obstacles.now
+        (tile_rectangle old.now i) }
 {
     let walls = tile_in(solids.walls, solids.none, i);
     let obstacles = tile_in(solids.obstacles, solids.none, i);
@@ -68,7 +70,8 @@ fn turn_odd(old: &Plane, solids: Solids<'_>, at: Position, out: &mut Tile) -> To
     ensures cells { let s = solids.entry in
         IsTileAfter 1 old.now s.walls.now s.obstacles.now at.tile out.new }
     ensures took { let s = solids.entry in
-        result ≡ taken_in (pos 1) old.now s.walls.now s.obstacles.now (tile_rectangle old.now at.tile) }
+        result ≡ taken_in (pos 1) old.now s.walls.now s.obstacles.now
+        (tile_rectangle old.now at.tile) }
 {
     let walls = window_in(solids.walls, solids.none, at.tile);
     let obstacles = window_in(solids.obstacles, solids.none, at.tile);
@@ -79,7 +82,7 @@ fn turn_odd(old: &Plane, solids: Solids<'_>, at: Position, out: &mut Tile) -> To
     turn_tile_odd(&particles, walls, obstacles, out)
 }
 
-// The set's tile, unless it has no cells. Where that is known of the set, the tile is not looked at.
+// The set's tile, unless it has no cells. If the whole set is known to have `none`, the tile isn't asked for.
 #[inline(always)]
 fn tile_in(set: &Plane, none: bool, i: u32) -> Option<&Tile>
     requires tile { i < tile_count set.now }
