@@ -1,5 +1,6 @@
 pub mod Tiles
 pub mod Teamwork
 pub mod Strips
+pub mod Worth
 pub mod Work
 pub mod ActionStrips

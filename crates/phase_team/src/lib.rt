@@ -14,4 +14,5 @@ mod tests;
 mod worker;
 
 pub use gate::{Gate, NoGate};
+pub use runs::LeastRun;
 pub use team::Team;

@@ -5,6 +5,7 @@ ghost use Rattle.gas_terms.specs.Cells.{Cells, extent, joined, HasSidesOf};
 ghost use Rattle.gas_plane.specs.Planes.{IsLattice};
 ghost use Rattle.phase_step.specs.Actions.{after_with, flow_with};
 ghost use Rattle.phase_team.specs.Work.{result_of, flow_of, filled_up, Lists, AllAreRooms, IsDone, HasMade};
+ghost use Rattle.phase_team.specs.Worth.{strips_each, is_worth_strips};
 
 use crate::course::{Course, Stretch};
 use crate::hand::{Hand, keep_rooms, make_all, seated};
@@ -20,11 +21,20 @@ use std::thread::Threads;
 /// So many phases a strip can make alone: each takes a row from what it has of its neighbors.
 const AT_ONCE: u16 = 64;
 
-/// Threads are started, and strips filled and put together, once in a stretch. That takes about a millisecond, so that
-/// shorter stretches are left to one thread, and those in which it would turn fewer tiles more than a worker does.
-const SHORTEST: u16 = 16;
+/// The smallest run that is made by strips: how many phases it has, and how many tiles fewer each worker turns than one thread
+/// would. With 0 for both, each run is made by strips.
+#[derive(Clone, Copy)]
+pub struct LeastRun {
+    pub phases: u16,
+    pub tiles: u32,
+}
 
-const LEAST: u32 = 32_768;
+/// Once in a stretch threads are started, and strips are filled and put together. That takes about a millisecond, so smaller
+/// runs are left to one thread.
+pub const USUAL: LeastRun = LeastRun {
+    phases: 16,
+    tiles: 32_768,
+};
 
 /// Where the strips are at least so many rows of tiles high, there are two for each worker, so that one that is held up leaves
 /// some of its share to the others. Their margins cost a ninth more than those of one strip for each.
@@ -32,7 +42,9 @@ const HIGH: u32 = 8;
 
 // How many strips there are for each worker.
 fn strips_each(down: u32, workers: u8) -> u32
-    ensures { (0 < result) × (result ≤ 2) }
+    requires { workers ≤ 16 }
+    ensures each { result ≡ strips_each down workers }
+    ensures few { (0 < result) × (result ≤ 2) }
 {
     if 2 * HIGH * u32::from(workers) <= down {
         2
@@ -41,9 +53,11 @@ fn strips_each(down: u32, workers: u8) -> u32
     }
 }
 
-/// Whether a run is long enough, and what a worker turns, with the margins of its strips, so much less than the lattice.
-pub fn is_worth_strips(size: Size, workers: u8, n: u16) -> bool
-    requires { 0 < workers }
+/// Whether a run of n phases is no smaller than the least: what a worker turns, with the margins of its strips, is compared
+/// with the lattice.
+pub fn is_worth_strips(least: LeastRun, size: Size, workers: u8, n: u16) -> bool
+    requires { (0 < workers) × (workers ≤ 16) }
+    ensures { result ≡ is_worth_strips least.phases least.tiles size workers n }
 {
     let across = u32::from(size.width() / 64);
     let down = u32::from(size.height() / 64);
@@ -51,7 +65,7 @@ pub fn is_worth_strips(size: Size, workers: u8, n: u16) -> bool
     let strips = each * u32::from(workers);
     let rows = each * ((down + strips - 1) / strips + 2);
     let saved = across * down.saturating_sub(rows) * u32::from(n.min(AT_ONCE));
-    SHORTEST <= n && LEAST <= saved
+    least.phases <= n && least.tiles <= saved
 }
 
 // Puts a strip's own rows into `out`, whose tiles before them are those after the course.

@@ -12,7 +12,7 @@ ghost use Rattle.phase_team.specs.Teamwork.{HasDrawnAll, HaveDrawn, cells_after,
 
 use crate::course::{Shift, Task};
 use crate::gate::{Gate, NoGate};
-use crate::runs::{Strips, is_worth_strips, run_by, strips_for};
+use crate::runs::{LeastRun, Strips, USUAL, is_worth_strips, run_by, strips_for};
 use crate::worker::{NOTHING, Turned, Worker, work_on};
 use claim_desk::{Desk, DeskSeat};
 use gas_plane::Plane;
@@ -204,6 +204,7 @@ pub struct Team<R: Threads + Drop, G: Gate + Drop> {
     gate: G,
     rooms: Vec<Vec<Turned>>,
     strips: Option<Strips>,
+    least: LeastRun,
 }
 
 impl<R: Threads + Drop, G: Gate + Drop> Model for Team<R, G> {
@@ -223,6 +224,14 @@ impl<R: Threads + Drop, G: Gate + Drop> Team<R, G> {
         requires { (0 < workers) × (workers ≤ 16) }
         ensures { result ≡ workers }
     {
+        Team::with_least_run(rt, alloc, workers, gate, USUAL)
+    }
+
+    /// The same, with the smallest run that it makes by strips; one thread makes smaller ones.
+    pub fn with_least_run(rt: R, alloc: Global, workers: u8, gate: G, least: LeastRun) -> Team<R, G>
+        requires { (0 < workers) × (workers ≤ 16) }
+        ensures { result ≡ workers }
+    {
         Team {
             rt,
             alloc,
@@ -230,6 +239,7 @@ impl<R: Threads + Drop, G: Gate + Drop> Team<R, G> {
             gate,
             rooms: Vec::new(alloc),
             strips: None,
+            least,
         }
     }
 
@@ -324,7 +334,7 @@ impl<R: Threads + Drop> Stepper for Team<R, NoGate> {
         spare: &mut Plane,
     ) -> Flow {
         let size = particles.size();
-        if !is_worth_strips(size, self.workers, run.n) {
+        if !is_worth_strips(self.least, size, self.workers, run.n) {
             return Serial.run_with(particles, run, spare);
         }
         let (alloc, workers) = (self.alloc, self.workers);

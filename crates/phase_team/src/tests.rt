@@ -3,8 +3,7 @@
 ghost use Rattle.std.specs.Prelude.{◌≡◌, ◌<◌, ◌≤◌};
 ghost use Rattle.gas_terms.specs.Cells.{HasSidesOf};
 
-use crate::runs::{Strips, run_by};
-use crate::{Gate, NoGate, Team};
+use crate::{Gate, LeastRun, NoGate, Team};
 use gas_plane::Plane;
 use gas_terms::{Pair, Rect, Size, Sums, Took};
 use phase_step::{Action, Exchange, Few, Flow, Listed, Run, Serial, Stepper, Still, parity_at};
@@ -310,22 +309,20 @@ struct Ground<'a> {
     n: u16,
 }
 
-// a run by strips, however short and low
-fn by_strips<R: Threads + Abort + AllocGlobal, A: Action>(
-    rt: &R,
-    workers: u8,
+// a run with actions as a laboratory makes it
+fn act_along<S: Stepper, A: Action>(
+    rt: &impl Abort,
+    stepper: &mut S,
     ground: Ground<'_>,
     action: &A,
     particles: &mut Plane,
     spare: &mut Plane,
 ) -> Flow {
     let size = particles.size();
-    assert!(rt; 0 < workers && workers <= 16);
     assert!(rt; ground.parity < 2);
     assert!(rt; ground.walls.size() == size);
     assert!(rt; ground.obstacles.size() == size);
     assert!(rt; spare.size() == size);
-    let mut strips = Strips::new(rt.alloc(), size, workers).expect(rt, "memory");
     let run = Run {
         walls: ground.walls,
         obstacles: ground.obstacles,
@@ -333,7 +330,25 @@ fn by_strips<R: Threads + Abort + AllocGlobal, A: Action>(
         n: ground.n,
         action,
     };
-    run_by(rt, &mut strips, particles, run, spare)
+    stepper.run_with(particles, run, spare)
+}
+
+// a run by a team that makes each by strips, however short and low
+fn by_strips<R: Threads + Abort + AllocGlobal + Copy + Drop, A: Action>(
+    rt: &R,
+    workers: u8,
+    ground: Ground<'_>,
+    action: &A,
+    particles: &mut Plane,
+    spare: &mut Plane,
+) -> Flow {
+    assert!(rt; 0 < workers && workers <= 16);
+    let least = LeastRun {
+        phases: 0,
+        tiles: 0,
+    };
+    let mut team = Team::with_least_run(*rt, rt.alloc(), workers, NoGate, least);
+    act_along(rt, &mut team, ground, action, particles, spare)
 }
 
 // the same on one thread, phase by phase
@@ -367,7 +382,12 @@ fn by_phases(rt: &impl Abort, run: Ground<'_>, particles: &mut Plane, spare: &mu
 }
 
 // a run ends the same by strips of so many workers each and phase by phase
-fn strips_agree<R: Threads + Abort + AllocGlobal>(rt: &R, size: Size, n: u16, workers: &[u8]) {
+fn strips_agree<R: Threads + Abort + AllocGlobal + Copy + Drop>(
+    rt: &R,
+    size: Size,
+    n: u16,
+    workers: &[u8],
+) {
     let walls = seeded(rt, size, 77172645463325252, 7);
     let obstacles = seeded(rt, size, 66172645463325252, 8);
     let run = Ground {
@@ -618,54 +638,42 @@ fn team_parts_large_runs_into_strips(rt: HostRuntime) {
     }
 }
 
-// a run with actions as a laboratory makes it
-fn act_along<S: Stepper, A: Action>(
-    rt: &impl Abort,
-    stepper: &mut S,
-    ground: Ground<'_>,
-    action: &A,
-    particles: &mut Plane,
-    spare: &mut Plane,
-) -> Flow {
-    let size = particles.size();
-    assert!(rt; ground.parity < 2);
-    assert!(rt; ground.walls.size() == size);
-    assert!(rt; ground.obstacles.size() == size);
-    assert!(rt; spare.size() == size);
-    let run = Run {
-        walls: ground.walls,
-        obstacles: ground.obstacles,
-        parity: ground.parity,
-        n: ground.n,
-        action,
-    };
-    stepper.run_with(particles, run, spare)
-}
-
-// of the second stretch the first phase has a stroke, and the last
+// Three rows of tiles. As in `strips_are_put_together`, the spare plane has what the last stretch began with: after 69 phases
+// the particles after 64 of them.
 #[test]
-fn team_acts_as_one_thread(rt: HostRuntime) {
-    let size = Size::new(640, 4096).expect(&rt, "a size");
+fn small_runs_by_strips_are_those_of_one_thread(rt: HostRuntime) {
+    let size = Size::new(128, 192).expect(&rt, "a size");
     let walls = seeded(&rt, size, 77172645463325252, 7);
-    let obstacles = seeded(&rt, size, 66172645463325252, 10);
-    let mut now = seeded(&rt, size, 88172645463325252, 1);
-    let mut alone = seeded(&rt, size, 88172645463325252, 1);
-    let mut spare = seeded(&rt, size, 1, 1);
-    let drained = Rect::within(size, 60, 250, 500, 30).expect(&rt, "a rectangle");
-    let filled = Rect::within(size, 400, 200, 20, 1800).expect(&rt, "a rectangle");
-    let turns = strokes(&rt, drained, filled, 68);
+    let obstacles = seeded(&rt, size, 66172645463325252, 8);
+    let drained = Rect::within(size, 30, 50, 60, 30).expect(&rt, "a rectangle");
+    let filled = Rect::within(size, 20, 100, 70, 80).expect(&rt, "a rectangle");
+    let turns = strokes(&rt, drained, filled, 69);
     let action = Listed {
         turns: turns.as_slice(),
     };
-    let ground = Ground {
-        walls: &walls,
-        obstacles: &obstacles,
-        parity: 1,
-        n: 68,
-    };
-    let mut team = team(&rt, rt, rt.alloc(), 16, NoGate);
-    let flow = act_along(&rt, &mut team, ground, &action, &mut now, &mut spare);
-    let by_one = act_along(&rt, &mut Serial, ground, &action, &mut alone, &mut spare);
-    assert!(rt; flow == by_one && have_same_rows(&now, &alone));
-    assert!(rt; flow.moved.injected.count > 0 && flow.moved.drained.count > 0);
+    let mut spare = seeded(&rt, size, 1, 1);
+    for (n, before) in [(1, 0), (5, 0), (69, 64)] {
+        let ground = Ground {
+            walls: &walls,
+            obstacles: &obstacles,
+            parity: 1,
+            n,
+        };
+        let mut alone = seeded(&rt, size, 88172645463325252, 1);
+        let by_one = act_along(&rt, &mut Serial, ground, &action, &mut alone, &mut spare);
+        let mut began = seeded(&rt, size, 88172645463325252, 1);
+        let ahead = Ground {
+            n: before,
+            ..ground
+        };
+        act_along(&rt, &mut Serial, ahead, &action, &mut began, &mut spare);
+        for workers in [2, 3, 7] {
+            let mut now = seeded(&rt, size, 88172645463325252, 1);
+            let flow = by_strips(&rt, workers, ground, &action, &mut now, &mut spare);
+            assert!(rt; flow == by_one && have_same_rows(&now, &alone));
+            assert!(rt; have_same_rows(&spare, &began));
+        }
+        let moved = by_one.moved.injected.count > 0 && by_one.moved.drained.count > 0;
+        assert!(rt; moved == (n > 1));
+    }
 }

@@ -1,0 +1,20 @@
+-- Which runs are made by strips.
+use Rattle.std.specs.Prelude.{ℕ, ◌+◌, ◌-◌, ◌*◌, ◌/◌, Bool, ◌&&◌, nat_le, min, if◌then◌else◌}
+use Rattle.gas_terms.specs.Cells.{Extent}
+
+-- how many strips of a lattice with so many rows of tiles each worker has: two if they are at least 8 rows high
+abbrev pub strips_each : ℕ → ℕ → ℕ
+strips_each down workers = if nat_le (2 * 8 * workers) down then 2 else 1
+
+-- how many rows of tiles a worker turns: those of its strips, and one above and below each
+abbrev pub rows_each : ℕ → ℕ → ℕ
+rows_each down workers =
+    strips_each down workers * ((down + strips_each down workers * workers - 1) / (strips_each down workers * workers) + 2)
+
+-- how many tiles fewer a worker turns than one thread would, in n phases or the first 64 of them
+abbrev pub tiles_saved : Extent → ℕ → ℕ → ℕ
+tiles_saved size workers n = size.width / 64 * (size.height / 64 - rows_each (size.height / 64) workers) * min n 64
+
+-- the run has at least so many phases, and so many tiles fewer for each worker
+abbrev pub is_worth_strips : ℕ → ℕ → Extent → ℕ → ℕ → Bool
+is_worth_strips phases tiles size workers n = nat_le phases n && nat_le tiles (tiles_saved size workers n)
