@@ -30,11 +30,11 @@ within_sum a b m n p q =
       y = small_sum a.py b.py m n p.y q.y;
     }
 
-moved_within_plus : (a b : Moved) (m n : ℕ) → IsMovedWithin m a → IsMovedWithin n b → IsMovedWithin (m + n) (moved_plus a b)
+pub moved_within_plus : (a b : Moved) (m n : ℕ) → IsMovedWithin m a → IsMovedWithin n b → IsMovedWithin (m + n) (moved_plus a b)
 moved_within_plus a b m n p q =
     record { injected = within_sum a.injected b.injected m n p.injected q.injected; drained = within_sum a.drained b.drained m n p.drained q.drained }
 
-within_none : (k : ℕ) → IsMovedWithin k unmoved
+pub within_none : (k : ℕ) → IsMovedWithin k unmoved
 within_none k = record { injected = record { count = omega arith; x = omega arith; y = omega arith }; drained = record { count = omega arith; x = omega arith; y = omega arith } }
 
 sums_fit : (a b : Sums) (m n : ℕ) → AreWithin m a → AreWithin n b → m + n ≤ 2 ^ 48 → SumsFit (plus a b)

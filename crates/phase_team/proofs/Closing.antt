@@ -13,7 +13,7 @@ use Rattle.phase_team.specs.declared.course.Task.{Task}
 use Rattle.phase_team.proofs.Places.{all_turned}
 use Rattle.phase_team.proofs.Takings.{take_each}
 
-some_time : (n x : ℕ) → x < n → 0 < once_below n x
+pub some_time : (n x : ℕ) → x < n → 0 < once_below n x
 some_time n x less = let one : once_below n x ≡ 1 = ap (λ (b : Bool). cond {A = ℕ} b 1 0) (lt-ltb x n less) in omega arith
 
 pub closes_out : (task : Task) (numbers : List ℕ) (answer : Took) (cells : Cells) → HasTurned task numbers answer cells

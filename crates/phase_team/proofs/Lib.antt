@@ -7,7 +7,9 @@ pub mod Locality
 pub mod Windows
 pub mod Transport
 pub mod Turned
+pub mod EachOnce
 pub mod Gathered
+pub mod Parting
 pub mod ActionLocality
 pub mod ActionMoves
 pub mod ActionSums

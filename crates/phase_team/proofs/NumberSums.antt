@@ -43,7 +43,7 @@ many_both (suc a) b z =
     let e : many (suc a + b) z ≡ z +ℤ many (a + b) z = ap (λ n. many n z) (let k : suc a + b ≡ suc (a + b) = omega arith in k) in
     omega (arith, ints, many_both a b z, e)
 
-times-cons : (x y : ℕ) (ys : List ℕ) → times x (y ∷ ys) ≡ cond (eqb y x) 1 0 + times x ys
+pub times-cons : (x y : ℕ) (ys : List ℕ) → times x (y ∷ ys) ≡ cond (eqb y x) 1 0 + times x ys
 times-cons x y ys = sum_by-cons (λ (y : ℕ). cond (eqb y x) 1 0) y ys
 
 -- the part of the sum over the numbers below m
@@ -81,10 +81,10 @@ abbrev pub upto : ℕ → List ℕ
 upto zero = []
 upto (suc n) = upto n ++ n ∷ []
 
-one_below : (n x : ℕ) → x < n → once_below n x ≡ 1
+pub one_below : (n x : ℕ) → x < n → once_below n x ≡ 1
 one_below n x less = ap (λ (b : Bool). cond {A = ℕ} b 1 0) (lt-ltb x n less)
 
-none_past : (n x : ℕ) → n ≤ x → once_below n x ≡ 0
+pub none_past : (n x : ℕ) → n ≤ x → once_below n x ≡ 0
 none_past n x past = ap (λ (b : Bool). cond {A = ℕ} b 1 0) (le-ltb x n past)
 
 each_below : (w : ℕ → ℤ) (n : ℕ) (numbers : List ℕ) → ((x : ℕ) → times x numbers ≡ once_below n x) → (m : ℕ) → m ≤ n → int_sum_by (below w m) numbers ≡ int_sum_by w (upto m)

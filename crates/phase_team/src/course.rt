@@ -1,6 +1,6 @@
 //! What a phase and a run start from.
 
-ghost use Rattle.std.specs.Prelude.{◌≡◌, ◌<◌, ◌≤◌, IsTrue};
+ghost use Rattle.std.specs.Prelude.{◌≡◌, ◌+◌, ◌*◌, ◌/◌, ◌<◌, ◌≤◌, IsTrue};
 ghost use Rattle.gas_terms.specs.Cells.{tile_count, HasSidesOf};
 ghost use Rattle.gas_plane.specs.Planes.{IsLattice, HasNone};
 
@@ -48,12 +48,41 @@ pub struct Course<'a> {
     pub ghost of_obstacles: { HasSidesOf obstacles.now cells.now },
 }
 
-/// A course, into how many strips its lattice is parted, and the desk at which they are drawn.
+/// How the rows of tiles of a lattice are parted into strips: how many strips there are, and how many rows each has. The
+/// first `more` of them have one row more.
+#[derive(Clone, Copy)]
+pub struct Parts {
+    pub count: u32,
+    pub low: u32,
+    pub more: u32,
+    pub ghost some: { 0 < low },
+    pub ghost few_rows: { low ≤ 64 },
+    pub ghost fewer: { more < count },
+    pub ghost few: { count ≤ 64 },
+}
+
+impl Parts {
+    /// So many rows of tiles in so many strips, or a strip for each row if there are fewer.
+    pub fn of(down: u32, strips: u32) -> Parts
+        requires down { (0 < down) × (down ≤ 64) }
+        requires strips { 0 < strips }
+        ensures { result.count * result.low + result.more ≡ down }
+    {
+        let count = strips.min(down);
+        Parts {
+            count,
+            low: down / count,
+            more: down % count,
+        }
+    }
+}
+
+/// A course, the strips of its lattice, and the desk at which they are drawn.
 #[derive(Clone, Copy)]
 pub struct Stretch<'a> {
     pub course: Course<'a>,
-    pub count: u32,
+    pub parts: Parts,
     pub desk: &'a Desk,
-    pub ghost limit: { desk.now.id.limit ≡ count },
-    pub ghost few: { count ≤ 64 },
+    pub ghost limit: { desk.now.id.limit ≡ parts.count },
+    pub ghost all: { parts.count * parts.low + parts.more ≡ course.cells.now.height / 64 },
 }

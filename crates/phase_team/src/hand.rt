@@ -1,87 +1,127 @@
 //! Workers of a run, who draw strips and make the course on them.
 
-ghost use Rattle.std.specs.Prelude.{◌≡◌, ◌+◌, ◌*◌, ◌/◌, ◌<◌, ◌≤◌, All, IfSome, vec_len};
+ghost use Rattle.std.specs.Prelude.{◌≡◌, ◌+◌, ◌*◌, ◌/◌, ◌<◌, ◌≤◌, [], ◌∷◌, ◌++◌, All, IfSome, IsTrue, vec_len};
 ghost use Rattle.std.specs.Vec.{vec_capacity};
 ghost use Rattle.claim_desk.specs.Desk.{fresh};
 ghost use Rattle.gas_terms.specs.Cells.{extent};
-ghost use Rattle.phase_team.specs.Work.{AreRooms, AllAreRooms, IsSeated, HasMade, IsOf, IsFor};
+ghost use Rattle.phase_team.specs.Work.{AreRooms, IsRoomFor, IsSeated, HasMade, HasHeight, IsAt, IsPart};
 
-use crate::course::{Course, Stretch};
+use crate::course::{Parts, Stretch};
 use crate::strip::Strip;
-use claim_desk::{Desk, DeskSeat};
+use claim_desk::DeskSeat;
 use gas_terms::Size;
 use std::alloc::Global;
 use std::thread;
 use std::thread::Threads;
 
-/// For so many strips a worker keeps its room: for twice its share.
-const MOST_ROOMS: usize = 4;
+/// For so many strips of a height a worker keeps its room: for its share, and for one that is ready before a number is drawn.
+const MOST_ROOMS: usize = 3;
 
-/// A seat of the desk at which strips are drawn, room for strips, and those that were made.
+/// Room for strips of either height.
+#[derive(Drop)]
+pub struct Room {
+    pub low: Vec<Strip>,
+    pub high: Vec<Strip>,
+}
+
+/// A seat of the desk at which strips are drawn, room for strips, those that were made, and whether no number was left.
 #[derive(Drop)]
 pub struct Hand {
     pub seat: DeskSeat,
-    pub rooms: Vec<Strip>,
+    pub room: Room,
     pub made: Vec<Strip>,
+    pub ended: bool,
 }
 
 // A strip of a lattice of this size.
-fn strip_of(alloc: Global, size: Size, first: u32, rows: u32) -> Option<Strip>
-    requires inside { first + rows ≤ size.height / 64 }
-    requires some { 0 < rows }
-    ensures { IfSome result (IsOf size) }
+fn strip_of(alloc: Global, size: Size, rows: u32) -> Option<Strip>
+    requires { (0 < rows) × (rows ≤ size.height / 64) }
+    ensures { IfSome result (HasHeight size rows) }
 {
     let own = Size::new(u32::from(size.width()), (rows + 2) * 64)?;
-    Strip::new(alloc, own, first, rows).ok()
+    Strip::new(alloc, own, rows).ok()
 }
 
-// The same in the last of the rooms, if that has as many rows.
-fn strip_in(rooms: &mut Vec<Strip>, size: Size, first: u32, rows: u32) -> Option<Strip>
-    requires inside { first + rows ≤ size.height / 64 }
-    requires some { 0 < rows }
-    requires rooms { AreRooms size rooms.old.items }
-    ensures rooms { AreRooms size rooms.new.items }
-    ensures strip { IfSome result (IsOf size) }
+// Whether there is room for a strip of this height. If there is none, a strip is made for it.
+fn has_room(rooms: &mut Vec<Strip>, size: Size, rows: u32) -> bool
+    requires rows { (0 < rows) × (rows ≤ size.height / 64) }
+    requires rooms { AreRooms size rows rooms.old.items }
+    ensures rooms { AreRooms size rows rooms.new.items }
+    ensures some { IsTrue result → 0 < vec_len rooms.new }
 {
-    if let Some(mut strip) = rooms.pop() {
-        if strip.rows == rows {
-            strip.first = first;
-            return Some(strip);
-        }
+    if !rooms.is_empty() {
+        return true;
     }
-    strip_of(*rooms.allocator(), size, first, rows)
+    match strip_of(*rooms.allocator(), size, rows) {
+        Some(strip) => rooms.push(strip).is_ok(),
+        None => false,
+    }
 }
 
-// Strip k of so many: the rows of tiles of a course's lattice are shared out evenly.
-fn strip_at(course: Course<'_>, count: u32, k: u32, rooms: &mut Vec<Strip>) -> Option<Strip>
-    requires count { (k < count) × (count ≤ 64) }
-    requires rooms { AreRooms (extent course.cells.now) rooms.old.items }
-    ensures rooms { AreRooms (extent course.entry.cells.now) rooms.new.items }
-    ensures strip { IfSome result (IsFor course.entry) }
+// Whether there is room for a strip of each height that a stretch has.
+fn is_ready(stretch: Stretch<'_>, room: &mut Room) -> bool
+    requires { IsRoomFor (extent stretch.course.cells.now) stretch.parts room.old }
+    ensures room { IsRoomFor (extent stretch.entry.course.cells.now) stretch.entry.parts room.new }
+    ensures low { IsTrue result → 0 < vec_len room.new.low }
+    ensures high { IsTrue result → 0 < stretch.entry.parts.more → 0 < vec_len room.new.high }
 {
-    let size = course.cells.size();
-    let down = u32::from(size.height() / 64);
-    let first = k * down / count;
-    let end = (k + 1) * down / count;
-    if end <= first || down < end {
-        return None;
+    let size = stretch.course.cells.size();
+    let Parts { low, more, .. } = stretch.parts;
+    if !has_room(&mut room.low, size, low) {
+        return false;
     }
-    strip_in(rooms, size, first, end - first)
+    more == 0 || has_room(&mut room.high, size, low + 1)
+}
+
+// The last of some strips.
+fn last_of(rooms: &mut Vec<Strip>) -> Strip
+    requires { 0 < vec_len rooms.old }
+    ensures { rooms.old.items ≡ rooms.new.items ++ result ∷ [] }
+{
+    let Some(strip) = rooms.pop() else {
+        unreachable!()
+    };
+    strip
+}
+
+// Strip k of a stretch, in room that is ready.
+fn strip_at(stretch: Stretch<'_>, k: u32, room: &mut Room) -> Strip
+    requires k { k < stretch.parts.count }
+    requires room { IsRoomFor (extent stretch.course.cells.now) stretch.parts room.old }
+    requires low { 0 < vec_len room.old.low }
+    requires high { 0 < stretch.parts.more → 0 < vec_len room.old.high }
+    ensures room { IsRoomFor (extent stretch.entry.course.cells.now) stretch.entry.parts room.new }
+    ensures strip { IsAt stretch.entry k result }
+{
+    let Parts { low, more, .. } = stretch.parts;
+    let mut strip = if k < more {
+        last_of(&mut room.high)
+    } else {
+        last_of(&mut room.low)
+    };
+    strip.number = k;
+    strip.first = k * low + k.min(more);
+    strip
 }
 
 // Draws strips and makes the course on each, until none is left or there is no room for one.
 fn make_drawn(hand: &mut Hand, stretch: Stretch<'_>)
-    requires { IsSeated stretch.course stretch.desk.now.id hand.old }
-    ensures { HasMade stretch.entry.course hand.new }
+    requires { IsSeated stretch hand.old }
+    ensures { HasMade stretch.entry hand.new }
 {
-    let Hand { seat, rooms, made } = hand;
-    while made.reserve(1).is_ok() {
+    let Hand {
+        seat,
+        room,
+        made,
+        ended,
+    } = hand;
+    // what is drawn is made: there is room for it before
+    while made.reserve(1).is_ok() && is_ready(stretch, room) {
         let Some(k) = seat.draw(stretch.desk) else {
+            *ended = true;
             break;
         };
-        let Some(mut strip) = strip_at(stretch.course, stretch.count, k, rooms) else {
-            break;
-        };
+        let mut strip = strip_at(stretch, k, room);
         strip.turn(stretch.course);
         made.push_reserved(strip);
     }
@@ -89,10 +129,10 @@ fn make_drawn(hand: &mut Hand, stretch: Stretch<'_>)
 
 // All work, each in a thread of its own where one can be made, and the calling thread with its own hand.
 fn make_together<R: Threads>(rt: &R, stretch: Stretch<'_>, team: &mut [Hand], own: &mut Hand)
-    requires team { All (IsSeated stretch.course stretch.desk.now.id) team.old }
-    requires own { IsSeated stretch.course stretch.desk.now.id own.old }
-    ensures team { All (HasMade stretch.entry.course) team.new }
-    ensures own { HasMade stretch.entry.course own.new }
+    requires team { All (IsSeated stretch) team.old }
+    requires own { IsSeated stretch own.old }
+    ensures team { All (HasMade stretch.entry) team.new }
+    ensures own { HasMade stretch.entry own.new }
 {
     let Some((last, rest)) = team.split_last_mut() else {
         make_drawn(own, stretch);
@@ -101,22 +141,20 @@ fn make_together<R: Threads>(rt: &R, stretch: Stretch<'_>, team: &mut [Hand], ow
     thread::join_mut(
         rt,
         &mut ||
-            requires { IsSeated stretch.course stretch.desk.now.id last.now }
-            ensures { HasMade stretch.entry.course last.exit.now }
+            requires { IsSeated stretch last.now }
+            ensures { HasMade stretch.entry last.exit.now }
         { make_drawn(last, stretch) },
         &mut ||
-            requires { All (IsSeated stretch.course stretch.desk.now.id) rest.now
-                × IsSeated stretch.course stretch.desk.now.id own.now }
-            ensures { All (HasMade stretch.entry.course) rest.exit.now
-                × HasMade stretch.entry.course own.exit.now }
+            requires { All (IsSeated stretch) rest.now × IsSeated stretch own.now }
+            ensures { All (HasMade stretch.entry) rest.exit.now × HasMade stretch.entry own.exit.now }
         { make_together(rt, stretch, rest, own) },
     );
 }
 
 /// Has the strips of a stretch made. The last of the team is the calling thread's.
 pub fn make_all<R: Threads>(rt: &R, stretch: Stretch<'_>, team: &mut [Hand])
-    requires { All (IsSeated stretch.course stretch.desk.now.id) team.old }
-    ensures { All (HasMade stretch.entry.course) team.new }
+    requires { All (IsSeated stretch) team.old }
+    ensures { All (HasMade stretch.entry) team.new }
 {
     if let Some((own, others)) = team.split_last_mut() {
         make_together(rt, stretch, others, own);
@@ -124,70 +162,71 @@ pub fn make_all<R: Threads>(rt: &R, stretch: Stretch<'_>, team: &mut [Hand])
 }
 
 // The room of an earlier stretch, or none yet.
-fn next_room(size: Size, rooms: &mut Vec<Vec<Strip>>) -> Vec<Strip>
-    requires { AllAreRooms size rooms.old.items }
-    ensures room { AreRooms size result.items }
-    ensures rooms { AllAreRooms size rooms.new.items }
+fn next_room(stretch: Stretch<'_>, rooms: &mut Vec<Room>) -> Room
+    requires { All (IsRoomFor (extent stretch.course.cells.now) stretch.parts) rooms.old.items }
+    ensures room { IsRoomFor (extent stretch.entry.course.cells.now) stretch.entry.parts result }
+    ensures rooms { All (IsRoomFor (extent stretch.entry.course.cells.now) stretch.entry.parts) rooms.new.items }
 {
+    let alloc = *rooms.allocator();
     match rooms.pop() {
         Some(room) => room,
-        None => Vec::new(*rooms.allocator()),
+        None => Room {
+            low: Vec::new(alloc),
+            high: Vec::new(alloc),
+        },
     }
 }
 
 /// A worker for each seat, with the room of an earlier stretch where there is some; `None` where memory is refused.
 pub fn seated(
-    course: Course<'_>,
-    desk: &Desk,
+    stretch: Stretch<'_>,
     seats: &mut Vec<DeskSeat>,
-    rooms: &mut Vec<Vec<Strip>>,
+    rooms: &mut Vec<Room>,
 ) -> Option<Vec<Hand>>
-    requires seats { All (λ s. s ≡ fresh desk.now.id) seats.old.items }
-    requires rooms { AllAreRooms (extent course.cells.now) rooms.old.items }
-    ensures team { IfSome result (λ team.
-        All (IsSeated course.entry desk.now.id) team.items) }
-    ensures rooms { AllAreRooms (extent course.entry.cells.now) rooms.new.items }
+    requires seats { All (λ s. s ≡ fresh stretch.desk.now.id) seats.old.items }
+    requires rooms { All (IsRoomFor (extent stretch.course.cells.now) stretch.parts) rooms.old.items }
+    ensures team { IfSome result (λ team. All (IsSeated stretch.entry) team.items) }
+    ensures count { IfSome result (λ team. vec_len team ≡ vec_len seats.old) }
+    ensures seats { IfSome result (λ _. seats.new.items ≡ []) }
+    ensures room { IfSome result (λ _. vec_capacity seats.new ≡ vec_capacity seats.old) }
+    ensures rooms { All (IsRoomFor (extent stretch.entry.course.cells.now) stretch.entry.parts) rooms.new.items }
 {
     let alloc = *rooms.allocator();
     let mut team = Vec::with_capacity(alloc, seats.len()).ok()?;
     while let Some(seat) = seats.pop() {
         team.push_reserved(Hand {
             seat,
-            rooms: next_room(course.cells.size(), rooms),
+            room: next_room(stretch, rooms),
             made: Vec::new(alloc),
+            ended: false,
         });
     }
     Some(team)
 }
 
-// The room that a worker had, as far as there is memory to list it, and no more than `MOST_ROOMS`.
-fn room_of(course: Course<'_>, hand: Hand) -> Vec<Strip>
-    requires { HasMade course hand }
-    ensures { AreRooms (extent course.entry.cells.now) result.items }
+// Keeps a strip as room for another, if there is memory to list it.
+fn keep(stretch: Stretch<'_>, strip: Strip, room: &mut Room)
+    requires strip { IsPart stretch strip }
+    requires room { IsRoomFor (extent stretch.course.cells.now) stretch.parts room.old }
+    ensures { IsRoomFor (extent stretch.entry.course.cells.now) stretch.entry.parts room.new }
 {
-    let Hand {
-        mut rooms,
-        mut made,
-        ..
-    } = hand;
-    while let Some(strip) = made.pop() {
-        if rooms.push(strip).is_err() {
-            break;
-        }
+    if strip.number < stretch.parts.more {
+        room.high.push(strip).ok();
+    } else {
+        room.low.push(strip).ok();
     }
-    rooms.truncate(MOST_ROOMS);
-    rooms
 }
 
-/// Keeps the room of the workers for the next stretch, as far as there is memory to list it.
-pub fn keep_rooms(course: Course<'_>, mut team: Vec<Hand>, rooms: &mut Vec<Vec<Strip>>)
-    requires team { All (HasMade course) team.items }
-    requires rooms { AllAreRooms (extent course.cells.now) rooms.old.items }
-    ensures rooms { AllAreRooms (extent course.entry.cells.now) rooms.new.items }
+/// The room that a worker had, with that of the strips that it made.
+pub fn room_of(stretch: Stretch<'_>, mut room: Room, mut made: Vec<Strip>) -> Room
+    requires room { IsRoomFor (extent stretch.course.cells.now) stretch.parts room }
+    requires made { All (IsPart stretch) made.items }
+    ensures { IsRoomFor (extent stretch.entry.course.cells.now) stretch.entry.parts result }
 {
-    while let Some(hand) = team.pop() {
-        if rooms.push(room_of(course, hand)).is_err() {
-            break;
-        }
+    while let Some(strip) = made.pop() {
+        keep(stretch, strip, &mut room);
     }
+    room.low.truncate(MOST_ROOMS);
+    room.high.truncate(MOST_ROOMS);
+    room
 }

@@ -1,16 +1,19 @@
 //! Runs of many phases, by strips of the lattice that the workers draw.
 
-ghost use Rattle.std.specs.Prelude.{◌≡◌, ◌+◌, ◌*◌, ◌/◌, ◌<◌, ◌≤◌, All, IfSome};
+ghost use Rattle.std.specs.Prelude.{◌≡◌, ◌+◌, ◌*◌, ◌/◌, ◌<◌, ◌≤◌, [], All, IfSome, map, length, vec_len};
+ghost use Rattle.std.specs.Vec.{vec_capacity};
 ghost use Rattle.gas_terms.specs.Cells.{Cells, extent, joined, HasSidesOf};
 ghost use Rattle.gas_plane.specs.Planes.{IsLattice};
 ghost use Rattle.phase_step.specs.Actions.{after_with, flow_with};
-ghost use Rattle.phase_team.specs.Work.{result_of, flow_of, filled_up, Lists, AllAreRooms, IsDone, HasMade};
+ghost use Rattle.phase_team.specs.Work.{result_of, flow_of, Lists, IsRoomFor, IsDone, IsPart, HasMade};
+ghost use Rattle.phase_team.specs.Work.{IsOut, StaysPut, RowsArePut, StripsArePut, strips_give, HasPut};
+ghost use Rattle.phase_team.specs.Teamwork.{HaveDrawn, drawn};
 ghost use Rattle.phase_team.specs.Worth.{strips_each, is_worth_strips};
 
-use crate::course::{Course, Stretch};
-use crate::hand::{Hand, keep_rooms, make_all, seated};
+use crate::course::{Course, Parts, Stretch};
+use crate::hand::{Hand, Room, make_all, room_of, seated};
 use crate::strip::Strip;
-use claim_desk::Desk;
+use claim_desk::{Desk, DeskSeat};
 use gas_plane::Plane;
 use gas_terms::Size;
 use phase_step::{Action, Exchange, Flow, Later, NO_FLOW, Run, Serial, Stepper, parity_at};
@@ -68,16 +71,13 @@ pub fn is_worth_strips(least: LeastRun, size: Size, workers: u8, n: u16) -> bool
     least.phases <= n && least.tiles <= saved
 }
 
-// Puts a strip's own rows into `out`, whose tiles before them are those after the course.
+// Puts a strip's own rows into `out`.
 fn unload(course: Course<'_>, strip: &Strip, out: &mut Plane)
     requires done { IsDone course strip.now }
-    requires out { HasSidesOf out.old course.cells.now }
-    ensures sides { HasSidesOf out.new course.entry.cells.now }
-    ensures filled { (start : Cells) → IsLattice start → HasSidesOf start course.entry.cells.now →
-        out.old ≡ filled_up course.entry start
-        (strip.now.first * (course.entry.cells.now.width / 64)) →
-        out.new ≡ filled_up course.entry start
-        ((strip.now.first + strip.now.rows) * (course.entry.cells.now.width / 64)) }
+    requires out { IsOut course out.old }
+    ensures out { IsOut course.entry out.new }
+    ensures kept { StaysPut course.entry out.old out.new }
+    ensures rows { RowsArePut course.entry strip.now.first strip.now.rows out.new }
 {
     let across = u32::from(course.cells.size().width() / 64);
     for i in 0..strip.rows * across {
@@ -85,104 +85,115 @@ fn unload(course: Course<'_>, strip: &Strip, out: &mut Plane)
     }
 }
 
-// The strip that begins at this row of tiles, if it is among these.
-fn strip_from<'a>(course: Course<'_>, made: &'a [Strip], first: u32) -> Option<&'a Strip>
-    requires { All (IsDone course) made.now }
-    ensures { IfSome result (λ s. (s.now.first ≡ first) × IsDone course.entry s.now) }
+// Puts the strips that a worker made into `out`: what the course comes to in them.
+fn put(stretch: Stretch<'_>, made: &[Strip], out: &mut Plane) -> Flow
+    requires made { All (IsPart stretch) made.now }
+    requires few { length made.now ≤ 64 }
+    requires out { IsOut stretch.course out.old }
+    ensures out { IsOut stretch.entry.course out.new }
+    ensures kept { StaysPut stretch.entry.course out.old out.new }
+    ensures strips { StripsArePut stretch.entry (map (λ s. s.number) made.now) out.new }
+    ensures flow { result ≡ strips_give stretch.entry (map (λ s. s.number) made.now) }
 {
-    for strip in made {
-        if strip.first == first {
-            return Some(strip);
-        }
-    }
-    None
-}
-
-// The same, if one of the workers made it.
-fn made_from<'a>(course: Course<'_>, team: &'a [Hand], first: u32) -> Option<&'a Strip>
-    requires { All (HasMade course) team.now }
-    ensures { IfSome result (λ s. (s.now.first ≡ first) × IsDone course.entry s.now) }
-{
-    for hand in team {
-        if let Some(strip) = strip_from(course, hand.made.as_slice(), first) {
-            return Some(strip);
-        }
-    }
-    None
-}
-
-// Puts the strips' own rows into `out`, from the first row on, if they are all rows: what the course comes to in them.
-fn gather(course: Course<'_>, team: &[Hand], out: &mut Plane) -> Option<Flow>
-    requires done { All (HasMade course) team.now }
-    requires lattice { IsLattice out.old }
-    requires out { HasSidesOf out.old course.cells.now }
-    ensures out { IfSome result (λ _. out.new ≡ result_of course.entry) }
-    ensures sides { HasSidesOf out.new course.entry.cells.now }
-    ensures flow { IfSome result (λ flow. flow ≡ flow_of course.entry) }
-{
-    let down = u32::from(course.cells.size().height() / 64);
-    let mut next = 0;
     let mut flow = NO_FLOW;
-    while next < down {
-        let Some(strip) = made_from(course, team, next) else {
-            return None;
-        };
-        unload(course, strip, out);
-        next += strip.rows;
+    for strip in made {
+        unload(stretch.course, strip, out);
         flow = flow.plus(strip.flow);
     }
-    Some(flow)
+    flow
 }
 
-// Has the workers make the strips of a course, and puts these together in `out`.
+// Puts what the workers made together in `out`, takes their seats and keeps their room, as far as there is memory to list it.
+// The answer is what the course comes to in their strips; `None` if each stopped before no number was left.
+fn hand_in(
+    stretch: Stretch<'_>,
+    mut team: Vec<Hand>,
+    seats: &mut Vec<DeskSeat>,
+    rooms: &mut Vec<Room>,
+    out: &mut Plane,
+) -> Option<Flow>
+    requires team { All (HasMade stretch) team.items }
+    requires count { vec_len team ≤ 16 }
+    requires room { vec_len team ≤ vec_capacity seats.old }
+    requires seats { seats.old.items ≡ [] }
+    requires rooms { All (IsRoomFor (extent stretch.course.cells.now) stretch.parts) rooms.old.items }
+    requires out { IsOut stretch.course out.old }
+    ensures count { vec_len seats.new ≡ vec_len team }
+    ensures seats { IfSome result (λ _. HaveDrawn stretch.entry.desk.now.id seats.new.items) }
+    ensures rooms { All (IsRoomFor (extent stretch.entry.course.cells.now) stretch.entry.parts) rooms.new.items }
+    ensures sides { HasSidesOf out.new stretch.entry.course.cells.now }
+    ensures put { IfSome result (λ flow. HasPut stretch.entry (drawn seats.new.items) flow out.new) }
+{
+    let mut flow = NO_FLOW;
+    let mut ended = false;
+    while let Some(hand) = team.pop() {
+        let Hand {
+            seat,
+            room,
+            made,
+            ended: at_end,
+        } = hand;
+        let theirs = put(stretch, made.as_slice(), out);
+        flow = flow.plus(theirs);
+        ended = ended || at_end;
+        seats.push_reserved(seat);
+        rooms.push(room_of(stretch, room, made)).ok();
+    }
+    if ended { Some(flow) } else { None }
+}
+
+// Has the workers make the strips of a course, and puts these together in `out`. When the desk is closed, each strip was made
+// once.
 fn round<R: Threads>(
     rt: &R,
     course: Course<'_>,
     workers: u32,
-    count: u32,
-    rooms: &mut Vec<Vec<Strip>>,
+    parts: Parts,
+    rooms: &mut Vec<Room>,
     out: &mut Plane,
 ) -> Option<Flow>
     requires workers { (0 < workers) × (workers ≤ 16) }
-    requires count { count ≤ 64 }
-    requires rooms { AllAreRooms (extent course.cells.now) rooms.old.items }
+    requires parts { parts.count * parts.low + parts.more ≡ course.cells.now.height / 64 }
+    requires rooms { All (IsRoomFor (extent course.cells.now) parts) rooms.old.items }
     requires lattice { IsLattice out.old }
     requires out { HasSidesOf out.old course.cells.now }
-    ensures rooms { AllAreRooms (extent course.entry.cells.now) rooms.new.items }
+    ensures rooms { All (IsRoomFor (extent course.entry.cells.now) parts) rooms.new.items }
     ensures out { IfSome result (λ _. out.new ≡ result_of course.entry) }
     ensures sides { HasSidesOf out.new course.entry.cells.now }
     ensures flow { IfSome result (λ flow. flow ≡ flow_of course.entry) }
 {
-    let Ok((desk, mut seats)) = Desk::open(*rooms.allocator(), count, workers) else {
-        return None;
-    };
-    let Some(mut team) = seated(course, &desk, &mut seats, rooms) else {
+    let Ok((desk, mut seats)) = Desk::open(*rooms.allocator(), parts.count, workers) else {
         return None;
     };
     let stretch = Stretch {
         course,
-        count,
+        parts,
         desk: &desk,
     };
+    let Some(mut team) = seated(stretch, &mut seats, rooms) else {
+        return None;
+    };
     make_all(rt, stretch, team.as_mut_slice());
-    let flow = gather(course, team.as_slice(), out);
-    keep_rooms(course, team, rooms);
-    flow
+    let Some(flow) = hand_in(stretch, team, &mut seats, rooms, out) else {
+        return None;
+    };
+    desk.close(seats);
+    Some(flow)
 }
 
-/// Into how many strips so many workers part the lattices of one size, and the room of each worker. It is kept between runs.
+/// The strips into which so many workers part the lattices of one size, and the room of each worker. It is kept between runs.
 #[derive(Drop)]
 pub struct Strips {
     pub size: Size,
     workers: u32,
-    count: u32,
-    rooms: Vec<Vec<Strip>>,
+    parts: Parts,
+    rooms: Vec<Room>,
     // what acts after each phase of a stretch
     turns: Vec<Exchange>,
     pub ghost some: { 0 < workers },
     pub ghost few: { workers ≤ 16 },
-    pub ghost low: { count ≤ 64 },
-    pub ghost ready: { AllAreRooms size rooms.items },
+    pub ghost all: { parts.count * parts.low + parts.more ≡ size.height / 64 },
+    pub ghost ready: { All (IsRoomFor size parts) rooms.items },
 }
 
 impl Strips {
@@ -198,7 +209,7 @@ impl Strips {
         Some(Strips {
             size,
             workers,
-            count: (each * workers).min(down),
+            parts: Parts::of(down, each * workers),
             rooms: Vec::new(alloc),
             turns,
         })
@@ -273,7 +284,7 @@ fn stretch<R: Threads, A: Action>(
         rt,
         course,
         strips.workers,
-        strips.count,
+        strips.parts,
         &mut strips.rooms,
         spare,
     ) {

@@ -21,9 +21,11 @@ use phase_step::{
 use std::alloc::Global;
 use std::mem;
 
-/// The strip's own rows of tiles are those from `first` on, `rows` of them. Its planes have one more row above and below.
+/// Strip `number` of a lattice. Its own rows of tiles are those from `first` on, `rows` of them. Its planes have one more row
+/// above and below.
 #[derive(Drop)]
 pub struct Strip {
+    pub number: u32,
     pub first: u32,
     pub rows: u32,
     pub cells: Plane,
@@ -209,13 +211,15 @@ fn make(
 }
 
 impl Strip {
-    pub fn new(alloc: Global, size: Size, first: u32, rows: u32) -> Result<Strip, NoMemory>
-        ensures { IfOk result (λ s. (s.first ≡ first) × (s.rows ≡ rows)
+    /// A strip with so many rows of its own. Which rows of a lattice they are is still to be set.
+    pub fn new(alloc: Global, size: Size, rows: u32) -> Result<Strip, NoMemory>
+        ensures { IfOk result (λ s. (s.first ≡ 0) × (s.rows ≡ rows)
             × (s.cells.width ≡ size.width) × (s.cells.height ≡ size.height)
             × HasSidesOf s.spare s.cells × HasSidesOf s.walls s.cells × HasSidesOf s.obstacles s.cells) }
     {
         Ok(Strip {
-            first,
+            number: 0,
+            first: 0,
             rows,
             cells: Plane::empty(alloc, size)?,
             spare: Plane::empty(alloc, size)?,
@@ -228,9 +232,12 @@ impl Strip {
     /// Makes the course on the strip: its own rows become those of the lattice after it.
     pub fn turn(&mut self, course: Course<'_>)
         requires { IsFor course self.old }
-        ensures { IsDone course.entry self.new }
+        ensures done { IsDone course.entry self.new }
+        ensures kept { (self.new.number ≡ self.old.number) × (self.new.first ≡ self.old.first)
+            × (self.new.rows ≡ self.old.rows) }
     {
         let Strip {
+            number: _,
             first,
             rows: _,
             cells,

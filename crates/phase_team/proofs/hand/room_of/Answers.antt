@@ -1,15 +1,9 @@
-use Rattle.std.proofs.Common.{rules, All, subst}
 use Rattle.claim_desk.proofs.Sums.{all_last, all_front}
-use Rattle.gas_terms.specs.Cells.{extent}
-use Rattle.phase_team.specs.Work.{IsOf, IsDone}
-use Rattle.phase_team.proofs.Places.{all_push}
+use Rattle.phase_team.specs.Work.{IsPart}
 use Rattle.phase_team.proofs.hand.room_of.Goals as goal
 
+pub keep-requires-clause-strip : goal.keep-requires-clause-strip
+keep-requires-clause-strip c = all_last (IsPart c.args.stretch) _ _ _ c.in-Some.ensures.items c.loop-strip.invariant.made
+
 pub loop-strip-preserved : goal.loop-strip-preserved
-loop-strip-preserved c =
-    let was = c.loop-strip.invariant in
-    let done = all_last (IsDone c.args.course) _ _ _ c.in-Some.ensures.items was.made in
-    record {
-      rooms = subst (All (IsOf (extent c.args.course.cells.now))) (search rules) (all_push (IsOf (extent c.args.course.cells.now)) _ _ was.rooms done.of_course);
-      made = all_front (IsDone c.args.course) _ _ _ c.in-Some.ensures.items was.made;
-    }
+loop-strip-preserved c = record { room = c.keep.ensures; made = all_front (IsPart c.args.stretch) _ _ _ c.in-Some.ensures.items c.loop-strip.invariant.made }

@@ -1,8 +1,8 @@
-use Rattle.std.proofs.Common.{rules, List, ◌∙◌, sym, subst}
-use Rattle.gas_terms.specs.Cells.{joined}
+use Rattle.std.proofs.Common.{rules, All, List, ◌∙◌, sym, subst}
+use Rattle.gas_terms.specs.Cells.{Extent, joined}
 use Rattle.phase_step.specs.Exchanges.{Areas, listed}
 use Rattle.phase_step.proofs.ActionParts.{after_same, flow_same}
-use Rattle.phase_team.specs.Work.{Lists}
+use Rattle.phase_team.specs.Work.{Lists, IsRoomFor}
 use Rattle.phase_team.proofs.runs.stretch.Goals as goal
 
 pub returns-in-Some-clause-particles : goal.returns-in-Some-clause-particles
@@ -21,3 +21,18 @@ returns-in-Some-clause-flow g c =
     let all : Lists c.list.new.turns.items leaves run.n = search rules in
     let same : Lists c.as_slice.result.now leaves run.n = subst (λ (turns : List Areas). Lists turns leaves run.n) (sym c.as_slice.ensures.value) all in
     c.in-Some.ensures.flow ∙ flow_same run.parity run.walls.now run.obstacles.now (listed c.as_slice.result.now) leaves c.args.particles.now run.n same
+
+pub round-requires-clause-rooms : goal.round-requires-clause-rooms
+round-requires-clause-rooms g c =
+    let strips = c.args.strips.now in
+    subst (λ (size : Extent). All (IsRoomFor size strips.parts) strips.rooms.items) c.requires.size strips.ready
+
+pub invariant_of-strips-2 : goal.invariant_of-strips-2
+invariant_of-strips-2 g c =
+    let strips = c.args.strips.now in
+    record {
+      some = strips.some;
+      few = strips.few;
+      all = strips.all;
+      ready = subst (λ (size : Extent). All (IsRoomFor size strips.parts) c.round.new.rooms.items) (sym c.requires.size) c.round.ensures.rooms;
+    }

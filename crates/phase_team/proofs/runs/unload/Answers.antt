@@ -1,8 +1,8 @@
-use Rattle.std.proofs.Common.{◌≡◌, ◌<◌, ◌+◌, ◌*◌, ◌/◌, sym, ap, ap₂, ◌∙◌, subst, arith}
+use Rattle.std.proofs.Common.{◌≡◌, ◌<◌, ◌+◌, ◌*◌, ◌/◌, refl, sym, ap, ap₂, ◌∙◌, subst, arith}
 use Rattle.gas_terms.specs.Cells.{Extent, tile_count, tile_rectangle}
 use Rattle.gas_plane.specs.Planes.{with_tile, IsTileFrom}
-use Rattle.phase_team.specs.Work.{filled_up}
-use Rattle.phase_team.proofs.Gathered.{one_more, unload_within}
+use Rattle.phase_team.proofs.Places.{lattice_kept}
+use Rattle.phase_team.proofs.Gathered.{put_more, rows_put, unload_within}
 use Rattle.phase_team.proofs.runs.unload.Goals as goal
 
 pub tile_mut-requires : goal.tile_mut-requires
@@ -23,19 +23,27 @@ loop-i-preserved c =
     let t = c.tile.result.now in
     let out = c.loop-i.out in
     let i = c.loop-i.i in
+    let a = cells.width / 64 in
     let was = c.loop-i.invariant in
+    let next = with_tile out (s.first * c.from-across.result + i) t in
+    let below : i < s.rows * a = subst (λ a. i < s.rows * a) across c.loop-i-test.true in
+    let from = subst (λ a. IsTileFrom t s.cells (tile_rectangle s.cells (a + i)).x (tile_rectangle s.cells (a + i)).y) across c.tile.ensures in
+    let put : next ≡ with_tile out (s.first * a + i) t = ap (λ a. with_tile out (s.first * a + i) t) across in
     record {
+      lattice = lattice_kept out (s.first * c.from-across.result + i) t was.lattice next refl;
       sides = record { wide = was.sides.wide; high = was.sides.high };
-      filled = λ start is same e.
-          one_more course s start out (with_tile out (s.first * c.from-across.result + i) t) i t is same c.requires.done (subst (λ a. i < s.rows * a) across c.loop-i-test.true)
-          (subst (λ a. IsTileFrom t s.cells (tile_rectangle s.cells (a + i)).x (tile_rectangle s.cells (a + i)).y) across c.tile.ensures) (was.filled start is same e) (ap (λ a. with_tile out (s.first * a + i) t) across);
+      kept = λ x y xl yl before. put_more course s out next i t was.lattice was.sides c.requires.done below from put x y xl yl (λ ne. was.kept x y xl yl before);
+      tiles = λ x y xl yl begins ends.
+          put_more course s out next i t was.lattice was.sides c.requires.done below from put x y xl yl (λ ne. was.tiles x y xl yl begins (omega (arith, ne, ends)));
     }
 
-pub returns-clause-filled : goal.returns-clause-filled
-returns-clause-filled c = λ start is same e.
-    let cells = c.args.course.cells.now in
+pub returns-clause-rows : goal.returns-clause-rows
+returns-clause-rows c =
+    let course = c.args.course in
+    let cells = course.cells.now in
     let across : c.from-across.result ≡ cells.width / 64 = c.from-across.ensures ∙ ap (λ n. n / 64) (c.width.ensures ∙ ap (λ (s : Extent). s.width) c.size.ensures.extent) in
     let s = c.args.strip.now in
     let a = cells.width / 64 in
     let end : c.loop-i.i ≡ s.rows * a = (let k : c.loop-i.i ≡ s.rows * c.from-across.result = omega arith in k) ∙ ap (λ a. s.rows * a) across in
-    c.loop-i.invariant.filled start is same e ∙ ap (filled_up c.args.course start) (let k : s.first * a + c.loop-i.i ≡ (s.first + s.rows) * a = omega (arith, end) in k)
+    rows_put course c.loop-i.out s.first s.rows course.lattice.sized c.requires.done.of_course.inside
+    (λ x y xl yl begins ends. c.loop-i.invariant.tiles x y xl yl begins (omega (arith, end, ends)))

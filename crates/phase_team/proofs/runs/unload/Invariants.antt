@@ -1,12 +1,16 @@
-use Rattle.std.proofs.Common.{◌≡◌, ◌+◌, ◌*◌, ◌/◌}
-use Rattle.gas_terms.specs.Cells.{Cells, HasSidesOf}
+use Rattle.std.proofs.Common.{◌≡◌, ℕ, ◌+◌, ◌*◌, ◌/◌, ◌<◌, ◌≤◌}
+use Rattle.gas_terms.specs.Cells.{HasSidesOf, has}
 use Rattle.gas_plane.specs.Planes.{IsLattice}
-use Rattle.phase_team.specs.Work.{filled_up}
+use Rattle.phase_team.specs.Work.{StaysPut, result_of}
 use Rattle.phase_team.proofs.runs.unload.Given as goal
 
 abbrev pub invariant-loop-i : goal.invariant-loop-i
 invariant-loop-i l = record {
+  lattice : IsLattice l.out;
   sides : HasSidesOf l.out l.course.cells.now;
-  filled : (start : Cells) → IsLattice start → HasSidesOf start l.course.cells.now → l.initial.out ≡ filled_up l.course start (l.strip.first * (l.course.cells.now.width / 64))
-      → l.out ≡ filled_up l.course start (l.strip.first * (l.course.cells.now.width / 64) + l.i);
+  kept : StaysPut l.course l.initial.out l.out;
+  tiles : (x y : ℕ) → x < l.course.cells.now.width → y < l.course.cells.now.height
+      → l.strip.first * (l.course.cells.now.width / 64) ≤ y / 64 * (l.course.cells.now.width / 64) + x / 64
+      → y / 64 * (l.course.cells.now.width / 64) + x / 64 < l.strip.first * (l.course.cells.now.width / 64) + l.i
+      → has l.out x y ≡ has (result_of l.course) x y;
 }

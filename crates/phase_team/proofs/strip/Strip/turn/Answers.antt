@@ -12,8 +12,8 @@ use Rattle.phase_team.proofs.strip.Strip.turn.Goals as goal
 pub load-requires-clause-first : goal.load-requires-clause-first
 load-requires-clause-first c = omega (arith, c.requires.inside, c.requires.some)
 
-pub returns : goal.returns
-returns c =
+pub returns-clause-done : goal.returns-clause-done
+returns-clause-done c =
     let course = c.args.course in
     let leaves = listed course.turns.now in
     let first = c.args.self.now.first in

@@ -1,0 +1,14 @@
+use Rattle.std.proofs.Common.{◌≡◌, map, take}
+use Rattle.gas_terms.specs.Cells.{HasSidesOf}
+use Rattle.gas_plane.specs.Planes.{IsLattice}
+use Rattle.phase_team.specs.Work.{StaysPut, StripsArePut, strips_give}
+use Rattle.phase_team.proofs.runs.put.Given as goal
+
+abbrev pub invariant-loop-strip : goal.invariant-loop-strip
+invariant-loop-strip l = record {
+  lattice : IsLattice l.out;
+  sides : HasSidesOf l.out l.stretch.course.cells.now;
+  kept : StaysPut l.stretch.course l.initial.out l.out;
+  strips : StripsArePut l.stretch (map (λ s. s.number) (take l.strip-index l.made)) l.out;
+  flow : l.flow ≡ strips_give l.stretch (map (λ s. s.number) (take l.strip-index l.made));
+}
