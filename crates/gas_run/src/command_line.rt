@@ -215,14 +215,10 @@ fn fault_of(alloc: Global, error: &clap::Error) -> PlanFault {
     }
 }
 
-// the size of a new lattice; with a snapshot to load the sizes of the line do not matter
-fn size_of(alloc: Global, found: &ArgMatches<'_>, load: Option<&str>) -> Result<Size, PlanFault> {
+// the size of a new lattice
+fn size_of(alloc: Global, found: &ArgMatches<'_>) -> Result<Size, PlanFault> {
     let width = WIDTH.number(alloc, found)?;
     let height = HEIGHT.number(alloc, found)?;
-    let (width, height) = match load {
-        Some(_) => (64, 64),
-        None => (width, height),
-    };
     if width % 64 != 0 {
         return Err(WIDTH.fault(alloc, found)?);
     }
@@ -253,7 +249,11 @@ fn plan_for<'a>(
     ensures { IfOk result (λ plan. IsInRange plan.setup × HasSessions plan.service) }
 {
     let load = found.get_str("load");
-    let size = size_of(alloc, found, load)?;
+    // a snapshot has a size of its own, so those of the line are not looked at
+    let size = match load {
+        Some(_) => Size::new(64, 64).unwrap(),
+        None => size_of(alloc, found)?,
+    };
     let workers = WORKERS.number(alloc, found)? as u8;
     let cap = CAP.number(alloc, found)?;
     Ok(Plan {

@@ -1,4 +1,4 @@
-//! Runs the scripts of `examples/` and compares what they give with the output that stands beside each.
+//! Runs the scripts of `examples/` and of `examples/scenes/`, and compares what they give with the output that stands beside each.
 //! The three people's scripts are sessions on one gas, over sockets, one after the other.
 #![tactic(auto)]
 
@@ -20,7 +20,7 @@ use std::{fs, io, thread};
 use test_types::faults::{FaultAt, Store};
 
 // what is run alone, on a new lattice of that width and height
-const LESSONS: [(&str, u32, u32); 15] = [
+const LESSONS: [(&str, u32, u32); 20] = [
     ("1_one_particle", 64, 64),
     ("2_head_on", 64, 64),
     ("2_blocks", 64, 64),
@@ -36,6 +36,11 @@ const LESSONS: [(&str, u32, u32); 15] = [
     ("9_translation", 64, 64),
     ("9_reversed", 64, 64),
     ("9_light_cone", 128, 128),
+    ("scenes/hole", 64, 64),
+    ("scenes/piston", 64, 64),
+    ("scenes/porous", 64, 64),
+    ("scenes/three_gates", 64, 64),
+    ("scenes/two_tunnels", 64, 64),
 ];
 
 const PEOPLE: [&str; 3] = ["8_first", "8_second", "8_third"];

@@ -147,20 +147,22 @@ fn paths_of_a_plan(rt: HostRuntime) {
 // the snapshot's size then holds
 #[test]
 fn sizes_beside_a_snapshot(rt: HostRuntime) {
-    let words = [
-        "gaslab",
-        "run",
-        "--width",
-        "65",
-        "--height",
-        "100",
-        "--load",
-        "start.gas",
-    ];
-    let found = planned(&rt, &words);
-    expect_same(&rt, numbers(&found), [64, 64, 1024]);
-    expect_same(&rt, found.load, Some("start.gas"));
-    expect_that(&rt, found.save.is_none());
+    for (width, height) in [("65", "100"), ("0", "4160"), ("4097", "63")] {
+        let words = [
+            "gaslab",
+            "run",
+            "--width",
+            width,
+            "--height",
+            height,
+            "--load",
+            "start.gas",
+        ];
+        let found = planned(&rt, &words);
+        expect_same(&rt, numbers(&found), [64, 64, 1024]);
+        expect_same(&rt, found.load, Some("start.gas"));
+        expect_that(&rt, found.save.is_none());
+    }
 }
 
 // how many workers the words give
