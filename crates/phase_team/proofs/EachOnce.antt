@@ -1,15 +1,12 @@
 -- Flows of numbered parts, added up in whatever order.
-use Rattle.std.proofs.Common.{◌≡◌, ℕ, zero, suc, ◌+◌, ◌*◌, ◌<◌, ◌≤◌, ◌^◌, Bool, cond, eqb, List, [], ◌∷◌, ◌++◌, length, length-append, ℤ, ◌+ℤ◌, nat_abs, refl, sym, ap, ap₂, ◌∙◌, subst, arith, inl, inr}
+use Rattle.std.proofs.Common.{◌≡◌, ℕ, zero, suc, ◌+◌, ◌*◌, ◌<◌, ◌≤◌, ◌^◌, Bool, cond, eqb, List, [], ◌∷◌, ◌++◌, length, ℤ, ◌+ℤ◌, nat_abs, refl, sym, ap, ◌∙◌, subst, arith, inl, inr}
 use Rattle.std.proofs.lemmas.Int.{ints}
 use Rattle.std.proofs.lemmas.Bool.{cases_eq, ne_eqb, eq-eqb}
 use Rattle.std.proofs.lemmas.Bool.Decides.{nat_tests}
-use Rattle.gas_terms.specs.Accounts.{plus, pair_plus, took_plus}
+use Rattle.gas_terms.specs.Accounts.{plus}
 use Rattle.gas_terms.specs.declared.accounts.Sums.{Sums}
-use Rattle.gas_terms.specs.declared.accounts.Took.{Took}
 use Rattle.gas_terms.proofs.Totals.{same_sums}
-use Rattle.phase_step.specs.Runs.{nothing}
-use Rattle.phase_step.specs.Actions.{moved_plus, unmoved, flow_plus, no_flow, FlowsFit}
-use Rattle.phase_step.specs.declared.moved.Moved.{Moved}
+use Rattle.phase_step.specs.Actions.{flow_plus, no_flow, FlowsFit}
 use Rattle.phase_step.specs.declared.moved.Flow.{Flow}
 use Rattle.phase_step.proofs.ActionRuns.{same_flow}
 use Rattle.phase_step.proofs.Counting.{same_moved}

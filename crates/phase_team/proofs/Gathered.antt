@@ -5,7 +5,7 @@ use Rattle.std.proofs.lemmas.Nat.{mod-mul-add, div-mul-add, div-add-mod', row-Be
 use Rattle.std.proofs.lemmas.Bool.{cases_eq, eq-eqb, ne_eqb}
 use Rattle.bit_tile.specs.Tile as tile
 use Rattle.bit_tile.specs.declared.Tile.{Tile}
-use Rattle.gas_terms.specs.Cells.{Cells, HasSidesOf, IsFull, has, cells_where, joined, extent, is_size, tile_count, tile_rectangle}
+use Rattle.gas_terms.specs.Cells.{Cells, HasSidesOf, IsFull, has, joined, extent, is_size, tile_count, tile_rectangle}
 use Rattle.gas_terms.specs.Gas.{streamed}
 use Rattle.gas_terms.specs.Accounts.{took_plus}
 use Rattle.gas_terms.proofs.Cells.{has-cells_where, full-cells_where, same_cells}

@@ -2,14 +2,13 @@
 use Rattle.std.proofs.Common.{◌≡◌, ℕ, zero, suc, ◌+◌, ◌*◌, ◌/◌, ◌<◌, ◌≤◌, ◌-◌, ◌^◌, ◌++◌, ◌∷◌, [], List, Bool, true, false, cond, eqb, All, map, take, get_or, length, refl, sym, ap, ap₂, ◌∙◌, subst, arith, inl, inr}
 use Rattle.std.proofs.lemmas.Bool.{cases_lt, cases_eq, lt-ltb, le-ltb, ne_eqb}
 use Rattle.std.proofs.lemmas.List.{take_more, map-append, length-map, length-take}
-use Rattle.gas_terms.specs.Cells.{Cells, HasSidesOf, has, extent, tile_count}
+use Rattle.gas_terms.specs.Cells.{Cells, extent, tile_count}
 use Rattle.gas_plane.proofs.Places.{high}
 use Rattle.phase_step.specs.Actions.{FlowsFit, flow_plus}
 use Rattle.phase_step.specs.declared.moved.Flow.{Flow}
 use Rattle.claim_desk.specs.Draws.{times, once_below}
 use Rattle.claim_desk.proofs.Laws.{times-push, times-append}
-use Rattle.phase_team.specs.Work.{result_of, flow_of, tiles_give, first_of, rows_of, strip_gives, strips_give, flows_of, IsDone, IsPart, IsAt, IsOut, StaysPut, RowsArePut, StripsArePut, HasPut}
-use Rattle.phase_team.specs.declared.course.Course.{Course}
+use Rattle.phase_team.specs.Work.{result_of, flow_of, tiles_give, first_of, rows_of, strip_gives, strips_give, IsDone, IsPart, IsAt, StaysPut, RowsArePut, StripsArePut, HasPut}
 use Rattle.phase_team.specs.declared.course.Parts.{Parts}
 use Rattle.phase_team.specs.declared.course.Stretch.{Stretch}
 use Rattle.phase_team.specs.declared.strip.Strip.{Strip}

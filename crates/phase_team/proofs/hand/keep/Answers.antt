@@ -1,6 +1,6 @@
-use Rattle.std.proofs.Common.{◌+◌, sym, ◌∙◌, subst}
+use Rattle.std.proofs.Common.{◌+◌, ◌∙◌}
 use Rattle.gas_terms.specs.Cells.{extent}
-use Rattle.phase_team.specs.Work.{HasHeight, IsPart}
+use Rattle.phase_team.specs.Work.{HasHeight}
 use Rattle.phase_team.proofs.Parting.{all_either, high_rows, low_rows}
 use Rattle.phase_team.proofs.hand.keep.Goals as goal
 

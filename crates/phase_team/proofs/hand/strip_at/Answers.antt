@@ -1,4 +1,4 @@
-use Rattle.std.proofs.Common.{◌≡◌, ◌+◌, ◌*◌, arith, sym, ap, ◌∙◌, refl, subst}
+use Rattle.std.proofs.Common.{◌≡◌, ◌+◌, ◌*◌, arith, sym, ap, refl, subst}
 use Rattle.claim_desk.proofs.Sums.{all_last, all_front}
 use Rattle.gas_terms.specs.Cells.{extent}
 use Rattle.phase_team.specs.Work.{HasHeight, IsRoomFor, first_of, rows_of}

@@ -1,4 +1,4 @@
-use Rattle.std.proofs.Common.{◌+◌, ◌++◌, ◌∷◌, [], List, map, take, sym, ap, ◌∙◌, subst, arith}
+use Rattle.std.proofs.Common.{◌++◌, ◌∷◌, [], map, take, sym, ap, ◌∙◌, subst, arith}
 use Rattle.phase_team.specs.Work.{IsPart, StripsArePut, strips_give}
 use Rattle.phase_team.specs.declared.strip.Strip.{Strip}
 use Rattle.phase_team.proofs.Parting.{number_more, few_numbers, strips_more, part_gives, give_more, more_fit}
