@@ -22,8 +22,8 @@ class Door(Protocol):
 
     link: Link
 
-    def close(self) -> None:
-        """Hangs up. Closing again does nothing."""
+    def close(self, polite: bool = True) -> None:
+        """Hangs up, without waiting for what is under way unless `polite`."""
 
 
 def default_program() -> Path:
@@ -74,7 +74,7 @@ class Program:
             parts.append(f"it said: {said[-400:]}")
         return "; ".join(parts)
 
-    def close(self) -> None:
+    def close(self, polite: bool = True) -> None:
         """Ends the program's input, and the program if it does not end by itself."""
         if self._said.closed:
             return
@@ -82,7 +82,7 @@ class Program:
             assert stream
             stream.close()
         try:
-            self._process.wait(_PATIENCE)
+            self._process.wait(_PATIENCE if polite else 0.1)
         except subprocess.TimeoutExpired:
             self._process.kill()
             self._process.wait()
@@ -111,6 +111,6 @@ class Server:
             return f"the server at {self.address} is full, or busy with long steps of others"
         return f"the server at {self.address} has ended"
 
-    def close(self) -> None:
+    def close(self, polite: bool = True) -> None:
         """Closes the socket."""
         self._socket.close()

@@ -22,6 +22,9 @@ __all__ = ["Lab", "MOST_STEPS"]
 MOST_STEPS = 4096
 """The most steps that one command makes."""
 
+MOST_ENTRIES = 65536
+"""The most entries that a journal has room for."""
+
 _SIDES = range(64, 4097, 64)
 _TRIES = 20
 _AHEAD = 512
@@ -111,7 +114,7 @@ class Lab:
             pass
         finally:
             self.is_closed = True
-            self._door.close()
+            self._door.close(polite)
 
     # One line, or many.
 
@@ -135,6 +138,7 @@ class Lab:
         if isinstance(lines, str):
             lines = lines.splitlines()
         self._open = Replies(self._door.link, lines)
+        self._open.begin()
         return self._open
 
     def play(self, path: PathLike) -> list[Reply]:
@@ -282,6 +286,8 @@ class Lab:
                     is_whole = True
                 elif not isinstance(reply, Entry):
                     raise reply if isinstance(reply, Refused) else _mismatch("entry", reply)
+            if len(self._entries) > MOST_ENTRIES:
+                raise Strange(f"the journal has more than {MOST_ENTRIES} entries")
             ahead = min(2 * ahead, _AHEAD)
         return list(self._entries)
 

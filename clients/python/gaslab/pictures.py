@@ -7,7 +7,7 @@ from typing import Any, Optional, Union
 from . import palette
 from .cells import pack_array
 from .lab import Lab
-from .pixels import cell_pixels, density_pixels
+from .pixels import cell_pixels, check_colour, check_mean, density_pixels
 from .png import Colour, film_chunks, png_bytes
 from .snapshot import PathLike, Snapshot
 
@@ -76,10 +76,12 @@ def film(lab: Lab, path: PathLike, steps: int, frames: int, scale: int = 1,
 def _drawn(gas: Snapshot, mean: Optional[int], colour: str
            ) -> tuple[int, int, Sequence[Colour], Iterator[bytes]]:
     """Width and height in pixels, the palette and the rows of a picture."""
+    check_colour(colour)
     if mean is None:
         return gas.width, gas.height, palette.CELLS, cell_pixels(gas, colour)
     if colour != "kind":
         raise ValueError("mean shows densities, which have no velocity")
+    check_mean(gas, mean)
     rows = density_pixels(gas, mean)
     return gas.width // mean, gas.height // mean, palette.DENSITIES, rows
 

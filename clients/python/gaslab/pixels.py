@@ -7,7 +7,7 @@ from . import palette
 from .cells import column_counts, rows_of, spread_row
 from .snapshot import Snapshot
 
-__all__ = ["COLOURS", "cell_pixels", "density_pixels"]
+__all__ = ["COLOURS", "cell_pixels", "check_colour", "check_mean", "density_pixels"]
 
 COLOURS = ("kind", "velocity")
 """What the colour of a particle shows."""
@@ -32,13 +32,24 @@ def _index_of(code: int, by_velocity: bool) -> int:
     return palette.SOURCE if code & _SOURCE else palette.EMPTY
 
 
+def check_colour(colour: str) -> None:
+    """Raises `ValueError` unless it is one of `COLOURS`."""
+    if colour not in COLOURS:
+        raise ValueError(f"colour is one of {', '.join(COLOURS)}, and not {colour!r}")
+
+
+def check_mean(gas: Snapshot, mean: int) -> None:
+    """Raises `ValueError` unless squares of so many cells a side fill the lattice."""
+    if not 1 <= mean <= 64 or gas.width % mean or gas.height % mean:
+        raise ValueError(f"mean is from 1 to 64 and divides both sides, {gas.width} and "
+                         f"{gas.height}: not {mean}")
+
+
 def cell_pixels(gas: Snapshot, colour: str = "kind") -> Iterator[bytes]:
     """One pixel for each cell: `height` rows of `width` indices into `palette.CELLS`.
 
     With `colour` "velocity" a particle has the colour of its direction.
     """
-    if colour not in COLOURS:
-        raise ValueError(f"colour is one of {', '.join(COLOURS)}, and not {colour!r}")
     table = bytes(_index_of(code, colour == "velocity") for code in range(128)) + bytes(128)
     alternate = [int.from_bytes(bytes([_RIGHT, 0][::step]) * (gas.width // 2), "big")
                  for step in (1, -1)]
@@ -71,9 +82,6 @@ def density_pixels(gas: Snapshot, mean: int) -> Iterator[bytes]:
 
     A square of which at least half is wall or obstacle has the colour of what it has more of.
     """
-    if not 1 <= mean <= 64 or gas.width % mean or gas.height % mean:
-        raise ValueError(f"mean is from 1 to 64 and divides both sides, {gas.width} and "
-                         f"{gas.height}: not {mean}")
     area = mean * mean
     index = [palette.density_index(count, area) for count in range(area + 1)]
     planes = (gas.particle_bytes, gas.wall_bytes, gas.obstacle_bytes)

@@ -36,8 +36,11 @@ class Replies(Iterator[Reply]):
         self._kept: deque[Reply] = deque()
         self._is_filling = False
         self.has_ended = False
+
+    def begin(self) -> None:
+        """Sends what can be sent at once."""
         self._fill()
-        link.flush()
+        self._link.flush()
 
     def __iter__(self) -> Replies:
         return self
@@ -93,5 +96,8 @@ class Replies(Iterator[Reply]):
                     break
                 self._link.push(check_line(line))
                 self._asked.append(line)
+        except BaseException:
+            self._lines = iter(())
+            raise
         finally:
             self._is_filling = False
