@@ -18,8 +18,8 @@ CELLS: tuple[Colour, ...] = (
     (0, 114, 178),    # particle: blue
     (70, 70, 70),     # wall: dark grey
     (213, 94, 0),     # obstacle: vermilion
-    (130, 205, 165),  # empty cell of a source: light green
-    (235, 180, 215),  # empty cell of a drain: light purple
+    (140, 210, 170),  # empty cell of a source: light green
+    (215, 140, 195),  # empty cell of a drain: light purple
     (240, 228, 66),   # particle on a wall or an obstacle: yellow
     (0, 114, 178),    # moves right and down: blue
     (230, 159, 0),    # moves left and down: orange

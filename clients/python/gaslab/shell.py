@@ -6,7 +6,7 @@ import sys
 from collections.abc import Callable, Iterator
 from typing import Optional, TextIO
 
-from .errors import GaslabError, LIMITS, REFUSALS, Refused
+from .errors import GaslabError, Gone, LIMITS, REFUSALS, Refused, Strange
 from .lab import Lab
 from .pictures import picture, text_picture
 from .replies import Bye, named, reply_text
@@ -88,12 +88,12 @@ class Shell:
                 self._one(command)
                 if self.has_ended:
                     break
-        except (ScriptFault, ValueError, OSError) as fault:
-            self._say(str(fault))
-            self.refusals += 1
-        except GaslabError as fault:
+        except (Gone, Strange) as fault:
             self._say(str(fault))
             self.has_ended = True
+        except (GaslabError, ScriptFault, ValueError, OSError) as fault:
+            self._say(str(fault))
+            self.refusals += 1
 
     def _one(self, command: str) -> None:
         word, *rest = command.split(" ")

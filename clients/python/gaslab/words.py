@@ -5,11 +5,12 @@ import argparse
 import os
 import sys
 
+from .errors import Strange
 from .lab import Lab
 from .measure import every, profile, random_gas
 from .options import gas_of, lab_of
 from .pictures import film, picture, text_picture
-from .replies import Row, show_cells
+from .replies import Row, parse_reply, show_cells
 from .scene import rectangles_of
 from .shell import Shell, columns, prompted
 from .snapshot import Snapshot
@@ -122,6 +123,14 @@ def journal(asked: argparse.Namespace) -> int:
 def rows(asked: argparse.Namespace) -> int:
     """Replies from standard input, with the rows drawn."""
     for line in sys.stdin:
-        word, _, digits = line.rstrip("\n").partition(" ")
-        print(show_cells(Row(digits).cells) if word == "ROW" else line.rstrip("\n"), flush=True)
+        print(_drawn_row(line.rstrip("\n")), flush=True)
     return 0
+
+
+def _drawn_row(line: str) -> str:
+    """A line `ROW HEX` as dots and marks, and any other as it is."""
+    try:
+        reply = parse_reply(line, "read")
+    except Strange:
+        return line
+    return show_cells(reply.cells) if isinstance(reply, Row) else line

@@ -109,7 +109,8 @@ class Sending(unittest.TestCase):
         row = "ROW " + "0" * 1024
         with Fake(lambda line: typical(line) if line in ("tally", "quit") else row.encode() + b"\n"
                   ) as fake, joined(fake) as lab:
-            count = sum(reply.hex == "0" * 1024 for reply in lab.send("x" * 2048 for _ in range(10000)))
+            replies = lab.send("x" * 2048 for _ in range(10000))
+            count = sum(reply.hex == "0" * 1024 for reply in replies)
             self.assertEqual((count, len(fake.lines)), (10000, 10001))
 
     def test_refusals_are_among_the_replies(self):
@@ -259,7 +260,8 @@ class Looking(unittest.TestCase):
                      "drain 1 2 3 4\nput 9 9 1 1\nstep 1")
             gas = lab.look()
             self.assertEqual((gas.width, gas.height, gas.tick), (64, 64, 1))
-            self.assertEqual((gas.drains, gas.sources), ((Drain(1, 2, 3, 4),), (Source(5, 6, 7, 8, 9),)))
+            self.assertEqual(gas.drains, (Drain(1, 2, 3, 4),))
+            self.assertEqual(gas.sources, (Source(5, 6, 7, 8, 9),))
             top = pack_row(x != 4 for x in range(64))
             self.assertEqual(gas.wall_bytes, 2 * top + bytes(62 * 8))
             three = pack_row(x == 3 for x in range(64))

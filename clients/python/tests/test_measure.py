@@ -61,7 +61,8 @@ class Tables(unittest.TestCase):
     def test_csv(self):
         text = 'tick,"a,b"\n1,-2\n3,0.5\n'
         self.assertEqual(self.TABLE.csv(), text)
-        self.assertEqual(list(csv.reader(io.StringIO(text))), [["tick", "a,b"], ["1", "-2"], ["3", "0.5"]])
+        self.assertEqual(list(csv.reader(io.StringIO(text))),
+                         [["tick", "a,b"], ["1", "-2"], ["3", "0.5"]])
         with tempfile.TemporaryDirectory() as room:
             path = os.path.join(room, "it.csv")
             self.TABLE.csv(path)
@@ -88,7 +89,8 @@ class Charts(unittest.TestCase):
         text = chart_text("t<", [0, 50, 100], {"a&b": [0, 5, 10], "c": [10, 10, 10]})
         root = xml.etree.ElementTree.fromstring(text)
         lines = [it.get("points") for it in root if it.tag.endswith("polyline")]
-        self.assertEqual(lines, ["70.0,315.0 345.0,167.5 620.0,20.0", "70.0,20.0 345.0,20.0 620.0,20.0"])
+        self.assertEqual(lines, ["70.0,315.0 345.0,167.5 620.0,20.0",
+                                 "70.0,20.0 345.0,20.0 620.0,20.0"])
         texts = [it.text for it in root if it.tag.endswith("text")]
         self.assertEqual(texts[0], "t<")
         self.assertIn("a&b", texts)
@@ -122,7 +124,8 @@ class Profiles(unittest.TestCase):
         for along, axis, length, breadth in (("x", 0, 128, 64), ("y", 1, 64, 128)):
             for bins in (None, 1, 8, 7, length):
                 found = profile(self.gas, along, bins)
-                for row, wanted in zip(found.rows, self.expected(axis, bins or length, length, breadth)):
+                expected = self.expected(axis, bins or length, length, breadth)
+                for row, wanted in zip(found.rows, expected):
                     self.assertEqual(row[:3] + row[4:], wanted[:3] + wanted[4:])
                     self.assertAlmostEqual(row[3], wanted[3])
                 self.assertEqual(len(found), bins or length)
@@ -146,7 +149,8 @@ class RandomGases(unittest.TestCase):
         one = list(random_gas(128, 64, 0.5, seed=1))
         self.assertEqual(one, list(random_gas(128, 64, 0.5, seed=1)))
         self.assertNotEqual(one, list(random_gas(128, 64, 0.5, seed=2)))
-        self.assertEqual([line.split(" ")[:2] for line in one], [["row", str(y)] for y in range(64)])
+        self.assertEqual([line.split(" ")[:2] for line in one],
+                         [["row", str(y)] for y in range(64)])
         self.assertEqual({len(line.split(" ")[2]) for line in one}, {32})
 
     def test_density_and_drift(self):
@@ -155,7 +159,8 @@ class RandomGases(unittest.TestCase):
             dx, dy = drift if isinstance(drift, tuple) else (drift, 0)
             tally = self.sums(density=density, drift=drift, seed=3)
             cells = 256 * 128
-            for found, mean in ((tally.count, density), (tally.px, density * dx), (tally.py, density * dy)):
+            means = ((tally.count, density), (tally.px, density * dx), (tally.py, density * dy))
+            for found, mean in means:
                 self.assertLess(abs(found - cells * mean), 5 * (cells * density) ** 0.5)
 
     def test_drift_at_an_odd_tick(self):

@@ -49,7 +49,8 @@ class Encoding(unittest.TestCase):
 
 
 class Cells(unittest.TestCase):
-    GAS = Snapshot(64, 64, 3, (Drain(10, 0, 2, 2),), (Source(20, 0, 3, 1, 5), Source(11, 1, 2, 1, 1)),
+    GAS = Snapshot(64, 64, 3, (Drain(10, 0, 2, 2),),
+                   (Source(20, 0, 3, 1, 5), Source(11, 1, 2, 1, 1)),
                    plane({(0, 0), (1, 0), (5, 0), (6, 0), (10, 0), (63, 63)}),
                    plane({(2, 0), (5, 0), (7, 0)}), plane({(3, 0), (6, 0), (7, 0)}))
 
@@ -97,7 +98,8 @@ class Cells(unittest.TestCase):
         self.assertEqual(picture_bytes([list(row) for row in bare.particles]), found)
         numpy = find_numpy()
         if numpy is not None:
-            self.assertEqual(picture_bytes(numpy.array([list(row) for row in bare.particles])), found)
+            array = numpy.array([list(row) for row in bare.particles])
+            self.assertEqual(picture_bytes(array), found)
 
     def test_a_notebook(self):
         self.assertEqual(self.GAS._repr_png_(), picture_bytes(self.GAS))
@@ -121,7 +123,8 @@ class Densities(unittest.TestCase):
     def test_counts(self):
         cells = {(x, y) for y in range(64) for x in range(64) if x % 8 < y // 8}
         for mean in (8, 16):
-            found = unpng.read(picture_bytes(Snapshot(64, 64, particle_bytes=plane(cells)), mean=mean))
+            gas = Snapshot(64, 64, particle_bytes=plane(cells))
+            found = unpng.read(picture_bytes(gas, mean=mean))
             self.assertEqual((found.width, found.height), (64 // mean, 64 // mean))
             for row in range(64 // mean):
                 count = sum((x, y) in cells for x in range(mean)

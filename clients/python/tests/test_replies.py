@@ -23,7 +23,8 @@ EACH = [
 
 STRANGE = [
     "", "OK", "OK ", "OK 1 2", "OK  1", "OK +1", "OK 01", "OK -0", "OK x", "ok 1", " OK 1", "OK 1 ",
-    "OK 1\r", "OK ١", "PROBE 1 2", "PROBE 1 2 3 4", "TALLY 1 2 3", "LEDGER 1 2 3 4 5 6 7 8 9 10 11 12",
+    "OK 1\r", "OK ١", "PROBE 1 2", "PROBE 1 2 3 4", "TALLY 1 2 3",
+    "LEDGER 1 2 3 4 5 6 7 8 9 10 11 12",
     "ROW", "ROW ", "ROW 0", "ROW 000000000000000G", "ROW 000000000000000F", "ROW 00000000000000000",
     "ROW 0000000000000000 ", "ENTRY 0", "ENTRY 0 ", "ENTRY x put", "ENTRY -1 put 0 0 1 1",
     "ENTRY 00 put", "ENTRY 100 put", "SAVED 1", "BYE 1", "BYE ", "ERR", "ERR 1", "ERR 1 word",
