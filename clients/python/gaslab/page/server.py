@@ -61,7 +61,13 @@ def _handler(looker: Looker) -> type[BaseHTTPRequestHandler]:
         def do_GET(self) -> None:
             found = self._found() if self._is_for_us() else None
             kind, body = found or ("text/plain", b"there is nothing here\n")
-            self.send_response(200 if found else 404)
+            try:
+                self._send(200 if found else 404, kind, body)
+            except ConnectionError:
+                self.close_connection = True  # the browser has left
+
+        def _send(self, status: int, kind: str, body: bytes) -> None:
+            self.send_response(status)
             self.send_header("Content-Type", f"{kind}; charset=utf-8")
             self.send_header("Content-Length", str(len(body)))
             self.send_header("Content-Security-Policy", _RULES)
