@@ -291,6 +291,11 @@ class Lab:
             ahead = min(2 * ahead, _AHEAD)
         return list(self._entries)
 
+    @property
+    def known(self) -> list[Entry]:
+        """The entries that were read so far. After `look` they are those that made this gas."""
+        return list(self._entries)
+
     def particles(self) -> Any:
         """The particles at one tick, as truth values of shape (height, width).
 

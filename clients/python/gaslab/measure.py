@@ -8,11 +8,11 @@ from typing import Optional, Union
 from .cells import column_counts, pack_row, rows_of, spread_row
 from .lab import Lab
 from .pictures import Gas, as_snapshot
-from .replies import Ledger
+from .replies import Ledger, Tally
 from .snapshot import Snapshot
 from .table import Table
 
-__all__ = ["every", "profile", "random_gas"]
+__all__ = ["every", "profile", "random_gas", "sums_of"]
 
 Rectangle = tuple[int, int, int, int]
 
@@ -82,6 +82,13 @@ def profile(gas: Gas, along: str = "x", bins: Optional[int] = None, tick: int = 
         count, px, py = (sum(line[part] for line in lines[first:last]) for part in range(3))
         rows.append([first, last, count, count / (last - first) / breadth, px, py])
     return Table(("from", "to", "count", "density", "px", "py"), rows)
+
+
+def sums_of(gas: Snapshot) -> Tally:
+    """The tick of a gas and its sums, as `tally` gives them."""
+    sums = _rows(gas)
+    count, px, py = (sum(line[part] for line in sums) for part in range(3))
+    return Tally(gas.tick, count, px, py)
 
 
 def _columns(gas: Snapshot) -> list[tuple[int, int, int]]:

@@ -9,6 +9,7 @@ from typing import Optional
 
 from .errors import Gone, Moving
 from .lab import Lab
+from .measure import sums_of
 from .options import add_address
 from .page import Page
 from .pictures import text_picture
@@ -66,8 +67,8 @@ def looks(lab: Lab, seconds: float, times: Optional[int]) -> Iterator[str]:
 
 def screen(lab: Lab, gas: Snapshot) -> str:
     """The gas, its sums and the last entries as text. What others typed has no control signs."""
-    tally = lab.tally()
-    entries = lab.journal()
+    tally = sums_of(gas)
+    entries = lab.known
     first = max(0, len(entries) - _LAST)
     lines = [f"{first + k}: seat {entry.seat}: {printable(entry.command)[:60]}"
              for k, entry in enumerate(entries[first:])]

@@ -46,7 +46,7 @@ class InABrowser(unittest.TestCase):
                              ["0", "1", "1", "-1"])
             self.assertEqual(browser.value(text("size")), "64 by 64")
             self.assertRegex(browser.value(text("took")),
-                             r"^The last look took [0-9.]+ ms in 1 short bursts, the longest ")
+                             r"^The last look took [0-9.]+ ms. It reads at most 64 rows at once; ")
             cells = '[...document.querySelectorAll("#entries td")].map((it) => it.textContent)'
             self.assertEqual(browser.value(cells), ["2", "3", MARKUP, "1", "4", "block 8 8 2 2",
                                                     "0", "0", "wall 0 9 64 1"])

@@ -119,7 +119,7 @@ class Pages(unittest.TestCase):
                          [64, 64, 0, 1, 1, -1])
         self.assertEqual(state["entries"], [{"k": 1, "seat": 5, "command": "put 0 3 1 1"},
                                             {"k": 0, "seat": 0, "command": "wall 0 9 64 1"}])
-        self.assertEqual((state["bursts"], state["status"], state["message"]), (1, "live", ""))
+        self.assertEqual((state["burst"], state["status"], state["message"]), (64, "live", ""))
         self.assertLessEqual(0, state["longest"])
         found = unpng.read(base64.b64decode(state["png"]))
         self.assertEqual((found.width, found.height), (64, 64))
@@ -138,6 +138,20 @@ class Pages(unittest.TestCase):
                 look = state["look"]
                 frame = unpng.read(base64.b64decode(state["png"])).frames[0]
                 self.assertEqual(frame[3].index(1), tick)
+
+    def test_a_step_right_behind_a_look_is_seen(self):
+        hall, asked = Hall(), []
+        answer = hall.answer
+
+        def answer_late(line):
+            if line.startswith("entry"):
+                asked.append(line)
+                if len(asked) == 4:  # the first after the first look
+                    hall.step()
+            return answer(line)
+        hall.answer = answer_late
+        with page_of(hall) as (page, _):
+            self.assertEqual(state_when(page, lambda state: state.get("tick") == 1)["look"], 2)
 
     def test_a_seen_picture_is_not_sent_again(self):
         with page_of(Hall()) as (page, _):

@@ -8,13 +8,13 @@ from typing import Any, Optional
 
 from ..errors import GaslabError, Moving
 from ..lab import Lab
-from ..measure import profile
+from ..measure import sums_of
 from ..pictures import picture_bytes
 from ..snapshot import Snapshot
 
 __all__ = ["Looker"]
 
-_LAST = 12  # entries that are shown
+_LAST = 8  # entries that are shown
 _BURST = 64  # rows that are read at once
 _WIDEST = 1024  # pixels
 _IDLE = 3.0  # seconds after which nobody looks at the page
@@ -68,19 +68,18 @@ class Looker:
             self._state.update(status=status, message=message)
 
     def _look(self) -> None:
-        entries = self.lab.journal()
-        if len(entries) == self._entries:
+        if len(self.lab.journal()) == self._entries:
             self._tell("live", "")
             return
         began = time.monotonic()
         gas = self.lab.look(tries=5, burst=_BURST)
         took = time.monotonic() - began
-        entries = self.lab.journal()
+        entries = self.lab.known
         png = picture_bytes(gas, mean=_mean_of(gas))
         state = {"status": "live", "message": "", "width": gas.width, "height": gas.height,
-                 "milliseconds": round(1000 * took, 1), "bursts": len(self.lab.bursts),
+                 "milliseconds": round(1000 * took, 1), "burst": _BURST,
                  "longest": round(1000 * max(self.lab.bursts, default=took), 1),
-                 "entries": _last(entries), **_sums(gas)}
+                 "entries": _last(entries), **sums_of(gas)._asdict()}
         with self._lock:
             self._state = {"look": self._state["look"] + 1, **state}
             self._png = png
@@ -93,13 +92,6 @@ def _mean_of(gas: Snapshot) -> Optional[int]:
     while max(gas.width, gas.height) // mean > _WIDEST:
         mean *= 2
     return mean if mean > 1 else None
-
-
-def _sums(gas: Snapshot) -> dict[str, int]:
-    """Tick, count and momentum of the gas that is shown, by its own particles."""
-    rows = profile(gas, along="y").rows
-    count, px, py = (sum(row[place] for row in rows) for place in (2, 4, 5))
-    return {"tick": gas.tick, "count": count, "px": px, "py": py}
 
 
 def _last(entries: list[Any]) -> list[dict[str, Any]]:

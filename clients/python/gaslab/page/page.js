@@ -6,8 +6,8 @@ let seen = 0;
 function showNumbers(state) {
   for (const name of ["tick", "count", "px", "py"]) at(name).textContent = String(state[name]);
   at("size").textContent = `${state.width} by ${state.height}`;
-  at("took").textContent = `The last look took ${state.milliseconds} ms in ${state.bursts} ` +
-    `short bursts, the longest ${state.longest} ms.`;
+  at("took").textContent = `The last look took ${state.milliseconds} ms. It reads at most ` +
+    `${state.burst} rows at once; the longest such burst took ${state.longest} ms.`;
 }
 
 function showEntries(entries) {
