@@ -27,8 +27,9 @@ class Door(Protocol):
 
 
 def default_program() -> Path:
-    """The script `gaslab` of the repository that this package is in."""
-    return Path(__file__).resolve().parents[3] / "gaslab"
+    """What GASLAB_PROGRAM names, or the script `gaslab` of the repository that this is in."""
+    named = os.environ.get("GASLAB_PROGRAM")
+    return Path(named) if named else Path(__file__).resolve().parents[3] / "gaslab"
 
 
 class Program:

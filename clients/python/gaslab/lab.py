@@ -59,11 +59,12 @@ class Lab:
     def run(cls, width: int = 64, height: int = 64, workers: int = 1, cap: int = 1024,
             load: Optional[PathLike] = None, save: Union[PathLike, bool, None] = None,
             program: Optional[PathLike] = None, timeout: float = 60.0) -> Lab:
-        """Starts the built program, `./gaslab` of this repository or `program`, for one session.
+        """Starts the built program for one session.
 
-        The options are the program's. `save` is a path, or True for a file of the client's own that
-        goes away with the laboratory; the whole gas is then read by snapshot. `timeout` is how many
-        seconds a reply may take.
+        It is `program`, or else what the variable GASLAB_PROGRAM of the environment names, or else
+        the script `gaslab` of this repository. The options are the program's. `save` is a path, or
+        True for a file of the client's own that goes away with the laboratory; the whole gas is
+        then read by snapshot. `timeout` is how many seconds a reply may take.
         """
         start = Snapshot.read(load) if load is not None else None
         door = Program(program, dict(width=width, height=height, workers=workers, cap=cap,

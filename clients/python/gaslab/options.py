@@ -26,7 +26,7 @@ def add_sources(parser: argparse.ArgumentParser) -> None:
     group.add_argument("--cap", type=int, default=65536, help="changes there is room for (65536)")
     group.add_argument("--load", metavar="PATH", help="the snapshot to start from")
     group.add_argument("--save", metavar="PATH", help="where the command save writes")
-    group.add_argument("--program", metavar="PATH", help="the program (./gaslab of this clone)")
+    group.add_argument("--program", metavar="PATH", help="the program (./gaslab)")
     group.add_argument("--timeout", type=float, default=60.0, help="seconds for a reply (60)")
 
 
