@@ -11,7 +11,7 @@ Number = Union[int, float]
 
 _COLOURS = ("#0072b2", "#d55e00", "#009e73", "#cc79a7", "#e69f00", "#000000")
 _WIDTH, _HEIGHT = 640, 360
-_LEFT, _RIGHT, _TOP, _BOTTOM = 70, 20, 20, 45
+_LEFT, _RIGHT, _TOP, _BOTTOM = 70, 20, 40, 45
 
 
 def chart_text(x_name: str, x: Sequence[Number], lines: Mapping[str, Sequence[Number]]) -> str:
@@ -27,7 +27,7 @@ def chart_text(x_name: str, x: Sequence[Number], lines: Mapping[str, Sequence[Nu
     parts += _axes(across, upwards, x_name)
     for number, (name, line) in enumerate(lines.items()):
         parts += _line(across, upwards, x, line, _COLOURS[number % len(_COLOURS)])
-        parts.append(f'<text x="{_LEFT + 12}" y="{_TOP + 14 + 18 * number}" '
+        parts.append(f'<text x="{_LEFT + 180 * (number % 3)}" y="{16 + 15 * (number // 3)}" '
                      f'fill="{_COLOURS[number % len(_COLOURS)]}">{escape(name)}</text>')
     return "\n".join((*parts, "</svg>\n"))
 

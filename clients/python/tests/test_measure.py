@@ -89,8 +89,8 @@ class Charts(unittest.TestCase):
         text = chart_text("t<", [0, 50, 100], {"a&b": [0, 5, 10], "c": [10, 10, 10]})
         root = xml.etree.ElementTree.fromstring(text)
         lines = [it.get("points") for it in root if it.tag.endswith("polyline")]
-        self.assertEqual(lines, ["70.0,315.0 345.0,167.5 620.0,20.0",
-                                 "70.0,20.0 345.0,20.0 620.0,20.0"])
+        self.assertEqual(lines, ["70.0,315.0 345.0,177.5 620.0,40.0",
+                                 "70.0,40.0 345.0,40.0 620.0,40.0"])
         texts = [it.text for it in root if it.tag.endswith("text")]
         self.assertEqual(texts[0], "t<")
         self.assertIn("a&b", texts)
