@@ -99,7 +99,8 @@ def parser() -> argparse.ArgumentParser:
     """The parser of the command line."""
     whole = argparse.ArgumentParser(
         prog="python3 -m gaslab", description="A client for gaslab. It proves nothing: what is "
-        "proved is the program that it talks to.")
+        "proved is the program that it talks to.", epilog="At the top of the repository, "
+        "python3 clients/python WORD does the same.")
     words_of = whole.add_subparsers(dest="word", metavar="WORD", required=True)
     for name, (run, fill, what, example) in WORDS.items():
         part = words_of.add_parser(name, help=what, description=what[0].upper() + what[1:] + ".",
