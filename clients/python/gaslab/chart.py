@@ -40,6 +40,7 @@ class _Axis:
         self.start, self.end = start, end
 
     def place(self, value: Number) -> float:
+        """The pixel of a value."""
         share = (value - self.low) / (self.high - self.low)
         return round(self.start + share * (self.end - self.start), 1)
 

@@ -2,6 +2,7 @@
 from __future__ import annotations
 
 import os
+import signal
 import socket
 import subprocess
 import tempfile
@@ -26,10 +27,21 @@ class Door(Protocol):
         """Hangs up, without waiting for what is under way unless `polite`."""
 
 
+_ROOT = Path(__file__).resolve().parents[3]
+_BUILT = _ROOT / "crates" / "gaslab_program" / "out" / "gaslab_program"
+
+
 def default_program() -> Path:
-    """What GASLAB_PROGRAM names, or the script `gaslab` of the repository that this is in."""
+    """What GASLAB_PROGRAM names, or the script `gaslab` of the repository that this is in.
+
+    Raises `Unreachable` if that has not been built.
+    """
     named = os.environ.get("GASLAB_PROGRAM")
-    return Path(named) if named else Path(__file__).resolve().parents[3] / "gaslab"
+    if named:
+        return Path(named)
+    if not _BUILT.exists():
+        raise Unreachable("the program is not built: ./gaslab --build makes it")
+    return _ROOT / "gaslab"
 
 
 class Program:
@@ -50,7 +62,8 @@ class Program:
                 words += [f"--{name}", os.fspath(value) if name in ("load", "save") else str(value)]
         try:
             self._process = subprocess.Popen(words, stdin=subprocess.PIPE, stdout=subprocess.PIPE,
-                                             stderr=self._said, bufsize=0)
+                                             stderr=self._said, bufsize=0,
+                                             start_new_session=True)
         except OSError as fault:
             self._said.close()
             self._room.cleanup()
@@ -85,7 +98,7 @@ class Program:
         try:
             self._process.wait(_PATIENCE if polite else 0.1)
         except subprocess.TimeoutExpired:
-            self._process.kill()
+            os.killpg(self._process.pid, signal.SIGKILL)  # it and what it has started
             self._process.wait()
         self._said.close()
         self._room.cleanup()
@@ -102,10 +115,19 @@ class Server:
             raise Unreachable(f"no server at {self.address}: {fault}") from fault
         self._socket.setsockopt(socket.IPPROTO_TCP, socket.TCP_NODELAY, 1)
         number = self._socket.fileno()
-        self.link = Link(number, number, timeout, self._why)
+        self.link = Link(number, number, timeout, self._why, self._acknowledge)
+        self._acknowledge()
 
     def __str__(self) -> str:
         return self.address
+
+    def _acknowledge(self) -> None:
+        """Lets the system acknowledge at once what comes, where it can.
+
+        The server waits for that before it sends its next reply: 40 milliseconds otherwise.
+        """
+        if hasattr(socket, "TCP_QUICKACK"):
+            self._socket.setsockopt(socket.IPPROTO_TCP, socket.TCP_QUICKACK, 1)
 
     def _why(self, is_silent: bool) -> str:
         if is_silent:

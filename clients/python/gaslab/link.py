@@ -36,11 +36,13 @@ class Link:
 
     `timeout` is in seconds: how long the other side may stay silent while a reply is due. `why`
     returns what else is known when it stays silent (True) or hangs up (False), or an empty text.
+    `has_read` is called after each read.
     """
 
-    def __init__(self, source: int, sink: int, timeout: float, why: Callable[[bool], str]) -> None:
+    def __init__(self, source: int, sink: int, timeout: float, why: Callable[[bool], str],
+                 has_read: Callable[[], None] = lambda: None) -> None:
         self.timeout = timeout
-        self._source, self._sink, self._why = source, sink, why
+        self._source, self._sink, self._why, self._has_read = source, sink, why, has_read
         self._lines = Lines()
         self._unsent = bytearray()
         self._at_end = False
@@ -98,6 +100,7 @@ class Link:
             self._at_end = True
             raise Gone(f"the connection broke: {fault}" + self._because(False)) from fault
         self._at_end = not data
+        self._has_read()
         self._lines.feed(data)
         return len(data)
 

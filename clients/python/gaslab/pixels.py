@@ -1,11 +1,12 @@
 """Gases as rows of indices into a palette, one byte for each pixel."""
 from __future__ import annotations
 
-from collections.abc import Iterator
+from collections.abc import Iterator, Sequence
+from typing import Union
 
 from . import palette
 from .cells import column_counts, rows_of, spread_row
-from .snapshot import Snapshot
+from .snapshot import Drain, Snapshot, Source
 
 __all__ = ["COLOURS", "cell_pixels", "check_colour", "check_mean", "density_pixels"]
 
@@ -69,7 +70,9 @@ def cell_pixels(gas: Snapshot, colour: str = "kind") -> Iterator[bytes]:
 def _ports_in_row(gas: Snapshot, y: int) -> int:
     """The bits of sources and drains in a row, a byte for each cell."""
     code = 0
-    for ports, bit in ((gas.sources, _SOURCE), (gas.drains, _DRAIN)):
+    kinds: tuple[tuple[Sequence[Union[Drain, Source]], int], ...] = (
+        (gas.sources, _SOURCE), (gas.drains, _DRAIN))
+    for ports, bit in kinds:
         for port in ports:
             if port.y <= y < port.y + port.h:
                 ones = int.from_bytes(bytes([bit]) * port.w, "big")

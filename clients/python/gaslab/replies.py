@@ -2,7 +2,7 @@
 from __future__ import annotations
 
 import re
-from typing import NamedTuple, Union
+from typing import Any, NamedTuple, Union
 
 from .cells import spread_row
 from .errors import REFUSALS, Refused, Strange
@@ -14,13 +14,13 @@ __all__ = ["Bye", "Entry", "Ledger", "Ok", "Probe", "Reply", "Row", "Saved", "Ta
 class Ok(NamedTuple):
     """A change was made. `index` is its place in the journal, from 0."""
 
-    index: int
+    index: int  # type: ignore[assignment]
 
 
 class Probe(NamedTuple):
     """Sums in a rectangle: particles, and their momentum to the right and downwards."""
 
-    count: int
+    count: int  # type: ignore[assignment]
     px: int
     py: int
 
@@ -29,7 +29,7 @@ class Tally(NamedTuple):
     """The tick, and the sums of the whole gas."""
 
     tick: int
-    count: int
+    count: int  # type: ignore[assignment]
     px: int
     py: int
 
@@ -83,8 +83,8 @@ class Bye(NamedTuple):
 
 Reply = Union[Ok, Probe, Tally, Ledger, Row, Entry, Saved, Bye, Refused]
 
-_NUMBERS: dict[str, type] = {"OK": Ok, "PROBE": Probe, "TALLY": Tally, "LEDGER": Ledger,
-                             "SAVED": Saved, "BYE": Bye}
+_NUMBERS: dict[str, Any] = {"OK": Ok, "PROBE": Probe, "TALLY": Tally, "LEDGER": Ledger,
+                            "SAVED": Saved, "BYE": Bye}
 _WORDS = {kind: word for word, kind in _NUMBERS.items()}
 _NUMBER = re.compile(r"0|-?[1-9][0-9]*", re.ASCII)
 _ROW = re.compile(r"(?:[0-9a-f]{16})+")
@@ -114,7 +114,7 @@ def parse_reply(text: str, asked: str) -> Reply:
     return reply
 
 
-def _numbers(kind: type, words: list[str]) -> Reply | None:
+def _numbers(kind: Any, words: list[str]) -> Reply | None:
     if len(words) == len(kind._fields) and all(map(_NUMBER.fullmatch, words)):
         return kind(*map(int, words))
     return None

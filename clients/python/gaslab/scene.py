@@ -50,10 +50,10 @@ class Scene:
 
     def snapshot(self, tick: int, particles: bytes) -> Snapshot:
         """The gas with these particles, a packed plane, at this tick."""
-        planes = [b"".join(row.to_bytes(self.width // 8, "big") for row in rows)
-                  for rows in (self.walls, self.obstacles)]
+        walls, obstacles = (b"".join(row.to_bytes(self.width // 8, "big") for row in rows)
+                            for rows in (self.walls, self.obstacles))
         return Snapshot(self.width, self.height, tick, tuple(self.drains), tuple(self.sources),
-                        particles, *planes)
+                        particles, walls, obstacles)
 
 
 def _rows(plane: bytes, width: int) -> list[int]:

@@ -170,6 +170,7 @@ class _Reader:
         self.at = 0
 
     def take(self, size: int, what: str) -> bytes:
+        """The next bytes."""
         part = self.data[self.at:self.at + size]
         if len(part) < size:
             raise ShortFault(f"{what} needs {size} bytes, and {len(part)} are there")
@@ -177,6 +178,7 @@ class _Reader:
         return part
 
     def snapshot(self) -> Snapshot:
+        """All fields."""
         version = _MAGICS.get(self.take(8, "the magic"))
         if version is None:
             raise MagicFault(f"a snapshot does not begin with {self.data[:8]!r}")
@@ -189,13 +191,14 @@ class _Reader:
             raise TickFault(f"{tick} is not from -2^40 to 2^40")
         drains, sources = self.ports(width, height)
         size = width * height // 8
-        planes = [self.take(size, "the plane of " + what)
-                  for what in ("particles", "walls", "obstacles")[:version + 1]]
+        particles, walls = (self.take(size, f"the plane of {it}") for it in ("particles", "walls"))
+        obstacles = self.take(size, "the plane of obstacles") if version == 2 else b""
         if self.at < len(self.data):
             raise TrailingFault(f"{len(self.data) - self.at} bytes after the last field")
-        return Snapshot(width, height, tick, drains, sources, *planes, version=version)
+        return Snapshot(width, height, tick, drains, sources, particles, walls, obstacles, version)
 
     def ports(self, width: int, height: int) -> tuple[tuple[Drain, ...], tuple[Source, ...]]:
+        """The counts of ports, the drains and the sources."""
         drains, sources = self.take(2, "the counts of ports")
         if drains > MOST_PORTS or sources > MOST_PORTS:
             raise PortFault(f"{drains} drains and {sources} sources: at most 16 of each")
@@ -203,6 +206,7 @@ class _Reader:
                 tuple(self.port(Source, ">5H", width, height) for _ in range(sources)))
 
     def port(self, kind: type, form: str, width: int, height: int) -> Any:
+        """A drain or a source."""
         port = kind(*struct.unpack(form, self.take(struct.calcsize(form), "a port")))
         is_inside = port.w and port.h and port.x + port.w <= width and port.y + port.h <= height
         if not is_inside or 0 in port[4:]:

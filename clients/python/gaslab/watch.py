@@ -26,7 +26,7 @@ _CLEAR = "\x1b[H\x1b[2J"
 def fill(parser: argparse.ArgumentParser) -> None:
     """The options of `watch`."""
     add_address(parser)
-    parser.add_argument("--seconds", type=float, default=0.5, help="between two looks (0.5)")
+    parser.add_argument("--seconds", type=float, default=0.25, help="between two looks (0.25)")
     parser.add_argument("--times", type=int, help="how many looks (until the server ends)")
     parser.add_argument("--page", action="store_true",
                         help="a page on 127.0.0.1 instead, for a browser on this machine")

@@ -62,10 +62,11 @@ def table(asked: argparse.Namespace) -> int:
     probes = {}
     for text in asked.probe:
         name, _, area = text.partition("=")
-        numbers = tuple(map(int, area.split(",")))
+        numbers = [int(number) for number in area.split(",")]
         if not name or len(numbers) != 4:
             raise ValueError(f"--probe takes NAME=x,y,w,h, and not {text}")
-        probes[name] = numbers
+        x, y, w, h = numbers
+        probes[name] = (x, y, w, h)
     with lab_of(asked) as lab:
         found = every(lab, asked.steps, asked.times, not asked.no_ledger, probes)
     print(found.csv(), end="")

@@ -6,6 +6,7 @@ import threading
 import time
 import unittest
 from pathlib import Path
+from unittest import mock
 
 from gaslab import (Bye, Drain, Entry, Gone, Lab, Ledger, Moving, Ok, Probe, REFUSALS, Refused, Row,
                     Saved, Silent, Source, Strange, Tally, Unreachable)
@@ -217,6 +218,25 @@ class OtherSides(unittest.TestCase):
     def test_no_program(self):
         with self.assertRaisesRegex(Unreachable, "./gaslab --build makes it"):
             Lab.run(program="/no/such/program")
+
+    def test_a_program_that_is_not_built(self):
+        with tempfile.TemporaryDirectory() as room, mock.patch.dict(os.environ):
+            os.environ.pop("GASLAB_PROGRAM", None)
+            with mock.patch("gaslab.doors._BUILT", Path(room, "nothing")):
+                with self.assertRaisesRegex(Unreachable, "not built: ./gaslab --build makes it"):
+                    Lab.run()
+            os.environ["GASLAB_PROGRAM"] = str(STAND_IN)
+            with Lab.run() as lab:
+                self.assertEqual(lab.tally(), Tally(0, 0, 0, 0))
+
+    def test_nothing_that_a_program_started_is_left(self):
+        with tempfile.TemporaryDirectory() as room:
+            program, mark = Path(room, "program"), Path(room, "mark")
+            program.write_text(f"#!/bin/sh\n(sleep 1; touch {mark}) &\nwait\n")
+            program.chmod(0o755)
+            self.assertRaises(Silent, Lab.run, program=program, timeout=0.2)
+            time.sleep(1.5)
+            self.assertFalse(mark.exists())
 
     def test_a_program_that_says_why(self):
         with tempfile.TemporaryDirectory() as room:

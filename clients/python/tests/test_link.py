@@ -83,10 +83,10 @@ class OtherSides(unittest.TestCase):
             self.assertEqual(pair.link.next_line(), "PROBE 12 0 0")
 
     def test_slow_but_not_silent(self):
-        with Pair(0.5) as pair:
+        with Pair(1.0) as pair:
             def drip():
                 for byte in b"TALLY 0 0\n":
-                    time.sleep(0.1)
+                    time.sleep(0.15)
                     pair.other.sendall(bytes([byte]))
             thread = threading.Thread(target=drip)
             thread.start()
