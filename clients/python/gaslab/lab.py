@@ -104,18 +104,27 @@ class Lab:
         return self.look()._repr_png_()
 
     def close(self, polite: bool = True) -> None:
-        """Ends the session, after all lines that were sent. Without `polite` it only hangs up."""
+        """Ends the session, after all lines that were sent. Without `polite` it only hangs up.
+
+        Raises `Gone` or `Silent` if lines that were sent get no answer.
+        """
         if self.is_closed:
             return
-        self._door.link.timeout = min(self._door.link.timeout, _LAST_WAIT)
         try:
             if polite:
-                self.quit()
-        except GaslabError:
-            pass
+                self._finish()
+                self._part()
         finally:
             self.is_closed = True
             self._door.close(polite)
+
+    def _part(self) -> None:
+        """Says `quit`, if somebody still listens."""
+        self._door.link.timeout = min(self._door.link.timeout, _LAST_WAIT)
+        try:
+            self.quit()
+        except GaslabError:
+            pass
 
     # One line, or many.
 

@@ -103,11 +103,11 @@ def serve(laboratory, asked):
 
 
 def serve_one(laboratory, seat, connection):
-    with connection, connection.makefile("r") as lines, connection.makefile("w") as out:
-        try:
+    try:
+        with connection, connection.makefile("r") as lines, connection.makefile("w") as out:
             laboratory.session(seat, lines, out)
-        except OSError:
-            pass
+    except OSError:
+        pass
 
 
 def main():

@@ -144,6 +144,22 @@ class Sending(unittest.TestCase):
                 lab.send(["step 7"] * 50000)
             self.assertEqual((len(fake.lines), fake.lines[-1]), (50002, "quit"))
 
+    def test_slow_lines_that_nobody_read_are_waited_for(self):
+        def answer(line):
+            time.sleep(0.3 if line == "step 7" else 0)
+            return typical(line)
+        with Fake(answer) as fake, mock.patch("gaslab.lab._LAST_WAIT", 0.05):
+            with joined(fake) as lab:
+                lab.send(["step 7", "step 7"])
+            self.assertEqual(fake.lines, ["tally", "step 7", "step 7", "quit"])
+
+    def test_lines_that_nobody_read_and_nobody_answered(self):
+        with Fake(lambda line: None if line == "unport" else typical(line)) as fake:
+            with self.assertRaisesRegex(Gone, "2 lines have no answer"):
+                with joined(fake) as lab:
+                    lab.send(["step 7", "unport", "step 7"])
+            self.assertTrue(lab.is_closed)
+
     def test_lines_that_ask_the_laboratory(self):
         with Fake() as fake, joined(fake) as lab:
             with self.assertRaisesRegex(RuntimeError, "ask the laboratory themselves"):
