@@ -7,7 +7,7 @@ import time
 from collections.abc import Iterator
 from typing import Optional
 
-from .errors import Gone, Moving
+from .errors import Gone, Moving, Silent
 from .lab import Lab
 from .measure import sums_of
 from .options import add_address
@@ -59,6 +59,8 @@ def looks(lab: Lab, seconds: float, times: Optional[int]) -> Iterator[str]:
             yield screen(lab, lab.look(tries=5))
         except Moving:
             yield "others change the gas all the time: no look was of one tick"
+        except Silent:
+            yield "the server does not answer"
         except Gone:
             yield "the server has ended"
             return

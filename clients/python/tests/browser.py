@@ -13,7 +13,7 @@ import time
 from typing import Any
 
 CHROMIUM = shutil.which("chromium")
-_PATIENCE = 60.0  # seconds
+_PATIENCE = 120.0  # seconds
 
 
 class Browser:

@@ -51,9 +51,9 @@ class Hall:
 
 
 @contextlib.contextmanager
-def page_of(hall, seconds=0.02):
+def page_of(hall, seconds=0.02, timeout=60):
     """A page that is kept up to date by a thread, and the fake server that it watches."""
-    with Fake(hall.answer) as fake, Lab.join("127.0.0.1", fake.port) as lab:
+    with Fake(hall.answer) as fake, Lab.join("127.0.0.1", fake.port, timeout) as lab:
         with Page(lab, seconds=seconds) as page:
             thread = threading.Thread(target=page.watch)
             thread.start()
@@ -178,9 +178,36 @@ class Pages(unittest.TestCase):
             state_when(page, lambda state: state["look"] > 0)
             hall.has_ended = True
             state = state_when(page, lambda state: state["status"] == "ended")
-            self.assertIn("The server has ended: this is the last look.", state["message"])
+            self.assertEqual(state["message"], "The server has ended: this is the last look.")
             self.assertEqual((state["tick"], "png" in state), (0, True))
             self.assertEqual(get(page.address)[1], (FILES / "page.html").read_bytes())
+
+    def test_a_server_that_is_silent_for_a_while(self):
+        hall, may_answer = Hall(), threading.Event()
+        may_answer.set()
+        answer = hall.answer
+
+        def answer_late(line):
+            may_answer.wait()
+            return answer(line)
+        hall.answer = answer_late
+        with page_of(hall, timeout=0.3) as (page, _):
+            state_when(page, lambda state: state["look"] > 0)
+            may_answer.clear()
+            state = state_when(page, lambda state: state["status"] == "silent")
+            self.assertEqual(state["message"], "The server does not answer: this is an older look.")
+            hall.step()
+            may_answer.set()
+            state = state_when(page, lambda state: state.get("tick") == 1)
+            self.assertEqual((state["status"], state["message"]), ("live", ""))
+
+    def test_a_server_that_is_no_laboratory(self):
+        hall = Hall()
+        with page_of(hall) as (page, _):
+            state_when(page, lambda state: state["look"] > 0)
+            hall.entries.append("x")
+            state = state_when(page, lambda state: state["status"] == "ended")
+            self.assertIn("The server cannot be read", state["message"])
 
     def test_files_and_rules(self):
         with page_of(Hall()) as (page, _):

@@ -6,7 +6,7 @@ import threading
 import time
 from typing import Any, Optional
 
-from ..errors import GaslabError, Moving
+from ..errors import GaslabError, Gone, Moving, Silent
 from ..lab import Lab
 from ..measure import sums_of
 from ..pictures import picture_bytes
@@ -48,20 +48,27 @@ class Looker:
             return state
 
     def keep_looking(self) -> None:
-        """Looks until it is stopped. A server that ends is said on the page."""
+        """Looks until it is stopped. The page says it if the server is silent or ends."""
         while not self.has_stopped.is_set():
             began = time.monotonic()
             if began - self._asked_at < _IDLE:
-                try:
-                    self._look()
-                except Moving:
-                    self._tell("moving", "Others change the gas all the time: this is an older "
-                                         "look.")
-                except (GaslabError, OSError) as fault:
-                    self._tell("ended", f"The server has ended: this is the last look. {fault}")
-                    self.has_stopped.wait()
+                self._try_to_look()
             took = time.monotonic() - began
             self.has_stopped.wait(max(self.seconds - took, _SHARE * took, 0.02))
+
+    def _try_to_look(self) -> None:
+        try:
+            self._look()
+        except Moving:
+            self._tell("moving", "Others change the gas all the time: this is an older look.")
+        except Silent:
+            self._tell("silent", "The server does not answer: this is an older look.")
+        except Gone:
+            self._tell("ended", "The server has ended: this is the last look.")
+            self.has_stopped.wait()
+        except (GaslabError, OSError) as fault:
+            self._tell("ended", f"The server cannot be read: this is the last look. {fault}")
+            self.has_stopped.wait()
 
     def _tell(self, status: str, message: str) -> None:
         with self._lock:
