@@ -1,0 +1,82 @@
+"""What can go wrong. Each kind has a class of its own, and all are a `GaslabError`."""
+from __future__ import annotations
+
+__all__ = ["GaslabError", "Gone", "LIMITS", "Moving", "REFUSALS", "Refused", "Silent", "Strange",
+           "Unreachable"]
+
+REFUSALS: dict[int, str] = {
+    1: "line", 2: "word", 3: "count", 4: "number", 5: "rect", 6: "steps", 7: "period", 8: "row",
+    9: "entry", 10: "full", 11: "ports", 12: "tick", 13: "journal", 14: "memory", 15: "save",
+}
+"""The number of each refusal, and its word."""
+
+LIMITS: dict[int, str] = {
+    1: "a line is UTF-8 and has at most 2,048 bytes; the session has ended",
+    2: "the first word of a line names a command",
+    3: "each command has its own number of words",
+    4: "a number has 1 to 10 decimal digits and is at most 4,294,967,295",
+    5: "a rectangle has at least one cell and lies inside the lattice, and so does a row",
+    6: "one command makes 1 to 4,096 steps",
+    7: "a source's period is 1 to 65,535",
+    8: "a row has exactly width/4 hexadecimal digits",
+    9: "the journal has no such entry yet",
+    10: "there are at most 16 sources and at most 16 drains",
+    11: "there is no way back while a source or a drain exists",
+    12: "the tick stays from -2^40 to 2^40",
+    13: "the journal is full: --cap says how many changes it has room for",
+    14: "memory ran out",
+    15: "the program saves only with --save, and only where it can write",
+}
+"""The limit that each refusal stands for, in words."""
+
+
+class GaslabError(Exception):
+    """Anything that this package raises by itself, but for wrong arguments."""
+
+
+class Refused(GaslabError):
+    """The laboratory refused a line and is as it was before.
+
+    `number` and `word` are those of the reply, `line` is what was asked, and `limit` says in words
+    which limit the line broke.
+    """
+
+    def __init__(self, number: int, word: str, line: str) -> None:
+        self.number = number
+        self.word = word
+        self.line = line
+        self.limit = LIMITS[number]
+        shown = line if len(line) <= 60 else line[:57] + "..."
+        super().__init__(f"ERR {number} {word}: {self.limit}; asked: {shown}")
+
+    def __eq__(self, other: object) -> bool:
+        return isinstance(other, Refused) and self._parts() == other._parts()
+
+    def __hash__(self) -> int:
+        return hash(self._parts())
+
+    def __reduce__(self) -> tuple[type, tuple[int, str, str]]:
+        return Refused, self._parts()
+
+    def _parts(self) -> tuple[int, str, str]:
+        return self.number, self.word, self.line
+
+
+class Unreachable(GaslabError, ConnectionError):
+    """There is no program to start, or no server at the address."""
+
+
+class Gone(GaslabError, ConnectionError):
+    """The other side ended before it had answered."""
+
+
+class Silent(GaslabError, TimeoutError):
+    """No reply came within the timeout: the server may be full, or busy with a long step."""
+
+
+class Strange(GaslabError):
+    """The reply is none that a laboratory gives."""
+
+
+class Moving(GaslabError):
+    """The gas was changed during each attempt to read it whole."""

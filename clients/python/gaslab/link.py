@@ -1,0 +1,122 @@
+"""Lines out and lines in, over a pipe or a socket, without a deadlock and with a timeout."""
+from __future__ import annotations
+
+import os
+import select
+import time
+from collections import deque
+from collections.abc import Callable
+
+from .errors import Gone, Silent, Strange
+
+__all__ = ["LINE_LIMIT", "Lines", "Link"]
+
+LINE_LIMIT = 2048
+"""The most bytes that a line or a reply has, its newline not counted."""
+_CHUNK = 65536
+
+
+class Lines:
+    """Cuts bytes, however they arrive, into lines."""
+
+    def __init__(self) -> None:
+        self.whole: deque[bytes] = deque()
+        self.rest = b""
+
+    def feed(self, data: bytes) -> None:
+        """Takes the next bytes. Raises `Strange` if a line is longer than any reply."""
+        *lines, self.rest = (self.rest + data).split(b"\n")
+        self.whole.extend(lines)
+        if len(self.rest) > LINE_LIMIT or any(len(line) > LINE_LIMIT for line in lines):
+            raise Strange(f"no reply of a laboratory: it has more than {LINE_LIMIT} bytes")
+
+
+class Link:
+    """Two descriptors, both made non-blocking: `source` is read and `sink` is written.
+
+    `timeout` is in seconds: how long the other side may stay silent while a reply is due. `why`
+    returns what else is known when it stays silent (True) or hangs up (False), or an empty text.
+    `has_read` is called after each read.
+    """
+
+    def __init__(self, source: int, sink: int, timeout: float, why: Callable[[bool], str],
+                 has_read: Callable[[], None] = lambda: None) -> None:
+        self.timeout = timeout
+        self._source, self._sink, self._why, self._has_read = source, sink, why, has_read
+        self._lines = Lines()
+        self._unsent = bytearray()
+        self._at_end = False
+        os.set_blocking(source, False)
+        os.set_blocking(sink, False)
+
+    @property
+    def unsent(self) -> int:
+        """How many bytes wait to be written."""
+        return len(self._unsent)
+
+    def push(self, line: str) -> None:
+        """Queues a line. It is written while the next reply is waited for, or by `flush`."""
+        self._unsent += line.encode() + b"\n"
+
+    def flush(self) -> None:
+        """Writes what can be written at once, and reads nothing."""
+        if self._unsent:
+            self._write()
+
+    def next_line(self, refill: Callable[[], None] = lambda: None) -> str:
+        """The next line that arrives. `refill` is called on the way, to queue more lines.
+
+        Raises `Gone` if the other side ends first, and `Silent` after the timeout.
+        """
+        deadline = time.monotonic() + self.timeout
+        while not self._lines.whole:
+            if self._at_end:
+                raise Gone("the other side left without an answer" + self._because(False))
+            refill()
+            if self._pump(deadline):
+                deadline = time.monotonic() + self.timeout
+        line = self._lines.whole.popleft()
+        try:
+            return line.decode()
+        except UnicodeDecodeError:
+            raise Strange(f"no reply of a laboratory: {line[:80]!r}") from None
+
+    def _pump(self, deadline: float) -> bool:
+        """Waits until something can be read or written, and does it. True if bytes moved."""
+        sinks = [self._sink] if self._unsent else []
+        left = max(0.0, deadline - time.monotonic())
+        readable, writable, _ = select.select([self._source], sinks, [], left)
+        if not readable and not writable:
+            raise Silent(f"no answer for {self.timeout:g} seconds" + self._because(True))
+        moved = self._write() if writable else 0
+        return (self._read() if readable else 0) + moved > 0
+
+    def _read(self) -> int:
+        try:
+            data = os.read(self._source, _CHUNK)
+        except BlockingIOError:
+            return 0
+        except OSError as fault:
+            self._at_end = True
+            raise Gone(f"the connection broke: {fault}" + self._because(False)) from fault
+        self._at_end = not data
+        self._has_read()
+        self._lines.feed(data)
+        return len(data)
+
+    def _write(self) -> int:
+        """Writes some of what is queued. What a closed side no longer reads is dropped."""
+        try:
+            count = os.write(self._sink, self._unsent[:_CHUNK])
+        except BlockingIOError:
+            return 0
+        except OSError:
+            count = len(self._unsent)
+        del self._unsent[:count]
+        return count
+
+    def _because(self, is_silent: bool) -> str:
+        why = self._why(is_silent)
+        if self._lines.rest:
+            why = f"in the middle of a reply, {bytes(self._lines.rest[:40])!r}; {why}"
+        return f": {why}" if why else ""

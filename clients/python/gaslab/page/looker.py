@@ -1,0 +1,107 @@
+"""Looks at a gas again and again, and keeps the last look for the page."""
+from __future__ import annotations
+
+import base64
+import threading
+import time
+from typing import Any, Optional
+
+from ..errors import GaslabError, Gone, Moving, Silent
+from ..lab import Lab
+from ..measure import sums_of
+from ..pictures import picture_bytes
+from ..snapshot import Snapshot
+
+__all__ = ["Looker"]
+
+_LAST = 8  # entries that are shown
+_BURST = 64  # rows that are read at once
+_WIDEST = 1024  # pixels
+_IDLE = 3.0  # seconds after which nobody looks at the page
+_SHARE = 4  # a look is followed by a pause at least so many times as long
+
+
+class Looker:
+    """The last look at a gas, as what the page shows.
+
+    Only `keep_looking` asks the laboratory, in one thread. `state` may be called by any. While no
+    page has asked for a few seconds, and while the journal does not grow, no row is read.
+    """
+
+    def __init__(self, lab: Lab, seconds: float) -> None:
+        self.lab = lab
+        self.seconds = seconds
+        self.has_stopped = threading.Event()
+        self._lock = threading.Lock()
+        self._asked_at = time.monotonic()
+        self._state: dict[str, Any] = {"look": 0, "status": "waiting", "message": ""}
+        self._png = b""
+        self._entries = -1
+
+    def state(self, since: int) -> dict[str, Any]:
+        """What the page shows. The picture is with it if the page has not seen this look."""
+        with self._lock:
+            self._asked_at = time.monotonic()
+            state = dict(self._state)
+            if state["look"] > since:
+                state["png"] = base64.b64encode(self._png).decode("ascii")
+            return state
+
+    def keep_looking(self) -> None:
+        """Looks until it is stopped. The page says it if the server is silent or ends."""
+        while not self.has_stopped.is_set():
+            began = time.monotonic()
+            if began - self._asked_at < _IDLE:
+                self._try_to_look()
+            took = time.monotonic() - began
+            self.has_stopped.wait(max(self.seconds - took, _SHARE * took, 0.02))
+
+    def _try_to_look(self) -> None:
+        try:
+            self._look()
+        except Moving:
+            self._tell("moving", "Others change the gas all the time: this is an older look.")
+        except Silent:
+            self._tell("silent", "The server does not answer: this is an older look.")
+        except Gone:
+            self._tell("ended", "The server has ended: this is the last look.")
+            self.has_stopped.wait()
+        except (GaslabError, OSError) as fault:
+            self._tell("ended", f"The server cannot be read: this is the last look. {fault}")
+            self.has_stopped.wait()
+
+    def _tell(self, status: str, message: str) -> None:
+        with self._lock:
+            self._state.update(status=status, message=message)
+
+    def _look(self) -> None:
+        if len(self.lab.journal()) == self._entries:
+            self._tell("live", "")
+            return
+        began = time.monotonic()
+        gas = self.lab.look(tries=5, burst=_BURST)
+        took = time.monotonic() - began
+        entries = self.lab.known
+        png = picture_bytes(gas, mean=_mean_of(gas))
+        state = {"status": "live", "message": "", "width": gas.width, "height": gas.height,
+                 "milliseconds": round(1000 * took, 1), "burst": _BURST,
+                 "longest": round(1000 * max(self.lab.bursts, default=took), 1),
+                 "entries": _last(entries), **sums_of(gas)._asdict()}
+        with self._lock:
+            self._state = {"look": self._state["look"] + 1, **state}
+            self._png = png
+        self._entries = len(entries)
+
+
+def _mean_of(gas: Snapshot) -> Optional[int]:
+    """Each cell is a pixel, unless there are too many: then squares of cells are."""
+    mean = 1
+    while max(gas.width, gas.height) // mean > _WIDEST:
+        mean *= 2
+    return mean if mean > 1 else None
+
+
+def _last(entries: list[Any]) -> list[dict[str, Any]]:
+    first = max(0, len(entries) - _LAST)
+    return [{"k": first + k, "seat": entry.seat, "command": entry.command}
+            for k, entry in enumerate(entries[first:])][::-1]

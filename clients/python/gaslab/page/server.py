@@ -1,0 +1,106 @@
+"""Serves the page and its state on 127.0.0.1."""
+from __future__ import annotations
+
+import json
+import threading
+from http.server import BaseHTTPRequestHandler, ThreadingHTTPServer
+from pathlib import Path
+from typing import Any, Optional
+from urllib.parse import parse_qs, urlsplit
+
+from ..lab import Lab
+from .looker import Looker
+
+__all__ = ["Page"]
+
+_FILES = {"/": ("page.html", "text/html"), "/page.js": ("page.js", "text/javascript"),
+          "/page.css": ("page.css", "text/css")}
+_RULES = ("default-src 'none'; script-src 'self'; style-src 'self'; img-src data:; "
+          "connect-src 'self'; base-uri 'none'; form-action 'none'; frame-ancestors 'none'")
+
+
+class _Server(ThreadingHTTPServer):
+    """The server of one page."""
+
+    daemon_threads = True
+
+    def __init__(self, port: int, looker: Looker) -> None:
+        self.looker = looker
+        super().__init__(("127.0.0.1", port), _Handler)
+
+
+class Page:
+    """The page of a laboratory, for browsers on this machine, until it is closed.
+
+    `seconds` is the shortest time between two looks at the gas.
+    """
+
+    def __init__(self, lab: Lab, port: int = 0, seconds: float = 0.25) -> None:
+        self.looker = Looker(lab, seconds)
+        self._server = _Server(port, self.looker)
+        self._thread = threading.Thread(target=self._server.serve_forever, args=(0.05,))
+        self._thread.start()
+        self.address = f"http://127.0.0.1:{self._server.server_address[1]}/"
+
+    def __enter__(self) -> Page:
+        return self
+
+    def __exit__(self, *_: object) -> None:
+        self.close()
+
+    def watch(self) -> None:
+        """Looks at the gas until the page is closed, in this thread."""
+        self.looker.keep_looking()
+
+    def close(self) -> None:
+        """Ends the page."""
+        self.looker.has_stopped.set()
+        self._server.shutdown()
+        self._server.server_close()
+        self._thread.join()
+
+
+class _Handler(BaseHTTPRequestHandler):
+    """Answers GET for the page's files and its state, and nothing else."""
+
+    server: _Server
+    server_version = "gaslab"
+    sys_version = ""
+
+    def do_GET(self) -> None:
+        """Answers a request for a file of the page or its state."""
+        found = self._found() if self._is_for_us() else None
+        kind, body = found or ("text/plain", b"there is nothing here\n")
+        try:
+            self._send(200 if found else 404, kind, body)
+        except ConnectionError:
+            self.close_connection = True  # the browser has left
+
+    def _send(self, status: int, kind: str, body: bytes) -> None:
+        self.send_response(status)
+        self.send_header("Content-Type", f"{kind}; charset=utf-8")
+        self.send_header("Content-Length", str(len(body)))
+        self.send_header("Content-Security-Policy", _RULES)
+        self.send_header("X-Content-Type-Options", "nosniff")
+        self.send_header("Cache-Control", "no-store")
+        self.end_headers()
+        self.wfile.write(body)
+
+    def _is_for_us(self) -> bool:
+        """Whether the request names this machine: pages of others cannot read the gas."""
+        port = self.server.server_address[1]
+        return self.headers.get("Host") in (f"127.0.0.1:{port}", f"localhost:{port}")
+
+    def _found(self) -> Optional[tuple[str, bytes]]:
+        asked = urlsplit(self.path)
+        if asked.path == "/state":
+            since = parse_qs(asked.query).get("since", ["0"])[0]
+            number = int(since) if since.isascii() and since.isdecimal() else 0
+            return "application/json", json.dumps(self.server.looker.state(number)).encode()
+        if asked.path in _FILES:
+            name, kind = _FILES[asked.path]
+            return kind, (Path(__file__).parent / name).read_bytes()
+        return None
+
+    def log_message(self, form: str, *values: Any) -> None:
+        """Says nothing: a page asks a few times a second."""

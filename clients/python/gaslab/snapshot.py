@@ -1,0 +1,214 @@
+"""Snapshot files, read whole and checked as the laboratory checks them."""
+from __future__ import annotations
+
+import os
+import struct
+from dataclasses import dataclass, field
+from typing import Any, NamedTuple, Union
+
+from .cells import array_of
+from .errors import GaslabError
+
+__all__ = ["Drain", "MagicFault", "PortFault", "ShortFault", "SizeFault", "Snapshot",
+           "SnapshotFault", "Source", "TickFault", "TrailingFault"]
+
+TICK_LIMIT = 2 ** 40
+MOST_PORTS = 16
+_MAGICS = {b"HPPGAS1\n": 1, b"HPPGAS2\n": 2}
+_LARGEST_SIDE = {1: 2048, 2: 4096}
+
+
+class SnapshotFault(GaslabError, ValueError):
+    """The bytes are no snapshot. `name` is the fault's name in docs/FORMATS.md."""
+
+    name = ""
+
+    def __init__(self, what: str) -> None:
+        super().__init__(f"{self.name}: {what}")
+
+
+class ShortFault(SnapshotFault):
+    """A field's bytes are not all there."""
+
+    name = "Short"
+
+
+class MagicFault(SnapshotFault):
+    """The first 8 bytes are those of neither version."""
+
+    name = "Magic"
+
+
+class SizeFault(SnapshotFault):
+    """A side is no multiple of 64, or too long."""
+
+    name = "Size"
+
+
+class TickFault(SnapshotFault):
+    """The tick is not from -2^40 to 2^40."""
+
+    name = "Tick"
+
+
+class PortFault(SnapshotFault):
+    """A count of ports is above 16, a rectangle is not inside, or a period is 0."""
+
+    name = "Port"
+
+
+class TrailingFault(SnapshotFault):
+    """There are bytes after the last field."""
+
+    name = "Trailing"
+
+
+class Drain(NamedTuple):
+    """A rectangle of cells that loses its particles at each tick."""
+
+    x: int
+    y: int
+    w: int
+    h: int
+
+
+class Source(NamedTuple):
+    """A rectangle of cells that is filled at each tick that `period` divides."""
+
+    x: int
+    y: int
+    w: int
+    h: int
+    period: int
+
+
+PathLike = Union[str, "os.PathLike[str]"]
+
+
+@dataclass(frozen=True)
+class Snapshot:
+    """A gas at one tick.
+
+    `width` and `height` are in cells, `tick` in steps. The three sets of cells are packed planes of
+    `width * height / 8` bytes; `particles`, `walls` and `obstacles` are the same as arrays of truth
+    values of shape (height, width). Drains and sources are in the order in which they were added.
+    """
+
+    width: int
+    height: int
+    tick: int = 0
+    drains: tuple[Drain, ...] = ()
+    sources: tuple[Source, ...] = ()
+    particle_bytes: bytes = field(default=b"", repr=False)
+    wall_bytes: bytes = field(default=b"", repr=False)
+    obstacle_bytes: bytes = field(default=b"", repr=False)
+    version: int = 2
+
+    def __post_init__(self) -> None:
+        size = self.width * self.height // 8
+        for name in ("particle_bytes", "wall_bytes", "obstacle_bytes"):
+            plane = getattr(self, name) or bytes(size)
+            if len(plane) != size:
+                raise ValueError(f"{name} has {len(plane)} bytes and not {size}")
+            object.__setattr__(self, name, plane)
+
+    @classmethod
+    def read(cls, path: PathLike) -> Snapshot:
+        """The snapshot in a file. Raises a `SnapshotFault`, or `OSError` from the file."""
+        with open(path, "rb") as file:
+            return cls.from_bytes(file.read())
+
+    @classmethod
+    def from_bytes(cls, data: bytes) -> Snapshot:
+        """The snapshot that the bytes spell, or the first fault from the left."""
+        return _Reader(data).snapshot()
+
+    def to_bytes(self) -> bytes:
+        """The snapshot in version 2 of the format."""
+        head = struct.pack(">HHqBB", self.width, self.height, self.tick,
+                           len(self.drains), len(self.sources))
+        ports = [struct.pack(">4H", *drain) for drain in self.drains]
+        ports += [struct.pack(">5H", *source) for source in self.sources]
+        planes = (self.particle_bytes, self.wall_bytes, self.obstacle_bytes)
+        return b"".join((b"HPPGAS2\n", head, *ports, *planes))
+
+    @property
+    def particles(self) -> Any:
+        """Truth values of shape (height, width): where particles are."""
+        return array_of(self.particle_bytes, self.width)
+
+    @property
+    def walls(self) -> Any:
+        """Truth values of shape (height, width): where walls are."""
+        return array_of(self.wall_bytes, self.width)
+
+    @property
+    def obstacles(self) -> Any:
+        """Truth values of shape (height, width): where obstacles are."""
+        return array_of(self.obstacle_bytes, self.width)
+
+    @property
+    def count(self) -> int:
+        """How many particles there are."""
+        return count_bits(self.particle_bytes)
+
+    def _repr_png_(self) -> bytes:
+        from .pictures import picture_bytes
+        return picture_bytes(self)
+
+
+def count_bits(plane: bytes) -> int:
+    """How many cells a packed plane has."""
+    return bin(int.from_bytes(plane, "big")).count("1")
+
+
+class _Reader:
+    """Takes the fields of a snapshot from the left."""
+
+    def __init__(self, data: bytes) -> None:
+        self.data = data
+        self.at = 0
+
+    def take(self, size: int, what: str) -> bytes:
+        """The next bytes."""
+        part = self.data[self.at:self.at + size]
+        if len(part) < size:
+            raise ShortFault(f"{what} needs {size} bytes, and {len(part)} are there")
+        self.at += size
+        return part
+
+    def snapshot(self) -> Snapshot:
+        """All fields."""
+        version = _MAGICS.get(self.take(8, "the magic"))
+        if version is None:
+            raise MagicFault(f"a snapshot does not begin with {self.data[:8]!r}")
+        width, height = struct.unpack(">HH", self.take(4, "the size"))
+        for side in (width, height):
+            if side % 64 or not 64 <= side <= _LARGEST_SIDE[version]:
+                raise SizeFault(f"{width} by {height} in version {version}")
+        tick, = struct.unpack(">q", self.take(8, "the tick"))
+        if abs(tick) > TICK_LIMIT:
+            raise TickFault(f"{tick} is not from -2^40 to 2^40")
+        drains, sources = self.ports(width, height)
+        size = width * height // 8
+        particles, walls = (self.take(size, f"the plane of {it}") for it in ("particles", "walls"))
+        obstacles = self.take(size, "the plane of obstacles") if version == 2 else b""
+        if self.at < len(self.data):
+            raise TrailingFault(f"{len(self.data) - self.at} bytes after the last field")
+        return Snapshot(width, height, tick, drains, sources, particles, walls, obstacles, version)
+
+    def ports(self, width: int, height: int) -> tuple[tuple[Drain, ...], tuple[Source, ...]]:
+        """The counts of ports, the drains and the sources."""
+        drains, sources = self.take(2, "the counts of ports")
+        if drains > MOST_PORTS or sources > MOST_PORTS:
+            raise PortFault(f"{drains} drains and {sources} sources: at most 16 of each")
+        return (tuple(self.port(Drain, ">4H", width, height) for _ in range(drains)),
+                tuple(self.port(Source, ">5H", width, height) for _ in range(sources)))
+
+    def port(self, kind: type, form: str, width: int, height: int) -> Any:
+        """A drain or a source."""
+        port = kind(*struct.unpack(form, self.take(struct.calcsize(form), "a port")))
+        is_inside = port.w and port.h and port.x + port.w <= width and port.y + port.h <= height
+        if not is_inside or 0 in port[4:]:
+            raise PortFault(f"{port} in a lattice of {width} by {height}")
+        return port

@@ -1,0 +1,131 @@
+#!/usr/bin/env python3
+"""A program with the laboratory's options, over the second implementation, tools/channel_gas.py.
+
+    stand_in.py run --width 128 --load day.gas --save day.gas
+    stand_in.py serve --listen 127.0.0.1:7878 --sessions 3
+
+It has the refusals that the client meets on its way (2, 3, 4, 5, 6, 9 and 15), and no others. It is
+slow, and independent of both the program and the client.
+"""
+import argparse
+import os
+import socket
+import sys
+import threading
+
+HERE = os.path.dirname(os.path.abspath(__file__))
+SECOND = os.path.join(HERE, "..", "..", "..", "tools", "channel_gas.py")
+
+RECTANGLES = {"put": 0, "erase": 0, "wall": 0, "block": 0, "unwall": 0, "probe": 0, "drain": 0,
+              "source": 1}
+ONE = ("step", "back", "entry", "read")
+NONE = ("unport", "tally", "ledger", "save", "quit")
+
+
+def second():
+    """The names of the second implementation, without its run."""
+    with open(SECOND, encoding="utf-8") as file:
+        text = file.read()
+    names = {"__name__": "channel_gas"}
+    assert text.rstrip().endswith("main()")
+    exec(compile(text.rstrip()[:-len("main()")], SECOND, "exec"), names)
+    return names
+
+
+class Laboratory:
+    def __init__(self, asked):
+        self.second = second()
+        self.save_path = asked.save
+        if asked.load:
+            with open(asked.load, "rb") as file:
+                self.gas = self.second["from_snapshot"](file.read())
+        else:
+            self.gas = self.second["Gas"](asked.width, asked.height)
+        self.books = self.second["Books"](self.gas.sums(self.gas.particles))
+        self.journal = []
+        self.lock = threading.Lock()
+
+    def refusal(self, words):
+        word, numbers = (words or [""])[0], words[1:2] if words[:1] == ["row"] else words[1:]
+        counts = {**{name: 4 + more for name, more in RECTANGLES.items()}, "row": 1,
+                  **dict.fromkeys(ONE, 1), **dict.fromkeys(NONE, 0)}
+        if word not in counts:
+            return "ERR 2 word"
+        if len(numbers) != counts[word]:
+            return "ERR 3 count"
+        if not all(number.isdecimal() and len(number) <= 10 for number in numbers):
+            return "ERR 4 number"
+        return self.refused_range(word, [int(number) for number in numbers])
+
+    def refused_range(self, word, numbers):
+        if word in RECTANGLES:
+            x, y, w, h = numbers[:4]
+            if not w or not h or x + w > self.gas.width or y + h > self.gas.height:
+                return "ERR 5 rect"
+        if word in ("read", "row") and numbers[0] >= self.gas.height:
+            return "ERR 5 rect"
+        if word in ("step", "back") and not 1 <= numbers[0] <= 4096:
+            return "ERR 6 steps"
+        if word == "entry" and numbers[0] >= len(self.journal):
+            return "ERR 9 entry"
+        return "ERR 15 save" if word == "save" and not self.save_path else None
+
+    def answer(self, seat, line):
+        with self.lock:
+            refused = self.refusal(line.split(" "))
+            if refused:
+                return refused
+            parts = (self.gas, self.books, self.journal, self.save_path)
+            reply, = self.second["session"](seat, [line], *parts)
+            return " ".join(map(str, reply))
+
+    def session(self, seat, lines, out):
+        for line in lines:
+            reply = self.answer(seat, line.rstrip("\n"))
+            out.write(reply + "\n")
+            out.flush()
+            if reply == "BYE":
+                return
+
+
+def serve(laboratory, asked):
+    host, _, port = asked.listen.rpartition(":")
+    seats = []
+    with socket.create_server((host, int(port))) as listener:
+        print(f"LISTEN {host}:{listener.getsockname()[1]}", flush=True)
+        for seat in range(asked.sessions):
+            connection, _ = listener.accept()
+            seats.append(threading.Thread(target=serve_one, args=(laboratory, seat, connection)))
+            seats[-1].start()
+        for seat in seats:
+            seat.join()
+    print(f"SERVED {asked.sessions} 0 {len(laboratory.journal)}")
+
+
+def serve_one(laboratory, seat, connection):
+    try:
+        with connection, connection.makefile("r") as lines, connection.makefile("w") as out:
+            laboratory.session(seat, lines, out)
+    except OSError:
+        pass
+
+
+def main():
+    options = argparse.ArgumentParser()
+    options.add_argument("word", choices=("run", "serve"))
+    for name, default in (("width", 64), ("height", 64), ("workers", 1), ("cap", 1024)):
+        options.add_argument(f"--{name}", type=int, default=default)
+    options.add_argument("--load")
+    options.add_argument("--save")
+    options.add_argument("--listen", default="127.0.0.1:0")
+    options.add_argument("--sessions", type=int, default=1)
+    asked = options.parse_args()
+    laboratory = Laboratory(asked)
+    if asked.word == "serve":
+        serve(laboratory, asked)
+    else:
+        laboratory.session(0, sys.stdin, sys.stdout)
+
+
+if __name__ == "__main__":
+    main()

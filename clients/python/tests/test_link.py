@@ -1,0 +1,169 @@
+import itertools
+import os
+import socket
+import threading
+import time
+import unittest
+
+from gaslab.errors import REFUSALS, Gone, Silent, Strange
+from gaslab.link import Lines, Link
+
+from .test_replies import EACH
+
+ALL = [text for text, _, _ in EACH] + [f"ERR {n} {word}" for n, word in REFUSALS.items()]
+STREAM = "".join(text + "\n" for text in ALL).encode()
+
+
+class Pair:
+    """A link, and the other side of it as a socket."""
+
+    def __init__(self, timeout=5.0, why=lambda is_silent: ""):
+        self.ours, self.other = socket.socketpair()
+        self.link = Link(self.ours.fileno(), self.ours.fileno(), timeout, why)
+
+    def __enter__(self):
+        return self
+
+    def __exit__(self, *_):
+        self.ours.close()
+        self.other.close()
+
+
+class CutAtEveryByte(unittest.TestCase):
+    def test_lines(self):
+        for at in range(len(STREAM) + 1):
+            lines = Lines()
+            lines.feed(STREAM[:at])
+            lines.feed(STREAM[at:])
+            self.assertEqual([line.decode() for line in lines.whole], ALL)
+            self.assertEqual(lines.rest, b"")
+
+    def test_lines_byte_by_byte(self):
+        lines = Lines()
+        for at in range(len(STREAM)):
+            lines.feed(STREAM[at:at + 1])
+        self.assertEqual([line.decode() for line in lines.whole], ALL)
+
+    def test_a_link(self):
+        with Pair() as pair:
+            for at in range(len(STREAM) + 1):
+                pair.other.sendall(STREAM[:at])
+                whole = STREAM[:at].count(b"\n")
+                found = [pair.link.next_line() for _ in range(whole)]
+                pair.other.sendall(STREAM[at:])
+                found += [pair.link.next_line() for _ in range(len(ALL) - whole)]
+                self.assertEqual(found, ALL)
+
+    def test_an_end_at_every_byte(self):
+        text = b"PROBE 12 -4 0\n"
+        for at in range(len(text)):
+            with Pair() as pair:
+                pair.other.sendall(text[:at])
+                pair.other.close()
+                what = "middle of a reply" if at else "without an answer"
+                with self.assertRaisesRegex(Gone, what):
+                    pair.link.next_line()
+
+
+class OtherSides(unittest.TestCase):
+    def test_silent(self):
+        with Pair(0.2, lambda is_silent: f"why {is_silent}") as pair:
+            began = time.monotonic()
+            with self.assertRaisesRegex(Silent, r"no answer for 0.2 seconds: why True"):
+                pair.link.next_line()
+            self.assertGreaterEqual(time.monotonic() - began, 0.2)
+            self.assertLess(time.monotonic() - began, 3)
+
+    def test_silent_in_the_middle_of_a_reply(self):
+        with Pair(0.1) as pair:
+            pair.other.sendall(b"PROBE 1")
+            with self.assertRaisesRegex(Silent, r"middle of a reply, b'PROBE 1'"):
+                pair.link.next_line()
+            pair.other.sendall(b"2 0 0\n")
+            self.assertEqual(pair.link.next_line(), "PROBE 12 0 0")
+
+    def test_slow_but_not_silent(self):
+        with Pair(1.0) as pair:
+            def drip():
+                for byte in b"TALLY 0 0\n":
+                    time.sleep(0.15)
+                    pair.other.sendall(bytes([byte]))
+            thread = threading.Thread(target=drip)
+            thread.start()
+            self.assertEqual(pair.link.next_line(), "TALLY 0 0")
+            thread.join()
+
+    def test_hangs_up(self):
+        with Pair(5, lambda is_silent: f"why {is_silent}") as pair:
+            pair.other.close()
+            with self.assertRaisesRegex(Gone, "left without an answer: why False"):
+                pair.link.next_line()
+
+    def test_hangs_up_while_lines_are_sent(self):
+        with Pair() as pair:
+            pair.other.sendall(b"BYE\n")
+            pair.other.close()
+            for _ in range(10000):
+                pair.link.push("read 0")
+            with self.assertRaises(Gone):
+                pair.link.next_line()
+                pair.link.next_line()
+
+    def test_a_reply_of_2048_bytes(self):
+        with Pair() as pair:
+            pair.other.sendall(b"a" * 2048 + b"\n")
+            self.assertEqual(pair.link.next_line(), "a" * 2048)
+
+    def test_a_longer_one(self):
+        for text in (b"a" * 2049, b"a" * 2049 + b"\n"):
+            with Pair() as pair:
+                pair.other.sendall(text)
+                with self.assertRaisesRegex(Strange, "more than 2048 bytes"):
+                    pair.link.next_line()
+
+    def test_no_text(self):
+        with Pair() as pair:
+            pair.other.sendall(b"OK \xff\n")
+            with self.assertRaisesRegex(Strange, "no reply of a laboratory"):
+                pair.link.next_line()
+
+
+class ManyLines(unittest.TestCase):
+    def test_neither_side_waits_for_good(self):
+        """The other side reads nothing while it cannot write, as a program of one thread does."""
+        count, line, reply = 20000, "row 0 " + "0" * 1024, b"ROW " + b"0" * 1024 + b"\n"
+        with Pair(20) as pair:
+            got = []
+
+            def answer():
+                with pair.other.makefile("rb") as lines:
+                    for text in itertools.islice(lines, count):
+                        got.append(len(text))
+                        pair.other.sendall(reply)
+            thread = threading.Thread(target=answer)
+            thread.start()
+            for _ in range(count):
+                pair.link.push(line)
+            found = {pair.link.next_line() for _ in range(count)}
+            thread.join()
+        self.assertEqual(found, {reply[:-1].decode()})
+        self.assertEqual((len(got), set(got)), (count, {len(line) + 1}))
+
+    def test_over_two_pipes(self):
+        their_in, our_out = os.pipe()
+        our_in, their_out = os.pipe()
+
+        def answer():
+            with os.fdopen(their_in, "rb") as lines, os.fdopen(their_out, "wb", 0) as out:
+                for line in lines:
+                    out.write(line[::-1][1:] + b"\n")
+        thread = threading.Thread(target=answer)
+        thread.start()
+        link = Link(our_in, our_out, 10, lambda is_silent: "")
+        for number in range(10000):
+            link.push(str(number))
+        self.assertEqual([link.next_line() for _ in range(10000)],
+                         [str(number)[::-1] for number in range(10000)])
+        os.close(our_out)
+        thread.join()
+        os.close(our_in)

@@ -1,0 +1,214 @@
+import os
+import struct
+import tempfile
+import unittest
+from pathlib import Path
+
+from gaslab import (Drain, MagicFault, PortFault, ShortFault, SizeFault, Snapshot, SnapshotFault,
+                    Source, TickFault, TrailingFault)
+from gaslab.cells import array_of, column_counts, find_numpy, pack_array, rows_of
+from gaslab.scene import rectangles_of
+
+from . import stand_in
+
+STORED = Path(__file__).resolve().parents[3] / "crates" / "gaslab_program" / "data" / "start.gas"
+
+OLD = b"HPPGAS1\n" + bytes([0, 64, 0, 64]) + bytes(10)
+NEW = b"HPPGAS2\n" + bytes([0, 64, 0, 64]) + bytes(10)
+# tick -1, the drain 1 1 1 1 and the source 10 10 1 1 of period 2
+PORTS = (b"HPPGAS1\n" + bytes([0, 64, 0, 64]) + b"\xff" * 8 + bytes([1, 1])
+         + bytes([0, 1, 0, 1, 0, 1, 0, 1]) + bytes([0, 10, 0, 10, 0, 1, 0, 1, 0, 2]))
+
+
+def with_size(version, width, height):
+    head = b"HPPGAS%d\n" % version + struct.pack(">HH", width, height) + bytes(10)
+    return head + bytes((version + 1) * width * height // 8)
+
+
+def changed(data, at, part):
+    return data[:at] + part + data[at + len(part):]
+
+
+class Vectors(unittest.TestCase):
+    def test_an_empty_gas_of_each_version(self):
+        for version, data in ((1, OLD + bytes(1024)), (2, NEW + bytes(1536))):
+            gas = Snapshot.from_bytes(data)
+            self.assertEqual(gas, Snapshot(64, 64, version=version))
+            self.assertEqual((gas.count, gas.tick, gas.drains, gas.sources), (0, 0, (), ()))
+            self.assertEqual(gas.to_bytes(), NEW + bytes(1536))
+
+    def test_ports(self):
+        gas = Snapshot.from_bytes(PORTS + bytes(1024))
+        self.assertEqual((gas.tick, gas.drains, gas.sources),
+                         (-1, (Drain(1, 1, 1, 1),), (Source(10, 10, 1, 1, 2),)))
+
+    def test_rows_of_cells(self):
+        rows = {"0000000000000000": [], "8000000000000000": [0], "0000000000000001": [63],
+                "8000000000000001": [0, 63], "0000000ff0000000": list(range(28, 36))}
+        plane = b"".join(map(bytes.fromhex, rows)).ljust(512, b"\0")
+        gas = Snapshot.from_bytes(NEW + plane + bytes(1024))
+        for y, cells in enumerate(rows.values()):
+            self.assertEqual([x for x in range(64) if gas.particles[y][x]], cells)
+        self.assertEqual((gas.count, gas.particle_bytes), (12, plane))
+
+    def test_planes_stand_in_order(self):
+        planes = [bytes([value]) * 512 for value in (1, 2, 4)]
+        gas = Snapshot.from_bytes(NEW + b"".join(planes))
+        self.assertEqual([gas.particle_bytes, gas.wall_bytes, gas.obstacle_bytes], planes)
+        old = Snapshot.from_bytes(OLD + planes[0] + planes[1])
+        self.assertEqual([old.wall_bytes, old.obstacle_bytes], [planes[1], bytes(512)])
+
+    def test_lengths(self):
+        for version, width, height, length in ((1, 64, 64, 1046), (2, 64, 64, 1558),
+                                               (1, 2048, 2048, 1048598), (2, 4096, 4096, 6291478)):
+            data = with_size(version, width, height)
+            self.assertEqual(len(data), length)
+            gas = Snapshot.from_bytes(data)
+            self.assertEqual((gas.width, gas.height, gas.version), (width, height, version))
+
+    def test_most_ports(self):
+        drains = tuple(Drain(k, 0, 1, 64) for k in range(16))
+        sources = tuple(Source(0, k, 64, 1, 65535 - k) for k in range(16))
+        gas = Snapshot(64, 64, -2 ** 40, drains, sources)
+        self.assertEqual(Snapshot.from_bytes(gas.to_bytes()), gas)
+
+    def test_the_stored_snapshot_of_the_program(self):
+        gas = Snapshot.read(STORED)
+        self.assertEqual((gas.width, gas.height, gas.tick, gas.count, gas.version),
+                         (128, 64, 7, 64, 2))
+        self.assertEqual(gas.to_bytes(), STORED.read_bytes())
+
+    def test_the_second_implementation_writes_the_same(self):
+        second = stand_in.second()
+        it = second["Gas"](128, 64)
+        it.tick = -3
+        it.particles, it.walls, it.obstacles = {(0, 0), (127, 63)}, {(5, 6)}, {(64, 1), (65, 1)}
+        it.drains, it.sources = [(1, 2, 3, 4)], [(5, 6, 7, 8, 9)]
+        gas = Snapshot.from_bytes(second["snapshot"](it))
+        for cells, plane in ((it.particles, gas.particles), (it.walls, gas.walls),
+                             (it.obstacles, gas.obstacles)):
+            self.assertEqual({(x, y) for y in range(64) for x in range(128) if plane[y][x]}, cells)
+        self.assertEqual((gas.tick, gas.drains, gas.sources),
+                         (-3, ((1, 2, 3, 4),), ((5, 6, 7, 8, 9),)))
+        self.assertEqual(gas.to_bytes(), second["snapshot"](it))
+
+
+class EachDamage(unittest.TestCase):
+    def fault(self, data):
+        with self.assertRaises(SnapshotFault) as caught:
+            Snapshot.from_bytes(data)
+        self.assertTrue(str(caught.exception).startswith(caught.exception.name + ": "))
+        return type(caught.exception)
+
+    def test_short_at_every_byte(self):
+        data = PORTS + bytes(1024)
+        for length in range(len(data)):
+            self.assertIs(self.fault(data[:length]), ShortFault, length)
+
+    def test_magic(self):
+        for at in range(8):
+            self.assertIs(self.fault(changed(NEW + bytes(1536), at, b"x")), MagicFault)
+        for digit in (b"0", b"3"):
+            self.assertIs(self.fault(changed(NEW, 6, digit)), MagicFault)
+
+    def test_size(self):
+        for version, largest in ((1, 2048), (2, 4096)):
+            for side in (0, 1, 63, 65, 100, largest + 64, 65535, 65472):
+                self.assertIs(self.fault(with_size(version, 64, 64)[:8]
+                                         + struct.pack(">HH", side, 64)), SizeFault, side)
+                self.assertIs(self.fault(with_size(version, 64, 64)[:8]
+                                         + struct.pack(">HH", 64, side)), SizeFault, side)
+
+    def test_tick(self):
+        for tick in (2 ** 40, -2 ** 40):
+            gas = Snapshot.from_bytes(changed(NEW + bytes(1536), 12, struct.pack(">q", tick)))
+            self.assertEqual(gas.tick, tick)
+        for tick in (2 ** 40 + 1, -2 ** 40 - 1, 2 ** 63 - 1, -2 ** 63):
+            self.assertIs(self.fault(changed(NEW + bytes(1536), 12, struct.pack(">q", tick))),
+                          TickFault)
+
+    def test_counts_of_ports(self):
+        for counts in ((17, 0), (0, 17), (255, 255)):
+            self.assertIs(self.fault(changed(NEW + bytes(9999), 20, bytes(counts))), PortFault)
+
+    def test_ports(self):
+        data = PORTS + bytes(1024)
+        wrong = [(22, 64, 0, 1, 1), (22, 63, 0, 2, 1), (22, 0, 64, 1, 1), (22, 0, 63, 1, 2),
+                 (22, 0, 0, 0, 1), (22, 0, 0, 1, 0), (22, 65535, 0, 1, 1), (30, 0, 0, 65, 1, 1),
+                 (30, 0, 0, 1, 65, 1), (30, 0, 0, 1, 1, 0), (30, 0, 0, 0, 0, 5)]
+        for at, *port in wrong:
+            part = struct.pack(f">{len(port)}H", *port)
+            self.assertIs(self.fault(changed(data, at, part)), PortFault, port)
+        gas = Snapshot.from_bytes(changed(data, 22, struct.pack(">4H", 63, 63, 1, 1)))
+        self.assertEqual(gas.drains, (Drain(63, 63, 1, 1),))
+
+    def test_trailing(self):
+        for data in (OLD + bytes(1024), NEW + bytes(1536)):
+            for rest in (b"\0", bytes(512)):
+                self.assertIs(self.fault(data + rest), TrailingFault)
+
+    def test_the_first_from_the_left(self):
+        self.assertIs(self.fault(b"HPPGAS3\n" + bytes([0, 1])), MagicFault)
+        self.assertIs(self.fault(NEW[:8] + bytes([0, 1, 0, 64])), SizeFault)
+        self.assertIs(self.fault(NEW[:12] + b"\x7f" + bytes(7) + b"\xff"), TickFault)
+        self.assertIs(self.fault(changed(PORTS, 28, b"\0\0")[:31]), PortFault)
+
+    def test_names(self):
+        self.assertEqual({kind.name for kind in SnapshotFault.__subclasses__()},
+                         {"Short", "Magic", "Size", "Tick", "Port", "Trailing"})
+
+    def test_a_file_that_is_not_there(self):
+        with tempfile.TemporaryDirectory() as room:
+            self.assertRaises(FileNotFoundError, Snapshot.read, os.path.join(room, "no"))
+
+
+class Arrays(unittest.TestCase):
+    def test_a_plane_and_back(self):
+        plane = bytes(range(256)) * 2
+        self.assertEqual(pack_array(array_of(plane, 64)), (64, 64, plane))
+
+    def test_lists_of_truth_values(self):
+        cells = [[x == y for x in range(64)] for y in range(64)]
+        width, height, plane = pack_array(cells)
+        self.assertEqual((width, height), (64, 64))
+        self.assertEqual([y for y, row in enumerate(rows_of(plane, 64))
+                          if row == (1 << 63 - y).to_bytes(8, "big")], list(range(64)))
+
+    def test_rows_of_several_widths(self):
+        for cells in ([[0] * 64, [0] * 65], [[0] * 63], [[]], []):
+            self.assertRaises(ValueError, pack_array, cells)
+
+    def test_shape(self):
+        found = Snapshot(128, 64).particles
+        self.assertEqual((len(found), len(found[0])), (64, 128))
+        numpy = find_numpy()
+        if numpy is not None:
+            self.assertEqual((found.dtype, found.shape), (numpy.dtype(bool), (64, 128)))
+        else:
+            self.assertEqual(found, [bytes(128)] * 64)
+
+    def test_column_counts_of_many_rows(self):
+        rows = [b"\xf0" + bytes(7)] * 1000 + [bytes(7) + b"\1"]
+        self.assertEqual(column_counts(rows, 64), [1000] * 4 + [0] * 59 + [1])
+
+    def test_wrong_lengths(self):
+        self.assertRaises(ValueError, Snapshot, 64, 64, particle_bytes=bytes(511))
+
+
+class Rectangles(unittest.TestCase):
+    def cells(self, rectangles):
+        return [(x + i, y + j) for x, y, w, h in rectangles for j in range(h) for i in range(w)]
+
+    def test_each_cell_once(self):
+        for plane in (bytes(512), b"\xff" * 512, bytes(range(256)) * 2,
+                      b"\x0f\xf0" * 256, b"\xff" * 8 + bytes(496) + b"\xff" * 8):
+            found = self.cells(rectangles_of(plane, 64))
+            truth = array_of(plane, 64)
+            self.assertEqual(len(found), len(set(found)))
+            self.assertEqual(set(found), {(x, y) for y in range(64) for x in range(64)
+                                          if truth[y][x]})
+
+    def test_one_for_one(self):
+        self.assertEqual(rectangles_of(b"\xff" * 512, 64), [(0, 0, 64, 64)])
+        self.assertEqual(rectangles_of(bytes(8) + (b"\x0f" + bytes(7)) * 2 + bytes(488), 64),
+                         [(4, 1, 4, 2)])
