@@ -79,6 +79,13 @@ even_row_more cell tile out new j ee oe eo oo before here k below =
           rw (get_or-set_other, get_or-set_other, get_or-set_other, get_or-set_other) (before k less)
     ]
 
+-- and leaves the rows after it
+pub even_row_rest : (tile : Tile) (new : Blocks) (j k : ℕ) → j + 1 ≤ k →
+    even_row (record { even_even = set tile.even_even j new.upper_left; odd_even = set tile.odd_even j new.upper_right; even_odd = set tile.even_odd j new.lower_left; odd_odd = set tile.odd_odd j new.lower_right }) k ≡ even_row tile k
+even_row_rest tile new j k later =
+    let other : k ≡ j → ⊥ = λ e. omega arith in
+    same_blocks _ _ _ _ _ _ _ _ (get_or-set_other tile.even_even j k new.upper_left 0 other) (get_or-set_other tile.odd_even j k new.upper_right 0 other) (get_or-set_other tile.even_odd j k new.lower_left 0 other) (get_or-set_other tile.odd_odd j k new.lower_right 0 other)
+
 -- words by their classes, row by row: those of the cells that pass the test
 pub record AreClasses (ee oe eo oo : ℕ → ℕ) (test : ℕ → ℕ → Bool) : Type 0 where
   pub even_even : AreWordsOf 0 0 ee test

@@ -64,10 +64,10 @@ fn hold_both_even(tile: &Tile, walls: &Tile, obstacles: &Tile, out: &mut Tile) -
         ShowsTile obstructed obstacles.now →
         result ≡ taken 0 tile.now walled obstructed }
 {
-    let mut walled = Tile::empty();
-    let mut obstructed = Tile::empty();
-    make_even(AnyCorner, walls, &mut walled);
-    make_even(AnyCorner, obstacles, &mut obstructed);
+    let mut walled = *walls;
+    let mut obstructed = *obstacles;
+    make_even(AnyCorner, &mut walled);
+    make_even(AnyCorner, &mut obstructed);
     walled.cut(&obstructed);
     Took {
         walls: hold(tile, &walled, 0, out),
@@ -96,43 +96,52 @@ fn hold_both_odd(tile: &Tile, walls: &Window, obstacles: &Window, out: &mut Tile
     }
 }
 
-/// Puts the tile into `out` as it is after the rule, where blocks begin at even columns and rows. Blocks lie in the tile,
-/// so nothing is asked of the tiles round it. Sets that have no cell in the tile need not be lent. The answer is what the
-/// walls and the obstacles take of the tile's own particles: twice their momentum, for those in walled blocks.
+/// Turns the blocks of a tile, where they begin at even columns and rows. They lie in the tile, so nothing is asked of the
+/// tiles round it. Sets that have no cell in the tile need not be lent. Returns what the walls and the obstacles take of the
+/// tile's own particles: twice their momentum, for those in walled blocks.
 #[inline(always)]
-pub fn turn_tile_even(
-    tile: &Tile,
-    walls: Option<&Tile>,
-    obstacles: Option<&Tile>,
-    out: &mut Tile,
-) -> Took
-    ensures cells { (window walled obstructed : ℕ → ℕ → Bool) → ShowsTile window tile.now →
+pub fn turn_tile_even(tile: &mut Tile, walls: Option<&Tile>, obstacles: Option<&Tile>) -> Took
+    ensures cells { (window walled obstructed : ℕ → ℕ → Bool) → ShowsTile window tile.old →
         IsSeenInside walls.entry walled → IsSeenInside obstacles.entry obstructed →
-        HasCells out.new (turned 0 window (either walled obstructed)) }
+        HasCells tile.new (turned 0 window (either walled obstructed)) }
     ensures took { (walled obstructed : ℕ → ℕ → Bool) → IsSeenInside walls.entry walled →
         IsSeenInside obstacles.entry obstructed →
-        result ≡ taken 0 tile.now walled obstructed }
+        result ≡ taken 0 tile.old walled obstructed }
 {
-    make_even(Collision, tile, out);
     match (walls, obstacles) {
-        (None, None) => Took {
-            walls: NOTHING,
-            obstacles: NOTHING,
-        },
-        (Some(walls), None) => Took {
-            walls: hold_even(tile, walls, out),
-            obstacles: NOTHING,
-        },
-        (None, Some(obstacles)) => Took {
-            walls: NOTHING,
-            obstacles: hold_even(tile, obstacles, out),
-        },
-        (Some(walls), Some(obstacles)) => hold_both_even(tile, walls, obstacles, out),
+        (None, None) => {
+            make_even(Collision, tile);
+            Took {
+                walls: NOTHING,
+                obstacles: NOTHING,
+            }
+        }
+        (Some(walls), None) => {
+            let old = *tile;
+            make_even(Collision, tile);
+            Took {
+                walls: hold_even(&old, walls, tile),
+                obstacles: NOTHING,
+            }
+        }
+        (None, Some(obstacles)) => {
+            let old = *tile;
+            make_even(Collision, tile);
+            Took {
+                walls: NOTHING,
+                obstacles: hold_even(&old, obstacles, tile),
+            }
+        }
+        (Some(walls), Some(obstacles)) => {
+            let old = *tile;
+            make_even(Collision, tile);
+            hold_both_even(&old, walls, obstacles, tile)
+        }
     }
 }
 
-/// The same where blocks begin at odd columns and rows, and reach into the eight tiles round the tile. Sets that have no
-/// cell in any of the nine need not be lent.
+/// Puts the tile into `out` as it is after the rule where blocks begin at odd columns and rows, and reach into the eight tiles
+/// round it. Sets that have no cell in any of the nine need not be lent. Returns the same.
 #[inline(always)]
 pub fn turn_tile_odd(
     particles: &Window,
@@ -188,7 +197,8 @@ pub fn turn_tile_into(
         (either (around walls.now wall_border.now) (around obstacles.now obstacle_border.now)) x y) }
 {
     if parity == 0 {
-        turn_tile_even(tile, Some(walls), Some(obstacles), out)
+        *out = *tile;
+        turn_tile_even(out, Some(walls), Some(obstacles))
     } else {
         let near = border.neighbors();
         let near_walls = wall_border.neighbors();

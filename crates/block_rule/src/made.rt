@@ -9,11 +9,11 @@ use crate::blocks::{Beside, Blocks, EightRows, Rule, next, previous};
 use bit_tile::Tile;
 use tile_border::Round;
 
-/// Where blocks begin at even columns and rows: each lies in the tile.
+/// Where blocks begin at even columns and rows: each lies in the tile, which is written over.
 #[inline]
-pub fn make_even<R: Rule>(rule: R, tile: &Tile, out: &mut Tile)
-    ensures { (window : ℕ → ℕ → Bool) → ShowsTile window tile.now →
-        HasCells out.new (made (R.cell rule) 0 window) }
+pub fn make_even<R: Rule>(rule: R, tile: &mut Tile)
+    ensures { (window : ℕ → ℕ → Bool) → ShowsTile window tile.old →
+        HasCells tile.new (made (R.cell rule) 0 window) }
 {
     for j in 0..32usize {
         let new = rule.made(Blocks {
@@ -22,10 +22,10 @@ pub fn make_even<R: Rule>(rule: R, tile: &Tile, out: &mut Tile)
             lower_left: tile.even_odd[j],
             lower_right: tile.odd_odd[j],
         });
-        out.even_even[j] = new.upper_left;
-        out.odd_even[j] = new.upper_right;
-        out.even_odd[j] = new.lower_left;
-        out.odd_odd[j] = new.lower_right;
+        tile.even_even[j] = new.upper_left;
+        tile.odd_even[j] = new.upper_right;
+        tile.even_odd[j] = new.lower_left;
+        tile.odd_odd[j] = new.lower_right;
     }
 }
 

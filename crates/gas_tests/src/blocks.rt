@@ -113,13 +113,13 @@ fn particles_cross_their_blocks(rt: HostRuntime) {
     let old = tile_of([(0, 0), (10, 10), (11, 11), (63, 62)].as_slice());
     // a lone particle crosses its block, and a pair that meets head on turns
     let even = [(1, 1), (11, 10), (10, 11), (62, 63)].as_slice();
-    let mut out = Tile::full();
-    let took = turn_tile_even(&old, None, None, &mut out);
-    expect_that(&rt, has_just(&out, even));
+    let mut free = old;
+    let took = turn_tile_even(&mut free, None, None);
+    expect_that(&rt, has_just(&free, even));
     expect_same(&rt, took, NOTHING);
-    let mut again = Tile::full();
-    let took = turn_tile_even(&old, Some(&none), Some(&none), &mut again);
-    expect_that(&rt, has_just(&again, even));
+    let mut among_none = old;
+    let took = turn_tile_even(&mut among_none, Some(&none), Some(&none));
+    expect_that(&rt, has_just(&among_none, even));
     expect_same(&rt, took, NOTHING);
 
     // at odd parity (10, 10) and (11, 11) are in blocks of their own, and (0, 0) and (63, 62) leave the tile

@@ -147,9 +147,14 @@ come_sides p w o leaves c k now come next here is =
     let from : come ≡ streamed (parity_at p k) (after_with p (joined w o) leaves c k) (joined w o) = is.phase ∙ ap (λ (now : Cells). streamed (parity_at p k) now (joined w o)) is.at in
     record { wide = ap (λ (c : Cells). c.width) from ∙ there.wide; high = ap (λ (c : Cells). c.height) from ∙ there.high }
 
-pub next_sides : (p : ℕ) (w o : Cells) (leaves : ℕ → Leaves) (c : Cells) (k : ℕ) (now come next spare : Cells) (here : Flow) → IsPhaseWith p w o leaves c k now come next here → spare ≡ now → HasSidesOf spare c
-next_sides p w o leaves c k now come next spare here is e =
-    subst (λ (s : Cells). HasSidesOf s c) (sym (e ∙ is.at)) (sides_with p (joined w o) leaves c k)
+-- what has the sides of the particles now has those of the start
+pub sides_at_start : (p : ℕ) (solid : Cells) (leaves : ℕ → Leaves) (c now other : Cells) (k : ℕ) → now ≡ after_with p solid leaves c k → HasSidesOf other now → HasSidesOf other c
+sides_at_start p solid leaves c now other k e same =
+    let there = sides_with p solid leaves c k in
+    record {
+      wide = same.wide ∙ (ap (λ (c : Cells). c.width) e ∙ there.wide);
+      high = same.high ∙ (ap (λ (c : Cells). c.height) e ∙ there.high);
+    }
 
 -- one phase more may be added
 pub flow_fits : (p : ℕ) (w o : Cells) (leaves : ℕ → Leaves) (c : Cells) (k : ℕ) (now come next : Cells) (flow here : Flow) → IsPhaseWith p w o leaves c k now come next here

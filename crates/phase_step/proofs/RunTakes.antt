@@ -1,5 +1,5 @@
 -- What tiles take, in one phase and in many.
-use Rattle.std.proofs.Common.{◌≡◌, ℕ, zero, suc, ◌+◌, ◌-◌, ◌*◌, ◌/◌, ◌%◌, ◌<◌, ◌≤◌, ◌^◌, true, ℤ, pos, ◌+ℤ◌, ◌*ℤ◌, nat_abs, w64, FitsSigned, refl, sym, ap, ap₂, ◌∙◌, subst, arith, add-one}
+use Rattle.std.proofs.Common.{◌≡◌, ℕ, zero, suc, ◌+◌, ◌-◌, ◌*◌, ◌/◌, ◌%◌, ◌<◌, ◌≤◌, ◌^◌, ◌⊎◌, inl, inr, true, ℤ, pos, ◌+ℤ◌, ◌*ℤ◌, nat_abs, w64, FitsSigned, refl, sym, ap, ap₂, ◌∙◌, subst, arith, add-one}
 use Rattle.std.proofs.lemmas.Int.{ints}
 use Rattle.std.proofs.lemmas.Nat.{mul-le}
 use Rattle.gas_terms.specs.Cells.{Cells, HasSidesOf, joined, extent, is_size, tile_count, tile_rectangle}
@@ -122,6 +122,10 @@ all_take p c w o small sized =
     ∙ took_all p c w o small sized (λ tick particles walls obstacles. taken-stopped tick particles (takes_for_walls walls obstacles))
     (λ tick particles walls obstacles. taken-stopped tick particles (takes_for_obstacles walls obstacles)) total-tiles
 
+pub own_take : (p : ℕ) (c w o : Cells) (first end : ℕ) → p < 2 → is_size (extent c) ≡ true → (first ≡ 0) × (end ≡ tile_count c) → tiles_take p c w o first (end - first) ≡ taken p c w o
+own_take p c w o first end small sized (start, count) =
+    let e : end - first ≡ tile_count c = omega arith in ap₂ (tiles_take p c w o) start e ∙ all_take p c w o small sized
+
 pub taken_within : (p : ℕ) (c w o : Cells) → p < 2 → is_size (extent c) ≡ true → tile_count c ≤ 4096 → IsWithin (2 ^ 26) (taken p c w o)
 taken_within p c w o small sized few =
     let all = subst (IsWithin (16384 * tile_count c)) (all_take p c w o small sized) (tiles_within p c w o 0 (tile_count c)) in
@@ -223,6 +227,11 @@ own_more p c w o across end i took here low high so_far e =
     let place : i ≡ across + n = omega arith in
     let next : suc n ≡ i + 1 - across - (i + 1 - end) = omega arith in
     ap₂ took_plus so_far (e ∙ ap (λ i. taken_in (pos p) c w o (tile_rectangle c i)) place) ∙ ap (tiles_take p c w o across) next
+
+-- a tile that is not one of them
+pub own_other : (first end i : ℕ) → first ≤ end → (i < first) ⊎ (end ≤ i) → i + 1 - first - (i + 1 - end) ≡ i - first - (i - end)
+own_other first end i order (inl before) = omega arith
+own_other first end i order (inr after) = omega arith
 
 pub own_fits : (p : ℕ) (c w o : Cells) (first n i : ℕ) (took here : Took) → n ≤ 4096 → took ≡ tiles_take p c w o first n → here ≡ taken_in (pos p) c w o (tile_rectangle c i)
     → TakenFits (pair_plus took.walls here.walls) × TakenFits (pair_plus took.obstacles here.obstacles)

@@ -2,9 +2,10 @@
 #![tactic(auto)]
 
 ghost use Rattle.std.specs.Prelude.{◌≡◌, ◌<◌};
-ghost use Rattle.gas_terms.specs.Cells.{joined, HasSidesOf};
+ghost use Rattle.gas_terms.specs.Cells.{joined, tile_count, HasSidesOf};
 ghost use Rattle.gas_terms.specs.Gas.{streamed};
 ghost use Rattle.gas_terms.specs.Accounts.{taken};
+ghost use Rattle.gas_plane.specs.Planes.{IsLattice};
 ghost use Rattle.phase_step.specs.Runs.{parity_at, after, run_takes};
 ghost use Rattle.phase_step.specs.Actions.{after_with, flow_with};
 
@@ -34,6 +35,7 @@ pub use solids::{Solids, are_none};
 use std::mem;
 pub use still::Still;
 use sweep::turn_each;
+pub use sweep::{Own, turn_in_place};
 pub use tiles::turn_tile_at;
 
 /// A run of n phases in which particles meet these walls and obstacles, from the given parity on, with an action after each.
@@ -64,6 +66,29 @@ pub trait Stepper: Drop {
         requires out { HasSidesOf out.old old.now }
         ensures out { out.new ≡ streamed parity old.now (joined walls.now obstacles.now) }
         ensures took { result ≡ taken parity old.now walls.now obstacles.now };
+
+    /// The same phase of `particles` themselves. The spare plane may be written to, and what it holds does not matter.
+    fn phase_in_place(
+        &mut self,
+        particles: &mut Plane,
+        walls: &Plane,
+        obstacles: &Plane,
+        parity: u8,
+        spare: &mut Plane,
+    ) -> Took
+        requires parity { parity < 2 }
+        requires walls { HasSidesOf walls.now particles.old }
+        requires obstacles { HasSidesOf obstacles.now particles.old }
+        requires spare { HasSidesOf spare.old particles.old }
+        ensures particles { particles.new ≡
+            streamed parity particles.old (joined walls.now obstacles.now) }
+        ensures spare { HasSidesOf spare.new particles.old }
+        ensures took { result ≡ taken parity particles.old walls.now obstacles.now }
+    {
+        let took = self.phase(particles, walls, obstacles, parity, spare);
+        mem::swap(particles, spare);
+        took
+    }
 
     /// A run of n phases whose parities take turns, from the given one on: `particles` become those after the run, and the
     /// answer is what walls and obstacles took in all of it. The spare plane is written to, and what it holds does not matter.
@@ -119,8 +144,7 @@ pub trait Stepper: Drop {
         let mut flow = NO_FLOW;
         for k in 0..run.n {
             let now = parity_at(run.parity, k);
-            let took = self.phase(particles, run.walls, run.obstacles, now, spare);
-            mem::swap(particles, spare);
+            let took = self.phase_in_place(particles, run.walls, run.obstacles, now, spare);
             let turn = run.action.after_phase(k);
             let moved = act_on(particles, &turn, 1 - now);
             flow = flow.plus(Flow { took, moved });
@@ -151,23 +175,35 @@ impl Stepper for Serial {
         parity: u8,
         out: &mut Plane,
     ) -> Took {
-        // one loop, compiled twice: once without the code for walls
-        if are_none(walls, obstacles) {
-            let none = true;
-            let solids = Solids {
-                walls,
-                obstacles,
-                none,
-            };
-            turn_each(old, solids, parity, out)
-        } else {
-            let none = false;
-            let solids = Solids {
-                walls,
-                obstacles,
-                none,
-            };
-            turn_each(old, solids, parity, out)
-        }
+        let none = are_none(walls, obstacles);
+        let solids = Solids {
+            walls,
+            obstacles,
+            none,
+        };
+        turn_each(old, solids, parity, all_of(old), out)
+    }
+
+    fn phase_in_place(
+        &mut self,
+        particles: &mut Plane,
+        walls: &Plane,
+        obstacles: &Plane,
+        parity: u8,
+        spare: &mut Plane,
+    ) -> Took {
+        let own = all_of(particles);
+        turn_in_place(particles, walls, obstacles, parity, own, spare)
+    }
+}
+
+// all tiles of a plane
+fn all_of(plane: &Plane) -> Own
+    ensures own { (result.first ≡ 0) × (result.end ≡ tile_count plane.now) }
+    ensures lattice { IsLattice plane.now }
+{
+    Own {
+        first: 0,
+        end: plane.size().tiles(),
     }
 }

@@ -1,8 +1,8 @@
 //! The step of one tile of a plane.
 
 ghost use Rattle.std.specs.Prelude.{◌≡◌, ◌/◌, ◌<◌, IsTrue, pos};
-ghost use Rattle.gas_terms.specs.Cells.{tile_count, tile_rectangle, HasSidesOf};
-ghost use Rattle.gas_plane.specs.Planes.{IsLattice, IsPosition, IsBare, IsBareRound};
+ghost use Rattle.gas_terms.specs.Cells.{Cells, tile_count, tile_rectangle, HasSidesOf};
+ghost use Rattle.gas_plane.specs.Planes.{IsLattice, IsTileFrom, IsPosition, IsBare, IsBareRound};
 ghost use Rattle.block_rule.specs.Windows.{taken_in};
 ghost use Rattle.phase_step.specs.Turns.{IsTileAfter, IsPlaceOf, IsLentTile, IsLentWindow};
 
@@ -39,26 +39,30 @@ pub fn turn_tile_at(
         (tile_rectangle old.now at.tile) }
 {
     if parity == 0 {
-        turn_even(old, solids, at.tile, out)
+        *out = *old.tile(at.tile);
+        turn_tile_in_place(solids, at.tile, out)
     } else {
         turn_odd(old, solids, at, out)
     }
 }
 
-// Blocks begin at even columns and rows, so each lies in one tile.
+/// Turns the blocks of tile i, which begin at even columns and rows, so that each lies in the tile. Returns what walls and
+/// obstacles take of its particles. The sets are lattices of one size.
 #[inline(always)]
-fn turn_even(old: &Plane, solids: Solids<'_>, i: u32, out: &mut Tile) -> Took
-    requires tile { i < tile_count old.now }
-    requires place { IsPlaceOf old.now solids.walls.now solids.obstacles.now i }
-    ensures cells { let s = solids.entry in
-        IsTileAfter 0 old.now s.walls.now s.obstacles.now i out.new }
-    ensures took { let s = solids.entry in
-        result ≡ taken_in (pos 0) old.now s.walls.now s.obstacles.now
-        (tile_rectangle old.now i) }
+pub fn turn_tile_in_place(solids: Solids<'_>, i: u32, tile: &mut Tile) -> Took
+    requires walls { i < tile_count solids.walls.now }
+    requires obstacles { i < tile_count solids.obstacles.now }
+    requires place { IsPlaceOf solids.walls.now solids.walls.now solids.obstacles.now i }
+    ensures cells { (old : Cells) → let s = solids.entry in let r = tile_rectangle old i in
+        IsPlaceOf old s.walls.now s.obstacles.now i → IsTileFrom tile.old old r.x r.y →
+        IsTileAfter 0 old s.walls.now s.obstacles.now i tile.new }
+    ensures took { (old : Cells) → let s = solids.entry in let r = tile_rectangle old i in
+        IsPlaceOf old s.walls.now s.obstacles.now i → IsTileFrom tile.old old r.x r.y →
+        result ≡ taken_in (pos 0) old s.walls.now s.obstacles.now r }
 {
     let walls = tile_in(solids.walls, solids.none, i);
     let obstacles = tile_in(solids.obstacles, solids.none, i);
-    turn_tile_even(old.tile(i), walls, obstacles, out)
+    turn_tile_even(tile, walls, obstacles)
 }
 
 // Blocks begin at odd columns and rows: those at the tile's edges reach into the tiles round it.

@@ -1,25 +1,22 @@
 //! Some rows of tiles of a lattice, with a row of tiles above and below, as a lattice of their own.
 
 ghost use Rattle.std.specs.Prelude.{◌≡◌, ℕ, ◌+◌, ◌-◌, ◌*◌, ◌/◌, ◌%◌, ◌^◌, ◌<◌, ◌≤◌, IfOk, IsTrue, false};
-ghost use Rattle.gas_terms.specs.Cells.{joined, HasSidesOf};
-ghost use Rattle.gas_terms.specs.Gas.{streamed};
+ghost use Rattle.gas_terms.specs.Cells.{joined, tile_count, HasSidesOf};
 ghost use Rattle.gas_plane.specs.Planes.{IsLattice};
 ghost use Rattle.phase_step.specs.Actions.{acted, after_with};
 ghost use Rattle.phase_step.specs.Exchanges.{leaves_of, listed};
 ghost use Rattle.phase_team.specs.Strips.{window, shift_of};
-ghost use Rattle.phase_team.specs.ActionStrips.{acts_there, all_there, own_take, own_moves, own_flow};
+ghost use Rattle.phase_team.specs.ActionStrips.{acts_there, all_there, own_tiles, own_moves, own_flow};
 ghost use Rattle.phase_team.specs.Work.{IsFor, IsDone};
 
 use crate::course::Course;
-use crate::worker::NOTHING;
 use gas_plane::Plane;
-use gas_terms::{NoMemory, Size, Took};
+use gas_terms::{NoMemory, Size};
 use phase_step::{
-    Action, Exchange, Flow, Listed, Moved, NO_FLOW, Solids, UNMOVED, are_none, change_of,
-    parity_at, turn_tile_at,
+    Action, Exchange, Flow, Listed, Moved, NO_FLOW, Own, UNMOVED, change_of, parity_at,
+    turn_in_place,
 };
 use std::alloc::Global;
-use std::mem;
 
 /// Strip `number` of a lattice. Its own rows of tiles are those from `first` on, `rows` of them. Its planes have one more row
 /// above and below.
@@ -63,70 +60,18 @@ fn load(strip: &mut Plane, whole: &Plane, first: u32)
     }
 }
 
-// whether tile i is one of a strip's own
-fn is_own(i: u32, across: u32, end: u32) -> bool
-    requires { i < 2 ^ 32 - 1 }
-    ensures own { IsTrue result → (across ≤ i) × (i < end) }
-    ensures other { result ≡ false → i + 1 - across - (i + 1 - end) ≡ i - across - (i - end) }
+// a strip's own tiles: all but those of its first row and of its last
+fn own_tiles(strip: &Plane) -> Own
+    requires rows { 2 ≤ strip.now.height / 64 }
+    ensures first { result.first ≡ strip.now.width / 64 }
+    ensures order { (result.first ≤ result.end) × (result.end ≤ tile_count strip.now) }
+    ensures count { result.end - result.first ≡ own_tiles strip.now }
+    ensures lattice { IsLattice strip.now }
 {
-    across <= i && i < end
-}
-
-// turns the blocks of a strip: what is taken in its own tiles
-#[inline(always)]
-fn turn_strip(old: &Plane, solids: Solids<'_>, parity: u8, out: &mut Plane) -> Took
-    requires parity { parity < 2 }
-    requires walls { HasSidesOf solids.walls.now old.now }
-    requires obstacles { HasSidesOf solids.obstacles.now old.now }
-    requires out { HasSidesOf out.old old.now }
-    requires rows { 2 ≤ old.now.height / 64 }
-    ensures out { let s = solids.entry in
-        out.new ≡ streamed parity old.now (joined s.walls.now s.obstacles.now) }
-    ensures took { let s = solids.entry in
-        result ≡ own_take parity old.now s.walls.now s.obstacles.now }
-{
-    let across = u32::from(out.size().width() / 64);
-    let tiles = old.size().tiles();
-    let end = tiles - across;
-    let mut took = NOTHING;
-    let mut at = old.position(0);
-    for i in 0..tiles {
-        let here = turn_tile_at(old, solids, parity, at, out.tile_mut(i));
-        if is_own(i, across, end) {
-            took = took.plus(here);
-        }
-        at = at.next(across);
-    }
-    took
-}
-
-// a phase of a strip, and what is taken in its own tiles
-fn phase_of(old: &Plane, walls: &Plane, obstacles: &Plane, parity: u8, out: &mut Plane) -> Took
-    requires parity { parity < 2 }
-    requires walls { HasSidesOf walls.now old.now }
-    requires obstacles { HasSidesOf obstacles.now old.now }
-    requires out { HasSidesOf out.old old.now }
-    requires rows { 2 ≤ old.now.height / 64 }
-    ensures out { out.new ≡ streamed parity old.now (joined walls.now obstacles.now) }
-    ensures took { result ≡ own_take parity old.now walls.now obstacles.now }
-{
-    // one loop, compiled twice, as in `Serial`
-    if are_none(walls, obstacles) {
-        let none = true;
-        let solids = Solids {
-            walls,
-            obstacles,
-            none,
-        };
-        turn_strip(old, solids, parity, out)
-    } else {
-        let none = false;
-        let solids = Solids {
-            walls,
-            obstacles,
-            none,
-        };
-        turn_strip(old, solids, parity, out)
+    let first = u32::from(strip.size().width() / 64);
+    Own {
+        first,
+        end: strip.size().tiles() - first,
     }
 }
 
@@ -142,7 +87,7 @@ fn act_on_strip(strip: &mut Plane, exchange: &Exchange, first: u32, down: u32, p
 {
     let across = u32::from(strip.size().width() / 64);
     let tiles = strip.size().tiles();
-    let end = tiles - across;
+    let own = own_tiles(strip);
     let mut moved = UNMOVED;
     if exchange.is_still() {
         return moved;
@@ -155,7 +100,7 @@ fn act_on_strip(strip: &mut Plane, exchange: &Exchange, first: u32, down: u32, p
         };
         let here = change_of(old, &new).moved(parity);
         strip.set_tile(i, new);
-        if is_own(i, across, end) {
+        if own.has(i) {
             moved = moved.plus(here);
         }
     }
@@ -201,8 +146,8 @@ fn make(
     let mut flow = NO_FLOW;
     for k in 0..plan.n {
         let now = parity_at(plan.parity, k);
-        let took = phase_of(cells, walls, obstacles, now, spare);
-        mem::swap(cells, spare);
+        let own = own_tiles(cells);
+        let took = turn_in_place(cells, walls, obstacles, now, own, spare);
         let turn = action.after_phase(k);
         let moved = act_on_strip(cells, &turn, plan.first, plan.down, 1 - now);
         flow = flow.plus(Flow { took, moved });

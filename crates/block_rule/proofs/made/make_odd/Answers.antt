@@ -1,4 +1,4 @@
-use Rattle.std.proofs.Common.{◌≡◌, ℕ, ◌+◌, ◌-◌, ◌*◌, ◌<◌, ◌≤◌, ◌∙◌, refl, ap, arith, inl, inr, length, get_or, get_or-set_same}
+use Rattle.std.proofs.Common.{◌≡◌, ℕ, ◌+◌, ◌-◌, ◌*◌, ◌<◌, ◌∙◌, ap, arith, inl, inr, length, get_or, get_or-set_same}
 use Rattle.std.proofs.lemmas.Bool.{cases_eq}
 use Rattle.block_rule.specs.Rows.{odd_row}
 use Rattle.block_rule.proofs.Windows.{upper_end, upper_inner, upper_of, lower_of, uppers_more, lowers_more, lower_same, odd_cells, inner_shown}

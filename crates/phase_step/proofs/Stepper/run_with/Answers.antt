@@ -2,24 +2,24 @@ use Rattle.std.proofs.Common.{refl, ◌∙◌, arith}
 use Rattle.gas_terms.specs.Cells.{joined}
 use Rattle.phase_step.specs.declared.moved.Flow.{Flow}
 use Rattle.phase_step.specs.Exchanges.{leaves_of}
-use Rattle.phase_step.proofs.ActionRuns.{phase_with, sides_as_with, next_sides, with_next, flow_next, flow_fits}
+use Rattle.phase_step.proofs.ActionRuns.{phase_with, sides_as_with, sides_at_start, with_next, flow_next, flow_fits}
 use Rattle.phase_step.proofs.Stepper.run_with.Goals as goal
 
 pub loop-k-init : goal.loop-k-init
 loop-k-init g c = record { cells = refl; spare = c.requires.spare; flow = refl }
 
-pub phase-took-requires-clause-walls : goal.phase-took-requires-clause-walls
-phase-took-requires-clause-walls g c =
+pub phase_in_place-took-requires-clause-walls : goal.phase_in_place-took-requires-clause-walls
+phase_in_place-took-requires-clause-walls g c =
     let run = c.args.run in
     sides_as_with run.parity (joined run.walls.now run.obstacles.now) (g.A.Action.leaves run.action.now) c.args.particles.now c.loop-k.particles run.walls.now c.loop-k.k c.loop-k.invariant.cells c.requires.walls
 
-pub phase-took-requires-clause-obstacles : goal.phase-took-requires-clause-obstacles
-phase-took-requires-clause-obstacles g c =
+pub phase_in_place-took-requires-clause-obstacles : goal.phase_in_place-took-requires-clause-obstacles
+phase_in_place-took-requires-clause-obstacles g c =
     let run = c.args.run in
     sides_as_with run.parity (joined run.walls.now run.obstacles.now) (g.A.Action.leaves run.action.now) c.args.particles.now c.loop-k.particles run.obstacles.now c.loop-k.k c.loop-k.invariant.cells c.requires.obstacles
 
-pub phase-took-requires-clause-out : goal.phase-took-requires-clause-out
-phase-took-requires-clause-out g c =
+pub phase_in_place-took-requires-clause-spare : goal.phase_in_place-took-requires-clause-spare
+phase_in_place-took-requires-clause-spare g c =
     let run = c.args.run in
     sides_as_with run.parity (joined run.walls.now run.obstacles.now) (g.A.Action.leaves run.action.now) c.args.particles.now c.loop-k.particles c.loop-k.spare c.loop-k.k c.loop-k.invariant.cells c.loop-k.invariant.spare
 
@@ -27,21 +27,21 @@ phase-took-requires-clause-out g c =
 pub plus-flow-requires : goal.plus-flow-requires
 plus-flow-requires g c =
     let run = c.args.run in
-    let here : Flow = record { took = c.phase-took.result; moved = c.act_on-moved.result } in
-    flow_fits run.parity run.walls.now run.obstacles.now (g.A.Action.leaves run.action.now) c.args.particles.now c.loop-k.k c.loop-k.particles c.swap.new.x c.act_on-moved.new.plane c.loop-k.flow here
-    (phase_with run.parity c.parity_at-now.result c.loop-k.k run.walls.now run.obstacles.now (g.A.Action.leaves run.action.now) (leaves_of c.after_phase-turn.result) c.args.particles.now c.loop-k.particles c.swap.new.x c.act_on-moved.new.plane here
-    c.requires.parity c.loop-k.invariant.cells c.parity_at-now.ensures.parity (c.swap.ensures.x_after ∙ c.phase-took.ensures.out) c.phase-took.ensures.took c.act_on-moved.ensures.cells c.after_phase-turn.ensures c.act_on-moved.ensures.moved)
+    let here : Flow = record { took = c.phase_in_place-took.result; moved = c.act_on-moved.result } in
+    flow_fits run.parity run.walls.now run.obstacles.now (g.A.Action.leaves run.action.now) c.args.particles.now c.loop-k.k c.loop-k.particles c.phase_in_place-took.new.particles c.act_on-moved.new.plane c.loop-k.flow here
+    (phase_with run.parity c.parity_at-now.result c.loop-k.k run.walls.now run.obstacles.now (g.A.Action.leaves run.action.now) (leaves_of c.after_phase-turn.result) c.args.particles.now c.loop-k.particles c.phase_in_place-took.new.particles c.act_on-moved.new.plane here
+    c.requires.parity c.loop-k.invariant.cells c.parity_at-now.ensures.parity c.phase_in_place-took.ensures.particles c.phase_in_place-took.ensures.took c.act_on-moved.ensures.cells c.after_phase-turn.ensures c.act_on-moved.ensures.moved)
     c.loop-k.invariant.flow c.act_on-moved.ensures.lattice (omega arith)
 
 pub loop-k-preserved : goal.loop-k-preserved
 loop-k-preserved g c =
     let run = c.args.run in
-    let here : Flow = record { took = c.phase-took.result; moved = c.act_on-moved.result } in
+    let here : Flow = record { took = c.phase_in_place-took.result; moved = c.act_on-moved.result } in
     let leaves = g.A.Action.leaves run.action.now in
-    let made = phase_with run.parity c.parity_at-now.result c.loop-k.k run.walls.now run.obstacles.now leaves (leaves_of c.after_phase-turn.result) c.args.particles.now c.loop-k.particles c.swap.new.x c.act_on-moved.new.plane here
-    c.requires.parity c.loop-k.invariant.cells c.parity_at-now.ensures.parity (c.swap.ensures.x_after ∙ c.phase-took.ensures.out) c.phase-took.ensures.took c.act_on-moved.ensures.cells c.after_phase-turn.ensures c.act_on-moved.ensures.moved in
+    let made = phase_with run.parity c.parity_at-now.result c.loop-k.k run.walls.now run.obstacles.now leaves (leaves_of c.after_phase-turn.result) c.args.particles.now c.loop-k.particles c.phase_in_place-took.new.particles c.act_on-moved.new.plane here
+    c.requires.parity c.loop-k.invariant.cells c.parity_at-now.ensures.parity c.phase_in_place-took.ensures.particles c.phase_in_place-took.ensures.took c.act_on-moved.ensures.cells c.after_phase-turn.ensures c.act_on-moved.ensures.moved in
     record {
-      cells = with_next run.parity run.walls.now run.obstacles.now leaves c.args.particles.now c.loop-k.k c.loop-k.particles c.swap.new.x c.act_on-moved.new.plane here made;
-      spare = next_sides run.parity run.walls.now run.obstacles.now leaves c.args.particles.now c.loop-k.k c.loop-k.particles c.swap.new.x c.act_on-moved.new.plane c.swap.new.y here made c.swap.ensures.y_after;
-      flow = c.plus-flow.ensures ∙ flow_next run.parity run.walls.now run.obstacles.now leaves c.args.particles.now c.loop-k.k c.loop-k.particles c.swap.new.x c.act_on-moved.new.plane c.loop-k.flow here made c.loop-k.invariant.flow;
+      cells = with_next run.parity run.walls.now run.obstacles.now leaves c.args.particles.now c.loop-k.k c.loop-k.particles c.phase_in_place-took.new.particles c.act_on-moved.new.plane here made;
+      spare = sides_at_start run.parity (joined run.walls.now run.obstacles.now) leaves c.args.particles.now c.loop-k.particles c.phase_in_place-took.new.spare c.loop-k.k c.loop-k.invariant.cells c.phase_in_place-took.ensures.spare;
+      flow = c.plus-flow.ensures ∙ flow_next run.parity run.walls.now run.obstacles.now leaves c.args.particles.now c.loop-k.k c.loop-k.particles c.phase_in_place-took.new.particles c.act_on-moved.new.plane c.loop-k.flow here made c.loop-k.invariant.flow;
     }

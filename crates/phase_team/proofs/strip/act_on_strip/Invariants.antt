@@ -9,5 +9,5 @@ use Rattle.phase_team.proofs.strip.act_on_strip.Given as goal
 abbrev pub invariant-loop-i : goal.invariant-loop-i
 invariant-loop-i l = record {
   cells : l.strip ≡ swept l.initial.strip (acting (acts_there (leaves_of l.exchange) l.first l.down) l.initial.strip) l.i;
-  moved : l.moved ≡ tiles_move (pos l.parity) l.initial.strip (acted (acts_there (leaves_of l.exchange) l.first l.down) l.initial.strip) l.across (l.i - l.across - (l.i - l.end));
+  moved : l.moved ≡ tiles_move (pos l.parity) l.initial.strip (acted (acts_there (leaves_of l.exchange) l.first l.down) l.initial.strip) l.own.first (l.i - l.own.first - (l.i - l.own.end));
 }
