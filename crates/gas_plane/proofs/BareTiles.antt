@@ -106,10 +106,10 @@ wraps : (n k : ℕ) → k < n → (k + n) % n ≡ k
 wraps n k less = let e : k + n ≡ 1 * n + k = omega arith in ap (λ m. m % n) e ∙ mod-mul-add 1 n k less
 
 -- the places by d = 0, 1 and 2
-by_one : (n k : ℕ) → k < n → place_by k 1 n ≡ k
+pub by_one : (n k : ℕ) → k < n → place_by k 1 n ≡ k
 by_one n k less = let e : k + 1 + n - 1 ≡ k + n = omega arith in ap (λ m. m % n) e ∙ wraps n k less
 
-by_two : (n k : ℕ) → k < n → place_by k 2 n ≡ (k + 1) % n
+pub by_two : (n k : ℕ) → k < n → place_by k 2 n ≡ (k + 1) % n
 by_two n k less =
     elim (cases_eq (k + 1) n) [
       | inl e ↦
@@ -189,6 +189,21 @@ module _ (cells : Cells) (column row : ℕ) (wide : IsWholeTiles cells.width) (h
             let (d, x, d2, in_x, ex) = spot cells.width column u wide in_row p in
             let (f, y, f2, in_y, ey) = spot cells.height row v high in_column q in
             ap₂ (has cells) ex ey ∙ ((three f f2).each d d2).cell x y in_x in_y;
+      }
+
+  pub nine_are_all : ((f : ℕ) → f ≤ 2 → AreThreeBare cells column (place_by row f (cells.height / 64))) → IsBareFarRound cells (column * 64) (row * 64)
+  nine_are_all three =
+      record {
+        cell = λ i j p q.
+            let d : i / 64 ≤ 2 = omega arith in
+            let f : j / 64 ≤ 2 = omega arith in
+            let x : i % 64 < 64 = omega arith in
+            let y : j % 64 < 64 = omega arith in
+            let across : i ≡ i / 64 * 64 + i % 64 = omega arith in
+            let down : j ≡ j / 64 * 64 + j % 64 = omega arith in
+            ap₂ (λ i j. has cells ((column * 64 + i + cells.width - 64) % cells.width) ((row * 64 + j + cells.height - 64) % cells.height)) across down
+            ∙ (ap₂ (has cells) (far_spot cells.width column (i / 64) (i % 64) wide in_row x) (far_spot cells.height row (j / 64) (j % 64) high in_column y)
+            ∙ ((three (j / 64) f).each (i / 64) d).cell (i % 64) (j % 64) x y);
       }
 
   pub nine_are_known : IsBareFarRound cells (column * 64) (row * 64) → (f : ℕ) → f ≤ 2 → AreThreeBare cells column (place_by row f (cells.height / 64))

@@ -4,9 +4,11 @@ use Rattle.bit_tile.specs.Tile as tile
 use Rattle.bit_tile.specs.declared.Tile.{Tile}
 use Rattle.tile_border.specs.Ring.{ring, IsBorderOf}
 use Rattle.tile_border.specs.declared.Border.{Border}
+use Rattle.tile_border.specs.declared.Round.{Round}
 use Rattle.gas_terms.specs.Cells.{Cells, extent, has}
 use Rattle.gas_plane.specs.declared.around.TilePlaces.{TilePlaces}
-use Rattle.gas_plane.specs.Planes.{IsLattice, IsTileFrom, IsRingRound, ArePlacesRound}
+use Rattle.gas_plane.specs.Planes.{IsLattice, IsTileFrom, AreTilesRound, IsRingRound, ArePlacesRound, place_by, column_by, row_by}
+use Rattle.gas_plane.proofs.BareTiles.{by_one, by_two}
 use Rattle.gas_plane.proofs.Places.{IsWholeTiles, wide, high, ring_before, ring_after, ring_in, ring_cases}
 
 module _ (b : Border) (cells : Cells) (k : ℕ) (p : TilePlaces) (is : IsLattice cells) (places : ArePlacesRound cells k p) where
@@ -78,3 +80,46 @@ module _ (b : Border) (cells : Cells) (k : ℕ) (p : TilePlaces) (is : IsLattice
   ring_of above below left right above_left above_right below_left below_right is_above is_below is_left is_right is_above_left is_above_right is_below_left is_below_right border =
       rw (← places.column, ← places.row)
       (ring_here above below left right above_left above_right below_left below_right is_above is_below is_left is_right is_above_left is_above_right is_below_left is_below_right border)
+
+place_before : (k n : ℕ) → (k + n - 1) % n ≡ place_by k 0 n
+place_before k n = ap (λ m. m % n) (omega arith)
+
+-- the eight tiles by their numbers
+module _ (cells : Cells) (i : ℕ) (p : TilePlaces) (places : ArePlacesRound cells i p) where
+  column : p.column * 64 ≡ column_by cells i 1
+  column = ap (λ k. k * 64) (sym (by_one (cells.width / 64) p.column places.columns.0)) ∙ ap (λ k. place_by k 1 (cells.width / 64) * 64) places.column
+
+  left : p.left * 64 ≡ column_by cells i 0
+  left = ap (λ k. k * 64) (places.left ∙ place_before p.column (cells.width / 64)) ∙ ap (λ k. place_by k 0 (cells.width / 64) * 64) places.column
+
+  right : p.right * 64 ≡ column_by cells i 2
+  right = ap (λ k. k * 64) (places.right ∙ sym (by_two (cells.width / 64) p.column places.columns.0)) ∙ ap (λ k. place_by k 2 (cells.width / 64) * 64) places.column
+
+  row : p.row * 64 ≡ row_by cells i 1
+  row = ap (λ k. k * 64) (sym (by_one (cells.height / 64) p.row places.rows.0)) ∙ ap (λ k. place_by k 1 (cells.height / 64) * 64) places.row
+
+  above : p.above * 64 ≡ row_by cells i 0
+  above = ap (λ k. k * 64) (places.above ∙ place_before p.row (cells.height / 64)) ∙ ap (λ k. place_by k 0 (cells.height / 64) * 64) places.row
+
+  below : p.below * 64 ≡ row_by cells i 2
+  below = ap (λ k. k * 64) (places.below ∙ sym (by_two (cells.height / 64) p.row places.rows.0)) ∙ ap (λ k. place_by k 2 (cells.height / 64) * 64) places.row
+
+  moved : (t : Tile) (x y u v : ℕ) → x ≡ u → y ≡ v → IsTileFrom t cells x y → IsTileFrom t cells u v
+  moved t x y u v ex ey from = rw (← ex, ← ey) from
+
+  pub tiles_round : (r : Round) → IsTileFrom r.above.now cells (p.column * 64) (p.above * 64) → IsTileFrom r.below.now cells (p.column * 64) (p.below * 64)
+      → IsTileFrom r.left.now cells (p.left * 64) (p.row * 64) → IsTileFrom r.right.now cells (p.right * 64) (p.row * 64)
+      → IsTileFrom r.above_left.now cells (p.left * 64) (p.above * 64) → IsTileFrom r.above_right.now cells (p.right * 64) (p.above * 64)
+      → IsTileFrom r.below_left.now cells (p.left * 64) (p.below * 64) → IsTileFrom r.below_right.now cells (p.right * 64) (p.below * 64)
+      → AreTilesRound r cells i
+  tiles_round r is_above is_below is_left is_right is_above_left is_above_right is_below_left is_below_right =
+      record {
+        above = moved r.above.now (p.column * 64) (p.above * 64) (column_by cells i 1) (row_by cells i 0) column above is_above;
+        below = moved r.below.now (p.column * 64) (p.below * 64) (column_by cells i 1) (row_by cells i 2) column below is_below;
+        left = moved r.left.now (p.left * 64) (p.row * 64) (column_by cells i 0) (row_by cells i 1) left row is_left;
+        right = moved r.right.now (p.right * 64) (p.row * 64) (column_by cells i 2) (row_by cells i 1) right row is_right;
+        above_left = moved r.above_left.now (p.left * 64) (p.above * 64) (column_by cells i 0) (row_by cells i 0) left above is_above_left;
+        above_right = moved r.above_right.now (p.right * 64) (p.above * 64) (column_by cells i 2) (row_by cells i 0) right above is_above_right;
+        below_left = moved r.below_left.now (p.left * 64) (p.below * 64) (column_by cells i 0) (row_by cells i 2) left below is_below_left;
+        below_right = moved r.below_right.now (p.right * 64) (p.below * 64) (column_by cells i 2) (row_by cells i 2) right below is_below_right;
+      }

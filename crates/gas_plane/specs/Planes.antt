@@ -4,6 +4,7 @@ use Rattle.bit_tile.specs.Bit.{bit}
 use Rattle.bit_tile.specs.declared.Tile.{Tile}
 use Rattle.tile_border.specs.Ring.{ring, IsOnRing}
 use Rattle.tile_border.specs.declared.Border.{Border}
+use Rattle.tile_border.specs.declared.Round.{Round}
 use Rattle.gas_plane.specs.declared.around.Position.{Position}
 use Rattle.gas_plane.specs.declared.around.TilePlaces.{TilePlaces}
 use Rattle.gas_terms.specs.Cells.{Cells, has, cells_where, extent, is_size, IsFull}
@@ -56,6 +57,25 @@ place_by k d n = (k + d + n - 1) % n
 -- none of three tiles' cells is in the set: of the one in this column and row of tiles, and of the two beside it
 pub record AreThreeBare (cells : Cells) (column row : ℕ) : Type 0 where
   pub each : (d : ℕ) → d ≤ 2 → IsBare cells (place_by column d (cells.width / 64) * 64) (row * 64)
+
+-- the columns at which tile i, the one to its left and the one to its right begin on the torus, for d = 1, 0 and 2
+abbrev pub column_by : Cells → ℕ → ℕ → ℕ
+column_by cells i d = place_by (i % (cells.width / 64)) d (cells.width / 64) * 64
+
+-- the rows at which tile i, the one above it and the one below it begin
+abbrev pub row_by : Cells → ℕ → ℕ → ℕ
+row_by cells i d = place_by (i / (cells.width / 64)) d (cells.height / 64) * 64
+
+-- the eight tiles that stand round tile i on the torus
+pub record AreTilesRound (r : Round) (cells : Cells) (i : ℕ) : Type 0 where
+  pub above : IsTileFrom r.above.now cells (column_by cells i 1) (row_by cells i 0)
+  pub below : IsTileFrom r.below.now cells (column_by cells i 1) (row_by cells i 2)
+  pub left : IsTileFrom r.left.now cells (column_by cells i 0) (row_by cells i 1)
+  pub right : IsTileFrom r.right.now cells (column_by cells i 2) (row_by cells i 1)
+  pub above_left : IsTileFrom r.above_left.now cells (column_by cells i 0) (row_by cells i 0)
+  pub above_right : IsTileFrom r.above_right.now cells (column_by cells i 2) (row_by cells i 0)
+  pub below_left : IsTileFrom r.below_left.now cells (column_by cells i 0) (row_by cells i 2)
+  pub below_right : IsTileFrom r.below_right.now cells (column_by cells i 2) (row_by cells i 2)
 
 -- none of the 64 by 64 cells from the place (x0, y0) on, and none of the ring round them on the torus, is in the set
 pub record IsBareRound (cells : Cells) (x0 y0 : ℕ) : Type 0 where

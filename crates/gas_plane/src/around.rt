@@ -2,7 +2,7 @@
 
 ghost use Rattle.std.specs.Prelude.{◌≡◌, ◌+◌, ◌*◌, ◌/◌, ◌<◌};
 ghost use Rattle.gas_terms.specs.Cells.{tile_count, tile_rectangle};
-ghost use Rattle.gas_plane.specs.Planes.{IsLattice, IsTileFrom, IsRingRound, ArePlacesRound, IsPosition};
+ghost use Rattle.gas_plane.specs.Planes.{IsLattice, IsTileFrom, AreTilesRound, IsRingRound, ArePlacesRound, IsPosition};
 ghost use Rattle.tile_border.specs.Ring.{IsBorderOfRound};
 ghost use Rattle.tile_border.specs.declared.Border.{Border as RingCells};
 
@@ -51,7 +51,8 @@ impl Plane {
     #[inline]
     pub fn round(&self, i: u32) -> Round<'_>
         requires { i < tile_count self.now }
-        ensures { let r = tile_rectangle self.now i in (b : RingCells) → IsBorderOfRound b result →
+        ensures tiles { AreTilesRound result self.now i }
+        ensures ring { let r = tile_rectangle self.now i in (b : RingCells) → IsBorderOfRound b result →
             IsRingRound b self.now r.x r.y }
     {
         self.round_at(self.position(i))
@@ -62,8 +63,9 @@ impl Plane {
     pub fn round_at(&self, at: Position) -> Round<'_>
         requires tile { at.tile < tile_count self.now }
         requires position { IsPosition (self.now.width / 64) at }
-        ensures { let r = tile_rectangle self.now at.tile in (b : RingCells) → IsBorderOfRound b result →
-            IsRingRound b self.now r.x r.y }
+        ensures tiles { AreTilesRound result self.now at.tile }
+        ensures ring { let r = tile_rectangle self.now at.tile in (b : RingCells) →
+            IsBorderOfRound b result → IsRingRound b self.now r.x r.y }
     {
         let p = self.places_at(at);
         Round {
@@ -78,47 +80,17 @@ impl Plane {
         }
     }
 
-    /// The same cells as `round`'s. Those of a tile that has none are read from the empty tile that all planes share.
-    #[inline]
-    pub fn round_or_bare(&self, i: u32) -> Round<'_>
-        requires { i < tile_count self.now }
-        ensures { let r = tile_rectangle self.now i in (b : RingCells) → IsBorderOfRound b result →
-            IsRingRound b self.now r.x r.y }
-    {
-        let p = self.places(i);
-        Round {
-            above: self.tile_in_or_bare(p.column, p.above),
-            below: self.tile_in_or_bare(p.column, p.below),
-            left: self.tile_in_or_bare(p.left, p.row),
-            right: self.tile_in_or_bare(p.right, p.row),
-            above_left: self.tile_in_or_bare(p.left, p.above),
-            above_right: self.tile_in_or_bare(p.right, p.above),
-            below_left: self.tile_in_or_bare(p.left, p.below),
-            below_right: self.tile_in_or_bare(p.right, p.below),
-        }
-    }
-
     /// The cells round tile i.
     pub fn border(&self, i: u32) -> Border
         requires { i < tile_count self.now }
         ensures { let r = tile_rectangle self.now i in IsRingRound result self.now r.x r.y }
     {
         let mut border = NO_BORDER;
-        border.surround(&self.round_or_bare(i));
+        border.surround(&self.round(i));
         border
     }
 
-    // where tile i and those round it stand
-    #[inline]
-    fn places(&self, i: u32) -> TilePlaces
-        requires { i < tile_count self.now }
-        ensures places { ArePlacesRound self.now i result }
-        ensures lattice { IsLattice self.now }
-    {
-        self.places_at(self.position(i))
-    }
-
-    // the same of the tile at this position
+    // where the tile at this position and those round it stand
     #[inline]
     fn places_at(&self, at: Position) -> TilePlaces
         requires tile { at.tile < tile_count self.now }
@@ -151,16 +123,6 @@ impl Plane {
             column: i % across,
             row: i / across,
         }
-    }
-
-    // the tile in this column and row of tiles, or where it has no cell the one that all planes share
-    #[inline]
-    fn tile_in_or_bare(&self, column: u32, row: u32) -> &Tile
-        requires column { column < self.now.width / 64 }
-        requires row { row < self.now.height / 64 }
-        ensures { IsTileFrom result.now self.now (column * 64) (row * 64) }
-    {
-        self.tile_or_bare(row * self.across() + column)
     }
 }
 

@@ -168,11 +168,13 @@ impl Plane {
         true
     }
 
-    /// Whether neither tile i nor any of the eight tiles round it has a cell.
+    /// Whether neither tile i nor any of the eight tiles round it has a cell: so none is on the ring round it either.
     #[inline]
     pub fn is_bare_round(&self, i: u32) -> bool
         requires { i < tile_count self.now }
         ensures bare { let r = tile_rectangle self.now i in
+            IsTrue result → IsBareFarRound self.now r.x r.y }
+        ensures ring { let r = tile_rectangle self.now i in
             IsTrue result → IsBareRound self.now r.x r.y }
         ensures known { let r = tile_rectangle self.now i in
             IsBareFarRound self.now r.x r.y → IsTrue result }

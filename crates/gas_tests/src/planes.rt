@@ -270,7 +270,7 @@ fn reads_what_is_round_a_tile(rt: HostRuntime) {
     // the tile that has tile 0 in each of the eight places
     for i in 0..25u32 {
         expect_that(&rt, plane.size().tiles() == 25);
-        let round = plane.round_or_bare(i);
+        let round = plane.round(i);
         for (tile, at) in [
             (round.above, 5),
             (round.below, 20),
@@ -288,7 +288,7 @@ fn reads_what_is_round_a_tile(rt: HostRuntime) {
     expect_that(&rt, plane.size().tiles() == 25);
     plane.tile_mut(12).set(63, 0, true);
     expect_that(&rt, plane.size().tiles() == 25);
-    expect_that(&rt, plane.round_or_bare(13).left.get(63, 0));
+    expect_that(&rt, plane.round(13).left.get(63, 0));
     expect_that(&rt, plane.border(13).cell(-1, 0));
 }
 

@@ -1,11 +1,11 @@
 -- What rectangles leave of a tile.
-use Rattle.std.proofs.Common.{◌≡◌, ℕ, ◌+◌, ◌/◌, ◌%◌, ◌<◌, ◌==◌, ◌&&◌, ◌||◌, not, Bool, true, false, List, [], ◌∷◌, length, refl, sym, ◌∙◌, ap₂, arith}
+use Rattle.std.proofs.Common.{◌≡◌, ℕ, ◌+◌, ◌/◌, ◌%◌, ◌<◌, ◌==◌, ◌&&◌, ◌||◌, not, Bool, true, false, List, [], ◌∷◌, length, refl, sym, ◌∙◌, ap, ap₂, arith}
 use Rattle.std.proofs.lemmas.Bool.Decides.{nat_tests}
 use Rattle.bit_tile.specs.Tile as tile
 use Rattle.bit_tile.specs.declared.Tile.{Tile}
 use Rattle.gas_terms.specs.Cells.{Rectangle}
 use Rattle.phase_step.specs.Actions.{IsStill, IsTileCorner, IsLeftOf}
-use Rattle.phase_step.specs.Exchanges.{is_in_any, is_left, HasTilesOf}
+use Rattle.phase_step.specs.Exchanges.{Areas, is_in_any, is_left, leaves_of, nowhere, HasTilesOf}
 
 -- a tile that no rectangle meets stays
 implies_not : (some met : Bool) → (some ≡ true → met ≡ true) → met ≡ false → some ≡ false
@@ -49,3 +49,6 @@ in_none (r ∷ areas) x y e = absurd (grind (arith, nat_tests))
 
 pub still : (drains sources : List Rectangle) → (length drains == 0) ≡ true → (length sources == 0) ≡ true → IsStill (λ x y held. is_left held drains sources x y)
 still drains sources e f x y held = stays held (is_in_any drains x y) (is_in_any sources x y) (in_none drains x y e) (in_none sources x y f)
+
+pub nowhere_is_still : (e : Areas) → e ≡ nowhere → IsStill (leaves_of e)
+nowhere_is_still e is x y held = ap (λ (e : Areas). leaves_of e x y held) is ∙ still [] [] refl refl x y held

@@ -1,6 +1,6 @@
 //! What becomes of the cells of rectangles that are emptied, and of others that are then filled.
 
-ghost use Rattle.std.specs.Prelude.{◌≡◌, true, ℕ, ◌<◌, ◌≤◌, ◌/◌, ◌+◌, ◌||◌, ◌&&◌, not, IsTrue, MatchOption};
+ghost use Rattle.std.specs.Prelude.{◌≡◌, true, ℕ, ◌<◌, ◌≤◌, ◌/◌, ◌+◌, ◌||◌, ◌&&◌, not, IsTrue, IfSome, MatchOption};
 ghost use Rattle.bit_tile.specs.Tile.{HasCells};
 ghost use Rattle.bit_tile.specs.Tile as in_tile;
 ghost use Rattle.gas_terms.specs.Cells.{most_side, is_inside};
@@ -64,7 +64,8 @@ impl Exchange {
 
     /// Whether it has neither drains nor sources.
     pub fn is_still(&self) -> bool
-        ensures { IsTrue result → IsStill (leaves_of self.now) }
+        ensures none { IsTrue result → self.now ≡ nowhere }
+        ensures known { self.now ≡ nowhere → IsTrue result }
     {
         self.drains.len() == 0 && self.sources.len() == 0
     }
@@ -72,9 +73,10 @@ impl Exchange {
     /// What becomes of a tile that begins at the place (left, top), or nothing where it stays as it is.
     pub fn on_tile(&self, left: u32, top: u32, tile: &Tile) -> Option<Tile>
         requires { IsTileCorner left top }
-        ensures { MatchOption result
+        ensures left { MatchOption result
             (IsLeftOf (leaves_of self.now) left top tile.now tile.now)
             (λ new. IsLeftOf (leaves_of self.now) left top tile.now new) }
+        ensures differs { IfSome result (λ new. HasCells new (in_tile.has tile.now) → ⊥) }
     {
         if !self.met.get(left / 64, top / 64) {
             return None;
@@ -94,8 +96,10 @@ impl Exchange {
     }
 }
 
-/// A rectangle that stands for none.
-pub fn any_area() -> Rect {
+/// The first cell of a lattice, as a rectangle that stands for none.
+pub fn any_area() -> Rect
+    ensures { result ≡ record { x = 0; y = 0; w = 1; h = 1 } }
+{
     let size = Size::new(64, 64).unwrap();
     Rect::within(size, 0, 0, 1, 1).unwrap()
 }

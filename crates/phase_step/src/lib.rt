@@ -48,7 +48,7 @@ pub struct Run<'a, A: Action> {
     pub action: &'a A,
 }
 
-/// What turns the blocks of a plane. It never refuses and takes no memory.
+/// What turns the blocks of a plane. A phase is always made: memory or threads that can't be had cost time alone. `Serial` takes no memory.
 pub trait Stepper: Drop {
     /// Turns the blocks of parity 0 or 1: `out` becomes the particles after the phase, and the answer is what walls and
     /// obstacles took of the particles of `old`.

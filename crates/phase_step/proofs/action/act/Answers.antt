@@ -6,6 +6,7 @@ use Rattle.gas_plane.proofs.Sweeps.{sweep_within, sweep_next}
 use Rattle.gas_plane.proofs.PlaneCounts.{counts_next, class_place, few_tiles, tile_counted}
 use Rattle.phase_step.proofs.ActedTiles.{acting, came, went, came_count, went_count, action_makes, action_was, action_starts, action_ends, still_acts, still_counts, all_tiles, row_of_tiles, tile_within, corner_of, passed_by, same_tile, came_counted, went_counted}
 use Rattle.phase_step.specs.Exchanges.{leaves_of}
+use Rattle.phase_step.proofs.Exchanging.{nowhere_is_still}
 use Rattle.phase_step.proofs.action.act.Goals as goal
 
 pub loop-i-init : goal.loop-i-init
@@ -58,7 +59,7 @@ loop-i-preserved c =
     let old = c.tile-old.result.now in
     let new = c.in-Some.new in
     let was = action_was leaves cells c.loop-i.plane i old is within c.loop-i.invariant.cells c.tile-old.ensures in
-    let makes = action_makes leaves cells i (c.width.result / 64) old new across c.in-Some.ensures in
+    let makes = action_makes leaves cells i (c.width.result / 64) old new across c.in-Some.ensures.left in
     record {
       cells = sweep_next cells c.loop-i.plane c.set_tile.new.self (acting leaves cells) i old new is within c.loop-i.invariant.cells c.tile-old.ensures c.set_tile.ensures makes;
       gained = λ a b p q.
@@ -80,11 +81,11 @@ loop-i-preserved-in_default c =
     let within = tile_within c.args.plane.now c.size-2.result c.tiles-end.result c.loop-i.i c.tiles-end.ensures.tiles c.size-2.ensures.extent c.loop-i-test.true in
     passed_by leaves c.args.plane.now c.loop-i.plane c.loop-i.i c.loop-i.gained c.loop-i.lost c.size.ensures.lattice within c.loop-i.invariant
     (same_tile leaves c.args.plane.now c.loop-i.plane c.loop-i.i (c.width.result / 64) c.tile-old.result.now c.size.ensures.lattice
-    (row_of_tiles c.args.plane.now c.size.result c.width.result c.width.ensures c.size.ensures.extent) within c.loop-i.invariant.cells c.tile-old.ensures c.in_default.ensures)
+    (row_of_tiles c.args.plane.now c.size.result c.width.result c.width.ensures c.size.ensures.extent) within c.loop-i.invariant.cells c.tile-old.ensures c.in_default.ensures.left)
 
 pub returns-then-is_still-clause-cells : goal.returns-then-is_still-clause-cells
 returns-then-is_still-clause-cells c =
-    still_acts (leaves_of c.args.exchange.now) c.args.plane.now c.size.ensures.lattice.full (c.is_still.ensures c.if-is_still.true)
+    still_acts (leaves_of c.args.exchange.now) c.args.plane.now c.size.ensures.lattice.full (nowhere_is_still c.args.exchange.now (c.is_still.ensures.none c.if-is_still.true))
 
 pub returns-then-is_still-clause-gained : goal.returns-then-is_still-clause-gained
 returns-then-is_still-clause-gained c = still_counts c.args.plane.now

@@ -1,4 +1,4 @@
-use Rattle.std.proofs.Common.{◌≡◌, ◌+◌, ◌-◌, ◌*◌, ◌/◌, ◌<◌, ◌∙◌, ap, sym, subst, refl, pos, arith}
+use Rattle.std.proofs.Common.{◌≡◌, ◌-◌, ◌<◌, ◌∙◌, ap, sym, subst, refl, pos, arith}
 use Rattle.gas_terms.specs.Cells.{Cells, tile_count, tile_rectangle}
 use Rattle.gas_terms.proofs.Cells.{has-cells_where, full-cells_where, same_cells}
 use Rattle.gas_plane.proofs.PlaneCounts.{few_tiles}
@@ -11,7 +11,6 @@ use Rattle.phase_step.proofs.PhaseSweeps.{tiles_are, solid_place, phased, phase_
 use Rattle.phase_step.proofs.RunTakes.{own_more, own_other, own_fits}
 use Rattle.phase_step.proofs.sweep.turn_each_in_place.Goals as goal
 use Rattle.phase_step.proofs.sweep.turn_each_in_place.Goals.{then-has, else-has}
-
 
 pub loop-i-init : goal.loop-i-init
 loop-i-init c =

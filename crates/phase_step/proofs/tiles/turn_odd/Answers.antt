@@ -15,7 +15,7 @@ returns c =
     let place = c.requires.place in
     let particles : Window = record { tile = c.tile.result; round = c.round_at.result } in
     let near = around t (border_near c.round_at.result).0 in
-    let view = window_view c.args.at.tile old old particles refl refl place.right place.bottom (record { tile = c.tile.ensures; round = c.round_at.ensures }) in
+    let view = window_view c.args.at.tile old old particles refl refl place.right place.bottom (record { tile = c.tile.ensures; round = c.round_at.ensures.ring }) in
     let walls = seen_of c.args.at.tile c.args.solids.walls.now old c.window_in-walls.result place.of_walls place.right place.bottom c.window_in-walls.ensures in
     let obstacles = seen_of c.args.at.tile c.args.solids.obstacles.now old c.window_in-obstacles.result place.of_obstacles place.right place.bottom c.window_in-obstacles.ensures in
     record {

@@ -4,6 +4,7 @@ use Rattle.gas_plane.proofs.Sweeps.{sweep_within, sweep_next, sweep_past}
 use Rattle.gas_plane.proofs.PlaneCounts.{few_tiles}
 use Rattle.phase_step.specs.Actions.{acted}
 use Rattle.phase_step.proofs.ActedTiles.{acting, action_starts, action_ends, still_acts, all_tiles, row_of_tiles, tile_within, same_tile}
+use Rattle.phase_step.proofs.Exchanging.{nowhere_is_still}
 use Rattle.phase_step.proofs.RunTakes.{own_other}
 use Rattle.phase_step.proofs.TileChanges.{none_moved}
 use Rattle.phase_team.specs.ActionStrips.{acts_there, tile_moves, tiles_move}
@@ -14,11 +15,11 @@ use Rattle.phase_team.proofs.strip.act_on_strip.Goals.{After-moved-here, then-ha
 
 pub returns-then-is_still-clause-cells : goal.returns-then-is_still-clause-cells
 returns-then-is_still-clause-cells c =
-    still_acts (acts_there (leaves_of c.args.exchange.now) c.args.first c.args.down) c.args.strip.now c.size.ensures.lattice.full (λ x y held. c.is_still.ensures c.if-is_still.true x _ held)
+    still_acts (acts_there (leaves_of c.args.exchange.now) c.args.first c.args.down) c.args.strip.now c.size.ensures.lattice.full (λ x y held. nowhere_is_still c.args.exchange.now (c.is_still.ensures.none c.if-is_still.true) x _ held)
 
 pub returns-then-is_still-clause-moved : goal.returns-then-is_still-clause-moved
 returns-then-is_still-clause-moved c =
-    none_of_still c.args.parity (acts_there (leaves_of c.args.exchange.now) c.args.first c.args.down) c.args.strip.now c.size.ensures.lattice (λ x y held. c.is_still.ensures c.if-is_still.true x _ held) c.requires.rows
+    none_of_still c.args.parity (acts_there (leaves_of c.args.exchange.now) c.args.first c.args.down) c.args.strip.now c.size.ensures.lattice (λ x y held. nowhere_is_still c.args.exchange.now (c.is_still.ensures.none c.if-is_still.true) x _ held) c.requires.rows
 
 pub loop-i-init : goal.loop-i-init
 loop-i-init c =
@@ -50,7 +51,7 @@ loop-i-preserved-in_default c =
     let within = tile_within cells c.size-2.result c.tiles-tiles.result i c.tiles-tiles.ensures.tiles c.size-2.ensures.extent c.loop-i-test.true in
     let old = c.tile-old.result.now in
     let stays = same_tile leaves cells c.loop-i.strip i c.from-across.result old is across within c.loop-i.invariant.cells c.tile-old.ensures
-    (left_there (leaves_of c.args.exchange.now) c.args.first c.args.down i c.from-across.result c.row_of-top.result old old (let h = c.requires.down.0 in omega arith) c.row_of-top.ensures.row c.in_default.ensures) in
+    (left_there (leaves_of c.args.exchange.now) c.args.first c.args.down i c.from-across.result c.row_of-top.result old old (let h = c.requires.down.0 in omega arith) c.row_of-top.ensures.row c.in_default.ensures.left) in
     record {
       cells = c.loop-i.invariant.cells ∙ sweep_past cells (acting leaves cells) i is stays;
       moved = moves_past (pos c.args.parity) cells (acted leaves cells) c.own_tiles-own.result.first c.own_tiles-own.result.end i c.loop-i.moved
@@ -69,7 +70,7 @@ is_acted c =
       turn = c.row_of-top.ensures.row;
       so_far = c.loop-i.invariant.cells;
       from = c.tile-old.ensures;
-      left = c.in-Some.ensures;
+      left = c.in-Some.ensures.left;
       gained = c.change_of.ensures.gained;
       lost = c.change_of.ensures.lost;
       moved = c.moved-here.ensures;

@@ -1,5 +1,5 @@
 use Rattle.std.proofs.Common.{◌-◌, ◌*◌, ◌/◌, ◌≤◌, refl, sym, ◌∙◌, subst, ap₂, arith}
-use Rattle.gas_terms.specs.Cells.{Cells, joined, HasSidesOf, tile_count}
+use Rattle.gas_terms.specs.Cells.{Cells, joined, tile_count}
 use Rattle.gas_plane.proofs.PlaneCounts.{few_tiles}
 use Rattle.phase_step.specs.declared.moved.Flow.{Flow}
 use Rattle.phase_step.proofs.ActionRuns.{sides_as_with, sides_at_start}
