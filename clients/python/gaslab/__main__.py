@@ -1,4 +1,4 @@
-"""The command line: `python3 -m gaslab WORD ..`."""
+"""The command line: `python3 clients/python WORD ..` at the top of the repository."""
 from __future__ import annotations
 
 import argparse
@@ -60,7 +60,7 @@ def _fill_random(parser: argparse.ArgumentParser) -> None:
 
 
 def _fill_show(parser: argparse.ArgumentParser) -> None:
-    parser.add_argument("file", metavar="FILE")
+    parser.add_argument("file", metavar="FILE", help="a snapshot, as the command save writes it")
     parser.add_argument("--script", action="store_true",
                         help="the commands alone, without comments, as ./gaslab run reads them")
 
@@ -71,26 +71,27 @@ def _fill_nothing(parser: argparse.ArgumentParser) -> None:
 
 WORDS: dict[str, tuple[Run, Fill, str, str]] = {
     "shell": (words.shell, add_sources, "a prompt for commands, with pictures",
-              "python3 -m gaslab shell --width 128 --height 64"),
+              "python3 clients/python shell --width 128 --height 64"),
     "draw": (words.draw, _fill_draw, "a picture of a gas, as a PNG file or here",
-             "python3 -m gaslab draw examples/4_tunnel.txt -o tunnel.png --scale 8"),
+             "python3 clients/python draw examples/4_tunnel.txt -o tunnel.png --scale 8"),
     "film": (words.film_word, _fill_film, "an animated PNG of a gas",
-             "python3 -m gaslab film examples/4_tunnel.txt -o tunnel.png --steps 2 --frames 50"),
+             "python3 clients/python film examples/4_tunnel.txt -o tunnel.png --steps 2 "
+             "--frames 50"),
     "table": (words.table, _fill_table, "a table over time, as CSV",
-              "python3 -m gaslab table examples/4_tunnel.txt --steps 100 --times 30 "
+              "python3 clients/python table examples/4_tunnel.txt --steps 100 --times 30 "
               "--probe front=20,28,8,8 --chart drag.svg"),
     "profile": (words.profile_word, _fill_profile, "a table over columns or rows, as CSV",
-                "python3 -m gaslab profile examples/4_tunnel.txt --along x --bins 8"),
+                "python3 clients/python profile examples/4_tunnel.txt --along x --bins 8"),
     "random": (words.random_word, _fill_random, "a random gas, as lines for ./gaslab run",
-               "python3 -m gaslab random --density 0.3 --drift 0.2 --seed 1 | ./gaslab run"),
+               "python3 clients/python random --density 0.3 --drift 0.2 --seed 1 | ./gaslab run"),
     "show": (words.show, _fill_show, "what is in a snapshot, and its walls as a script",
-             "python3 -m gaslab show day.gas"),
+             "python3 clients/python show day.gas"),
     "journal": (words.journal, add_address, "the journal of a running server, as a script",
-                "python3 -m gaslab journal 127.0.0.1 7878 > journal.txt"),
+                "python3 clients/python journal 127.0.0.1 7878 > journal.txt"),
     "rows": (words.rows, _fill_nothing, "draws the rows among replies as dots and marks",
-             "./gaslab run < examples/2_blocks.txt | python3 -m gaslab rows"),
+             "./gaslab run < examples/2_blocks.txt | python3 clients/python rows"),
     "watch": (watch.run, watch.fill, "shows the gas of a server, here or as a page",
-              "python3 -m gaslab watch 127.0.0.1 7878 --page"),
+              "python3 clients/python watch 127.0.0.1 7878 --page"),
 }
 """Each word: what runs it, what its options are, what it is for, and an example."""
 
@@ -98,9 +99,10 @@ WORDS: dict[str, tuple[Run, Fill, str, str]] = {
 def parser() -> argparse.ArgumentParser:
     """The parser of the command line."""
     whole = argparse.ArgumentParser(
-        prog="python3 -m gaslab", description="A client for gaslab. It proves nothing: what is "
-        "proved is the program that it talks to.", epilog="At the top of the repository, "
-        "python3 clients/python WORD does the same.")
+        prog="python3 clients/python", description="A client for gaslab. It proves nothing: what "
+        "is proved is the program that it talks to.", epilog="WORD --help lists the options of a "
+        "word, with an example for the top of the repository. In the folder clients/python it is "
+        "python3 -m gaslab WORD.")
     words_of = whole.add_subparsers(dest="word", metavar="WORD", required=True)
     for name, (run, fill, what, example) in WORDS.items():
         part = words_of.add_parser(name, help=what, description=what[0].upper() + what[1:] + ".",
@@ -115,7 +117,8 @@ def main(arguments: Optional[Sequence[str]] = None) -> int:
     """Runs a word. The status is 0, 1 after a fault, which is said, or 2 for wrong options."""
     asked = parser().parse_args(arguments)
     try:
-        return asked.run(asked)
+        status: int = asked.run(asked)
+        return status
     except BrokenPipeError:
         os.dup2(os.open(os.devnull, os.O_WRONLY), sys.stdout.fileno())
         return 1

@@ -33,7 +33,7 @@ def rows_of(plane: bytes, width: int) -> Iterator[bytes]:
 
 
 def find_numpy() -> Any:
-    """The module numpy, or None where it is not installed."""
+    """The module numpy, or None if it is not installed."""
     if "numpy" not in sys.modules:
         try:
             import numpy  # noqa: F401

@@ -122,7 +122,7 @@ class Server:
         return self.address
 
     def _acknowledge(self) -> None:
-        """Lets the system acknowledge at once what comes, where it can.
+        """Makes the system acknowledge at once what arrives, if it can.
 
         The server waits for that before it sends its next reply: 40 milliseconds otherwise.
         """

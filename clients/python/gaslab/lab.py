@@ -246,11 +246,11 @@ class Lab:
         return self._ask(Entry, "entry", k)
 
     def save(self) -> Saved:
-        """Writes a snapshot to where the program saves."""
+        """Writes a snapshot to the file of the program's --save."""
         return self._ask(Saved, "save")
 
     def quit(self) -> Bye:
-        """Ends the session. The laboratory answers nothing more."""
+        """Ends the session. No other line can be sent."""
         reply = self._ask(Bye, "quit")
         self.is_closed = True
         self._door.close()

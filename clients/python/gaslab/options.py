@@ -23,10 +23,11 @@ def add_sources(parser: argparse.ArgumentParser) -> None:
     group.add_argument("--width", type=int, default=64, help="cells, a multiple of 64 (64)")
     group.add_argument("--height", type=int, default=64, help="cells, a multiple of 64 (64)")
     group.add_argument("--workers", type=int, default=1, help="threads of the program (1)")
-    group.add_argument("--cap", type=int, default=65536, help="changes there is room for (65536)")
+    group.add_argument("--cap", type=int, default=65536,
+                       help="how many changes the journal has room for (65536)")
     group.add_argument("--load", metavar="PATH", help="the snapshot to start from")
-    group.add_argument("--save", metavar="PATH", help="where the command save writes")
-    group.add_argument("--program", metavar="PATH", help="the program (./gaslab)")
+    group.add_argument("--save", metavar="PATH", help="the file that the command save writes")
+    group.add_argument("--program", metavar="PATH", help="another program than ./gaslab")
     group.add_argument("--timeout", type=float, default=60.0, help="seconds for a reply (60)")
 
 
@@ -42,8 +43,8 @@ def add_looks(parser: argparse.ArgumentParser) -> None:
 
 def add_address(parser: argparse.ArgumentParser) -> None:
     """A running server."""
-    parser.add_argument("host", metavar="HOST")
-    parser.add_argument("port", metavar="PORT", type=int)
+    parser.add_argument("host", metavar="HOST", help="where the server runs, such as 127.0.0.1")
+    parser.add_argument("port", metavar="PORT", type=int, help="the number that it listens at")
     parser.add_argument("--timeout", type=float, default=60.0, help="seconds for a reply (60)")
 
 

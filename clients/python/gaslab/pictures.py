@@ -62,6 +62,7 @@ def film(lab: Lab, path: PathLike, steps: int, frames: int, scale: int = 1,
     width, height, colours, _ = _drawn(first, mean, colour)
 
     def drawn_frames() -> Iterator[Iterator[bytes]]:
+        """The rows of each frame, with the steps made on the way."""
         yield _drawn(first, mean, colour)[3]
         for _ in range(frames - 1):
             lab.advance(steps)

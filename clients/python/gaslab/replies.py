@@ -115,9 +115,10 @@ def parse_reply(text: str, asked: str) -> Reply:
 
 
 def _numbers(kind: Any, words: list[str]) -> Reply | None:
-    if len(words) == len(kind._fields) and all(map(_NUMBER.fullmatch, words)):
-        return kind(*map(int, words))
-    return None
+    if len(words) != len(kind._fields) or not all(map(_NUMBER.fullmatch, words)):
+        return None
+    reply: Reply = kind(*map(int, words))
+    return reply
 
 
 def reply_text(reply: Reply) -> str:

@@ -111,6 +111,7 @@ class Shell:
 
     def _run(self, number: str) -> None:
         def tell(done: int, total: int) -> None:
+            """Writes how far it is, over the last such line."""
             print(f"\r{done} of {total} steps", end="\n" if done == total else "", file=self.out,
                   flush=True)
         self.lab.advance(int(number), _PIECE, tell)
@@ -130,7 +131,7 @@ class Shell:
 
 
 def columns(out: TextIO) -> int:
-    """How many characters a line of the terminal has, or 128 where there is none."""
+    """How many characters a line of the terminal has, or 128 if there is no terminal."""
     try:
         return os.get_terminal_size(out.fileno()).columns
     except (OSError, ValueError):
@@ -138,7 +139,7 @@ def columns(out: TextIO) -> int:
 
 
 def prompted(history: Optional[str]) -> Iterator[str]:
-    """What is typed at a prompt, a whole text at a time, with a history where there is one."""
+    """What is typed at a prompt, a whole text at a time, with a history if the system has one."""
     try:
         import readline
         if history and os.path.exists(history):

@@ -48,7 +48,7 @@ class Table:
         return text.getvalue()
 
     def frame(self) -> Any:
-        """The table as a DataFrame. Raises `ImportError` where pandas is not installed."""
+        """The table as a DataFrame. Raises `ImportError` if pandas is not installed."""
         import pandas
         return pandas.DataFrame(self.rows, columns=list(self.columns))
 
@@ -60,6 +60,7 @@ class Table:
 
     def _repr_html_(self) -> str:
         def line(cells: Sequence[object], tag: str) -> str:
+            """The cells of a row, each in its tag."""
             return "".join(f"<{tag}>{html.escape(str(cell))}</{tag}>" for cell in cells)
         rows = "".join(f"<tr>{line(row, 'td')}</tr>" for row in self.rows)
         return f"<table><tr>{line(self.columns, 'th')}</tr>{rows}</table>"

@@ -1,4 +1,4 @@
-"""The words of `python3 -m gaslab`, but for `watch`."""
+"""The words of the command line, except `watch`."""
 from __future__ import annotations
 
 import argparse

@@ -14,6 +14,18 @@ from typing import Any
 
 CHROMIUM = shutil.which("chromium")
 _PATIENCE = 120.0  # seconds
+_PIXELS = """(() => {
+  const canvas = document.getElementById("gas");
+  const copy = new OffscreenCanvas(canvas.width, canvas.height).getContext("2d");
+  copy.drawImage(canvas, 0, 0);
+  const data = copy.getImageData(0, 0, canvas.width, canvas.height).data;
+  return [canvas.width, canvas.height, ...data];
+})()"""
+
+
+def text(name: str) -> str:
+    """The expression for the text of an element of the page."""
+    return f'document.getElementById("{name}").textContent'
 
 
 class Browser:
@@ -88,6 +100,14 @@ class Browser:
                           awaitPromise=True)
         assert "exceptionDetails" not in found, found
         return found["result"].get("value")
+
+    def canvas(self) -> tuple[int, int, dict[tuple[int, int], tuple[int, ...]]]:
+        """Width and height of the page's canvas, and the colour of each pixel that is not white."""
+        width, height, *data = self.value(_PIXELS)
+        pixels = [tuple(data[at:at + 4]) for at in range(0, len(data), 4)]
+        assert {pixel[3] for pixel in pixels} == {255}
+        return width, height, {(n % width, n // width): pixel[:3] for n, pixel in enumerate(pixels)
+                               if pixel[:3] != (255, 255, 255)}
 
     def wait(self, script: str, value: Any) -> None:
         """Waits until an expression has a value."""

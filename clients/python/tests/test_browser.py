@@ -6,33 +6,12 @@ import unittest
 
 from gaslab import palette
 
-from .browser import CHROMIUM, Browser
+from .browser import CHROMIUM, Browser, text
 from .test_watch import MARKUP, Hall, page_of
-
-PIXELS = """(() => {
-  const canvas = document.getElementById("gas");
-  const copy = new OffscreenCanvas(canvas.width, canvas.height).getContext("2d");
-  copy.drawImage(canvas, 0, 0);
-  const data = copy.getImageData(0, 0, canvas.width, canvas.height).data;
-  return [canvas.width, canvas.height, ...data];
-})()"""
-
-
-def text(name):
-    return f'document.getElementById("{name}").textContent'
 
 
 @unittest.skipUnless(CHROMIUM, "there is no chromium")
 class InABrowser(unittest.TestCase):
-    def pixels(self, browser):
-        """Width, height, and the colour of each cell that is not empty."""
-        width, height, *data = browser.value(PIXELS)
-        colours = [tuple(data[at:at + 4]) for at in range(0, len(data), 4)]
-        self.assertEqual({colour[3] for colour in colours}, {255})
-        return width, height, {(n % width, n // width): colour[:3]
-                               for n, colour in enumerate(colours)
-                               if colour[:3] != palette.CELLS[palette.EMPTY]}
-
     def test_the_page(self):
         """A known gas, steps, what others type, and the server's end."""
         hall = Hall(["0 wall 0 9 64 1", "4 block 8 8 2 2", f"3 {MARKUP}"])
@@ -41,7 +20,7 @@ class InABrowser(unittest.TestCase):
             wall = {(x, 9): palette.CELLS[palette.WALL] for x in range(64)}
             block = {(x, y): palette.CELLS[palette.OBSTACLE] for x in (8, 9) for y in (8, 9)}
             blue = palette.CELLS[palette.PARTICLE]
-            self.assertEqual(self.pixels(browser), (64, 64, {**wall, **block, (0, 3): blue}))
+            self.assertEqual(browser.canvas(), (64, 64, {**wall, **block, (0, 3): blue}))
             self.assertEqual([browser.value(text(name)) for name in ("tick", "count", "px", "py")],
                              ["0", "1", "1", "-1"])
             self.assertEqual(browser.value(text("size")), "64 by 64")
@@ -55,12 +34,12 @@ class InABrowser(unittest.TestCase):
             for tick in range(1, 4):
                 hall.step()
                 browser.wait(text("tick"), str(tick))
-                self.assertEqual(self.pixels(browser),
+                self.assertEqual(browser.canvas(),
                                  (64, 64, {**wall, **block, (tick, 3): blue}))
             hall.has_ended = True
             browser.wait("document.body?.dataset.status", "ended")
             self.assertTrue(browser.value(text("message")).startswith("The server has ended"))
-            self.assertEqual(self.pixels(browser), (64, 64, {**wall, **block, (3, 3): blue}))
+            self.assertEqual(browser.canvas(), (64, 64, {**wall, **block, (3, 3): blue}))
             self.assertEqual(browser.errors, [])
 
     def test_complaints_are_noticed(self):

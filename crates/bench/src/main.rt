@@ -1,7 +1,8 @@
-//! Times the laboratory's work.
+//! A benchmark of planes, snapshots, sessions, and steps by several workers.
 //!
 //! Without words it makes a short run on a small lattice. With `full` it steps 2,048 by 2,048 cells a thousand times, and
-//! laboratories of four sizes by 1, 2 and 4 workers. The figures go to standard error, and what was done to standard output.
+//! laboratories of four sizes by 1, 2 and 4 workers. It prints the figures to standard error, and what it did to standard
+//! output.
 #![tactic(auto)]
 
 mod cells;

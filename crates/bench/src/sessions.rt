@@ -1,4 +1,4 @@
-//! Lines of commands, from memory and into memory.
+//! Sessions whose lines are in memory.
 
 use crate::cells::size_of;
 use crate::lattice::Scale;

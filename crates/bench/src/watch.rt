@@ -1,4 +1,4 @@
-//! What time it is, and lines that say what was done in it.
+//! The clock, and lines that report a figure.
 
 use std::io;
 use std::rt::Clock;

@@ -1,4 +1,4 @@
-//! A class of a tile's cells: 32 rows of 32.
+//! A class of a tile's cells: 32 words of 32 cells, all of one parity of column and row.
 
 ghost use Rattle.std.specs.Prelude.{◌≡◌, ℕ, ◌+◌, ◌*◌, ◌/◌, ◌<◌, ◌≤◌, not, ◌&&◌, ◌||◌, ◌==◌, nat_lt, nat_le, if◌then◌else◌, slice_index, IsTrue};
 ghost use Rattle.bit_tile.specs.Bit.{bit};

@@ -1,4 +1,6 @@
-//! Cells in tiles of 64 by 64, a bit each, by the parities of their columns and rows.
+//! A tile: a set of 64 by 64 cells, one bit for each, in 128 words of 32 cells sorted by the parities of column and row.
+//!
+//! The program uses all of it but `Tile::set` and `Tile::count`, which are there for callers of the library.
 #![tactic(auto)]
 
 ghost use Rattle.std.specs.Prelude.{◌≡◌, ℕ, ◌+◌, ◌*◌, ◌/◌, ◌<◌, ◌≤◌, Bool, true, false, not, ◌&&◌, ◌||◌, ◌==◌, ◌%◌, nat_lt, nat_le, if◌then◌else◌, slice_index, IsTrue};
@@ -18,9 +20,9 @@ static NO_CELLS: Tile = Tile {
     odd_odd: [0; 32],
 };
 
-/// 64 by 64 cells, in four classes of 32 rows of 32 cells: the even columns of the even rows, the odd columns of the
-/// even rows, the even columns of the odd rows, and the odd columns of the odd rows. A class's row j is a word, whose
-/// bit i is the class's column i: the cell in column 5 of row 8 is bit 2 of `odd_even[4]`.
+/// A set of 64 by 64 cells, in four classes by the parities of column and row (`odd_even`: odd columns of even rows). Bit i
+/// of word j of a class is the cell in the class's column i and row j: the cell in column 5 of row 8 is bit 2 of
+/// `odd_even[4]`.
 #[derive(Clone, Copy)]
 pub struct Tile {
     pub even_even: [u32; 32],
@@ -44,7 +46,7 @@ impl Tile {
         }
     }
 
-    /// No cells, in one place for all who read: it stays near while other tiles are read.
+    /// The one tile without cells that all planes share for reading, so that it stays in the cache.
     #[inline]
     pub fn shared_empty() -> &'static Tile
         ensures { HasCells result.now (λ _ _. false) }
@@ -64,7 +66,7 @@ impl Tile {
         }
     }
 
-    /// The cells of the rectangle that is w wide and h high from (x, y).
+    /// The cells of the rectangle of width w and height h from (x, y).
     pub fn rect(x: u32, y: u32, w: u32, h: u32) -> Tile
         requires right { x + w ≤ 64 }
         requires bottom { y + h ≤ 64 }
@@ -80,7 +82,7 @@ impl Tile {
         }
     }
 
-    /// Whether the cell in column x of row y is there.
+    /// Whether the tile has the cell in column x of row y.
     pub fn get(&self, x: u32, y: u32) -> bool
         requires x { x < 64 }
         requires y { y < 64 }
@@ -138,7 +140,7 @@ impl Tile {
         }
     }
 
-    /// Makes the bits of the word the cells of row y.
+    /// Replaces the cells of row y: bit x of the word is column x.
     #[inline]
     pub fn set_row(&mut self, y: usize, word: u64)
         requires { y < 64 }
@@ -155,7 +157,7 @@ impl Tile {
         }
     }
 
-    /// The cells of both.
+    /// The cells that both tiles have.
     pub fn meet(&self, other: &Tile) -> Tile
         ensures { HasCells result (λ i j. has self.now i j && has other.now i j) }
     {
@@ -177,7 +179,7 @@ impl Tile {
         add(&mut self.odd_odd, &other.odd_odd);
     }
 
-    /// Takes the cells of the other out.
+    /// Removes the cells of the other.
     pub fn cut(&mut self, other: &Tile)
         ensures { HasCells self.new (λ i j. has self.old i j && not (has other.now i j)) }
     {

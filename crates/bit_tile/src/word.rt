@@ -1,4 +1,4 @@
-//! Words of two classes in turn.
+//! Bits of two 32-bit words interleaved in a 64-bit word, and taken apart again.
 
 ghost use Rattle.std.specs.Prelude.{◌≡◌, ℕ, ◌+◌, ◌*◌, ◌/◌, ◌%◌, ◌<◌, ◌&&◌, ◌==◌, if◌then◌else◌};
 ghost use Rattle.bit_tile.specs.Bit.{bit};

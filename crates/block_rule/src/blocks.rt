@@ -1,4 +1,4 @@
-//! Rows of blocks, and what is made of them.
+//! A row of 32 blocks in four words, and the rules that make its new cells.
 
 ghost use Rattle.std.specs.Prelude.{◌≡◌, ℕ, ◌+◌, ◌-◌, ◌<◌, ◌==◌, ◌||◌, Bool, false, if◌then◌else◌};
 ghost use Rattle.bit_tile.specs.Bit.{bit};

@@ -1,4 +1,4 @@
-//! Walls where blocks begin at even columns and rows: eight rows of blocks at a time, and only those that have any.
+//! Walls at even parity. Each block lies in one tile; eight rows of blocks are tested at once, and most have no wall.
 
 ghost use Rattle.std.specs.Prelude.{◌≡◌, ℕ, ◌+◌, ◌≤◌, Bool, ◌&&◌, if◌then◌else◌};
 ghost use Rattle.bit_tile.specs.Tile.{has, HasCells};

@@ -1,4 +1,4 @@
-//! Walls: in walled blocks the old cells stay, and their particles give twice their momentum.
+//! Walled blocks: the old cells stay, and their particles give twice their momentum.
 
 ghost use Rattle.std.specs.Prelude.{◌≡◌, ℕ, ◌+◌, ◌*◌, ◌<◌, ◌≤◌, ◌&&◌, if◌then◌else◌, Bool, length, slice_index, pos, ◌-ℤ◌};
 ghost use Rattle.bit_tile.specs.Bit.{bit};

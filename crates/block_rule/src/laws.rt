@@ -1,4 +1,5 @@
-//! Laws that join a tile to the torus. Each function does nothing: its contract is the law.
+//! Laws that join the rule on a tile to the step of the torus. A law is a function with an empty body; its contract is the
+//! law.
 
 ghost use Rattle.std.specs.Prelude.{◌≡◌, ℕ, ◌+◌, ◌<◌, ◌≤◌, Bool, ℤ, pos};
 ghost use Rattle.bit_tile.specs.Tile.{HasCells};

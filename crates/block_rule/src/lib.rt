@@ -1,4 +1,7 @@
-//! The block rule, on one block and on a tile.
+//! The block rule of the HPP gas: for one block of 2 by 2 cells, and for a tile, 32 blocks at once.
+//!
+//! The program calls `turn_tile_even` and `turn_tile_odd`. `turn_block`, `turn_tile` and `turn_tile_into` are there for
+//! callers of the library.
 #![tactic(auto)]
 
 ghost use Rattle.std.specs.Prelude.{◌≡◌, ℕ, ◌<◌, Bool, not, ◌&&◌, ◌||◌, if◌then◌else◌};
@@ -96,9 +99,9 @@ fn hold_both_odd(tile: &Tile, walls: &Window, obstacles: &Window, out: &mut Tile
     }
 }
 
-/// Turns the blocks of a tile, where they begin at even columns and rows. They lie in the tile, so nothing is asked of the
-/// tiles round it. Sets that have no cell in the tile need not be lent. Returns what the walls and the obstacles take of the
-/// tile's own particles: twice their momentum, for those in walled blocks.
+/// Turns the blocks of a tile in place, at even parity: blocks begin at even columns and rows, so each lies in the tile.
+/// Walls or obstacles without a cell in the tile may be `None`. Returns the momentum that walls and obstacles take of the
+/// tile's own particles: twice that of the particles in walled blocks.
 #[inline(always)]
 pub fn turn_tile_even(tile: &mut Tile, walls: Option<&Tile>, obstacles: Option<&Tile>) -> Took
     ensures cells { (window walled obstructed : ℕ → ℕ → Bool) → ShowsTile window tile.old →
@@ -140,8 +143,13 @@ pub fn turn_tile_even(tile: &mut Tile, walls: Option<&Tile>, obstacles: Option<&
     }
 }
 
+<<<<<<< HEAD
 /// Puts the tile into `out` as it is after the rule where blocks begin at odd columns and rows, and reach into the eight tiles
 /// round it. Sets that have no cell in any of the nine need not be lent. Returns the same.
+=======
+/// The same at odd parity: blocks begin at odd columns and rows, and reach into the eight tiles round the tile. Walls or
+/// obstacles without a cell in the nine tiles may be `None`.
+>>>>>>> 34f2b8a4427b1699ebf75f11ebf44961ab42021f
 #[inline(always)]
 pub fn turn_tile_odd(
     particles: &Window,
@@ -174,8 +182,8 @@ pub fn turn_tile_odd(
     }
 }
 
-/// Puts the tile after the rule into `out`. The answer is what the walls and the obstacles take of the tile's own
-/// particles: twice their momentum, for those in walled blocks.
+/// Writes the tile after the rule to `out`. Returns the momentum that walls and obstacles take of the tile's own particles:
+/// twice that of the particles in walled blocks.
 pub fn turn_tile_into(
     tile: &Tile,
     border: &Border,
@@ -222,7 +230,7 @@ fn window_of<'a>(tile: &'a Tile, near: &'a Neighbors) -> Window<'a>
     Window { tile, round }
 }
 
-/// The tile after the rule, and the answer of `turn_tile_into`.
+/// The tile after the rule, and what `turn_tile_into` returns.
 pub fn turn_tile(
     tile: &Tile,
     border: &Border,

@@ -1,4 +1,4 @@
-//! What a rule makes of a tile's cells.
+//! Applies a rule to all blocks of a tile, at even and at odd parity.
 
 ghost use Rattle.std.specs.Prelude.{◌≡◌, ℕ, ◌+◌, ◌*◌, ◌<◌, ◌≤◌, ◌⊎◌, Bool, slice_index};
 ghost use Rattle.bit_tile.specs.Tile.{HasCells};

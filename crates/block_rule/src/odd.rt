@@ -1,4 +1,4 @@
-//! Walls where blocks begin at odd columns and rows: two words for each row of blocks, and eight rows at a time.
+//! Walls at odd parity. A row of blocks takes two words, for those that begin in the tile and those that end in it.
 
 ghost use Rattle.std.specs.Prelude.{◌≡◌, ℕ, ◌+◌, ◌*◌, ◌<◌, ◌≤◌, ◌⊎◌, Bool, ◌&&◌, if◌then◌else◌, slice_index};
 ghost use Rattle.bit_tile.specs.Tile.{has, HasCells};

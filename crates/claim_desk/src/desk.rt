@@ -11,9 +11,9 @@ pub use std::alloc::AllocError as NoMemory;
 use std::alloc::Global;
 use std::marker::Model;
 
-/// A desk hands out the numbers below its limit to the seats that were made with it. Contracts see which desk it is, its
-/// limit, and how many seats it has. What happens at it are the steps of `specs/Draws`: it opens, a seat is split off, a seat
-/// draws, two seats are joined; between any two of them word and seats are in one of the states `IsState`.
+/// Hands out the numbers below its limit to the seats that were made with it. Contracts see which desk it is, its limit, and
+/// its number of seats. `specs/Draws` lists the atomic steps (open, split, draw, join); after each of them counter and seats
+/// are in a state `IsState`.
 #[derive(Drop)]
 pub struct Desk {
     table: Table<(), Draws, (u32, u32), DeskRule, Global>,
@@ -37,7 +37,7 @@ impl Model for Desk {
         × (0 < d.seats) };
 }
 
-/// A seat of a desk, for one thread to draw with. Contracts see its desk, the numbers that it drew, in order, and whether it
+/// A seat of a desk, with which one thread draws. Contracts see its desk, the numbers that it drew, in order, and whether it
 /// has found none left.
 #[derive(Drop)]
 pub struct DeskSeat {
@@ -64,8 +64,8 @@ impl Model for DeskSeat {
 ghost use Rattle.claim_desk.specs.Desk.{fresh};
 
 impl Desk {
-    /// A desk for the numbers below `n`, with 1 to 16 seats that have drawn nothing. Where memory is refused nothing stays
-    /// taken; no other call of a desk takes any.
+    /// A desk for the numbers below `n`, with 1 to 16 seats that have drawn nothing. Fails if memory runs out. No other call
+    /// of a desk allocates.
     pub fn open(alloc: Global, n: u32, seats: u32) -> Result<(Desk, Vec<DeskSeat>), NoMemory>
         requires { (0 < seats) × (seats ≤ 16) }
         ensures desk { IfOk result (λ r. (r.0.id.limit ≡ n) × (r.0.seats ≡ seats)) }
@@ -86,8 +86,8 @@ impl Desk {
         Ok((desk, list))
     }
 
-    /// Takes all seats back, one of which found no number left, and answers `n`: the seats drew each number below it once,
-    /// and no other.
+    /// Takes all seats back and returns `n`. One of them must have found no number left. Together they drew each number
+    /// below `n` exactly once.
     pub fn close(self, mut seats: Vec<DeskSeat>) -> u32
         requires all { vec_len seats ≡ self.seats }
         requires same { All (λ s. s.desk ≡ self.id) seats.items }
@@ -128,8 +128,8 @@ impl DeskSeat {
         seat
     }
 
-    /// Draws the next number, which no other seat draws, or `None` where all are drawn. A seat that has answered `None` answers
-    /// it again and takes no step at the desk. The desk is that of the seat. It waits for nobody.
+    /// Draws the next number, which no other seat draws, or returns `None` if all are drawn. After a `None` a seat returns
+    /// `None` again without touching the counter. The desk must be the seat's own. Never waits.
     pub fn draw(&mut self, desk: &Desk) -> Option<u32>
         requires { self.old.desk ≡ desk.now.id }
         ensures desk { self.new.desk ≡ self.old.desk }

@@ -1,4 +1,4 @@
-//! What a seat of the table knows.
+//! What a seat of the desk's table knows, as ghost state.
 
 use std::collections::LinkedList;
 

@@ -1,4 +1,6 @@
-//! Numbers that threads draw: each number below a limit is drawn once, by some seat of a desk.
+//! A work queue: a `Desk` hands out the numbers below a limit to several threads, each number exactly once.
+//!
+//! The program uses all of it, through `phase_team`.
 #![tactic(auto)]
 
 ghost use Rattle.std.specs.Prelude.{ℕ, ◌+◌, ◌≤◌, List};
@@ -11,8 +13,8 @@ pub mod rule;
 
 pub use desk::{Desk, DeskSeat, NoMemory};
 
-/// In each state that a desk can come to, its seats hold each number below the lesser of the next number and the limit
-/// once, and no other; and the next number is past the limit by no more than there are seats.
+/// However the draws interleave, the seats hold each number below the counter and the limit exactly once, and no other. The
+/// counter overshoots the limit by at most the number of seats.
 pub fn each_state_holds_each_once()
     ensures once { (limit seats next : ℕ) (views : List Draws)
         → IsState limit seats next views → HoldEachOnce limit next views }

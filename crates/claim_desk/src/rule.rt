@@ -1,4 +1,4 @@
-//! The rule of the table, and its steps.
+//! The invariant of the desk's table, and the atomic steps that seats make.
 
 use crate::draws::Draws;
 use atomic_table::{Join, Play, Split, TableRule};

@@ -1,4 +1,4 @@
-//! A laboratory that is served, from the opening of its hall to the last session's end.
+//! Serves a laboratory: opens a hall over it, serves the hall, and counts the entries of all seats.
 
 ghost use Rattle.std.specs.Prelude.{◌≡◌, ℕ, ◌+◌, ◌<◌, ◌≤◌, [], All, IfSome, Some, length, slice_get, vec_len};
 ghost use Rattle.gas_terms.specs.Gas.{Gas};

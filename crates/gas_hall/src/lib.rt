@@ -1,4 +1,8 @@
-//! Sessions of several people on one laboratory, one for each seat of a hall, over sockets or any other lobby.
+//! A server: one session in a thread of its own for each seat of a laboratory. Sessions come from a `Lobby`, such as a
+//! listening socket (`TcpLobby`).
+//!
+//! The program calls `serve_lab`. `serve` and `serve_turn`, which serve a hall that the caller opened, and the names of
+//! `gas_seats` are there for callers of the library.
 #![tactic(auto)]
 
 mod hosting;

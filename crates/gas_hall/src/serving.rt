@@ -1,4 +1,4 @@
-//! Serving: one session for each seat.
+//! Serves a hall: accepts a session for each seat, starts a thread for it, and joins all threads.
 
 ghost use Rattle.std.specs.Prelude.{◌≡◌, ℕ, ◌+◌, ◌≤◌, ⊤, All, IfOk, IfErr, length, map, vec_len, vec_capacity};
 ghost use Rattle.std.specs.List.{sum_by};

@@ -1,4 +1,4 @@
-//! A way to a laboratory.
+//! Doors: ways to a laboratory.
 
 ghost use Rattle.std.specs.Prelude.{◌≡◌, true, Result};
 ghost use Rattle.std.specs.declared.alloc.AllocError.{AllocError as NoMemory};
@@ -16,7 +16,7 @@ use gas_ledger::Gas;
 use gas_terms::{Answer, Command, NoMemory, Refusal, Size};
 use phase_step::Stepper;
 
-/// A laboratory's gas, and how many entries its journal had when the gas was copied.
+/// A clone of a laboratory's gas, with the length of the journal at that time.
 #[derive(Drop)]
 pub struct Copied {
     pub gas: Gas,
@@ -24,7 +24,7 @@ pub struct Copied {
 }
 
 impl Copied {
-    /// A copy of the laboratory's gas as it is now, unless memory is refused. The laboratory keeps its invariant.
+    /// A clone of the laboratory's gas as it is now. Fails if memory runs out.
     pub fn of<S: Stepper>(lab: &Lab<S>) -> Result<Copied, NoMemory>
         ensures copied { Copies lab.now result lab.now }
         ensures sound { IsSound lab.now }
@@ -35,7 +35,7 @@ impl Copied {
     }
 }
 
-/// A seat's way to a laboratory. Each kind of door says what its calls may answer and how they leave it.
+/// A seat's way to a laboratory. Each type of door says what its calls may return and how they change it.
 pub trait Door {
     // how wide and high the laboratory's lattice is
     ghost size_of: { Self → Extent };
@@ -46,17 +46,17 @@ pub trait Door {
     // the same for a copy of the gas
     ghost copies: { Self → Result Copied NoMemory → Self → Type 0 };
 
-    /// How wide and high the lattice is, which no call changes.
+    /// The width and height of the lattice, which no call changes.
     fn size(&self) -> Size
         ensures { result ≡ size_of self.now };
 
-    /// Asks a command that is in order for the size.
+    /// Asks a command, which must be valid for the size.
     fn ask(&mut self, command: Command) -> Result<Answer, Refusal>
         requires in_order { fits (size_of self.old) command ≡ true }
         ensures asked { asks self.old command result self.new }
         ensures size { size_of self.new ≡ size_of self.old };
 
-    /// A copy of the gas with the length of the journal, unless memory is refused.
+    /// A clone of the gas with the length of the journal. Fails if memory runs out.
     fn copy_gas(&mut self) -> Result<Copied, NoMemory>
         ensures copied { copies self.old result self.new }
         ensures size { size_of self.new ≡ size_of self.old };

@@ -1,4 +1,4 @@
-//! The laboratory.
+//! The laboratory: what a command changes, when it is refused, and what always holds.
 
 ghost use Rattle.std.specs.Prelude.{◌≡◌, ◌≤◌, ◌<◌, ◌↔◌, true, false, IfOk, IfErr, length, slice_get};
 ghost use Rattle.gas_terms.specs.Cells.{extent};
@@ -21,9 +21,8 @@ use std::marker::Model;
 
 /// A gas with its ledger, and the journal of the changes that made it.
 ///
-/// Whoever holds one has what its type keeps: the gas is the start replayed by the journal, the ledger is that of the
-/// replay and balances with what there is, steps without ports that were undone have left no trace, and each entry was
-/// admitted where it stands.
+/// Its invariant: the gas is the start replayed by the journal; the ledger is that of the replay, and balances with the gas;
+/// steps without ports that were undone left no trace; each entry was accepted by the rules when it was made.
 #[derive(Drop)]
 pub struct Lab<S: Stepper> {
     start: Gas,
@@ -66,8 +65,8 @@ impl<S: Stepper> Lab<S> {
         })
     }
 
-    /// Does a command of a seat, or refuses it and leaves everything as it was. Only a change, a reading of a row and one
-    /// of an entry may want memory; a change is done whole or not begun. What the laboratory keeps, it keeps before and after.
+    /// Does a command of a seat, or refuses it and changes nothing. Memory can run out for a change, a `row?` or an `entry`;
+    /// a change is then not begun. The invariant holds before and after.
     pub fn apply(&mut self, seat: u16, command: Command) -> Result<Answer, Refusal>
         requires in_order { fits (extent self.old.start.particles) command ≡ true }
         ensures applied { Applies self.old (entry_of seat command) result self.new }
@@ -96,7 +95,7 @@ impl<S: Stepper> Lab<S> {
 }
 
 impl<S: Stepper> Lab<S> {
-    /// The gas that it started with.
+    /// The gas that it opened with.
     pub fn start(&self) -> &Gas
         ensures { result.now ≡ self.now.start }
     {
@@ -133,7 +132,7 @@ impl<S: Stepper> Lab<S> {
         self.journal.as_slice()
     }
 
-    /// What a laboratory's type keeps, for whoever holds one. It does nothing: its contract is the invariant.
+    /// Does nothing: its contract is the laboratory's invariant.
     pub fn invariant(&self)
         ensures sound { IsSound self.now }
         ensures cap { self.now.cap ≤ most_entries }
@@ -145,7 +144,7 @@ impl<S: Stepper> Lab<S> {
         let _size = self.gas().size();
     }
 
-    /// How wide and high the lattice is, which never changes.
+    /// The width and height of the lattice, which never change.
     pub fn size(&self) -> Size
         ensures start { result ≡ extent self.now.start.particles }
         ensures gas { result ≡ extent self.now.gas.particles }
@@ -155,7 +154,7 @@ impl<S: Stepper> Lab<S> {
         self.books.gas.size()
     }
 
-    /// The gas as it is now, once more.
+    /// A clone of the gas as it is now. Fails if memory runs out.
     pub fn copy_gas(&self) -> Result<Gas, NoMemory>
         ensures copy { IfOk result (λ gas. gas ≡ self.now.gas) }
         ensures sound { IsSound self.now }

@@ -1,4 +1,7 @@
-//! The laboratory: a gas with its ledger, and the journal of the changes that made it.
+//! The laboratory: a gas with its ledger, and the journal of the changes that made it. `Lab::apply` does a command or
+//! refuses it; a `Door` is any way to a laboratory.
+//!
+//! The program uses all of it but `Lab::start`, `cap`, `ledger` and `invariant`, which are there for callers of the library.
 #![tactic(auto)]
 
 mod books;
@@ -7,7 +10,7 @@ pub mod lab;
 
 pub use door::{Copied, Door};
 pub use gas_ledger::Gas;
-/// What a command is answered.
+/// What an accepted command returns.
 pub use gas_terms::Answer;
 pub use lab::Lab;
 pub use phase_step::{Serial, Stepper};

@@ -1,4 +1,4 @@
-//! The port action.
+//! The port action on a plane.
 
 ghost use Rattle.std.specs.Prelude.{◌≡◌};
 ghost use Rattle.gas_ledger.specs.PortLists.{ported_by};
@@ -10,8 +10,8 @@ use gas_plane::Plane;
 use gas_terms::Tick;
 use phase_step::{Moved, act_on};
 
-/// The drains empty their cells, then the sources that are due fill theirs. What is drained and filled again has
-/// stayed.
+/// The port action: drains empty their cells, then the sources that are due fill theirs. Returns what came in and went out;
+/// a particle that is drained and filled again counts as neither.
 pub fn apply_ports(plane: &mut Plane, ports: &Ports, tick: Tick) -> Moved
     ensures cells { plane.new ≡ ported_by ports.now tick plane.old }
     ensures moved { result ≡ moved_by tick plane.old plane.new }

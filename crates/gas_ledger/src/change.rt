@@ -1,4 +1,4 @@
-//! How many cells a row brings in and takes out.
+//! Counts of the cells that a new row brings in and takes out.
 
 ghost use Rattle.std.specs.Prelude.{◌≡◌, ◌<◌, ◌*◌, length};
 ghost use Rattle.gas_terms.specs.Cells.{without};

@@ -1,4 +1,4 @@
-//! The gas.
+//! The gas: its edits, its runs, and the port action.
 
 ghost use Rattle.std.specs.Prelude.{◌≡◌, ◌↔◌, true, pos, ◌+ℤ◌, ◌-ℤ◌, IfOk, IsErr, OnOk, OnErr};
 ghost use Rattle.gas_terms.specs.Cells.{extent, lies_within, HasSidesOf};
@@ -53,7 +53,7 @@ impl Model for Gas {
 }
 
 impl Gas {
-    /// A gas of planes of one size, with ports inside it.
+    /// A gas of these parts. The planes must have one size, and the ports must lie within it.
     pub fn new(tick: Tick, particles: Plane, walls: Plane, obstacles: Plane, ports: Ports) -> Gas
         requires { FitTogether particles walls obstacles ports }
         ensures { result ≡ gas_of tick particles walls obstacles ports }
@@ -67,7 +67,7 @@ impl Gas {
         }
     }
 
-    /// No particles, walls, obstacles and ports, at tick 0, or an error where memory was refused.
+    /// The empty gas of this size, at tick 0. Fails if memory runs out.
     pub fn empty(alloc: Global, size: Size) -> Result<Gas, NoMemory>
         ensures { IfOk result (λ gas. gas ≡ empty_gas size) }
     {
@@ -83,7 +83,7 @@ impl Gas {
         })
     }
 
-    /// The same gas again, or an error where memory was refused.
+    /// A clone. Fails if memory runs out.
     pub fn copy(&self, alloc: Global) -> Result<Gas, NoMemory>
         ensures { IfOk result (λ gas. gas ≡ self.now) }
     {
@@ -99,14 +99,14 @@ impl Gas {
         })
     }
 
-    /// The tick that it stands at.
+    /// The tick.
     pub fn tick(&self) -> Tick
         ensures { result ≡ self.now.tick }
     {
         self.tick
     }
 
-    /// How wide and high its lattice is.
+    /// The width and height of its lattice.
     pub fn size(&self) -> Size
         ensures extent { result ≡ extent self.now.particles }
         ensures sound { IsSoundGas self.now }
@@ -148,7 +148,7 @@ impl Gas {
         &self.ports
     }
 
-    /// Puts a particle into each cell of the rectangle that has none, and says what came in.
+    /// Puts a particle into each cell of the rectangle that has none. Returns what came in.
     pub fn fill_particles(&mut self, area: Rect) -> Moved
         requires { lies_within (extent self.old.particles) area ≡ true }
         ensures gas { self.new ≡ enact self.old (Put area) }
@@ -163,7 +163,7 @@ impl Gas {
         }
     }
 
-    /// Takes the particles of the rectangle out, and says what went.
+    /// Removes the particles of the rectangle. Returns what went out.
     pub fn clear_particles(&mut self, area: Rect) -> Moved
         requires { lies_within (extent self.old.particles) area ≡ true }
         ensures gas { self.new ≡ enact self.old (Erase area) }
@@ -177,8 +177,8 @@ impl Gas {
         }
     }
 
-    /// Replaces the particles of row y by those of the bytes, eight cells in each from the highest bit on, and
-    /// says what came in and what went.
+    /// Replaces the particles of row y by those of the bytes, eight cells in each from the highest bit on. Returns what came
+    /// in and what went out.
     pub fn replace_row(&mut self, y: u16, bytes: &[u8]) -> Moved
         requires { fits (extent self.old.particles) (Row y bytes.now) ≡ true }
         ensures gas { self.new ≡ enact self.old (Row y bytes.now) }
@@ -203,7 +203,7 @@ impl Gas {
         self.obstacles.fill(area);
     }
 
-    /// Leaves no wall and no obstacle in the rectangle.
+    /// Removes walls and obstacles from the rectangle.
     pub fn remove_walls_and_obstacles(&mut self, area: Rect)
         ensures { self.new ≡ enact self.old (Unwall area) }
     {
@@ -211,7 +211,7 @@ impl Gas {
         self.obstacles.clear(area);
     }
 
-    /// Adds a port at the end of its list, unless there are `MOST_PORTS` of the kind. It does not act by being added.
+    /// Adds a port at the end of its list. Fails if there are `MOST_PORTS` of the kind already. The port does not act yet.
     pub fn add_port(&mut self, port: Port) -> Result<(), Full>
         requires { fits (extent self.old.particles) (adding port) ≡ true }
         ensures full { IsErr result ↔ (has_all (ports_of self.old) port ≡ true) }
@@ -228,7 +228,7 @@ impl Gas {
         self.ports.clear();
     }
 
-    /// Goes on to the next tick with the particles of `next`, which has the old ones then.
+    /// Goes to the next tick with the particles of `next`, and leaves the old ones there.
     pub fn advance(&mut self, next: &mut Plane)
         requires tick { is_tick (self.old.tick +ℤ pos 1) ≡ true }
         requires sides { HasSidesOf next.old self.old.particles }
@@ -239,7 +239,7 @@ impl Gas {
         mem::swap(&mut self.particles, next);
     }
 
-    /// Goes back to the tick before with the particles of `last`, which has the old ones then.
+    /// Goes to the tick before with the particles of `last`, and leaves the old ones there.
     pub fn retreat(&mut self, last: &mut Plane)
         requires tick { is_tick (self.old.tick -ℤ pos 1) ≡ true }
         requires sides { HasSidesOf last.old self.old.particles }
@@ -250,7 +250,8 @@ impl Gas {
         mem::swap(&mut self.particles, last);
     }
 
-    /// Goes n ticks on in a run of phases, on which no port acts, and says what walls and obstacles took.
+    /// Steps n ticks forward without the ports. Returns what walls and obstacles took. `spare` must have the gas's size; its
+    /// cells are overwritten.
     pub fn run_ahead<S: Stepper>(&mut self, n: u16, spare: &mut Plane, stepper: &mut S) -> Took
         requires tick { is_tick (self.old.tick +ℤ pos n) ≡ true }
         requires spare { HasSidesOf spare.old self.old.particles }
@@ -265,7 +266,8 @@ impl Gas {
         stepper.run(particles, &self.walls, &self.obstacles, first, n, spare)
     }
 
-    /// Goes n ticks on, where the ports act at each, and says what walls and obstacles took and what came in and went.
+    /// Steps n ticks forward, with the port action at each. Returns what walls and obstacles took, and what came in and went
+    /// out.
     pub fn step_on<S: Stepper>(&mut self, n: u16, spare: &mut Plane, stepper: &mut S) -> Flow
         requires tick { is_tick (self.old.tick +ℤ pos n) ≡ true }
         requires spare { HasSidesOf spare.old self.old.particles }
@@ -294,7 +296,7 @@ impl Gas {
         stepper.run_with(particles, run, spare)
     }
 
-    /// Goes n ticks back in a run of phases, and says what walls and obstacles took on the way from there.
+    /// Steps n ticks back. Returns what walls and obstacles took in the steps forward that are undone.
     pub fn run_back<S: Stepper>(&mut self, n: u16, spare: &mut Plane, stepper: &mut S) -> Took
         requires tick { is_tick (self.old.tick -ℤ pos n) ≡ true }
         requires spare { HasSidesOf spare.old self.old.particles }
@@ -309,7 +311,7 @@ impl Gas {
         stepper.run(particles, &self.walls, &self.obstacles, first, n, spare)
     }
 
-    /// The ports act at the present tick, and it says what came in and what went.
+    /// The port action at the present tick. Returns what came in and what went out.
     pub fn act(&mut self) -> Moved
         ensures gas { self.new ≡ act self.old }
         ensures moved { result ≡ moved_by self.old.tick self.old.particles self.new.particles }

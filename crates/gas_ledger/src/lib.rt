@@ -1,4 +1,8 @@
-//! The gas with its walls, obstacles and ports, and the sums of its particles.
+//! A gas: particles, walls, obstacles and ports at a tick. Its edits and runs return what came in and went out; `probe` and
+//! `tally` sum its particles.
+//!
+//! The program steps by `run_ahead`, `run_back` and `step_on`. `advance`, `retreat`, `act` and `apply_ports`, the parts of a
+//! single step, are there for callers of the library.
 #![tactic(auto)]
 
 pub mod apply;
@@ -16,5 +20,5 @@ pub use port::{Full, Port, Source};
 pub use ports::Ports;
 pub use sums::{probe, tally};
 
-/// The accounts of a gas, and the sums that they are made of.
+/// The accounts of a gas, and the sums in them.
 pub use gas_terms::{Ledger, Sums};

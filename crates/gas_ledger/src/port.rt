@@ -1,18 +1,18 @@
-//! Ports: where particles go out and where they come in.
+//! Ports: drains take particles out, and sources put them in.
 
 use gas_terms::Rect;
 use std::error::Error;
 use std::fmt;
 use std::marker::Model;
 
-/// A port that may be added. A source has its period in ticks.
+/// A port to be added. A source has a period in ticks.
 #[derive(Clone, Copy, Debug, PartialEq, Eq)]
 pub enum Port {
     Drain(Rect),
     Source(Rect, u16),
 }
 
-/// Where a source puts particles, and every how many ticks.
+/// The rectangle that a source fills, and its period in ticks.
 #[derive(Clone, Copy, Debug, PartialEq, Eq)]
 pub struct Source {
     pub area: Rect,

@@ -1,4 +1,4 @@
-//! The ports of a gas.
+//! The drains and sources of a gas, in two lists.
 
 ghost use Rattle.std.specs.Prelude.{◌≡◌, ◌<◌, ◌%◌, ◌==◌, ◌||◌, ◌↔◌, nat_lt, nat_abs, true, false, length, IsErr, OnOk, OnErr};
 ghost use Rattle.gas_ledger.specs.PortLists.{no_ports, with_port, has_all, has_period, due_areas, IsPortSet};
@@ -37,7 +37,7 @@ impl Ports {
         }
     }
 
-    /// The same ports again.
+    /// A clone.
     pub fn copy(&self) -> Ports
         ensures { result ≡ self.now }
     {
@@ -47,7 +47,7 @@ impl Ports {
         }
     }
 
-    /// Adds a port at the end of its list, unless there are `MOST_PORTS` of the kind already.
+    /// Adds a port at the end of its list. Fails if there are `MOST_PORTS` of the kind already.
     pub fn add(&mut self, port: Port) -> Result<(), Full>
         requires period { has_period port ≡ true }
         ensures full { IsErr result ↔ (has_all self.old port ≡ true) }
@@ -79,7 +79,7 @@ impl Ports {
         self.sources.clear();
     }
 
-    /// Whether there is a port.
+    /// Whether there is any port.
     pub fn any(&self) -> bool
         ensures any { result ≡
             (nat_lt 0 (length self.now.drains) || nat_lt 0 (length self.now.sources)) }

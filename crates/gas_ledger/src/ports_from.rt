@@ -1,4 +1,4 @@
-//! What ports do to the particles at a tick.
+//! The ports as an action: what they do after each phase of a run.
 
 ghost use Rattle.std.specs.Prelude.{◌≡◌, pos, ◌+ℤ◌};
 ghost use Rattle.gas_ledger.specs.PortLists.{due_areas, left_by};

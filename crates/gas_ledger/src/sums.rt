@@ -1,4 +1,4 @@
-//! The sums of particles.
+//! Sums of the particles of a rectangle and of the whole lattice.
 
 ghost use Rattle.std.specs.Prelude.{◌≡◌, ◌^◌, true};
 ghost use Rattle.gas_terms.specs.Cells.{extent, lies_within};

@@ -1,4 +1,4 @@
-//! What stands round a tile.
+//! The tiles round a tile of a plane, and their border.
 
 ghost use Rattle.std.specs.Prelude.{◌≡◌, ◌+◌, ◌*◌, ◌/◌, ◌<◌};
 ghost use Rattle.gas_terms.specs.Cells.{tile_count, tile_rectangle};

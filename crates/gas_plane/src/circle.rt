@@ -1,4 +1,4 @@
-//! Places round a circle.
+//! The place before and the place after one, on a circle.
 
 ghost use Rattle.std.specs.Prelude.{◌≡◌, ◌+◌, ◌-◌, ◌%◌, ◌<◌};
 

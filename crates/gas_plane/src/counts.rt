@@ -1,4 +1,4 @@
-//! Counts of the cells of rectangles.
+//! Counts of the cells of rectangles, by the parities of column and row.
 
 ghost use Rattle.std.specs.Prelude.{◌≡◌, ℕ, ◌+◌, ◌*◌, ◌%◌, ◌<◌, ◌≤◌, ◌^◌, ◌==◌, ◌&&◌, true, slice_index};
 ghost use Rattle.gas_terms.specs.Cells.{extent, is_inside, lies_within};

@@ -1,4 +1,4 @@
-//! Laws of planes. Each function does nothing: its contract is the law.
+//! A law of planes. A law is a function with an empty body; its contract is the law.
 
 ghost use Rattle.std.specs.Prelude.{◌≡◌, ℕ, ◌+◌, Bool};
 ghost use Rattle.bit_tile.specs.Tile.{HasCells};

@@ -1,4 +1,6 @@
-//! A lattice's cells, in tiles.
+//! A plane: a set of cells of a lattice, stored as tiles. The lattice is a torus.
+//!
+//! The program uses all of it but `Plane::border`, which is there for callers of the library.
 #![tactic(auto)]
 
 ghost use Rattle.std.specs.Borrow.{sem};

@@ -1,4 +1,4 @@
-//! What a plane keeps of its tiles.
+//! A mark for each tile of a plane: whether it has cells.
 
 ghost use Rattle.std.specs.Prelude.{◌≡◌, IsTrue, ℕ, ◌<◌, length, false};
 ghost use Rattle.bit_tile.specs.Tile.{HasCells};

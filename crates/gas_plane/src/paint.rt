@@ -1,4 +1,4 @@
-//! Rectangles of cells put in and taken out.
+//! Fills and clears rectangles of cells.
 
 ghost use Rattle.std.specs.Prelude.{◌≡◌, ◌/◌, ◌%◌, ◌<◌, ◌==◌, ◌&&◌};
 ghost use Rattle.gas_terms.specs.Cells.{tile_count, is_inside, filled, cleared};

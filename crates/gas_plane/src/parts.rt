@@ -1,4 +1,4 @@
-//! The part of a rectangle that lies in a tile.
+//! Which tiles a rectangle meets, and the part of it in each.
 
 ghost use Rattle.std.specs.Prelude.{◌≡◌, IsTrue, ℕ, ◌+◌, ◌/◌, ◌<◌, ◌≤◌, ◌^◌, ◌&&◌, nat_le, nat_lt, false, MatchOption, true};
 ghost use Rattle.gas_terms.specs.Cells.{is_inside};

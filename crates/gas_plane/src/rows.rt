@@ -1,4 +1,4 @@
-//! Rows of cells as bytes.
+//! Rows of cells as bytes, read and written.
 
 ghost use Rattle.std.specs.Prelude.{◌≡◌, ℕ, ◌+◌, ◌*◌, ◌/◌, ◌%◌, ◌<◌, ◌-◌, length, slice_index};
 ghost use Rattle.bit_tile.specs.Bit.{bit};

@@ -1,4 +1,4 @@
-//! The command line.
+//! The command line, and the texts of its help and faults.
 
 ghost use Rattle.std.specs.Prelude.{◌≤◌, IfOk};
 ghost use Rattle.gas_run.specs.Plans.{IsInRange, HasSessions};

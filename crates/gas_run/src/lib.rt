@@ -1,4 +1,6 @@
-//! What the program is asked to do, loading a snapshot, and a run by one session.
+//! The command line, loading a snapshot, opening a laboratory, and a run: one session on it.
+//!
+//! The program uses all of it.
 #![tactic(auto)]
 
 pub mod command_line;

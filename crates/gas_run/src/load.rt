@@ -1,4 +1,4 @@
-//! A gas from a snapshot that a reader gives.
+//! Loads a gas from a reader that gives a snapshot.
 
 ghost use Rattle.std.specs.Prelude.{◌≡◌, IfOk, IfErr};
 ghost use Rattle.gas_run.specs.Loading.{IsRead, IsReadFault, Loads};
@@ -10,8 +10,8 @@ use std::alloc::Global;
 use std::io::Read;
 use thiserror::Error;
 
-/// Why no gas was loaded: a read failed, or what was read is no snapshot, for the first fault from the left. Memory that was
-/// refused is a fault of the snapshot too.
+/// Why no gas was loaded: a read failed, or the bytes are not a snapshot. Memory that runs out counts as a fault of the
+/// snapshot.
 #[derive(Clone, Copy, Debug, PartialEq, Eq, Error)]
 pub enum LoadFault {
     #[error("read")]
@@ -55,7 +55,7 @@ fn read_all<R: Read>(alloc: Global, reader: &mut R) -> Result<Vec<u8>, LoadFault
     Ok(bytes)
 }
 
-/// Reads a snapshot of either version to its end, though never more than 6,291,767 bytes, and gives its gas.
+/// Reads to the reader's end, but at most 6,291,767 bytes, and returns the gas of the snapshot in them, of either version.
 pub fn load_from<R: Read>(alloc: Global, reader: &mut R) -> Result<Gas, LoadFault>
     ensures { Loads (R.remaining reader.old) (R.remaining reader.new) result }
 {

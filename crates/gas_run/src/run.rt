@@ -1,4 +1,4 @@
-//! A run of the laboratory: one session, of seat 0.
+//! A run: one session, of seat 0, on a laboratory that nobody else uses.
 
 ghost use Rattle.std.specs.Prelude.{◌≡◌, ◌≤◌, IfOk};
 ghost use Rattle.gas_terms.specs.Laboratory.{opening};
@@ -31,7 +31,8 @@ fn status_of(end: SessionEnd) -> Status
     }
 }
 
-/// The laboratory of a setup, which opens with the given gas, or else the empty gas of the setup's size.
+/// The laboratory of a setup. It opens with the given gas, or with the empty gas of the setup's size. Fails if memory runs
+/// out.
 pub fn opened<S: Stepper>(
     alloc: Global,
     setup: Setup,
@@ -48,9 +49,9 @@ pub fn opened<S: Stepper>(
     Lab::open(alloc, start, setup.cap, stepper)
 }
 
-/// Serves one session on a laboratory that opens with the given gas, or else the empty gas of the setup's size, and
-/// answers the program's exit status. Where memory is refused for the opening it is 4, and nothing is read or written.
-/// One worker is the calling thread; more take `rt` to start threads.
+/// Opens a laboratory with the given gas, or with the empty gas of the setup's size, and serves one session on it. Returns
+/// the program's exit status. If memory runs out for the opening it is 4, and nothing is read or written. One worker is the
+/// calling thread; more start threads through `rt`.
 pub fn run_on<T: Threads + Drop, R: Read, W: Write, K: Shelf>(
     rt: T,
     alloc: Global,

@@ -1,10 +1,10 @@
-//! What the program is asked to do.
+//! What a command line asks for.
 
 use gas_terms::{NoMemory, Size};
 use std::net::SocketAddr;
 
-/// How a laboratory is set up: the size of a new lattice, by how many workers it is stepped, from 1 to 16, and how many
-/// entries the journal may have, from 1 to 65,536.
+/// How a laboratory is set up: the size of a new lattice, the number of workers (1 to 16), and the capacity of the journal
+/// in entries (1 to 65,536).
 #[derive(Clone, Copy, Debug, PartialEq, Eq)]
 pub struct Setup {
     pub size: Size,
@@ -12,14 +12,14 @@ pub struct Setup {
     pub cap: u32,
 }
 
-/// Who is served: one session on standard input and output, or from 1 to 64 sessions of those who connect to an address.
+/// Who is served: one session on standard input and output, or 1 to 64 sessions that connect to an address.
 #[derive(Clone, Copy, Debug, PartialEq, Eq)]
 pub enum Service {
     Run,
     Serve { address: SocketAddr, sessions: u8 },
 }
 
-/// What a command line asks for. A snapshot to start from has a size of its own, so that of the setup is then not used.
+/// What a command line asks for. A snapshot to load has a size of its own; the setup's size is then not used.
 #[derive(Clone, Copy, Debug, PartialEq, Eq)]
 pub struct Plan<'a> {
     pub service: Service,
@@ -28,7 +28,7 @@ pub struct Plan<'a> {
     pub save: Option<&'a str>,
 }
 
-/// Memory was refused, or the line asks for something else: for help, or for what there is not. The text says which.
+/// Memory ran out, or the line asks for help or has a fault, which the text says.
 #[derive(Debug, Drop)]
 pub enum PlanFault {
     Memory,

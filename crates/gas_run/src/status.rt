@@ -1,4 +1,4 @@
-//! What the program exits with.
+//! The program's exit statuses.
 
 ghost use Rattle.std.specs.Prelude.{◌≡◌};
 ghost use Rattle.gas_run.specs.Statuses.{number_of};
@@ -8,20 +8,20 @@ ghost use Rattle.gas_run.specs.Statuses.{number_of};
 pub enum Status {
     /// What was asked for was done.
     Done,
-    /// Reading, writing or listening failed, or a session made as many reads as it may.
+    /// Reading, writing or listening failed, or a session reached its limit of reads.
     Failed,
     /// The command line was refused, or asked for help.
     NoPlan,
-    /// The snapshot to start from could not be read, or is none.
+    /// The snapshot to load could not be read, or is not a snapshot.
     NotLoaded,
-    /// Memory was refused to the plan, to the start or to a reply.
+    /// Memory ran out for the plan, for the start or for a reply.
     NoMemory,
-    /// A line was too long, or no text.
+    /// A line was too long, or not UTF-8.
     BadLine,
 }
 
 impl Status {
-    /// The number by which the system knows it.
+    /// The exit status as a number.
     pub fn number(self) -> u8
         ensures { result ≡ number_of self }
     {

@@ -1,4 +1,4 @@
-//! What is told of the calls of a door.
+//! Gates: a caller's hook before and after each call of a `Hall`'s door.
 
 /// Is told of each call of a door, before the lock is asked for and after it was given back: the seat's number, and the
 /// number of the call among the seat's own, from 0. At its last value the number stays.

@@ -1,4 +1,4 @@
-//! A laboratory under a lock, its seats, and their doors.
+//! A laboratory under a mutex, with its seats and doors.
 
 ghost use Rattle.std.specs.Prelude.{◌≡◌, ◌<◌, ◌≤◌, [], true, IfOk, IfErr, length, vec_len};
 ghost use Rattle.std.specs.List.{sum_by};

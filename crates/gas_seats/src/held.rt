@@ -1,4 +1,4 @@
-//! What the lock keeps.
+//! The value under a `Hall`'s lock: the laboratory, and the total of the entries.
 
 ghost use Rattle.std.specs.Prelude.{◌≡◌, ◌≤◌, true, length};
 ghost use Rattle.gas_terms.specs.Commands.{fits};

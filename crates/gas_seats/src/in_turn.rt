@@ -1,4 +1,4 @@
-//! The laboratory as a lock of turns keeps it, and what seats do with it.
+//! The value under a `TurnHall`'s lock, and the calls that seats make of it.
 
 ghost use Rattle.std.specs.Prelude.{◌≡◌, ◌≤◌, ⊤, true, length};
 ghost use Rattle.gas_terms.specs.Cells.{extent};

@@ -1,4 +1,7 @@
-//! One laboratory for several people: each has a seat, and every command is one event under one hold of a lock.
+//! One laboratory for several people. Each has a seat, and each command is one event, made while its seat holds a lock.
+//!
+//! The program uses `TurnHall` and its seats, doors and notes, on a ticket lock. `Hall` and its seats, doors, names and
+//! gates, on a mutex, are there for callers of the library; a `Hall` can be closed, which returns the laboratory.
 #![tactic(auto)]
 
 mod gate;

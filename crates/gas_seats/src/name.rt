@@ -1,4 +1,4 @@
-//! What names a hall.
+//! The type that names a `Hall`: its ledger of entries, its lattice's size and its capacity.
 
 ghost use Rattle.std.specs.Prelude.{ℕ};
 ghost use Rattle.gas_terms.specs.Cells.{Extent};

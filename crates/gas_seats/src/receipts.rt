@@ -1,4 +1,5 @@
-//! Receipts hold: what a seat was told of the journal stays so.
+//! A law of receipts: what a seat was told of the journal stays so. A law is a function with an empty body; its contract is
+//! the law.
 
 ghost use Rattle.std.specs.Prelude.{◌≡◌, ℕ, List, Ok, Some, Result, slice_get};
 ghost use Rattle.std.specs.declared.alloc.AllocError.{AllocError as NoMemory};

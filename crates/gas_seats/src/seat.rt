@@ -1,4 +1,4 @@
-//! A seat of a hall.
+//! A seat of a `Hall`, which counts the entries that it made.
 
 ghost use Rattle.std.specs.Prelude.{◌≡◌, ◌≤◌};
 ghost use Rattle.gas_terms.specs.Laboratory.{most_entries};

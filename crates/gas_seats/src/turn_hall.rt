@@ -1,4 +1,5 @@
-//! A hall that serves its seats in turn. What a seat has seen of the journal begins all that it sees later.
+//! A laboratory under a ticket lock, with its seats, doors and notes. What a seat has seen of the journal begins all that it
+//! sees later.
 
 ghost use Rattle.std.specs.Prelude.{◌≡◌, ◌<◌, ◌≤◌, ◌⊎◌, [], true, All, IfOk, IfErr, vec_len};
 ghost use Rattle.gas_terms.specs.Cells.{extent};

@@ -1,4 +1,4 @@
-//! Why bytes were not read.
+//! Why bytes are not a snapshot.
 
 ghost use Rattle.std.specs.Prelude.{◌≡◌};
 ghost use Rattle.gas_snapshot.specs.declared.fault.SnapFault.TheVariants.{Memory};
@@ -6,7 +6,7 @@ ghost use Rattle.gas_snapshot.specs.declared.fault.SnapFault.TheVariants.{Memory
 use gas_terms::NoMemory;
 use thiserror::Error;
 
-/// The first fault from the left, or that memory was refused for bytes that have none.
+/// The first fault from the left, or, in bytes without fault, that memory ran out.
 #[derive(Clone, Copy, Debug, PartialEq, Eq, Error)]
 pub enum SnapFault {
     /// The bytes end within a field.
@@ -24,10 +24,10 @@ pub enum SnapFault {
     /// More than `MOST_PORTS` ports of a kind, a rectangle outside the lattice or without cells, or a period of 0.
     #[error("port")]
     Port,
-    /// Bytes stand after the last field.
+    /// There are bytes after the last field.
     #[error("trailing")]
     Trailing,
-    /// Memory was refused.
+    /// Memory ran out.
     #[error("memory")]
     Memory,
 }

@@ -1,4 +1,4 @@
-//! The fields before the cells, each from the front of the bytes.
+//! Reads the fields before the cells, one by one from the front.
 
 ghost use Rattle.std.specs.Prelude.{◌≡◌, ◌≤◌, ◌<◌, ◌+◌, ◌*◌, ◌&&◌, true, nat_le, ℕ, [], Some, None, Ok, Err, IfOk, if◌then◌else◌, length, bytes_eq};
 ghost use Rattle.gas_terms.specs.Cells.{lies_within};

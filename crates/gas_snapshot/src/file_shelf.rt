@@ -1,4 +1,4 @@
-//! A file that holds the last snapshot.
+//! A shelf that is a file, which holds the last snapshot.
 
 ghost use Rattle.std.specs.Prelude.{◌≡◌, IfOk};
 
@@ -10,8 +10,8 @@ use std::io::Write;
 use std::rt::Files;
 use std::{fs, io};
 
-/// Keeps the last snapshot in a file. A snapshot is written beside the path first, under the path's name with the seat's
-/// number and `.tmp`, and takes the path's place once it is whole: a put that fails leaves the old file.
+/// Keeps the last snapshot in a file. A snapshot is first written to the draft `PATH.SEAT.tmp`, which is renamed to the path
+/// once it is whole. A put that fails leaves the old file.
 #[derive(Drop)]
 pub struct FileShelf<R: Files> {
     files: R,
@@ -21,7 +21,7 @@ pub struct FileShelf<R: Files> {
 }
 
 impl<R: Files + Drop> FileShelf<R> {
-    /// A shelf at the path, for a seat. Nothing is written yet, and no put has failed.
+    /// A shelf at the path, for a seat. Writes nothing yet. Fails if memory runs out.
     pub fn new(alloc: Global, files: R, path: &str, seat: u16) -> Result<FileShelf<R>, NoMemory>
         ensures { IfOk result (λ shelf. shelf.failures ≡ 0) }
     {

@@ -1,4 +1,4 @@
-//! Laws of snapshots. Each function does nothing: its contract is the law.
+//! Laws of snapshots. A law is a function with an empty body; its contract is the law.
 
 ghost use Rattle.std.specs.Prelude.{◌≡◌, ◌<◌, List, ℕ, Ok};
 ghost use Rattle.std.specs.List.{All};

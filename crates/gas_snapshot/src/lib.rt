@@ -1,4 +1,7 @@
-//! A gas as bytes and back, and shelves that take the bytes.
+//! Snapshots: `encode` and `decode` turn a gas into bytes and back, and a `Shelf` keeps the bytes, as in a file.
+//!
+//! The program uses all of it but `write_to`, which writes a snapshot without allocating and is there for callers of the
+//! library.
 #![tactic(auto)]
 
 mod cells;

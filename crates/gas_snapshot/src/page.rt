@@ -1,4 +1,4 @@
-//! What stands before the cells, written to a page on the stack.
+//! Writes the fields before the cells to a page on the stack.
 
 ghost use Rattle.std.specs.Prelude.{◌≡◌, ◌≤◌, ◌+◌, ◌*◌, ◌++◌, ◌∷◌, [], length};
 ghost use Rattle.std.specs.Int.{w16, to_be_bytes};

@@ -1,4 +1,4 @@
-//! Bytes as a gas.
+//! Reads bytes as a gas.
 
 ghost use Rattle.std.specs.Prelude.{◌≡◌, ◌-◌, ◌*◌, ◌/◌, Ok, IfOk, length};
 ghost use Rattle.gas_terms.specs.Gas.{Gas as GasTerm};
@@ -65,8 +65,8 @@ fn gas_in(alloc: Global, bytes: &[u8]) -> Result<Gas, SnapFault>
     Ok(Gas::new(head.tick, particles, walls, obstacles, ports))
 }
 
-/// The gas whose snapshot the bytes are, in either version; else the first fault from the left, or want of memory where
-/// there is none.
+/// The gas whose snapshot the bytes are, in either version. Fails with the first fault from the left, or, in bytes without
+/// fault, if memory runs out.
 pub fn decode(alloc: Global, bytes: &[u8]) -> Result<Gas, SnapFault>
     // What is read is spelled so.
     ensures found { IfOk result (λ gas. Spells bytes.now gas) }

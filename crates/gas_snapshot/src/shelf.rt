@@ -1,4 +1,4 @@
-//! Where snapshots are put.
+//! Shelves: where snapshots are put.
 
 ghost use Rattle.std.specs.Prelude.{◌≡◌, ℕ, ◌+◌, ◌-◌, ◌^◌, min, List, [], ◌∷◌, Option, None, Some, IsErr, OnOk, OnErr};
 ghost use Rattle.gas_snapshot.specs.Shelved.{Gains};
@@ -6,7 +6,7 @@ ghost use Rattle.gas_snapshot.specs.Shelved.{Gains};
 use std::error::Error;
 use std::fmt;
 
-/// The shelf did not take the bytes.
+/// The shelf could not take the bytes.
 #[derive(Clone, Copy, Debug, PartialEq, Eq)]
 pub struct ShelfFault;
 
@@ -30,7 +30,7 @@ pub trait Shelf {
     // what was put there, in order, where the type says so
     ghost shelved: { Self → Option (List (List ℕ)) } = { λ _. None };
 
-    /// Takes the bytes, whole or not at all.
+    /// Takes the bytes whole, or fails and takes none.
     fn put(&mut self, bytes: &[u8]) -> Result<(), ShelfFault>
         ensures ok { OnOk result ((failures self.new ≡ failures self.old)
             × Gains (shelved self.old) (shelved self.new) (bytes.now ∷ [])) }
@@ -49,7 +49,7 @@ pub struct NoShelf {
 }
 
 impl NoShelf {
-    /// No put has failed yet.
+    /// A shelf of which no put has failed yet.
     pub fn new() -> NoShelf
         ensures { result.failures ≡ 0 }
     {
@@ -78,7 +78,7 @@ impl Shelf for NoShelf {
     }
 }
 
-/// A shelf, or none, as is found out where it is made.
+/// A shelf or none, decided at run time.
 #[derive(Drop)]
 pub enum MaybeShelf<K> {
     Shelf(K),

@@ -1,4 +1,4 @@
-//! A gas as bytes, written as they are made.
+//! Writes a gas as bytes to a writer, without allocating.
 
 ghost use Rattle.std.specs.Prelude.{◌≡◌, length, IfOk, OnOk, OnErr};
 ghost use Rattle.std.specs.Io.KnownBytes.{Appends};
@@ -14,7 +14,7 @@ use std::error::Error;
 use std::fmt;
 use std::io::Write;
 
-/// The writer failed, or took no byte.
+/// The writer failed, or took no bytes.
 #[derive(Clone, Copy, Debug, PartialEq, Eq)]
 pub struct WriteFault;
 
@@ -62,8 +62,8 @@ fn write_rows<W: Write>(writer: &mut W, plane: &Plane) -> Result<(), WriteFault>
     Ok(())
 }
 
-/// Writes what `encode` gives and answers how many bytes that is, without memory. At a fault what was written is a front
-/// of it.
+/// Writes the bytes that `encode` returns, without allocating. Returns their number. After a fault, the bytes written so far
+/// are the first of them.
 pub fn write_to<W: Write>(gas: &Gas, writer: &mut W) -> Result<u64, WriteFault>
     ensures ok { IfOk result (λ n.
         Appends (W.contents writer.old) (W.contents writer.new) (spelling Two gas.now)

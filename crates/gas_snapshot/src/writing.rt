@@ -1,4 +1,4 @@
-//! A gas as bytes.
+//! Writes a gas as bytes in memory.
 
 ghost use Rattle.std.specs.Prelude.{◌≡◌, ◌≤◌, ◌+◌, ◌*◌, ◌/◌, ◌++◌, IfOk, length, take};
 ghost use Rattle.gas_ledger.specs.Gases.{IsSoundGas};
@@ -36,7 +36,7 @@ fn fill(gas: &Gas, first: &[u8], part: usize, out: &mut [u8])
     put_plane(gas.obstacles(), start + 2 * part, part, out);
 }
 
-/// The gas's one spelling of version 2, in one allocation of its length.
+/// The gas's snapshot of version 2, in one allocation of its length. Fails if memory runs out.
 pub fn encode(alloc: Global, gas: &Gas) -> Result<Vec<u8>, NoMemory>
     ensures { IfOk result (λ bytes. bytes.items ≡ spelling Two gas.now) }
 {

@@ -1,4 +1,4 @@
-//! A laboratory that nobody else uses.
+//! The door of a laboratory that nobody else uses, and a session over it.
 
 ghost use Rattle.std.specs.Prelude.{◌≡◌};
 ghost use Rattle.gas_terms.specs.Cells.{extent};

@@ -1,4 +1,4 @@
-//! How sessions end.
+//! How a session ends.
 
 /// How a session ended.
 #[derive(Clone, Copy, Debug, PartialEq, Eq)]

@@ -1,4 +1,4 @@
-//! Laws of journals.
+//! A law of journals: each is a script. A law is a function with an empty body; its contract is the law.
 
 ghost use Rattle.std.specs.Prelude.{◌≡◌, ℕ, ◌≤◌, true, length};
 ghost use Rattle.std.specs.List.{All};

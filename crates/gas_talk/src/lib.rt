@@ -1,4 +1,7 @@
-//! Sessions with the laboratory: lines of commands, and a reply to each.
+//! Sessions: `session` reads lines, asks each of a door, and writes each reply. `serve_alone` is a session on a laboratory
+//! that nobody else uses.
+//!
+//! The program calls `serve_alone` for a run and `session` for each session of a server.
 #![tactic(auto)]
 
 mod alone;

@@ -1,4 +1,4 @@
-//! The reads of a session.
+//! The reads of a session, which are limited in number.
 
 ghost use Rattle.std.specs.Prelude.{◌≡◌, ◌+◌, ◌^◌, ◌<◌, ◌≤◌, nat_lt, length};
 ghost use Rattle.std.specs.Io.{ReadsAtMost};

@@ -1,4 +1,4 @@
-//! One item of the input: what it asks is done, and the reply is given back.
+//! Does what one line asks, and returns the reply.
 
 ghost use Rattle.std.specs.Prelude.{◌≡◌, false, Result};
 ghost use Rattle.gas_snapshot.specs.Shelved.{Gains};

@@ -1,4 +1,4 @@
-//! Sends text to a writer.
+//! Writes text to a writer and flushes.
 
 ghost use Rattle.std.specs.Prelude.{◌≡◌, ℕ, List, [], ◌++◌, IsTrue};
 ghost use Rattle.std.specs.Io.KnownBytes.{Appends};

@@ -1,4 +1,4 @@
-//! Sessions: an input of lines, and a reply to each.
+//! A session: reads lines, asks each of the door, and writes each reply.
 
 ghost use Rattle.std.specs.Prelude.{◌≡◌, ◌≢◌, IfSome, ℕ, List, [], ◌++◌, IsTrue};
 ghost use Rattle.std.specs.Io.KnownBytes.{Appends};

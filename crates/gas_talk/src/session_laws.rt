@@ -1,4 +1,4 @@
-//! Laws of sessions.
+//! Laws of sessions. A law is a function with an empty body; its contract is the law.
 
 ghost use Rattle.std.specs.Prelude.{◌≡◌, ℕ, List, Option, Result};
 ghost use Rattle.std.specs.declared.alloc.AllocError.{AllocError as NoMemory};

@@ -1,4 +1,4 @@
-//! Laws of the sums and the accounts. Each function does nothing: its contract is the law.
+//! Laws of sums and accounts. A law is a function with an empty body; its contract is the law.
 
 ghost use Rattle.std.specs.Prelude.{◌≡◌, ℕ, ◌*◌, ◌^◌, ◌<◌, ◌≤◌, ◌%◌, ℤ, pos, negsuc, true, nat_abs, length, List, [], ◌∷◌};
 ghost use Rattle.std.specs.List.{range_with_len, All, sum_by};

@@ -1,4 +1,4 @@
-//! What a seat may ask for.
+//! The commands of the laboratory, and the entries of its journal.
 
 ghost use Rattle.std.specs.Prelude.{◌≡◌, false, IfOk, IsOk};
 ghost use Rattle.gas_terms.specs.Commands.{fits, is_change, is_row};
@@ -39,7 +39,7 @@ pub struct Entry {
 }
 
 impl Command {
-    /// Whether it changes the laboratory. The others are readings.
+    /// Whether it changes the laboratory. Other commands only read.
     pub fn is_change(&self) -> bool
         ensures { result ≡ is_change self.now }
     {
@@ -53,7 +53,7 @@ impl Command {
         )
     }
 
-    /// Whether the command is in order for a lattice of the size.
+    /// Whether the command is valid for a lattice of this size.
     pub fn fits(&self, size: Size) -> bool
         ensures { result ≡ fits size self.now }
     {
@@ -74,7 +74,7 @@ impl Command {
         }
     }
 
-    /// The same command. Only a row takes memory.
+    /// A clone. Only a row allocates.
     pub fn copy(&self, alloc: Global) -> Result<Command, NoMemory>
         ensures same { IfOk result (λ command. command ≡ self.now) }
         ensures memory { is_row self.now ≡ false → IsOk result }

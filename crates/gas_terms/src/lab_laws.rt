@@ -1,4 +1,4 @@
-//! Laws of the laboratory. Each function does nothing: its contract is the law.
+//! Laws of the laboratory. A law is a function with an empty body; its contract is the law.
 
 ghost use Rattle.std.specs.Prelude.{◌≡◌, ℕ, ◌^◌, ◌≤◌, ◌<◌, true, List, [], ◌∷◌, length, replicate, pos, Some, None, Ok};
 ghost use Rattle.std.specs.List.{All};

@@ -1,4 +1,4 @@
-//! Laws of the gas. Each function does nothing: its contract is the law.
+//! Laws of the gas. A law is a function with an empty body; its contract is the law.
 
 ghost use Rattle.std.specs.Prelude.{◌≡◌, ◌≢◌, ℕ, ◌/◌, ◌%◌, if◌then◌else◌, ◌==◌, length, ◌+◌, ◌-◌, ◌<◌, Bool, true, false, not, ◌&&◌, ◌||◌, List};
 ghost use Rattle.std.specs.Fn.{iterate};

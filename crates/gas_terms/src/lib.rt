@@ -1,5 +1,8 @@
-//! What the laboratory speaks of: sizes, rectangles, ticks, velocities, sums, commands and refusals, the definitions of
-//! gas and laboratory in `specs/`, and their laws.
+//! The types that all crates share: sizes, rectangles, ticks, sums, rows, commands and refusals. `specs/` defines gas and
+//! laboratory; the modules `laws`, `account_laws`, `symmetry_laws` and `lab_laws` prove what follows.
+//!
+//! The program uses all types but `Vel`, and all calls but `vel`, `Rect::holds`, `Rect::fits` and `Command::fits`, which are
+//! there for callers of the library.
 #![tactic(auto)]
 
 pub mod account_laws;
@@ -28,5 +31,5 @@ pub use size::Size;
 pub use tick::{Tick, vel};
 pub use velocity::Vel;
 
-/// Memory was refused: the one name for it in the laboratory's calls.
+/// Memory ran out: the error of every call that allocates.
 pub use std::alloc::AllocError as NoMemory;

@@ -1,4 +1,4 @@
-//! What the laboratory limits.
+//! The laboratory's limits.
 
 /// How wide and how high a lattice may be, in cells.
 pub const MOST_SIDE: u32 = 4096;

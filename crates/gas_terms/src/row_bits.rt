@@ -1,4 +1,4 @@
-//! The cells of a row.
+//! The cells of a row, as bytes.
 
 ghost use Rattle.std.specs.Prelude.{◌≡◌, ◌≤◌, IfOk, replicate, length};
 ghost use Rattle.std.specs.Borrow.{Lends, Array, sem, u8};
@@ -52,7 +52,7 @@ impl RowBits {
         self.bytes.as_slice()
     }
 
-    /// The bytes, to be written: their number stays.
+    /// The bytes, for writing. Their number cannot change.
     pub fn bytes_mut(&mut self) -> &mut [u8]
         ensures* writes_back { sem 𝓛
             (Lends the_row (Array u8 0) self.entry result (overwritten self.old)) }

@@ -1,4 +1,5 @@
-//! The symmetries of the gas, and how fast it acts. Each function does nothing: its contract is the law.
+//! Laws of the symmetries of the gas, and of how far a change can reach. A law is a function with an empty body; its
+//! contract is the law.
 
 ghost use Rattle.std.specs.Prelude.{◌≡◌, ℕ, ◌+◌, ◌-◌, ◌*◌, ◌%◌, ◌<◌, ℤ, neg_ℤ, not};
 ghost use Rattle.std.specs.Fn.{iterate};

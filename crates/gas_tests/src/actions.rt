@@ -1,4 +1,4 @@
-//! Runs with an action after each phase: worked examples, with values that were found by hand.
+//! Worked examples of runs with an action after each phase, with values found by hand.
 
 ghost use Rattle.std.specs.Prelude.{◌≡◌, ◌<◌, true, false};
 ghost use Rattle.gas_terms.specs.Cells.{lies_within, extent};

@@ -1,4 +1,4 @@
-//! The block rule: worked examples, with values that were found by hand.
+//! Worked examples of the block rule, with values found by hand.
 
 use crate::expected::{expect_same, expect_that};
 use bit_tile::Tile;

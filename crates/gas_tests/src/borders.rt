@@ -1,4 +1,4 @@
-//! Borders: worked examples, with values that were found by hand.
+//! Worked examples of borders, with values found by hand.
 
 use crate::expected::expect_that;
 use bit_tile::Tile;

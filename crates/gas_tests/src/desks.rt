@@ -1,4 +1,4 @@
-//! Draws by one thread and by two.
+//! Drawing numbers, by one thread and by two.
 
 ghost use Rattle.std.specs.Prelude.{◌≡◌, true, OnOk, IfOk};
 

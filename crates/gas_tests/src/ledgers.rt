@@ -1,4 +1,4 @@
-//! Gases, ports and sums: worked examples, with values that were found by hand.
+//! Worked examples of gases, ports and sums, with values found by hand.
 
 ghost use Rattle.std.specs.Prelude.{◌≡◌, true};
 ghost use Rattle.gas_terms.specs.Cells.{lies_within, extent};

@@ -1,5 +1,4 @@
-//! Tests of the gas from its sites up to its ports and sums, and of the desk and the lock: each from outside, through what
-//! its crate offers.
+//! Tests of the crates from `gas_terms` up to `gas_ledger`, and of `claim_desk` and `turn_lock`, through their public calls.
 #![tactic(auto)]
 
 #[cfg(test)]

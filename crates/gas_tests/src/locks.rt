@@ -1,4 +1,4 @@
-//! A roll that doors sign in turn, by one thread and by two.
+//! A list under a ticket lock that doors add their numbers to, by one thread and by two.
 
 ghost use Rattle.std.specs.Prelude.{◌≡◌, ◌++◌, ◌∷◌, [], ◌⊎◌, ◌↔◌, ⊤, IsTrue, Contains, vec_len};
 ghost use Rattle.turn_lock.specs.Doors.{Adds};

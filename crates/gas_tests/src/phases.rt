@@ -1,4 +1,4 @@
-//! Phases and runs on one thread: worked examples, with values that were found by hand.
+//! Worked examples of phases and runs on one thread, with values found by hand.
 
 ghost use Rattle.std.specs.Prelude.{◌≡◌, ◌<◌, true};
 ghost use Rattle.gas_terms.specs.Cells.{Extent, extent, lies_within, is_inside};

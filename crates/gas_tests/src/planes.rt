@@ -1,4 +1,4 @@
-//! Planes: worked examples, with values that were found by hand.
+//! Worked examples of planes, with values found by hand.
 
 ghost use Rattle.std.specs.Prelude.{◌≡◌, true};
 ghost use Rattle.gas_terms.specs.Cells.{lies_within, extent};

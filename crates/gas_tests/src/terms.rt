@@ -1,4 +1,4 @@
-//! Sizes, ticks, rectangles, rows and refusals, with values from the rules of the laboratory.
+//! Sizes, ticks, rectangles, rows and refusals, at their limits.
 
 ghost use Rattle.std.specs.Prelude.{◌≡◌, true};
 ghost use Rattle.gas_terms.specs.Cells.{lies_within};

@@ -1,4 +1,4 @@
-//! Tiles: worked examples, with values that were found by hand.
+//! Worked examples of tiles, with values found by hand.
 
 use crate::expected::{expect_same, expect_that};
 use bit_tile::Tile;

@@ -1,4 +1,6 @@
-//! Lines of commands and of replies.
+//! Lines: `read_command` reads a line as a request or refuses it, and `reply_text` writes a reply as its line.
+//!
+//! The program calls both.
 #![tactic(auto)]
 
 mod number;

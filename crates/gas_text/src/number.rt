@@ -1,4 +1,4 @@
-//! The numbers of a line.
+//! Reads the numbers of a line.
 
 ghost use Rattle.std.specs.Prelude.{◌≡◌, ◌≤◌, ◌^◌, ℕ, List, length, take, drop, MatchOption, Some, None};
 ghost use Rattle.gas_text.specs.Words.{words, number_of, numbers_of};

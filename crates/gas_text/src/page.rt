@@ -1,4 +1,4 @@
-//! The lines of replies.
+//! Writes a reply as its line.
 
 ghost use Rattle.std.specs.Prelude.{◌≡◌, ◌<◌, ◌≤◌, ◌+◌, ◌*◌, ℕ, List, [], ◌∷◌, ◌++◌, length, map};
 ghost use Rattle.std.specs.Fmt.{decimal, signed_decimal};
@@ -16,7 +16,7 @@ use std::marker::Model;
 // how many bytes a reply may have
 const REPLY_LIMIT: usize = 2048;
 
-/// One reply's line, of at most `REPLY_LIMIT` bytes. It holds no memory.
+/// A buffer for one reply's line, of at most `REPLY_LIMIT` bytes. It never allocates.
 #[derive(Drop)]
 pub struct ReplyPage {
     bytes: [u8; REPLY_LIMIT],
@@ -297,7 +297,7 @@ impl ReplyPage {
     }
 }
 
-/// Writes the line of a reply into the page, in place of what is there.
+/// Writes the line of a reply to the page, in place of the last.
 #[tactic(auto, unfolding(crate::specs::Texts::reply_line))]
 pub fn reply_text(reply: &Reply, page: &mut ReplyPage)
     ensures { page.new ≡ reply_line reply.now }

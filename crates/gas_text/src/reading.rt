@@ -1,4 +1,4 @@
-//! Reading a line: what it asks, or the first of its faults.
+//! Reads a line: its request, or the first of its faults.
 
 ghost use Rattle.std.specs.Prelude.{◌≡◌, true, nat_lt, ◌≤◌, ◌/◌, ◌*◌, ◌⊎◌, ℕ, List, [], ◌∷◌, length, take, Ok, Err, IfOk, IsOk};
 ghost use Rattle.hex.specs.Hex.{decode_sized};
@@ -149,9 +149,9 @@ fn read_request(
     }))
 }
 
-/// Reads one line: its request, or the first of its faults in the order word, count, number, rectangle, steps, period
-/// and row. Only a row takes memory, and `Refusal::Memory` is answered only where that was refused to a row without fault.
-/// What is asked fits the size.
+/// Reads one line for a lattice of this size: its request, or the first of its faults in the order word, count, number,
+/// rectangle, steps, period, row. Only a `row` allocates; a `row` without fault fails with `Refusal::Memory` if memory runs
+/// out.
 #[tactic(auto, unfolding(crate::specs::Requests::request_of))]
 pub fn read_command(alloc: Global, line: &str, size: Size) -> Result<Request, Refusal>
     ensures exact { Reads result (request_of size line.now) }

@@ -1,4 +1,4 @@
-//! Laws of reading.
+//! A law of reading. A law is a function with an empty body; its contract is the law.
 
 ghost use Rattle.std.specs.Prelude.{◌≡◌, true, ℕ, Ok};
 ghost use Rattle.gas_terms.specs.Cells.{Extent, is_size};

@@ -1,11 +1,12 @@
-//! What a line is replied.
+//! The replies to lines.
 
 ghost use Rattle.std.specs.Prelude.{◌≡◌};
 ghost use Rattle.gas_text.specs.Texts.{is_bye};
 
 use gas_terms::{Answer, Refusal};
 
-/// What a line is replied. `Saved` has the length of the journal when the gas was copied, and that of the snapshot.
+/// The reply to a line. `Saved` has the length of the journal when the gas was cloned, and the length of the snapshot in
+/// bytes.
 #[derive(Drop)]
 pub enum Reply {
     Answered(Answer),
@@ -15,7 +16,7 @@ pub enum Reply {
 }
 
 impl Reply {
-    /// Whether it is the last of a session.
+    /// Whether it ends the session.
     pub fn is_bye(&self) -> bool
         ensures { result ≡ is_bye self.now }
     {

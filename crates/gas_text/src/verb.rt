@@ -1,4 +1,4 @@
-//! The words of commands.
+//! The verbs of lines, and how many words follow each.
 
 ghost use Rattle.std.specs.Prelude.{◌≡◌, length};
 ghost use Rattle.std.specs.List.{find};

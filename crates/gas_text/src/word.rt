@@ -1,4 +1,4 @@
-//! The words of a line.
+//! Splits a line into words.
 
 ghost use Rattle.std.specs.Prelude.{◌≡◌, ◌<◌, ◌≤◌, ℕ, List, [], ◌∷◌, length, MatchOption, IfSome};
 ghost use Rattle.std.specs.List.{position_or_len};

@@ -1,4 +1,7 @@
-//! What the program does: its command line, loading a snapshot, a run, and a server.
+//! The program as a library: `plan` reads a command line, `load_from` loads a snapshot, `run_on` makes a run, and `serve_on`
+//! is a server.
+//!
+//! The program calls all four.
 #![tactic(auto)]
 
 pub mod serving;

@@ -47,12 +47,11 @@ fn tell<W: Write>(writer: &mut W, counts: Counts) -> bool
     writeln!(writer, "{line}").is_ok() && writer.flush().is_ok()
 }
 
-/// Serves one session for each shelf, 1 to 64 of them, on a laboratory that opens with the given gas, or else the empty
-/// gas of the setup's size, by a hall whose seats take turns: what a session was told of an entry stays so. There is one
-/// accept of the lobby for each seat, in order, and a thread for each session that came, with the shelf at its seat's place.
-/// When all have ended it writes `SERVED` with the number of seats that were served, of those that were not, and of the
-/// entries that all made, and answers the program's exit status: 1 where that can't be written, else 0. Where memory is
-/// refused for the opening it is 4, and nothing is accepted or written.
+/// Opens a laboratory with the given gas, or with the empty gas of the setup's size, and serves one session on it for each
+/// shelf, 1 to 64 of them. Each seat has one accept of the lobby, in order, and each session that came has a thread and its
+/// seat's shelf. When all have ended, it writes `SERVED` with the number of seats that were served, of those that were not,
+/// and of the entries that all made. Returns the program's exit status: 0, or 1 if that line could not be written. If memory
+/// runs out for the opening it is 4, and nothing is accepted or written.
 pub fn serve_on<T: Threads + Wait + Sync, L: Lobby, K: Shelf + Drop + Send, W: Write>(
     rt: &T,
     alloc: Global,

@@ -1,5 +1,5 @@
-//! Runs the scripts of `examples/` and of `examples/scenes/`, and compares what they give with the output that stands beside each.
-//! The three people's scripts are sessions on one gas, over sockets, one after the other.
+//! Runs the scripts in `examples/` and `examples/scenes/` and compares the output with the file beside each. The scripts of
+//! the lesson with three people run as sessions on one gas, over sockets, one after another.
 #![tactic(auto)]
 
 ghost use Rattle.std.specs.Prelude.{IfOk};

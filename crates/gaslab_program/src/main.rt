@@ -1,4 +1,4 @@
-//! The program: runs what its command line asks for.
+//! The program `gaslab`: joins the calls of the library `gaslab` to files, sockets and the standard streams.
 #![tactic(auto)]
 
 ghost use Rattle.std.specs.Prelude.{◌≡◌, ◌<◌, ◌≤◌, IfOk, vec_len};

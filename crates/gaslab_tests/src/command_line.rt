@@ -1,4 +1,4 @@
-//! Command lines: what they are read as, and the texts that teach.
+//! Command lines and the plans that they give, and the texts of help and faults.
 
 use crate::expected::{expect_same, expect_that};
 use gaslab::{Plan, PlanFault, Service, Status, plan};

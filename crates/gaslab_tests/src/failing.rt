@@ -1,4 +1,4 @@
-//! Readers, writers and shelves that fail at one of their calls: what was done and written is that of the first lines.
+//! Readers, writers and shelves that fail at one of their calls. What was done and written before stays.
 
 use crate::expected::expect_same;
 use crate::script::{ALL, SMALL, lines, status_on};

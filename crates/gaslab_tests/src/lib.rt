@@ -1,4 +1,4 @@
-//! Tests of the program's library, and through it of all below: worked examples with their values from outside.
+//! Tests of the library `gaslab`, and through it of all crates below. Expected values come from outside the program.
 #![tactic(auto)]
 
 #[cfg(test)]

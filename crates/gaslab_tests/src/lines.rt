@@ -1,4 +1,4 @@
-//! Lines that are refused, and inputs that end within a line, come in pieces or have no end.
+//! Lines that are refused, and inputs that end within a line, come in pieces, or never end.
 
 use crate::expected::{expect_same, expect_that};
 use crate::script::{ALL, Room, SMALL, answers, gives, lines, status_on};

@@ -1,4 +1,4 @@
-//! Loads from readers that give a snapshot in pieces, fail, or never end.
+//! Loading from readers that give a snapshot in pieces, fail, or never end.
 
 use crate::expected::expect_same;
 use gas_snapshot::{SnapFault, encode};

@@ -1,4 +1,4 @@
-//! Laboratories as a setup opens them.
+//! Opening a laboratory from a setup.
 
 use crate::expected::expect_same;
 use crate::snapshots::snapshot;

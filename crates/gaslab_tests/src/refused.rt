@@ -1,4 +1,4 @@
-//! Whichever allocation is refused: that line alone is answered `ERR 14 memory`, or the session ends there, or nothing begins.
+//! Allocations that fail one by one: one line is refused with `ERR 14 memory`, or the session ends there, or nothing begins.
 
 use crate::expected::{expect_same, expect_that};
 use crate::loads::{Padded, WITH_PORTS};

@@ -1,4 +1,4 @@
-//! Runs in short: a script of lines and what has to be written for it.
+//! Runs a script and compares the output with the expected text.
 
 ghost use Rattle.std.specs.Prelude.{◌≤◌};
 

@@ -1,4 +1,4 @@
-//! Runs that save, and runs that start from a snapshot, whose bytes were written out by hand from the format.
+//! Runs that save, and runs that start from a snapshot. The bytes were written by hand from the format.
 
 use crate::expected::{expect_same, expect_that};
 use crate::loads::{Padded, WITH_PORTS};

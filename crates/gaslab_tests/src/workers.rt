@@ -1,4 +1,4 @@
-//! A gas that looks random, stepped by any number of workers.
+//! One gas that looks random, stepped by different numbers of workers.
 
 use crate::expected::{expect_same, expect_that};
 use crate::failing::are_same;

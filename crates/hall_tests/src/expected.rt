@@ -1,5 +1,5 @@
-//! What stops a test. A test that calls them has one step for the prover where `assert!` and `assert_eq!` put their
-//! branches and messages into the test itself.
+//! Assertions for tests. Each is a function, so that the prover meets one call and not the branches and messages of
+//! `assert!`.
 
 ghost use Rattle.std.specs.Prelude.{◌≡◌, true};
 

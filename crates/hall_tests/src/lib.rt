@@ -1,4 +1,4 @@
-//! Tests of halls and of what serves them: sessions over doors, in memory and over sockets, with values from outside.
+//! Tests of `gas_seats` and `gas_hall`: sessions over doors, in memory and over sockets.
 #![tactic(auto)]
 
 #[cfg(test)]

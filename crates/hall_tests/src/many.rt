@@ -1,4 +1,4 @@
-//! As many seats as a hall may have.
+//! A hall with as many seats as it may have.
 
 use crate::expected::{expect_same, expect_that};
 use crate::served::serve_sessions;

@@ -1,5 +1,5 @@
-//! Whichever allocation is refused: the hall hands the laboratory back, a door's call leaves it, and a seat without a thread
-//! comes back.
+//! Allocations that fail one by one: opening a hall returns the laboratory, a door's call leaves it, and a seat without a
+//! thread comes back.
 
 ghost use Rattle.std.specs.Prelude.{◌≡◌, [], true};
 ghost use Rattle.gas_terms.specs.Cells.{extent};

@@ -1,4 +1,4 @@
-//! Served sessions in memory.
+//! Serving a `Hall` to sessions in memory, some of which fail.
 
 use crate::expected::{expect_same, expect_that};
 use crate::served::{Left, serve_sessions};

@@ -1,4 +1,4 @@
-//! All that is done with one hall: opened, served, and closed.
+//! Opens a hall, serves it and closes it, for the tests of `rows`.
 
 ghost use Rattle.std.specs.Prelude.{◌≡◌, ◌+◌, ◌<◌, ◌≤◌, [], IfSome, length, vec_len};
 ghost use Rattle.gas_terms.specs.Cells.{extent};

@@ -1,4 +1,4 @@
-//! Sessions over sockets.
+//! Serving sessions over sockets.
 
 use crate::expected::{expect_same, expect_that};
 use crate::served::serve_sessions;

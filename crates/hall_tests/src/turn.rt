@@ -1,4 +1,4 @@
-//! Two seats of a hall that serves them in turn.
+//! Two seats of a `TurnHall`.
 
 ghost use Rattle.std.specs.Prelude.{◌≡◌, [], IfOk};
 

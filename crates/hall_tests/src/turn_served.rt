@@ -1,4 +1,4 @@
-//! Served sessions in memory, on a hall whose seats take turns.
+//! Serving a `TurnHall` to sessions in memory, some of which fail.
 
 ghost use Rattle.std.specs.Prelude.{◌≡◌, ◌<◌, ◌≤◌, All, vec_len};
 

@@ -1,4 +1,4 @@
-//! What the tests start from, and what they look for.
+//! What the tests start from, and what they compare with.
 
 ghost use Rattle.std.specs.Prelude.{◌≡◌, [], IfSome};
 

@@ -1,4 +1,4 @@
-//! Actions on the particles after the phases of a run.
+//! Actions: changes of the particles after each phase of a run.
 
 ghost use Rattle.std.specs.Prelude.{◌≡◌, ℕ, ℤ, ◌<◌, ◌&&◌, Bool, not};
 ghost use Rattle.bit_tile.specs.Tile.{HasCells};

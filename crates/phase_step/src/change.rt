@@ -1,4 +1,4 @@
-//! How many cells a change brings in and takes out.
+//! Counts of the cells that a change brings in and takes out, and their sums.
 
 ghost use Rattle.std.specs.Prelude.{◌≡◌, ◌+◌, ◌^◌, ◌<◌, ◌==◌, ℤ, pos, ◌-ℤ◌, ◌*ℤ◌, slice_index};
 ghost use Rattle.gas_terms.specs.Velocity.{parity as of_tick, sign};

@@ -1,4 +1,4 @@
-//! What becomes of the cells of rectangles that are emptied, and of others that are then filled.
+//! Exchanges: rectangles that are emptied, and others that are then filled.
 
 ghost use Rattle.std.specs.Prelude.{◌≡◌, true, ℕ, ◌<◌, ◌≤◌, ◌/◌, ◌+◌, ◌||◌, ◌&&◌, not, IsTrue, IfSome, MatchOption};
 ghost use Rattle.bit_tile.specs.Tile.{HasCells};

@@ -1,4 +1,4 @@
-//! Short lists that take no memory.
+//! Lists of at most 16 values that never allocate.
 
 ghost use Rattle.std.specs.Prelude.{◌≡◌, ◌<◌, ◌≤◌, [], ◌∷◌, ◌++◌, length};
 ghost use Rattle.gas_terms.specs.Gas.{most_ports};

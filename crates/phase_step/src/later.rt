@@ -1,4 +1,4 @@
-//! An action from a later phase on.
+//! The rest of an action, from a later phase on.
 
 ghost use Rattle.std.specs.Prelude.{◌+◌, min};
 

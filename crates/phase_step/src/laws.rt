@@ -1,4 +1,4 @@
-//! What a phase means. Each function does nothing: its contract is the law.
+//! Laws of phases and runs: which steps of a gas they are. A law is a function with an empty body; its contract is the law.
 
 ghost use Rattle.std.specs.Prelude.{◌≡◌, ℕ, ℤ, ◌+◌, ◌≤◌, pos, ◌-ℤ◌};
 ghost use Rattle.std.specs.Fn.{iterate};

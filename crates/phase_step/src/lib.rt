@@ -1,4 +1,7 @@
-//! The step over a plane.
+//! Steps of a gas. A `Stepper` makes a phase or a run of phases of a plane; `Serial` does it on the calling thread. An
+//! `Action` changes the particles after each phase of a run, as ports do.
+//!
+//! The program uses all of it.
 #![tactic(auto)]
 
 ghost use Rattle.std.specs.Prelude.{◌≡◌, ◌<◌};

@@ -1,4 +1,4 @@
-//! Exchanges one after another.
+//! The action that makes the exchanges of a list, one after each phase.
 
 ghost use Rattle.phase_step.specs.Exchanges.{listed};
 

@@ -1,4 +1,4 @@
-//! What goes in and out: by changes of the particles, and by walls.
+//! Sums of what comes in and goes out: by changes of the particles, and by walls and obstacles.
 
 ghost use Rattle.std.specs.Prelude.{◌≡◌};
 ghost use Rattle.gas_terms.specs.Accounts.{SumsFit, plus};

@@ -1,4 +1,4 @@
-//! Walls and obstacles.
+//! Walls and obstacles, and whether there are any.
 
 ghost use Rattle.std.specs.Prelude.{◌≡◌, IsTrue};
 ghost use Rattle.gas_plane.specs.Planes.{HasNone};

@@ -1,4 +1,4 @@
-//! What a phase and a run start from.
+//! The inputs of a single phase and of a stretch of a run: planes, parity, desk, and the division into strips.
 
 ghost use Rattle.std.specs.Prelude.{◌≡◌, ◌+◌, ◌*◌, ◌/◌, ◌<◌, ◌≤◌, IsTrue};
 ghost use Rattle.gas_terms.specs.Cells.{tile_count, HasSidesOf};

@@ -1,4 +1,4 @@
-//! Where a caller may watch the workers of a team.
+//! Gates: a caller's hook into the workers of a single phase.
 
 use std::marker::Sync;
 

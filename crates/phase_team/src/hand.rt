@@ -1,4 +1,4 @@
-//! Workers of a run, who draw strips and make the course on them.
+//! A worker of a run: draws strips, and makes the phases of a stretch on each.
 
 ghost use Rattle.std.specs.Prelude.{◌≡◌, ◌+◌, ◌*◌, ◌/◌, ◌<◌, ◌≤◌, [], ◌∷◌, ◌++◌, All, IfSome, IsTrue, vec_len};
 ghost use Rattle.std.specs.Vec.{vec_capacity};

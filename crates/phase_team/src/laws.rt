@@ -1,4 +1,4 @@
-//! Laws of runs and strips. Each function does nothing: its contract is the law.
+//! A law of strips. A law is a function with an empty body; its contract is the law.
 
 ghost use Rattle.std.specs.Prelude.{◌≡◌, ℕ, ◌+◌, ◌-◌, ◌≤◌, ◌<◌, ◌%◌};
 ghost use Rattle.gas_terms.specs.Cells.{Cells, HasEvenSides};

@@ -1,4 +1,11 @@
-//! The step over a plane by several threads, which draw its tiles one by one.
+//! Steps of a gas on 1 to 16 threads: a `Team` is a `Stepper` and gives the same results as `Serial`.
+//!
+//! In a run, the workers draw strips of whole rows of tiles and make up to 64 phases of a strip at a time. Short runs, small
+//! lattices and a team of one stay on the calling thread. A single phase (`Team::phase`) is made by workers that draw its
+//! tiles one by one.
+//!
+//! The program makes runs alone: it calls `Team::new` and `Stepper::run` and `run_with`. `Team::phase` with its `Gate`, and
+//! `Team::with_least_run` with its `LeastRun`, are there for callers of the library.
 #![tactic(auto)]
 
 mod course;

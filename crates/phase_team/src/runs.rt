@@ -1,4 +1,4 @@
-//! Runs of many phases, by strips of the lattice that the workers draw.
+//! Runs: when they are worth strips, and how the strips of each stretch are drawn, made and put together.
 
 ghost use Rattle.std.specs.Prelude.{◌≡◌, ◌+◌, ◌*◌, ◌/◌, ◌<◌, ◌≤◌, [], All, IfSome, map, length, vec_len};
 ghost use Rattle.std.specs.Vec.{vec_capacity};

@@ -1,4 +1,4 @@
-//! Some rows of tiles of a lattice, with a row of tiles above and below, as a lattice of their own.
+//! A strip: some rows of tiles, with one more row above and below, stepped as a lattice of its own.
 
 ghost use Rattle.std.specs.Prelude.{◌≡◌, ℕ, ◌+◌, ◌-◌, ◌*◌, ◌/◌, ◌%◌, ◌^◌, ◌<◌, ◌≤◌, IfOk, IsTrue, false};
 ghost use Rattle.gas_terms.specs.Cells.{joined, tile_count, HasSidesOf};

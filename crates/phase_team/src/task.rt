@@ -1,4 +1,4 @@
-//! One tile of a phase.
+//! One tile of a single phase.
 
 ghost use Rattle.std.specs.Prelude.{◌≡◌, ◌<◌};
 ghost use Rattle.gas_terms.specs.Cells.{tile_count};

@@ -1,4 +1,4 @@
-//! A team of workers.
+//! The team: single phases, whose tiles the workers draw, and the choice of how a run is made.
 
 ghost use Rattle.std.specs.Prelude.{◌≡◌, ◌+◌, ◌*◌, ◌<◌, ◌≤◌, [], All, IfSome, IfNone, map, length, vec_len};
 ghost use Rattle.std.specs.Vec.{vec_capacity};

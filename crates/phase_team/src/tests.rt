@@ -1,4 +1,4 @@
-//! Worked examples with values that were found by hand, and comparisons with the step on one thread.
+//! Worked examples, with values found by hand, and comparisons with `Serial`.
 
 ghost use Rattle.std.specs.Prelude.{◌≡◌, ◌<◌, ◌≤◌};
 ghost use Rattle.gas_terms.specs.Cells.{HasSidesOf};

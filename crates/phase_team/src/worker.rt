@@ -1,4 +1,4 @@
-//! A worker of a team.
+//! A worker of a single phase: draws tiles and turns them.
 
 ghost use Rattle.phase_team.specs.Teamwork.{IsReady, HasWorked};
 

@@ -1,4 +1,4 @@
-//! A laboratory that is asked directly: whichever allocation is refused, it is as before.
+//! A laboratory that is called directly, with allocations that fail one by one: a change is done whole or not at all.
 
 use crate::expected::{expect_same, expect_that};
 use gas_lab::{Gas, Lab, Serial};

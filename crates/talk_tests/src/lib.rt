@@ -1,5 +1,4 @@
-//! Tests of the laboratory, of its snapshots, and of the lines and sessions that speak with it: each from outside, through
-//! what its crate offers.
+//! Tests of `gas_lab`, `gas_snapshot`, `gas_text` and `gas_talk`, through their public calls.
 #![tactic(auto)]
 
 #[cfg(test)]

@@ -1,4 +1,4 @@
-//! Lines with what they ask, or with the first of their faults.
+//! Lines and their requests, or the first of their faults.
 
 use crate::expected::{expect_same, expect_that};
 use gas_talk::{Request, read_command};

@@ -1,4 +1,4 @@
-//! Worked examples of sessions with a laboratory alone.
+//! Worked examples of sessions on a laboratory that nobody else uses.
 
 use crate::expected::{expect_same, expect_that};
 use gas_lab::{Gas, Lab, Serial};

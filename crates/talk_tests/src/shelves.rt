@@ -1,4 +1,4 @@
-//! A shelf in memory that tells what it took.
+//! A shelf in memory that keeps what it took.
 
 ghost use Rattle.std.specs.Prelude.{◌≡◌, ◌++◌, List};
 ghost use Rattle.gas_talk.specs.Ends.{shelved_by};

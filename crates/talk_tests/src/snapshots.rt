@@ -1,4 +1,4 @@
-//! Worked examples: the bytes were written out by hand from the format.
+//! Worked examples of snapshots. The bytes were written by hand from the format.
 
 use crate::expected::{expect_same, expect_that};
 use gas_ledger::Gas;

@@ -1,4 +1,4 @@
-//! Replies with their lines.
+//! Replies and their lines.
 
 ghost use Rattle.std.specs.Prelude.{◌≤◌, length};
 

@@ -1,4 +1,4 @@
-//! Readers, writers and shelves in memory, which fail at one of their calls.
+//! Readers, writers and shelves in memory that fail at a chosen call.
 
 ghost use Rattle.std.specs.Prelude.{◌≡◌, ◌++◌, ◌∷◌, [], OnOk, OnErr};
 ghost use Rattle.test_types.specs.Stores.{kept_by};

@@ -1,4 +1,5 @@
-//! A gate that lets all calls pass, or sessions go on by turns alone, or all at once alone.
+//! A gate for tests: it lets all calls pass, makes two sessions take turns, or holds each session's first call until all
+//! have come.
 
 use gas_hall::HallGate;
 use std::sync::atomic::{AtomicBool, AtomicU32, Ordering};

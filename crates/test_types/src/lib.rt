@@ -1,5 +1,5 @@
-//! What tests of several crates speak with: readers, writers and shelves that fail where they are told to, pages and a
-//! lobby in memory, gates that let sessions go on by turns, and sessions that wait for one another.
+//! Helpers for tests: readers, writers and shelves that fail on demand, pages and a lobby in memory, gates that order the
+//! calls of sessions, and sessions that wait for one another.
 #![tactic(auto)]
 
 pub mod faults;

@@ -1,4 +1,4 @@
-//! Pages that hold no memory, writers to them that stay with the test, and a lobby of them.
+//! Pages in memory that never allocate, writers to them, and a lobby that gives such sessions.
 
 use gas_hall::{AcceptFault, Lobby};
 use std::io;

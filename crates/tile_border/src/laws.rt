@@ -1,4 +1,4 @@
-//! A law of borders. The function does nothing: its contract is the law.
+//! A law of borders. A law is a function with an empty body; its contract is the law.
 
 ghost use Rattle.bit_tile.specs.declared.Tile.{Tile as TileRows};
 ghost use Rattle.tile_border.specs.Ring.{IsBorderOf};

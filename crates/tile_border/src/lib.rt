@@ -1,4 +1,6 @@
-//! The ring of cells round a tile.
+//! The neighborhood of a tile: the eight tiles round it (`Round`), and the ring of cells in which they touch it (`Border`).
+//!
+//! The program uses `Round`. `Border`, `NO_BORDER` and `Neighbors` are there for callers who step single tiles.
 #![tactic(auto)]
 
 ghost use Rattle.std.specs.Prelude.{◌≡◌, ℕ, ◌+◌, ◌<◌, ◌≤◌, slice_index, pos, negsuc, ◌≤ℤ◌};
@@ -9,7 +11,7 @@ pub mod laws;
 
 use bit_tile::Tile;
 
-/// The cells of the eight tiles round a tile that touch it.
+/// The ring of cells that touch a tile: cells of the eight tiles round it.
 #[derive(Clone, Copy)]
 pub struct Border {
     // the row above the tile and the row below it
@@ -20,7 +22,7 @@ pub struct Border {
     sides: [u64; 66],
 }
 
-/// The border of a tile that nothing touches.
+/// A border without cells.
 pub const NO_BORDER: Border = Border {
     above: 0,
     below: 0,
@@ -30,7 +32,7 @@ pub const NO_BORDER: Border = Border {
 impl Border {
     ghost use Rattle.tile_border.specs.Ring.{ring, IsOnRing, IsBorderOf, IsBorderOfRound, numbered};
 
-    /// The cells that touch a tile with these neighbors.
+    /// The border of a tile with these neighbors.
     pub fn of(
         above: &Tile,
         below: &Tile,
@@ -64,7 +66,7 @@ impl Border {
         border
     }
 
-    /// Makes it the cells that touch a tile which stands among these: quicker than a border of its own for each tile.
+    /// Makes it the border of a tile with these neighbors. Reusing one border is faster than making one for each tile.
     pub fn surround(&mut self, round: &Round)
         ensures { IsBorderOfRound self.new round.now }
     {
@@ -80,7 +82,7 @@ impl Border {
         self.below = near.below.row(0);
     }
 
-    /// Eight tiles that touch a tile with this border, 64 by 64 cells each: they have its cells and no others.
+    /// Eight neighbors that give this border. They have its cells and no others.
     pub fn neighbors(&self) -> Neighbors
         ensures { IsBorderOf self.now result.above result.below result.left result.right
             result.above_left result.above_right result.below_left result.below_right }
@@ -117,7 +119,7 @@ impl Border {
         (left, right)
     }
 
-    /// The cell that is dx columns and dy rows from the tile's first.
+    /// Whether the border has the cell dx columns and dy rows from the tile's upper left cell.
     pub fn cell(&self, dx: i32, dy: i32) -> bool
         requires x_low { negsuc 0 ≤ℤ dx }
         requires y_low { negsuc 0 ≤ℤ dy }
@@ -156,7 +158,7 @@ pub struct Round<'a> {
     pub below_right: &'a Tile,
 }
 
-/// Eight tiles round a tile that are there for its border alone.
+/// The eight tiles that `Border::neighbors` makes.
 #[derive(Clone, Copy)]
 pub struct Neighbors {
     above: Tile,
@@ -170,7 +172,7 @@ pub struct Neighbors {
 }
 
 impl Neighbors {
-    /// Lends the eight tiles.
+    /// References to the eight tiles.
     pub fn round(&self) -> Round<'_>
         ensures above { result.above.now ≡ self.now.above }
         ensures below { result.below.now ≡ self.now.below }

@@ -1,5 +1,8 @@
-//! A lock that serves its doors in turn. The value that it holds has a journal, which only grows. What a door has seen of the
-//! journal begins what it sees later, and the entries there that bear its number are those that it made.
+//! A ticket lock for a value with a journal that only grows. Doors take the value one at a time, in the order in which they
+//! asked. What a door has seen of the journal begins all that it sees later, and the entries of its number there are those
+//! that it made.
+//!
+//! The program uses all of it, through `gas_seats`.
 #![tactic(auto)]
 
 mod lock;

@@ -1,4 +1,4 @@
-//! The lock, its doors, the notes that they make, and the calls that they make of the value.
+//! The lock, its doors and their notes, and the calls that doors make.
 
 ghost use Rattle.std.specs.Prelude.{◌≡◌, ◌⊎◌, ℕ, ◌<◌, ◌≤◌, List, [], ◌∷◌, ◌++◌, true, false, All, IsSome, IfSome, IfOk, IfErr, Some, None, vec_len, slice_index_or};
 ghost use mathlib.Core.List.{IsPrefix};
@@ -13,8 +13,8 @@ use std::marker::Model;
 use std::snapshot::Snapshot;
 use std::sync::Wait;
 
-/// Holds a value that its doors take in turn: one door at a time has it, in the order of the tickets that they draw when they
-/// ask. Contracts see which lock it is.
+/// Holds a value that its doors take one at a time, in the order of the tickets that they draw when they ask. Contracts see
+/// which lock it is.
 #[derive(Drop)]
 pub struct TurnLock<X: Journaled + Drop> {
     table: Table<Option<X>, View<X::Entry, X::Fixed>, (u64, Snapshot<X>), LockRule<X>, Global>,
@@ -77,8 +77,8 @@ impl<X: Journaled> Model for Note<X> {
 }
 
 impl<X: Journaled + Drop> TurnLock<X> {
-    /// A lock that holds the value, whose journal is empty, and 1 to 64 doors of it. They come in the order of their numbers,
-    /// which count from 0, and have seen nothing. Where memory is refused the value comes back as it was. It never waits.
+    /// A lock that holds the value, whose journal must be empty, and 1 to 64 doors of it, numbered from 0 and in this order.
+    /// They have seen nothing. If memory runs out, the value comes back as it was. Never waits.
     pub fn open(alloc: Global, value: X, doors: u64) -> Result<(TurnLock<X>, Vec<Door<X>>), X>
         requires doors { (0 < doors) × (doors ≤ 64) }
         requires empty { X.entries value ≡ [] }
@@ -161,9 +161,10 @@ impl<X: Journaled + Drop> TurnLock<X> {
     }
 }
 
-/// A call that a door makes of the value at its turn. It is given the door's number, and all other doors that ask wait for it.
+/// A call that a door makes of the value at its turn. It is given the door's number. Other doors that ask wait until it
+/// returns.
 pub trait Call<X: Journaled> {
-    /// What the one who asked is given.
+    /// What the call returns.
     type Answer;
 
     /// What must hold of the door's number, and of the part of the value that never changes.
@@ -196,7 +197,7 @@ impl<X: Journaled> Door<X> {
         Door { number, seat }
     }
 
-    /// A note of what the door has seen. The door stays as it was. It never waits, and nothing in it can fail.
+    /// A note of what the door has seen. The door stays as it was. Never waits, never fails.
     pub fn note(&mut self, lock: &TurnLock<X>) -> Note<X>
     where
         X: Drop,
@@ -208,8 +209,8 @@ impl<X: Journaled> Door<X> {
         Note { seat }
     }
 
-    /// Takes a note in. What the door had seen and what the note has both begin what the door has then seen, which is one of the
-    /// two; so the value that it asks next follows both. It never waits, and nothing in it can fail.
+    /// Takes a note in. The door then has seen the longer of its own list and the note's, and the other begins it; so the
+    /// value that it asks next follows both. Never waits, never fails.
     pub fn meet(&mut self, lock: &TurnLock<X>, note: Note<X>)
     where
         X: Drop,
@@ -227,10 +228,9 @@ impl<X: Journaled> Door<X> {
         lock.table.shared.load::<Look<X>>(&mut self.seat, 0);
     }
 
-    /// Makes a call of the value at the door's turn, and gives its answer. The value that the call finds follows all that the door
-    /// has seen, and has no other entry of its number; the door has then seen the journal as the call leaves it. It waits while
-    /// doors that drew their tickets earlier have yet to leave, and nothing is said of how long. Nothing in it can fail but what
-    /// the call's own answer says.
+    /// Makes a call of the value at the door's turn, and returns what the call returns. The value that the call finds
+    /// follows all that the door has seen, and has no other entry of its number; the door then has seen the journal that the
+    /// call left. Waits while doors with earlier tickets have yet to leave; no contract says for how long. Never fails.
     pub fn ask<R: Wait, M: Call<X>>(&mut self, rt: &R, lock: &TurnLock<X>, call: M) -> M::Answer
     where
         X: Drop,

@@ -1,4 +1,4 @@
-//! What a lock may hold, the rule of its table, and the steps that seats make at it.
+//! The value that a lock holds, the invariant of the lock's table, and the atomic steps that seats make.
 
 ghost use Rattle.std.specs.Prelude.{ℕ, List};
 
