@@ -143,13 +143,8 @@ pub fn turn_tile_even(tile: &mut Tile, walls: Option<&Tile>, obstacles: Option<&
     }
 }
 
-<<<<<<< HEAD
-/// Puts the tile into `out` as it is after the rule where blocks begin at odd columns and rows, and reach into the eight tiles
-/// round it. Sets that have no cell in any of the nine need not be lent. Returns the same.
-=======
 /// The same at odd parity: blocks begin at odd columns and rows, and reach into the eight tiles round the tile. Walls or
 /// obstacles without a cell in the nine tiles may be `None`.
->>>>>>> 34f2b8a4427b1699ebf75f11ebf44961ab42021f
 #[inline(always)]
 pub fn turn_tile_odd(
     particles: &Window,
