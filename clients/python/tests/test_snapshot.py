@@ -11,7 +11,7 @@ from gaslab.scene import rectangles_of
 
 from . import stand_in
 
-STORED = Path(__file__).resolve().parents[3] / "crates" / "gaslab_program" / "data" / "start.gas"
+STORED = Path(__file__).with_name("start.gas")
 
 OLD = b"HPPGAS1\n" + bytes([0, 64, 0, 64]) + bytes(10)
 NEW = b"HPPGAS2\n" + bytes([0, 64, 0, 64]) + bytes(10)
@@ -72,7 +72,7 @@ class Vectors(unittest.TestCase):
         gas = Snapshot(64, 64, -2 ** 40, drains, sources)
         self.assertEqual(Snapshot.from_bytes(gas.to_bytes()), gas)
 
-    def test_the_stored_snapshot_of_the_program(self):
+    def test_a_snapshot_that_the_program_wrote(self):
         gas = Snapshot.read(STORED)
         self.assertEqual((gas.width, gas.height, gas.tick, gas.count, gas.version),
                          (128, 64, 7, 64, 2))

@@ -1,6 +1,6 @@
 //! Steps, walls, obstacles, rows and the journal.
 
-use crate::script::{LARGE, Room, SMALL, gives, gives_on};
+use crate::script::{LARGE, Room, SMALL, gives, gives_by_teams, gives_on};
 
 #[test]
 fn one_particle_steps(rt: HostRuntime) {
@@ -57,66 +57,45 @@ fn particle_on_a_wall_stays(rt: HostRuntime) {
 }
 
 #[test]
-fn channel_between_walls_undone(rt: HostRuntime) {
-    gives(
+fn channel_between_walls_undone_by_a_team(rt: HostRuntime) {
+    gives_by_teams(
         &rt,
+        SMALL,
         "wall 0 20 64 1; wall 0 29 64 1; put 28 21 8 8; step 100; back 100; tally; ledger; read 21; read 28; read 29",
         "OK 0; OK 1; OK 2; OK 3; OK 4; TALLY 0 64 0 0; LEDGER 0 64 0 0 0 0 0 0 0 0 0 0 0; ROW 0000000ff0000000; ROW 0000000ff0000000; ROW 0000000000000000",
     );
-}
-
-#[test]
-fn channel_between_walls_undone_by_a_team(rt: HostRuntime) {
-    gives_on(
+    gives_by_teams(
         &rt,
-        Room {
-            workers: 3,
-            ..LARGE
-        },
+        LARGE,
         "wall 0 20 128 1; wall 0 29 128 1; put 28 21 8 8; step 100; back 100; tally; ledger",
         "OK 0; OK 1; OK 2; OK 3; OK 4; TALLY 0 64 0 0; LEDGER 0 64 0 0 0 0 0 0 0 0 0 0 0",
-    );
-    gives_on(
-        &rt,
-        Room {
-            workers: 3,
-            ..SMALL
-        },
-        "wall 0 20 64 1; wall 0 29 64 1; put 28 21 8 8; step 100; back 100; tally; ledger; read 21; read 28; read 29",
-        "OK 0; OK 1; OK 2; OK 3; OK 4; TALLY 0 64 0 0; LEDGER 0 64 0 0 0 0 0 0 0 0 0 0 0; ROW 0000000ff0000000; ROW 0000000ff0000000; ROW 0000000000000000",
     );
 }
 
 #[test]
 fn head_on_pair_across_tiles(rt: HostRuntime) {
-    for workers in [1, 2, 7] {
-        let room = Room { workers, ..LARGE };
-        gives_on(
-            &rt,
-            room,
-            "step 1; put 63 63 1 1; put 64 64 1 1; step 1; probe 64 63 1 1; probe 63 64 1 1; tally",
-            "OK 0; OK 1; OK 2; OK 3; PROBE 1 1 -1; PROBE 1 -1 1; TALLY 2 2 0 0",
-        );
-    }
+    gives_by_teams(
+        &rt,
+        LARGE,
+        "step 1; put 63 63 1 1; put 64 64 1 1; step 1; probe 64 63 1 1; probe 63 64 1 1; tally",
+        "OK 0; OK 1; OK 2; OK 3; PROBE 1 1 -1; PROBE 1 -1 1; TALLY 2 2 0 0",
+    );
 }
 
 #[test]
 fn wall_across_tiles_books_once(rt: HostRuntime) {
-    for workers in [1, 2, 7] {
-        let room = Room { workers, ..LARGE };
-        gives_on(
-            &rt,
-            room,
-            "step 1; put 63 63 1 1; wall 64 64 1 1; step 1; tally; ledger",
-            "OK 0; OK 1; OK 2; OK 3; TALLY 2 1 -1 -1; LEDGER 0 1 0 0 1 0 2 0 0 1 0 2 0",
-        );
-        gives_on(
-            &rt,
-            room,
-            "step 1; put 63 63 1 1; block 64 64 1 1; step 1; tally; ledger",
-            "OK 0; OK 1; OK 2; OK 3; TALLY 2 1 -1 -1; LEDGER 0 1 0 0 1 0 0 2 0 1 0 0 2",
-        );
-    }
+    gives_by_teams(
+        &rt,
+        LARGE,
+        "step 1; put 63 63 1 1; wall 64 64 1 1; step 1; tally; ledger",
+        "OK 0; OK 1; OK 2; OK 3; TALLY 2 1 -1 -1; LEDGER 0 1 0 0 1 0 2 0 0 1 0 2 0",
+    );
+    gives_by_teams(
+        &rt,
+        LARGE,
+        "step 1; put 63 63 1 1; block 64 64 1 1; step 1; tally; ledger",
+        "OK 0; OK 1; OK 2; OK 3; TALLY 2 1 -1 -1; LEDGER 0 1 0 0 1 0 0 2 0 1 0 0 2",
+    );
 }
 
 #[test]

@@ -1,11 +1,12 @@
 //! Snapshots in files.
 
-use crate::expected::expect_that;
-use crate::script::{ALL, SMALL, answers, status_on};
-use crate::workers::next;
-use gas_snapshot::{FileShelf, MaybeShelf};
+use crate::expected::{expect_same, expect_that};
+use crate::loads::written_now;
+use crate::script::{ALL, Room, SMALL, lines, status_on};
+use crate::snapshots::goes_on;
+use gas_ledger::Gas;
+use gas_snapshot::{FileShelf, MaybeShelf, Shelf, encode};
 use gaslab::load_from;
-use std::io::Write;
 use std::process::Abort;
 use std::rt::Files as HasFiles;
 use std::thread::Threads;
@@ -44,69 +45,80 @@ pub fn file_holds(
     expect_that(&rt, read.as_slice() == bytes);
 }
 
-// A line for each of 64 rows of cells that look random, under the words of a command that lays them.
-fn laid(rt: &(impl Abort + AllocGlobal)) -> Vec<u8> {
-    let mut lines = Vec::new(rt.alloc());
-    let mut state = 7;
-    for y in 0..64u32 {
-        writeln!(lines, "row {y} {:016x}", next(&mut state)).expect(rt, "memory");
-    }
-    lines
+// the gas in the file of seat 0
+fn loaded(rt: &(impl Abort + HasFiles + AllocGlobal), folder: &str) -> Gas {
+    let path = format!(in rt.alloc(); "{folder}/0").expect(rt, "memory");
+    let mut file = fs::open(rt, path.as_str()).expect(rt, "a file");
+    load_from(rt.alloc(), &mut file).expect(rt, "a gas")
 }
 
-// The same rows, as replies tell of them.
-fn told(rt: &(impl Abort + AllocGlobal)) -> Vec<u8> {
-    let mut lines = Vec::new(rt.alloc());
-    let mut state = 7;
-    for _ in 0..64u32 {
-        writeln!(lines, "ROW {:016x}", next(&mut state)).expect(rt, "memory");
-    }
-    lines
-}
-
-// asks for each row
-fn asked(rt: &(impl Abort + AllocGlobal)) -> Vec<u8> {
-    let mut lines = Vec::new(rt.alloc());
-    for y in 0..64u32 {
-        writeln!(lines, "read {y}").expect(rt, "memory");
-    }
-    lines
-}
-
-// a run of this script that saves in the file of seat 0
-fn save_in(
-    rt: &(impl Abort + AllocGlobal + HasFiles + Threads + Copy + Drop),
-    folder: &str,
-    script: &[u8],
-) {
-    let mut source = Source::new(script, ALL, FaultAt::never());
-    let mut sink = Sink::new(rt.alloc(), ALL, ALL, FaultAt::never());
-    let mut shelf = file_of(rt, folder, 0);
-    let status = status_on(rt, SMALL, None, &mut source, &mut sink, &mut shelf);
-    expect_that(&rt, status == 0);
-    expect_that(&rt, sink.taken().ends_with(b"SAVED 64 1558\n"));
-}
-
-/// A run lays 64 rows and saves; what is loaded from the file has all their cells.
+/// The gas is at tick -1, and has a drain in the cell (1, 1) and a source in (10, 10).
 #[test]
 fn load_from_a_file_of_seat_0(rt: HostRuntime) {
     let folder = new_folder(&rt, "loaded", process::id(rt.process()));
-    let mut script = laid(&rt);
-    script.extend_from_slice(b"save\n").expect(&rt, "memory");
-    save_in(&rt, folder.as_str(), script.as_slice());
-    let path = format!(in rt.alloc(); "{folder}/0").expect(&rt, "memory");
-    let mut file = fs::open(&rt, path.as_str()).expect(&rt, "a file");
-    let gas = load_from(rt.alloc(), &mut file).expect(&rt, "a gas");
-    let asked = asked(&rt);
-    let told = told(&rt);
-    answers(
+    let wanted = written_now(&rt);
+    let mut shelf = file_of(&rt, folder.as_str(), 0);
+    expect_that(&rt, shelf.put(wanted.as_slice()).is_ok());
+    let gas = loaded(&rt, folder.as_str());
+    let bytes = encode(rt.alloc(), &gas).expect(&rt, "memory");
+    expect_same(&rt, bytes.as_slice(), wanted.as_slice());
+    goes_on(
         &rt,
+        gas,
+        "tally; back 1; put 2 2 1 1; step 1; tally; ledger",
+        "TALLY -1 0 0 0; ERR 11 ports; OK 0; OK 1; TALLY 0 1 1 1; LEDGER 0 2 1 0 0 -1 0 0 0 0 -1 0 0",
+    );
+    fs::remove_dir_all(&rt, folder.as_str()).expect(&rt, "no folder");
+}
+
+// a run from this gas whose shelf is the file of seat 0
+fn runs_in(
+    rt: &(impl Abort + AllocGlobal + HasFiles + Threads + Copy + Drop),
+    folder: &str,
+    room: Room,
+    start: Option<Gas>,
+    script: &str,
+    output: &str,
+) {
+    let input = lines(rt, script);
+    let mut source = Source::new(input.as_slice(), ALL, FaultAt::never());
+    let mut sink = Sink::new(rt.alloc(), ALL, ALL, FaultAt::never());
+    let mut shelf = file_of(rt, folder, 0);
+    let status = status_on(rt, room, start, &mut source, &mut sink, &mut shelf);
+    expect_same(&rt, status, 0);
+    expect_same(&rt, sink.taken(), lines(rt, output).as_slice());
+}
+
+/// What `--load` and `--save` ask of a run: it starts from the gas of a file, which has the size, and saves into the file. The
+/// replies are those of `tools/channel_gas.py`.
+#[test]
+fn run_goes_on_from_a_file(rt: HostRuntime) {
+    let folder = new_folder(&rt, "continued", process::id(rt.process()));
+    let wide = Room {
+        width: 128,
+        ..SMALL
+    };
+    runs_in(
+        &rt,
+        folder.as_str(),
+        wide,
+        None,
+        "wall 0 20 128 1; wall 0 29 128 1; put 28 21 8 8; step 7; save",
+        "OK 0; OK 1; OK 2; OK 3; SAVED 4 3094",
+    );
+    runs_in(
+        &rt,
+        folder.as_str(),
         SMALL,
-        Some(gas),
-        asked.as_slice(),
-        ALL,
-        told.as_slice(),
-        0,
+        Some(loaded(&rt, folder.as_str())),
+        "put 0 0 1 1; step 1; probe 1 1 1 1; tally; back 8; probe 28 21 8 8; save; quit",
+        "OK 0; OK 1; PROBE 0 0 0; TALLY 8 65 -1 -1; OK 2; PROBE 64 0 0; SAVED 3 3094; BYE",
+    );
+    goes_on(
+        &rt,
+        loaded(&rt, folder.as_str()),
+        "probe 28 21 8 8; tally",
+        "PROBE 64 0 0; TALLY 0 65 -1 -1",
     );
     fs::remove_dir_all(&rt, folder.as_str()).expect(&rt, "no folder");
 }

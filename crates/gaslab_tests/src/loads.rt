@@ -69,8 +69,8 @@ fn cut(rt: &impl AllocGlobal, len: usize) -> Option<LoadFault> {
     )
 }
 
-// the snapshot of the same gas as it is written now: version 2, with obstacles
-fn written_now(rt: &(impl Abort + AllocGlobal + Threads)) -> Vec<u8> {
+/// The snapshot of the same gas as it is written now: version 2, without obstacles.
+pub fn written_now(rt: &(impl Abort + AllocGlobal + Threads)) -> Vec<u8> {
     let mut bytes = Vec::from_slice(rt.alloc(), &WITH_PORTS).expect(rt, "memory");
     if bytes.len() > 6 {
         bytes[6] = 0x32;

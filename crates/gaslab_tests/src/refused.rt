@@ -214,7 +214,7 @@ fn refused_plan_of_a_bad_line(rt: HostRuntime) {
     }
 }
 
-// the channel between two walls, stepped by two workers
+// the channel between two walls, stepped by strips
 const CHANNEL: &[u8] =
     b"wall 0 20 64 1\nwall 0 29 64 1\nput 28 21 8 8\nstep 100\nback 100\ntally\nledger\nread 21\nread 28\nread 29\n";
 
@@ -225,6 +225,7 @@ const CHANNEL_UNDONE: &[u8] =
 fn refused_channel_with_a_team(rt: HostRuntime) {
     let room = Room {
         workers: 2,
+        by_strips: true,
         ..SMALL
     };
     runs(
@@ -241,6 +242,27 @@ fn refused_channel_with_a_team(rt: HostRuntime) {
             b"OK 0\nOK 1\nOK 2\nOK 3\nOK 4\nTALLY 0 64 0 0\nLEDGER 0 64 0 0 0 0 0 0 0 0 0 0 0\nERR 14 memory\nROW 0000000ff0000000\nROW 0000000000000000\n",
             b"OK 0\nOK 1\nOK 2\nOK 3\nOK 4\nTALLY 0 64 0 0\nLEDGER 0 64 0 0 0 0 0 0 0 0 0 0 0\nROW 0000000ff0000000\nERR 14 memory\nROW 0000000000000000\n",
             b"OK 0\nOK 1\nOK 2\nOK 3\nOK 4\nTALLY 0 64 0 0\nLEDGER 0 64 0 0 0 0 0 0 0 0 0 0 0\nROW 0000000ff0000000\nROW 0000000ff0000000\nERR 14 memory\n",
+        ],
+    );
+}
+
+/// On the smallest lattice whose runs the program itself makes by strips: where these find no memory, the run is made without.
+#[test]
+fn refused_run_that_is_worth_strips(rt: HostRuntime) {
+    let room = Room {
+        width: 576,
+        height: 4096,
+        workers: 16,
+        ..SMALL
+    };
+    runs(
+        &rt,
+        room,
+        b"put 40 250 200 12\nstep 64\nprobe 0 193 576 63\ntally\n",
+        b"OK 0\nOK 1\nPROBE 600 0 -600\nTALLY 64 2400 0 0\n",
+        &[
+            b"ERR 14 memory\nOK 0\nPROBE 0 0 0\nTALLY 64 0 0 0\n",
+            b"OK 0\nERR 14 memory\nPROBE 1200 0 0\nTALLY 0 2400 0 0\n",
         ],
     );
 }

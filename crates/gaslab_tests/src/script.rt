@@ -1,13 +1,17 @@
 //! Runs a script and compares the output with the expected text.
 
-ghost use Rattle.std.specs.Prelude.{◌≤◌};
+ghost use Rattle.std.specs.Prelude.{◌≡◌, [], IfSome};
+ghost use Rattle.gas_run.specs.Plans.{IsInRange};
 
 use crate::expected::{expect_same, expect_that};
+use gas_lab::Lab;
 use gas_ledger::Gas;
+use gas_run::opened;
 use gas_snapshot::Shelf;
+use gas_talk::{SessionEnd, serve_alone};
 use gas_terms::Size;
-use gaslab::{Setup, run_on};
-use std::alloc::Global;
+use gaslab::{Setup, Status, run_on};
+use phase_team::{LeastRun, NoGate, Team};
 use std::io::{Read, Write};
 use std::process::Abort;
 use std::thread::Threads;
@@ -16,12 +20,13 @@ use test_types::faults::{FaultAt, Sink, Source, Store};
 /// No limit of what is read or written at once.
 pub const ALL: usize = usize::MAX;
 
-/// A lattice's width and height, how many workers step it, and the journal's capacity.
+/// A lattice's width and height, how many workers step it, whether they make every run by strips, and the journal's capacity.
 #[derive(Clone, Copy)]
 pub struct Room {
     pub width: u32,
     pub height: u32,
     pub workers: u8,
+    pub by_strips: bool,
     pub cap: u32,
 }
 
@@ -30,6 +35,7 @@ pub const SMALL: Room = Room {
     width: 64,
     height: 64,
     workers: 1,
+    by_strips: false,
     cap: 1024,
 };
 
@@ -38,6 +44,7 @@ pub const LARGE: Room = Room {
     width: 128,
     height: 128,
     workers: 1,
+    by_strips: false,
     cap: 1024,
 };
 
@@ -59,7 +66,52 @@ pub fn lines(rt: &(impl Abort + AllocGlobal + Threads), text: &str) -> Vec<u8> {
     bytes
 }
 
-/// The status of a run.
+/// The setup of a room.
+pub fn setup_of(rt: &impl Abort, room: Room) -> Setup
+    ensures { IsInRange result }
+{
+    let Room {
+        width,
+        height,
+        workers,
+        cap,
+        ..
+    } = room;
+    let size = Size::new(width, height).expect(rt, "a size");
+    expect_that(rt, 1 <= cap);
+    expect_that(rt, cap <= 65536);
+    expect_that(rt, 1 <= workers);
+    expect_that(rt, workers <= 16);
+    Setup { size, workers, cap }
+}
+
+/// A laboratory whose team makes every run by strips. `None` if memory runs out.
+pub fn opened_by_strips<R: AllocGlobal + Threads>(
+    rt: &R,
+    setup: Setup,
+    start: Option<Gas>,
+) -> Option<Lab<Team<&R, NoGate>>>
+    requires { IsInRange setup }
+    ensures { IfSome result (λ lab. lab.journal ≡ []) }
+{
+    let least = LeastRun {
+        phases: 0,
+        tiles: 0,
+    };
+    let team = Team::with_least_run(rt, rt.alloc(), setup.workers, NoGate, least);
+    opened(rt.alloc(), setup, start, team).ok()
+}
+
+// the program's status after a session
+fn status_after(end: SessionEnd) -> u8 {
+    match end {
+        SessionEnd::Quit | SessionEnd::InputEnd => Status::Done.number(),
+        SessionEnd::Memory => Status::NoMemory.number(),
+        _ => Status::Failed.number(),
+    }
+}
+
+/// The status of a run. The program itself makes no small run by strips, so such a room has a laboratory of the test's own.
 pub fn status_on<R: Read, W: Write, K: Shelf>(
     rt: &(impl Abort + AllocGlobal + Threads),
     room: Room,
@@ -68,24 +120,14 @@ pub fn status_on<R: Read, W: Write, K: Shelf>(
     writer: &mut W,
     shelf: &mut K,
 ) -> u8 {
-    let Room {
-        width,
-        height,
-        workers,
-        cap,
-    } = room;
-    let size = Size::new(width, height).expect(rt, "a size");
-    assert!(rt; 1 <= cap && cap <= 65536);
-    assert!(rt; 1 <= workers && workers <= 16);
-    run_on(
-        rt,
-        rt.alloc(),
-        Setup { size, workers, cap },
-        start,
-        reader,
-        writer,
-        shelf,
-    )
+    let setup = setup_of(rt, room);
+    if !room.by_strips {
+        return run_on(rt, rt.alloc(), setup, start, reader, writer, shelf);
+    }
+    match opened_by_strips(rt, setup, start) {
+        Some(mut lab) => status_after(serve_alone(rt.alloc(), reader, writer, &mut lab, 0, shelf)),
+        None => Status::NoMemory.number(),
+    }
 }
 
 /// The run writes these bytes for those that are read, at most `step` at once, and has this status.
@@ -113,7 +155,25 @@ pub fn gives_on(rt: &(impl Abort + AllocGlobal + Threads), room: Room, script: &
     answers(rt, room, None, input.as_slice(), ALL, output.as_slice(), 0);
 }
 
-/// The same, on a lattice of 64 by 64 with room for 1,024 changes.
+/// The same on one thread, and by strips of two, three and seven workers.
+pub fn gives_by_teams(
+    rt: &(impl Abort + AllocGlobal + Threads),
+    room: Room,
+    script: &str,
+    output: &str,
+) {
+    gives_on(rt, room, script, output);
+    for workers in [2, 3, 7] {
+        let by_team = Room {
+            workers,
+            by_strips: true,
+            ..room
+        };
+        gives_on(rt, by_team, script, output);
+    }
+}
+
+/// The script gives this output on a lattice of 64 by 64 with room for 1,024 changes.
 pub fn gives(rt: &(impl Abort + AllocGlobal + Threads), script: &str, output: &str) {
     gives_on(rt, SMALL, script, output);
 }

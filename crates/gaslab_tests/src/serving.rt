@@ -2,12 +2,12 @@
 
 use crate::expected::{expect_same, expect_that};
 use crate::files::{Files, file_holds, file_of, new_folder};
-use crate::script::{LARGE, Room, SMALL};
+use crate::script::{LARGE, Room, SMALL, opened_by_strips, setup_of};
 use crate::snapshots::snapshot;
+use gas_hall::{Counts, serve_lab};
 use gas_ledger::Gas;
 use gas_snapshot::{MaybeShelf, NoShelf, Shelf, decode};
-use gas_terms::Size;
-use gaslab::{Setup, serve_on};
+use gaslab::serve_on;
 use std::process::Abort;
 use std::rt::Files as HasFiles;
 use std::sync::Wait;
@@ -62,18 +62,9 @@ fn status_of<
         start,
         shelves,
     } = opening;
-    let Room {
-        width,
-        height,
-        workers,
-        cap,
-    } = room;
-    let size = Size::new(width, height).expect(rt, "a size");
-    assert!(rt; 1 <= cap && cap <= 65536);
-    assert!(rt; 1 <= workers && workers <= 16);
+    let setup = setup_of(rt, room);
     assert!(rt; 1 <= shelves.len() && shelves.len() <= 64);
     let mut lobby = Speakers::new(*rt, stage, speeches);
-    let setup = Setup { size, workers, cap };
     serve_on(rt, rt.alloc(), setup, start, &mut lobby, shelves, said)
 }
 
@@ -121,32 +112,46 @@ fn served_line_that_fails(rt: HostRuntime) {
     expect_that(&rt, stage.shows(0, b"OK 0\nBYE\n"));
 }
 
+// Serves two speeches, over a laboratory of four tiles whose three workers make every run by strips.
+fn serve_by_strips<
+    R: Abort + Threads + Wait + Sync + Clock + Copy + Drop + Send + AllocGlobal + HasFiles,
+>(rt: &R, stage: &Stage, speeches: &[Option<Speech<'_>>; 2]) -> Counts {
+    let room = Room {
+        workers: 3,
+        by_strips: true,
+        ..LARGE
+    };
+    let lab = opened_by_strips(rt, setup_of(rt, room), None).expect(rt, "memory");
+    let shelves = no_shelves(rt, 2).expect(rt, "memory");
+    expect_that(rt, shelves.len() == 2);
+    let mut lobby = Speakers::new(*rt, stage, speeches);
+    serve_lab(rt, rt.alloc(), lab, &mut lobby, shelves).expect(rt, "memory")
+}
+
 /// One session steps and undoes a channel with three workers in its turns, and another asks all the while for a row that
-/// no particle reaches.
+/// no particle reaches. The replies are those of `tools/channel_gas.py`.
 #[test]
 fn workers_under_the_lock(rt: HostRuntime) {
     let stage = Stage::new();
-    let mut said = Page::new();
     let speeches = [
         Some(Speech::of(
-            b"wall 0 20 128 1\nwall 0 29 128 1\nput 28 21 8 8\nstep 100\nback 100\ntally\nledger\nquit\n",
+            b"wall 0 50 128 1\nwall 0 80 128 1\nblock 40 62 4 4\nput 28 60 8 8\nstep 100\nprobe 40 51 30 29\nledger\nback 100\nledger\nquit\n",
         )),
         Some(Speech::of(
-            b"probe 0 60 128 1\nprobe 0 60 128 1\nprobe 0 60 128 1\nprobe 0 60 128 1\nprobe 0 60 128 1\nquit\n",
+            b"probe 0 20 128 1\nprobe 0 20 128 1\nprobe 0 20 128 1\nprobe 0 20 128 1\nprobe 0 20 128 1\nquit\n",
         )),
     ];
-    let room = Room {
-        workers: 3,
-        ..LARGE
+    let wanted = Counts {
+        done: 2,
+        failed: 0,
+        entries: 6,
     };
-    let status = status_of(&rt, empty(&rt, room, 2), &stage, &speeches, &mut said);
-    expect_same(&rt, status, 0);
-    expect_same(&rt, said.text(), b"SERVED 2 0 5\n".as_slice());
+    expect_same(&rt, serve_by_strips(&rt, &stage, &speeches), wanted);
     expect_that(
         &rt,
         stage.shows(
             0,
-            b"OK 0\nOK 1\nOK 2\nOK 3\nOK 4\nTALLY 0 64 0 0\nLEDGER 0 64 0 0 0 0 0 0 0 0 0 0 0\nBYE\n",
+            b"OK 0\nOK 1\nOK 2\nOK 3\nOK 4\nPROBE 25 -19 -13\nLEDGER 0 64 0 0 0 0 0 6 0 0 0 32 -2\nOK 5\nLEDGER 0 64 0 0 0 0 0 0 0 0 0 0 0\nBYE\n",
         ),
     );
     expect_that(

@@ -46,8 +46,8 @@ fn loaded(rt: &(impl Abort + AllocGlobal + Threads), head: &[u8], len: usize) ->
     load_from(rt.alloc(), &mut reader).expect(rt, "a gas")
 }
 
-// a run from this gas
-fn goes_on(rt: &(impl Abort + AllocGlobal + Threads), start: Gas, script: &str, output: &str) {
+/// A run from this gas, whose script gives this output.
+pub fn goes_on(rt: &(impl Abort + AllocGlobal + Threads), start: Gas, script: &str, output: &str) {
     let input = lines(rt, script);
     let output = lines(rt, output);
     answers(

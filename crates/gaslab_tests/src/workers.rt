@@ -2,7 +2,7 @@
 
 use crate::expected::{expect_same, expect_that};
 use crate::failing::are_same;
-use crate::script::{ALL, Room, gives_on, status_on};
+use crate::script::{ALL, Room, SMALL, gives_on, status_on};
 use std::io::Write;
 use std::process::Abort;
 use std::rt::Files;
@@ -11,8 +11,8 @@ use std::thread::Threads;
 use std::{fs, thread};
 use test_types::faults::{FaultAt, Sink, Source, Store};
 
-/// The next of a sequence of words that look random.
-pub fn next(state: &mut u64) -> u64 {
+// the next of a sequence of words that look random
+fn next(state: &mut u64) -> u64 {
     let mut bits = *state;
     bits ^= bits << 13;
     bits ^= bits >> 7;
@@ -21,55 +21,59 @@ pub fn next(state: &mut u64) -> u64 {
     bits
 }
 
-// a line that lays row y with the next eight words of the sequence
+// a line that lays row y with the next two words of the sequence
 fn lay(rt: &impl Abort, script: &mut Vec<u8>, y: u32, state: &mut u64) {
-    write!(script, "row {y} ").expect(rt, "memory");
-    for _ in 0..8u32 {
-        write!(script, "{:016x}", next(state)).expect(rt, "memory");
-    }
-    writeln!(script).expect(rt, "memory");
+    let (left, right) = (next(state), next(state));
+    writeln!(script, "row {y} {left:016x}{right:016x}").expect(rt, "memory");
 }
 
-// walls and obstacles among the cells; steps and back; then steps with ports
+// walls and obstacles among the cells; steps and back; steps with ports; then back without them
 const RUNS: &[u8] =
-    b"wall 0 50 512 1\nblock 100 100 90 7\nwall 511 100 1 300\nblock 300 200 9 129\nsave\nstep 300\nsave\ntally\nledger\nback 300\nsave\ntally\nledger\nsource 10 60 40 3 7\nsource 250 447 70 1 2\ndrain 400 0 3 448\ndrain 60 127 300 2\nstep 300\nsave\ntally\nledger\n";
+    b"wall 0 50 128 1\nwall 127 100 1 700\nblock 60 60 9 7\nblock 30 500 20 129\nsave\nstep 100\nsave\ntally\nledger\nback 100\nsave\ntally\nledger\nsource 10 60 40 9 7\nsource 50 1080 60 8 2\ndrain 100 0 3 1088\ndrain 20 640 60 2\nstep 100\nsave\ntally\nledger\nunport\nback 70\nsave\ntally\nledger\n";
 
 // The replies from the first snapshot on. The sums are those of `tools/channel_gas.py` for the same script.
 const TOLD: &[u8] =
-    b"SAVED 452 86038\nOK 452\nSAVED 453 86038\nTALLY 300 114480 168 40\nLEDGER 0 114480 0 0 116 0 -144 92 0 -496 0 -548 12\nOK 453\nSAVED 454 86038\nTALLY 0 114480 116 -496\nLEDGER 0 114480 0 0 116 0 0 0 0 -496 0 0 0\nOK 454\nOK 455\nOK 456\nOK 457\nOK 458\nSAVED 459 86074\nTALLY 300 39688 3148 -16810\nLEDGER 0 123283 83595 0 -1761 5509 -19250 8832 0 -7975 -15395 18382 5848\n";
+    b"SAVED 548 52246\nOK 548\nSAVED 549 52246\nTALLY 100 34636 62 102\nLEDGER 0 34636 0 0 38 0 -24 0 0 -42 0 -156 12\nOK 549\nSAVED 550 52246\nTALLY 0 34636 38 -42\nLEDGER 0 34636 0 0 38 0 0 0 0 -42 0 0 0\nOK 550\nOK 551\nOK 552\nOK 553\nOK 554\nSAVED 555 52282\nTALLY 100 17304 5272 230\nLEDGER 0 44864 27560 0 -294 4806 -12284 1912 0 -828 110 -1740 572\nOK 555\nOK 556\nSAVED 557 52246\nTALLY 30 17304 -3446 -232\nLEDGER 0 44864 27560 0 -294 4806 -1010 -644 0 -828 110 -930 224\n";
 
-// lays 512 by 448 cells row by row, and runs them
+// Seventeen rows of tiles: one and two for each of 16 workers, and two strips for one worker.
+const HIGH: Room = Room {
+    width: 128,
+    height: 1088,
+    ..SMALL
+};
+
+// lays every other pair of rows, and runs them
 fn script(rt: &(impl Abort + AllocGlobal)) -> Vec<u8> {
     let mut script = Vec::new(rt.alloc());
     let mut state = 1;
-    for y in 0..448u32 {
-        lay(rt, &mut script, y, &mut state);
+    for pair in 0..272u32 {
+        lay(rt, &mut script, 4 * pair, &mut state);
+        lay(rt, &mut script, 4 * pair + 1, &mut state);
     }
     script.extend_from_slice(RUNS).expect(rt, "memory");
     script
 }
 
-// what the shelf took
-fn saved_by(rt: &(impl Abort + AllocGlobal + Threads), script: &[u8], workers: u8) -> Store {
-    let room = Room {
-        width: 512,
-        height: 448,
-        workers,
-        cap: 1024,
-    };
+// what a run wrote, and what its shelf took
+#[derive(Drop)]
+struct Told {
+    sink: Sink,
+    store: Store,
+}
+
+fn told_by(rt: &(impl Abort + AllocGlobal + Threads), script: &[u8], room: Room) -> Told {
     let mut source = Source::new(script, ALL, FaultAt::never());
     let mut sink = Sink::new(rt.alloc(), ALL, ALL, FaultAt::never());
     let mut store = Store::new(rt.alloc(), FaultAt::never());
     let status = status_on(rt, room, None, &mut source, &mut sink, &mut store);
     expect_same(&rt, status, 0);
-    expect_that(&rt, sink.taken().ends_with(TOLD));
-    store
+    Told { sink, store }
 }
 
-// four snapshots were taken, and the third, after the steps back, is the first
+// five snapshots were taken, and the third, after the steps back, is the first
 fn is_back(rt: &impl Abort, kept: &[Vec<u8>]) {
-    let [start, _, back, _] = kept else {
-        panic!(rt; "four snapshots")
+    let [start, _, back, _, _] = kept else {
+        panic!(rt; "five snapshots")
     };
     expect_same(&rt, back.as_slice(), start.as_slice());
 }
@@ -77,12 +81,37 @@ fn is_back(rt: &impl Abort, kept: &[Vec<u8>]) {
 #[test]
 fn random_gas_by_any_number_of_workers(rt: HostRuntime) {
     let script = script(&rt);
-    let by_one = saved_by(&rt, script.as_slice(), 1);
-    is_back(&rt, by_one.kept());
-    for workers in [2, 3, 5, 16] {
-        let by_more = saved_by(&rt, script.as_slice(), workers);
-        are_same(&rt, by_more.kept(), by_one.kept());
+    let alone = told_by(&rt, script.as_slice(), HIGH);
+    expect_that(&rt, alone.sink.taken().ends_with(TOLD));
+    is_back(&rt, alone.store.kept());
+    for workers in 1..17u8 {
+        let room = Room {
+            workers,
+            by_strips: true,
+            ..HIGH
+        };
+        let by_team = told_by(&rt, script.as_slice(), room);
+        expect_same(&rt, by_team.sink.taken(), alone.sink.taken());
+        are_same(&rt, by_team.store.kept(), alone.store.kept());
     }
+}
+
+/// The smallest lattice whose runs the program itself makes by strips, with 16 workers. What is there lies across the edges of
+/// strips. The replies are those of `tools/channel_gas.py`.
+#[test]
+fn run_that_is_worth_strips(rt: HostRuntime) {
+    let room = Room {
+        width: 576,
+        height: 4096,
+        workers: 16,
+        ..SMALL
+    };
+    gives_on(
+        &rt,
+        room,
+        "put 30 250 200 12; put 300 4090 100 6; put 100 2040 60 20; wall 0 240 576 1; wall 0 270 576 1; block 240 250 8 12; source 0 244 4 20 2; drain 280 241 8 29; step 100; tally; ledger; probe 0 255 576 1; probe 0 256 576 1; probe 232 241 24 29; unport; back 100; tally; ledger; probe 0 255 576 1; probe 0 256 576 1",
+        "OK 0; OK 1; OK 2; OK 3; OK 4; OK 5; OK 6; OK 7; OK 8; TALLY 100 6055 -591 -15; LEDGER 0 6174 119 0 262 119 298 436 0 -32 -27 6 4; PROBE 80 -12 -80; PROBE 82 -16 82; PROBE 104 34 8; OK 9; OK 10; TALLY 0 6055 113 -119; LEDGER 0 6174 119 0 262 119 0 30 0 -32 -27 104 10; PROBE 248 12 -248; PROBE 244 12 244",
+    );
 }
 
 // how many threads this process has, as the system tells
@@ -125,7 +154,7 @@ fn step_by_two(rt: &(impl Abort + AllocGlobal + Threads), is_over: &AtomicBool) 
         width: 4096,
         height: 2048,
         workers: 2,
-        cap: 1,
+        ..SMALL
     };
     gives_on(rt, room, "step 512", "OK 0");
     is_over.store(true, Ordering::SeqCst);

@@ -6,6 +6,8 @@ mod doors;
 #[cfg(test)]
 mod expected;
 #[cfg(test)]
+mod faulty;
+#[cfg(test)]
 mod many;
 #[cfg(test)]
 mod refused;

@@ -16,28 +16,20 @@ use test_types::pages::{Guests, Page, shows};
 struct Outcome<'a> {
     counts: (u32, u32, u32),
     of_seats: [u32; 4],
-    puts: Option<&'a [(u16, u16)]>,
+    puts: &'a [(u16, u16)],
     tally: (i64, i64, i64),
     saved: [u32; 3],
-}
-
-// The sessions, and the one whose reader fails at the end of its text.
-#[derive(Clone, Copy)]
-struct Sessions<'a> {
-    inputs: &'a [Option<&'a [u8]>],
-    fails: Option<usize>,
 }
 
 // Serves a session over each page on an empty laboratory of 64 by 64. Tells what is left, and how often each seat saved.
 fn serve_guests<R: Threads + Wait + Clock + Sync + Abort + AllocGlobal>(
     rt: &R,
     gate: &TestGate<R>,
-    sessions: Sessions<'_>,
+    inputs: &[Option<&[u8]>],
     pages: &[Mutex<Page>],
     puts: &[(u16, u16)],
 ) -> (Left, [u32; 3]) {
-    let mut lobby = Guests::new(sessions.inputs, pages);
-    lobby.fail_at_end(sessions.fails);
+    let mut lobby = Guests::new(inputs, pages);
     let saved = no_puts();
     let lab = small_lab(rt.alloc()).expect(rt, "memory");
     let left = serve_sessions(rt, lab, gate, &mut lobby, &saved, pages.len(), puts);
@@ -48,25 +40,16 @@ fn serve_guests<R: Threads + Wait + Clock + Sync + Abort + AllocGlobal>(
 fn serves<R: Threads + Wait + Clock + Sync + Abort + AllocGlobal>(
     rt: &R,
     gate: &TestGate<R>,
-    sessions: Sessions<'_>,
+    inputs: &[Option<&[u8]>],
     pages: &[Mutex<Page>],
     wanted: Outcome<'_>,
 ) {
-    let puts = wanted.puts.unwrap_or(&[]);
-    let (left, saved) = serve_guests(rt, gate, sessions, pages, puts);
+    let (left, saved) = serve_guests(rt, gate, inputs, pages, wanted.puts);
     expect_same(&rt, left.counts, wanted.counts);
     expect_same(&rt, left.of_seats, wanted.of_seats);
     expect_same(&rt, left.lab.tally, wanted.tally);
     expect_same(&rt, saved, wanted.saved);
-    expect_that(&rt, left.lab.are_puts || wanted.puts.is_none());
-}
-
-// sessions none of whose readers fails
-fn all_end<'a>(inputs: &'a [Option<&'a [u8]>]) -> Sessions<'a> {
-    Sessions {
-        inputs,
-        fails: None,
-    }
+    expect_that(&rt, left.lab.are_puts);
 }
 
 fn empty_pages() -> [Mutex<Page>; 3] {
@@ -87,11 +70,11 @@ fn two_served_sessions_take_turns(rt: HostRuntime) {
     let wanted = Outcome {
         counts: (2, 0, 3),
         of_seats: [2, 1, 0, 0],
-        puts: Some(&[(0, 0), (1, 4), (0, 2)]),
+        puts: &[(0, 0), (1, 4), (0, 2)],
         tally: (3, 3, 3),
         saved: [0, 0, 0],
     };
-    serves(&rt, &turns, all_end(&inputs), &pages[..2], wanted);
+    serves(&rt, &turns, &inputs, &pages[..2], wanted);
     expect_that(&rt, !turns.met_limit());
     expect_that(&rt, shows(&pages[0], b"OK 0\nOK 2\n"));
     expect_that(&rt, shows(&pages[1], b"OK 1\n"));
@@ -104,49 +87,41 @@ fn failed_accept_is_counted(rt: HostRuntime) {
     let wanted = Outcome {
         counts: (1, 1, 1),
         of_seats: [0, 1, 0, 0],
-        puts: Some(&[(1, 0)]),
+        puts: &[(1, 0)],
         tally: (1, 1, 1),
         saved: [0, 0, 0],
     };
-    serves(
-        &rt,
-        &TestGate::open(rt),
-        all_end(&inputs),
-        &pages[..2],
-        wanted,
-    );
+    serves(&rt, &TestGate::open(rt), &inputs, &pages[..2], wanted);
     expect_that(&rt, shows(&pages[0], b""));
     expect_that(&rt, shows(&pages[1], b"OK 0\nBYE\n"));
 }
 
-// Whether one change was accepted, as the first, second or third entry.
-fn shows_one_of_three(page: &Mutex<Page>) -> bool {
-    shows(page, b"OK 0\n") || shows(page, b"OK 1\n") || shows(page, b"OK 2\n")
-}
-
+/// Seat 1's page takes nothing: its first change is made, and its second line is not asked.
 #[test]
 fn failed_writer_beside_others(rt: HostRuntime) {
+    let turns = TestGate::turns(rt);
     let pages = [
         Mutex::new(Page::new()),
         Mutex::new(Page::full()),
         Mutex::new(Page::new()),
     ];
     let inputs: [Option<&[u8]>; 3] = [
-        Some(b"put 0 0 1 1\n"),
-        Some(b"put 2 0 1 1\n"),
-        Some(b"put 4 0 1 1\n"),
+        Some(b"put 0 0 1 1\nput 4 0 1 1\n"),
+        Some(b"put 2 0 1 1\nput 6 0 1 1\n"),
+        Some(b"probe 0 9 64 1\nquit\n"),
     ];
     let wanted = Outcome {
         counts: (3, 0, 3),
-        of_seats: [1, 1, 1, 0],
-        puts: None,
+        of_seats: [2, 1, 0, 0],
+        puts: &[(0, 0), (1, 2), (0, 4)],
         tally: (3, 3, 3),
         saved: [0, 0, 0],
     };
-    serves(&rt, &TestGate::open(rt), all_end(&inputs), &pages, wanted);
-    expect_that(&rt, shows_one_of_three(&pages[0]));
+    serves(&rt, &turns, &inputs, &pages, wanted);
+    expect_that(&rt, !turns.met_limit());
+    expect_that(&rt, shows(&pages[0], b"OK 0\nOK 2\n"));
     expect_that(&rt, shows(&pages[1], b""));
-    expect_that(&rt, shows_one_of_three(&pages[2]));
+    expect_that(&rt, shows(&pages[2], b"PROBE 0 0 0\nBYE\n"));
 }
 
 // 3,000 bytes in one line, and a change after it
@@ -170,40 +145,14 @@ fn torn_and_long_lines_beside_others(rt: HostRuntime) {
     let wanted = Outcome {
         counts: (3, 0, 1),
         of_seats: [0, 0, 1, 0],
-        puts: Some(&[(2, 4)]),
+        puts: &[(2, 4)],
         tally: (1, 1, 1),
         saved: [0, 0, 0],
     };
-    serves(&rt, &TestGate::open(rt), all_end(&inputs), &pages, wanted);
+    serves(&rt, &TestGate::open(rt), &inputs, &pages, wanted);
     expect_that(&rt, shows(&pages[0], b""));
     expect_that(&rt, shows(&pages[1], b"ERR 1 line\n"));
     expect_that(&rt, shows(&pages[2], b"OK 0\nTALLY 0 1 1 1\nBYE\n"));
-}
-
-/// A reader fails in the middle of a line.
-#[test]
-fn failed_reader_beside_others(rt: HostRuntime) {
-    let pages = empty_pages();
-    let inputs: [Option<&[u8]>; 3] = [
-        Some(b"put 0 0 1 1\n"),
-        Some(b"put 2 0 1 1\nput 6 0 1"),
-        Some(b"put 4 0 1 1\n"),
-    ];
-    let sessions = Sessions {
-        inputs: &inputs,
-        fails: Some(1),
-    };
-    let wanted = Outcome {
-        counts: (3, 0, 3),
-        of_seats: [1, 1, 1, 0],
-        puts: None,
-        tally: (3, 3, 3),
-        saved: [0, 0, 0],
-    };
-    serves(&rt, &TestGate::open(rt), sessions, &pages, wanted);
-    for page in &pages {
-        expect_that(&rt, shows_one_of_three(page));
-    }
 }
 
 #[test]
@@ -217,11 +166,11 @@ fn each_session_saves_on_its_own_shelf(rt: HostRuntime) {
     let wanted = Outcome {
         counts: (3, 0, 0),
         of_seats: [0, 0, 0, 0],
-        puts: None,
+        puts: &[],
         tally: (0, 0, 0),
         saved: [2, 1, 0],
     };
-    serves(&rt, &TestGate::open(rt), all_end(&inputs), &pages, wanted);
+    serves(&rt, &TestGate::open(rt), &inputs, &pages, wanted);
     expect_that(&rt, shows(&pages[0], b"SAVED 0 1558\nSAVED 0 1558\nBYE\n"));
     expect_that(&rt, shows(&pages[1], b"SAVED 0 1558\nBYE\n"));
     expect_that(&rt, shows(&pages[2], b"BYE\n"));

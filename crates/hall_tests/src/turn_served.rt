@@ -4,7 +4,7 @@ ghost use Rattle.std.specs.Prelude.{◌≡◌, ◌<◌, ◌≤◌, All, vec_len}
 
 use crate::expected::expect_that;
 use crate::values::{counted, counters, no_puts, small_lab};
-use gas_hall::{TurnHall, TurnSeat, TurnServed, serve_turn};
+use gas_hall::{Lobby, TurnHall, TurnSeat, TurnServed, serve_turn};
 use gas_lab::Serial;
 use std::process::Abort;
 use std::sync::Wait;
@@ -47,25 +47,22 @@ fn open_hall(
     }
 }
 
-// Serves a session for each speech on an empty laboratory of 64 by 64. Tells how many were served and how many not, the
-// entries of all, and those of each.
-fn serve_all<R: Threads + Wait + Sync + Abort + Clock + Copy + Drop + Send + AllocGlobal>(
+/// Serves a session of the lobby for each shelf, three at most, on an empty laboratory of 64 by 64. Tells how many were
+/// served and how many not, the entries of all, and those of each.
+pub fn serve_in_turn<L: Lobby, R: Threads + Wait + Sync + Abort + AllocGlobal>(
     rt: &R,
-    stage: &Stage,
-    speeches: &[Option<Speech<'_>>],
+    lobby: &mut L,
     shelves: Vec<Counter<'_>>,
 ) -> ((u32, u32, u32), [u32; 3]) {
-    expect_that(&rt, 0 < speeches.len());
-    expect_that(&rt, speeches.len() <= 3);
-    expect_that(&rt, shelves.len() == speeches.len());
-    let (hall, seats) = open_hall(rt, speeches.len() as u16);
-    let mut lobby = Speakers::new(*rt, stage, speeches);
+    expect_that(&rt, !shelves.is_empty());
+    expect_that(&rt, shelves.len() <= 3);
+    let (hall, seats) = open_hall(rt, shelves.len() as u16);
     let TurnServed {
         done,
         failed,
         entries,
         seats,
-    } = serve_turn(rt, rt.alloc(), &mut lobby, &hall, seats, shelves);
+    } = serve_turn(rt, rt.alloc(), lobby, &hall, seats, shelves);
     ((done, failed, entries), counts_of(seats.as_slice()))
 }
 
@@ -77,7 +74,8 @@ fn serve_speeches<R: Threads + Wait + Sync + Abort + Clock + Copy + Drop + Send 
 ) -> Outcome {
     let saved = no_puts();
     let shelves = counters(rt.alloc(), &saved, speeches.len()).expect(rt, "memory");
-    let (counts, of_seats) = serve_all(rt, stage, speeches, shelves);
+    let mut lobby = Speakers::new(*rt, stage, speeches);
+    let (counts, of_seats) = serve_in_turn(rt, &mut lobby, shelves);
     Outcome {
         counts,
         of_seats,
@@ -115,6 +113,8 @@ fn turn_failed_accept(rt: HostRuntime) {
     expect_that(&rt, stage.shows(1, b"OK 0\nBYE\n"));
 }
 
+const FIRST_TOLD: &[u8] = b"OK 1\nTALLY 0 2 2 2\nENTRY 1 put 2 0 1 1\nENTRY 0 put 0 0 1 1\n";
+
 /// One session's reader fails in the middle of a line, another's page takes nothing, and the first goes on after the one
 /// was told its reply.
 #[test]
@@ -123,9 +123,9 @@ fn turn_faults_beside_others(rt: HostRuntime) {
     let first = Speech {
         first: Text {
             after: Some(1),
-            text: b"put 0 0 1 1\ntally\n",
+            text: b"put 0 0 1 1\ntally\nentry 0\nentry 1\n",
         },
-        told: b"OK 1\nTALLY 0 2 2 2\n",
+        told: FIRST_TOLD,
         ..Speech::of(b"")
     };
     let failing = Speech {
@@ -143,7 +143,7 @@ fn turn_faults_beside_others(rt: HostRuntime) {
     let found = serve_speeches(&rt, &stage, &[Some(first), Some(failing), Some(unheard)]);
     expect_that(&rt, found.counts == (3, 0, 3));
     expect_that(&rt, found.of_seats == [1, 1, 1]);
-    expect_that(&rt, stage.shows(0, b"OK 1\nTALLY 0 2 2 2\n"));
+    expect_that(&rt, stage.shows(0, FIRST_TOLD));
     expect_that(&rt, stage.shows(1, b"OK 0\n"));
     expect_that(&rt, stage.shows(2, b""));
 }

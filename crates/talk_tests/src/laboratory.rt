@@ -2,24 +2,47 @@
 
 use crate::expected::{expect_same, expect_that};
 use gas_lab::{Gas, Lab, Serial};
+use gas_ledger::Source;
 use gas_plane::Plane;
-use gas_terms::{Answer, Command, Ledger, Rect, Refusal, RowBits, Size};
+use gas_terms::{Answer, Command, Entry, Ledger, Rect, Refusal, RowBits, Size};
 use std::process::Abort;
 
 // The bytes of the rows of 64 by 64 cells.
 const CELLS: usize = 512;
 
-// What a laboratory shows, in no memory of its own: to compare it takes none that could be refused.
+// How many entries the journal may have.
+const CAP: usize = 8;
+
+// What a gas shows. Nothing here takes memory that could be refused.
 #[derive(Clone, Copy, Debug, PartialEq, Eq)]
-struct Shown {
+struct ShownGas {
     tick: i64,
-    ledger: Ledger,
-    entries: usize,
     particles: [u8; CELLS],
     walls: [u8; CELLS],
     obstacles: [u8; CELLS],
-    drains: usize,
-    sources: usize,
+    drains: [Option<Rect>; 16],
+    sources: [Option<Source>; 16],
+}
+
+// An entry: its seat and its command, by the command's place in its type, its rectangle, its number and its row.
+#[derive(Clone, Copy, Debug, PartialEq, Eq)]
+struct ShownEntry {
+    seat: u16,
+    kind: u8,
+    area: Option<Rect>,
+    number: u32,
+    row: Option<[u8; 8]>,
+}
+
+// What a laboratory shows.
+#[derive(Clone, Copy, Debug, PartialEq, Eq)]
+struct Shown {
+    start: ShownGas,
+    cap: u32,
+    gas: ShownGas,
+    ledger: Ledger,
+    entries: usize,
+    journal: [Option<ShownEntry>; CAP],
 }
 
 fn cells_of(rt: &impl Abort, plane: &Plane) -> [u8; CELLS] {
@@ -34,24 +57,91 @@ fn cells_of(rt: &impl Abort, plane: &Plane) -> [u8; CELLS] {
     cells
 }
 
-fn view_of(rt: &impl Abort, lab: &Lab<Serial>) -> Shown {
-    let gas = lab.gas();
-    Shown {
+// the first of a list, with room for more
+fn few<T: Copy>(list: &[T]) -> [Option<T>; 16] {
+    let mut shown = [None; 16];
+    for (place, item) in shown.iter_mut().zip(list) {
+        *place = Some(*item);
+    }
+    shown
+}
+
+fn gas_view(rt: &impl Abort, gas: &Gas) -> ShownGas {
+    ShownGas {
         tick: gas.tick().get(),
-        ledger: *lab.ledger(),
-        entries: lab.journal().len(),
         particles: cells_of(rt, gas.particles()),
         walls: cells_of(rt, gas.walls()),
         obstacles: cells_of(rt, gas.obstacles()),
-        drains: gas.ports().drains().len(),
-        sources: gas.ports().sources().len(),
+        drains: few(gas.ports().drains()),
+        sources: few(gas.ports().sources()),
+    }
+}
+
+fn row_of(bits: &RowBits) -> [u8; 8] {
+    let mut row = [0; 8];
+    for (place, byte) in row.iter_mut().zip(bits.bytes()) {
+        *place = *byte;
+    }
+    row
+}
+
+// a command's place in its type, its rectangle and its number
+fn parts_of(command: &Command) -> (u8, Option<Rect>, u32) {
+    match command {
+        Command::Put(area) => (0, Some(*area), 0),
+        Command::Erase(area) => (1, Some(*area), 0),
+        Command::Wall(area) => (2, Some(*area), 0),
+        Command::Block(area) => (3, Some(*area), 0),
+        Command::Unwall(area) => (4, Some(*area), 0),
+        Command::Row(y, _) => (5, None, u32::from(*y)),
+        Command::Source(area, period) => (6, Some(*area), u32::from(*period)),
+        Command::Drain(area) => (7, Some(*area), 0),
+        Command::Unport => (8, None, 0),
+        Command::Step(n) => (9, None, u32::from(*n)),
+        Command::Back(n) => (10, None, u32::from(*n)),
+        // no entry of a journal
+        _ => (11, None, 0),
+    }
+}
+
+fn entry_view(entry: &Entry) -> ShownEntry {
+    let (kind, area, number) = parts_of(&entry.command);
+    let row = match &entry.command {
+        Command::Row(_, bits) => Some(row_of(bits)),
+        _ => None,
+    };
+    ShownEntry {
+        seat: entry.seat,
+        kind,
+        area,
+        number,
+        row,
+    }
+}
+
+fn journal_view(journal: &[Entry]) -> [Option<ShownEntry>; CAP] {
+    let mut shown = [None; CAP];
+    for (place, entry) in shown.iter_mut().zip(journal) {
+        *place = Some(entry_view(entry));
+    }
+    shown
+}
+
+fn view_of(rt: &impl Abort, lab: &Lab<Serial>) -> Shown {
+    Shown {
+        start: gas_view(rt, lab.start()),
+        cap: lab.cap(),
+        gas: gas_view(rt, lab.gas()),
+        ledger: *lab.ledger(),
+        entries: lab.journal().len(),
+        journal: journal_view(lab.journal()),
     }
 }
 
 fn opened(rt: &(impl Abort + AllocGlobal)) -> Option<Lab<Serial>> {
     let size = Size::new(64, 64).expect(rt, "a size");
     let gas = Gas::empty(rt.alloc(), size).ok()?;
-    Lab::open(rt.alloc(), gas, 8, Serial).ok()
+    Lab::open(rt.alloc(), gas, CAP as u32, Serial).ok()
 }
 
 fn ask(
@@ -159,7 +249,7 @@ fn refused_readings_leave_the_laboratory(rt: HostRuntime) {
         reads_the_entry(&rt, &reply, before.entries);
         expect_same(&rt, view_of(&rt, &lab), before);
         let tick = copied_tick(&lab);
-        expect_that(&rt, tick.is_none() || tick == Some(before.tick));
+        expect_that(&rt, tick.is_none() || tick == Some(before.gas.tick));
         expect_same(&rt, view_of(&rt, &lab), before);
     }
 }

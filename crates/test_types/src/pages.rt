@@ -89,18 +89,14 @@ pub fn shows(page: &Mutex<Page>, text: &[u8]) -> bool {
     }
 }
 
-/// Gives its text, and then ends or fails.
+/// Gives its text, and then ends.
 #[derive(Drop)]
 pub struct Words<'a> {
     rest: &'a [u8],
-    fails: bool,
 }
 
 impl<'a> Read for Words<'a> {
     fn read(&mut self, buf: &mut [u8]) -> io::Result<usize> {
-        if self.rest.is_empty() && self.fails {
-            return Err(io::Error::from(ErrorKind::Other));
-        }
         let n = self.rest.len().min(buf.len());
         buf[..n].copy_from_slice(&self.rest[..n]);
         self.rest = &self.rest[n..];
@@ -113,7 +109,6 @@ impl<'a> Read for Words<'a> {
 pub struct Guests<'a> {
     inputs: &'a [Option<&'a [u8]>],
     pages: &'a [Mutex<Page>],
-    fails: Option<usize>,
     next: usize,
 }
 
@@ -122,14 +117,8 @@ impl<'a> Guests<'a> {
         Guests {
             inputs,
             pages,
-            fails: None,
             next: 0,
         }
-    }
-
-    /// This session's reader fails at the end of its text.
-    pub fn fail_at_end(&mut self, session: Option<usize>) {
-        self.fails = session;
     }
 }
 
@@ -143,14 +132,7 @@ impl<'a> Lobby for Guests<'a> {
         self.next = at.saturating_add(1);
         match (self.inputs.get(at), self.pages.get(at)) {
             (Some(Some(input)), Some(page)) => {
-                let fails = self.fails == Some(at);
-                Ok((
-                    Words {
-                        rest: *input,
-                        fails,
-                    },
-                    PageWriter::new(page),
-                ))
+                Ok((Words { rest: *input }, PageWriter::new(page)))
             }
             _ => Err(AcceptFault),
         }
