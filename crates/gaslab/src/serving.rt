@@ -52,7 +52,8 @@ fn tell<W: Write>(writer: &mut W, counts: Counts) -> bool
 /// accept of the lobby for each seat, in order, and a thread for each session that came, with the shelf at its seat's place.
 /// When all have ended it writes `SERVED` with the number of seats that were served, of those that were not, and of the
 /// entries that all made, and answers the program's exit status: 1 where that can't be written, else 0. Where memory is
-/// refused for the opening it is 4, and nothing is accepted or written.
+/// refused for the opening it is 4, and nothing is accepted or written. The contract says of the entries only that the
+/// journal had room for as many.
 pub fn serve_on<T: Threads + Wait + Sync, L: Lobby, K: Shelf + Drop + Send, W: Write>(
     rt: &T,
     alloc: Global,
