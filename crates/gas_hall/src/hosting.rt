@@ -51,13 +51,14 @@ fn made_by_all<S: Stepper, R: Wait>(rt: &R, hall: &TurnHall<S>, seats: Vec<TurnS
         made += seat.entries();
         door.meet(note_of(rt, hall, seat));
     }
-    // a turn of its own, which finds a journal that has room for all that they made
-    let _ = door.ask(Command::Tally);
+    // a turn of its own finds a journal that has room for all that they made; this command takes constant time
+    let _ = door.ask(Command::Ledger);
     made
 }
 
 /// Serves a laboratory: opens a hall whose seats take turns, a seat for each shelf, and serves each seat once, as
-/// `serve_turn` does. `None` where memory is refused for the hall: then nothing was accepted.
+/// `serve_turn` does. `None` where memory is refused for the hall: then nothing was accepted. No seat is left to compare the
+/// entries with, so the contract says of them only that the journal had room for as many.
 pub fn serve_lab<S: Stepper + Send, L: Lobby, K: Shelf + Drop + Send, R: Threads + Wait + Sync>(
     rt: &R,
     alloc: Global,

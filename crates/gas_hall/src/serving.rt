@@ -1,16 +1,16 @@
 //! Serves a hall: accepts a session for each seat, starts a thread for it, and joins all threads.
 
-ghost use Rattle.std.specs.Prelude.{◌≡◌, ℕ, ◌+◌, ◌≤◌, ⊤, All, IfOk, IfErr, length, map, vec_len, vec_capacity};
+ghost use Rattle.std.specs.Prelude.{◌≡◌, ℕ, ◌+◌, ◌≤◌, ⊤, List, [], All, Some, IfOk, IfErr, length, map, slice_get, vec_len, vec_capacity};
 ghost use Rattle.std.specs.List.{sum_by};
-ghost use Rattle.gas_terms.specs.Laboratory.{most_entries};
+ghost use Rattle.gas_terms.specs.Laboratory.{most_entries, IsPrefix};
+ghost use Rattle.gas_terms.specs.declared.command.Entry.{Entry};
 ghost use Rattle.gas_seats.specs.Seats.{Seat, numbers};
 ghost use Rattle.gas_seats.specs.TurnSeats.{SeatView, but_for_seen, entries_made, made_in_all};
 
 use gas_lab::Stepper;
-use gas_seats::{Hall, HallDoor, HallGate, HallName, HallSeat, TurnDoor, TurnHall, TurnSeat};
+use gas_seats::{Hall, HallGate, HallName, HallSeat, TurnHall, TurnSeat};
 use gas_snapshot::Shelf;
-use gas_talk::session::session;
-use gas_talk::session_laws::kept_by_calls_is_kept_by_sessions;
+use gas_talk::session::serve_door;
 use std::alloc::Global;
 use std::io::{Read, Write};
 use std::marker::PhantomData;
@@ -62,6 +62,9 @@ pub(crate) trait Seating<T, R> {
     // how many entries the seat made
     ghost made: { T → ℕ };
 
+    // what the seat has seen of the journal, where it knows that
+    ghost seen: { T → List Entry };
+
     fn number_of(seat: &T) -> u16;
 
     fn entries_of(seat: &T) -> u32
@@ -75,7 +78,8 @@ pub(crate) trait Seating<T, R> {
         guest: Guest<T, In, Out, K>,
     ) -> T
         requires here { has self.now (kept guest.seat) }
-        ensures { kept result ≡ kept guest.seat };
+        ensures kept { kept result ≡ kept guest.seat }
+        ensures seen { IsPrefix (seen guest.seat) (seen result) };
 }
 
 impl<N: HallName, S: Stepper, G: HallGate, R: Wait> Seating<HallSeat<N>, R> for Hall<N, S, G> {
@@ -84,6 +88,8 @@ impl<N: HallName, S: Stepper, G: HallGate, R: Wait> Seating<HallSeat<N>, R> for 
     ghost has = { λ _ _. ⊤ };
 
     ghost made = { λ seat. seat.entries };
+
+    ghost seen = { λ _. [] };
 
     fn number_of(seat: &HallSeat<N>) -> u16 {
         seat.number()
@@ -99,7 +105,8 @@ impl<N: HallName, S: Stepper, G: HallGate, R: Wait> Seating<HallSeat<N>, R> for 
         alloc: Global,
         guest: Guest<HallSeat<N>, In, Out, K>,
     ) -> HallSeat<N>
-        ensures { record result { entries = 0 } ≡ record guest.seat { entries = 0 } }
+        ensures kept { record result { entries = 0 } ≡ record guest.seat { entries = 0 } }
+        ensures seen { IsPrefix [] [] }
     {
         let Guest {
             seat,
@@ -108,8 +115,7 @@ impl<N: HallName, S: Stepper, G: HallGate, R: Wait> Seating<HallSeat<N>, R> for 
             mut shelf,
         } = guest;
         let mut door = self.door(rt, seat);
-        kept_by_calls_is_kept_by_sessions::<HallDoor<'_, N, S, G, R>, HallSeat<N>>();
-        session(alloc, &mut reader, &mut writer, &mut door, &mut shelf);
+        serve_door(alloc, &mut reader, &mut writer, &mut door, &mut shelf);
         door.end()
     }
 }
@@ -120,6 +126,8 @@ impl<S: Stepper, R: Wait> Seating<TurnSeat<S>, R> for TurnHall<S> {
     ghost has = { λ hall seat. seat.hall ≡ hall };
 
     ghost made = { entries_made };
+
+    ghost seen = { λ seat. seat.seen };
 
     fn number_of(seat: &TurnSeat<S>) -> u16 {
         seat.number()
@@ -136,7 +144,8 @@ impl<S: Stepper, R: Wait> Seating<TurnSeat<S>, R> for TurnHall<S> {
         guest: Guest<TurnSeat<S>, In, Out, K>,
     ) -> TurnSeat<S>
         requires here { guest.seat.hall ≡ self.now }
-        ensures { but_for_seen result ≡ but_for_seen guest.seat }
+        ensures kept { but_for_seen result ≡ but_for_seen guest.seat }
+        ensures seen { IsPrefix guest.seat.seen result.seen }
     {
         let Guest {
             seat,
@@ -145,8 +154,7 @@ impl<S: Stepper, R: Wait> Seating<TurnSeat<S>, R> for TurnHall<S> {
             mut shelf,
         } = guest;
         let mut door = self.door(rt, seat);
-        kept_by_calls_is_kept_by_sessions::<TurnDoor<'_, S, R>, TurnSeat<S>>();
-        session(alloc, &mut reader, &mut writer, &mut door, &mut shelf);
+        serve_door(alloc, &mut reader, &mut writer, &mut door, &mut shelf);
         door.end()
     }
 }
@@ -177,7 +185,7 @@ struct SeatKept<H, T, R> {
 }
 
 impl<T, R, H: Seating<T, R>> Promise<T> for SeatKept<H, T, R> {
-    ghost kept_by = { λ p seat. H.kept seat ≡ H.kept p.seat.value };
+    ghost kept_by = { λ p seat. (H.kept seat ≡ H.kept p.seat.value) × IsPrefix (H.seen p.seat.value) (H.seen seat) };
 }
 
 // What a session's thread does. It serves nobody if the thread was refused.
@@ -186,7 +194,8 @@ pub(crate) fn sit<T, R, H: Seating<T, R>, In: Read + Drop, Out: Write + Drop, K:
     guest: Guest<T, In, Out, K>,
 ) -> T
     requires here { H.has house.now.hall.now (H.kept guest.seat) }
-    ensures { H.kept result ≡ H.kept guest.seat }
+    ensures kept { H.kept result ≡ H.kept guest.seat }
+    ensures seen { IsPrefix (H.seen guest.seat) (H.seen result) }
 {
     if house.refused.load(Ordering::SeqCst) == H::number_of(&guest.seat) as u32 {
         let Guest {
@@ -223,6 +232,7 @@ where
     requires here { H.has house.now.hall.now (H.kept guest.seat) }
     ensures ok { IfOk result (λ handle. handle.promise.seat.value ≡ guest.seat) }
     ensures err { IfErr result (λ back. H.kept back ≡ H.kept guest.seat) }
+    ensures seen { IfErr result (λ back. IsPrefix (H.seen guest.seat) (H.seen back)) }
 {
     let (rt, alloc, hall, refused) = (house.rt, house.alloc, house.hall, house.refused);
     let Guest {
@@ -238,7 +248,8 @@ where
     };
     let job = move || -> T
         requires here { H.has hall.now (H.kept seat) }
-        ensures { H.kept result ≡ H.kept seat }
+        ensures kept { H.kept result ≡ H.kept seat }
+        ensures seen { IsPrefix (H.seen seat) (H.seen result) }
     {
         let house = House {
             rt,
@@ -291,6 +302,8 @@ where
     ensures done { result ≤ vec_len seats.old }
     ensures all { vec_len seats.new ≡ vec_len seats.old }
     ensures seats { map H.kept seats.new.items ≡ map H.kept seats.old.items }
+    ensures seen { (i : ℕ) (old new : T) → slice_get seats.old.items i ≡ Some old
+        → slice_get seats.new.items i ≡ Some new → IsPrefix (H.seen old) (H.seen new) }
     ensures capacity { vec_capacity seats.new ≡ vec_capacity seats.old }
 {
     let Some(seat) = seats.pop() else {
@@ -357,6 +370,8 @@ fn serve_seats<
     ensures done { result.done ≤ vec_len seats }
     ensures all { vec_len result.seats ≡ vec_len seats }
     ensures seats { map H.kept result.seats.items ≡ map H.kept seats.items }
+    ensures seen { (i : ℕ) (old new : T) → slice_get seats.items i ≡ Some old
+        → slice_get result.seats.items i ≡ Some new → IsPrefix (H.seen old) (H.seen new) }
     ensures entries { result.entries ≡ sum_by H.made result.seats.items }
 {
     let refused = AtomicU32::new(u32::MAX);
@@ -375,6 +390,8 @@ fn serve_seats<
             ensures done { result.0 ≤ vec_len seats }
             ensures all { vec_len result.1 ≡ vec_len seats }
             ensures seats { map H.kept result.1.items ≡ map H.kept seats.items }
+            ensures seen { (i : ℕ) (old new : T) → slice_get seats.items i ≡ Some old
+                → slice_get result.1.items i ≡ Some new → IsPrefix (H.seen old) (H.seen new) }
         {
             let mut seats = seats;
             let mut shelves = shelves;
@@ -435,7 +452,8 @@ pub fn serve<
     }
 }
 
-/// Serves each seat of a hall that takes turns, as `serve` does. Each seat comes back as it was, but for what it has seen.
+/// Serves each seat of a hall that takes turns, as `serve` does. Each seat comes back as it was, but for what it has seen,
+/// which begins with what it had seen.
 pub fn serve_turn<S: Stepper + Send, L: Lobby, K: Shelf + Drop + Send, R: Threads + Wait + Sync>(
     rt: &R,
     alloc: Global,
@@ -450,6 +468,8 @@ pub fn serve_turn<S: Stepper + Send, L: Lobby, K: Shelf + Drop + Send, R: Thread
     ensures count { result.done + result.failed ≡ vec_len seats }
     ensures all { vec_len result.seats ≡ vec_len seats }
     ensures seats { map but_for_seen result.seats.items ≡ map but_for_seen seats.items }
+    ensures seen { (i : ℕ) (old new : SeatView) → slice_get seats.items i ≡ Some old
+        → slice_get result.seats.items i ≡ Some new → IsPrefix old.seen new.seen }
     ensures here { All (λ seat. seat.hall ≡ hall.now) result.seats.items }
     ensures entries { result.entries ≡ made_in_all result.seats.items }
 {

@@ -1,4 +1,5 @@
 pub mod Prefixes
+pub mod Seeing
 pub mod Events
 pub mod Numbered
 pub mod TurnSeats

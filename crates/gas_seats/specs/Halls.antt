@@ -23,6 +23,8 @@ AppliesToSome size cap seat command reply =
     (lab : Laboratory) × (next : Laboratory) × IsNamed size cap lab × IsNamed size cap next
     × (seat.entries ≤ length lab.journal) × Applies lab (entry_of seat.number command) reply next
 
--- there is such a laboratory of which this is the copy, unless memory was refused
-abbrev pub CopiesSome : Extent → ℕ → Result Copied NoMemory → Type 0
-CopiesSome size cap copied = (lab : Laboratory) × IsNamed size cap lab × Copies lab copied lab
+-- there is such a laboratory, with no fewer entries than the seat has made, of which this is the copy, unless memory was
+-- refused
+abbrev pub CopiesSome : Extent → ℕ → Seat → Result Copied NoMemory → Type 0
+CopiesSome size cap seat copied =
+    (lab : Laboratory) × IsNamed size cap lab × (seat.entries ≤ length lab.journal) × Copies lab copied lab

@@ -135,7 +135,7 @@ impl<'h, N: HallName, S: Stepper, G: HallGate, R: Wait> Door for HallDoor<'h, N,
     ghost asks = { λ d command reply e. AppliesToSome N.size N.cap d.seat command reply
         × (e.seat ≡ counted d.seat reply) };
 
-    ghost copies = { λ d copied e. CopiesSome N.size N.cap copied × (e.seat ≡ d.seat) };
+    ghost copies = { λ d copied e. CopiesSome N.size N.cap d.seat copied × (e.seat ≡ d.seat) };
 
     fn size(&self) -> Size {
         self.hall.size
@@ -154,7 +154,7 @@ impl<'h, N: HallName, S: Stepper, G: HallGate, R: Wait> Door for HallDoor<'h, N,
         let number = self.seat.number();
         let call = self.seat.next_call();
         self.hall.gate.before(number, call);
-        let copied = self.hall.held.lock(self.rt).copy_gas();
+        let copied = self.hall.held.lock(self.rt).copy_gas(&mut self.seat);
         self.hall.gate.after(number, call);
         copied
     }

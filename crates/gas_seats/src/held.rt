@@ -64,11 +64,14 @@ impl<N: HallName, S: Stepper> Held<N, S> {
         reply
     }
 
-    /// A copy of the gas with the length of the journal, unless memory is refused.
-    pub fn copy_gas(&self) -> Result<Copied, NoMemory>
-        ensures copied { Copies self.now result self.now }
-        ensures named { IsNamed N.size N.cap self.now }
+    /// A copy of the gas with the length of the journal for the seat, unless memory is refused. Nothing changes.
+    pub fn copy_gas(&mut self, seat: &mut HallSeat<N>) -> Result<Copied, NoMemory>
+        ensures copied { Copies self.old result self.old }
+        ensures named { IsNamed N.size N.cap self.old }
+        ensures same { (self.new ≡ self.old) × (seat.new ≡ seat.old) }
+        ensures covers { seat.old.entries ≤ length self.old.journal }
     {
+        self.book.audit(&mut seat.share);
         Copied::of(&self.lab)
     }
 }

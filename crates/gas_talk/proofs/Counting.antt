@@ -1,9 +1,9 @@
 -- How many reads gave the input so far, and how many are left.
-use Rattle.std.proofs.Common.{◌≡◌, ◌≢◌, ℕ, ◌+◌, ◌*◌, ◌^◌, ◌<◌, ◌≤◌, nat_lt, true, false, List, [], ◌++◌, length, inl, inr, arith, length-append}
+use Rattle.std.proofs.Common.{◌≡◌, ◌≢◌, ℕ, ◌+◌, ◌*◌, ◌^◌, ◌<◌, ◌≤◌, nat_lt, true, false, List, [], ◌++◌, length, refl, arith, length-append}
 use Rattle.std.proofs.lemmas.Bool.Decides.{nat_tests}
 use Rattle.gas_talk.specs.declared.end.SessionEnd.{SessionEnd}
-use Rattle.gas_talk.specs.declared.end.SessionEnd.TheVariants.{InputEnd, ReadFault, TooManyReads}
-use Rattle.gas_talk.specs.Ends.{AreReads}
+use Rattle.gas_talk.specs.declared.end.SessionEnd.TheVariants.{Quit, InputEnd, ReadFault, WriteFault, BadLine, Memory, TooManyReads}
+use Rattle.gas_talk.specs.Ends.{empty_reads, AreReads}
 
 -- each of them gave a byte at least
 pub record Counts (count left : ℕ) (input : List ℕ) : Type 0 where
@@ -22,31 +22,38 @@ one_more count left left' n input more c spent len few some = record {
   short = omega (arith, length-append input more, c.short, len, few);
 }
 
--- an end after the last of them
+-- an end at which no read was empty
+none_empty : (end : SessionEnd) → end ≢ InputEnd → end ≢ ReadFault → empty_reads end ≡ 0
+none_empty InputEnd h f = absurd (h refl)
+none_empty ReadFault h f = absurd (f refl)
+none_empty Quit h f = refl
+none_empty WriteFault h f = refl
+none_empty BadLine h f = refl
+none_empty Memory h f = refl
+none_empty TooManyReads h f = refl
+
+-- an end at which each read gave something
 pub after_read : (count left : ℕ) (input : List ℕ) (end : SessionEnd) → Counts count left input
     → end ≢ TooManyReads → end ≢ InputEnd → end ≢ ReadFault → AreReads count input end
-after_read count left input end c other no_end no_fault = record {
-  few = omega (arith, c.whole);
-  some = c.some;
-  short = c.short;
-  all = λ wrong. absurd (other wrong);
-  fewer = λ either. elim either [
-    | inl wrong ↦ absurd (no_end wrong)
-    | inr wrong ↦ absurd (no_fault wrong)
-  ];
-}
-
--- an end where another gave nothing
-pub after_nothing : (count left : ℕ) (input : List ℕ) (end : SessionEnd) → Counts count left input → nat_lt 0 left ≡ true
-    → end ≢ TooManyReads → AreReads count input end
-after_nothing count left input end c more other =
-    let one_left : 0 < left = grind (arith, nat_tests) in
+after_read count left input end c other no_end no_fault =
+    let none = none_empty end no_end no_fault in
     record {
       few = omega (arith, c.whole);
-      some = c.some;
-      short = c.short;
+      some = omega (arith, none, c.some);
+      short = omega (arith, none, c.short);
       all = λ wrong. absurd (other wrong);
-      fewer = λ _. omega (arith, c.whole, one_left);
+    }
+
+-- an end at which another read gave nothing
+pub after_nothing : (count left : ℕ) (input : List ℕ) (end : SessionEnd) → Counts count left input → nat_lt 0 left ≡ true
+    → end ≢ TooManyReads → empty_reads end ≡ 1 → AreReads (count + 1) input end
+after_nothing count left input end c more other one =
+    let one_left : 0 < left = grind (arith, nat_tests) in
+    record {
+      few = omega (arith, c.whole, one_left);
+      some = omega (arith, one, c.some);
+      short = omega (arith, one, c.short);
+      all = λ wrong. absurd (other wrong);
     }
 
 -- the end where none is left
@@ -55,11 +62,7 @@ after_all count left input c none =
     let none_left : left ≡ 0 = grind (arith, nat_tests) in
     record {
       few = omega (arith, c.whole);
-      some = c.some;
-      short = c.short;
+      some = omega (arith, c.some);
+      short = omega (arith, c.short);
       all = λ end. omega (arith, c.whole, none_left);
-      fewer = λ either. elim either [
-        | inl wrong ↦ cc
-        | inr wrong ↦ cc
-      ];
     }

@@ -1,5 +1,5 @@
 -- How a session comes on, turn by turn, and what holds at each of its ends.
-use Rattle.std.proofs.Common.{◌≡◌, ◌≢◌, ℕ, true, false, cond, List, [], ◌∷◌, ◌++◌, Option, Some, None, Result, refl, sym, ap, ◌∙◌, subst, inl, inr, append_assoc, append-nil}
+use Rattle.std.proofs.Common.{◌≡◌, ◌≢◌, ℕ, ◌+◌, true, false, cond, List, [], ◌∷◌, ◌++◌, Option, Some, None, Result, refl, sym, ap, ◌∙◌, subst, inl, inr, append_assoc, append-nil}
 use Rattle.std.proofs.lemmas.Fn.{FoldsTo-push}
 use Rattle.std.proofs.KnownBytes.{Appends-nil, Appends-trans}
 use Rattle.std.specs.List.{FoldsTo}
@@ -20,9 +20,9 @@ use Rattle.gas_talk.specs.declared.end.SessionEnd.{SessionEnd}
 use Rattle.gas_talk.specs.declared.end.SessionEnd.TheVariants.{Quit, WriteFault, BadLine, Memory}
 use Rattle.gas_talk.specs.declared.reader.LineReader.{LineReader}
 use Rattle.gas_talk.specs.Lines.{Item, text, bad, lines}
-use Rattle.gas_talk.specs.Unread.{Keeps}
+use Rattle.gas_talk.specs.Private.{Keeps, EndsWith, Progress, AnswersLines}
 use Rattle.gas_talk.specs.Talk.{Put, no_put, Turn, Takes}
-use Rattle.gas_talk.specs.Ends.{is_quit, until_end, ending, line_of, replies, memory_line, taken_by, failed_by, failures_after, EndsWith, EndsAs, Place, Leads, Serves, IsSession, Progress, AnswersLines}
+use Rattle.gas_talk.specs.Ends.{is_quit, until_end, ending, line_of, replies, memory_line, taken_by, failed_by, failures_after, EndsAs, Place, Leads, Serves, IsSession}
 use Rattle.gas_talk.proofs.Cutting.{lines_nil}
 use Rattle.gas_talk.proofs.Sending.{sent_whole}
 use Rattle.gas_talk.proofs.Steps.{items_of_turns, ending-append, until_end-append, items_push, replies_push, shelved_push, failed_push, failures_more, Gains-nil, Gains-trans}
@@ -273,11 +273,14 @@ module _ {D : Type 0} (size_of : D → Extent) (asks : D → Command → Result 
       ended = as_said (ending_is input old reader now p [] none, refl, refl);
     }
 
--- a session over a reader that ends as this one is
-pub read_by : {D X : Type 0} (size_of : D → Extent) (asks : D → Command → Result Answer Refusal → D → Type 0) (copies : D → Result Copied NoMemory → D → Type 0)
+-- a session over a reader and a count that end as these are
+pub session_by : {D X : Type 0} (size_of : D → Extent) (asks : D → Command → Result Answer Refusal → D → Type 0) (copies : D → Result Copied NoMemory → D → Type 0)
     → (remaining : X → Option (List ℕ)) (unread : Option (List ℕ)) (now last : X) (old : Place D) (end : SessionEnd) (new : Place D) → last ≡ now
-    → IsSession size_of asks copies unread (remaining now) old end new → IsSession size_of asks copies unread (remaining last) old end new
-read_by size_of asks copies remaining unread now last old end new same s = subst (λ x. IsSession size_of asks copies unread (remaining x) old end new) (sym same) s
+    → (reads before count counted : ℕ) → counted ≡ count → count ≡ before + reads
+    → IsSession size_of asks copies reads unread (remaining now) old end new
+    → (n : ℕ) × (counted ≡ before + n) × IsSession size_of asks copies n unread (remaining last) old end new
+session_by size_of asks copies remaining unread now last old end new same reads before count counted same_count made s =
+    (reads, same_count ∙ made, subst (λ x. IsSession size_of asks copies reads unread (remaining x) old end new) (sym same) s)
 
 -- the last reply of a session is at none of the ends that are neither the wanted one nor a fault of the writer
 pub last_at_no_other : (missing : List ℕ) (wanted end other : SessionEnd) → wanted ≢ other → WriteFault ≢ other → EndsWith missing wanted end → end ≢ other

@@ -1,5 +1,5 @@
 -- Over a door to a laboratory that nobody else uses, turns are those of talk.
-use Rattle.std.proofs.Common.{◌≡◌, ℕ, Bool, true, false, cond, not, ◌&&◌, ◌||◌, List, [], ◌∷◌, ◌++◌, map, Option, None, is_some, Result, Ok, Err, refl, sym, ap, ◌∙◌, subst, inl, inr}
+use Rattle.std.proofs.Common.{◌≡◌, ℕ, Bool, true, false, cond, not, ◌&&◌, ◌||◌, List, [], ◌∷◌, ◌++◌, map, Option, None, is_some, Result, Ok, Err, refl, sym, ap, ◌∙◌, subst, inl, inr, append-nil, append_assoc}
 use Rattle.std.specs.List.{FoldsTo}
 use Rattle.std.specs.declared.alloc.AllocError.{AllocError as NoMemory}
 use Rattle.gas_terms.specs.Cells.{Extent, extent}
@@ -69,6 +69,32 @@ module _ {D : Type 0} (size_of : D → Extent) (asks : D → Command → Result 
     stays d [] e h = ap x_of (sym h)
     stays d (turn ∷ turns) e h = stays h.0 turns e h.2 ∙ turn_stays d turn h.0 h.1
 
+  -- where each call leads, many lead
+  module _ (leads : D → D → Type 0) (itself : (d : D) → leads d d) (further : (d e f : D) → leads d e → leads e f → leads d f)
+      (ask : (d : D) (command : Command) (r : Result Answer Refusal) (e : D) → asks d command r e → leads d e) (copy : (d : D) (r : Result Copied NoMemory) (e : D) → copies d r e → leads d e) where
+    answer_leads : (d : D) (r : Result Request Refusal) (reply : Reply) (put : Put) (e : D) → Answers size_of asks copies d r reply put e → leads d e
+    answer_leads d (Err refusal) reply put e h = subst (leads d) (sym h.2) (itself d)
+    answer_leads d (Ok Quit) reply put e h = subst (leads d) (sym h.2) (itself d)
+    answer_leads d (Ok (Ask command)) reply put e h = ask d command h.0 e h.1
+    answer_leads d (Ok Save) reply put e h = copy d h.0 e h.1
+
+    item_leads : (d : D) (item : Item) (reply : Reply) (put : Put) (e : D) → Replies size_of asks copies d item reply put e → leads d e
+    item_leads d bad reply put e h = subst (leads d) (sym h.2) (itself d)
+    item_leads d (text line) reply put e h = answer_leads d h.0 reply put e h.2
+
+    pub turns_lead : (d : D) (turns : List Turn) (e : D) → FoldsTo (Takes size_of asks copies) d turns e → leads d e
+    turns_lead d [] e h = subst (leads d) h (itself d)
+    turns_lead d (turn ∷ turns) e h = further d h.0 e (item_leads d turn.item turn.reply turn.put h.0 h.1.0) (turns_lead h.0 turns e h.2)
+
+  -- a list that each call adds to is added to
+  pub extended : {X : Type 0} (list : D → List X)
+      → ((d : D) (command : Command) (r : Result Answer Refusal) (e : D) → asks d command r e → (more : List X) × (list e ≡ list d ++ more))
+      → ((d : D) (r : Result Copied NoMemory) (e : D) → copies d r e → (more : List X) × (list e ≡ list d ++ more))
+      → (d : D) (turns : List Turn) (e : D) → FoldsTo (Takes size_of asks copies) d turns e → (more : List X) × (list e ≡ list d ++ more)
+  extended list ask copy =
+      turns_lead (λ d e. (more : List _) × (list e ≡ list d ++ more)) (λ d. ([], sym (append-nil (list d))))
+      (λ d e f p q. (p.0 ++ q.0, q.1 ∙ ap (λ l. l ++ q.0) p.1 ∙ append_assoc (list d) p.0 q.0)) ask copy
+
   module _ (lab_of : D → Laboratory) (seat_of : D → ℕ)
       (sizes : (d : D) → size_of d ≡ extent (lab_of d).start.particles)
       (applies : (d : D) (command : Command) (r : Result Answer Refusal) (e : D) → asks d command r e → Applies (lab_of d) (record { seat = seat_of d; command = command }) r (lab_of e))
@@ -122,10 +148,10 @@ module _ {D : Type 0} (size_of : D → Extent) (asks : D → Command → Result 
         )
 
     -- a session over the door is one with the laboratory
-    pub talk_of_session : (unread_old unread_new : Option (List ℕ)) (old : Place D) (end : SessionEnd) (new : Place D) → IsSession size_of asks copies unread_old unread_new old end new
+    pub talk_of_session : (reads : ℕ) (unread_old unread_new : Option (List ℕ)) (old : Place D) (end : SessionEnd) (new : Place D) → IsSession size_of asks copies reads unread_old unread_new old end new
         → (lab : Laboratory) → lab ≡ lab_of new.door
         → IsTalk (seat_of old.door) unread_old unread_new (record { door = lab_of old.door; written = old.written; failures = old.failures; shelved = old.shelved }) end (record { door = lab; written = new.written; failures = new.failures; shelved = new.shelved })
-    talk_of_session unread_old unread_new old end new s lab same =
+    talk_of_session reads unread_old unread_new old end new s lab same =
         let t = of_turns old.door s.serves.turns new.door s.serves.leads.talk in
         let turns : (talk (seat_of old.door) (lab_of old.door) t.0).0 ≡ s.serves.turns = ap (λ (p : List Turn × Laboratory). p.0) t.2 in
         record {
@@ -133,7 +159,7 @@ module _ {D : Type 0} (size_of : D → Extent) (asks : D → Command → Result 
           asked = t.0;
           later = s.serves.later;
           output = s.serves.output;
-          reads = s.reads;
+          reads = s.given;
           items = ap (λ n. until_end n (lines s.input)) (sym (sizes old.door)) ∙ s.serves.items ∙ ap (λ xs. xs ++ s.serves.later) (sym t.1);
           lab = same ∙ sym (ap (λ (p : List Turn × Laboratory). p.1) t.2);
           failures = s.serves.leads.failures ∙ ap (λ ts. failures_after old.failures (failed_puts ts)) (sym turns);
@@ -141,6 +167,6 @@ module _ {D : Type 0} (size_of : D → Extent) (asks : D → Command → Result 
           writes = s.serves.writes;
           ended = subst (λ ts. EndsAs (extent (lab_of old.door).start.particles) end (lines s.input) ts s.serves.later s.serves.output) (sym turns) (subst (λ n. EndsAs n end (lines s.input) s.serves.turns s.serves.later s.serves.output) (sizes old.door) s.serves.ended);
           whole = s.whole;
-          count = s.count;
+          count = reads;
           counted = s.counted;
         }

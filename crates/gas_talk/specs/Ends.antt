@@ -1,5 +1,5 @@
 -- How a session goes: the turns it takes over its input, and how it ends.
-use Rattle.std.specs.Prelude.{◌≡◌, ℕ, zero, suc, ◌+◌, ◌-◌, ◌*◌, ◌^◌, ◌<◌, ◌≤◌, min, ◌⊎◌, Bool, true, false, if◌then◌else◌, List, [], ◌∷◌, ◌++◌, length, map, Option, Some, None, Result, Ok, Err}
+use Rattle.std.specs.Prelude.{◌≡◌, ℕ, zero, suc, ◌+◌, ◌-◌, ◌*◌, ◌^◌, ◌≤◌, min, ◌⊎◌, Bool, true, false, if◌then◌else◌, List, [], ◌∷◌, ◌++◌, length, map, Option, Some, None, Result, Ok, Err}
 use Rattle.std.specs.List.{flat_map, sum_by, FoldsTo}
 use Rattle.std.specs.Io.KnownBytes.{Consumes, Appends, IsAtEnd}
 use Rattle.gas_terms.specs.Cells.{Extent}
@@ -18,8 +18,6 @@ use Rattle.gas_text.specs.Texts.{reply_line}
 use Rattle.gas_talk.specs.declared.end.SessionEnd.{SessionEnd}
 use Rattle.gas_talk.specs.declared.end.SessionEnd.TheVariants.{Quit, InputEnd, ReadFault, WriteFault, BadLine, Memory, TooManyReads}
 use Rattle.gas_talk.specs.Lines.{Item, text, bad, lines}
-use Rattle.gas_talk.specs.declared.reader.LineReader.{LineReader}
-use Rattle.gas_talk.specs.Unread.{Keeps}
 use Rattle.gas_talk.specs.Talk.{Put, no_put, put_taken, put_failed, Turn, Takes}
 
 abbrev pub is_quit : Result Request Refusal → Bool
@@ -98,22 +96,27 @@ EndsAs size TooManyReads items turns later written = (ending size items ≡ None
 EndsAs size Memory items turns later written = (written ≡ replies turns ++ memory_line) × AreUnended size turns
 EndsAs size WriteFault items turns later written = IsCutShort turns written ⊎ IsCutShortAtMemory size turns written
 
--- the end where the last reply is written whole, or a fault of the writer
-abbrev pub EndsWith : List ℕ → SessionEnd → SessionEnd → Type 0
-EndsWith missing wanted end = ((missing ≡ []) × (end ≡ wanted)) ⊎ (end ≡ WriteFault)
-
 -- how many bytes a read asks for at most: `READ_LIMIT`
 abbrev pub read_limit : ℕ
 read_limit = 4096
 
--- So many reads gave the input, each of them a byte at least and 4,096 bytes at most. There are at most 2^24: all of them
--- where another was needed, and fewer where one gave nothing.
+-- how many reads gave nothing: the last one at two of the ends
+abbrev pub empty_reads : SessionEnd → ℕ
+empty_reads InputEnd = 1
+empty_reads ReadFault = 1
+empty_reads Quit = 0
+empty_reads WriteFault = 0
+empty_reads BadLine = 0
+empty_reads Memory = 0
+empty_reads TooManyReads = 0
+
+-- So many reads were made, at most 2^24, and all of them where another was needed. Each but an empty one gave a byte at
+-- least and 4,096 bytes at most of the input.
 pub record AreReads (reads : ℕ) (input : List ℕ) (end : SessionEnd) : Type 0 where
   pub few : reads ≤ 2 ^ 24
-  pub some : reads ≤ length input
-  pub short : length input ≤ read_limit * reads
+  pub some : reads ≤ length input + empty_reads end
+  pub short : length input + read_limit * empty_reads end ≤ read_limit * reads
   pub all : end ≡ TooManyReads → reads ≡ 2 ^ 24
-  pub fewer : (end ≡ InputEnd) ⊎ (end ≡ ReadFault) → reads < 2 ^ 24
 
 -- what a session asks, writes to and puts on
 pub record Place (D : Type 0) : Type 0 where
@@ -141,27 +144,10 @@ module _ {D : Type 0} (size_of : D → Extent) (asks : D → Command → Result 
     pub writes : Appends old.written new.written output
     pub ended : EndsAs (size_of old.door) end (lines input) turns later output
 
-  -- The whole of it: the input is what the reads gave, and at its end nothing is left unread.
-  pub record IsSession (unread_old unread_new : Option (List ℕ)) (old : Place D) (end : SessionEnd) (new : Place D) : Type 0 where
+  -- The whole of it: the input is what so many reads gave, and at its end nothing is left unread.
+  pub record IsSession (reads : ℕ) (unread_old unread_new : Option (List ℕ)) (old : Place D) (end : SessionEnd) (new : Place D) : Type 0 where
     pub input : List ℕ
-    pub reads : Consumes unread_old unread_new input
+    pub given : Consumes unread_old unread_new input
     pub serves : Serves input old end new
     pub whole : end ≡ InputEnd → IsAtEnd unread_new
-    -- how many reads gave it
-    pub count : ℕ
-    pub counted : AreReads count input end
-
-  -- Within a session: each item of the input so far is taken, or is an item of what is unread.
-  pub record Progress (input : List ℕ) (old : Place D) (reader : LineReader) (new : Place D) : Type 0 where
-    pub turns : List Turn
-    pub unread : List ℕ
-    pub leads : Leads old turns new
-    pub keeps : Keeps reader unread
-    pub items : (more : List ℕ) → lines (input ++ more) ≡ map (λ turn. turn.item) turns ++ lines (unread ++ more)
-    pub unended : AreUnended (size_of old.door) turns
-    pub writes : Appends old.written new.written (replies turns)
-
-  -- each line so far is answered, or the session is over
-  abbrev pub AnswersLines : List ℕ → Place D → Option SessionEnd → LineReader → Place D → Type 0
-  AnswersLines input old None reader new = (p : Progress input old reader new) × (lines p.unread ≡ [])
-  AnswersLines input old (Some end) reader new = Serves input old end new
+    pub counted : AreReads reads input end

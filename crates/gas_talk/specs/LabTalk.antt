@@ -87,7 +87,7 @@ pub record IsTalk (seat : ℕ) (unread_old unread_new : Option (List ℕ)) (old 
   pub writes : Appends old.written new.written output
   pub ended : EndsAs (extent old.door.start.particles) end (lines input) (talk seat old.door asked).0 later output
   pub whole : end ≡ InputEnd → IsAtEnd unread_new
-  -- how many reads gave it
+  -- how many reads were made
   pub count : ℕ
   pub counted : AreReads count input end
 

@@ -7,7 +7,7 @@ ghost use Rattle.gas_lab.specs.Copying.{Copies};
 ghost use Rattle.gas_talk.specs.LabTalk.{IsTalk};
 
 use crate::end::SessionEnd;
-use crate::session::session;
+use crate::session::serve_door;
 use gas_lab::{Copied, Door, Lab, Stepper};
 use gas_snapshot::Shelf;
 use gas_terms::{Answer, Command, NoMemory, Refusal, Size};
@@ -58,5 +58,5 @@ pub fn serve_alone<R: Read, W: Write, S: Stepper, K: Shelf>(
         (record { door = lab.new; written = W.contents writer.new; failures = K.failures shelf.new; shelved = K.shelved shelf.new }) }
 {
     let mut door = Alone { lab, seat };
-    session(alloc, reader, writer, &mut door, shelf)
+    serve_door(alloc, reader, writer, &mut door, shelf)
 }

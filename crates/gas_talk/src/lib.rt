@@ -18,3 +18,4 @@ pub use alone::{Alone, serve_alone};
 pub use end::SessionEnd;
 pub use gas_lab::{Copied, Door};
 pub use gas_text::{Reply, ReplyPage, Request, read_command, reply_text};
+pub use reads::ReadCount;

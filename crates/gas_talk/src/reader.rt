@@ -1,15 +1,16 @@
 //! Cuts an input into lines.
 
-ghost use Rattle.std.specs.Prelude.{◌≡◌, ℕ, ◌+◌, ◌<◌, ◌≤◌, List, [], ◌++◌, length, IfOk, OnOk, OnErr};
+ghost use Rattle.std.specs.Prelude.{◌≡◌, ℕ, ◌+◌, ◌<◌, ◌≤◌, List, [], ◌++◌, length, Err, IfOk, OnOk, OnErr};
 ghost use Rattle.std.specs.Io.KnownBytes.{Consumes, Keeps as KeepsBytes, IsAtEnd};
 ghost use Rattle.gas_talk.specs.Ends.{read_limit};
-ghost use Rattle.gas_talk.specs.Unread.{Keeps, kept_len, Finds, IsShorter};
+ghost use Rattle.gas_talk.specs.Private.{Keeps, kept_len, Finds, IsShorter};
 
 use crate::reads::{READ_LIMIT, SessionReads};
 use bytes::BytesMut;
 use std::alloc::Global;
 use std::io;
 use std::io::Read;
+use std::sync::ledger::Ledger;
 use tokio_util::codec::{Decoder, LinesCodec, LinesCodecError};
 
 // how many bytes a line may have before its newline
@@ -68,13 +69,17 @@ impl LineReader {
     }
 
     /// Reads once, at most `READ_LIMIT` bytes, and keeps what the read gives.
-    pub fn read_more<R: Read>(
+    pub fn read_more<R: Read, L: Ledger>(
         &mut self,
-        reads: &mut SessionReads<'_, R>,
+        reads: &mut SessionReads<'_, R, L>,
     ) -> Result<usize, ReadFault>
         requires { 0 < reads.old.left }
         ensures same { reads.new.reader.ghost_name ≡ reads.old.reader.ghost_name }
+        ensures same_count { reads.new.count.ghost_name ≡ reads.old.count.ghost_name }
         ensures left { OnOk result (reads.new.left + 1 ≡ reads.old.left) }
+        ensures count { OnOk result (reads.new.count.now ≡ reads.old.count.now + 1) }
+        ensures failed { result ≡ Err ReadFault.Reader → reads.new.count.now ≡ reads.old.count.now + 1 }
+        ensures not_made { result ≡ Err ReadFault.NoMemory → reads.new.count.now ≡ reads.old.count.now }
         ensures read { IfOk result (λ n. (more : List ℕ) × (length more ≡ n)
             × Consumes (R.remaining reads.old.reader.now) (R.remaining reads.new.reader.now) more
             × ((unread : List ℕ) → Keeps self.old unread → Keeps self.new (unread ++ more))) }

@@ -1,13 +1,14 @@
 //! A session: reads lines, asks each of the door, and writes each reply.
 
-ghost use Rattle.std.specs.Prelude.{◌≡◌, ◌≢◌, IfSome, ℕ, List, [], ◌++◌, IsTrue};
+ghost use Rattle.std.specs.Prelude.{◌≡◌, ◌≢◌, IfSome, ℕ, List, [], ◌+◌, ◌++◌, IsTrue};
 ghost use Rattle.std.specs.Io.KnownBytes.{Appends};
 ghost use Rattle.gas_text.specs.Texts.{reply_line};
-ghost use Rattle.gas_talk.specs.Ends.{EndsWith, Place, Progress, AnswersLines, IsSession};
+ghost use Rattle.gas_talk.specs.Ends.{Place, IsSession};
+ghost use Rattle.gas_talk.specs.Private.{EndsWith, Progress, AnswersLines};
 
 use crate::end::SessionEnd;
 use crate::reader::{Found, LineReader, ReadFault};
-use crate::reads::SessionReads;
+use crate::reads::{ReadCount, SessionReads};
 use crate::replying::reply_of;
 use crate::send::send;
 use gas_lab::Door;
@@ -16,6 +17,11 @@ use gas_terms::Refusal;
 use gas_text::{Reply, ReplyPage, reply_text};
 use std::alloc::Global;
 use std::io::{Read, Write};
+use std::marker::Brand;
+use std::sync::ledger::{Blank, Ledger};
+
+// how many reads a session makes at most
+const READS: u32 = 1 << 24;
 
 // Writes the line of a reply and flushes. Where it fails a part of the line is written.
 fn send_reply<W: Write>(writer: &mut W, reply: &Reply, page: &mut ReplyPage) -> bool
@@ -85,20 +91,22 @@ fn answer_lines<W: Write, D: Door, K: Shelf>(
 /// Serves one session: cuts what the reader gives into lines of at most 2,048 bytes, asks each of the door, and writes
 /// and flushes its reply before the next is taken. It reads again only where no whole line is left, at most 4,096 bytes
 /// at once and at most 2^24 times. What stands after the last newline is not asked. A snapshot is put on the shelf after
-/// the door's call has ended.
-pub fn session<R: Read, W: Write, D: Door, K: Shelf>(
+/// the door's call has ended. `count` counts the reads; `serve_door` is the same for a caller that doesn't count them.
+pub fn session<R: Read, W: Write, D: Door, K: Shelf, L: Ledger>(
     alloc: Global,
     reader: &mut R,
     writer: &mut W,
     door: &mut D,
     shelf: &mut K,
+    count: &mut ReadCount<L>,
 ) -> SessionEnd
-    ensures { IsSession D.size_of D.asks D.copies (R.remaining reader.old) (R.remaining reader.new)
+    ensures { (reads : ℕ) × (count.new ≡ count.old + reads)
+        × IsSession D.size_of D.asks D.copies reads (R.remaining reader.old) (R.remaining reader.new)
         (record { door = door.old; written = W.contents writer.old; failures = K.failures shelf.old; shelved = K.shelved shelf.old })
         result
         (record { door = door.new; written = W.contents writer.new; failures = K.failures shelf.new; shelved = K.shelved shelf.new }) }
 {
-    let mut reads = SessionReads::new(reader);
+    let mut reads = SessionReads::new(reader, READS, count);
     let mut lines = LineReader::new(alloc);
     let mut page = ReplyPage::empty();
     while reads.any_left() {
@@ -116,4 +124,42 @@ pub fn session<R: Read, W: Write, D: Door, K: Shelf>(
         }
     }
     SessionEnd::TooManyReads
+}
+
+// A session with a count of its own.
+fn serve_counted<R: Read, W: Write, D: Door, K: Shelf, L: Ledger>(
+    alloc: Global,
+    reader: &mut R,
+    writer: &mut W,
+    door: &mut D,
+    shelf: &mut K,
+    blank: Blank,
+) -> SessionEnd
+    requires name { blank.name ≡ L.name }
+    requires parts { (blank.parts ≡ L.parts) × (blank.parts ≡ 1) }
+    ensures { (reads : ℕ)
+        × IsSession D.size_of D.asks D.copies reads (R.remaining reader.old) (R.remaining reader.new)
+        (record { door = door.old; written = W.contents writer.old; failures = K.failures shelf.old; shelved = K.shelved shelf.old })
+        result
+        (record { door = door.new; written = W.contents writer.new; failures = K.failures shelf.new; shelved = K.shelved shelf.new }) }
+{
+    let mut count = ReadCount::<L>::new(blank);
+    session(alloc, reader, writer, door, shelf, &mut count)
+}
+
+/// Serves one session over a door, as `session` does, and doesn't tell how many reads it made.
+pub fn serve_door<R: Read, W: Write, D: Door, K: Shelf>(
+    alloc: Global,
+    reader: &mut R,
+    writer: &mut W,
+    door: &mut D,
+    shelf: &mut K,
+) -> SessionEnd
+    ensures { (reads : ℕ)
+        × IsSession D.size_of D.asks D.copies reads (R.remaining reader.old) (R.remaining reader.new)
+        (record { door = door.old; written = W.contents writer.old; failures = K.failures shelf.old; shelved = K.shelved shelf.old })
+        result
+        (record { door = door.new; written = W.contents writer.new; failures = K.failures shelf.new; shelved = K.shelved shelf.new }) }
+{
+    serve_counted::<R, W, D, K, Brand>(alloc, reader, writer, door, shelf, Blank::new(1))
 }

@@ -1,6 +1,6 @@
 //! Laws of sessions. A law is a function with an empty body; its contract is the law.
 
-ghost use Rattle.std.specs.Prelude.{◌≡◌, ℕ, List, Option, Result};
+ghost use Rattle.std.specs.Prelude.{◌≡◌, ℕ, List, ◌++◌, Option, Result};
 ghost use Rattle.std.specs.declared.alloc.AllocError.{AllocError as NoMemory};
 ghost use Rattle.gas_terms.specs.declared.command.Command.{Command};
 ghost use Rattle.gas_terms.specs.declared.answer.Answer.{Answer};
@@ -18,15 +18,25 @@ pub fn kept_by_calls_is_kept_by_sessions<D: Door, X>()
     ensures { (part : D → X)
         → ((d : D) (command : Command) (reply : Result Answer Refusal) (e : D) → D.asks d command reply e → part e ≡ part d)
         → ((d : D) (copied : Result Copied NoMemory) (e : D) → D.copies d copied e → part e ≡ part d)
-        → (unread_old unread_new : Option (List ℕ)) (old : Place D) (end : SessionEnd) (new : Place D)
-        → IsSession D.size_of D.asks D.copies unread_old unread_new old end new → part new.door ≡ part old.door }
+        → (reads : ℕ) (unread_old unread_new : Option (List ℕ)) (old : Place D) (end : SessionEnd) (new : Place D)
+        → IsSession D.size_of D.asks D.copies reads unread_old unread_new old end new → part new.door ≡ part old.door }
+{}
+
+/// A list of a door that each call leaves or adds to at its end is left or added to by a session over it.
+pub fn extended_by_calls_is_extended_by_sessions<D: Door, X>()
+    ensures { (list : D → List X)
+        → ((d : D) (command : Command) (reply : Result Answer Refusal) (e : D) → D.asks d command reply e → (more : List X) × (list e ≡ list d ++ more))
+        → ((d : D) (copied : Result Copied NoMemory) (e : D) → D.copies d copied e → (more : List X) × (list e ≡ list d ++ more))
+        → (reads : ℕ) (unread_old unread_new : Option (List ℕ)) (old : Place D) (end : SessionEnd) (new : Place D)
+        → IsSession D.size_of D.asks D.copies reads unread_old unread_new old end new
+        → (more : List X) × (list new.door ≡ list old.door ++ more) }
 {}
 
 /// A session over a door to a laboratory that nobody else uses is a talk with the laboratory.
 pub fn sessions_alone_are_talks<D: Door>()
     ensures { (lab_of : D → Laboratory) (seat_of : D → ℕ)
         → IsAlone D.size_of D.asks D.copies lab_of seat_of
-        → (unread_old unread_new : Option (List ℕ)) (old : Place D) (end : SessionEnd) (new : Place D)
-        → IsSession D.size_of D.asks D.copies unread_old unread_new old end new
+        → (reads : ℕ) (unread_old unread_new : Option (List ℕ)) (old : Place D) (end : SessionEnd) (new : Place D)
+        → IsSession D.size_of D.asks D.copies reads unread_old unread_new old end new
         → IsTalk (seat_of old.door) unread_old unread_new (lab_place lab_of old) end (lab_place lab_of new) }
 {}

@@ -12,7 +12,7 @@ served_text done failed entries = parted (codes "SERVED" ∷ decimal done ∷ de
 abbrev pub served_line : ℕ → ℕ → ℕ → List ℕ
 served_line done failed entries = served_text done failed entries ++ 10 ∷ []
 
--- Each seat was served or was not, the journal had room for the entries, and the line that says so was written whole.
+-- Each seat was served or was not, the journal had room for as many entries as are told, and the line was written whole.
 abbrev pub IsTold : Setup → ℕ → Option (List ℕ) → Option (List ℕ) → Type 0
 IsTold setup seats old new =
     (done : ℕ) × (failed : ℕ) × (entries : ℕ)

@@ -8,7 +8,7 @@ use crate::values::{look_at, small_lab, sums_of};
 use gas_hall::{Hall, HallGate, HallName, HallSeat};
 use gas_lab::{Lab, Serial, Stepper};
 use gas_snapshot::NoShelf;
-use gas_talk::session::session;
+use gas_talk::session::serve_door;
 use gas_talk::{Copied, Door, SessionEnd};
 use gas_terms::NoMemory;
 use std::alloc::Global;
@@ -35,7 +35,7 @@ fn sit_down<N: HallName, S: Stepper, G: HallGate, R: Wait>(
     let mut writer = PageWriter::new(page);
     let mut door = hall.door(rt, seat);
     let mut shelf = NoShelf::new();
-    let end = session(alloc, &mut reader, &mut writer, &mut door, &mut shelf);
+    let end = serve_door(alloc, &mut reader, &mut writer, &mut door, &mut shelf);
     (door.end(), end)
 }
 

@@ -1,11 +1,15 @@
 //! Worked examples of sessions on a laboratory that nobody else uses.
 
+ghost use Rattle.std.specs.Prelude.{◌≡◌};
+
 use crate::expected::{expect_same, expect_that};
 use gas_lab::{Gas, Lab, Serial};
 use gas_talk::session::session;
-use gas_talk::{Alone, SessionEnd, serve_alone};
+use gas_talk::{Alone, ReadCount, SessionEnd, serve_alone};
 use gas_terms::{Command, NoMemory, Size};
+use std::marker::Brand;
 use std::process::Abort;
+use std::sync::ledger::{Blank, Ledger};
 use test_types::faults::{FaultAt, Sink, Source, Store};
 
 const ALL: usize = usize::MAX;
@@ -83,13 +87,24 @@ fn not_utf8_line(rt: HostRuntime) {
 }
 
 // seat 3 asks for three puts, and its writer fails within the second reply
-fn answered_in_part(rt: &(impl Abort + AllocGlobal), lab: &mut Lab<Serial>) {
+fn answered_in_part<R: Abort + AllocGlobal, L: Ledger>(rt: &R, lab: &mut Lab<Serial>, blank: Blank)
+    requires name { blank.name ≡ L.name }
+    requires parts { (blank.parts ≡ L.parts) × (blank.parts ≡ 1) }
+{
     let input = b"put 0 0 1 1\nput 2 2 1 1\nput 4 4 1 1\n".as_slice();
     let mut source = Source::new(input, ALL, FaultAt::never());
     let mut sink = Sink::new(rt.alloc(), ALL, 7, FaultAt::never());
     let mut store = Store::new(rt.alloc(), FaultAt::never());
     let mut door = Alone { lab, seat: 3 };
-    let end = session(rt.alloc(), &mut source, &mut sink, &mut door, &mut store);
+    let mut count = ReadCount::<L>::new(blank);
+    let end = session(
+        rt.alloc(),
+        &mut source,
+        &mut sink,
+        &mut door,
+        &mut store,
+        &mut count,
+    );
     expect_same(&rt, end, SessionEnd::WriteFault);
     expect_same(&rt, sink.taken(), b"OK 0\nOK".as_slice());
 }
@@ -113,7 +128,7 @@ fn has_two_puts(rt: &impl Abort, lab: &Lab<Serial>) {
 #[test]
 fn writer_fails_within_a_reply(rt: HostRuntime) {
     let mut lab = lab(&rt);
-    answered_in_part(&rt, &mut lab);
+    answered_in_part::<HostRuntime, Brand>(&rt, &mut lab, Blank::new(1));
     has_two_puts(&rt, &lab);
 }
 

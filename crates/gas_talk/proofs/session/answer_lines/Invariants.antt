@@ -1,6 +1,6 @@
 use Rattle.std.proofs.Common.{ℕ, List}
-use Rattle.gas_talk.specs.Unread.{kept_len}
-use Rattle.gas_talk.specs.Ends.{Place, Progress}
+use Rattle.gas_talk.specs.Private.{kept_len, Progress}
+use Rattle.gas_talk.specs.Ends.{Place}
 use Rattle.gas_talk.proofs.session.answer_lines.Given as goal
 
 -- what was progress at the call is so still

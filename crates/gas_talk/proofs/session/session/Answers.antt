@@ -3,7 +3,7 @@ use Rattle.std.proofs.KnownBytes.{Consumes-nil, Consumes-trans, Consumes-kept}
 use Rattle.std.proofs.lemmas.List.{nil_from_length}
 use Rattle.gas_talk.specs.declared.end.SessionEnd.TheVariants.{InputEnd, ReadFault, TooManyReads}
 use Rattle.gas_talk.proofs.Counting.{none_yet, one_more, after_read, after_nothing, after_all}
-use Rattle.gas_talk.proofs.Progress.{Progress_start, Progress_read, Serves_last_memory, last_at_no_other, Serves_all, read_by}
+use Rattle.gas_talk.proofs.Progress.{Progress_start, Progress_read, Serves_last_memory, last_at_no_other, Serves_all, session_by}
 use Rattle.gas_talk.proofs.session.session.Goals as goal
 
 pub loop-reads-init : goal.loop-reads-init
@@ -14,6 +14,8 @@ loop-reads-init g c = (
   0,
   none_yet _ c.new-reads.ensures.left,
   refl,
+  omega (arith, c.new-reads.ensures.count),
+  refl,
 )
 
 pub returns-in-Ok-eq0 : goal.returns-in-Ok-eq0
@@ -21,50 +23,55 @@ returns-in-Ok-eq0 g c =
     let given = c.in-Ok-eq0.ensures.read in
     let nothing : given.0 ≡ [] = nil_from_length given.0 (given.1 ∙ c.in-Ok-eq0.field-0-test) in
     let same = c.in-Ok-eq0.ensures.same ∙ c.loop-reads.invariant.5 ∙ c.new-reads.ensures.same in
-    read_by g.D.Door.size_of g.D.Door.asks g.D.Door.copies g.R.Read.remaining _ c.read_more.new.reads.reader.now _ _ InputEnd _ (search (rules, same)) (record {
+    let same_count = c.in-Ok-eq0.ensures.same_count ∙ c.loop-reads.invariant.7 ∙ c.new-reads.ensures.same_count in
+    session_by g.D.Door.size_of g.D.Door.asks g.D.Door.copies g.R.Read.remaining _ c.read_more.new.reads.reader.now _ _ InputEnd _ (search (rules, same))
+    (c.loop-reads.invariant.3 + 1) c.args.count.now c.read_more.new.reads.count.now _ (search (rules, same_count)) (omega (arith, c.in-Ok-eq0.ensures.count, c.loop-reads.invariant.6)) (record {
       input = c.loop-reads.invariant.0 ++ given.0;
-      reads = Consumes-trans _ _ _ _ _ c.loop-reads.invariant.1 given.2;
+      given = Consumes-trans _ _ _ _ _ c.loop-reads.invariant.1 given.2;
       serves = rw (nothing, append-nil) (Serves_all g.D.Door.size_of g.D.Door.asks g.D.Door.copies c.loop-reads.invariant.0 _ c.loop-reads.lines _ c.loop-reads.invariant.2.0 InputEnd c.loop-reads.invariant.2.1 (λ h. h));
       whole = λ _. c.in-Ok-eq0.ensures.end c.in-Ok-eq0.field-0-test;
-      count = c.loop-reads.invariant.3;
-      counted = rw (nothing, append-nil) (after_nothing _ _ _ InputEnd c.loop-reads.invariant.4 (sym c.any_left.ensures ∙ c.loop-reads-test.true) (λ wrong. cc));
+      counted = rw (nothing, append-nil) (after_nothing _ _ _ InputEnd c.loop-reads.invariant.4 (sym c.any_left.ensures ∙ c.loop-reads-test.true) (λ wrong. cc) refl);
     })
 
 pub returns-in-Err-Reader : goal.returns-in-Err-Reader
 returns-in-Err-Reader g c =
     let same = c.in-Err-Reader.ensures.same ∙ c.loop-reads.invariant.5 ∙ c.new-reads.ensures.same in
-    read_by g.D.Door.size_of g.D.Door.asks g.D.Door.copies g.R.Read.remaining _ c.read_more.new.reads.reader.now _ _ ReadFault _ (search (rules, same)) (record {
+    let same_count = c.in-Err-Reader.ensures.same_count ∙ c.loop-reads.invariant.7 ∙ c.new-reads.ensures.same_count in
+    session_by g.D.Door.size_of g.D.Door.asks g.D.Door.copies g.R.Read.remaining _ c.read_more.new.reads.reader.now _ _ ReadFault _ (search (rules, same))
+    (c.loop-reads.invariant.3 + 1) c.args.count.now c.read_more.new.reads.count.now _ (search (rules, same_count)) (omega (arith, c.in-Err-Reader.ensures.failed (search rules), c.loop-reads.invariant.6)) (record {
       input = c.loop-reads.invariant.0;
-      reads = Consumes-kept _ _ _ _ c.loop-reads.invariant.1 c.in-Err-Reader.ensures.err;
+      given = Consumes-kept _ _ _ _ c.loop-reads.invariant.1 c.in-Err-Reader.ensures.err;
       serves = Serves_all g.D.Door.size_of g.D.Door.asks g.D.Door.copies c.loop-reads.invariant.0 _ c.loop-reads.lines _ c.loop-reads.invariant.2.0 ReadFault c.loop-reads.invariant.2.1 (λ h. h);
       whole = λ wrong. cc;
-      count = c.loop-reads.invariant.3;
-      counted = after_nothing _ _ _ ReadFault c.loop-reads.invariant.4 (sym c.any_left.ensures ∙ c.loop-reads-test.true) (λ wrong. cc);
+      counted = after_nothing _ _ _ ReadFault c.loop-reads.invariant.4 (sym c.any_left.ensures ∙ c.loop-reads-test.true) (λ wrong. cc) refl;
     })
 
 pub returns-in-Err-NoMemory : goal.returns-in-Err-NoMemory
 returns-in-Err-NoMemory g c =
     let sent = c.last.ensures in
     let same = c.in-Err-NoMemory.ensures.same ∙ c.loop-reads.invariant.5 ∙ c.new-reads.ensures.same in
-    read_by g.D.Door.size_of g.D.Door.asks g.D.Door.copies g.R.Read.remaining _ c.read_more.new.reads.reader.now _ _ _ _ (search (rules, same)) (record {
+    let same_count = c.in-Err-NoMemory.ensures.same_count ∙ c.loop-reads.invariant.7 ∙ c.new-reads.ensures.same_count in
+    session_by g.D.Door.size_of g.D.Door.asks g.D.Door.copies g.R.Read.remaining _ c.read_more.new.reads.reader.now _ _ _ _ (search (rules, same))
+    c.loop-reads.invariant.3 c.args.count.now c.read_more.new.reads.count.now _ (search (rules, same_count)) (omega (arith, c.in-Err-NoMemory.ensures.not_made (search rules), c.loop-reads.invariant.6)) (record {
       input = c.loop-reads.invariant.0;
-      reads = Consumes-kept _ _ _ _ c.loop-reads.invariant.1 c.in-Err-NoMemory.ensures.err;
+      given = Consumes-kept _ _ _ _ c.loop-reads.invariant.1 c.in-Err-NoMemory.ensures.err;
       serves = Serves_last_memory g.D.Door.size_of g.D.Door.asks g.D.Door.copies c.loop-reads.invariant.0 _ c.loop-reads.lines _ c.loop-reads.invariant.2.0 _ c.last.result sent.0 sent.1 sent.2 sent.3 sent.4;
       whole = λ wrong. absurd (last_at_no_other _ _ _ InputEnd (λ wrong. cc) (λ wrong. cc) sent.4 wrong);
-      count = c.loop-reads.invariant.3;
-      counted = after_nothing _ _ _ _ c.loop-reads.invariant.4 (sym c.any_left.ensures ∙ c.loop-reads-test.true) (last_at_no_other _ _ _ TooManyReads (λ wrong. cc) (λ wrong. cc) sent.4);
+      counted = after_read _ _ _ _ c.loop-reads.invariant.4 (last_at_no_other _ _ _ TooManyReads (λ wrong. cc) (λ wrong. cc) sent.4)
+          (last_at_no_other _ _ _ InputEnd (λ wrong. cc) (λ wrong. cc) sent.4) (last_at_no_other _ _ _ ReadFault (λ wrong. cc) (λ wrong. cc) sent.4);
     })
 
 pub returns-in-Some : goal.returns-in-Some
 returns-in-Some g c =
     let given = c.in-Ok.ensures.read in
     let same = c.in-Ok.ensures.same ∙ c.loop-reads.invariant.5 ∙ c.new-reads.ensures.same in
-    read_by g.D.Door.size_of g.D.Door.asks g.D.Door.copies g.R.Read.remaining _ c.read_more.new.reads.reader.now _ _ _ _ (search (rules, same)) (record {
+    let same_count = c.in-Ok.ensures.same_count ∙ c.loop-reads.invariant.7 ∙ c.new-reads.ensures.same_count in
+    session_by g.D.Door.size_of g.D.Door.asks g.D.Door.copies g.R.Read.remaining _ c.read_more.new.reads.reader.now _ _ _ _ (search (rules, same))
+    (c.loop-reads.invariant.3 + 1) c.args.count.now c.read_more.new.reads.count.now _ (search (rules, same_count)) (omega (arith, c.in-Ok.ensures.count, c.loop-reads.invariant.6)) (record {
       input = c.loop-reads.invariant.0 ++ given.0;
-      reads = Consumes-trans _ _ _ _ _ c.loop-reads.invariant.1 given.2;
+      given = Consumes-trans _ _ _ _ _ c.loop-reads.invariant.1 given.2;
       serves = c.in-Some.ensures.answered _ _ (Progress_read g.D.Door.size_of g.D.Door.asks g.D.Door.copies c.loop-reads.invariant.0 _ c.loop-reads.lines _ given.0 c.read_more.new.self c.loop-reads.invariant.2.0 given.3);
       whole = λ wrong. absurd (c.in-Some.ensures.end wrong);
-      count = c.loop-reads.invariant.3 + 1;
       counted = after_read _ _ _ _ (one_more _ _ _ _ _ given.0 c.loop-reads.invariant.4 c.in-Ok.ensures.left given.1 c.in-Ok.ensures.short (omega (arith, c.in-Ok.field-0-test))) c.in-Some.ensures.in_time c.in-Some.ensures.end c.in-Some.ensures.no_fault;
     })
 
@@ -77,16 +84,19 @@ loop-reads-preserved g c =
       c.loop-reads.invariant.3 + 1,
       one_more _ _ _ _ _ given.0 c.loop-reads.invariant.4 c.in-Ok.ensures.left given.1 c.in-Ok.ensures.short (omega (arith, c.in-Ok.field-0-test)),
       c.in-Ok.ensures.same ∙ c.loop-reads.invariant.5,
+      omega (arith, c.in-Ok.ensures.count, c.loop-reads.invariant.6),
+      c.in-Ok.ensures.same_count ∙ c.loop-reads.invariant.7,
     )
 
 pub returns : goal.returns
 returns g c =
     let same = c.loop-reads.invariant.5 ∙ c.new-reads.ensures.same in
-    read_by g.D.Door.size_of g.D.Door.asks g.D.Door.copies g.R.Read.remaining _ c.loop-reads.reads.reader.now _ _ TooManyReads _ (search (rules, same)) (record {
+    let same_count = c.loop-reads.invariant.7 ∙ c.new-reads.ensures.same_count in
+    session_by g.D.Door.size_of g.D.Door.asks g.D.Door.copies g.R.Read.remaining _ c.loop-reads.reads.reader.now _ _ TooManyReads _ (search (rules, same))
+    c.loop-reads.invariant.3 c.args.count.now c.loop-reads.reads.count.now _ (search (rules, same_count)) c.loop-reads.invariant.6 (record {
       input = c.loop-reads.invariant.0;
-      reads = c.loop-reads.invariant.1;
+      given = c.loop-reads.invariant.1;
       serves = Serves_all g.D.Door.size_of g.D.Door.asks g.D.Door.copies c.loop-reads.invariant.0 _ c.loop-reads.lines _ c.loop-reads.invariant.2.0 TooManyReads c.loop-reads.invariant.2.1 (λ h. h);
       whole = λ wrong. cc;
-      count = c.loop-reads.invariant.3;
       counted = after_all _ _ _ c.loop-reads.invariant.4 (sym c.any_left.ensures ∙ c.loop-reads-test.false);
     })

@@ -1,6 +1,6 @@
-use Rattle.std.proofs.Common.{◌≡◌, ℕ, List, None}
+use Rattle.std.proofs.Common.{◌≡◌, ℕ, ◌+◌, List, None}
 use Rattle.std.specs.Io.KnownBytes.{Consumes}
-use Rattle.gas_talk.specs.Ends.{AnswersLines}
+use Rattle.gas_talk.specs.Private.{AnswersLines}
 use Rattle.gas_talk.proofs.Counting.{Counts}
 use Rattle.gas_talk.proofs.session.session.Given as goal
 
@@ -13,6 +13,7 @@ invariant-loop-reads g l =
     None l.lines
     (record { door = l.door; written = g.W.Write.contents l.writer; failures = g.K.Shelf.failures l.shelf; shelved = g.K.Shelf.shelved l.shelf })
     × (count : ℕ) × Counts count l.reads.left input × (l.reads.reader.ghost_name ≡ l.initial.reads.reader.ghost_name)
+    × (l.reads.count.now ≡ l.fn.count + count) × (l.reads.count.ghost_name ≡ l.initial.reads.count.ghost_name)
 
 abbrev pub decreases-loop-reads : goal.decreases-loop-reads
 decreases-loop-reads g l = l.reads.left

@@ -1,0 +1,63 @@
+-- Definitions that only contracts of private functions cite: what a line reader has of its input, what it finds there, and
+-- how far a session has come. Callers need not read them.
+use Rattle.std.specs.Prelude.{◌≡◌, ℕ, ◌<◌, ◌⊎◌, List, [], ◌∷◌, ◌++◌, length, map, Option, Some, None, Result, string_bytes}
+use Rattle.std.specs.Io.KnownBytes.{Appends}
+use Rattle.std.specs.declared.alloc.AllocError.{AllocError as NoMemory}
+use Rattle.tokio_util.specs.Codec.Next.{Resumes}
+use Rattle.tokio_util.specs.Codec.Lines.{at_line_start, gives_lines}
+use Rattle.gas_terms.specs.Cells.{Extent}
+use Rattle.gas_terms.specs.declared.command.Command.{Command}
+use Rattle.gas_terms.specs.declared.answer.Answer.{Answer}
+use Rattle.gas_terms.specs.declared.refusal.Refusal.{Refusal}
+use Rattle.gas_lab.specs.declared.door.Copied.{Copied}
+use Rattle.gas_talk.specs.declared.end.SessionEnd.{SessionEnd}
+use Rattle.gas_talk.specs.declared.end.SessionEnd.TheVariants.{WriteFault}
+use Rattle.gas_talk.specs.declared.reader.LineReader.{LineReader}
+use Rattle.gas_talk.specs.declared.reader.Found.{Found}
+use Rattle.gas_talk.specs.declared.reader.Found.TheVariants.{Line, Bad, NoMemory as NoRoom, More}
+use Rattle.gas_talk.specs.Ends.{Place, replies, AreUnended, Leads, Serves}
+use Rattle.gas_talk.specs.Lines.{lines, text, bad, line_limit}
+use Rattle.gas_talk.specs.Talk.{Turn}
+
+-- whatever comes after them, what the reader keeps reads as these bytes at the start of a line
+abbrev pub Keeps : LineReader → List ℕ → Type 0
+Keeps r unread = Resumes gives_lines (at_line_start line_limit) unread r.codec r.buffer.items
+
+-- how many bytes it keeps
+abbrev pub kept_len : LineReader → ℕ
+kept_len r = length r.buffer.items
+
+-- what is found where these bytes are unread
+abbrev pub Finds : List ℕ → Found → LineReader → Type 0
+Finds unread (Line line) new =
+    (rest : List ℕ) × Keeps new rest × ((more : List ℕ) → lines (unread ++ more) ≡ text (string_bytes line) ∷ lines (rest ++ more))
+Finds unread Bad new = (more : List ℕ) → lines (unread ++ more) ≡ bad ∷ []
+Finds unread NoRoom new = Unit {0}
+Finds unread More new = (lines unread ≡ []) × Keeps new unread
+
+-- a line that is found leaves less
+abbrev pub IsShorter : Found → ℕ → ℕ → Type 0
+IsShorter (Line line) old new = new < old
+IsShorter Bad old new = Unit {0}
+IsShorter NoRoom old new = Unit {0}
+IsShorter More old new = Unit {0}
+
+-- the end where the last reply is written whole, or a fault of the writer
+abbrev pub EndsWith : List ℕ → SessionEnd → SessionEnd → Type 0
+EndsWith missing wanted end = ((missing ≡ []) × (end ≡ wanted)) ⊎ (end ≡ WriteFault)
+
+module _ {D : Type 0} (size_of : D → Extent) (asks : D → Command → Result Answer Refusal → D → Type 0) (copies : D → Result Copied NoMemory → D → Type 0) where
+  -- Within a session: each item of the input so far is taken, or is an item of what is unread.
+  pub record Progress (input : List ℕ) (old : Place D) (reader : LineReader) (new : Place D) : Type 0 where
+    pub turns : List Turn
+    pub unread : List ℕ
+    pub leads : Leads size_of asks copies old turns new
+    pub keeps : Keeps reader unread
+    pub items : (more : List ℕ) → lines (input ++ more) ≡ map (λ turn. turn.item) turns ++ lines (unread ++ more)
+    pub unended : AreUnended (size_of old.door) turns
+    pub writes : Appends old.written new.written (replies turns)
+
+  -- each line so far is answered, or the session is over
+  abbrev pub AnswersLines : List ℕ → Place D → Option SessionEnd → LineReader → Place D → Type 0
+  AnswersLines input old None reader new = (p : Progress input old reader new) × (lines p.unread ≡ [])
+  AnswersLines input old (Some end) reader new = Serves size_of asks copies input old end new
