@@ -196,8 +196,8 @@ pub fn turn_tile_into(
         (around walls.now wall_border.now) (around obstacles.now obstacle_border.now) }
     ensures together { plus result.walls result.obstacles ≡
         twice_momentum parity (λ x y. has tile.now x y &&
-        is_walled_at parity
-        (either (around walls.now wall_border.now) (around obstacles.now obstacle_border.now)) x y) }
+        is_walled_at parity (either (around walls.now wall_border.now)
+        (around obstacles.now obstacle_border.now)) x y) }
 {
     if parity == 0 {
         *out = *tile;
@@ -242,8 +242,8 @@ pub fn turn_tile(
         (around walls.now wall_border.now) (around obstacles.now obstacle_border.now) }
     ensures together { plus result.1.walls result.1.obstacles ≡
         twice_momentum parity (λ x y. has tile.now x y &&
-        is_walled_at parity
-        (either (around walls.now wall_border.now) (around obstacles.now obstacle_border.now)) x y) }
+        is_walled_at parity (either (around walls.now wall_border.now)
+        (around obstacles.now obstacle_border.now)) x y) }
 {
     let mut out = Tile::empty();
     let took = turn_tile_into(

@@ -52,8 +52,8 @@ impl Plane {
     pub fn round(&self, i: u32) -> Round<'_>
         requires { i < tile_count self.now }
         ensures tiles { AreTilesRound result self.now i }
-        ensures ring { let r = tile_rectangle self.now i in (b : RingCells) → IsBorderOfRound b result →
-            IsRingRound b self.now r.x r.y }
+        ensures ring { let r = tile_rectangle self.now i in (b : RingCells) →
+            IsBorderOfRound b result → IsRingRound b self.now r.x r.y }
     {
         self.round_at(self.position(i))
     }

@@ -40,7 +40,8 @@ fn counts_of(tile: &Tile, area: Rect, left: u32, top: u32) -> [u32; 4]
     requires left { left < 2 ^ 31 }
     requires top { top < 2 ^ 31 }
     ensures counts { (a b : ℕ) → a < 2 → b < 2 → slice_index result (2 * b + a) ≡
-        count_cells (λ x y. (in_tile.has tile.now x y && is_inside area (left + x) (top + y)) && x % 2 == a && y % 2 == b) }
+        count_cells (λ x y. (in_tile.has tile.now x y && is_inside area (left + x) (top + y))
+        && x % 2 == a && y % 2 == b) }
     ensures bound { (k : ℕ) → slice_index result k ≤ 2048 }
 {
     if is_covered(area, left, top) {

@@ -40,7 +40,8 @@ pub fn turn_each(old: &Plane, solids: Solids<'_>, parity: u8, own: Own, out: &mu
     ensures out { let s = solids.entry in
         out.new ≡ streamed parity old.now (joined s.walls.now s.obstacles.now) }
     ensures took { let s = solids.entry in
-        result ≡ tiles_take parity old.now s.walls.now s.obstacles.now own.first (own.end - own.first) }
+        result ≡ tiles_take parity old.now s.walls.now s.obstacles.now
+        own.first (own.end - own.first) }
 {
     let across = old.across();
     let mut took = NOTHING;
@@ -64,7 +65,8 @@ fn turn_each_in_place(particles: &mut Plane, solids: Solids<'_>, own: Own) -> To
     ensures particles { let s = solids.entry in
         particles.new ≡ streamed 0 particles.old (joined s.walls.now s.obstacles.now) }
     ensures took { let s = solids.entry in
-        result ≡ tiles_take 0 particles.old s.walls.now s.obstacles.now own.first (own.end - own.first) }
+        result ≡ tiles_take 0 particles.old s.walls.now s.obstacles.now
+        own.first (own.end - own.first) }
 {
     let mut took = NOTHING;
     for i in 0..particles.size().tiles() {
@@ -93,8 +95,9 @@ fn turn_among(
     ensures particles { let s = solids.entry in
         particles.new ≡ streamed parity particles.old (joined s.walls.now s.obstacles.now) }
     ensures spare { HasSidesOf spare.new particles.old }
-    ensures took { let s = solids.entry in result ≡
-        tiles_take parity particles.old s.walls.now s.obstacles.now own.first (own.end - own.first) }
+    ensures took { let s = solids.entry in
+        result ≡ tiles_take parity particles.old s.walls.now s.obstacles.now
+        own.first (own.end - own.first) }
 {
     if parity == 0 {
         turn_each_in_place(particles, solids, own)

@@ -146,7 +146,8 @@ fn make_together<R: Threads>(rt: &R, stretch: Stretch<'_>, team: &mut [Hand], ow
         { make_drawn(last, stretch) },
         &mut ||
             requires { All (IsSeated stretch) rest.now × IsSeated stretch own.now }
-            ensures { All (HasMade stretch.entry) rest.exit.now × HasMade stretch.entry own.exit.now }
+            ensures { All (HasMade stretch.entry) rest.exit.now
+                × HasMade stretch.entry own.exit.now }
         { make_together(rt, stretch, rest, own) },
     );
 }
@@ -165,7 +166,8 @@ pub fn make_all<R: Threads>(rt: &R, stretch: Stretch<'_>, team: &mut [Hand])
 fn next_room(stretch: Stretch<'_>, rooms: &mut Vec<Room>) -> Room
     requires { All (IsRoomFor (extent stretch.course.cells.now) stretch.parts) rooms.old.items }
     ensures room { IsRoomFor (extent stretch.entry.course.cells.now) stretch.entry.parts result }
-    ensures rooms { All (IsRoomFor (extent stretch.entry.course.cells.now) stretch.entry.parts) rooms.new.items }
+    ensures rooms { let s = stretch.entry in
+        All (IsRoomFor (extent s.course.cells.now) s.parts) rooms.new.items }
 {
     let alloc = *rooms.allocator();
     match rooms.pop() {
@@ -189,7 +191,8 @@ pub fn seated(
     ensures count { IfSome result (λ team. vec_len team ≡ vec_len seats.old) }
     ensures seats { IfSome result (λ _. seats.new.items ≡ []) }
     ensures room { IfSome result (λ _. vec_capacity seats.new ≡ vec_capacity seats.old) }
-    ensures rooms { All (IsRoomFor (extent stretch.entry.course.cells.now) stretch.entry.parts) rooms.new.items }
+    ensures rooms { let s = stretch.entry in
+        All (IsRoomFor (extent s.course.cells.now) s.parts) rooms.new.items }
 {
     let alloc = *rooms.allocator();
     let mut team = Vec::with_capacity(alloc, seats.len()).ok()?;

@@ -120,9 +120,11 @@ fn hand_in(
     requires out { IsOut stretch.course out.old }
     ensures count { vec_len seats.new ≡ vec_len team }
     ensures seats { IfSome result (λ _. HaveDrawn stretch.entry.desk.now.id seats.new.items) }
-    ensures rooms { All (IsRoomFor (extent stretch.entry.course.cells.now) stretch.entry.parts) rooms.new.items }
+    ensures rooms { let s = stretch.entry in
+        All (IsRoomFor (extent s.course.cells.now) s.parts) rooms.new.items }
     ensures sides { HasSidesOf out.new stretch.entry.course.cells.now }
-    ensures put { IfSome result (λ flow. HasPut stretch.entry (drawn seats.new.items) flow out.new) }
+    ensures put { IfSome result (λ flow.
+        HasPut stretch.entry (drawn seats.new.items) flow out.new) }
 {
     let mut flow = NO_FLOW;
     let mut ended = false;

@@ -160,7 +160,8 @@ impl Strip {
     pub fn new(alloc: Global, size: Size, rows: u32) -> Result<Strip, NoMemory>
         ensures { IfOk result (λ s. (s.first ≡ 0) × (s.rows ≡ rows)
             × (s.cells.width ≡ size.width) × (s.cells.height ≡ size.height)
-            × HasSidesOf s.spare s.cells × HasSidesOf s.walls s.cells × HasSidesOf s.obstacles s.cells) }
+            × HasSidesOf s.spare s.cells × HasSidesOf s.walls s.cells
+            × HasSidesOf s.obstacles s.cells) }
     {
         Ok(Strip {
             number: 0,
