@@ -10,7 +10,7 @@ use std::net::{Net, SocketAddr, TcpListener, TcpStream};
 use std::process::Abort;
 use std::sync::Wait;
 use std::thread::Threads;
-use std::time::{Clock, Duration};
+use std::time::{Clock, Duration, Instant};
 use std::{io, thread};
 use test_types::gates::TestGate;
 
@@ -58,6 +58,40 @@ fn serve_over_a_socket(rt: HostRuntime) {
     expect_same(&rt, served, Some(((1, 0, 1), [1, 0, 0, 0])));
     let replies = replies.expect(&rt, "replies");
     expect_same(&rt, replies.as_slice(), b"OK 0\nBYE\n".as_slice());
+}
+
+// Sends two lines at once, twenty times. Tells how many times both replies came in less than 10 milliseconds.
+fn answered_at_once<R: Net<Stream = TcpStream> + Clock>(
+    rt: &R,
+    addr: SocketAddr,
+) -> io::Result<u32> {
+    let mut stream = TcpStream::connect(rt, addr)?;
+    let mut at_once = 0u32;
+    for _ in 0..20u32 {
+        let start = Instant::now(rt)?;
+        let mut replies = [0; 28];
+        stream.write_all(b"tally\ntally\n")?;
+        stream.read_exact(&mut replies)?;
+        let soon = start.elapsed(rt)? < Duration::from_millis(10);
+        if soon && replies == *b"TALLY 0 0 0 0\nTALLY 0 0 0 0\n" {
+            at_once = at_once.saturating_add(1);
+        }
+    }
+    Ok(at_once)
+}
+
+/// The second of two replies doesn't wait until the client has acknowledged the first: more than half of twenty come at once.
+#[test]
+fn two_lines_in_one_packet_are_answered_at_once(rt: HostRuntime) {
+    let listener = TcpListener::bind(&rt, "127.0.0.1:0").expect(&rt, "a listener");
+    let addr = listener.local_addr().expect(&rt, "an address");
+    let (served, at_once) = thread::join(
+        &rt,
+        || serve_some(&rt, listener, 1, 64),
+        || answered_at_once(&rt, addr),
+    );
+    expect_same(&rt, served, Some(((1, 0, 0), [0, 0, 0, 0])));
+    expect_that(&rt, at_once.expect(&rt, "replies") > 10);
 }
 
 // Makes a change, reads its reply, and hangs up in the middle of the next line.
