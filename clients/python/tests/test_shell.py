@@ -21,7 +21,7 @@ PROGRAM = ["--program", str(STAND_IN)]
 
 
 def said(*words, typed=""):
-    """Status, output and errors of `python3 -m gaslab` with these words."""
+    """Status, output and errors of the command line with these words."""
     out, errors = io.StringIO(), io.StringIO()
     with contextlib.redirect_stdout(out), contextlib.redirect_stderr(errors), \
             mock.patch("sys.stdin", io.StringIO(typed)):
@@ -163,7 +163,7 @@ class Words(unittest.TestCase):
             status, out, _ = said(word, "--help")
             self.assertEqual(status, 0)
             self.assertIn(f"example:\n  {WORDS[word][3]}", out)
-            self.assertIn(f"gaslab {word}", WORDS[word][3])
+            self.assertIn(f"python3 clients/python {word}", WORDS[word][3])
         self.assertEqual(set(WORDS), {"shell", "draw", "film", "table", "profile", "random", "show",
                                       "journal", "rows", "watch"})
 
