@@ -1,7 +1,21 @@
-// The HPP gas in C, written by hand for speed: rows of 64-bit words, one thread, a torus of SIDE by SIDE cells, with or
-// without two walls in each 64 rows, and what they take. It is what the program's speed is compared with:
+// The HPP gas in C, written by hand for speed, on one thread: what the program's speed is compared with. The lattice is a
+// torus of SIDE by SIDE cells with random particles, and one of these cases of walls and obstacles:
 //
-//   cc -O3 -march=x86-64-v2 -DSIDE=2048 -o hpp tools/hpp.c && ./hpp 1000 [walls]
+//   free        none
+//   channels    walls in 2 of 64 rows
+//   obstacles   an obstacle of 3 by 3 cells at one of 100 places
+//   mixed       walls and obstacles of 2 by 2 cells, by chance, at one of 60 places
+//
+// There are at most 60,000 rectangles, since a journal has room for 65,536 entries.
+//
+//   cc -O3 -march=x86-64-v3 -DSIDE=2048 -o hpp tools/hpp.c
+//   ./hpp classes free 1000    1,000 steps, by tiles of parity classes: even phases in place, cells of walled blocks
+//                              prepared for each parity. The fastest that we have.
+//   ./hpp rows free 1000       the same by rows of 64-bit words, as one writes it first
+//   ./hpp lines free           the same lattice as lines of commands for gaslab
+//
+// It prints microseconds a step, then the count and both momenta of the particles, then what walls and obstacles took in x
+// and in y: walls x, walls y, obstacles x, obstacles y.
 #include <stdint.h>
 #include <stdio.h>
 #include <stdlib.h>
@@ -9,80 +23,327 @@
 #include <time.h>
 
 #define WORDS (SIDE / 64)
+#define TILES (WORDS * WORDS)
+#define PAGE __attribute__((aligned(4096)))
+#define ALWAYS static inline __attribute__((always_inline))
 typedef uint64_t word;
-typedef word plane[SIDE][WORDS];
+typedef uint32_t half;
+typedef word plane[SIDE][WORDS]; // bit x % 64 of word x / 64 is column x
 
-static plane first, second, walls;
+static plane particles PAGE, walls PAGE, obstacles PAGE;
+
+static int get(plane p, int x, int y) { return p[y][x / 64] >> x % 64 & 1; }
+
+static void set(plane p, int x, int y) { p[y][x / 64] |= (word)1 << x % 64; }
+
+// ---- the lattice
+
+static word state = 88172645463325252u;
+
+static word next(void)
+{
+    state ^= state << 13, state ^= state >> 7, state ^= state << 17;
+    return state >> 16;
+}
+
+static void rectangle(plane p, int x, int y, int w, int h, const char *command, int tell)
+{
+    for (int k = 0; k < w * h; k++) set(p, x + k % w, y + k / w);
+    if (tell) printf("%s %d %d %d %d\n", command, x, y, w, h);
+}
+
+static void tell_row(int y)
+{
+    printf("row %d ", y);
+    for (int x = 0; x < SIDE; x += 4)
+        printf("%x", get(particles, x, y) << 3 | get(particles, x + 1, y) << 2 | get(particles, x + 2, y) << 1 |
+                         get(particles, x + 3, y));
+    printf("\n");
+}
+
+// lays the lattice of a case, and tells its lines if asked to; 0 for no such case
+static int lay(const char *name, int tell)
+{
+    for (int y = 0; y < SIDE; y++) {
+        for (int i = 0; i < WORDS; i++) particles[y][i] = next() << 32 | (next() & 0xffffffffu);
+        if (tell) tell_row(y);
+    }
+    if (!strcmp(name, "free")) return 1;
+    if (!strcmp(name, "channels")) {
+        for (int y = 0; y < SIDE; y++)
+            if (y % 64 == 20 || y % 64 == 29) rectangle(walls, 0, y, SIDE, 1, "wall", tell);
+        return 1;
+    }
+    int porous = !strcmp(name, "obstacles");
+    if (!porous && strcmp(name, "mixed")) return 0;
+    int places = SIDE * SIDE / (porous ? 100 : 60);
+    for (int k = places < 60000 ? places : 60000; k > 0; k--) {
+        int x = next() % (SIDE - 3), y = next() % (SIDE - 3), size = porous ? 3 : 2;
+        if (porous || next() % 2)
+            rectangle(obstacles, x, y, size, size, "block", tell);
+        else
+            rectangle(walls, x, y, size, size, "wall", tell);
+    }
+    return 1;
+}
+
+// ---- by tiles of parity classes
+
+// even columns of even rows, odd columns of even rows, even of odd, odd of odd: 32 rows of 32 cells each
+typedef struct { half ee[32], oe[32], eo[32], oo[32]; } tile;
+typedef struct { half ul, ur, ll, lr; } blocks;
+typedef struct { const tile *above, *below, *left, *right, *above_left, *above_right, *below_left, *below_right; } near;
+// of one parity: the cells of the blocks that a set walls, and which tiles have any
+typedef struct { tile cells[TILES]; unsigned char any[TILES]; } held;
+
+static tile first[TILES] PAGE, second[TILES] PAGE;
+static held walls_held[2] PAGE, obstacles_held[2] PAGE;
+static long long took[4];
+
+// what becomes of 32 blocks: each particle crosses, but two that meet head on leave at right angles
+ALWAYS blocks turned(half ul, half ur, half ll, half lr)
+{
+    half diagonal = (ul ^ ur) & ~((ul ^ lr) | (ur ^ ll));
+    return (blocks){lr ^ diagonal, ll ^ diagonal, ur ^ diagonal, ul ^ diagonal};
+}
+
+static void even(tile *t)
+{
+    for (int j = 0; j < 32; j++) {
+        blocks b = turned(t->ee[j], t->oe[j], t->eo[j], t->oo[j]);
+        t->ee[j] = b.ul, t->oe[j] = b.ur, t->eo[j] = b.ll, t->oo[j] = b.lr;
+    }
+}
+
+// a row of odd blocks: those that begin in the tile, and those that end in it. Written is what lies in it.
+ALWAYS blocks odd_row(half ul, half ur, half ll, half lr, half left_u, half left_l, half right_u, half right_l)
+{
+    blocks begin = turned(ul, ur >> 1 | right_u << 31, ll, lr >> 1 | right_l << 31);
+    blocks end = turned(ul << 1 | left_u >> 31, ur, ll << 1 | left_l >> 31, lr);
+    return (blocks){begin.ul, end.ur, begin.ll, end.lr};
+}
+
+static void odd_rows(const tile *restrict t, const tile *restrict l, const tile *restrict r, tile *restrict out, int from, int to)
+{
+    for (int j = from; j < to; j++) {
+        blocks b = odd_row(t->oo[j], t->eo[j], t->oe[j + 1], t->ee[j + 1], l->oo[j], l->oe[j + 1], r->eo[j], r->ee[j + 1]);
+        out->oo[j] = b.ul, out->eo[j] = b.ur, out->oe[j + 1] = b.ll, out->ee[j + 1] = b.lr;
+    }
+}
+
+ALWAYS void odd(const tile *restrict t, const near *n, tile *restrict out)
+{
+    const tile *l = n->left, *r = n->right;
+    blocks top = odd_row(n->above->oo[31], n->above->eo[31], t->oe[0], t->ee[0], n->above_left->oo[31], l->oe[0],
+                         n->above_right->eo[31], r->ee[0]);
+    blocks bottom = odd_row(t->oo[31], t->eo[31], n->below->oe[0], n->below->ee[0], l->oo[31], n->below_left->oe[0],
+                            r->eo[31], n->below_right->ee[0]);
+    out->oe[0] = top.ll, out->ee[0] = top.lr, out->oo[31] = bottom.ul, out->eo[31] = bottom.ur;
+    // whole vectors: row 23 comes twice
+    odd_rows(t, l, r, out, 0, 24);
+    odd_rows(t, l, r, out, 23, 31);
+}
+
+static int count(const half *restrict cells, const half *restrict places)
+{
+    int sum = 0;
+    for (int j = 0; j < 32; j += 2) {
+        word c, p;
+        memcpy(&c, cells + j, 8), memcpy(&p, places + j, 8);
+        sum += __builtin_popcountll(c & p);
+    }
+    return sum;
+}
+
+// puts the old cells back in walled blocks, and books twice their momentum
+static void hold(const tile *restrict old, const tile *restrict places, tile *restrict out, long long *account, int parity)
+{
+    const half *o = (const half *)old, *p = (const half *)places;
+    half *n = (half *)out;
+    for (int k = 0; k < 128; k++) n[k] ^= (n[k] ^ o[k]) & p[k];
+    long long ee = count(old->ee, places->ee), oe = count(old->oe, places->oe);
+    long long eo = count(old->eo, places->eo), oo = count(old->oo, places->oo), sign = parity ? -2 : 2;
+    account[0] += sign * (ee + eo - oe - oo);
+    account[1] += sign * (ee + oe - eo - oo);
+}
+
+static near near_of(const tile *p, int x, int y)
+{
+    const tile *here = p + y * WORDS, *above = p + (y + WORDS - 1) % WORDS * WORDS, *below = p + (y + 1) % WORDS * WORDS;
+    int l = x ? x - 1 : WORDS - 1, r = x + 1 < WORDS ? x + 1 : 0;
+    return (near){above + x, below + x, here + l, here + r, above + l, above + r, below + l, below + r};
+}
+
+static void hold_both(const tile *old, tile *out, int i, int parity)
+{
+    if (walls_held[parity].any[i]) hold(old, walls_held[parity].cells + i, out, took, parity);
+    if (obstacles_held[parity].any[i]) hold(old, obstacles_held[parity].cells + i, out, took + 2, parity);
+}
+
+static void even_phase(tile *p)
+{
+    for (int i = 0; i < TILES; i++) {
+        if (walls_held[0].any[i] | obstacles_held[0].any[i]) {
+            tile old = p[i];
+            even(p + i);
+            hold_both(&old, p + i, i, 0);
+        } else {
+            even(p + i);
+        }
+    }
+}
+
+static void odd_phase(const tile *from, tile *to)
+{
+    for (int y = 0, i = 0; y < WORDS; y++)
+        for (int x = 0; x < WORDS; x++, i++) {
+            near n = near_of(from, x, y);
+            odd(from + i, &n, to + i);
+            hold_both(from + i, to + i, i, 1);
+        }
+}
+
+static half *class_of(tile *t, int x, int y) { return y % 2 ? x % 2 ? t->oo : t->eo : x % 2 ? t->oe : t->ee; }
+
+static void set_in_tiles(tile *tiles, int x, int y)
+{
+    class_of(tiles + y / 64 * WORDS + x / 64, x, y)[y % 64 / 2] |= (half)1 << x % 64 / 2;
+}
+
+static int get_in_tiles(tile *tiles, int x, int y)
+{
+    return class_of(tiles + y / 64 * WORDS + x / 64, x, y)[y % 64 / 2] >> x % 64 / 2 & 1;
+}
+
+// whether one of the cells of the block that begins at (x, y) is in the set
+static int any_of_block(plane set, int x, int y)
+{
+    int r = (x + 1) % SIDE, b = (y + 1) % SIDE;
+    return get(set, x, y) | get(set, r, y) | get(set, x, b) | get(set, r, b);
+}
+
+// the cells of the blocks of a parity that have a cell of the set, and none of the other
+static void prepare(held *h, int parity, plane set, plane but)
+{
+    for (int y = parity; y < SIDE; y += 2)
+        for (int x = parity; x < SIDE; x += 2) {
+            if (!any_of_block(set, x, y) || (but && any_of_block(but, x, y))) continue;
+            for (int k = 0; k < 4; k++) {
+                int cx = (x + k % 2) % SIDE, cy = (y + k / 2) % SIDE;
+                set_in_tiles(h->cells, cx, cy);
+                h->any[cy / 64 * WORDS + cx / 64] = 1;
+            }
+        }
+}
+
+static void begin_classes(void)
+{
+    for (int parity = 0; parity < 2; parity++) {
+        prepare(walls_held + parity, parity, walls, obstacles);
+        prepare(obstacles_held + parity, parity, obstacles, NULL);
+    }
+    for (int y = 0; y < SIDE; y++)
+        for (int x = 0; x < SIDE; x++)
+            if (get(particles, x, y)) set_in_tiles(first, x, y);
+}
+
+static void run_classes(int steps)
+{
+    tile *now = first, *spare = second, *old;
+    for (int t = 0; t < steps; t++)
+        if (t % 2)
+            odd_phase(now, spare), old = now, now = spare, spare = old;
+        else
+            even_phase(now);
+    if (now != first) memcpy(first, now, sizeof first);
+}
+
+static void end_classes(void)
+{
+    memset(particles, 0, sizeof particles);
+    for (int y = 0; y < SIDE; y++)
+        for (int x = 0; x < SIDE; x++)
+            if (get_in_tiles(first, x, y)) set(particles, x, y);
+}
+
+// ---- by rows
+
+static plane other PAGE;
 static const word EVEN = 0x5555555555555555u;
-static long long took_x, took_y;
 
 // each cell takes the place of the other in its block's row: blocks begin at even columns, or at odd ones
-static inline word swapped(word here) { return (here >> 1 & EVEN) | (here & EVEN) << 1; }
-
-static inline word swapped_odd(word left, word here, word right)
+ALWAYS word swapped(const word *row, int k, int odd)
 {
-    return ((here >> 1 | right << 63) & ~EVEN) | ((here << 1 | left >> 63) & EVEN);
-}
-
-// where a block has two particles on a diagonal, both of its rows are turned over
-static inline word collides(word upper, word lower, word upper_swapped, word lower_swapped)
-{
-    return (upper ^ upper_swapped) & (upper ^ lower) & ~(upper ^ lower_swapped);
-}
-
-static inline void account(word upper, word lower, word walled, word left)
-{
-    word up = upper & walled, low = lower & walled;
-    long long ups = __builtin_popcountll(up), lows = __builtin_popcountll(low);
-    long long lefts = __builtin_popcountll(up & left) + __builtin_popcountll(low & left);
-    took_x += 2 * (2 * lefts - (ups + lows));
-    took_y += 2 * (ups - lows);
+    if (!odd) return (row[k] >> 1 & EVEN) | (row[k] & EVEN) << 1;
+    return ((row[k] >> 1 | row[k + 1] << 63) & ~EVEN) | ((row[k] << 1 | row[k - 1] >> 63) & EVEN);
 }
 
 // a row's words, and at odd phases the neighbours over the seam before and after them
-static inline const word *padded(word *room, const word *row, int is_odd)
+ALWAYS const word *padded(word *room, const word *row, int odd)
 {
-    if (!is_odd) return row;
+    if (!odd) return row;
     memcpy(room + 1, row, WORDS * sizeof(word));
     room[0] = row[WORDS - 1];
     room[WORDS + 1] = row[0];
     return room;
 }
 
+ALWAYS void book(word upper, word lower, word walled, word left, long long *account)
+{
+    word up = upper & walled, low = lower & walled;
+    long long ups = __builtin_popcountll(up), lows = __builtin_popcountll(low);
+    long long lefts = __builtin_popcountll(up & left) + __builtin_popcountll(low & left);
+    account[0] += 2 * (2 * lefts - (ups + lows));
+    account[1] += 2 * (ups - lows);
+}
+
+// the blocks with a cell of the set, in a pair of rows; 0 if there is none
+ALWAYS word walled_in(const plane set, int upper, int lower, word *out, int odd)
+{
+    word here[WORDS], room[WORDS + 2], any = 0;
+    for (int i = 0; i < WORDS; i++) any |= here[i] = set[upper][i] | set[lower][i];
+    if (!any) return 0;
+    const word *w = padded(room, here, odd);
+    for (int i = 0, k = odd; i < WORDS; i++, k++) out[i] = w[k] | swapped(w, k, odd);
+    return any;
+}
+
 // One phase of a row of blocks. Called with constants, so that the compiler makes a loop for each case.
-static inline __attribute__((always_inline)) void
-turn(const plane from, plane to, int upper, const int is_odd, const int with_walls)
+ALWAYS void turn(const plane from, plane to, int upper, const int odd, const int solid)
 {
     int lower = (upper + 1) % SIDE;
-    word u_room[WORDS + 2], l_room[WORDS + 2], w_here[WORDS], w_room[WORDS + 2], any = 0;
-    const word *u = padded(u_room, from[upper], is_odd), *l = padded(l_room, from[lower], is_odd);
-    for (int i = 0, k = is_odd; i < WORDS; i++, k++) {
-        word us = is_odd ? swapped_odd(u[k - 1], u[k], u[k + 1]) : swapped(u[k]);
-        word ls = is_odd ? swapped_odd(l[k - 1], l[k], l[k + 1]) : swapped(l[k]);
-        word both = collides(u[k], l[k], us, ls);
-        to[upper][i] = ls ^ both;
-        to[lower][i] = us ^ both;
+    word u_room[WORDS + 2], l_room[WORDS + 2];
+    const word *u = padded(u_room, from[upper], odd), *l = padded(l_room, from[lower], odd);
+    for (int i = 0, k = odd; i < WORDS; i++, k++) {
+        word us = swapped(u, k, odd), ls = swapped(l, k, odd);
+        word diagonal = (u[k] ^ us) & (u[k] ^ l[k]) & ~(u[k] ^ ls);
+        to[upper][i] = ls ^ diagonal;
+        to[lower][i] = us ^ diagonal;
     }
-    if (!with_walls) return;
-    for (int i = 0; i < WORDS; i++) any |= w_here[i] = walls[upper][i] | walls[lower][i];
-    if (!any) return;
-    const word *w = padded(w_room, w_here, is_odd);
-    for (int i = 0, k = is_odd; i < WORDS; i++, k++) {
-        word walled = w[k] | (is_odd ? swapped_odd(w[k - 1], w[k], w[k + 1]) : swapped(w[k]));
-        to[upper][i] = (u[k] & walled) | (to[upper][i] & ~walled);
-        to[lower][i] = (l[k] & walled) | (to[lower][i] & ~walled);
-        account(u[k], l[k], walled, is_odd ? ~EVEN : EVEN);
+    if (!solid) return;
+    word w[WORDS] = {0}, o[WORDS] = {0};
+    if (!(walled_in(walls, upper, lower, w, odd) | walled_in(obstacles, upper, lower, o, odd))) return;
+    for (int i = 0, k = odd; i < WORDS; i++, k++) {
+        word here = w[i] | o[i], left = odd ? ~EVEN : EVEN;
+        to[upper][i] ^= (to[upper][i] ^ u[k]) & here;
+        to[lower][i] ^= (to[lower][i] ^ l[k]) & here;
+        book(u[k], l[k], w[i] & ~o[i], left, took);
+        book(u[k], l[k], o[i], left, took + 2);
     }
 }
 
-static void phase(const plane from, plane to, int is_odd, int with_walls)
+static void run_rows(int steps, int solid)
 {
-    for (int y = is_odd; y < SIDE; y += 2)
-        if (is_odd)
-            with_walls ? turn(from, to, y, 1, 1) : turn(from, to, y, 1, 0);
-        else
-            with_walls ? turn(from, to, y, 0, 1) : turn(from, to, y, 0, 0);
+    for (int t = 0; t < steps; t++)
+        for (int y = t % 2; y < SIDE; y += 2)
+            if (t % 2)
+                solid ? turn(other, particles, y, 1, 1) : turn(other, particles, y, 1, 0);
+            else
+                solid ? turn(particles, other, y, 0, 1) : turn(particles, other, y, 0, 0);
+    if (steps % 2) memcpy(particles, other, sizeof particles);
 }
+
+// ----
 
 static double now(void)
 {
@@ -91,22 +352,34 @@ static double now(void)
     return t.tv_sec + 1e-9 * t.tv_nsec;
 }
 
+// count and momenta at a tick: a particle flies to the right if its column and the tick are both even or both odd
+static void tell(double microseconds, int tick)
+{
+    long long count = 0, px = 0, py = 0;
+    for (int y = 0; y < SIDE; y++)
+        for (int x = 0; x < SIDE; x++)
+            if (get(particles, x, y)) {
+                count++;
+                px += (x + tick) % 2 ? -1 : 1;
+                py += (y + tick) % 2 ? -1 : 1;
+            }
+    printf("%.2f %lld %lld %lld %lld %lld %lld %lld\n", microseconds, count, px, py, took[0], took[1], took[2], took[3]);
+}
+
 int main(int count, char **words)
 {
-    int steps = count > 1 ? atoi(words[1]) : 1000, with_walls = count > 2;
-    word state = 88172645463325252u, sum = 0;
-    for (int y = 0; y < SIDE; y++)
-        for (int i = 0; i < WORDS; i++) {
-            state ^= state << 13, state ^= state >> 7, state ^= state << 17;
-            first[y][i] = state;
-            walls[y][i] = with_walls && (y % 64 == 20 || y % 64 == 29) ? ~(word)0 : 0;
-        }
+    int lines = count == 3 && !strcmp(words[1], "lines"), classes = count == 4 && !strcmp(words[1], "classes");
+    if ((!lines && !classes && (count != 4 || strcmp(words[1], "rows"))) || !lay(words[2], lines)) {
+        fprintf(stderr, "usage: hpp classes|rows free|channels|obstacles|mixed STEPS, or hpp lines CASE\n");
+        return 2;
+    }
+    if (lines) return 0;
+    int steps = atoi(words[3]);
+    if (classes) begin_classes();
     double begin = now();
-    for (int t = 0; t < steps; t++)
-        t % 2 ? phase(second, first, 1, with_walls) : phase(first, second, 0, with_walls);
+    classes ? run_classes(steps) : run_rows(steps, strcmp(words[2], "free"));
     double end = now();
-    for (int y = 0; y < SIDE; y++)
-        for (int i = 0; i < WORDS; i++) sum = sum * 31 + (steps % 2 ? second : first)[y][i];
-    printf("%.1f microseconds a step, sum %016llx, took %lld %lld\n", 1e6 * (end - begin) / steps,
-           (unsigned long long)sum, took_x, took_y);
+    if (classes) end_classes();
+    tell(1e6 * (end - begin) / steps, steps);
+    return 0;
 }
