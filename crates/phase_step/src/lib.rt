@@ -1,7 +1,8 @@
 //! Steps of a gas. A `Stepper` makes a phase or a run of phases of a plane; `Serial` does it on the calling thread. An
 //! `Action` changes the particles after each phase of a run, as ports do.
 //!
-//! The program uses all of it.
+//! The program makes runs, by `Stepper::run` and `run_with`. `Stepper::phase`, a single phase into another plane, is there
+//! for callers of the library. The program uses everything else.
 #![tactic(auto)]
 
 ghost use Rattle.std.specs.Prelude.{◌≡◌, ◌<◌};

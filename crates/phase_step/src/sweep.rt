@@ -1,4 +1,4 @@
-//! A phase on one thread, tile by tile.
+//! A phase on one thread, tile by tile: into another plane, or in place.
 
 ghost use Rattle.std.specs.Prelude.{◌≡◌, ◌-◌, ◌<◌, ◌≤◌, ◌⊎◌, IsTrue, false};
 ghost use Rattle.gas_terms.specs.Cells.{joined, tile_count, HasSidesOf};
