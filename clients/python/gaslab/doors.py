@@ -124,7 +124,7 @@ class Server:
     def _acknowledge(self) -> None:
         """Makes the system acknowledge at once what arrives, if it can.
 
-        The server waits for that before it sends its next reply: 40 milliseconds otherwise.
+        A server without TCP_NODELAY waits for that before its next reply, up to 40 milliseconds.
         """
         if hasattr(socket, "TCP_QUICKACK"):
             self._socket.setsockopt(socket.IPPROTO_TCP, socket.TCP_QUICKACK, 1)

@@ -219,17 +219,19 @@ class OtherSides(unittest.TestCase):
             if line == "step 7":
                 time.sleep(0.4)
             return typical(line)
-        with Fake(answer) as fake, joined(fake, timeout=0.2) as lab:
+        with Fake(answer) as fake, joined(fake) as lab:
+            lab._door.link.timeout = 0.2
             self.assertRaises(Silent, lab.step, 7)
-            lab._door.link.timeout = 5
+            lab._door.link.timeout = 60
             self.assertEqual(lab.probe(1, 2, 3, 4), Probe(12, -4, 0))
 
     def test_closing_does_not_wait_for_a_silent_server(self):
         with Fake(lambda line: typical(line) if line == "tally" else b"") as fake:
-            lab = joined(fake, timeout=0.3)
+            lab = joined(fake)
+            lab._door.link.timeout = 0.3
             began = time.monotonic()
             lab.close()
-            self.assertLess(time.monotonic() - began, 3)
+            self.assertLess(time.monotonic() - began, 10)
 
     def test_no_program(self):
         with self.assertRaisesRegex(Unreachable, "./gaslab --build makes it"):
@@ -248,10 +250,10 @@ class OtherSides(unittest.TestCase):
     def test_nothing_that_a_program_started_is_left(self):
         with tempfile.TemporaryDirectory() as room:
             program, mark = Path(room, "program"), Path(room, "mark")
-            program.write_text(f"#!/bin/sh\n(sleep 1; touch {mark}) &\nwait\n")
+            program.write_text(f"#!/bin/sh\n(sleep 3; touch {mark}) &\nwait\n")
             program.chmod(0o755)
             self.assertRaises(Silent, Lab.run, program=program, timeout=0.2)
-            time.sleep(1.5)
+            time.sleep(3.5)
             self.assertFalse(mark.exists())
 
     def test_a_program_that_says_why(self):
@@ -262,8 +264,8 @@ class OtherSides(unittest.TestCase):
             with self.assertRaisesRegex(Gone, "status 3; it said: load: short"):
                 Lab.run(program=program)
             program.write_text("#!/bin/sh\necho compiling >&2\nexec sleep 9\n")
-            with self.assertRaisesRegex(Silent, "0.5 seconds: it said: compiling"):
-                Lab.run(program=program, timeout=0.5)
+            with self.assertRaisesRegex(Silent, "2 seconds: it said: compiling"):
+                Lab.run(program=program, timeout=2)
 
     def test_the_program_gets_its_options(self):
         with tempfile.TemporaryDirectory() as room:

@@ -72,7 +72,7 @@ class OtherSides(unittest.TestCase):
             with self.assertRaisesRegex(Silent, r"no answer for 0.2 seconds: why True"):
                 pair.link.next_line()
             self.assertGreaterEqual(time.monotonic() - began, 0.2)
-            self.assertLess(time.monotonic() - began, 3)
+            self.assertLess(time.monotonic() - began, 10)
 
     def test_silent_in_the_middle_of_a_reply(self):
         with Pair(0.1) as pair:
