@@ -112,22 +112,6 @@ fn served_line_that_fails(rt: HostRuntime) {
     expect_that(&rt, stage.shows(0, b"OK 0\nBYE\n"));
 }
 
-// Serves two speeches, over a laboratory of four tiles whose three workers make every run by strips.
-fn serve_by_strips<
-    R: Abort + Threads + Wait + Sync + Clock + Copy + Drop + Send + AllocGlobal + HasFiles,
->(rt: &R, stage: &Stage, speeches: &[Option<Speech<'_>>; 2]) -> Counts {
-    let room = Room {
-        workers: 3,
-        by_strips: true,
-        ..LARGE
-    };
-    let lab = opened_by_strips(rt, setup_of(rt, room), None).expect(rt, "memory");
-    let shelves = no_shelves(rt, 2).expect(rt, "memory");
-    expect_that(rt, shelves.len() == 2);
-    let mut lobby = Speakers::new(*rt, stage, speeches);
-    serve_lab(rt, rt.alloc(), lab, &mut lobby, shelves).expect(rt, "memory")
-}
-
 /// One session steps and undoes a channel with three workers in its turns, and another asks all the while for a row that
 /// no particle reaches. The replies are those of `tools/channel_gas.py`.
 #[test]
@@ -141,12 +125,23 @@ fn workers_under_the_lock(rt: HostRuntime) {
             b"probe 0 20 128 1\nprobe 0 20 128 1\nprobe 0 20 128 1\nprobe 0 20 128 1\nprobe 0 20 128 1\nquit\n",
         )),
     ];
+    // a laboratory of four tiles, whose workers make every run by strips
+    let room = Room {
+        workers: 3,
+        by_strips: true,
+        ..LARGE
+    };
+    let lab = opened_by_strips(&rt, setup_of(&rt, room), None).expect(&rt, "memory");
+    let shelves = no_shelves(&rt, 2).expect(&rt, "memory");
+    expect_that(&rt, shelves.len() == 2);
+    let mut lobby = Speakers::new(rt, &stage, &speeches);
+    let counts = serve_lab(&rt, rt.alloc(), lab, &mut lobby, shelves).expect(&rt, "memory");
     let wanted = Counts {
         done: 2,
         failed: 0,
         entries: 6,
     };
-    expect_same(&rt, serve_by_strips(&rt, &stage, &speeches), wanted);
+    expect_same(&rt, counts, wanted);
     expect_that(
         &rt,
         stage.shows(
