@@ -25,7 +25,8 @@ def add_sources(parser: argparse.ArgumentParser) -> None:
     group.add_argument("--workers", type=int, default=1, help="threads of the program (1)")
     group.add_argument("--cap", type=int, default=65536,
                        help="how many changes the journal has room for (65536)")
-    group.add_argument("--load", metavar="PATH", help="the snapshot to start from")
+    group.add_argument("--load", metavar="PATH",
+                       help="the snapshot to start from, or that the joined server started from")
     group.add_argument("--save", metavar="PATH", help="the file that the command save writes")
     group.add_argument("--program", metavar="PATH", help="another program than ./gaslab")
     group.add_argument("--timeout", type=float, default=60.0, help="seconds for a reply (60)")
@@ -63,7 +64,8 @@ def lab_of(asked: argparse.Namespace) -> Iterator[Lab]:
         host, _, port = asked.join.rpartition(":")
         if not host or not port.isdecimal():
             raise ValueError(f"--join takes HOST:PORT, and not {asked.join}")
-        lab = Lab.join(host.strip("[]"), int(port), timeout=asked.timeout)
+        start = Snapshot.read(asked.load) if asked.load else None
+        lab = Lab.join(host.strip("[]"), int(port), timeout=asked.timeout, start=start)
     else:
         load, script = asked.load, asked.file
         if script and is_snapshot(script):
