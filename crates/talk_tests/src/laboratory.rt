@@ -238,20 +238,36 @@ fn put_a_row(rt: &(impl Abort + AllocGlobal), lab: &mut Lab<Serial>) {
     }
 }
 
+// A row is read, and the laboratory stays as it was.
+fn reading_leaves(rt: &impl Abort, lab: &mut Lab<Serial>) {
+    let before = view_of(rt, lab);
+    reads_an_empty_row(rt, &ask(rt, lab, 0, Command::Read(3)));
+    expect_same(&rt, view_of(rt, lab), before);
+}
+
+// So it does when an entry is asked for.
+fn entry_leaves(rt: &impl Abort, lab: &mut Lab<Serial>) {
+    let before = view_of(rt, lab);
+    let entries = lab.journal().len();
+    reads_the_entry(rt, &ask(rt, lab, 0, Command::Entry(0)), entries);
+    expect_same(&rt, view_of(rt, lab), before);
+}
+
+// And when it is copied.
+fn copy_leaves(rt: &impl Abort, lab: &Lab<Serial>) {
+    let before = view_of(rt, lab);
+    let tick = copied_tick(lab);
+    expect_that(&rt, tick.is_none() || tick == Some(0));
+    expect_same(&rt, view_of(rt, lab), before);
+}
+
 #[test]
 fn refused_readings_leave_the_laboratory(rt: HostRuntime) {
     if let Some(mut lab) = opened(&rt) {
         put_a_row(&rt, &mut lab);
-        let before = view_of(&rt, &lab);
-        let entries = lab.journal().len();
-        reads_an_empty_row(&rt, &ask(&rt, &mut lab, 0, Command::Read(3)));
-        expect_same(&rt, view_of(&rt, &lab), before);
-        let reply = ask(&rt, &mut lab, 0, Command::Entry(0));
-        reads_the_entry(&rt, &reply, entries);
-        expect_same(&rt, view_of(&rt, &lab), before);
-        let tick = copied_tick(&lab);
-        expect_that(&rt, tick.is_none() || tick == Some(0));
-        expect_same(&rt, view_of(&rt, &lab), before);
+        reading_leaves(&rt, &mut lab);
+        entry_leaves(&rt, &mut lab);
+        copy_leaves(&rt, &lab);
     }
 }
 
