@@ -17,12 +17,11 @@ use Rattle.bit_tile.proofs.Sums.{ones_are_bits, sum_below-zero, sum_below-more, 
 use Rattle.bit_tile.proofs.Counts.{class_count}
 use Rattle.bit_tile.proofs.Classes.{IsClass}
 use Rattle.gas_terms.specs.declared.accounts.Pair.{Pair}
-use Rattle.block_rule.specs.Around.{turned, none, either, is_walled_at, twice_momentum, taken}
+use Rattle.block_rule.specs.Around.{turned, none, either, is_walled_at, is_for_walls, twice_momentum, taken}
 use Rattle.block_rule.specs.Cell.{turned_cell, made}
 use Rattle.block_rule.specs.Classes.{class, AreCounts, IsHeldIn, AreWordsOf}
 use Rattle.block_rule.specs.Rows.{ShowsTile}
-use Rattle.block_rule.specs.Lent.{IsEmpty, IsSeenInside, IsSeenIn, IsSeen}
-use Rattle.block_rule.specs.declared.Window.{Window}
+use Rattle.block_rule.specs.Lent.{HasNoCell, IsLentOf, AreWalledCells}
 use Rattle.std.specs.Borrow.{Bor}
 use Rattle.block_rule.specs.declared.held.Classes.{Classes}
 use Rattle.block_rule.proofs.Around.{turned_by_cells, walled_from, walled_by_cells}
@@ -225,98 +224,64 @@ turned_of_both p tile free out window walls obstacles shows is_free is_out =
     (λ x y h k. is_free x y h k ∙ sym (turned_by_cells p window false x y))
     (λ x y h k. is_out x y h k ∙ ap (λ b. if b then has tile x y else has free x y) (sym (walled_either p walls obstacles x y)))
 
+pub walled_places : (p : ℕ) (t : Tile) (window : ℕ → ℕ → Bool) → HasCells t (λ x y. walled_from p window x y) → HasCells t (is_walled_at p window)
+walled_places p t window is x y h k = is x y h k ∙ sym (walled_by_cells p window x y)
+
+-- what is made of walls and obstacles: `cut` leaves the cells that only walls have
+pub walled_cells_are : (p : ℕ) (walls left others : Tile) (walled obstructed : ℕ → ℕ → Bool) → HasCells walls (λ x y. walled_from p walled x y) → HasCells others (λ x y. walled_from p obstructed x y)
+    → HasCells left (λ x y. has walls x y && not (has others x y)) → AreWalledCells p walled obstructed (record { walls = left; obstacles = others })
+walled_cells_are p walls left others walled obstructed is_walls is_others is_left =
+    record {
+      walls = λ x y h k. is_left x y h k ∙ ap₂ (λ a b. a && not b) (walled_places p walls walled is_walls x y h k) (walled_places p others obstructed is_others x y h k);
+      obstacles = walled_places p others obstructed is_others;
+    }
+
+-- what is lent of the cells that pass a test
+pub lent_cells : (lent : Option (Bor Tile)) (t : Bor Tile) (test : ℕ → ℕ → Bool) → lent ≡ Some t → IsLentOf lent test → HasCells t.now test
+lent_cells lent t test e is = subst (λ lent. IsLentOf lent test) e is
+
+pub nothing_lent : (lent : Option (Bor Tile)) (test : ℕ → ℕ → Bool) → lent ≡ None → IsLentOf lent test → HasNoCell test
+nothing_lent lent test e is = subst (λ lent. IsLentOf lent test) e is
+
+-- what is put back of them, and what it gives
+pub held_at : (tile before out places : Tile) (test : ℕ → ℕ → Bool) → HasCells places test → HasCells out (λ x y. if has places x y then has tile x y else has before x y)
+    → HasCells out (λ x y. if test x y then has tile x y else has before x y)
+held_at tile before out places test is_places is_out x y h k =
+    is_out x y h k ∙ ap (λ b. if b then has tile x y else has before x y) (is_places x y h k)
+
+pub took_at : (p : ℕ) (tile places : Tile) (test : ℕ → ℕ → Bool) → HasCells places test → twice_momentum p (λ x y. has tile x y && has places x y) ≡ twice_momentum p (λ x y. has tile x y && test x y)
+took_at p tile places test is_places = twice_momentum-same p _ _ (λ x y h k. ap (λ b. has tile x y && b) (is_places x y h k))
+
+kept_of : (w t f : Bool) → w ≡ false → f ≡ (if w then t else f)
+kept_of true t f e = cc
+kept_of false t f e = refl
+
+pub none_held : (tile before : Tile) (test : ℕ → ℕ → Bool) → HasNoCell test → HasCells before (λ x y. if test x y then has tile x y else has before x y)
+none_held tile before test none x y h k = kept_of (test x y) (has tile x y) (has before x y) (none x y h k)
+
+pub none_took : (p : ℕ) (tile : Tile) (test : ℕ → ℕ → Bool) → HasNoCell test → pair (pos 0) (pos 0) ≡ twice_momentum p (λ x y. has tile x y && test x y)
+none_took p tile test none = twice_momentum-none p _ (λ x y h k. and_false (has tile x y) (test x y) (none x y h k))
+
 -- what is put back in two goes
-pub held_twice : (w o t old first second : Bool) → first ≡ (if w && not o then t else old) → second ≡ (if o then t else first) → second ≡ (if w || o then t else old)
+held_twice : (w o t old first second : Bool) → first ≡ (if w && not o then t else old) → second ≡ (if o then t else first) → second ≡ (if w || o then t else old)
 held_twice true true t old first second e f = f
 held_twice true false t old first second e f = f ∙ e
 held_twice false true t old first second e f = f
 held_twice false false t old first second e f = f ∙ e
 
-pub joined_tests : (t w o : Bool) → (t && (w && not o)) ≡ (t && w && not o)
+joined_tests : (t w o : Bool) → (t && (w && not o)) ≡ (t && w && not o)
 joined_tests true w o = refl
 joined_tests false w o = refl
 
-none_of_four : (a b c d : Bool) → a ≡ false → b ≡ false → c ≡ false → d ≡ false → (a || b || c || d) ≡ false
-none_of_four a b c d e f g h = rw (e, f, g, h)
-
--- where a set has no cells no block is walled
-pub nothing_walled : (p : ℕ) (window : ℕ → ℕ → Bool) → IsEmpty window → (x y : ℕ) → is_walled_at p window x y ≡ false
-nothing_walled p window none x y = none_of_four _ _ _ _ (none _ _) (none _ _) (none _ _) (none _ _)
-
-pub walled_places : (p : ℕ) (t : Tile) (window : ℕ → ℕ → Bool) → HasCells t (λ x y. walled_from p window x y) → HasCells t (is_walled_at p window)
-walled_places p t window is x y h k = is x y h k ∙ sym (walled_by_cells p window x y)
-
--- what is lent of a set shows it
-pub seen_inside : (set : Option (Bor Tile)) (t : Bor Tile) (window : ℕ → ℕ → Bool) → set ≡ Some t → IsSeenInside set window → ShowsTile window t.now
-seen_inside set t window e seen = subst (λ set. IsSeenInside set window) e seen
-
-pub seen_in : (set : Option Window) (w : Window) (window : ℕ → ℕ → Bool) → set ≡ Some w → IsSeen set window → IsSeenIn w window
-seen_in set w window e seen = subst (λ set. IsSeen set window) e seen
-
-pub nothing_inside : (set : Option (Bor Tile)) (window : ℕ → ℕ → Bool) → set ≡ None → IsSeenInside set window → IsEmpty window
-nothing_inside set window e seen = subst (λ set. IsSeenInside set window) e seen
-
-pub nothing_seen : (set : Option Window) (window : ℕ → ℕ → Bool) → set ≡ None → IsSeen set window → IsEmpty window
-nothing_seen set window e seen = subst (λ set. IsSeen set window) e seen
-
--- what is put back, and what it gives, by the places of one set
-pub held_at : (p : ℕ) (tile before out places : Tile) (walled : ℕ → ℕ → Bool) → HasCells places (λ x y. walled_from p walled x y) → HasCells out (λ x y. if has places x y then has tile x y else has before x y)
-    → HasCells out (λ x y. if is_walled_at p walled x y then has tile x y else has before x y)
-held_at p tile before out places walled is_places is_out x y h k =
-    is_out x y h k ∙ ap (λ b. if b then has tile x y else has before x y) (walled_places p places walled is_places x y h k)
-
-pub took_at : (p : ℕ) (tile places : Tile) (walled : ℕ → ℕ → Bool) → HasCells places (λ x y. walled_from p walled x y) → twice_momentum p (λ x y. has tile x y && has places x y) ≡ twice_momentum p (λ x y. has tile x y && is_walled_at p walled x y)
-took_at p tile places walled is_places = twice_momentum-same p _ _ (λ x y h k. ap (λ b. has tile x y && b) (walled_places p places walled is_places x y h k))
-
--- the same with the places of two sets
-module _ (p : ℕ) (tile before first out walls left others : Tile) (walled obstructed : ℕ → ℕ → Bool) (is_walls : HasCells walls (λ x y. walled_from p walled x y)) (is_others : HasCells others (λ x y. walled_from p obstructed x y)) (is_left : HasCells left (λ x y. has walls x y && not (has others x y))) where
-  left_is : HasCells left (λ x y. is_walled_at p walled x y && not (is_walled_at p obstructed x y))
-  left_is x y h k = is_left x y h k ∙ ap₂ (λ a b. a && not b) (walled_places p walls walled is_walls x y h k) (walled_places p others obstructed is_others x y h k)
-
-  pub both_held : HasCells first (λ x y. if has left x y then has tile x y else has before x y) → HasCells out (λ x y. if has others x y then has tile x y else has first x y)
+module _ (p : ℕ) (tile before first out : Tile) (walled obstructed : ℕ → ℕ → Bool) where
+  pub both_held : HasCells first (λ x y. if is_for_walls p walled obstructed x y then has tile x y else has before x y) → HasCells out (λ x y. if is_walled_at p obstructed x y then has tile x y else has first x y)
       → HasCells out (λ x y. if is_walled_at p walled x y || is_walled_at p obstructed x y then has tile x y else has before x y)
   both_held is_first is_out x y h k =
-      held_twice (is_walled_at p walled x y) (is_walled_at p obstructed x y) (has tile x y) _ _ _
-      (is_first x y h k ∙ ap (λ b. if b then has tile x y else has before x y) (left_is x y h k))
-      (is_out x y h k ∙ ap (λ b. if b then has tile x y else has first x y) (walled_places p others obstructed is_others x y h k))
+      held_twice (is_walled_at p walled x y) (is_walled_at p obstructed x y) (has tile x y) _ _ _ (is_first x y h k) (is_out x y h k)
 
-  pub both_took : (a b : Pair) → a ≡ twice_momentum p (λ x y. has tile x y && has left x y) → b ≡ twice_momentum p (λ x y. has tile x y && has others x y) → (let r : Took = record { walls = a; obstacles = b } in r) ≡ taken p tile walled obstructed
-  both_took a b of_walls of_others =
+  pub both_took : (a b : Pair) → a ≡ twice_momentum p (λ x y. has tile x y && is_for_walls p walled obstructed x y) → b ≡ twice_momentum p (λ x y. has tile x y && is_walled_at p obstructed x y)
+      → (let r : Took = record { walls = a; obstacles = b } in r) ≡ taken p tile walled obstructed
+  both_took a b of_walls of_obstacles =
       accounts_same _ _ _ _
-      (of_walls ∙ twice_momentum-same p _ _ (λ x y h k. ap (λ b. has tile x y && b) (left_is x y h k) ∙ joined_tests (has tile x y) (is_walled_at p walled x y) (is_walled_at p obstructed x y)))
-      (of_others ∙ took_at p tile others obstructed is_others)
-
--- where one of the sets, or each, is not lent
-kept_of : (w : Bool) (t f : Bool) → w ≡ false → f ≡ (if w then t else f)
-kept_of true t f e = cc
-kept_of false t f e = refl
-
-or_no : (a b : Bool) → b ≡ false → (a || b) ≡ a
-or_no true b e = refl
-or_no false b e = e
-
-and_no : (t w o : Bool) → o ≡ false → (t && w) ≡ (t && w && not o)
-and_no true true o e = rw e
-and_no true false o e = refl
-and_no false w o e = refl
-
-module _ (p : ℕ) (tile before out : Tile) (walled obstructed : ℕ → ℕ → Bool) where
-  pub none_held : IsEmpty walled → IsEmpty obstructed → HasCells before (λ x y. if is_walled_at p walled x y || is_walled_at p obstructed x y then has tile x y else has before x y)
-  none_held w o x y h k = kept_of _ (has tile x y) (has before x y) (ap₂ (λ a b. a || b) (nothing_walled p walled w x y) (nothing_walled p obstructed o x y))
-
-  pub walls_held : IsEmpty obstructed → HasCells out (λ x y. if is_walled_at p walled x y then has tile x y else has before x y)
-      → HasCells out (λ x y. if is_walled_at p walled x y || is_walled_at p obstructed x y then has tile x y else has before x y)
-  walls_held o is x y h k = is x y h k ∙ ap (λ b. if b then has tile x y else has before x y) (sym (or_no (is_walled_at p walled x y) (is_walled_at p obstructed x y) (nothing_walled p obstructed o x y)))
-
-  pub obstacles_held : IsEmpty walled → HasCells out (λ x y. if is_walled_at p obstructed x y then has tile x y else has before x y)
-      → HasCells out (λ x y. if is_walled_at p walled x y || is_walled_at p obstructed x y then has tile x y else has before x y)
-  obstacles_held w is x y h k = is x y h k ∙ ap (λ b. if b || is_walled_at p obstructed x y then has tile x y else has before x y) (sym (nothing_walled p walled w x y))
-
-  pub no_walls_took : IsEmpty walled → pair (pos 0) (pos 0) ≡ twice_momentum p (λ x y. has tile x y && is_walled_at p walled x y && not (is_walled_at p obstructed x y))
-  no_walls_took w = twice_momentum-none p _ (λ x y h k. ap (λ b. b && not (is_walled_at p obstructed x y)) (and_false (has tile x y) (is_walled_at p walled x y) (nothing_walled p walled w x y)))
-
-  pub no_obstacles_took : IsEmpty obstructed → pair (pos 0) (pos 0) ≡ twice_momentum p (λ x y. has tile x y && is_walled_at p obstructed x y)
-  no_obstacles_took o = twice_momentum-none p _ (λ x y h k. and_false (has tile x y) (is_walled_at p obstructed x y) (nothing_walled p obstructed o x y))
-
-  pub walls_took : IsEmpty obstructed → twice_momentum p (λ x y. has tile x y && is_walled_at p walled x y) ≡ twice_momentum p (λ x y. has tile x y && is_walled_at p walled x y && not (is_walled_at p obstructed x y))
-  walls_took o = twice_momentum-same p _ _ (λ x y h k. and_no (has tile x y) (is_walled_at p walled x y) (is_walled_at p obstructed x y) (nothing_walled p obstructed o x y))
+      (of_walls ∙ twice_momentum-same p _ _ (λ x y h k. joined_tests (has tile x y) (is_walled_at p walled x y) (is_walled_at p obstructed x y)))
+      of_obstacles

@@ -4,8 +4,6 @@ pub mod Windows
 pub mod Took
 pub mod Blank
 pub mod Holding
-pub mod EvenWalls
-pub mod OddWalls
 pub mod Torus
 pub mod TorusTook
 pub mod Borders

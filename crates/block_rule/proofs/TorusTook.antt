@@ -16,7 +16,7 @@ use Rattle.gas_terms.specs.declared.accounts.Pair.{Pair}
 use Rattle.gas_terms.proofs.Cells.{has-cells_where}
 use Rattle.gas_terms.proofs.Blocks.{cell_walled}
 use Rattle.gas_terms.proofs.RectangleTotals.{total_in-parities}
-use Rattle.block_rule.specs.Around.{either, none, is_walled_at, twice_momentum, taken}
+use Rattle.block_rule.specs.Around.{either, none, is_walled_at, is_for_walls, twice_momentum, taken}
 use Rattle.block_rule.specs.Windows.{IsView, IsTilePlace, square, taken_in}
 use Rattle.block_rule.proofs.Blank.{walled_either}
 use Rattle.block_rule.proofs.Took.{pair_same, accounts_same, twice_momentum-same, twice_momentum-none, right_count, left_count, down_count, up_count}
@@ -82,30 +82,42 @@ momentum_same sums tick cells x0 y0 even_x even_y =
     ∙ ap₂ (λ c d. by_classes (parity tick) (parity_count cells (square x0 y0) 0 0) (parity_count cells (square x0 y0) 1 0) c d) (count 0 1) (count 1 1)
     ∙ sym (ap torus.twice_momentum (sums tick cells (square x0 y0)))
 
-stopped_of_walls : (t w o : Bool) (a b s : Bool) → t ≡ s → a ≡ (w || o) → b ≡ o → (t && w && not o) ≡ (s && (a && not b))
-stopped_of_walls t w o a b s ts aw bo = grind arith
+regroup : (t w o : Bool) → (t && w && not o) ≡ (t && (w && not o))
+regroup true w o = refl
+regroup false w o = refl
 
-stopped_of_obstacles : (t w o : Bool) (a b s : Bool) → t ≡ s → a ≡ (w || o) → b ≡ o → (t && o) ≡ (s && (a && b))
-stopped_of_obstacles t w o a b s ts aw bo = grind arith
+-- whether a tile's block takes for walls or obstacles is whether its site does
+for_walls : (w o : Bool) (a b : Bool) → a ≡ (w || o) → b ≡ o → (w && not o) ≡ (a && not b)
+for_walls w o a b aw bo = grind arith
+
+for_obstacles : (w o : Bool) (a b : Bool) → a ≡ (w || o) → b ≡ o → o ≡ (a && b)
+for_obstacles w o a b aw bo = grind arith
+
+module _ (made : MadeCells) (walled : CellsWalled) (p : ℕ) (two : p < 2) (particles walls obstacles : Cells) (x0 y0 : ℕ) (near_walls near_obstacles : ℕ → ℕ → Bool) (place : IsTilePlace particles walls obstacles x0 y0) (walls_view : IsView p near_walls walls x0 y0) (obstacles_view : IsView p near_obstacles obstacles x0 y0) (x y : ℕ) (in_row : x < 64) (in_column : y < 64) where
+  abbrev site : Site
+  site = site_of p particles.width particles.height (x0 + x) (y0 + y)
+
+  solid_same : is_walled (joined walls obstacles) site ≡ (is_walled_at p near_walls x y || is_walled_at p near_obstacles x y)
+  solid_same =
+      sym (walled_same walled p (either near_walls near_obstacles) (joined walls obstacles) particles.width particles.height x0 y0 x y two place.of_walls.wide place.of_walls.high (solid_view p particles walls obstacles x0 y0 near_walls near_obstacles place walls_view obstacles_view made) place.even_column place.even_row in_row in_column (omega (arith, place.right)) (omega (arith, place.bottom)))
+      ∙ walled_either p near_walls near_obstacles x y
+
+  obstructed_same : is_obstructed obstacles site ≡ is_walled_at p near_obstacles x y
+  obstructed_same =
+      sym (walled_same walled p near_obstacles obstacles particles.width particles.height x0 y0 x y two place.of_obstacles.wide place.of_obstacles.high obstacles_view place.even_column place.even_row in_row in_column (omega (arith, place.right)) (omega (arith, place.bottom)))
+
+  pub walls_take : is_for_walls p near_walls near_obstacles x y ≡ takes_for_walls walls obstacles site
+  walls_take = for_walls (is_walled_at p near_walls x y) (is_walled_at p near_obstacles x y) _ _ solid_same obstructed_same
+
+  pub obstacles_take : is_walled_at p near_obstacles x y ≡ takes_for_obstacles walls obstacles site
+  obstacles_take = for_obstacles (is_walled_at p near_walls x y) (is_walled_at p near_obstacles x y) _ _ solid_same obstructed_same
 
 module _ (made : MadeCells) (walled : CellsWalled) (sums : SumsByParities) (tick : ℤ) (tile : Tile) (particles walls obstacles : Cells) (x0 y0 : ℕ) (near_walls near_obstacles : ℕ → ℕ → Bool) (place : IsTilePlace particles walls obstacles x0 y0) (is_tile : HasCells tile (λ x y. plane.has particles (x0 + x) (y0 + y))) (walls_view : IsView (parity tick) near_walls walls x0 y0) (obstacles_view : IsView (parity tick) near_obstacles obstacles x0 y0) where
-  site_at : ℕ → ℕ → Site
-  site_at x y = site_of (parity tick) particles.width particles.height (x0 + x) (y0 + y)
-
   in_width : (x : ℕ) → x < 64 → x0 + x < particles.width
   in_width x h = omega (arith, place.right)
 
   in_height : (y : ℕ) → y < 64 → y0 + y < particles.height
   in_height y h = omega (arith, place.bottom)
-
-  solid_same : (x y : ℕ) → x < 64 → y < 64 → is_walled (joined walls obstacles) (site_of (parity tick) particles.width particles.height (x0 + x) (y0 + y)) ≡ (is_walled_at (parity tick) near_walls x y || is_walled_at (parity tick) near_obstacles x y)
-  solid_same x y in_row in_column =
-      sym (walled_same walled (parity tick) (either near_walls near_obstacles) (joined walls obstacles) particles.width particles.height x0 y0 x y (parity_below tick) place.of_walls.wide place.of_walls.high (solid_view (parity tick) particles walls obstacles x0 y0 near_walls near_obstacles place walls_view obstacles_view made) place.even_column place.even_row in_row in_column (in_width x in_row) (in_height y in_column))
-      ∙ walled_either (parity tick) near_walls near_obstacles x y
-
-  obstructed_same : (x y : ℕ) → x < 64 → y < 64 → is_obstructed obstacles (site_of (parity tick) particles.width particles.height (x0 + x) (y0 + y)) ≡ is_walled_at (parity tick) near_obstacles x y
-  obstructed_same x y in_row in_column =
-      sym (walled_same walled (parity tick) near_obstacles obstacles particles.width particles.height x0 y0 x y (parity_below tick) place.of_obstacles.wide place.of_obstacles.high obstacles_view place.even_column place.even_row in_row in_column (in_width x in_row) (in_height y in_column))
 
   made_same : (test : Site → Bool) (x y : ℕ) → x < 64 → y < 64 → plane.has (stopped (parity tick) particles test) (x0 + x) (y0 + y) ≡ (plane.has particles (x0 + x) (y0 + y) && test (site_of (parity tick) particles.width particles.height (x0 + x) (y0 + y)))
   made_same test x y in_row in_column =
@@ -115,15 +127,22 @@ module _ (made : MadeCells) (walled : CellsWalled) (sums : SumsByParities) (tick
   taken_is_taken_in =
       accounts_same _ _ _ _
       (twice_momentum-same (parity tick) _ _ (λ x y in_row in_column.
-      stopped_of_walls (has tile x y) (is_walled_at (parity tick) near_walls x y) (is_walled_at (parity tick) near_obstacles x y) _ _ _ (is_tile x y in_row in_column) (solid_same x y in_row in_column) (obstructed_same x y in_row in_column)
+      regroup (has tile x y) (is_walled_at (parity tick) near_walls x y) (is_walled_at (parity tick) near_obstacles x y)
+      ∙ ap₂ (λ a b. a && b) (is_tile x y in_row in_column) (walls_take made walled (parity tick) (parity_below tick) particles walls obstacles x0 y0 near_walls near_obstacles place walls_view obstacles_view x y in_row in_column)
       ∙ sym (made_same (takes_for_walls walls obstacles) x y in_row in_column))
       ∙ momentum_same sums tick (stopped (parity tick) particles (takes_for_walls walls obstacles)) x0 y0 place.even_column place.even_row)
       (twice_momentum-same (parity tick) _ _ (λ x y in_row in_column.
-      stopped_of_obstacles (has tile x y) (is_walled_at (parity tick) near_walls x y) (is_walled_at (parity tick) near_obstacles x y) _ _ _ (is_tile x y in_row in_column) (solid_same x y in_row in_column) (obstructed_same x y in_row in_column)
+      ap₂ (λ a b. a && b) (is_tile x y in_row in_column) (obstacles_take made walled (parity tick) (parity_below tick) particles walls obstacles x0 y0 near_walls near_obstacles place walls_view obstacles_view x y in_row in_column)
       ∙ sym (made_same (takes_for_obstacles walls obstacles) x y in_row in_column))
       ∙ momentum_same sums tick (stopped (parity tick) particles (takes_for_obstacles walls obstacles)) x0 y0 place.even_column place.even_row)
 
 -- by the laws of gas_terms
+pub sites_take : (p : ℕ) → p < 2 → (particles walls obstacles : Cells) (x0 y0 : ℕ) (near_walls near_obstacles : ℕ → ℕ → Bool) → IsTilePlace particles walls obstacles x0 y0 → IsView p near_walls walls x0 y0 → IsView p near_obstacles obstacles x0 y0 → (x y : ℕ) → x < 64 → y < 64 →
+    (is_for_walls p near_walls near_obstacles x y ≡ takes_for_walls walls obstacles (site_of p particles.width particles.height (x0 + x) (y0 + y)))
+    × (is_walled_at p near_obstacles x y ≡ takes_for_obstacles walls obstacles (site_of p particles.width particles.height (x0 + x) (y0 + y)))
+sites_take p two particles walls obstacles x0 y0 near_walls near_obstacles place walls_view obstacles_view x y h k =
+    (walls_take has-cells_where cell_walled p two particles walls obstacles x0 y0 near_walls near_obstacles place walls_view obstacles_view x y h k, obstacles_take has-cells_where cell_walled p two particles walls obstacles x0 y0 near_walls near_obstacles place walls_view obstacles_view x y h k)
+
 pub tiles_took : (tick : ℤ) (tile : Tile) (particles walls obstacles : Cells) (x0 y0 : ℕ) (near_walls near_obstacles : ℕ → ℕ → Bool) → IsTilePlace particles walls obstacles x0 y0 →
     HasCells tile (λ x y. plane.has particles (x0 + x) (y0 + y)) → IsView (parity tick) near_walls walls x0 y0 → IsView (parity tick) near_obstacles obstacles x0 y0 →
     taken (parity tick) tile near_walls near_obstacles ≡ taken_in tick particles walls obstacles (square x0 y0)

@@ -55,14 +55,3 @@ pub record IsBlankRow (t : Tile) (j : ℕ) : Type 0 where
   pub odd_even : slice_index t.odd_even j ≡ 0
   pub even_odd : slice_index t.even_odd j ≡ 0
   pub odd_odd : slice_index t.odd_odd j ≡ 0
-
--- row j of even blocks as one word: bit i is whether one of the corners of block i has a cell
-abbrev pub any_of_row : Tile → ℕ → ℕ
-any_of_row t j =
-    bit_or (bit_or (slice_index t.even_even j) (slice_index t.even_odd j)) (bit_or (slice_index t.odd_even j) (slice_index t.odd_odd j))
-
--- a row of odd blocks as two words, where the blocks begin in the window's row y: bit i is whether the one that begins in the
--- tile's odd column i, and whether the one that ends in its even column i, has a cell
-pub record AreWalls (window : ℕ → ℕ → Bool) (y begins ends : ℕ) : Type 0 where
-  pub begin : (i : ℕ) → i < 32 → bit begins i ≡ is_block_walled window (2 * i + 2) y
-  pub end : (i : ℕ) → i < 32 → bit ends i ≡ is_block_walled window (2 * i) y

@@ -289,6 +289,7 @@ impl Gas {
         let run = Run {
             walls,
             obstacles,
+            sites: None,
             parity,
             n,
             action,

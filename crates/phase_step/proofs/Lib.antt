@@ -8,6 +8,7 @@ pub mod MovedSums
 pub mod ActionParts
 pub mod PortedSteps
 pub mod TurnedTiles
+pub mod SitesInTiles
 pub mod PhaseSweeps
 pub mod TakenSums
 pub mod RunTakes

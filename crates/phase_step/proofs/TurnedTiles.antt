@@ -11,13 +11,13 @@ use Rattle.gas_plane.specs.Planes.{IsTileFrom, IsRingRound, IsBare, IsBareRound,
 use Rattle.block_rule.specs.Around.{around, none}
 use Rattle.tile_border.specs.Ring.{IsBorderOfRound}
 use Rattle.block_rule.specs.Windows.{IsView, IsWindow}
-use Rattle.block_rule.specs.Lent.{IsSeenInside, IsSeenIn, IsSeen}
+use Rattle.block_rule.specs.Lent.{IsSeenIn}
 use Rattle.block_rule.specs.declared.Window.{Window}
 use Rattle.tile_border.specs.declared.Round.{Round}
 use Rattle.tile_border.proofs.Making.{border_of_tiles}
 use Rattle.block_rule.proofs.Borders.{shows_tile, shows_round}
 use Rattle.block_rule.proofs.Torus.{window_is_view, inside_is_view}
-use Rattle.phase_step.specs.Turns.{IsWindowFrom, IsLentTile, IsLentWindow}
+use Rattle.phase_step.specs.Turns.{IsWindowFrom}
 use Rattle.phase_step.proofs.Rings.{window_is}
 
 -- a tile of a set of the same torus as another's
@@ -63,27 +63,9 @@ pub wall_view : (i : ℕ) (cells others : Cells) (t : Tile) (b : Border) → Has
 wall_view i cells others t b of right bottom from =
     inside_is_view t b cells (tile_rectangle others i).x (tile_rectangle others i).y (subst (λ w. (tile_rectangle others i).x + 64 ≤ w) (sym of.wide) right) (subst (λ h. (tile_rectangle others i).y + 64 ≤ h) (sym of.high) bottom) (tile_cells i cells others t of.wide from)
 
--- what is lent of a set shows a window, which is a view of the torus
-pub record SeenInside (lent : Option (Bor Tile)) (cells : Cells) (x0 y0 : ℕ) : Type 0 where
-  pub window : ℕ → ℕ → Bool
-  pub seen : IsSeenInside lent window
-  pub view : IsView 0 window cells x0 y0
-
-pub record Seen (lent : Option Window) (cells : Cells) (x0 y0 : ℕ) : Type 0 where
-  pub window : ℕ → ℕ → Bool
-  pub seen : IsSeen lent window
-  pub view : IsView 1 window cells x0 y0
-
 -- at even parity any border will do
 pub any_border : Border
 any_border = record { above = 0; below = 0; sides = [] }
-
-pub seen_inside : (i : ℕ) (cells others : Cells) (lent : Option (Bor Tile)) → HasSidesOf cells others → (tile_rectangle others i).x + 64 ≤ others.width → (tile_rectangle others i).y + 64 ≤ others.height
-    → IsLentTile cells i lent → SeenInside lent cells (tile_rectangle others i).x (tile_rectangle others i).y
-seen_inside i cells others None of right bottom bare =
-    record { window = none; seen = λ _ _. refl; view = bare_inside i cells others of right bottom bare }
-seen_inside i cells others (Some t) of right bottom from =
-    record { window = around t.now any_border; seen = shows_tile t.now any_border; view = wall_view i cells others t.now any_border of right bottom from }
 
 -- the border of the tiles that stand round a tile
 abbrev pub border_near : (r : Round) → (b : Border) × IsBorderOfRound b r
@@ -101,13 +83,6 @@ window_seen w =
     let b = (border_near w.round).0 in
     let r = w.round in
     record { tile = shows_tile w.tile.now b; round = shows_round w.tile.now b r.above.now r.below.now r.left.now r.right.now r.above_left.now r.above_right.now r.below_left.now r.below_right.now (border_near w.round).1 }
-
-pub seen_of : (i : ℕ) (cells others : Cells) (lent : Option Window) → HasSidesOf cells others → (tile_rectangle others i).x + 64 ≤ others.width → (tile_rectangle others i).y + 64 ≤ others.height
-    → IsLentWindow cells i lent → Seen lent cells (tile_rectangle others i).x (tile_rectangle others i).y
-seen_of i cells others None of right bottom bare =
-    record { window = none; seen = λ _ _. refl; view = bare_view 1 i cells others (omega arith) of.wide bare }
-seen_of i cells others (Some w) of right bottom from =
-    record { window = around w.tile.now (border_near w.round).0; seen = window_seen w; view = window_view i cells others w of.wide of.high right bottom from }
 
 -- where a set has no cell, nothing need be lent of it
 pub bare_tile : (i : ℕ) (cells others : Cells) → HasSidesOf cells others → (tile_rectangle others i).x + 64 ≤ others.width → (tile_rectangle others i).y + 64 ≤ others.height

@@ -25,11 +25,6 @@ abbrev pub IsLentTile : Cells → ℕ → Option (Bor Tile) → Type 0
 IsLentTile cells i lent =
     let r = tile_rectangle cells i in MatchOption lent (IsBare cells r.x r.y) (λ t. IsTileFrom t.now cells r.x r.y)
 
--- the same of the tile with those round it
-abbrev pub IsLentWindow : Cells → ℕ → Option Window → Type 0
-IsLentWindow cells i lent =
-    let r = tile_rectangle cells i in MatchOption lent (IsBareRound cells r.x r.y) (λ w. IsWindowFrom w cells r.x r.y)
-
 -- tile i of the particles is a place of the torus that they share with walls and obstacles
 abbrev pub IsPlaceOf : Cells → Cells → Cells → ℕ → Type 0
 IsPlaceOf particles walls obstacles i =

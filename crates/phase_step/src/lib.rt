@@ -1,16 +1,18 @@
 //! Steps of a gas. A `Stepper` makes a phase or a run of phases of a plane; `Serial` does it on the calling thread. An
 //! `Action` changes the particles after each phase of a run, as ports do.
 //!
-//! The program uses all of it.
+//! The program runs `Stepper::run_with`. `Stepper::phase`, `Stepper::run` and `turn_tile_at` are there for callers of the library.
 #![tactic(auto)]
 
 ghost use Rattle.std.specs.Prelude.{◌≡◌, ◌<◌};
+ghost use Rattle.std.specs.Option.{ForSome};
 ghost use Rattle.gas_terms.specs.Cells.{joined, tile_count, HasSidesOf};
 ghost use Rattle.gas_terms.specs.Gas.{streamed};
 ghost use Rattle.gas_terms.specs.Accounts.{taken};
 ghost use Rattle.gas_plane.specs.Planes.{IsLattice};
 ghost use Rattle.phase_step.specs.Runs.{parity_at, after, run_takes};
 ghost use Rattle.phase_step.specs.Actions.{after_with, flow_with};
+ghost use Rattle.phase_step.specs.WalledSites.{AreWalledSites};
 
 mod action;
 mod change;
@@ -20,6 +22,7 @@ mod later;
 pub mod laws;
 mod listed;
 mod moved;
+mod sites;
 mod solids;
 mod still;
 mod sweep;
@@ -34,6 +37,7 @@ use gas_terms::Took;
 pub use later::Later;
 pub use listed::Listed;
 pub use moved::{Flow, Moved, NO_FLOW, UNMOVED};
+pub use sites::{LONG_RUN, SitesOfParity, WalledSites};
 pub use solids::{Solids, are_none};
 use std::mem;
 pub use still::Still;
@@ -42,13 +46,37 @@ pub use sweep::{Own, turn_in_place};
 pub use tiles::turn_tile_at;
 
 /// A run of n phases in which particles meet these walls and obstacles, from the given parity on, with an action after each.
+/// The cells at walled sites may have been prepared for it.
 #[derive(Drop)]
 pub struct Run<'a, A: Action> {
     pub walls: &'a Plane,
     pub obstacles: &'a Plane,
+    pub sites: Option<&'a WalledSites>,
     pub parity: u8,
     pub n: u16,
     pub action: &'a A,
+    pub ghost prepared: { ForSome sites (λ s. AreWalledSites walls.now obstacles.now s.now) },
+}
+
+impl<'a, A: Action> Run<'a, A> {
+    /// The same run with the cells at walled sites.
+    pub fn prepared(self, sites: &'a WalledSites) -> Run<'a, A>
+        requires { AreWalledSites self.walls.now self.obstacles.now sites.now }
+        ensures walls { result.walls.now ≡ self.entry.walls.now }
+        ensures obstacles { result.obstacles.now ≡ self.entry.obstacles.now }
+        ensures phases { (result.parity ≡ self.entry.parity) × (result.n ≡ self.entry.n) }
+        ensures action { result.action.now ≡ self.entry.action.now }
+    {
+        let sites = Some(sites);
+        Run {
+            walls: self.walls,
+            obstacles: self.obstacles,
+            sites,
+            parity: self.parity,
+            n: self.n,
+            action: self.action,
+        }
+    }
 }
 
 /// What turns the blocks of a plane. A phase is always made: memory or threads that can't be had cost time alone. `Serial` takes no memory.
@@ -74,21 +102,21 @@ pub trait Stepper: Drop {
     fn phase_in_place(
         &mut self,
         particles: &mut Plane,
-        walls: &Plane,
-        obstacles: &Plane,
+        solids: Solids<'_>,
         parity: u8,
         spare: &mut Plane,
     ) -> Took
         requires parity { parity < 2 }
-        requires walls { HasSidesOf walls.now particles.old }
-        requires obstacles { HasSidesOf obstacles.now particles.old }
+        requires walls { HasSidesOf solids.walls.now particles.old }
+        requires obstacles { HasSidesOf solids.obstacles.now particles.old }
         requires spare { HasSidesOf spare.old particles.old }
-        ensures particles { particles.new ≡
-            streamed parity particles.old (joined walls.now obstacles.now) }
+        ensures particles { let s = solids.entry in
+            particles.new ≡ streamed parity particles.old (joined s.walls.now s.obstacles.now) }
         ensures spare { HasSidesOf spare.new particles.old }
-        ensures took { result ≡ taken parity particles.old walls.now obstacles.now }
+        ensures took { let s = solids.entry in
+            result ≡ taken parity particles.old s.walls.now s.obstacles.now }
     {
-        let took = self.phase(particles, walls, obstacles, parity, spare);
+        let took = self.phase(particles, solids.walls, solids.obstacles, parity, spare);
         mem::swap(particles, spare);
         took
     }
@@ -114,9 +142,11 @@ pub trait Stepper: Drop {
         ensures took { result ≡ run_takes parity walls.now obstacles.now particles.old n }
     {
         let action = &Still;
+        let solids = Solids::new(walls, obstacles);
         let run = Run {
-            walls,
-            obstacles,
+            walls: solids.walls,
+            obstacles: solids.obstacles,
+            sites: None,
             parity,
             n,
             action,
@@ -144,10 +174,16 @@ pub trait Stepper: Drop {
             flow_with r.parity r.walls.now r.obstacles.now (A.leaves r.action.now)
             particles.old r.n }
     {
+        let solids = Solids {
+            walls: run.walls,
+            obstacles: run.obstacles,
+            none: are_none(run.walls, run.obstacles),
+            sites: run.sites,
+        };
         let mut flow = NO_FLOW;
         for k in 0..run.n {
             let now = parity_at(run.parity, k);
-            let took = self.phase_in_place(particles, run.walls, run.obstacles, now, spare);
+            let took = self.phase_in_place(particles, solids, now, spare);
             let turn = run.action.after_phase(k);
             let moved = act_on(particles, &turn, 1 - now);
             flow = flow.plus(Flow { took, moved });
@@ -178,25 +214,19 @@ impl Stepper for Serial {
         parity: u8,
         out: &mut Plane,
     ) -> Took {
-        let none = are_none(walls, obstacles);
-        let solids = Solids {
-            walls,
-            obstacles,
-            none,
-        };
+        let solids = Solids::new(walls, obstacles);
         turn_each(old, solids, parity, all_of(old), out)
     }
 
     fn phase_in_place(
         &mut self,
         particles: &mut Plane,
-        walls: &Plane,
-        obstacles: &Plane,
+        solids: Solids<'_>,
         parity: u8,
         spare: &mut Plane,
     ) -> Took {
         let own = all_of(particles);
-        turn_in_place(particles, walls, obstacles, parity, own, spare)
+        turn_in_place(particles, solids, parity, own, spare)
     }
 }
 

@@ -1,11 +1,11 @@
-//! A phase on one thread, tile by tile.
+//! A phase on one thread, tile by tile: into another plane, or in place.
 
 ghost use Rattle.std.specs.Prelude.{◌≡◌, ◌-◌, ◌<◌, ◌≤◌, ◌⊎◌, IsTrue, false};
 ghost use Rattle.gas_terms.specs.Cells.{joined, tile_count, HasSidesOf};
 ghost use Rattle.gas_terms.specs.Gas.{streamed};
 ghost use Rattle.phase_step.specs.Runs.{tiles_take};
 
-use crate::solids::{Solids, are_none};
+use crate::solids::Solids;
 use crate::tiles::{NOTHING, turn_tile_at, turn_tile_in_place};
 use gas_plane::Plane;
 use gas_terms::Took;
@@ -112,39 +112,58 @@ fn turn_among(
 /// take of the particles in the plane's own tiles. The spare plane may be written to, and what it holds does not matter.
 pub fn turn_in_place(
     particles: &mut Plane,
-    walls: &Plane,
-    obstacles: &Plane,
+    solids: Solids<'_>,
     parity: u8,
     own: Own,
     spare: &mut Plane,
 ) -> Took
     requires parity { parity < 2 }
-    requires walls { HasSidesOf walls.now particles.old }
-    requires obstacles { HasSidesOf obstacles.now particles.old }
+    requires walls { HasSidesOf solids.walls.now particles.old }
+    requires obstacles { HasSidesOf solids.obstacles.now particles.old }
     requires own { (own.first ≤ own.end) × (own.end ≤ tile_count particles.old) }
     requires spare { HasSidesOf spare.old particles.old }
-    ensures particles { particles.new ≡
-        streamed parity particles.old (joined walls.now obstacles.now) }
+    ensures particles { let s = solids.entry in
+        particles.new ≡ streamed parity particles.old (joined s.walls.now s.obstacles.now) }
     ensures spare { HasSidesOf spare.new particles.old }
-    ensures took { result ≡
-        tiles_take parity particles.old walls.now obstacles.now own.first (own.end - own.first) }
+    ensures took { let s = solids.entry in
+        result ≡ tiles_take parity particles.old s.walls.now s.obstacles.now
+        own.first (own.end - own.first) }
 {
-    // one loop, compiled twice: once without the code for walls
-    if are_none(walls, obstacles) {
-        let none = true;
+    let Solids {
+        walls,
+        obstacles,
+        none,
+        sites,
+    } = solids;
+    // one loop, compiled three times: without walls, with prepared sites, and with walls that each tile asks for
+    if none {
         let solids = Solids {
             walls,
             obstacles,
-            none,
+            none: true,
+            sites: None,
         };
-        turn_among(particles, solids, parity, own, spare)
-    } else {
-        let none = false;
-        let solids = Solids {
-            walls,
-            obstacles,
-            none,
-        };
-        turn_among(particles, solids, parity, own, spare)
+        return turn_among(particles, solids, parity, own, spare);
+    }
+    let none = false;
+    match sites {
+        Some(sites) => {
+            let solids = Solids {
+                walls,
+                obstacles,
+                none,
+                sites: Some(sites),
+            };
+            turn_among(particles, solids, parity, own, spare)
+        }
+        None => {
+            let solids = Solids {
+                walls,
+                obstacles,
+                none,
+                sites: None,
+            };
+            turn_among(particles, solids, parity, own, spare)
+        }
     }
 }

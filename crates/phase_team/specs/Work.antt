@@ -6,6 +6,7 @@ use Rattle.claim_desk.specs.Draws.{times}
 use Rattle.gas_plane.specs.Planes.{IsLattice}
 use Rattle.phase_step.specs.Actions.{Leaves, after_with, flow_with, no_flow, flow_plus}
 use Rattle.phase_step.specs.Exchanges.{Areas, listed}
+use Rattle.phase_step.specs.WalledSites.{AllHaveSidesOf}
 use Rattle.phase_step.specs.declared.moved.Flow.{Flow}
 use Rattle.phase_team.specs.Strips.{IsStrip, shift_of}
 use Rattle.phase_team.specs.ActionStrips.{tiles_flow}
@@ -41,6 +42,7 @@ pub record IsOf (size : Extent) (s : Strip) : Type 0 where
   pub spare : HasSidesOf s.spare s.cells
   pub walls : HasSidesOf s.walls s.cells
   pub obstacles : HasSidesOf s.obstacles s.cells
+  pub sites : AllHaveSidesOf s.sites s.cells
   pub inside : s.first + s.rows ≤ size.height / 64
   pub some : 0 < s.rows
 

@@ -3,6 +3,7 @@
 ghost use Rattle.std.specs.Prelude.{◌≡◌, ℕ, ◌+◌, ◌-◌, ◌*◌, ◌/◌, ◌%◌, ◌^◌, ◌<◌, ◌≤◌, IfOk, IsTrue, false};
 ghost use Rattle.gas_terms.specs.Cells.{joined, tile_count, HasSidesOf};
 ghost use Rattle.gas_plane.specs.Planes.{IsLattice};
+ghost use Rattle.phase_step.specs.WalledSites.{AllHaveSidesOf, HaveExtent};
 ghost use Rattle.phase_step.specs.Actions.{acted, after_with};
 ghost use Rattle.phase_step.specs.Exchanges.{leaves_of, listed};
 ghost use Rattle.phase_team.specs.Strips.{window, shift_of};
@@ -13,8 +14,8 @@ use crate::course::Course;
 use gas_plane::Plane;
 use gas_terms::{NoMemory, Size};
 use phase_step::{
-    Action, Exchange, Flow, Listed, Moved, NO_FLOW, Own, UNMOVED, change_of, parity_at,
-    turn_in_place,
+    Action, Exchange, Flow, LONG_RUN, Listed, Moved, NO_FLOW, Own, Solids, UNMOVED, WalledSites,
+    are_none, change_of, parity_at, turn_in_place,
 };
 use std::alloc::Global;
 
@@ -29,6 +30,7 @@ pub struct Strip {
     pub spare: Plane,
     pub walls: Plane,
     pub obstacles: Plane,
+    pub sites: WalledSites,
     pub flow: Flow,
 }
 
@@ -119,10 +121,42 @@ struct Plan<'a> {
 }
 
 // Makes the plan on a strip as a torus of its own: what it comes to in the strip's own tiles.
-fn make(
+fn make(plan: Plan<'_>, solids: Solids<'_>, cells: &mut Plane, spare: &mut Plane) -> Flow
+    requires parity { plan.parity < 2 }
+    requires phases { plan.n ≤ 64 }
+    requires down { (plan.first < plan.down) × (plan.down ≤ 64) }
+    requires lattice { IsLattice cells.old }
+    requires rows { 2 ≤ cells.old.height / 64 }
+    requires walls { HasSidesOf solids.walls.now cells.old }
+    requires obstacles { HasSidesOf solids.obstacles.now cells.old }
+    requires spare { HasSidesOf spare.old cells.old }
+    ensures cells { let p = plan.entry in let s = solids.entry in cells.new ≡
+        after_with p.parity (joined s.walls.now s.obstacles.now)
+        (all_there (listed p.turns.now) p.first p.down) cells.old p.n }
+    ensures spare { HasSidesOf spare.new cells.old }
+    ensures flow { let p = plan.entry in let s = solids.entry in result ≡
+        own_flow p.parity s.walls.now s.obstacles.now
+        (all_there (listed p.turns.now) p.first p.down) cells.old p.n }
+{
+    let action = Listed { turns: plan.turns };
+    let mut flow = NO_FLOW;
+    for k in 0..plan.n {
+        let now = parity_at(plan.parity, k);
+        let own = own_tiles(cells);
+        let took = turn_in_place(cells, solids, now, own, spare);
+        let turn = action.after_phase(k);
+        let moved = act_on_strip(cells, &turn, plan.first, plan.down, 1 - now);
+        flow = flow.plus(Flow { took, moved });
+    }
+    flow
+}
+
+// The same, where a long plan has the cells at walled sites prepared first.
+fn make_prepared(
     plan: Plan<'_>,
     walls: &Plane,
     obstacles: &Plane,
+    sites: &mut WalledSites,
     cells: &mut Plane,
     spare: &mut Plane,
 ) -> Flow
@@ -133,26 +167,24 @@ fn make(
     requires rows { 2 ≤ cells.old.height / 64 }
     requires walls { HasSidesOf walls.now cells.old }
     requires obstacles { HasSidesOf obstacles.now cells.old }
+    requires sites { AllHaveSidesOf sites.old cells.old }
     requires spare { HasSidesOf spare.old cells.old }
     ensures cells { let p = plan.entry in cells.new ≡
         after_with p.parity (joined walls.now obstacles.now)
         (all_there (listed p.turns.now) p.first p.down) cells.old p.n }
+    ensures sites { AllHaveSidesOf sites.new cells.old }
     ensures spare { HasSidesOf spare.new cells.old }
     ensures flow { let p = plan.entry in result ≡
         own_flow p.parity walls.now obstacles.now
         (all_there (listed p.turns.now) p.first p.down) cells.old p.n }
 {
-    let action = Listed { turns: plan.turns };
-    let mut flow = NO_FLOW;
-    for k in 0..plan.n {
-        let now = parity_at(plan.parity, k);
-        let own = own_tiles(cells);
-        let took = turn_in_place(cells, walls, obstacles, now, own, spare);
-        let turn = action.after_phase(k);
-        let moved = act_on_strip(cells, &turn, plan.first, plan.down, 1 - now);
-        flow = flow.plus(Flow { took, moved });
+    if plan.n < LONG_RUN || are_none(walls, obstacles) {
+        let solids = Solids::new(walls, obstacles);
+        return make(plan, solids, cells, spare);
     }
-    flow
+    sites.prepare(walls, obstacles);
+    let solids = Solids::prepared(walls, obstacles, sites);
+    make(plan, solids, cells, spare)
 }
 
 impl Strip {
@@ -161,7 +193,7 @@ impl Strip {
         ensures { IfOk result (λ s. (s.first ≡ 0) × (s.rows ≡ rows)
             × (s.cells.width ≡ size.width) × (s.cells.height ≡ size.height)
             × HasSidesOf s.spare s.cells × HasSidesOf s.walls s.cells
-            × HasSidesOf s.obstacles s.cells) }
+            × HasSidesOf s.obstacles s.cells × HaveExtent s.sites size) }
     {
         Ok(Strip {
             number: 0,
@@ -171,6 +203,7 @@ impl Strip {
             spare: Plane::empty(alloc, size)?,
             walls: Plane::empty(alloc, size)?,
             obstacles: Plane::empty(alloc, size)?,
+            sites: WalledSites::empty(alloc, size)?,
             flow: NO_FLOW,
         })
     }
@@ -190,6 +223,7 @@ impl Strip {
             spare,
             walls,
             obstacles,
+            sites,
             flow,
         } = self;
         load(cells, course.cells, *first);
@@ -203,6 +237,6 @@ impl Strip {
             first: *first,
             down,
         };
-        *flow = make(plan, walls, obstacles, cells, spare);
+        *flow = make_prepared(plan, walls, obstacles, sites, cells, spare);
     }
 }

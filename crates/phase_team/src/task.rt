@@ -20,6 +20,7 @@ impl Task<'_> {
             walls: self.walls,
             obstacles: self.obstacles,
             none: self.none,
+            sites: None,
         };
         turn_tile_at(self.old, solids, self.parity, self.old.position(i), out)
     }

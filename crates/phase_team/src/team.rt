@@ -6,6 +6,7 @@ ghost use Rattle.gas_terms.specs.Cells.{joined, tile_count, HasSidesOf};
 ghost use Rattle.gas_terms.specs.Gas.{streamed};
 ghost use Rattle.gas_terms.specs.Accounts.{taken};
 ghost use Rattle.phase_step.specs.Actions.{after_with, flow_with};
+ghost use Rattle.phase_step.specs.WalledSites.{HaveExtent};
 ghost use Rattle.claim_desk.specs.Desk.{fresh};
 ghost use Rattle.phase_team.specs.Teamwork.{IsReady, HasWorked, HasTurned, IsRight, IsRoom, AreTurned, StayTurned};
 ghost use Rattle.phase_team.specs.Teamwork.{HasDrawnAll, HaveDrawn, cells_after, taken_in_all, drawn};
@@ -16,8 +17,8 @@ use crate::runs::{LeastRun, Strips, USUAL, is_worth_strips, run_by, strips_for};
 use crate::worker::{NOTHING, Turned, Worker, work_on};
 use claim_desk::{Desk, DeskSeat};
 use gas_plane::Plane;
-use gas_terms::Took;
-use phase_step::{Action, Flow, Run, Serial, Stepper, are_none};
+use gas_terms::{Size, Took};
+use phase_step::{Action, Flow, LONG_RUN, Run, Serial, Stepper, WalledSites, are_none};
 use std::alloc::Global;
 use std::marker::Model;
 use std::thread;
@@ -204,6 +205,7 @@ pub struct Team<R: Threads + Drop, G: Gate + Drop> {
     gate: G,
     rooms: Vec<Vec<Turned>>,
     strips: Option<Strips>,
+    sites: Option<WalledSites>,
     least: LeastRun,
 }
 
@@ -239,6 +241,7 @@ impl<R: Threads + Drop, G: Gate + Drop> Team<R, G> {
             gate,
             rooms: Vec::new(alloc),
             strips: None,
+            sites: None,
             least,
         }
     }
@@ -334,20 +337,68 @@ impl<R: Threads + Drop> Stepper for Team<R, NoGate> {
         spare: &mut Plane,
     ) -> Flow {
         let size = particles.size();
-        if !is_worth_strips(self.least, size, self.workers, run.n) {
-            return Serial.run_with(particles, run, spare);
-        }
         let (alloc, workers) = (self.alloc, self.workers);
         let Team {
             rt,
             strips: kept,
+            sites,
             ..
         } = self;
+        if !is_worth_strips(self.least, size, workers, run.n) {
+            return run_alone(sites, alloc, particles, run, spare);
+        }
         let Some(mut strips) = strips_for(kept, alloc, size, workers) else {
-            return Serial.run_with(particles, run, spare);
+            return run_alone(sites, alloc, particles, run, spare);
         };
         let flow = run_by(rt, &mut strips, particles, run, spare);
         *kept = Some(strips);
         flow
     }
+}
+
+// A run on the calling thread. Where it is long, the cells at walled sites are prepared first, if there is memory for them.
+fn run_alone<A: Action>(
+    kept: &mut Option<WalledSites>,
+    alloc: Global,
+    particles: &mut Plane,
+    run: Run<'_, A>,
+    spare: &mut Plane,
+) -> Flow
+    requires parity { run.parity < 2 }
+    requires walls { HasSidesOf run.walls.now particles.old }
+    requires obstacles { HasSidesOf run.obstacles.now particles.old }
+    requires spare { HasSidesOf spare.old particles.old }
+    ensures particles { let r = run.entry in particles.new ≡
+        after_with r.parity (joined r.walls.now r.obstacles.now) (A.leaves r.action.now)
+        particles.old r.n }
+    ensures spare { HasSidesOf spare.new particles.old }
+    ensures flow { let r = run.entry in result ≡
+        flow_with r.parity r.walls.now r.obstacles.now (A.leaves r.action.now) particles.old r.n }
+{
+    if run.n < LONG_RUN || are_none(run.walls, run.obstacles) {
+        return Serial.run_with(particles, run, spare);
+    }
+    let Some(mut sites) = sites_for(kept, alloc, particles.size()) else {
+        return Serial.run_with(particles, run, spare);
+    };
+    sites.prepare(run.walls, run.obstacles);
+    let flow = Serial.run_with(particles, run.prepared(&sites), spare);
+    *kept = Some(sites);
+    flow
+}
+
+// the room of the last run, where it is for a lattice of this size, or else new room
+fn sites_for(
+    kept: &mut Option<WalledSites>,
+    alloc: Global,
+    size: Size,
+) -> Option<WalledSites>
+    ensures { IfSome result (λ sites. HaveExtent sites size) }
+{
+    if let Some(sites) = kept.take() {
+        if sites.fits(size) {
+            return Some(sites);
+        }
+    }
+    WalledSites::empty(alloc, size).ok()
 }

@@ -33,4 +33,13 @@ turn_tile_in_place-requires c =
     record { walls = walls; obstacles = obstacles; place = place }
 
 pub turn_odd-requires : goal.turn_odd-requires
-turn_odd-requires c = record { tile = c.requires.tile; position = c.requires.position; place = place_is c.args.old.now c.args.solids.walls.now c.args.solids.obstacles.now c.args.at.tile c.requires.lattice.sized c.requires.tile c.requires.walls c.requires.obstacles }
+turn_odd-requires c =
+    let (walls, obstacles, solid) = solid_place c.args.old.now c.args.solids.walls.now c.args.solids.obstacles.now c.args.at.tile c.requires.lattice.sized c.requires.tile c.requires.walls c.requires.obstacles in
+    record {
+      tile = c.requires.tile;
+      position = c.requires.position;
+      place = place_is c.args.old.now c.args.solids.walls.now c.args.solids.obstacles.now c.args.at.tile c.requires.lattice.sized c.requires.tile c.requires.walls c.requires.obstacles;
+      walls = walls;
+      obstacles = obstacles;
+      solid = solid;
+    }

@@ -44,6 +44,7 @@ returns-clause-strip c =
         spare = has.strip.spare;
         walls = has.strip.walls;
         obstacles = has.strip.obstacles;
+        sites = has.strip.sites;
         inside = omega (arith, first, has.height, inside);
         some = has.strip.some;
       };

@@ -15,28 +15,28 @@ loop-k-init c = record { cells = refl; spare = c.requires.spare; flow = refl }
 pub turn_in_place-took-requires-clause-walls : goal.turn_in_place-took-requires-clause-walls
 turn_in_place-took-requires-clause-walls c =
     let plan = c.args.plan in
-    sides_as_with plan.parity (joined c.args.walls.now c.args.obstacles.now) (all_there (listed plan.turns.now) plan.first plan.down) c.args.cells.now c.loop-k.cells c.args.walls.now c.loop-k.k c.loop-k.invariant.cells c.requires.walls
+    sides_as_with plan.parity (joined c.args.solids.walls.now c.args.solids.obstacles.now) (all_there (listed plan.turns.now) plan.first plan.down) c.args.cells.now c.loop-k.cells c.args.solids.walls.now c.loop-k.k c.loop-k.invariant.cells c.requires.walls
 
 pub turn_in_place-took-requires-clause-obstacles : goal.turn_in_place-took-requires-clause-obstacles
 turn_in_place-took-requires-clause-obstacles c =
     let plan = c.args.plan in
-    sides_as_with plan.parity (joined c.args.walls.now c.args.obstacles.now) (all_there (listed plan.turns.now) plan.first plan.down) c.args.cells.now c.loop-k.cells c.args.obstacles.now c.loop-k.k c.loop-k.invariant.cells c.requires.obstacles
+    sides_as_with plan.parity (joined c.args.solids.walls.now c.args.solids.obstacles.now) (all_there (listed plan.turns.now) plan.first plan.down) c.args.cells.now c.loop-k.cells c.args.solids.obstacles.now c.loop-k.k c.loop-k.invariant.cells c.requires.obstacles
 
 pub turn_in_place-took-requires-clause-spare : goal.turn_in_place-took-requires-clause-spare
 turn_in_place-took-requires-clause-spare c =
     let plan = c.args.plan in
-    sides_as_with plan.parity (joined c.args.walls.now c.args.obstacles.now) (all_there (listed plan.turns.now) plan.first plan.down) c.args.cells.now c.loop-k.cells c.loop-k.spare c.loop-k.k c.loop-k.invariant.cells c.loop-k.invariant.spare
+    sides_as_with plan.parity (joined c.args.solids.walls.now c.args.solids.obstacles.now) (all_there (listed plan.turns.now) plan.first plan.down) c.args.cells.now c.loop-k.cells c.loop-k.spare c.loop-k.k c.loop-k.invariant.cells c.loop-k.invariant.spare
 
 pub own_tiles-own-requires : goal.own_tiles-own-requires
 own_tiles-own-requires c =
     let plan = c.args.plan in
-    record { rows = rows_with plan.parity (joined c.args.walls.now c.args.obstacles.now) (all_there (listed plan.turns.now) plan.first plan.down) c.args.cells.now c.loop-k.cells c.loop-k.k c.loop-k.invariant.cells c.requires.rows }
+    record { rows = rows_with plan.parity (joined c.args.solids.walls.now c.args.solids.obstacles.now) (all_there (listed plan.turns.now) plan.first plan.down) c.args.cells.now c.loop-k.cells c.loop-k.k c.loop-k.invariant.cells c.requires.rows }
 
 pub act_on_strip-moved-requires-clause-rows : goal.act_on_strip-moved-requires-clause-rows
 act_on_strip-moved-requires-clause-rows c =
     let plan = c.args.plan in
     subst (λ (d : Cells). 2 ≤ d.height / 64) (sym c.turn_in_place-took.ensures.particles)
-    (rows_with plan.parity (joined c.args.walls.now c.args.obstacles.now) (all_there (listed plan.turns.now) plan.first plan.down) c.args.cells.now c.loop-k.cells c.loop-k.k c.loop-k.invariant.cells c.requires.rows)
+    (rows_with plan.parity (joined c.args.solids.walls.now c.args.solids.obstacles.now) (all_there (listed plan.turns.now) plan.first plan.down) c.args.cells.now c.loop-k.cells c.loop-k.k c.loop-k.invariant.cells c.requires.rows)
 
 pub plus-flow-requires : goal.plus-flow-requires
 plus-flow-requires c =
@@ -44,9 +44,9 @@ plus-flow-requires c =
     let here : Flow = record { took = c.turn_in_place-took.result; moved = c.act_on_strip-moved.result } in
     let leaves = all_there (listed plan.turns.now) plan.first plan.down in
     let few = few_tiles c.args.cells.now (tile_count c.args.cells.now) c.requires.lattice (omega arith) in
-    own_flow_fits plan.parity c.args.walls.now c.args.obstacles.now leaves c.args.cells.now (c.args.cells.now.width / 64) (tile_count c.args.cells.now - 2 * (c.args.cells.now.width / 64)) c.loop-k.k c.loop-k.cells c.turn_in_place-took.new.particles c.act_on_strip-moved.new.strip c.loop-k.flow here
-    (own_phase plan.parity c.parity_at-now.result plan.first plan.down c.loop-k.k c.args.walls.now c.args.obstacles.now (listed plan.turns.now) (leaves_of c.after_phase-turn.result) c.args.cells.now c.loop-k.cells c.turn_in_place-took.new.particles c.act_on_strip-moved.new.strip here
-    c.requires.parity c.loop-k.invariant.cells c.parity_at-now.ensures.parity c.turn_in_place-took.ensures.particles (c.turn_in_place-took.ensures.took ∙ ap₂ (tiles_take c.parity_at-now.result c.loop-k.cells c.args.walls.now c.args.obstacles.now) c.own_tiles-own.ensures.first c.own_tiles-own.ensures.count) c.act_on_strip-moved.ensures.cells c.after_phase-turn.ensures c.act_on_strip-moved.ensures.moved)
+    own_flow_fits plan.parity c.args.solids.walls.now c.args.solids.obstacles.now leaves c.args.cells.now (c.args.cells.now.width / 64) (tile_count c.args.cells.now - 2 * (c.args.cells.now.width / 64)) c.loop-k.k c.loop-k.cells c.turn_in_place-took.new.particles c.act_on_strip-moved.new.strip c.loop-k.flow here
+    (own_phase plan.parity c.parity_at-now.result plan.first plan.down c.loop-k.k c.args.solids.walls.now c.args.solids.obstacles.now (listed plan.turns.now) (leaves_of c.after_phase-turn.result) c.args.cells.now c.loop-k.cells c.turn_in_place-took.new.particles c.act_on_strip-moved.new.strip here
+    c.requires.parity c.loop-k.invariant.cells c.parity_at-now.ensures.parity c.turn_in_place-took.ensures.particles (c.turn_in_place-took.ensures.took ∙ ap₂ (tiles_take c.parity_at-now.result c.loop-k.cells c.args.solids.walls.now c.args.solids.obstacles.now) c.own_tiles-own.ensures.first c.own_tiles-own.ensures.count) c.act_on_strip-moved.ensures.cells c.after_phase-turn.ensures c.act_on_strip-moved.ensures.moved)
     c.loop-k.invariant.flow (omega (arith, few)) (let h = c.requires.phases in omega arith)
 
 pub loop-k-preserved : goal.loop-k-preserved
@@ -56,10 +56,10 @@ loop-k-preserved c =
     let leaves = all_there (listed plan.turns.now) plan.first plan.down in
     let a = c.args.cells.now.width / 64 in
     let n = tile_count c.args.cells.now - 2 * (c.args.cells.now.width / 64) in
-    let made = own_phase plan.parity c.parity_at-now.result plan.first plan.down c.loop-k.k c.args.walls.now c.args.obstacles.now (listed plan.turns.now) (leaves_of c.after_phase-turn.result) c.args.cells.now c.loop-k.cells c.turn_in_place-took.new.particles c.act_on_strip-moved.new.strip here
-    c.requires.parity c.loop-k.invariant.cells c.parity_at-now.ensures.parity c.turn_in_place-took.ensures.particles (c.turn_in_place-took.ensures.took ∙ ap₂ (tiles_take c.parity_at-now.result c.loop-k.cells c.args.walls.now c.args.obstacles.now) c.own_tiles-own.ensures.first c.own_tiles-own.ensures.count) c.act_on_strip-moved.ensures.cells c.after_phase-turn.ensures c.act_on_strip-moved.ensures.moved in
+    let made = own_phase plan.parity c.parity_at-now.result plan.first plan.down c.loop-k.k c.args.solids.walls.now c.args.solids.obstacles.now (listed plan.turns.now) (leaves_of c.after_phase-turn.result) c.args.cells.now c.loop-k.cells c.turn_in_place-took.new.particles c.act_on_strip-moved.new.strip here
+    c.requires.parity c.loop-k.invariant.cells c.parity_at-now.ensures.parity c.turn_in_place-took.ensures.particles (c.turn_in_place-took.ensures.took ∙ ap₂ (tiles_take c.parity_at-now.result c.loop-k.cells c.args.solids.walls.now c.args.solids.obstacles.now) c.own_tiles-own.ensures.first c.own_tiles-own.ensures.count) c.act_on_strip-moved.ensures.cells c.after_phase-turn.ensures c.act_on_strip-moved.ensures.moved in
     record {
-      cells = own_next plan.parity c.args.walls.now c.args.obstacles.now leaves c.args.cells.now a n c.loop-k.k c.loop-k.cells c.turn_in_place-took.new.particles c.act_on_strip-moved.new.strip here made;
-      spare = sides_at_start plan.parity (joined c.args.walls.now c.args.obstacles.now) leaves c.args.cells.now c.loop-k.cells c.turn_in_place-took.new.spare c.loop-k.k c.loop-k.invariant.cells c.turn_in_place-took.ensures.spare;
-      flow = c.plus-flow.ensures ∙ own_flow_next plan.parity c.args.walls.now c.args.obstacles.now leaves c.args.cells.now a n c.loop-k.k c.loop-k.cells c.turn_in_place-took.new.particles c.act_on_strip-moved.new.strip c.loop-k.flow here made c.loop-k.invariant.flow;
+      cells = own_next plan.parity c.args.solids.walls.now c.args.solids.obstacles.now leaves c.args.cells.now a n c.loop-k.k c.loop-k.cells c.turn_in_place-took.new.particles c.act_on_strip-moved.new.strip here made;
+      spare = sides_at_start plan.parity (joined c.args.solids.walls.now c.args.solids.obstacles.now) leaves c.args.cells.now c.loop-k.cells c.turn_in_place-took.new.spare c.loop-k.k c.loop-k.invariant.cells c.turn_in_place-took.ensures.spare;
+      flow = c.plus-flow.ensures ∙ own_flow_next plan.parity c.args.solids.walls.now c.args.solids.obstacles.now leaves c.args.cells.now a n c.loop-k.k c.loop-k.cells c.turn_in_place-took.new.particles c.act_on_strip-moved.new.strip c.loop-k.flow here made c.loop-k.invariant.flow;
     }

@@ -7,7 +7,7 @@ use Rattle.phase_team.proofs.strip.make.Given as goal
 
 abbrev pub invariant-loop-k : goal.invariant-loop-k
 invariant-loop-k l = record {
-  cells : l.cells ≡ after_with l.plan.parity (joined l.walls l.obstacles) (all_there (listed l.plan.turns.now) l.plan.first l.plan.down) l.initial.cells l.k;
+  cells : l.cells ≡ after_with l.plan.parity (joined l.solids.walls.now l.solids.obstacles.now) (all_there (listed l.plan.turns.now) l.plan.first l.plan.down) l.initial.cells l.k;
   spare : HasSidesOf l.spare l.initial.cells;
-  flow : l.flow ≡ own_flow l.plan.parity l.walls l.obstacles (all_there (listed l.plan.turns.now) l.plan.first l.plan.down) l.initial.cells l.k;
+  flow : l.flow ≡ own_flow l.plan.parity l.solids.walls.now l.solids.obstacles.now (all_there (listed l.plan.turns.now) l.plan.first l.plan.down) l.initial.cells l.k;
 }

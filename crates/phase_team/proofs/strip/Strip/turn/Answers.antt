@@ -2,6 +2,7 @@ use Rattle.std.proofs.Common.{◌≡◌, ℕ, ◌+◌, ◌*◌, ◌/◌, sym, ap
 use Rattle.gas_terms.specs.Cells.{Cells, Extent, joined}
 use Rattle.phase_step.specs.Actions.{Leaves, after_with}
 use Rattle.phase_step.proofs.ActionRuns.{sides_with}
+use Rattle.phase_step.proofs.SitesInTiles.{all_sides_as}
 use Rattle.phase_team.specs.Strips.{IsStrip, window, shift_of}
 use Rattle.phase_team.specs.ActionStrips.{shifted_all, own_flow, tiles_flow}
 use Rattle.phase_team.proofs.Turned.{own_count, window_as, same_sides}
@@ -35,26 +36,27 @@ returns-clause-done c =
     let acts = acts_are cells leaves first c.from-down.result sized down in
     let turns = shifted_all leaves shift cells.height in
     let solid = joined (window walls shift h) (window obstacles shift h) in
-    let made : c.make.new.cells ≡ after_with course.parity solid turns (window cells shift h) course.phases =
-    c.make.ensures.cells
+    let made : c.make_prepared.new.cells ≡ after_with course.parity solid turns (window cells shift h) course.phases =
+    c.make_prepared.ensures.cells
     ∙ (ap (λ (acts : ℕ → Leaves). after_with course.parity (joined hw ho) acts sc course.phases) acts
     ∙ ap₂ (λ (s d : Cells). after_with course.parity s turns d course.phases) solid_is sc_is) in
     let sides = sides_with course.parity solid turns (window cells shift h) course.phases in
-    let wide : c.make.new.cells.width ≡ cells.width = ap (λ (d : Cells). d.width) made ∙ sides.wide in
-    let high : c.make.new.cells.height ≡ h = ap (λ (d : Cells). d.height) made ∙ sides.high in
+    let wide : c.make_prepared.new.cells.width ≡ cells.width = ap (λ (d : Cells). d.width) made ∙ sides.wide in
+    let high : c.make_prepared.new.cells.height ≡ h = ap (λ (d : Cells). d.height) made ∙ sides.high in
     record {
       of_course = record {
         wide = wide;
         high = high;
-        spare = record { wide = c.make.ensures.spare.wide ∙ (ap (λ (d : Cells). d.width) sc_is ∙ sym wide); high = c.make.ensures.spare.high ∙ (ap (λ (d : Cells). d.height) sc_is ∙ sym high) };
+        spare = record { wide = c.make_prepared.ensures.spare.wide ∙ (ap (λ (d : Cells). d.width) sc_is ∙ sym wide); high = c.make_prepared.ensures.spare.high ∙ (ap (λ (d : Cells). d.height) sc_is ∙ sym high) };
         walls = record { wide = ap (λ (d : Cells). d.width) hw_is ∙ (course.of_walls.wide ∙ sym wide); high = ap (λ (d : Cells). d.height) hw_is ∙ sym high };
         obstacles = record { wide = ap (λ (d : Cells). d.width) ho_is ∙ (course.of_obstacles.wide ∙ sym wide); high = ap (λ (d : Cells). d.height) ho_is ∙ sym high };
+        sites = all_sides_as c.make_prepared.new.sites sc c.make_prepared.new.cells c.make_prepared.ensures.sites (record { wide = ap (λ (d : Cells). d.width) sc_is ∙ sym wide; high = ap (λ (d : Cells). d.height) sc_is ∙ sym high });
         inside = c.requires.inside;
         some = c.requires.some;
       };
       own = subst (λ (d : Cells). IsStrip d (after_with course.parity (joined walls obstacles) leaves cells course.phases) shift 64 (64 + rows * 64)) (sym made)
           (own_is_with course.parity first rows course.phases walls obstacles cells leaves sized course.of_walls course.of_obstacles course.few);
-      flow = c.make.ensures.flow
+      flow = c.make_prepared.ensures.flow
           ∙ (ap (λ (acts : ℕ → Leaves). own_flow course.parity hw ho acts sc course.phases) acts
           ∙ (ap₂ (λ (hw ho : Cells). own_flow course.parity hw ho turns sc course.phases) hw_is ho_is
           ∙ (ap (λ (sc : Cells). own_flow course.parity (window walls shift h) (window obstacles shift h) turns sc course.phases) sc_is

@@ -1,0 +1,178 @@
+-- The cells of a tile at walled sites: by what the tile shows of the torus, and by what a plane of prepared sites has there.
+use Rattle.std.specs.Borrow.{Bor}
+use Rattle.std.proofs.Common.{◌≡◌, ℕ, ◌+◌, ◌-◌, ◌*◌, ◌/◌, ◌%◌, ◌<◌, ◌≤◌, Bool, Option, None, Some, refl, sym, ◌∙◌, ap, ap₂, subst, arith}
+use Rattle.bit_tile.specs.Tile.{HasCells}
+use Rattle.bit_tile.specs.declared.Tile.{Tile}
+use Rattle.gas_terms.specs.Cells.{Cells, Extent, HasSidesOf, extent, has, cells_where, tile_count, tile_rectangle}
+use Rattle.gas_terms.specs.Gas.{Site, site_of, takes_for_walls, takes_for_obstacles}
+use Rattle.gas_terms.proofs.Cells.{has-cells_where}
+use Rattle.gas_plane.specs.Planes.{HasNone, IsLattice, with_tile, swept}
+use Rattle.gas_plane.proofs.Sweeps.{sweep_tile, sweep_is_whole}
+use Rattle.block_rule.specs.Around.{none, is_for_walls, is_walled_at}
+use Rattle.block_rule.specs.Lent.{IsLentOf, AreWalledCells}
+use Rattle.block_rule.specs.Windows.{IsView}
+use Rattle.block_rule.specs.declared.walled.WalledCells.{WalledCells}
+use Rattle.block_rule.proofs.TorusTook.{sites_take}
+use Rattle.phase_step.specs.Turns.{IsPlaceOf, IsLentTile}
+use Rattle.phase_step.specs.WalledSites.{cells_at, in_tile, AreSitesOf, AreInTile, NoneInTile, IsFoundIn, AreLent, AreWalledSites, AllHaveSidesOf, HaveExtent}
+use Rattle.phase_step.specs.declared.sites.SitesOfParity.{SitesOfParity}
+use Rattle.phase_step.specs.declared.sites.WalledSites.{WalledSites}
+use Rattle.phase_step.specs.declared.sites.Lent.{Lent}
+use Rattle.phase_step.proofs.TurnedTiles.{bare_view, bare_inside, bare_tile, bare_window}
+
+-- what the torus has round a place
+abbrev pub view_of : Cells → ℕ → ℕ → ℕ → ℕ → Bool
+view_of cells x0 y0 i j = has cells ((x0 + i + cells.width - 1) % cells.width) ((y0 + j + cells.height - 1) % cells.height)
+
+module _ (p : ℕ) (two : p < 2) (walls obstacles : Cells) (i : ℕ) (place : IsPlaceOf walls walls obstacles i) where
+  abbrev x0 : ℕ
+  x0 = (tile_rectangle walls i).x
+
+  abbrev y0 : ℕ
+  y0 = (tile_rectangle walls i).y
+
+  pub found_in_tile : (walled obstructed : ℕ → ℕ → Bool) → IsView p walled walls x0 y0 → IsView p obstructed obstacles x0 y0 → (c : WalledCells) → AreWalledCells p walled obstructed c → AreInTile p walls obstacles i c
+  found_in_tile walled obstructed of_walls of_obstacles c are =
+      record {
+        of_walls = λ x y h k. are.walls x y h k ∙ (sites_take p two walls walls obstacles x0 y0 walled obstructed place of_walls of_obstacles x y h k).0;
+        of_obstacles = λ x y h k. are.obstacles x y h k ∙ (sites_take p two walls walls obstacles x0 y0 walled obstructed place of_walls of_obstacles x y h k).1;
+      }
+
+  pub none_in_tile : IsView p none walls x0 y0 → IsView p none obstacles x0 y0 → NoneInTile p walls obstacles i
+  none_in_tile of_walls of_obstacles =
+      record {
+        of_walls = λ x y h k. sym (sites_take p two walls walls obstacles x0 y0 none none place of_walls of_obstacles x y h k).0;
+        of_obstacles = λ x y h k. sym (sites_take p two walls walls obstacles x0 y0 none none place of_walls of_obstacles x y h k).1;
+      }
+
+-- where walls and obstacles have no cell at all
+pub none_even : (walls obstacles : Cells) (i : ℕ) → IsPlaceOf walls walls obstacles i → HasNone walls → HasNone obstacles → NoneInTile 0 walls obstacles i
+none_even walls obstacles i place no_walls no_obstacles =
+    none_in_tile 0 (omega arith) walls obstacles i place
+    (bare_inside i walls walls place.of_walls place.right place.bottom (bare_tile i walls walls place.of_walls place.right place.bottom no_walls))
+    (bare_inside i obstacles walls place.of_obstacles place.right place.bottom (bare_tile i obstacles walls place.of_obstacles place.right place.bottom no_obstacles))
+
+pub none_odd : (walls obstacles : Cells) (i : ℕ) → IsPlaceOf walls walls obstacles i → HasNone walls → HasNone obstacles → NoneInTile 1 walls obstacles i
+none_odd walls obstacles i place no_walls no_obstacles =
+    none_in_tile 1 (omega arith) walls obstacles i place
+    (bare_view 1 i walls walls (omega arith) refl (bare_window i walls walls place.of_walls place.right place.bottom no_walls))
+    (bare_view 1 i obstacles walls (omega arith) place.of_obstacles.wide (bare_window i obstacles walls place.of_obstacles place.right place.bottom no_obstacles))
+
+-- what is lent of prepared sites
+lent_of_sites : (p i : ℕ) (walls set : Cells) (test : Site → Bool) (lent : Option (Bor Tile)) → set ≡ cells_at p walls test → (tile_rectangle walls i).x + 64 ≤ walls.width → (tile_rectangle walls i).y + 64 ≤ walls.height
+    → IsLentTile set i lent → IsLentOf lent (in_tile p walls i test)
+lent_of_sites p i walls set test None are right bottom bare =
+    let here = subst (λ (set : Cells). IsLentTile set i None) are bare in
+    λ x y h k.
+    sym (has-cells_where walls.width walls.height (λ x y. test (site_of p walls.width walls.height x y)) ((tile_rectangle walls i).x + x) ((tile_rectangle walls i).y + y) (omega (arith, right)) (omega (arith, bottom)))
+    ∙ here.cell x y h k
+lent_of_sites p i walls set test (Some t) are right bottom from =
+    let here = subst (λ (set : Cells). IsLentTile set i (Some t)) are from in
+    λ x y h k.
+    here.cell x y h k
+    ∙ has-cells_where walls.width walls.height (λ x y. test (site_of p walls.width walls.height x y)) ((tile_rectangle walls i).x + x) ((tile_rectangle walls i).y + y) (omega (arith, right)) (omega (arith, bottom))
+
+pub lent_from : (p i : ℕ) (walls obstacles : Cells) (s : SitesOfParity) (for_walls for_obstacles : Option (Bor Tile)) → AreSitesOf p walls obstacles s → IsPlaceOf walls walls obstacles i
+    → IsLentTile s.walls i for_walls → IsLentTile s.obstacles i for_obstacles → AreLent p walls obstacles i (record { walls = for_walls; obstacles = for_obstacles })
+lent_from p i walls obstacles s for_walls for_obstacles are place lent_walls lent_obstacles =
+    record {
+      of_walls = lent_of_sites p i walls s.walls (takes_for_walls walls obstacles) for_walls are.of_walls place.right place.bottom lent_walls;
+      of_obstacles = lent_of_sites p i walls s.obstacles (takes_for_obstacles walls obstacles) for_obstacles are.of_obstacles place.right place.bottom lent_obstacles;
+    }
+
+-- what is lent by one test is lent by another that says the same
+lent_same : (lent : Option (Bor Tile)) (test other : ℕ → ℕ → Bool) → ((x y : ℕ) → x < 64 → y < 64 → other x y ≡ test x y) → IsLentOf lent test → IsLentOf lent other
+lent_same None test other same none = λ x y h k. same x y h k ∙ none x y h k
+lent_same (Some t) test other same are = λ x y h k. are x y h k ∙ sym (same x y h k)
+
+-- what is lent of the walls' torus is what the particles' tile needs
+module _ (p : ℕ) (two : p < 2) (old walls obstacles : Cells) (i : ℕ) (place : IsPlaceOf old walls obstacles i) (lent : Lent) (are : AreLent p walls obstacles i lent) where
+  abbrev left : ℕ
+  left = (tile_rectangle old i).x
+
+  abbrev top : ℕ
+  top = (tile_rectangle old i).y
+
+  in_old_tile : (test : Site → Bool) (x y : ℕ) → in_tile p walls i test x y ≡ in_tile p old i test x y
+  in_old_tile test x y = ap₂ (λ w h. test (site_of p w h (i % (w / 64) * 64 + x) (i / (w / 64) * 64 + y))) place.of_walls.wide place.of_walls.high
+
+  pub walls_lent : IsLentOf lent.walls (is_for_walls p (view_of walls left top) (view_of obstacles left top))
+  walls_lent =
+      lent_same lent.walls (in_tile p walls i (takes_for_walls walls obstacles)) (is_for_walls p (view_of walls left top) (view_of obstacles left top))
+      (λ x y h k.
+      (sites_take p two old walls obstacles left top (view_of walls left top) (view_of obstacles left top) place (record { cell = λ _ _ _ _. refl }) (record { cell = λ _ _ _ _. refl }) x y h k).0
+      ∙ sym (in_old_tile (takes_for_walls walls obstacles) x y))
+      are.of_walls
+
+  pub obstacles_lent : IsLentOf lent.obstacles (is_walled_at p (view_of obstacles left top))
+  obstacles_lent =
+      lent_same lent.obstacles (in_tile p walls i (takes_for_obstacles walls obstacles)) (is_walled_at p (view_of obstacles left top))
+      (λ x y h k.
+      (sites_take p two old walls obstacles left top (view_of walls left top) (view_of obstacles left top) place (record { cell = λ _ _ _ _. refl }) (record { cell = λ _ _ _ _. refl }) x y h k).1
+      ∙ sym (in_old_tile (takes_for_obstacles walls obstacles) x y))
+      are.of_obstacles
+
+-- what is put where nothing was found
+pub empty_in_tile : (p : ℕ) (walls obstacles : Cells) (i : ℕ) (a b : Tile) → HasCells a none → HasCells b none → NoneInTile p walls obstacles i → AreInTile p walls obstacles i (record { walls = a; obstacles = b })
+empty_in_tile p walls obstacles i a b no_walls no_obstacles are =
+    record { of_walls = λ x y h k. no_walls x y h k ∙ sym (are.of_walls x y h k); of_obstacles = λ x y h k. no_obstacles x y h k ∙ sym (are.of_obstacles x y h k) }
+
+-- nothing need be lent of no cells
+pub nothing_lent : (p : ℕ) (walls obstacles : Cells) (i : ℕ) → NoneInTile p walls obstacles i → AreLent p walls obstacles i (record { walls = None; obstacles = None })
+nothing_lent p walls obstacles i none = record { of_walls = none.of_walls; of_obstacles = none.of_obstacles }
+
+-- what was found, by cases
+pub found_none : (p : ℕ) (walls obstacles : Cells) (i : ℕ) (found : Option WalledCells) → found ≡ None → IsFoundIn p walls obstacles i found → NoneInTile p walls obstacles i
+found_none p walls obstacles i found e is = subst (IsFoundIn p walls obstacles i) e is
+
+pub found_some : (p : ℕ) (walls obstacles : Cells) (i : ℕ) (found : Option WalledCells) (c : WalledCells) → found ≡ Some c → IsFoundIn p walls obstacles i found → AreInTile p walls obstacles i c
+found_some p walls obstacles i found c e is = subst (IsFoundIn p walls obstacles i) e is
+
+-- the planes are made tile by tile
+pub sites_next : (start now next walls : Cells) (p i : ℕ) (test : Site → Bool) (t : Tile) → IsLattice start → HasSidesOf start walls → now ≡ swept start (λ x y. test (site_of p walls.width walls.height x y)) i → HasCells t (in_tile p walls i test) → next ≡ with_tile now i t
+    → next ≡ swept start (λ x y. test (site_of p walls.width walls.height x y)) (i + 1)
+sites_next start now next walls p i test t is same so_far made put =
+    put
+    ∙ (ap (λ (now : Cells). with_tile now i t) so_far
+    ∙ sweep_tile start (λ x y. test (site_of p walls.width walls.height x y)) i t is
+    (subst (λ w. HasCells t (λ x y. test (site_of p walls.width walls.height (i % (w / 64) * 64 + x) (i / (w / 64) * 64 + y)))) (sym same.wide) made))
+
+pub sites_end : (start now walls : Cells) (p i : ℕ) (test : Site → Bool) → IsLattice start → HasSidesOf start walls → i ≡ tile_count start → now ≡ swept start (λ x y. test (site_of p walls.width walls.height x y)) i → now ≡ cells_at p walls test
+sites_end start now walls p i test is same all so_far =
+    let here : ℕ → ℕ → Bool = λ x y. test (site_of p walls.width walls.height x y) in
+    so_far
+    ∙ (ap (swept start here) all
+    ∙ (sweep_is_whole start here is
+    ∙ ap₂ (λ w h. cells_where w h here) same.wide same.high))
+
+-- the sides of the planes
+sides_as : (s a b : Cells) → HasSidesOf s a → HasSidesOf a b → HasSidesOf s b
+sides_as s a b of_a of_b = record { wide = of_a.wide ∙ of_b.wide; high = of_a.high ∙ of_b.high }
+
+pub all_sides_as : (s : WalledSites) (a b : Cells) → AllHaveSidesOf s a → HasSidesOf a b → AllHaveSidesOf s b
+all_sides_as s a b of_a of_b =
+    record {
+      of_even = record { of_walls = sides_as s.even.walls a b of_a.of_even.of_walls of_b; of_obstacles = sides_as s.even.obstacles a b of_a.of_even.of_obstacles of_b };
+      of_odd = record { of_walls = sides_as s.odd.walls a b of_a.of_odd.of_walls of_b; of_obstacles = sides_as s.odd.obstacles a b of_a.of_odd.of_obstacles of_b };
+    }
+
+sides_of : (s walls : Cells) (p : ℕ) (test : Site → Bool) → s ≡ cells_at p walls test → HasSidesOf s walls
+sides_of s walls p test e = record { wide = ap (λ (c : Cells). c.width) e; high = ap (λ (c : Cells). c.height) e }
+
+-- of sites that were prepared, and of room for them
+pub prepared_sides : (walls obstacles : Cells) (s : WalledSites) → AreWalledSites walls obstacles s → AllHaveSidesOf s walls
+prepared_sides walls obstacles s are =
+    record {
+      of_even = record { of_walls = sides_of s.even.walls walls 0 (takes_for_walls walls obstacles) are.of_even.of_walls; of_obstacles = sides_of s.even.obstacles walls 0 (takes_for_obstacles walls obstacles) are.of_even.of_obstacles };
+      of_odd = record { of_walls = sides_of s.odd.walls walls 1 (takes_for_walls walls obstacles) are.of_odd.of_walls; of_obstacles = sides_of s.odd.obstacles walls 1 (takes_for_obstacles walls obstacles) are.of_odd.of_obstacles };
+    }
+
+sides_in : (s cells : Cells) (size : Extent) → extent s ≡ size → size ≡ extent cells → HasSidesOf s cells
+sides_in s cells size e f = record { wide = ap (λ (e : Extent). e.width) (e ∙ f); high = ap (λ (e : Extent). e.height) (e ∙ f) }
+
+pub room_sides : (s : WalledSites) (size : Extent) (cells : Cells) → HaveExtent s size → size ≡ extent cells → AllHaveSidesOf s cells
+room_sides s size cells are e =
+    record {
+      of_even = record { of_walls = sides_in s.even.walls cells size are.even_walls e; of_obstacles = sides_in s.even.obstacles cells size are.even_obstacles e };
+      of_odd = record { of_walls = sides_in s.odd.walls cells size are.odd_walls e; of_obstacles = sides_in s.odd.obstacles cells size are.odd_obstacles e };
+    }

@@ -1,0 +1,65 @@
+-- The cells at walled sites, as they are prepared for a run.
+use Rattle.std.specs.Prelude.{◌≡◌, ℕ, ◌+◌, Bool, Option, MatchOption}
+use Rattle.bit_tile.specs.Tile.{HasCells}
+use Rattle.gas_terms.specs.Cells.{Cells, Extent, HasSidesOf, cells_where, extent, tile_rectangle}
+use Rattle.gas_terms.specs.Gas.{Site, site_of, takes_for_walls, takes_for_obstacles}
+use Rattle.block_rule.specs.Lent.{HasNoCell, IsLentOf}
+use Rattle.block_rule.specs.declared.walled.WalledCells.{WalledCells}
+use Rattle.phase_step.specs.declared.sites.SitesOfParity.{SitesOfParity}
+use Rattle.phase_step.specs.declared.sites.WalledSites.{WalledSites}
+use Rattle.phase_step.specs.declared.sites.Lent.{Lent}
+
+-- the cells at the sites of parity p of a torus that pass the test
+abbrev pub cells_at : ℕ → Cells → (Site → Bool) → Cells
+cells_at p torus test = cells_where torus.width torus.height (λ x y. test (site_of p torus.width torus.height x y))
+
+-- the cells at the sites of parity p that take for the walls, and at those that take for the obstacles
+pub record AreSitesOf (p : ℕ) (walls obstacles : Cells) (s : SitesOfParity) : Type 0 where
+  pub of_walls : s.walls ≡ cells_at p walls (takes_for_walls walls obstacles)
+  pub of_obstacles : s.obstacles ≡ cells_at p walls (takes_for_obstacles walls obstacles)
+
+-- of both parities
+pub record AreWalledSites (walls obstacles : Cells) (s : WalledSites) : Type 0 where
+  pub of_even : AreSitesOf 0 walls obstacles s.even
+  pub of_odd : AreSitesOf 1 walls obstacles s.odd
+
+-- Below: what helps proofs. What the sites are is said without it.
+
+-- the planes have the sides of this torus
+pub record HaveSidesOf (s : SitesOfParity) (cells : Cells) : Type 0 where
+  pub of_walls : HasSidesOf s.walls cells
+  pub of_obstacles : HasSidesOf s.obstacles cells
+
+pub record AllHaveSidesOf (s : WalledSites) (cells : Cells) : Type 0 where
+  pub of_even : HaveSidesOf s.even cells
+  pub of_odd : HaveSidesOf s.odd cells
+
+-- whether the cell (x, y) of tile i is at a site of parity p that passes the test
+abbrev pub in_tile : ℕ → Cells → ℕ → (Site → Bool) → ℕ → ℕ → Bool
+in_tile p torus i test x y = test (site_of p torus.width torus.height ((tile_rectangle torus i).x + x) ((tile_rectangle torus i).y + y))
+
+-- the cells of tile i that are at these sites
+pub record AreInTile (p : ℕ) (walls obstacles : Cells) (i : ℕ) (c : WalledCells) : Type 0 where
+  pub of_walls : HasCells c.walls (in_tile p walls i (takes_for_walls walls obstacles))
+  pub of_obstacles : HasCells c.obstacles (in_tile p walls i (takes_for_obstacles walls obstacles))
+
+-- there are none
+pub record NoneInTile (p : ℕ) (walls obstacles : Cells) (i : ℕ) : Type 0 where
+  pub of_walls : HasNoCell (in_tile p walls i (takes_for_walls walls obstacles))
+  pub of_obstacles : HasNoCell (in_tile p walls i (takes_for_obstacles walls obstacles))
+
+-- what is found of them
+abbrev pub IsFoundIn : ℕ → Cells → Cells → ℕ → Option WalledCells → Type 0
+IsFoundIn p walls obstacles i found = MatchOption found (NoneInTile p walls obstacles i) (AreInTile p walls obstacles i)
+
+-- what is lent of them
+pub record AreLent (p : ℕ) (walls obstacles : Cells) (i : ℕ) (lent : Lent) : Type 0 where
+  pub of_walls : IsLentOf lent.walls (in_tile p walls i (takes_for_walls walls obstacles))
+  pub of_obstacles : IsLentOf lent.obstacles (in_tile p walls i (takes_for_obstacles walls obstacles))
+
+-- the planes are of this size
+pub record HaveExtent (s : WalledSites) (size : Extent) : Type 0 where
+  pub even_walls : extent s.even.walls ≡ size
+  pub even_obstacles : extent s.even.obstacles ≡ size
+  pub odd_walls : extent s.odd.walls ≡ size
+  pub odd_obstacles : extent s.odd.obstacles ≡ size
