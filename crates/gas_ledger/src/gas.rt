@@ -289,7 +289,6 @@ impl Gas {
         let run = Run {
             walls,
             obstacles,
-            sites: None,
             parity,
             n,
             action,

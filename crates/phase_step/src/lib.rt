@@ -5,14 +5,12 @@
 #![tactic(auto)]
 
 ghost use Rattle.std.specs.Prelude.{◌≡◌, ◌<◌};
-ghost use Rattle.std.specs.Option.{ForSome};
 ghost use Rattle.gas_terms.specs.Cells.{joined, tile_count, HasSidesOf};
 ghost use Rattle.gas_terms.specs.Gas.{streamed};
 ghost use Rattle.gas_terms.specs.Accounts.{taken};
 ghost use Rattle.gas_plane.specs.Planes.{IsLattice};
 ghost use Rattle.phase_step.specs.Runs.{parity_at, after, run_takes};
 ghost use Rattle.phase_step.specs.Actions.{after_with, flow_with};
-ghost use Rattle.phase_step.specs.WalledSites.{AreWalledSites};
 
 mod action;
 mod change;
@@ -46,37 +44,21 @@ pub use sweep::{Own, turn_in_place};
 pub use tiles::turn_tile_at;
 
 /// A run of n phases in which particles meet these walls and obstacles, from the given parity on, with an action after each.
-/// The cells at walled sites may have been prepared for it.
 #[derive(Drop)]
 pub struct Run<'a, A: Action> {
     pub walls: &'a Plane,
     pub obstacles: &'a Plane,
-    pub sites: Option<&'a WalledSites>,
     pub parity: u8,
     pub n: u16,
     pub action: &'a A,
-    pub ghost prepared: { ForSome sites (λ s. AreWalledSites walls.now obstacles.now s.now) },
 }
 
-impl<'a, A: Action> Run<'a, A> {
-    /// The same run with the cells at walled sites.
-    pub fn prepared(self, sites: &'a WalledSites) -> Run<'a, A>
-        requires { AreWalledSites self.walls.now self.obstacles.now sites.now }
-        ensures walls { result.walls.now ≡ self.entry.walls.now }
-        ensures obstacles { result.obstacles.now ≡ self.entry.obstacles.now }
-        ensures phases { (result.parity ≡ self.entry.parity) × (result.n ≡ self.entry.n) }
-        ensures action { result.action.now ≡ self.entry.action.now }
-    {
-        let sites = Some(sites);
-        Run {
-            walls: self.walls,
-            obstacles: self.obstacles,
-            sites,
-            parity: self.parity,
-            n: self.n,
-            action: self.action,
-        }
-    }
+/// Its phases, without what the particles meet in them.
+#[derive(Drop)]
+pub struct Phases<'a, A: Action> {
+    pub parity: u8,
+    pub n: u16,
+    pub action: &'a A,
 }
 
 /// What turns the blocks of a plane. A phase is always made: memory or threads that can't be had cost time alone. `Serial` takes no memory.
@@ -142,11 +124,9 @@ pub trait Stepper: Drop {
         ensures took { result ≡ run_takes parity walls.now obstacles.now particles.old n }
     {
         let action = &Still;
-        let solids = Solids::new(walls, obstacles);
         let run = Run {
-            walls: solids.walls,
-            obstacles: solids.obstacles,
-            sites: None,
+            walls,
+            obstacles,
             parity,
             n,
             action,
@@ -174,12 +154,35 @@ pub trait Stepper: Drop {
             flow_with r.parity r.walls.now r.obstacles.now (A.leaves r.action.now)
             particles.old r.n }
     {
-        let solids = Solids {
-            walls: run.walls,
-            obstacles: run.obstacles,
-            none: are_none(run.walls, run.obstacles),
-            sites: run.sites,
+        let solids = Solids::new(run.walls, run.obstacles);
+        let phases = Phases {
+            parity: run.parity,
+            n: run.n,
+            action: run.action,
         };
+        self.run_among(particles, solids, phases, spare)
+    }
+
+    /// The same among walls and obstacles whose sites may have been prepared.
+    fn run_among<A: Action>(
+        &mut self,
+        particles: &mut Plane,
+        solids: Solids<'_>,
+        run: Phases<'_, A>,
+        spare: &mut Plane,
+    ) -> Flow
+        requires parity { run.parity < 2 }
+        requires walls { HasSidesOf solids.walls.now particles.old }
+        requires obstacles { HasSidesOf solids.obstacles.now particles.old }
+        requires spare { HasSidesOf spare.old particles.old }
+        ensures particles { let r = run.entry in let s = solids.entry in particles.new ≡
+            after_with r.parity (joined s.walls.now s.obstacles.now) (A.leaves r.action.now)
+            particles.old r.n }
+        ensures spare { HasSidesOf spare.new particles.old }
+        ensures flow { let r = run.entry in let s = solids.entry in result ≡
+            flow_with r.parity s.walls.now s.obstacles.now (A.leaves r.action.now)
+            particles.old r.n }
+    {
         let mut flow = NO_FLOW;
         for k in 0..run.n {
             let now = parity_at(run.parity, k);

@@ -331,7 +331,6 @@ pub fn run_by<R: Threads, A: Action>(
         let part = Run {
             walls: run.walls,
             obstacles: run.obstacles,
-            sites: run.sites,
             parity: parity_at(run.parity, done),
             n: next,
             action: &later,

@@ -18,7 +18,9 @@ use crate::worker::{NOTHING, Turned, Worker, work_on};
 use claim_desk::{Desk, DeskSeat};
 use gas_plane::Plane;
 use gas_terms::{Size, Took};
-use phase_step::{Action, Flow, LONG_RUN, Run, Serial, Stepper, WalledSites, are_none};
+use phase_step::{
+    Action, Flow, LONG_RUN, Phases, Run, Serial, Solids, Stepper, WalledSites, are_none,
+};
 use std::alloc::Global;
 use std::marker::Model;
 use std::thread;
@@ -382,7 +384,13 @@ fn run_alone<A: Action>(
         return Serial.run_with(particles, run, spare);
     };
     sites.prepare(run.walls, run.obstacles);
-    let flow = Serial.run_with(particles, run.prepared(&sites), spare);
+    let solids = Solids::prepared(run.walls, run.obstacles, &sites);
+    let phases = Phases {
+        parity: run.parity,
+        n: run.n,
+        action: run.action,
+    };
+    let flow = Serial.run_among(particles, solids, phases, spare);
     *kept = Some(sites);
     flow
 }

@@ -1,47 +1,16 @@
-use Rattle.std.proofs.Common.{refl, ◌∙◌, arith}
+use Rattle.std.proofs.Common.{ap₂, ◌∙◌}
 use Rattle.gas_terms.specs.Cells.{joined}
-use Rattle.phase_step.specs.declared.moved.Flow.{Flow}
-use Rattle.phase_step.specs.Exchanges.{leaves_of}
-use Rattle.phase_step.proofs.ActionRuns.{phase_with, sides_as_with, sides_at_start, with_next, flow_next, flow_fits}
+use Rattle.phase_step.specs.Actions.{after_with, flow_with}
 use Rattle.phase_step.proofs.Stepper.run_with.Goals as goal
 
-pub loop-k-init : goal.loop-k-init
-loop-k-init g c = record { cells = refl; spare = c.requires.spare; flow = refl }
-
-pub phase_in_place-took-requires-clause-walls : goal.phase_in_place-took-requires-clause-walls
-phase_in_place-took-requires-clause-walls g c =
+pub returns-clause-particles : goal.returns-clause-particles
+returns-clause-particles g c =
     let run = c.args.run in
-    sides_as_with run.parity (joined run.walls.now run.obstacles.now) (g.A.Action.leaves run.action.now) c.args.particles.now c.loop-k.particles run.walls.now c.loop-k.k c.loop-k.invariant.cells c.requires.walls
+    c.run_among.ensures.particles
+    ∙ ap₂ (λ w o. after_with run.parity (joined w o) (g.A.Action.leaves run.action.now) c.args.particles.now run.n) c.new-solids.ensures.walls c.new-solids.ensures.obstacles
 
-pub phase_in_place-took-requires-clause-obstacles : goal.phase_in_place-took-requires-clause-obstacles
-phase_in_place-took-requires-clause-obstacles g c =
+pub returns-clause-flow : goal.returns-clause-flow
+returns-clause-flow g c =
     let run = c.args.run in
-    sides_as_with run.parity (joined run.walls.now run.obstacles.now) (g.A.Action.leaves run.action.now) c.args.particles.now c.loop-k.particles run.obstacles.now c.loop-k.k c.loop-k.invariant.cells c.requires.obstacles
-
-pub phase_in_place-took-requires-clause-spare : goal.phase_in_place-took-requires-clause-spare
-phase_in_place-took-requires-clause-spare g c =
-    let run = c.args.run in
-    sides_as_with run.parity (joined run.walls.now run.obstacles.now) (g.A.Action.leaves run.action.now) c.args.particles.now c.loop-k.particles c.loop-k.spare c.loop-k.k c.loop-k.invariant.cells c.loop-k.invariant.spare
-
--- the phase that was made, with its action
-pub plus-flow-requires : goal.plus-flow-requires
-plus-flow-requires g c =
-    let run = c.args.run in
-    let here : Flow = record { took = c.phase_in_place-took.result; moved = c.act_on-moved.result } in
-    flow_fits run.parity run.walls.now run.obstacles.now (g.A.Action.leaves run.action.now) c.args.particles.now c.loop-k.k c.loop-k.particles c.phase_in_place-took.new.particles c.act_on-moved.new.plane c.loop-k.flow here
-    (phase_with run.parity c.parity_at-now.result c.loop-k.k run.walls.now run.obstacles.now (g.A.Action.leaves run.action.now) (leaves_of c.after_phase-turn.result) c.args.particles.now c.loop-k.particles c.phase_in_place-took.new.particles c.act_on-moved.new.plane here
-    c.requires.parity c.loop-k.invariant.cells c.parity_at-now.ensures.parity c.phase_in_place-took.ensures.particles c.phase_in_place-took.ensures.took c.act_on-moved.ensures.cells c.after_phase-turn.ensures c.act_on-moved.ensures.moved)
-    c.loop-k.invariant.flow c.act_on-moved.ensures.lattice (omega arith)
-
-pub loop-k-preserved : goal.loop-k-preserved
-loop-k-preserved g c =
-    let run = c.args.run in
-    let here : Flow = record { took = c.phase_in_place-took.result; moved = c.act_on-moved.result } in
-    let leaves = g.A.Action.leaves run.action.now in
-    let made = phase_with run.parity c.parity_at-now.result c.loop-k.k run.walls.now run.obstacles.now leaves (leaves_of c.after_phase-turn.result) c.args.particles.now c.loop-k.particles c.phase_in_place-took.new.particles c.act_on-moved.new.plane here
-    c.requires.parity c.loop-k.invariant.cells c.parity_at-now.ensures.parity c.phase_in_place-took.ensures.particles c.phase_in_place-took.ensures.took c.act_on-moved.ensures.cells c.after_phase-turn.ensures c.act_on-moved.ensures.moved in
-    record {
-      cells = with_next run.parity run.walls.now run.obstacles.now leaves c.args.particles.now c.loop-k.k c.loop-k.particles c.phase_in_place-took.new.particles c.act_on-moved.new.plane here made;
-      spare = sides_at_start run.parity (joined run.walls.now run.obstacles.now) leaves c.args.particles.now c.loop-k.particles c.phase_in_place-took.new.spare c.loop-k.k c.loop-k.invariant.cells c.phase_in_place-took.ensures.spare;
-      flow = c.plus-flow.ensures ∙ flow_next run.parity run.walls.now run.obstacles.now leaves c.args.particles.now c.loop-k.k c.loop-k.particles c.phase_in_place-took.new.particles c.act_on-moved.new.plane c.loop-k.flow here made c.loop-k.invariant.flow;
-    }
+    c.run_among.ensures.flow
+    ∙ ap₂ (λ w o. flow_with run.parity w o (g.A.Action.leaves run.action.now) c.args.particles.now run.n) c.new-solids.ensures.walls c.new-solids.ensures.obstacles
