@@ -1,9 +1,8 @@
-use Rattle.std.specs.Prelude.{◌≡◌, ℕ, ◌+◌, ◌*◌, ◌%◌, ◌<◌, ◌≤◌, ◌⊎◌, ◌==◌, Bool, ◌&&◌, if◌then◌else◌, List, slice_index, bit_or}
+use Rattle.std.specs.Prelude.{◌≡◌, ℕ, ◌+◌, ◌*◌, ◌%◌, ◌<◌, ◌≤◌, ◌⊎◌, ◌==◌, Bool, ◌&&◌, if◌then◌else◌, List, slice_index}
 use Rattle.bit_tile.specs.Bit.{bit}
 use Rattle.bit_tile.specs.Sums.{sum_below, count_below}
 use Rattle.bit_tile.specs.Tile.{count_cells}
 use Rattle.bit_tile.specs.declared.Tile.{Tile}
-use Rattle.block_rule.specs.Around.{is_block_walled}
 use Rattle.block_rule.specs.declared.held.Classes.{Classes}
 
 -- none of the four counts is above n

@@ -142,7 +142,12 @@ pub fn turn_tile_into(
         let walls = window_of(walls, &near_walls);
         let obstacles = window_of(obstacles, &near_obstacles);
         let walled = walled_cells_odd(&walls, &obstacles);
-        turn_tile_odd(&particles, Some(&walled.walls), Some(&walled.obstacles), out)
+        turn_tile_odd(
+            &particles,
+            Some(&walled.walls),
+            Some(&walled.obstacles),
+            out,
+        )
     }
 }
 

@@ -6,7 +6,7 @@ ghost use Rattle.gas_terms.specs.Cells.{Extent, extent, lies_within, is_inside};
 use crate::expected::expect_that;
 use gas_plane::{Plane, Tile};
 use gas_terms::{Pair, Rect, Size, Took};
-use phase_step::{Serial, Solids, Stepper, are_none, turn_tile_at};
+use phase_step::{Serial, Solids, Stepper, WalledSites, are_none, turn_tile_at};
 use std::process::Abort;
 
 const WIDE: u32 = 192;
@@ -55,18 +55,18 @@ fn first_tile(
     expect_that(&rt, walls.size() == size);
     expect_that(&rt, obstacles.size() == size);
     expect_that(&rt, size.tiles() > 0);
-    let none = are_none(walls, obstacles);
-    let solids = Solids {
-        walls,
-        obstacles,
-        none,
-    };
+    let solids = Solids::new(walls, obstacles);
     turn_tile_at(old, solids, 1, old.position(0), out)
 }
 
 // whether two planes hold the same cells
 fn are_same(some: &Plane, others: &Plane, width: u32, height: u32) -> bool {
     (0..height).all(|y| (0..width).all(|x| holds(some, x, y) == holds(others, x, y)))
+}
+
+// whether a plane of 128 by 128 has these cells and no others
+fn has_just(rt: &(impl Abort + AllocGlobal), some: &Plane, cells: &[(u32, u32)]) -> bool {
+    are_same(some, &plane(rt, 128, 128, cells), 128, 128)
 }
 
 #[test]
@@ -101,6 +101,42 @@ fn wall_that_was_cleared_is_none(rt: HostRuntime) {
     let want = plane(&rt, 128, 128, &[(64, 64)]);
     expect_that(&rt, are_same(&out, &want, 128, 128));
     expect_that(&rt, took.walls == Pair { x: 0, y: 0 });
+}
+
+// At even ticks the wall at (0, 0) is in the block of (0, 0) to (1, 1), at odd ones across the seam. The other wall shares a
+// block with the obstacle at even ticks, which is the obstacle's.
+#[test]
+fn sites_of_walls_and_obstacles(rt: HostRuntime) {
+    let walls = plane(&rt, 128, 128, &[(0, 0), (21, 20)]);
+    let obstacles = plane(&rt, 128, 128, &[(20, 21)]);
+    let size = walls.size();
+    let mut sites = WalledSites::empty(rt.alloc(), size).expect(&rt, "memory");
+    expect_that(&rt, sites.fits(size));
+    expect_that(&rt, obstacles.size() == size);
+    sites.prepare(&walls, &obstacles);
+    let of_walls = [(0, 0), (1, 0), (0, 1), (1, 1)];
+    let of_obstacles = [(20, 20), (21, 20), (20, 21), (21, 21)];
+    expect_that(&rt, has_just(&rt, &sites.even.walls, of_walls.as_slice()));
+    expect_that(
+        &rt,
+        has_just(&rt, &sites.even.obstacles, of_obstacles.as_slice()),
+    );
+    let of_walls = [
+        (127, 127),
+        (0, 127),
+        (127, 0),
+        (0, 0),
+        (21, 19),
+        (22, 19),
+        (21, 20),
+        (22, 20),
+    ];
+    let of_obstacles = [(19, 21), (20, 21), (19, 22), (20, 22)];
+    expect_that(&rt, has_just(&rt, &sites.odd.walls, of_walls.as_slice()));
+    expect_that(
+        &rt,
+        has_just(&rt, &sites.odd.obstacles, of_obstacles.as_slice()),
+    );
 }
 
 #[test]

@@ -1,6 +1,5 @@
 -- What a plane's tiles show of the torus.
-use Rattle.std.specs.Borrow.{Bor}
-use Rattle.std.proofs.Common.{◌≡◌, Bool, Option, None, Some, [], refl, ℕ, ◌+◌, ◌*◌, ◌/◌, ◌%◌, ◌<◌, ◌≤◌, ◌-◌, ◌∙◌, ap, ap₂, subst, sym, arith}
+use Rattle.std.proofs.Common.{◌≡◌, [], ℕ, ◌+◌, ◌*◌, ◌/◌, ◌%◌, ◌<◌, ◌≤◌, ◌-◌, ◌∙◌, ap, ap₂, subst, sym, arith}
 use Rattle.std.proofs.lemmas.Nat.{mod-mul-add}
 use Rattle.std.proofs.Math.Nat.{mod-lt}
 use Rattle.bit_tile.specs.Tile.{HasCells}

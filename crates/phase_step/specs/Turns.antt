@@ -6,7 +6,7 @@ use Rattle.gas_terms.specs.Cells.{Cells, has, joined, tile_rectangle}
 use Rattle.gas_terms.specs.Gas.{streamed}
 use Rattle.tile_border.specs.Ring.{IsBorderOfRound}
 use Rattle.tile_border.specs.declared.Border.{Border}
-use Rattle.gas_plane.specs.Planes.{IsTileFrom, IsRingRound, IsBare, IsBareRound}
+use Rattle.gas_plane.specs.Planes.{IsTileFrom, IsRingRound, IsBare}
 use Rattle.block_rule.specs.Windows.{IsTilePlace}
 use Rattle.block_rule.specs.declared.Window.{Window}
 

@@ -133,12 +133,7 @@ fn all_or_none(found: Option<WalledCells>) -> WalledCells
 
 /// The cells of tile i at these sites, if there are any. The sets are lattices of one size.
 #[inline(always)]
-pub fn walled_cells(
-    parity: u8,
-    walls: &Plane,
-    obstacles: &Plane,
-    i: u32,
-) -> Option<WalledCells>
+pub fn walled_cells(parity: u8, walls: &Plane, obstacles: &Plane, i: u32) -> Option<WalledCells>
     requires parity { parity < 2 }
     requires walls { i < tile_count walls.now }
     requires obstacles { i < tile_count obstacles.now }

@@ -35,11 +35,7 @@ impl<'a> Solids<'a> {
     }
 
     /// Walls and obstacles with the cells at their walled sites.
-    pub fn prepared(
-        walls: &'a Plane,
-        obstacles: &'a Plane,
-        sites: &'a WalledSites,
-    ) -> Solids<'a>
+    pub fn prepared(walls: &'a Plane, obstacles: &'a Plane, sites: &'a WalledSites) -> Solids<'a>
         requires { AreWalledSites walls.now obstacles.now sites.now }
         ensures walls { result.walls.now ≡ walls.now }
         ensures obstacles { result.obstacles.now ≡ obstacles.now }

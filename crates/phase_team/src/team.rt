@@ -396,11 +396,7 @@ fn run_alone<A: Action>(
 }
 
 // the room of the last run, where it is for a lattice of this size, or else new room
-fn sites_for(
-    kept: &mut Option<WalledSites>,
-    alloc: Global,
-    size: Size,
-) -> Option<WalledSites>
+fn sites_for(kept: &mut Option<WalledSites>, alloc: Global, size: Size) -> Option<WalledSites>
     ensures { IfSome result (λ sites. HaveExtent sites size) }
 {
     if let Some(sites) = kept.take() {

@@ -1,4 +1,4 @@
-use Rattle.std.proofs.Common.{◌≡◌, ◌<◌, sym, refl, arith}
+use Rattle.std.proofs.Common.{◌≡◌, sym, arith}
 use Rattle.gas_terms.specs.Cells.{tile_count}
 use Rattle.gas_terms.specs.Gas.{site_of, takes_for_walls, takes_for_obstacles}
 use Rattle.gas_plane.proofs.Sweeps.{sweep_begins}

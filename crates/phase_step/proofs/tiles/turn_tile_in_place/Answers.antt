@@ -1,4 +1,3 @@
-use Rattle.std.proofs.Common.{sym}
 use Rattle.phase_step.proofs.SitesInTiles.{none_even, nothing_lent}
 use Rattle.phase_step.proofs.tiles.turn_tile_in_place.Goals as goal
 
