@@ -1,4 +1,4 @@
-use Rattle.std.specs.Prelude.{◌≡◌, ℕ, false, true, ℤ, pos, ◌+ℤ◌, ◌-ℤ◌}
+use Rattle.std.specs.Prelude.{◌≡◌, ℕ, false, true, ℤ, pos}
 use Rattle.gas_terms.specs.Cells.{Cells, Extent, Rectangle, cells_where, extent, HasSidesOf}
 use Rattle.gas_terms.specs.Gas.{Gas}
 use Rattle.gas_terms.specs.Commands.{is_tick}
@@ -38,10 +38,3 @@ empty_gas size = gas_of (pos 0) (no_cells size) (no_cells size) (no_cells size) 
 -- row y of a set of cells
 abbrev pub row_of : Cells → ℕ → Rectangle
 row_of cells y = record { x = 0; y = y; w = cells.width; h = 1 }
-
--- the gas at the next tick, or at the last one, with other particles
-abbrev pub ahead_with : Gas → Cells → Gas
-ahead_with g cells = record g { tick = g.tick +ℤ pos 1; particles = cells }
-
-abbrev pub behind_with : Gas → Cells → Gas
-behind_with g cells = record g { tick = g.tick -ℤ pos 1; particles = cells }

@@ -2,16 +2,14 @@
 
 ghost use Rattle.std.specs.Prelude.{◌≡◌, ◌↔◌, true, pos, ◌+ℤ◌, ◌-ℤ◌, IfOk, IsErr, OnOk, OnErr};
 ghost use Rattle.gas_terms.specs.Cells.{extent, lies_within, HasSidesOf};
-ghost use Rattle.gas_terms.specs.Gas.{act};
 ghost use Rattle.gas_terms.specs.Commands.{enact, fits, is_tick};
 ghost use Rattle.gas_terms.specs.declared.command.Command.TheVariants.{Put, Erase, Row, Wall, Block, Unwall, Unport};
 ghost use Rattle.phase_step.specs.Runs.{gas_after, gas_before, takes_after, takes_before};
 ghost use Rattle.gas_ledger.specs.PortLists.{adding, has_all};
-ghost use Rattle.gas_ledger.specs.Gases.{FitTogether, IsSoundGas, gas_of, ports_of, empty_gas, ahead_with, behind_with};
+ghost use Rattle.gas_ledger.specs.Gases.{FitTogether, IsSoundGas, gas_of, ports_of, empty_gas};
 ghost use Rattle.phase_step.specs.Moves.{moved_by};
 ghost use Rattle.phase_step.specs.PortedRuns.{gas_stepped, steps_take, steps_move};
 
-use crate::apply::apply_ports;
 use crate::change::row_change;
 use crate::port::{Full, Port};
 use crate::ports::Ports;
@@ -22,7 +20,6 @@ use gas_terms::{NoMemory, Rect, Size, Sums, Tick, Took};
 use phase_step::{Flow, Moved, Run, Stepper};
 use std::alloc::Global;
 use std::marker::Model;
-use std::mem;
 
 const NOTHING: Sums = Sums {
     count: 0,
@@ -228,28 +225,6 @@ impl Gas {
         self.ports.clear();
     }
 
-    /// Goes to the next tick with the particles of `next`, and leaves the old ones there.
-    pub fn advance(&mut self, next: &mut Plane)
-        requires tick { is_tick (self.old.tick +ℤ pos 1) ≡ true }
-        requires sides { HasSidesOf next.old self.old.particles }
-        ensures gas { self.new ≡ ahead_with self.old next.old }
-        ensures next { next.new ≡ self.old.particles }
-    {
-        self.tick = self.tick.ahead(1).unwrap();
-        mem::swap(&mut self.particles, next);
-    }
-
-    /// Goes to the tick before with the particles of `last`, and leaves the old ones there.
-    pub fn retreat(&mut self, last: &mut Plane)
-        requires tick { is_tick (self.old.tick -ℤ pos 1) ≡ true }
-        requires sides { HasSidesOf last.old self.old.particles }
-        ensures gas { self.new ≡ behind_with self.old last.old }
-        ensures last { last.new ≡ self.old.particles }
-    {
-        self.tick = self.tick.behind(1).unwrap();
-        mem::swap(&mut self.particles, last);
-    }
-
     /// Steps n ticks forward without the ports. Returns what walls and obstacles took. `spare` must have the gas's size; its
     /// cells are overwritten.
     pub fn run_ahead<S: Stepper>(&mut self, n: u16, spare: &mut Plane, stepper: &mut S) -> Took
@@ -309,13 +284,5 @@ impl Gas {
         *tick = tick.behind(n).unwrap();
         let particles = &mut self.particles;
         stepper.run(particles, &self.walls, &self.obstacles, first, n, spare)
-    }
-
-    /// The port action at the present tick. Returns what came in and what went out.
-    pub fn act(&mut self) -> Moved
-        ensures gas { self.new ≡ act self.old }
-        ensures moved { result ≡ moved_by self.old.tick self.old.particles self.new.particles }
-    {
-        apply_ports(&mut self.particles, &self.ports, self.tick)
     }
 }

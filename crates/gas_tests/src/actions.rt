@@ -65,7 +65,7 @@ fn put(rt: &impl Abort, gas: &mut Gas, x: u32, y: u32) {
     expect_same(&rt, moved.injected.count, 1);
 }
 
-fn step_on(rt: &(impl Abort + AllocGlobal), gas: &mut Gas, n: u16) -> Flow {
+pub fn step_on(rt: &(impl Abort + AllocGlobal), gas: &mut Gas, n: u16) -> Flow {
     let mut spare = Plane::empty(rt.alloc(), gas.size()).expect(rt, "memory");
     expect_that(&rt, gas.tick().ahead(n).is_some());
     gas.step_on(n, &mut spare, &mut Serial)

@@ -3,6 +3,7 @@
 ghost use Rattle.std.specs.Prelude.{◌≡◌, true};
 ghost use Rattle.gas_terms.specs.Cells.{lies_within, extent};
 
+use crate::actions::step_on;
 use crate::expected::{expect_same, expect_that};
 use gas_ledger::{Full, Gas, Moved, Port, Ports, Source, Sums, probe, tally};
 use gas_plane::Plane;
@@ -88,7 +89,7 @@ fn add_sixteen_sources(rt: &impl Abort, gas: &mut Gas) {
 
 #[test]
 fn seventeen_sources(rt: HostRuntime) {
-    let mut gas = gas_at(&rt, 0);
+    let mut gas = gas_at(&rt, -1);
     add_sixteen_sources(&rt, &mut gas);
     let area = area(&rt, &gas, 0, 0, 1, 1);
     expect_same(&rt, gas.add_port(Port::Source(area, 1)), Err(Full));
@@ -97,7 +98,7 @@ fn seventeen_sources(rt: HostRuntime) {
     expect_same(&rt, first.map(|s| (s.area.x(), s.period)), Some((1, 1)));
     drain(&rt, &mut gas, 0, 0, 1, 1);
     expect_same(&rt, gas.ports().drains().len(), 1);
-    let moved = gas.act();
+    let moved = step_on(&rt, &mut gas, 1).moved;
     expect_same(&rt, moved.injected, sums(16, 0, 16));
     gas.remove_ports();
     expect_that(&rt, !gas.ports().any());
@@ -113,23 +114,11 @@ fn full_says_which(rt: HostRuntime) {
     );
 }
 
-#[test]
-fn drained_particle_is_booked(rt: HostRuntime) {
-    let mut gas = gas_at(&rt, 1);
-    drain(&rt, &mut gas, 1, 1, 1, 1);
-    expect_same(&rt, put(&rt, &mut gas, 1, 1, 2, 1).injected, sums(2, 0, 2));
-    let moved = gas.act();
-    expect_same(&rt, moved.injected, sums(0, 0, 0));
-    expect_same(&rt, moved.drained, sums(1, 1, 1));
-    expect_that(&rt, !holds(gas.particles(), 1, 1));
-    expect_that(&rt, holds(gas.particles(), 2, 1));
-}
-
-// a source of this period acts at this tick, or does nothing
-fn acts_at(rt: &(impl Abort + AllocGlobal), number: i64, period: u16, is_due: bool) {
+// a source of this period acts in the step from this tick on, or does nothing
+fn acts_after(rt: &(impl Abort + AllocGlobal), number: i64, period: u16, is_due: bool) {
     let mut gas = gas_at(rt, number);
     source(rt, &mut gas, 10, 10, 1, 1, period);
-    let moved = gas.act();
+    let moved = step_on(rt, &mut gas, 1).moved;
     expect_same(&rt, holds(gas.particles(), 10, 10), is_due);
     expect_same(&rt, moved.injected.count, if is_due { 1 } else { 0 });
     expect_same(&rt, moved.drained, sums(0, 0, 0));
@@ -138,29 +127,29 @@ fn acts_at(rt: &(impl Abort + AllocGlobal), number: i64, period: u16, is_due: bo
 #[test]
 fn source_on_its_period(rt: HostRuntime) {
     for (number, period, is_due) in [
-        (0, 2, true),
-        (0, 65535, true),
-        (1, 1, true),
-        (1, 2, false),
-        (2, 2, true),
-        (3, 2, false),
-        (-1, 2, false),
-        (-2, 2, true),
-        (-6, 3, true),
-        (-7, 3, false),
-        (1_099_511_627_776, 2, true),
+        (-1, 2, true),
+        (-1, 65535, true),
+        (0, 1, true),
+        (0, 2, false),
+        (1, 2, true),
+        (2, 2, false),
+        (-2, 2, false),
+        (-3, 2, true),
+        (-7, 3, true),
+        (-8, 3, false),
+        (1_099_511_627_775, 2, true),
     ] {
-        acts_at(&rt, number, period, is_due);
+        acts_after(&rt, number, period, is_due);
     }
 }
 
 #[test]
 fn source_refills_a_drain(rt: HostRuntime) {
-    let mut gas = gas_at(&rt, 3);
+    let mut gas = gas_at(&rt, 2);
     source(&rt, &mut gas, 5, 6, 1, 1, 1);
     drain(&rt, &mut gas, 5, 6, 1, 1);
     // an empty cell is filled
-    let moved = gas.act();
+    let moved = step_on(&rt, &mut gas, 1).moved;
     expect_same(
         &rt,
         (moved.injected, moved.drained),
@@ -171,11 +160,12 @@ fn source_refills_a_drain(rt: HostRuntime) {
 
 #[test]
 fn drained_and_refilled_cancels(rt: HostRuntime) {
-    let mut gas = gas_at(&rt, 3);
-    expect_same(&rt, put(&rt, &mut gas, 5, 6, 1, 1).injected.count, 1);
+    let mut gas = gas_at(&rt, 2);
+    // it goes to (5, 6)
+    expect_same(&rt, put(&rt, &mut gas, 4, 7, 1, 1).injected.count, 1);
     source(&rt, &mut gas, 5, 6, 1, 1, 1);
     drain(&rt, &mut gas, 5, 6, 1, 1);
-    let moved = gas.act();
+    let moved = step_on(&rt, &mut gas, 1).moved;
     expect_same(
         &rt,
         (moved.injected, moved.drained),
@@ -194,11 +184,12 @@ fn add_ports_across_tiles(rt: &impl Abort, gas: &mut Gas) {
 
 #[test]
 fn ports_across_tiles(rt: HostRuntime) {
-    let mut gas = gas_at(&rt, 0);
+    let mut gas = gas_at(&rt, -1);
     add_ports_across_tiles(&rt, &mut gas);
-    expect_same(&rt, put(&rt, &mut gas, 63, 10, 2, 1).injected.count, 2);
-    expect_same(&rt, put(&rt, &mut gas, 99, 127, 2, 1).injected.count, 2);
-    let moved = gas.act();
+    // they go to (63, 10) and (64, 10), and to (99, 127) and (100, 127)
+    expect_same(&rt, put(&rt, &mut gas, 63, 9, 2, 1).injected.count, 2);
+    expect_same(&rt, put(&rt, &mut gas, 99, 0, 2, 1).injected.count, 2);
+    let moved = step_on(&rt, &mut gas, 1).moved;
     // (63, 10) and (100, 127) are gone, (64, 10) has stayed, (65, 10) and (0, 127) are new
     expect_same(&rt, moved.drained, sums(2, 0, 0));
     expect_same(&rt, moved.injected, sums(2, 0, 0));
@@ -335,36 +326,6 @@ fn wall_removed_again(rt: HostRuntime) {
     expect_that(&rt, !holds(gas.obstacles(), 2, 1));
     expect_that(&rt, holds(gas.walls(), 3, 1));
     expect_that(&rt, holds(gas.obstacles(), 3, 1));
-}
-
-fn go_on(rt: &impl Abort, gas: &mut Gas, next: &mut Plane) {
-    expect_that(&rt, gas.tick().ahead(1).is_some());
-    expect_that(&rt, gas.size() == next.size());
-    gas.advance(next);
-}
-
-fn go_back(rt: &impl Abort, gas: &mut Gas, last: &mut Plane) {
-    expect_that(&rt, gas.tick().behind(1).is_some());
-    expect_that(&rt, gas.size() == last.size());
-    gas.retreat(last);
-}
-
-#[test]
-fn ticks_take_the_next_particles(rt: HostRuntime) {
-    let mut gas = gas_at(&rt, -1);
-    expect_same(&rt, put(&rt, &mut gas, 0, 0, 1, 1).injected.count, 1);
-    let mut other = gas_at(&rt, 0);
-    expect_same(&rt, put(&rt, &mut other, 1, 1, 1, 1).injected.count, 1);
-    let mut next = other.particles().copy(rt.alloc()).expect(&rt, "memory");
-    go_on(&rt, &mut gas, &mut next);
-    expect_same(&rt, gas.tick().get(), 0);
-    expect_that(&rt, holds(gas.particles(), 1, 1));
-    expect_that(&rt, holds(&next, 0, 0));
-    expect_that(&rt, !holds(&next, 1, 1));
-    go_back(&rt, &mut gas, &mut next);
-    expect_same(&rt, gas.tick().get(), -1);
-    expect_that(&rt, holds(gas.particles(), 0, 0));
-    expect_that(&rt, holds(&next, 1, 1));
 }
 
 // A gas with a particle, a wall, an obstacle and a source.
