@@ -12,10 +12,10 @@ use std::convert::AsStr;
 use std::net::SocketAddr;
 
 const ABOUT: &str =
-    "A flow laboratory on the HPP lattice gas: exact steps forwards and backwards, with accounts that balance.";
+    "A flow laboratory on the HPP lattice gas. It steps forwards and backwards, and its sums are exact.";
 
 const EXPERIMENT: &str = "One small experiment:
-  printf 'put 0 0 1 1\\nstep 1\\nprobe 1 1 1 1\\ntally\\n' | gaslab run
+  printf 'put 0 0 1 1\\nstep 1\\nprobe 1 1 1 1\\ntally\\n' | ./gaslab run
 It puts a particle into the cell (0, 0), makes a step, and asks for the count and the
 momentum in the cell (1, 1) and in the whole gas. It prints:
   OK 0
@@ -23,35 +23,51 @@ momentum in the cell (1, 1) and in the whole gas. It prints:
   PROBE 1 1 1
   TALLY 1 1 1 1
 The commands are: put, erase, wall, block, unwall, row, source, drain, unport, step, back, probe,
-tally, ledger, read, entry, save, quit. docs/FORMATS.md says what each takes and answers.";
+tally, ledger, read, entry, save, quit. docs/FORMATS.md has each of them, with its reply.";
 
-const RUN: &str = "Serves one session on standard input and output";
+const RUN: &str =
+    "Runs one session: reads commands from standard input and writes replies to standard output";
 
 const SERVE: &str = "Serves several sessions over sockets, all on one gas";
 
 const NO_COMMAND: &str =
-    "gaslab: say what it should do, as in gaslab run; gaslab --help shows more\n";
+    "gaslab: no command was given. Try ./gaslab run, or ./gaslab --help for more\n";
 
-const RUN_MORE: &str =
-    "Exit status: 0 the session ended by quit or at the end of its input, 1 reading or writing failed,
-2 this command line was not understood, 3 the snapshot was not loaded, 4 memory was refused,
-5 a line was too long or not UTF-8.
-Example:
-  gaslab run --width 256 --height 128 --cap 5000 --save tunnel.gas";
+const RUN_MORE: &str = "Exit status:
+  0  the session ended by quit or at the end of its input
+  1  reading the input or writing a reply failed
+  2  this command line has an error, or asks for help
+  3  the file of --load can't be read or is not a snapshot
+  4  memory ran out: try a smaller lattice
+  5  a line was longer than 2048 bytes or not UTF-8
+Examples:
+  ./gaslab run --width 256 --height 128 --cap 5000 --save tunnel.gas
+  ./gaslab run --load tunnel.gas";
 
 const SERVE_MORE: &str =
-    "It prints LISTEN and its address, waits for its sessions, and when all have ended prints SERVED,
-how many seats were served, how many were not, and how many changes all made together.
-Exit status: 0 the sessions have ended, 1 listening or writing failed, 2 this command line was not
-understood, 3 the snapshot was not loaded, 4 memory was refused.
+    "It prints LISTEN and its address, and waits for clients. When all sessions have ended, it prints
+SERVED, how many seats were served, how many were not, and how many changes all made together.
+Exit status:
+  0  all sessions have ended
+  1  the address can't be used, or standard output failed
+  2  this command line has an error, or asks for help
+  3  the file of --load can't be read or is not a snapshot
+  4  memory ran out: try a smaller lattice
 Example: two people, each with a terminal of their own, on one gas:
-  gaslab serve --listen 127.0.0.1:7878 --sessions 2
+  ./gaslab serve --listen 127.0.0.1:7878 --sessions 2
   nc 127.0.0.1 7878      in the second terminal; type  put 0 0 1 1  and see  OK 0
   nc 127.0.0.1 7878      in the third; type  entry 0  and see  ENTRY 0 put 0 0 1 1
 Each ends with quit.";
 
-const LISTEN_HELP: &str =
-    "The IP address and port where clients connect, port 0 for any that is free, as in --listen 127.0.0.1:7878";
+// what the text of a wrong value says of its option
+#[derive(Clone, Copy)]
+struct Advice {
+    help: &'static str,
+    example: &'static str,
+    default: &'static str,
+}
+
+const LISTEN_HELP: &str = "IP address and port to use, port 0 for a free one";
 
 const ANY_PORT: &str = "127.0.0.1:0";
 
@@ -60,6 +76,7 @@ const ANY_PORT: &str = "127.0.0.1:0";
 struct NumberOption {
     name: &'static str,
     help: &'static str,
+    example: &'static str,
     default: &'static str,
     least: u32,
     most: u32,
@@ -67,7 +84,8 @@ struct NumberOption {
 
 const WIDTH: NumberOption = NumberOption {
     name: "width",
-    help: "How many cells a new lattice is wide: a multiple of 64, from 64 to 4096, as in --width 256",
+    help: "Lattice width in cells: a multiple of 64, from 64 to 4096",
+    example: "256",
     default: "64",
     least: 64,
     most: MOST_SIDE,
@@ -75,7 +93,8 @@ const WIDTH: NumberOption = NumberOption {
 
 const HEIGHT: NumberOption = NumberOption {
     name: "height",
-    help: "How many cells a new lattice is high: a multiple of 64, from 64 to 4096, as in --height 128",
+    help: "Lattice height in cells: a multiple of 64, from 64 to 4096",
+    example: "128",
     default: "64",
     least: 64,
     most: MOST_SIDE,
@@ -83,7 +102,8 @@ const HEIGHT: NumberOption = NumberOption {
 
 const WORKERS: NumberOption = NumberOption {
     name: "workers",
-    help: "How many threads step the gas, which makes no difference but to its speed: from 1 to 16, as in --workers 4",
+    help: "Threads that step the gas, for speed only: from 1 to 16",
+    example: "4",
     default: "1",
     least: 1,
     most: 16,
@@ -91,7 +111,8 @@ const WORKERS: NumberOption = NumberOption {
 
 const CAP: NumberOption = NumberOption {
     name: "cap",
-    help: "How many changes the journal has room for: from 1 to 65536, as in --cap 5000",
+    help: "How many changes the journal has room for: from 1 to 65536",
+    example: "5000",
     default: "1024",
     least: 1,
     most: MOST_ENTRIES,
@@ -99,7 +120,8 @@ const CAP: NumberOption = NumberOption {
 
 const SESSIONS: NumberOption = NumberOption {
     name: "sessions",
-    help: "How many sessions it serves, each once: from 1 to 64, as in --sessions 2",
+    help: "How many sessions to serve, each once: from 1 to 64",
+    example: "2",
     default: "1",
     least: 1,
     most: 64,
@@ -125,21 +147,30 @@ impl NumberOption {
     }
 
     fn fault(self, alloc: Global, found: &ArgMatches<'_>) -> Result<PlanFault, NoMemory> {
-        no_value(alloc, found, self.name, self.help, self.default)
+        let text = Advice {
+            help: self.help,
+            example: self.example,
+            default: self.default,
+        };
+        no_value(alloc, found, self.name, text)
     }
 }
 
-// the text for an option's value that is none
+// the text for a wrong value of an option
 fn no_value(
     alloc: Global,
     found: &ArgMatches<'_>,
     name: &str,
-    help: &str,
-    default: &str,
+    advice: Advice,
 ) -> Result<PlanFault, NoMemory> {
+    let Advice {
+        help,
+        example,
+        default,
+    } = advice;
     let given = found.get_str(name).unwrap_or(default);
     let text = format!(in alloc;
-        "gaslab: {given} is no value for --{name}. {help}; without it the value is {default}.\n"
+        "gaslab: --{name} can't be {given}.\n{help}, as in --{name} {example}. The default is {default}.\n"
     )?;
     Ok(PlanFault::Line(text))
 }
@@ -158,10 +189,8 @@ fn command<'a>(
     about: &'a str,
     more: &'a str,
 ) -> Result<Command<'a>, clap::Error> {
-    let load =
-        "Start from the snapshot in this file, whose size then holds, as in --load tunnel.gas";
-    let save =
-        "Where the command save writes its snapshot; without it save is refused; as in --save tunnel.gas";
+    let load = "Start from the snapshot in this file, with its width and height";
+    let save = "File for the command save; without it, save gets ERR 15 save";
     Ok(
         Command::new(alloc, name)
             .about(about)
@@ -190,7 +219,7 @@ fn serve_command<'a>(alloc: Global) -> Result<Command<'a>, clap::Error> {
 
 // the program, without its commands
 fn program<'a>(alloc: Global) -> Result<Command<'a>, clap::Error> {
-    let program = Command::new(alloc, "gaslab").bin_name("gaslab")?;
+    let program = Command::new(alloc, "gaslab").bin_name("./gaslab")?;
     Ok(
         program
             .about(ABOUT)
@@ -233,9 +262,14 @@ fn serving(alloc: Global, found: &ArgMatches<'_>) -> Result<Service, PlanFault>
     ensures { IfOk result HasSessions }
 {
     let sessions = SESSIONS.number(alloc, found)? as u8;
+    let advice = Advice {
+        help: LISTEN_HELP,
+        example: "127.0.0.1:7878",
+        default: ANY_PORT,
+    };
     match found.get_one::<SocketAddr>("listen") {
         Some(address) => Ok(Service::Serve { address, sessions }),
-        None => Err(no_value(alloc, found, "listen", LISTEN_HELP, ANY_PORT)?),
+        None => Err(no_value(alloc, found, "listen", advice)?),
     }
 }
 
