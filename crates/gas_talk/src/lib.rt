@@ -1,7 +1,8 @@
 //! Sessions: `session` reads lines, asks each of a door, and writes each reply. `serve_alone` is a session on a laboratory
 //! that nobody else uses.
 //!
-//! The program calls `serve_alone` for a run and `session` for each session of a server.
+//! The program calls `serve_alone` for a run and `session::serve_door` for each session of a server. `session::session`, which
+//! counts its reads in a `ReadCount`, and the laws are there for callers of the library.
 #![tactic(auto)]
 
 mod alone;
