@@ -259,9 +259,9 @@ class OtherSides(unittest.TestCase):
     def test_a_program_that_says_why(self):
         with tempfile.TemporaryDirectory() as room:
             program = Path(room, "program")
-            program.write_text("#!/bin/sh\necho load: short >&2\nexit 3\n")
+            program.write_text("#!/bin/sh\necho it ends too early >&2\nexit 3\n")
             program.chmod(0o755)
-            with self.assertRaisesRegex(Gone, "status 3; it said: load: short"):
+            with self.assertRaisesRegex(Gone, "status 3; it said: it ends too early"):
                 Lab.run(program=program)
             program.write_text("#!/bin/sh\necho compiling >&2\nexec sleep 9\n")
             with self.assertRaisesRegex(Silent, "2 seconds: it said: compiling"):
