@@ -164,11 +164,11 @@ in_classes has a b c d first second third fourth =
     omega (arith, split, odd, in_columns has 0, in_columns has 1, first, second, third, fourth)
 
 -- two rows of a class in one word
-pub ones_of_two : (w first second : ℕ) → w < 2 ^ 64 → ((i : ℕ) → i < 32 → bit w i ≡ bit first i) → ((i : ℕ) → i < 32 → bit w (32 + i) ≡ bit second i) → count_ones w ≡ count_below 32 (bit first) + count_below 32 (bit second)
+pub ones_of_two : (w : ℕ) (first second : ℕ → Bool) → w < 2 ^ 64 → ((i : ℕ) → i < 32 → bit w i ≡ first i) → ((i : ℕ) → i < 32 → bit w (32 + i) ≡ second i) → count_ones w ≡ count_below 32 first + count_below 32 second
 ones_of_two w first second fits low high =
     ones_are_bits w 64 fits
     ∙ (count_below-parts 32 32 (bit w)
-    ∙ ap₂ (λ a b. a + b) (count_below-same 32 (bit w) (bit first) low) (count_below-same 32 (λ i. bit w (32 + i)) (bit second) high))
+    ∙ ap₂ (λ a b. a + b) (count_below-same 32 (bit w) first low) (count_below-same 32 (λ i. bit w (32 + i)) second high))
 
 pub two_rows_more : (n j more : ℕ) (f : ℕ → ℕ) → n ≡ sum_below (2 * j) f → more ≡ f (2 * j) + f (2 * j + 1) → n + more ≡ sum_below (2 * (j + 1)) f
 two_rows_more n j more f so_far here =

@@ -13,13 +13,13 @@ use Rattle.bit_tile.specs.Tile.{has, HasCells}
 use Rattle.bit_tile.specs.declared.Tile.{Tile}
 use Rattle.bit_tile.proofs.Bits.{bit-zero, bit-and, bit-or}
 use Rattle.bit_tile.proofs.Words32.{bit-not}
-use Rattle.bit_tile.proofs.Sums.{ones_are_bits, sum_below-zero, sum_below-more, sum_below-same, count_below-same, count_below-none}
-use Rattle.bit_tile.proofs.Counts.{class_count}
+use Rattle.bit_tile.proofs.Sums.{sum_below-zero, sum_below-more, sum_below-same, count_below-same, count_below-none}
+use Rattle.bit_tile.proofs.Counts.{class_count, ones_of_two}
 use Rattle.bit_tile.proofs.Classes.{IsClass}
 use Rattle.gas_terms.specs.declared.accounts.Pair.{Pair}
 use Rattle.block_rule.specs.Around.{turned, none, either, is_walled_at, is_for_walls, twice_momentum, taken}
 use Rattle.block_rule.specs.Cell.{turned_cell, made}
-use Rattle.block_rule.specs.Classes.{class, AreCounts, IsHeldIn, AreWordsOf}
+use Rattle.block_rule.specs.Classes.{class, AreCounts, IsHeldIn, IsBlankRow}
 use Rattle.block_rule.specs.Rows.{ShowsTile}
 use Rattle.block_rule.specs.Lent.{HasNoCell, IsLentOf, AreWalledCells}
 use Rattle.std.specs.Borrow.{Bor}
@@ -49,47 +49,53 @@ held_word old new solid i fits within =
     ∙ (ap₂ (λ u v. u || v) (bit-and old solid i) (bit-and new (bit_not w32 solid) i ∙ ap (λ b. bit new i && b) (bit-not solid i fits within))
     ∙ either_word (bit old i) (bit new i) (bit solid i))
 
--- the ones in these places
-pub ones_among : (row places : ℕ) → row < 2 ^ 32 → count_ones (bit_and row places) ≡ count_below 32 (λ i. bit row i && bit places i)
-ones_among row places fits =
-    ones_are_bits (bit_and row places) 32 (omega (arith, and_le_l row places)) ∙ count_below-same 32 _ _ (λ i _. bit-and row places i)
-
 -- a row without places
-pub nothing_there : (row places i : ℕ) (a b : Bool) → places ≡ 0 → b ≡ (if bit places i then a else b)
-nothing_there row places i a b e = rw (e, bit-zero i)
+nothing_there : (places i : ℕ) (a b : Bool) → places ≡ 0 → b ≡ (if bit places i then a else b)
+nothing_there places i a b e = rw (e, bit-zero i)
 
 none_among : (row places : ℕ) → places ≡ 0 → count_below 32 (λ i. bit row i && bit places i) ≡ 0
 none_among row places e = count_below-same 32 _ (λ _. false) (λ i _. and_false (bit row i) (bit places i) (rw (e, bit-zero i))) ∙ count_below-none 32
 
--- the particles of the first rows, with those of one more
-abbrev pub among : List ℕ → (ℕ → ℕ) → ℕ → ℕ
-among old places k = count_below 32 (λ i. bit (get_or old k 0) i && bit (places k) i)
+-- how many of a row's cells are in places
+abbrev pub among : List ℕ → List ℕ → ℕ → ℕ
+among old places k = count_below 32 (λ i. bit (get_or old k 0) i && bit (get_or places k 0) i)
 
--- those of one row more
-pub row_more : (old : List ℕ) (places : ℕ → ℕ) (n j there before next : ℕ) → get_or old j 0 < 2 ^ 32 → there ≡ places j → n + before ≡ sum_below j (among old places) → next ≡ j + 1 → n + count_ones (bit_and (get_or old j 0) there) + before ≡ sum_below next (among old places)
-row_more old places n j there before next fits is so_far e =
-    let here = ones_among (get_or old j 0) there fits ∙ ap (λ w. count_below 32 (λ i. bit (get_or old j 0) i && bit w i)) is in
-    rw e (omega (arith, so_far, here, sum_below-more j (among old places)))
+-- the ones that two words have, each of two rows
+pub ones_among : (cells there : ℕ) (old places : List ℕ) (j : ℕ) → cells < 2 ^ 64 → ((i : ℕ) → i < 32 → bit cells i ≡ bit (get_or old j 0) i) → ((i : ℕ) → i < 32 → bit cells (32 + i) ≡ bit (get_or old (j + 1) 0) i)
+    → ((i : ℕ) → i < 32 → bit there i ≡ bit (get_or places j 0) i) → ((i : ℕ) → i < 32 → bit there (32 + i) ≡ bit (get_or places (j + 1) 0) i) → count_ones (bit_and cells there) ≡ among old places j + among old places (j + 1)
+ones_among cells there old places j fits first second first_there second_there =
+    ones_of_two (bit_and cells there) (λ i. bit (get_or old j 0) i && bit (get_or places j 0) i) (λ i. bit (get_or old (j + 1) 0) i && bit (get_or places (j + 1) 0) i) (omega (arith, and_le_l cells there))
+    (λ i h. bit-and cells there i ∙ ap₂ (λ a b. a && b) (first i h) (first_there i h))
+    (λ i h. bit-and cells there (32 + i) ∙ ap₂ (λ a b. a && b) (second i h) (second_there i h))
 
-no_row_more : (old : List ℕ) (places : ℕ → ℕ) (j : ℕ) → places j ≡ 0 → sum_below (j + 1) (among old places) ≡ sum_below j (among old places)
-no_row_more old places j e = omega (arith, none_among (get_or old j 0) (places j) e, sum_below-more j (among old places))
+-- those of two rows more
+pub rows_more : (old places : List ℕ) (n more j next before : ℕ) → n + before ≡ sum_below j (among old places) → more ≡ among old places j + among old places (j + 1) → next ≡ j + 1 + 1 → n + more + before ≡ sum_below next (among old places)
+rows_more old places n more j next before so_far here e =
+    rw e (omega (arith, so_far, here, sum_below-more j (among old places), sum_below-more (j + 1) (among old places)))
+
+no_row_more : (old places : List ℕ) (j : ℕ) → get_or places j 0 ≡ 0 → sum_below (j + 1) (among old places) ≡ sum_below j (among old places)
+no_row_more old places j e = omega (arith, none_among (get_or old j 0) (get_or places j 0) e, sum_below-more j (among old places))
 
 -- rows without places
-pub no_rows_more : (old : List ℕ) (places : ℕ → ℕ) (from n : ℕ) → ((k : ℕ) → from ≤ k → k < from + n → places k ≡ 0) → sum_below (from + n) (among old places) ≡ sum_below from (among old places)
+no_rows_more : (old places : List ℕ) (from n : ℕ) → ((k : ℕ) → from ≤ k → k < from + n → get_or places k 0 ≡ 0) → sum_below (from + n) (among old places) ≡ sum_below from (among old places)
 no_rows_more old places from zero none = ap (λ m. sum_below m (among old places)) (omega arith)
 no_rows_more old places from (suc n) none =
     ap (λ m. sum_below m (among old places)) (let e : from + suc n ≡ from + n + 1 = omega arith in e)
     ∙ (no_row_more old places (from + n) (none (from + n) (omega arith) (omega arith)) ∙ no_rows_more old places from n (λ k low high. none k low (omega arith)))
 
-pub or_is_zero : (a b : ℕ) → bit_or a b ≡ 0 → (a ≡ 0) × (b ≡ 0)
+or_is_zero : (a b : ℕ) → bit_or a b ≡ 0 → (a ≡ 0) × (b ≡ 0)
 or_is_zero a b e = (omega (arith, e, le_or_l a b), omega (arith, e, le_or_r a b))
 
 -- a loop has seen the rows from `from` up to j
-pub none_so_far : (rows : List ℕ) (from j any : ℕ) → (any ≡ 0 → (k : ℕ) → from ≤ k → k < j → get_or rows k 0 ≡ 0) → bit_or any (get_or rows j 0) ≡ 0 → (k : ℕ) → from ≤ k → k < j + 1 → get_or rows k 0 ≡ 0
-none_so_far rows from j any before e k low high =
-    let both = or_is_zero any (get_or rows j 0) e in
+pub none_so_far : (t : Tile) (from j any : ℕ) → (any ≡ 0 → (k : ℕ) → from ≤ k → k < j → IsBlankRow t k)
+    → bit_or any (bit_or (bit_or (get_or t.even_even j 0) (get_or t.odd_even j 0)) (bit_or (get_or t.even_odd j 0) (get_or t.odd_odd j 0))) ≡ 0 → (k : ℕ) → from ≤ k → k < j + 1 → IsBlankRow t k
+none_so_far t from j any before e k low high =
+    let both = or_is_zero any _ e in
+    let rows = or_is_zero _ _ both.1 in
+    let even = or_is_zero _ _ rows.0 in
+    let odd = or_is_zero _ _ rows.1 in
     elim (cases_eq k j) [
-      | inl same ↦ rw same both.1
+      | inl same ↦ rw same record { even_even = even.0; odd_even = even.1; even_odd = odd.0; odd_odd = odd.1 }
       | inr other ↦ before both.0 k low (omega arith)
     ]
 
@@ -106,12 +112,12 @@ row_from j from k e (inl h) = inl h
 row_from j from k e (inr h) = inr (omega arith)
 
 -- a class whose first rows, eight at a time, have the old cells back, and the count of those
-pub record HeldSoFar (old : List ℕ) (places : ℕ → ℕ) (before after : List ℕ) (n k : ℕ) : Type 0 where
+pub record HeldSoFar (old places before after : List ℕ) (n k : ℕ) : Type 0 where
   pub held : IsHeldIn 0 (k * 8) old places before after
   pub count : n ≡ sum_below (k * 8) (among old places)
   pub bound : n ≤ 256 * k
 
-pub nothing_held : (old : List ℕ) (places : ℕ → ℕ) (before : List ℕ) → HeldSoFar old places before before 0 0
+pub nothing_held : (old places before : List ℕ) → HeldSoFar old places before before 0 0
 nothing_held old places before =
     record {
       held = record { cells = λ i j _ _ below. absurd (omega arith); rest = λ j _. refl };
@@ -119,14 +125,14 @@ nothing_held old places before =
       bound = omega arith;
     }
 
-pub held_more : (old : List ℕ) (places : ℕ → ℕ) (before class after : List ℕ) (n m k : ℕ) → HeldSoFar old places before class n k → IsHeldIn (k * 8) (k * 8 + 8) old places class after → m + sum_below (k * 8) (among old places) ≡ sum_below (k * 8 + 8) (among old places) → m ≤ 256 → HeldSoFar old places before after (n + m) (k + 1)
+pub held_more : (old places before class after : List ℕ) (n m k : ℕ) → HeldSoFar old places before class n k → IsHeldIn (k * 8) (k * 8 + 8) old places class after → m + sum_below (k * 8) (among old places) ≡ sum_below (k * 8 + 8) (among old places) → m ≤ 256 → HeldSoFar old places before after (n + m) (k + 1)
 held_more old places before class after n m k was here counted few =
     let next : (k + 1) * 8 ≡ k * 8 + 8 = omega arith in
     record {
       held = record {
         cells = λ i j h _ below. elim (cases_lt j (k * 8)) [
           | inl low ↦ ap (λ w. bit w i) (here.rest j (inl low)) ∙ was.held.cells i j h (omega arith) low
-          | inr high ↦ here.cells i j h high (omega arith) ∙ ap (λ w. if bit (places j) i then bit (get_or old j 0) i else bit w i) (was.held.rest j (inr high))
+          | inr high ↦ here.cells i j h high (omega arith) ∙ ap (λ w. if bit (get_or places j 0) i then bit (get_or old j 0) i else bit w i) (was.held.rest j (inr high))
         ];
         rest = λ j outside. here.rest j (above_next j outside) ∙ was.held.rest j (above_now j outside);
       };
@@ -142,14 +148,14 @@ held_more old places before class after n m k was here counted few =
     above_now j (inl h) = absurd (omega arith)
     above_now j (inr h) = inr (omega arith)
 
-pub none_more : (old : List ℕ) (places : ℕ → ℕ) (before class : List ℕ) (n k : ℕ) → HeldSoFar old places before class n k → ((j : ℕ) → k * 8 ≤ j → j < k * 8 + 8 → places j ≡ 0) → HeldSoFar old places before class n (k + 1)
+pub none_more : (old places before class : List ℕ) (n k : ℕ) → HeldSoFar old places before class n k → ((j : ℕ) → k * 8 ≤ j → j < k * 8 + 8 → get_or places j 0 ≡ 0) → HeldSoFar old places before class n (k + 1)
 none_more old places before class n k was none =
     let next : (k + 1) * 8 ≡ k * 8 + 8 = omega arith in
     record {
       held = record {
         cells = λ i j h _ below. elim (cases_lt j (k * 8)) [
           | inl low ↦ was.held.cells i j h (omega arith) low
-          | inr high ↦ ap (λ w. bit w i) (was.held.rest j (inr high)) ∙ nothing_there 0 (places j) i _ _ (none j high (omega arith))
+          | inr high ↦ ap (λ w. bit w i) (was.held.rest j (inr high)) ∙ nothing_there (get_or places j 0) i _ _ (none j high (omega arith))
         ];
         rest = λ j outside. was.held.rest j (above_now j outside);
       };
@@ -162,22 +168,22 @@ none_more old places before class n k was none =
     above_now j (inr h) = inr (omega arith)
 
 -- all of its rows
-pub all_held : (old : List ℕ) (places : ℕ → ℕ) (before after : List ℕ) (n k : ℕ) → k ≡ 4 → HeldSoFar old places before after n k → (i j : ℕ) → i < 32 → j < 32 → bit (get_or after j 0) i ≡ (if bit (places j) i then bit (get_or old j 0) i else bit (get_or before j 0) i)
+pub all_held : (old places before after : List ℕ) (n k : ℕ) → k ≡ 4 → HeldSoFar old places before after n k → (i j : ℕ) → i < 32 → j < 32 → bit (get_or after j 0) i ≡ (if bit (get_or places j 0) i then bit (get_or old j 0) i else bit (get_or before j 0) i)
 all_held old places before after n k e is i j h below = is.held.cells i j h (omega arith) (omega arith)
 
-pub all_counted : (old : List ℕ) (places : ℕ → ℕ) (before after : List ℕ) (n k : ℕ) → k ≡ 4 → HeldSoFar old places before after n k → n ≡ sum_below 32 (among old places)
+pub all_counted : (old places before after : List ℕ) (n k : ℕ) → k ≡ 4 → HeldSoFar old places before after n k → n ≡ sum_below 32 (among old places)
 all_counted old places before after n k e is =
     let all : k * 8 ≡ 32 = omega arith in
     is.count ∙ ap (λ m. sum_below m (among old places)) all
 
 -- the particles of a class in these places
-pub class_among : (old : List ℕ) (places : ℕ → ℕ) (p q n : ℕ) (had there : ℕ → ℕ → Bool) → p < 2 → q < 2 → IsClass old p q had → AreWordsOf p q places there → n ≡ sum_below 32 (among old places) → n ≡ class (λ x y. had x y && there x y) p q
+pub class_among : (old places : List ℕ) (p q n : ℕ) (had there : ℕ → ℕ → Bool) → p < 2 → q < 2 → IsClass old p q had → IsClass places p q there → n ≡ sum_below 32 (among old places) → n ≡ class (λ x y. had x y && there x y) p q
 class_among old places p q n had there p_two q_two is_old is_places counted =
     counted
     ∙ (sum_below-same 32 _ _ (λ k in_column. count_below-same 32 _ (λ i. had (2 * i + p) (2 * k + q) && there (2 * i + p) (2 * k + q)) (λ i in_row. ap₂ (λ a b. a && b) (is_old i k in_row in_column) (is_places i k in_row in_column)))
     ∙ sym (class_count (λ x y. had x y && there x y) p q p_two q_two))
 
-pub class_held : (old : List ℕ) (places : ℕ → ℕ) (before class : List ℕ) (p q : ℕ) (had there was : ℕ → ℕ → Bool) → IsClass old p q had → AreWordsOf p q places there → IsClass before p q was → ((i j : ℕ) → i < 32 → j < 32 → bit (get_or class j 0) i ≡ (if bit (places j) i then bit (get_or old j 0) i else bit (get_or before j 0) i)) → IsClass class p q (λ x y. if there x y then had x y else was x y)
+pub class_held : (old places before class : List ℕ) (p q : ℕ) (had there was : ℕ → ℕ → Bool) → IsClass old p q had → IsClass places p q there → IsClass before p q was → ((i j : ℕ) → i < 32 → j < 32 → bit (get_or class j 0) i ≡ (if bit (get_or places j 0) i then bit (get_or old j 0) i else bit (get_or before j 0) i)) → IsClass class p q (λ x y. if there x y then had x y else was x y)
 class_held old places before class p q had there was is_old is_places is_before is i j h k =
     is i j h k
     ∙ (ap (λ t. if t then bit (get_or old j 0) i else bit (get_or before j 0) i) (is_places i j h k)

@@ -6,7 +6,6 @@ use Rattle.bit_tile.specs.Tile.{HasCells}
 use Rattle.bit_tile.specs.declared.Tile.{Tile}
 use Rattle.bit_tile.proofs.Classes.{by_class, even_even_at, odd_even_at, even_odd_at, odd_odd_at}
 use Rattle.block_rule.specs.Cell.{made, partner}
-use Rattle.block_rule.specs.Classes.{AreWordsOf}
 use Rattle.block_rule.specs.Rows.{ShowsTile, ShowsRound, IsMade, ShowsRows, IsMadeOdd, even_row, odd_row, beside_left, beside_right, eight_row}
 use Rattle.block_rule.specs.declared.blocks.Blocks.{Blocks}
 use Rattle.block_rule.specs.declared.blocks.EightRows.{EightRows}
@@ -86,40 +85,26 @@ even_row_rest tile new j k later =
     let other : k ≡ j → ⊥ = λ e. omega arith in
     same_blocks _ _ _ _ _ _ _ _ (get_or-set_other tile.even_even j k new.upper_left 0 other) (get_or-set_other tile.odd_even j k new.upper_right 0 other) (get_or-set_other tile.even_odd j k new.lower_left 0 other) (get_or-set_other tile.odd_odd j k new.lower_right 0 other)
 
--- words by their classes, row by row: those of the cells that pass the test
-pub record AreClasses (ee oe eo oo : ℕ → ℕ) (test : ℕ → ℕ → Bool) : Type 0 where
-  pub even_even : AreWordsOf 0 0 ee test
-  pub odd_even : AreWordsOf 1 0 oe test
-  pub even_odd : AreWordsOf 0 1 eo test
-  pub odd_odd : AreWordsOf 1 1 oo test
-
--- the even blocks' words
-pub even_words : (cell : Bool → Bool → Bool → Bool → Bool) (window : ℕ → ℕ → Bool) (tile : Tile) (ee oe eo oo : ℕ → ℕ) → ShowsTile window tile → ((k : ℕ) → k < 32 → IsMade cell (even_row tile k) (record { upper_left = ee k; upper_right = oe k; lower_left = eo k; lower_right = oo k })) → AreClasses ee oe eo oo (made cell 0 window)
-even_words cell window tile ee oe eo oo shows done =
-    record {
-      even_even = λ i j h k.
-          (done j k).upper_left i h
-          ∙ (cell_by cell _ _ _ _ _ _ _ _ (sym (ee_shown window tile shows i j h k)) (sym (oe_shown window tile shows i j h k)) (sym (eo_shown window tile shows i j h k)) (sym (oo_shown window tile shows i j h k))
-          ∙ sym (made_by_places cell 0 window (2 * i + 0) (2 * j + 0) (2 * i + 1) (2 * j + 1) (2 * i + 2) (2 * j + 2) (omega arith) (omega arith) (partner_first 0 (2 * i + 0) (omega arith) ∙ omega arith) (partner_first 0 (2 * j + 0) (omega arith) ∙ omega arith)));
-      odd_even = λ i j h k.
-          (done j k).upper_right i h
-          ∙ (cell_by cell _ _ _ _ _ _ _ _ (sym (oe_shown window tile shows i j h k)) (sym (ee_shown window tile shows i j h k)) (sym (oo_shown window tile shows i j h k)) (sym (eo_shown window tile shows i j h k))
-          ∙ sym (made_by_places cell 0 window (2 * i + 1) (2 * j + 0) (2 * i + 2) (2 * j + 1) (2 * i + 1) (2 * j + 2) (omega arith) (omega arith) (partner_second 0 (2 * i + 1) (omega arith)) (partner_first 0 (2 * j + 0) (omega arith) ∙ omega arith)));
-      even_odd = λ i j h k.
-          (done j k).lower_left i h
-          ∙ (cell_by cell _ _ _ _ _ _ _ _ (sym (eo_shown window tile shows i j h k)) (sym (oo_shown window tile shows i j h k)) (sym (ee_shown window tile shows i j h k)) (sym (oe_shown window tile shows i j h k))
-          ∙ sym (made_by_places cell 0 window (2 * i + 0) (2 * j + 1) (2 * i + 1) (2 * j + 2) (2 * i + 2) (2 * j + 1) (omega arith) (omega arith) (partner_first 0 (2 * i + 0) (omega arith) ∙ omega arith) (partner_second 0 (2 * j + 1) (omega arith))));
-      odd_odd = λ i j h k.
-          (done j k).lower_right i h
-          ∙ (cell_by cell _ _ _ _ _ _ _ _ (sym (oo_shown window tile shows i j h k)) (sym (eo_shown window tile shows i j h k)) (sym (oe_shown window tile shows i j h k)) (sym (ee_shown window tile shows i j h k))
-          ∙ sym (made_by_places cell 0 window (2 * i + 1) (2 * j + 1) (2 * i + 2) (2 * j + 2) (2 * i + 1) (2 * j + 1) (omega arith) (omega arith) (partner_second 0 (2 * i + 1) (omega arith)) (partner_second 0 (2 * j + 1) (omega arith))));
-    }
-
 -- the even blocks' cells
 pub even_cells : (cell : Bool → Bool → Bool → Bool → Bool) (window : ℕ → ℕ → Bool) (tile out : Tile) → ShowsTile window tile → ((k : ℕ) → k < 32 → IsMade cell (even_row tile k) (even_row out k)) → HasCells out (made cell 0 window)
 even_cells cell window tile out shows done =
-    let words = even_words cell window tile (λ k. get_or out.even_even k 0) (λ k. get_or out.odd_even k 0) (λ k. get_or out.even_odd k 0) (λ k. get_or out.odd_odd k 0) shows done in
-    by_class out (made cell 0 window) words.even_even words.odd_even words.even_odd words.odd_odd
+    by_class out (made cell 0 window)
+    (λ i j h k.
+    (done j k).upper_left i h
+    ∙ (cell_by cell _ _ _ _ _ _ _ _ (sym (ee_shown window tile shows i j h k)) (sym (oe_shown window tile shows i j h k)) (sym (eo_shown window tile shows i j h k)) (sym (oo_shown window tile shows i j h k))
+    ∙ sym (made_by_places cell 0 window (2 * i + 0) (2 * j + 0) (2 * i + 1) (2 * j + 1) (2 * i + 2) (2 * j + 2) (omega arith) (omega arith) (partner_first 0 (2 * i + 0) (omega arith) ∙ omega arith) (partner_first 0 (2 * j + 0) (omega arith) ∙ omega arith))))
+    (λ i j h k.
+    (done j k).upper_right i h
+    ∙ (cell_by cell _ _ _ _ _ _ _ _ (sym (oe_shown window tile shows i j h k)) (sym (ee_shown window tile shows i j h k)) (sym (oo_shown window tile shows i j h k)) (sym (eo_shown window tile shows i j h k))
+    ∙ sym (made_by_places cell 0 window (2 * i + 1) (2 * j + 0) (2 * i + 2) (2 * j + 1) (2 * i + 1) (2 * j + 2) (omega arith) (omega arith) (partner_second 0 (2 * i + 1) (omega arith)) (partner_first 0 (2 * j + 0) (omega arith) ∙ omega arith))))
+    (λ i j h k.
+    (done j k).lower_left i h
+    ∙ (cell_by cell _ _ _ _ _ _ _ _ (sym (eo_shown window tile shows i j h k)) (sym (oo_shown window tile shows i j h k)) (sym (ee_shown window tile shows i j h k)) (sym (oe_shown window tile shows i j h k))
+    ∙ sym (made_by_places cell 0 window (2 * i + 0) (2 * j + 1) (2 * i + 1) (2 * j + 2) (2 * i + 2) (2 * j + 1) (omega arith) (omega arith) (partner_first 0 (2 * i + 0) (omega arith) ∙ omega arith) (partner_second 0 (2 * j + 1) (omega arith)))))
+    (λ i j h k.
+    (done j k).lower_right i h
+    ∙ (cell_by cell _ _ _ _ _ _ _ _ (sym (oo_shown window tile shows i j h k)) (sym (eo_shown window tile shows i j h k)) (sym (oe_shown window tile shows i j h k)) (sym (ee_shown window tile shows i j h k))
+    ∙ sym (made_by_places cell 0 window (2 * i + 1) (2 * j + 1) (2 * i + 2) (2 * j + 2) (2 * i + 1) (2 * j + 1) (omega arith) (omega arith) (partner_second 0 (2 * i + 1) (omega arith)) (partner_second 0 (2 * j + 1) (omega arith)))))
 
 -- a loop writes row j of odd blocks
 pub odd_row_more : (cell : Bool → Bool → Bool → Bool → Bool) (window : ℕ → ℕ → Bool) (out : Tile) (new : Blocks) (from j : ℕ) → j < length out.odd_odd → j < length out.even_odd → j + 1 < length out.odd_even → j + 1 < length out.even_even →

@@ -1,4 +1,4 @@
-use Rattle.std.specs.Prelude.{◌≡◌, ℕ, ◌+◌, ◌*◌, ◌%◌, ◌<◌, ◌≤◌, ◌⊎◌, ◌==◌, Bool, ◌&&◌, if◌then◌else◌, List, slice_index}
+use Rattle.std.specs.Prelude.{◌≡◌, ℕ, ◌+◌, ◌%◌, ◌<◌, ◌≤◌, ◌⊎◌, ◌==◌, Bool, ◌&&◌, if◌then◌else◌, List, slice_index}
 use Rattle.bit_tile.specs.Bit.{bit}
 use Rattle.bit_tile.specs.Sums.{sum_below, count_below}
 use Rattle.bit_tile.specs.Tile.{count_cells}
@@ -23,30 +23,22 @@ pub record AreCounts (c : Classes) (cells : ℕ → ℕ → Bool) : Type 0 where
   pub even_odd : c.even_odd ≡ class cells 0 1
   pub odd_odd : c.odd_odd ≡ class cells 1 1
 
--- how many cells of a class's first n rows are in places: row j has those of the word that is given for it
-abbrev pub particles_among : List ℕ → (ℕ → ℕ) → ℕ → ℕ
-particles_among old places n = sum_below n (λ j. count_below 32 (λ i. bit (slice_index old j) i && bit (places j) i))
+-- how many of a class's cells in its first n rows are in places
+abbrev pub particles_among : List ℕ → List ℕ → ℕ → ℕ
+particles_among old places n = sum_below n (λ j. count_below 32 (λ i. bit (slice_index old j) i && bit (slice_index places j) i))
 
 -- there are n of them in the rows from `from` up to `to`
-abbrev pub AreParticlesIn : ℕ → ℕ → List ℕ → (ℕ → ℕ) → ℕ → Type 0
+abbrev pub AreParticlesIn : ℕ → ℕ → List ℕ → List ℕ → ℕ → Type 0
 AreParticlesIn from to old places n = n + particles_among old places from ≡ particles_among old places to
 
 -- a class's word j with the old cells of these places put back
-abbrev pub kept : List ℕ → (ℕ → ℕ) → List ℕ → ℕ → ℕ → Bool
-kept old places before j i = if bit (places j) i then bit (slice_index old j) i else bit (slice_index before j) i
+abbrev pub kept : List ℕ → List ℕ → List ℕ → ℕ → ℕ → Bool
+kept old places before j i = if bit (slice_index places j) i then bit (slice_index old j) i else bit (slice_index before j) i
 
 -- the rows from `from` up to `to` have the old cells of these places back, and the others are as before
-pub record IsHeldIn (from to : ℕ) (old : List ℕ) (places : ℕ → ℕ) (before after : List ℕ) : Type 0 where
+pub record IsHeldIn (from to : ℕ) (old places before after : List ℕ) : Type 0 where
   pub cells : (i j : ℕ) → i < 32 → from ≤ j → j < to → bit (slice_index after j) i ≡ kept old places before j i
   pub rest : (j : ℕ) → (j < from) ⊎ (to ≤ j) → slice_index after j ≡ slice_index before j
-
--- row by row, these are the words of a class that has the cells that pass the test: its first cell is (p, q)
-abbrev pub AreWordsOf : ℕ → ℕ → (ℕ → ℕ) → (ℕ → ℕ → Bool) → Type 0
-AreWordsOf p q words test = (i j : ℕ) → i < 32 → j < 32 → bit (words j) i ≡ test (2 * i + p) (2 * j + q)
-
--- eight words are those of the rows from `from` on
-abbrev pub AreWordsFrom : ℕ → List ℕ → (ℕ → ℕ) → Type 0
-AreWordsFrom from eight words = (k : ℕ) → k < 8 → slice_index eight k ≡ words (from + k)
 
 -- none of the four classes has a cell in its row j
 pub record IsBlankRow (t : Tile) (j : ℕ) : Type 0 where

@@ -4,103 +4,68 @@ ghost use Rattle.std.specs.Prelude.{◌≡◌, ℕ, ◌+◌, ◌*◌, ◌<◌, �
 ghost use Rattle.bit_tile.specs.Bit.{bit};
 ghost use Rattle.bit_tile.specs.Tile.{has, HasCells};
 ghost use Rattle.block_rule.specs.Around.{twice_momentum};
-ghost use Rattle.block_rule.specs.Classes.{HasAtMost, AreCounts, AreParticlesIn, AreWordsFrom, IsBlankRow, IsHeldIn, kept};
+ghost use Rattle.block_rule.specs.Classes.{HasAtMost, AreCounts, AreParticlesIn, IsBlankRow, IsHeldIn, kept};
 
-use bit_tile::Tile;
+use bit_tile::{Tile, joined};
 use gas_terms::Pair;
 
-/// Rows of a class that are looked at together.
-pub const TOGETHER: usize = 8;
+// rows of a class that are looked at together
+const TOGETHER: usize = 8;
 
-// 0 just if none of the rows from `from` on has a cell
+// 0 just if no class has a cell in the eight rows from `from` on
 #[inline]
-fn any_in(rows: &[u32; 32], from: usize) -> u32
-    requires { from + 8 ≤ 32 }
-    ensures { result ≡ 0 → (j : ℕ) → from ≤ j → j < from + 8 → slice_index rows.now j ≡ 0 }
-{
-    let mut any = 0;
-    for j in from..from + TOGETHER {
-        any |= rows[j];
-    }
-    any
-}
-
-// the same of all four classes
-#[inline]
-fn any_in_classes(places: &Tile, from: usize) -> u32
+fn any_in(places: &Tile, from: usize) -> u32
     requires { from + 8 ≤ 32 }
     ensures { result ≡ 0 → (j : ℕ) → from ≤ j → j < from + 8 → IsBlankRow places.now j }
 {
-    let even_rows = any_in(&places.even_even, from) | any_in(&places.odd_even, from);
-    let odd_rows = any_in(&places.even_odd, from) | any_in(&places.odd_odd, from);
-    even_rows | odd_rows
-}
-
-/// Eight of some rows, from `from` on.
-#[inline]
-pub fn eight(rows: &[u32], from: usize) -> [u32; 8]
-    requires { from + 8 ≤ length rows.now }
-    ensures { AreWordsFrom from result (λ j. slice_index rows.now j) }
-{
-    let mut some = [0; TOGETHER];
-    for k in 0..TOGETHER {
-        some[k] = rows[from + k];
-    }
-    some
-}
-
-/// 0 just if none of eight rows has a place
-#[inline]
-pub fn any_of(places: &[u32; 8]) -> u32
-    ensures { result ≡ 0 → (k : ℕ) → k < 8 → slice_index places.now k ≡ 0 }
-{
     let mut any = 0;
-    for k in 0..TOGETHER {
-        any |= places[k];
+    for j in from..from + TOGETHER {
+        let even_rows = places.even_even[j] | places.odd_even[j];
+        let odd_rows = places.even_odd[j] | places.odd_odd[j];
+        any |= even_rows | odd_rows;
     }
     any
 }
 
 // The rows of a class from `from` on, with the old cells of these places put back.
 #[inline]
-fn kept_rows(old: &[u32; 32], places: &[u32; 8], from: usize, class: &[u32; 32]) -> [u32; 8]
+fn kept_rows(old: &[u32; 32], places: &[u32; 32], from: usize, class: &[u32; 32]) -> [u32; 8]
     requires { from + 8 ≤ 32 }
-    ensures { (words : ℕ → ℕ) → AreWordsFrom from places.now words → (i k : ℕ) → i < 32 → k < 8 →
-        bit (slice_index result k) i ≡ kept old.now words class.now (from + k) i }
+    ensures { (i k : ℕ) → i < 32 → k < 8 →
+        bit (slice_index result k) i ≡ kept old.now places.now class.now (from + k) i }
 {
     let mut rows = [0; TOGETHER];
     for k in 0..TOGETHER {
         let j = from + k;
-        rows[k] = (old[j] & places[k]) | (class[j] & !places[k]);
+        rows[k] = (old[j] & places[j]) | (class[j] & !places[j]);
     }
     rows
 }
 
-// How many old cells there are in these places.
+// How many old cells there are in these places, two rows at a time.
 #[inline]
-fn count_rows(old: &[u32; 32], places: &[u32; 8], from: usize) -> u32
+fn count_rows(old: &[u32; 32], places: &[u32; 32], from: usize) -> u32
     requires { from + 8 ≤ 32 }
-    ensures count { (words : ℕ → ℕ) → AreWordsFrom from places.now words →
-        AreParticlesIn from (from + 8) old.now words result }
+    ensures count { AreParticlesIn from (from + 8) old.now places.now result }
     ensures bound { result ≤ 256 }
 {
     let mut n = 0;
-    for k in 0..TOGETHER {
-        n += (old[from + k] & places[k]).count_ones();
+    for k in 0..TOGETHER / 2 {
+        let j = from + 2 * k;
+        n += (joined(old[j], old[j + 1]) & joined(places[j], places[j + 1])).count_ones();
     }
     n
 }
 
 /// Puts the old cells of these places back into the rows from `from` on, and answers how many there are.
 #[inline]
-pub fn hold_rows(old: &[u32; 32], places: &[u32; 8], from: usize, class: &mut [u32; 32]) -> u32
+pub fn hold_rows(old: &[u32; 32], places: &[u32; 32], from: usize, class: &mut [u32; 32]) -> u32
     requires { from + 8 ≤ 32 }
-    ensures cells { (words : ℕ → ℕ) → AreWordsFrom from places.now words →
-        IsHeldIn from (from + 8) old.now words class.old class.new }
-    ensures count { (words : ℕ → ℕ) → AreWordsFrom from places.now words →
-        AreParticlesIn from (from + 8) old.now words result }
+    ensures cells { IsHeldIn from (from + 8) old.now places.now class.old class.new }
+    ensures count { AreParticlesIn from (from + 8) old.now places.now result }
     ensures bound { result ≤ 256 }
 {
+    // all are made before the first is written, so that they are made as vectors wherever `class` lies
     let rows = kept_rows(old, places, from, class);
     for k in 0..TOGETHER {
         class[from + k] = rows[k];
@@ -170,15 +135,15 @@ pub fn hold(tile: &Tile, places: &Tile, parity: u8, out: &mut Tile) -> Pair
     for k in 0..4usize {
         let from = k * TOGETHER;
         // most rows have no places
-        if any_in_classes(places, from) != 0 {
-            let even_even = eight(&places.even_even, from);
-            counts.even_even += hold_rows(&tile.even_even, &even_even, from, &mut out.even_even);
-            let odd_even = eight(&places.odd_even, from);
-            counts.odd_even += hold_rows(&tile.odd_even, &odd_even, from, &mut out.odd_even);
-            let even_odd = eight(&places.even_odd, from);
-            counts.even_odd += hold_rows(&tile.even_odd, &even_odd, from, &mut out.even_odd);
-            let odd_odd = eight(&places.odd_odd, from);
-            counts.odd_odd += hold_rows(&tile.odd_odd, &odd_odd, from, &mut out.odd_odd);
+        if any_in(places, from) != 0 {
+            let class = &mut out.even_even;
+            counts.even_even += hold_rows(&tile.even_even, &places.even_even, from, class);
+            let class = &mut out.odd_even;
+            counts.odd_even += hold_rows(&tile.odd_even, &places.odd_even, from, class);
+            let class = &mut out.even_odd;
+            counts.even_odd += hold_rows(&tile.even_odd, &places.even_odd, from, class);
+            let class = &mut out.odd_odd;
+            counts.odd_odd += hold_rows(&tile.odd_odd, &places.odd_odd, from, class);
         }
     }
     momentum(counts, parity)

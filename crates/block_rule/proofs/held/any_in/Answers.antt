@@ -6,7 +6,7 @@ pub loop-j-init : goal.loop-j-init
 loop-j-init c = record { none = λ _ k low high. absurd (omega arith) }
 
 pub loop-j-preserved : goal.loop-j-preserved
-loop-j-preserved c = record { none = none_so_far c.args.rows.now c.args.from c.loop-j.j c.loop-j.any c.loop-j.invariant.none }
+loop-j-preserved c = record { none = none_so_far c.args.places.now c.args.from c.loop-j.j c.loop-j.any c.loop-j.invariant.none }
 
 pub returns : goal.returns
 returns c = λ e j low high. c.loop-j.invariant.none e j low (omega arith)

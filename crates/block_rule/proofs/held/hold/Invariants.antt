@@ -1,12 +1,11 @@
-use Rattle.std.proofs.Common.{get_or}
 use Rattle.block_rule.proofs.Holding.{HeldSoFar}
 use Rattle.block_rule.proofs.held.hold.Given as goal
 
 abbrev pub invariant-loop-k : goal.invariant-loop-k
 invariant-loop-k l =
     record {
-      even_even : HeldSoFar l.tile.even_even (λ j. get_or l.places.even_even j 0) l.initial.out.even_even l.out.even_even l.counts.even_even l.k;
-      odd_even : HeldSoFar l.tile.odd_even (λ j. get_or l.places.odd_even j 0) l.initial.out.odd_even l.out.odd_even l.counts.odd_even l.k;
-      even_odd : HeldSoFar l.tile.even_odd (λ j. get_or l.places.even_odd j 0) l.initial.out.even_odd l.out.even_odd l.counts.even_odd l.k;
-      odd_odd : HeldSoFar l.tile.odd_odd (λ j. get_or l.places.odd_odd j 0) l.initial.out.odd_odd l.out.odd_odd l.counts.odd_odd l.k;
+      even_even : HeldSoFar l.tile.even_even l.places.even_even l.initial.out.even_even l.out.even_even l.counts.even_even l.k;
+      odd_even : HeldSoFar l.tile.odd_even l.places.odd_even l.initial.out.odd_even l.out.odd_even l.counts.odd_even l.k;
+      even_odd : HeldSoFar l.tile.even_odd l.places.even_odd l.initial.out.even_odd l.out.even_odd l.counts.even_odd l.k;
+      odd_odd : HeldSoFar l.tile.odd_odd l.places.odd_odd l.initial.out.odd_odd l.out.odd_odd l.counts.odd_odd l.k;
     }

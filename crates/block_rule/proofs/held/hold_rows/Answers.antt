@@ -22,11 +22,11 @@ loop-k-preserved c =
     }
 
 pub returns-clause-cells : goal.returns-clause-cells
-returns-clause-cells c = λ words are.
+returns-clause-cells c =
     let i = c.loop-k.invariant in
     record {
       cells = λ x j h low below.
           let e : j ≡ c.args.from + (j - c.args.from) = omega arith in
-          rw e (ap (λ w. bit w x) (i.put (j - c.args.from) (omega arith)) ∙ c.kept_rows-rows.ensures words are x (j - c.args.from) h (omega arith));
+          rw e (ap (λ w. bit w x) (i.put (j - c.args.from) (omega arith)) ∙ c.kept_rows-rows.ensures x (j - c.args.from) h (omega arith));
       rest = λ j outside. i.rest j (row_from j c.args.from c.loop-k.k (omega arith) outside);
     }
