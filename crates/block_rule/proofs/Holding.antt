@@ -12,14 +12,14 @@ use Rattle.bit_tile.specs.Sums.{sum_below, count_below}
 use Rattle.bit_tile.specs.Tile.{has, HasCells}
 use Rattle.bit_tile.specs.declared.Tile.{Tile}
 use Rattle.bit_tile.proofs.Bits.{bit-zero, bit-and, bit-or}
-use Rattle.bit_tile.proofs.Words32.{bit-not}
+use Rattle.bit_tile.proofs.Words32.{bit-not, none_set}
 use Rattle.bit_tile.proofs.Sums.{sum_below-zero, sum_below-more, sum_below-same, count_below-same, count_below-none}
 use Rattle.bit_tile.proofs.Counts.{class_count, ones_of_two}
 use Rattle.bit_tile.proofs.Classes.{IsClass}
 use Rattle.gas_terms.specs.declared.accounts.Pair.{Pair}
 use Rattle.block_rule.specs.Around.{turned, none, either, is_walled_at, is_for_walls, twice_momentum, taken}
 use Rattle.block_rule.specs.Cell.{turned_cell, made}
-use Rattle.block_rule.specs.Classes.{class, AreCounts, IsHeldIn, IsBlankRow}
+use Rattle.block_rule.specs.Classes.{class, AreCounts, IsHeldIn}
 use Rattle.block_rule.specs.Rows.{ShowsTile}
 use Rattle.block_rule.specs.Lent.{HasNoCell, IsLentOf, AreWalledCells}
 use Rattle.std.specs.Borrow.{Bor}
@@ -83,20 +83,20 @@ no_rows_more old places from (suc n) none =
     ap (λ m. sum_below m (among old places)) (let e : from + suc n ≡ from + n + 1 = omega arith in e)
     ∙ (no_row_more old places (from + n) (none (from + n) (omega arith) (omega arith)) ∙ no_rows_more old places from n (λ k low high. none k low (omega arith)))
 
-or_is_zero : (a b : ℕ) → bit_or a b ≡ 0 → (a ≡ 0) × (b ≡ 0)
+pub or_is_zero : (a b : ℕ) → bit_or a b ≡ 0 → (a ≡ 0) × (b ≡ 0)
 or_is_zero a b e = (omega (arith, e, le_or_l a b), omega (arith, e, le_or_r a b))
 
--- a loop has seen the rows from `from` up to j
-pub none_so_far : (t : Tile) (from j any : ℕ) → (any ≡ 0 → (k : ℕ) → from ≤ k → k < j → IsBlankRow t k)
-    → bit_or any (bit_or (bit_or (get_or t.even_even j 0) (get_or t.odd_even j 0)) (bit_or (get_or t.even_odd j 0) (get_or t.odd_odd j 0))) ≡ 0 → (k : ℕ) → from ≤ k → k < j + 1 → IsBlankRow t k
-none_so_far t from j any before e k low high =
-    let both = or_is_zero any _ e in
-    let rows = or_is_zero _ _ both.1 in
-    let even = or_is_zero _ _ rows.0 in
-    let odd = or_is_zero _ _ rows.1 in
+-- a loop has seen the rows from `from` up to j, and sees two more in one word
+pub none_so_far : (rows : List ℕ) (from j any two : ℕ) → get_or rows j 0 < 2 ^ 32 → get_or rows (j + 1) 0 < 2 ^ 32 → ((i : ℕ) → i < 32 → bit two i ≡ bit (get_or rows j 0) i) → ((i : ℕ) → i < 32 → bit two (32 + i) ≡ bit (get_or rows (j + 1) 0) i)
+    → (any ≡ 0 → (k : ℕ) → from ≤ k → k < j → get_or rows k 0 ≡ 0) → bit_or any two ≡ 0 → (k : ℕ) → from ≤ k → k < j + 2 → get_or rows k 0 ≡ 0
+none_so_far rows from j any two fits also first second before e k low high =
+    let both = or_is_zero any two e in
     elim (cases_eq k j) [
-      | inl same ↦ rw same record { even_even = even.0; odd_even = even.1; even_odd = odd.0; odd_odd = odd.1 }
-      | inr other ↦ before both.0 k low (omega arith)
+      | inl same ↦ rw same (none_set (get_or rows j 0) fits (λ i h. sym (first i h) ∙ rw both.1 (bit-zero i)))
+      | inr other ↦ elim (cases_eq k (j + 1)) [
+        | inl next ↦ rw next (none_set (get_or rows (j + 1) 0) also (λ i h. sym (second i h) ∙ rw both.1 (bit-zero (32 + i))))
+        | inr third ↦ before both.0 k low (omega arith)
+      ]
     ]
 
 pub not_row : (j from k : ℕ) → (j < from) ⊎ (from + (k + 1) ≤ j) → j ≡ from + k → ⊥

@@ -12,19 +12,29 @@ use gas_terms::Pair;
 // rows of a class that are looked at together
 const TOGETHER: usize = 8;
 
-// 0 just if no class has a cell in the eight rows from `from` on
+// 0 just if none of the rows from `from` on has a cell
 #[inline]
-fn any_in(places: &Tile, from: usize) -> u32
+fn any_in(rows: &[u32; 32], from: usize) -> u64
+    requires { from + 8 ≤ 32 }
+    ensures { result ≡ 0 → (j : ℕ) → from ≤ j → j < from + 8 → slice_index rows.now j ≡ 0 }
+{
+    let mut any = 0;
+    for k in 0..TOGETHER / 2 {
+        let j = from + 2 * k;
+        any |= joined(rows[j], rows[j + 1]);
+    }
+    any
+}
+
+// the same of all four classes
+#[inline]
+fn any_in_classes(places: &Tile, from: usize) -> u64
     requires { from + 8 ≤ 32 }
     ensures { result ≡ 0 → (j : ℕ) → from ≤ j → j < from + 8 → IsBlankRow places.now j }
 {
-    let mut any = 0;
-    for j in from..from + TOGETHER {
-        let even_rows = places.even_even[j] | places.odd_even[j];
-        let odd_rows = places.even_odd[j] | places.odd_odd[j];
-        any |= even_rows | odd_rows;
-    }
-    any
+    let even_rows = any_in(&places.even_even, from) | any_in(&places.odd_even, from);
+    let odd_rows = any_in(&places.even_odd, from) | any_in(&places.odd_odd, from);
+    even_rows | odd_rows
 }
 
 // The rows of a class from `from` on, with the old cells of these places put back.
@@ -57,9 +67,9 @@ fn count_rows(old: &[u32; 32], places: &[u32; 32], from: usize) -> u32
     n
 }
 
-/// Puts the old cells of these places back into the rows from `from` on, and answers how many there are.
-#[inline]
-pub fn hold_rows(old: &[u32; 32], places: &[u32; 32], from: usize, class: &mut [u32; 32]) -> u32
+// Puts the old cells of these places back into the rows from `from` on, and answers how many there are.
+#[inline(always)]
+fn hold_rows(old: &[u32; 32], places: &[u32; 32], from: usize, class: &mut [u32; 32]) -> u32
     requires { from + 8 ≤ 32 }
     ensures cells { IsHeldIn from (from + 8) old.now places.now class.old class.new }
     ensures count { AreParticlesIn from (from + 8) old.now places.now result }
@@ -135,7 +145,7 @@ pub fn hold(tile: &Tile, places: &Tile, parity: u8, out: &mut Tile) -> Pair
     for k in 0..4usize {
         let from = k * TOGETHER;
         // most rows have no places
-        if any_in(places, from) != 0 {
+        if any_in_classes(places, from) != 0 {
             let class = &mut out.even_even;
             counts.even_even += hold_rows(&tile.even_even, &places.even_even, from, class);
             let class = &mut out.odd_even;

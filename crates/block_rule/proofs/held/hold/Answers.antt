@@ -4,7 +4,7 @@ use Rattle.bit_tile.specs.Tile.{has}
 use Rattle.block_rule.specs.Classes.{IsBlankRow}
 use Rattle.block_rule.proofs.Holding.{all_held, all_counted, class_held, class_among, nothing_held, held_more, none_more}
 use Rattle.block_rule.proofs.held.hold.Goals as goal
-use Rattle.block_rule.proofs.held.hold.Goals.{then-any_in-ne0, else-any_in-ne0}
+use Rattle.block_rule.proofs.held.hold.Goals.{then-any_in_classes-ne0, else-any_in_classes-ne0}
 
 pub loop-k-init : goal.loop-k-init
 loop-k-init c =
@@ -25,17 +25,17 @@ loop-k-preserved c =
     let o = c.args.out.now in
     let was = c.loop-k.invariant in
     let k = c.loop-k.k in
-    elim c.if-any_in-ne0.branch [
-      | then-any_in-ne0 w ↦
+    elim c.if-any_in_classes-ne0.branch [
+      | then-any_in_classes-ne0 w ↦
           rw (w.out-is, w.counts-is)
           record {
             even_even = held_more t.even_even p.even_even o.even_even _ _ _ _ k was.even_even w.hold_rows.ensures.cells w.hold_rows.ensures.count w.hold_rows.ensures.bound;
-            odd_even = held_more t.odd_even p.odd_even o.odd_even _ _ _ _ k was.odd_even w.hold_rows-then-any_in-ne0.ensures.cells w.hold_rows-then-any_in-ne0.ensures.count w.hold_rows-then-any_in-ne0.ensures.bound;
-            even_odd = held_more t.even_odd p.even_odd o.even_odd _ _ _ _ k was.even_odd w.hold_rows-then-any_in-ne0-2.ensures.cells w.hold_rows-then-any_in-ne0-2.ensures.count w.hold_rows-then-any_in-ne0-2.ensures.bound;
-            odd_odd = held_more t.odd_odd p.odd_odd o.odd_odd _ _ _ _ k was.odd_odd w.hold_rows-then-any_in-ne0-3.ensures.cells w.hold_rows-then-any_in-ne0-3.ensures.count w.hold_rows-then-any_in-ne0-3.ensures.bound;
+            odd_even = held_more t.odd_even p.odd_even o.odd_even _ _ _ _ k was.odd_even w.hold_rows-then-any_in_classes-ne0.ensures.cells w.hold_rows-then-any_in_classes-ne0.ensures.count w.hold_rows-then-any_in_classes-ne0.ensures.bound;
+            even_odd = held_more t.even_odd p.even_odd o.even_odd _ _ _ _ k was.even_odd w.hold_rows-then-any_in_classes-ne0-2.ensures.cells w.hold_rows-then-any_in_classes-ne0-2.ensures.count w.hold_rows-then-any_in_classes-ne0-2.ensures.bound;
+            odd_odd = held_more t.odd_odd p.odd_odd o.odd_odd _ _ _ _ k was.odd_odd w.hold_rows-then-any_in_classes-ne0-3.ensures.cells w.hold_rows-then-any_in_classes-ne0-3.ensures.count w.hold_rows-then-any_in_classes-ne0-3.ensures.bound;
           }
-      | else-any_in-ne0 w ↦
-          let none : (j : ℕ) → c.loop-k.k * 8 ≤ j → j < c.loop-k.k * 8 + 8 → IsBlankRow c.args.places.now j = c.any_in.ensures (omega (arith, w.if-any_in-ne0.false)) in
+      | else-any_in_classes-ne0 w ↦
+          let none : (j : ℕ) → c.loop-k.k * 8 ≤ j → j < c.loop-k.k * 8 + 8 → IsBlankRow c.args.places.now j = c.any_in_classes.ensures (omega (arith, w.if-any_in_classes-ne0.false)) in
           rw (w.out-is, w.counts-is)
           record {
             even_even = none_more t.even_even p.even_even o.even_even _ _ k was.even_even (λ j low high. (none j low high).even_even);
