@@ -1,9 +1,10 @@
 -- Counts of a class.
-use Rattle.std.proofs.Common.{◌≡◌, ℕ, ◌+◌, ◌*◌, ◌%◌, ◌^◌, ◌<◌, ◌==◌, Bool, true, false, not, inl, inr, ◌&&◌, if◌then◌else◌, zero, suc, List, [], ◌∷◌, get_or, refl, sym, ◌∙◌, ap, ap₂, arith}
+use Rattle.std.proofs.Common.{◌≡◌, ℕ, ◌+◌, ◌*◌, ◌%◌, ◌^◌, ◌<◌, ◌==◌, Bool, true, false, not, inl, inr, ◌&&◌, if◌then◌else◌, zero, suc, List, [], ◌∷◌, get_or, bit_and, refl, sym, ◌∙◌, ap, ap₂, arith}
 use Rattle.std.proofs.lemmas.Bool.{cases_eq, eq-eqb, ne_eqb}
+use Rattle.std.proofs.lemmas.Nat.{and_le_l}
 use Rattle.bit_tile.specs.Bit.{bit}
 use Rattle.bit_tile.specs.Sums.{sum_below, count_below}
-use Rattle.bit_tile.proofs.Bits.{bits_cases}
+use Rattle.bit_tile.proofs.Bits.{bits_cases, bit-and}
 use Rattle.std.specs.Int.RustNames.{count_ones}
 use Rattle.bit_tile.proofs.Sums.{ones_are_bits, count_below-parts, sum_below-zero, sum_below-suc, sum_below-more, sum_below-same, sum_below-bound, count_below-zero, count_below-suc, count_below-same, count_below-none}
 
@@ -52,27 +53,27 @@ columns_of i test two =
     ∙ (halves 32 (λ x. one (test x && x % 2 == i))
     ∙ (sum_below-same 32 _ (λ k. one (test (2 * k + i))) (λ k _. one_of_two i k test two) ∙ sym (count_as_sum 32 (λ m. test (2 * m + i)))))
 
-row_here : (test : ℕ → ℕ → Bool) (i j y : ℕ) → i < 2 → y % 2 ≡ j → count_below 64 (λ x. test x y && x % 2 == i && y % 2 == j) ≡ count_below 32 (λ m. test (2 * m + i) y)
-row_here test i j y i_two e =
-    count_below-same 64 (λ x. test x y && x % 2 == i && y % 2 == j) (λ x. test x y && x % 2 == i)
-    (λ x _. both_true (test x y && x % 2 == i) (y % 2 == j) (eq-eqb (y % 2) j e))
-    ∙ columns_of i (λ x. test x y) i_two
+-- a row's cells in the columns of a parity, in its own class and in another
+row_here : (test : ℕ → Bool) (i j y : ℕ) → y % 2 ≡ j → count_below 64 (λ x. test x && x % 2 == i && y % 2 == j) ≡ count_below 64 (λ x. test x && x % 2 == i)
+row_here test i j y e =
+    count_below-same 64 (λ x. test x && x % 2 == i && y % 2 == j) (λ x. test x && x % 2 == i)
+    (λ x _. both_true (test x && x % 2 == i) (y % 2 == j) (eq-eqb (y % 2) j e))
 
-row_elsewhere : (test : ℕ → ℕ → Bool) (i j y : ℕ) → (y % 2 ≡ j → ⊥) → count_below 64 (λ x. test x y && x % 2 == i && y % 2 == j) ≡ 0
+row_elsewhere : (test : ℕ → Bool) (i j y : ℕ) → (y % 2 ≡ j → ⊥) → count_below 64 (λ x. test x && x % 2 == i && y % 2 == j) ≡ 0
 row_elsewhere test i j y e =
-    count_below-same 64 (λ x. test x y && x % 2 == i && y % 2 == j) (λ _. false)
-    (λ x _. both_false (test x y && x % 2 == i) (y % 2 == j) (ne_eqb (y % 2) j e))
+    count_below-same 64 (λ x. test x && x % 2 == i && y % 2 == j) (λ _. false)
+    (λ x _. both_false (test x && x % 2 == i) (y % 2 == j) (ne_eqb (y % 2) j e))
     ∙ count_below-none 64
 
 two_rows : (test : ℕ → ℕ → Bool) (i j k : ℕ) → i < 2 → j < 2 → count_below 64 (λ x. test x (2 * k) && x % 2 == i && 2 * k % 2 == j) + count_below 64 (λ x. test x (2 * k + 1) && x % 2 == i && (2 * k + 1) % 2 == j) ≡ count_below 32 (λ m. test (2 * m + i) (2 * k + j))
 two_rows test i j k i_two j_two =
     bits_cases (λ j. count_below 64 (λ x. test x (2 * k) && x % 2 == i && 2 * k % 2 == j) + count_below 64 (λ x. test x (2 * k + 1) && x % 2 == i && (2 * k + 1) % 2 == j) ≡ count_below 32 (λ m. test (2 * m + i) (2 * k + j)))
-    (let a = row_here test i 0 (2 * k) i_two (omega arith) in
-    let b = row_elsewhere test i 0 (2 * k + 1) (λ e. omega arith) in
+    (let a = row_here (λ x. test x (2 * k)) i 0 (2 * k) (omega arith) ∙ columns_of i (λ x. test x (2 * k)) i_two in
+    let b = row_elsewhere (λ x. test x (2 * k + 1)) i 0 (2 * k + 1) (λ e. omega arith) in
     let e : count_below 32 (λ m. test (2 * m + i) (2 * k)) ≡ count_below 32 (λ m. test (2 * m + i) (2 * k + 0)) = ap (λ y. count_below 32 (λ m. test (2 * m + i) y)) (omega arith) in
     ap₂ (λ u v. u + v) a b ∙ (let z : count_below 32 (λ m. test (2 * m + i) (2 * k)) + 0 ≡ count_below 32 (λ m. test (2 * m + i) (2 * k)) = omega arith in z) ∙ e)
-    (let a = row_elsewhere test i 1 (2 * k) (λ e. omega arith) in
-    let b = row_here test i 1 (2 * k + 1) i_two (omega arith) in
+    (let a = row_elsewhere (λ x. test x (2 * k)) i 1 (2 * k) (λ e. omega arith) in
+    let b = row_here (λ x. test x (2 * k + 1)) i 1 (2 * k + 1) (omega arith) ∙ columns_of i (λ x. test x (2 * k + 1)) i_two in
     ap₂ (λ u v. u + v) a b ∙ (let z : 0 + count_below 32 (λ m. test (2 * m + i) (2 * k + 1)) ≡ count_below 32 (λ m. test (2 * m + i) (2 * k + 1)) = omega arith in z)) j j_two
 
 -- a class's cells are counted in its rows
@@ -91,13 +92,13 @@ ones_of_class rows test i j n i_two j_two counted is =
 abbrev pub class : (ℕ → ℕ → Bool) → ℕ → ℕ → ℕ
 class has i j = sum_below 64 (λ y. count_below 64 (λ x. has x y && x % 2 == i && y % 2 == j))
 
--- the counts of the four classes of cells
-pub four_classes : (has : ℕ → ℕ → Bool) (a b c d : ℕ) → a ≡ class has 0 0 → b ≡ class has 1 0 → c ≡ class has 0 1 → d ≡ class has 1 1 → (i j : ℕ) → i < 2 → j < 2 → get_or (a ∷ b ∷ c ∷ d ∷ []) (2 * j + i) 0 ≡ class has i j
-four_classes has a b c d first second third fourth i j i_two j_two =
+-- the counts of four classes, in a list
+pub four_classes : (count : ℕ → ℕ → ℕ) (a b c d : ℕ) → a ≡ count 0 0 → b ≡ count 1 0 → c ≡ count 0 1 → d ≡ count 1 1 → (i j : ℕ) → i < 2 → j < 2 → get_or (a ∷ b ∷ c ∷ d ∷ []) (2 * j + i) 0 ≡ count i j
+four_classes count a b c d first second third fourth i j i_two j_two =
     let list : List ℕ = a ∷ b ∷ c ∷ d ∷ [] in
-    bits_cases (λ i. get_or list (2 * j + i) 0 ≡ class has i j)
-    (bits_cases (λ j. get_or list (2 * j + 0) 0 ≡ class has 0 j) first third j j_two)
-    (bits_cases (λ j. get_or list (2 * j + 1) 0 ≡ class has 1 j) second fourth j j_two) i i_two
+    bits_cases (λ i. get_or list (2 * j + i) 0 ≡ count i j)
+    (bits_cases (λ j. get_or list (2 * j + 0) 0 ≡ count 0 j) first third j j_two)
+    (bits_cases (λ j. get_or list (2 * j + 1) 0 ≡ count 1 j) second fourth j j_two) i i_two
 
 -- two tests that agree at each cell count the same
 pub cells_same : (p q : ℕ → ℕ → Bool) → ((x y : ℕ) → x < 64 → y < 64 → p x y ≡ q x y) → sum_below 64 (λ y. count_below 64 (λ x. p x y)) ≡ sum_below 64 (λ y. count_below 64 (λ x. q x y))
@@ -174,3 +175,21 @@ pub two_rows_more : (n j more : ℕ) (f : ℕ → ℕ) → n ≡ sum_below (2 * 
 two_rows_more n j more f so_far here =
     let next : 2 * (j + 1) ≡ 2 * j + 1 + 1 = omega arith in
     rw next (omega (arith, so_far, here, sum_below-more (2 * j) f, sum_below-more (2 * j + 1) f))
+
+-- the cells of a word in the columns that a mask has, and the classes of a row's cells
+pub ones_in_columns : (w mask i : ℕ) → w < 2 ^ 64 → ((x : ℕ) → x < 64 → bit mask x ≡ (x % 2 == i)) → count_ones (bit_and w mask) ≡ count_below 64 (λ x. bit w x && x % 2 == i)
+ones_in_columns w mask i fits is =
+    let less : bit_and w mask < 2 ^ 64 = omega (arith, and_le_l w mask) in
+    ones_are_bits (bit_and w mask) 64 less
+    ∙ count_below-same 64 _ _ (λ x h. bit-and w mask x ∙ ap (λ b. bit w x && b) (is x h))
+
+module _ (test : ℕ → Bool) (y even odd : ℕ) (is_even : even ≡ count_below 64 (λ x. test x && x % 2 == 0)) (is_odd : odd ≡ count_below 64 (λ x. test x && x % 2 == 1)) where
+  pub even_row : y % 2 ≡ 0 → (i j : ℕ) → i < 2 → j < 2 → get_or (even ∷ odd ∷ 0 ∷ 0 ∷ []) (2 * j + i) 0 ≡ count_below 64 (λ x. test x && x % 2 == i && y % 2 == j)
+  even_row e =
+      four_classes (λ i j. count_below 64 (λ x. test x && x % 2 == i && y % 2 == j)) even odd 0 0 (is_even ∙ sym (row_here test 0 0 y e)) (is_odd ∙ sym (row_here test 1 0 y e))
+      (sym (row_elsewhere test 0 1 y (λ h. omega arith))) (sym (row_elsewhere test 1 1 y (λ h. omega arith)))
+
+  pub odd_row : y % 2 ≡ 1 → (i j : ℕ) → i < 2 → j < 2 → get_or (0 ∷ 0 ∷ even ∷ odd ∷ []) (2 * j + i) 0 ≡ count_below 64 (λ x. test x && x % 2 == i && y % 2 == j)
+  odd_row e =
+      four_classes (λ i j. count_below 64 (λ x. test x && x % 2 == i && y % 2 == j)) 0 0 even odd (sym (row_elsewhere test 0 0 y (λ h. omega arith))) (sym (row_elsewhere test 1 0 y (λ h. omega arith)))
+      (is_even ∙ sym (row_here test 0 1 y e)) (is_odd ∙ sym (row_here test 1 1 y e))

@@ -7,9 +7,11 @@ ghost use Rattle.std.specs.Prelude.{◌≡◌, ℕ, ◌+◌, ◌*◌, ◌/◌, �
 ghost use Rattle.bit_tile.specs.Bit.{bit};
 
 mod class;
+mod row;
 mod word;
 
 use class::{add, both, ones, put, remove, rows_of, same, span};
+pub use row::counts_in_row;
 pub use word::joined;
 use word::{gather, in_turn};
 

@@ -1,7 +1,7 @@
 //! Worked examples of tiles, with values found by hand.
 
 use crate::expected::{expect_same, expect_that};
-use bit_tile::Tile;
+use bit_tile::{Tile, counts_in_row};
 
 #[test]
 fn cells_are_put_in_and_taken_out(rt: HostRuntime) {
@@ -164,6 +164,22 @@ fn cells_are_kept_by_class(rt: HostRuntime) {
         tile.count_by_parity().as_slice(),
         [0, 1, 1, 1].as_slice(),
     );
+}
+
+#[test]
+fn cells_of_a_row_are_counted_by_class(rt: HostRuntime) {
+    // columns 0, 2 and 62, and column 63
+    let row = 0xc000_0000_0000_0005;
+    // by columns and rows: even and even, odd and even, even and odd, odd and odd
+    let rows = [
+        (row, 8, [3, 1, 0, 0]),
+        (row, 9, [0, 0, 3, 1]),
+        (u64::MAX, 4094, [32, 32, 0, 0]),
+        (0, 1, [0; 4]),
+    ];
+    for (word, y, counts) in rows {
+        expect_same(&rt, (y, counts_in_row(word, y)), (y, counts));
+    }
 }
 
 #[test]
