@@ -1,95 +1,67 @@
--- Counts of the cells of a row, from the left.
-use Rattle.std.proofs.Common.{◌≡◌, ℕ, ◌+◌, ◌*◌, ◌%◌, ◌<◌, ◌≤◌, ◌==◌, Bool, true, false, ◌&&◌, not, cond, List, [], ◌∷◌, length, get_or, set, inl, inr, refl, sym, ap, ap₂, ◌∙◌, arith, get_or-set_other, get_or-set_same}
-use mir.Val.{bool_byte}
-use Rattle.std.proofs.lemmas.Bool.{cases_eq, eq-eqb, ne_eqb}
-use Rattle.bit_tile.proofs.Bits.{get_or-replicate_zero}
-use Rattle.gas_terms.specs.Cells.{Cells, has, without}
+-- Counts of the cells of a row, 64 at a time from the left.
+use Rattle.std.proofs.Common.{◌≡◌, ℕ, ◌+◌, ◌*◌, ◌/◌, ◌%◌, ◌^◌, ◌<◌, ◌≤◌, ◌==◌, ◌&&◌, not, cond, List, [], ◌∷◌, get_or, sym, subst, ap, ap₂, ◌∙◌, arith, bit_and, w64}
+use Rattle.std.specs.Int.{bit_not}
+use Rattle.bit_tile.specs.Bit.{bit}
+use Rattle.bit_tile.specs.Sums.{count_below}
+use Rattle.bit_tile.proofs.Bits.{bit-and, bit-not, get_or-replicate_zero}
+use Rattle.gas_terms.specs.Cells.{Cells, has, without, extent}
 use Rattle.gas_terms.specs.Rows.{row_has, row_replaced}
+use Rattle.gas_terms.specs.Accounts.{parity_count}
 use Rattle.gas_terms.proofs.Cells.{has-cells_where}
-use Rattle.gas_terms.proofs.RowSums.{strip, strip_count, strip_next, new_row}
+use Rattle.gas_terms.proofs.FiniteSums.{sum_below, sum_below-cong}
+use Rattle.gas_terms.proofs.RowSums.{strip, strip_count, strip_more, new_row}
+use Rattle.gas_plane.specs.Planes.{IsLattice}
+use Rattle.gas_plane.proofs.Places.{wide}
+use Rattle.gas_plane.proofs.PlaneCounts.{row_sum, same_parity}
+use Rattle.gas_plane.proofs.RowSweeps.{chunk_has}
 use Rattle.phase_step.specs.Counts.{AreCounts}
+use Rattle.gas_ledger.specs.Gases.{row_of}
 
-both_true : (t p q : Bool) → p ≡ true → q ≡ true → (t && p && q) ≡ t
-both_true true p q e f = rw (e, f) refl
-both_true false p q e f = refl
-
-one_false : (t p q : Bool) → (p && q) ≡ false → (t && p && q) ≡ false
-one_false true p q e = e
-one_false false p q e = refl
-
-another_class : (x y a b : ℕ) → a < 2 → b < 2 → (y % 2 * 2 + x % 2 ≡ 2 * b + a → ⊥) → ((x % 2 == a) && (y % 2 == b)) ≡ false
-another_class x y a b p q ne =
-    elim (cases_eq (x % 2) a) [
-      | inl e ↦ elim (cases_eq (y % 2) b) [
-        | inl f ↦ absurd (ne (omega arith))
-        | inr nf ↦ ap₂ (λ u v. u && v) (eq-eqb (x % 2) a e) (ne_eqb (y % 2) b nf)
-      ]
-      | inr nf ↦ ap (λ u. u && (y % 2 == b)) (ne_eqb (x % 2) a nf)
-    ]
-
-byte_is : (t : Bool) → bool_byte t ≡ cond t 1 0
-byte_is true = refl
-byte_is false = refl
-
-byte_small : (t : Bool) → bool_byte t ≤ 1
-byte_small true = omega arith
-byte_small false = omega arith
-
--- the class of a cell counts one more
-class_next : (counts : List ℕ) (x y a b : ℕ) (t : Bool) → length counts ≡ 4 → a < 2 → b < 2 →
-    get_or (set counts (y % 2 * 2 + x % 2) (get_or counts (y % 2 * 2 + x % 2) 0 + bool_byte t)) (2 * b + a) 0 ≡ get_or counts (2 * b + a) 0 + cond (t && (x % 2 == a) && (y % 2 == b)) 1 0
-class_next counts x y a b t four p q =
-    elim (cases_eq (y % 2 * 2 + x % 2) (2 * b + a)) [
-      | inl e ↦
-          let within : 2 * b + a < length counts = omega arith in
-          let here : (x % 2 == a) ≡ true = eq-eqb (x % 2) a (omega arith) in
-          let there : (y % 2 == b) ≡ true = eq-eqb (y % 2) b (omega arith) in
-          ap (λ k. get_or (set counts k (get_or counts k 0 + bool_byte t)) (2 * b + a) 0) e
-          ∙ (get_or-set_same counts (2 * b + a) (get_or counts (2 * b + a) 0 + bool_byte t) 0 within
-          ∙ (ap (λ n. get_or counts (2 * b + a) 0 + n) (byte_is t)
-          ∙ ap (λ u. get_or counts (2 * b + a) 0 + cond u 1 0) (sym (both_true t (x % 2 == a) (y % 2 == b) here there))))
-      | inr ne ↦
-          get_or-set_other counts (y % 2 * 2 + x % 2) (2 * b + a) (get_or counts (y % 2 * 2 + x % 2) 0 + bool_byte t) 0 (λ f. ne (sym f))
-          ∙ (let z : get_or counts (2 * b + a) 0 ≡ get_or counts (2 * b + a) 0 + 0 = omega arith in z
-          ∙ ap (λ u. get_or counts (2 * b + a) 0 + cond u 1 0) (sym (one_false t (x % 2 == a) (y % 2 == b) (another_class x y a b p q ne))))
-    ]
-
-pub counts_wider : (counts : List ℕ) (cells : Cells) (y x : ℕ) (t : Bool) → AreCounts counts cells (strip y x) → length counts ≡ 4 → t ≡ has cells x y
-    → AreCounts (set counts (y % 2 * 2 + x % 2) (get_or counts (y % 2 * 2 + x % 2) 0 + bool_byte t)) cells (strip y (x + 1))
-counts_wider counts cells y x t are four e =
-    record {
-      count = λ a b p q.
-          class_next counts x y a b t four p q
-          ∙ (ap₂ (λ n u. n + cond (u && (x % 2 == a) && (y % 2 == b)) 1 0) (are.count a b p q) e
-          ∙ sym (strip_next cells y x a b));
-    }
-
-pub few_next : (counts : List ℕ) (y x : ℕ) (t : Bool) → length counts ≡ 4 → ((k : ℕ) → k < 4 → get_or counts k 0 ≤ x)
-    → (k : ℕ) → k < 4 → get_or (set counts (y % 2 * 2 + x % 2) (get_or counts (y % 2 * 2 + x % 2) 0 + bool_byte t)) k 0 ≤ x + 1
-few_next counts y x t four few k less =
-    let class : ℕ = y % 2 * 2 + x % 2 in
-    let small = byte_small t in
-    elim (cases_eq k class) [
-      | inl e ↦
-          let within : class < length counts = omega arith in
-          let same : get_or (set counts class (get_or counts class 0 + bool_byte t)) k 0 ≡ get_or counts class 0 + bool_byte t =
-          ap (λ j. get_or (set counts class (get_or counts class 0 + bool_byte t)) j 0) e ∙ get_or-set_same counts class (get_or counts class 0 + bool_byte t) 0 within in
-          omega (arith, few class (omega arith))
-      | inr ne ↦
-          let other = get_or-set_other counts class k (get_or counts class 0 + bool_byte t) 0 ne in
-          omega (arith, few k less)
-    ]
+-- the word has the 64 cells of row y from column 64 * column on
+pub record IsWordOf (word : ℕ) (cells : Cells) (column y : ℕ) : Type 0 where
+  pub cell : (x : ℕ) → x < 64 → bit word x ≡ has cells (column * 64 + x) y
 
 pub strip_starts : (cells : Cells) (y : ℕ) → AreCounts (0 ∷ 0 ∷ 0 ∷ 0 ∷ []) cells (strip y 0)
 strip_starts cells y = record { count = λ a b p q. get_or-replicate_zero 4 (2 * b + a) ∙ sym (strip_count cells y 0 a b) }
 
--- what comes in and what goes out in the row
-pub came_cell : (cells : Cells) (row : ℕ) (bytes : List ℕ) (x : ℕ) (was is : Bool) → x < cells.width → row < cells.height → was ≡ has cells x row → is ≡ row_has bytes x → (is && not was) ≡ has (without (row_replaced cells row bytes) cells) x row
-came_cell cells row bytes x was is p q e f =
-    ap₂ (λ u v. u && not v) (f ∙ sym (new_row cells row bytes x p q)) e
-    ∙ sym (has-cells_where cells.width cells.height (λ x y. has (row_replaced cells row bytes) x y && not (has cells x y)) x row p q)
+pub strip_ends : (counts : List ℕ) (cells old : Cells) (y column : ℕ) → IsLattice old → column ≡ old.width / 64 → AreCounts counts cells (strip y (column * 64)) → AreCounts counts cells (row_of old y)
+strip_ends counts cells old y column is e are =
+    let whole : column * 64 ≡ old.width = omega (arith, (wide (extent old) is.sized).tiles) in
+    subst (λ w. AreCounts counts cells (strip y w)) whole are
 
-pub went_cell : (cells : Cells) (row : ℕ) (bytes : List ℕ) (x : ℕ) (was is : Bool) → x < cells.width → row < cells.height → was ≡ has cells x row → is ≡ row_has bytes x → (was && not is) ≡ has (without cells (row_replaced cells row bytes)) x row
-went_cell cells row bytes x was is p q e f =
-    ap₂ (λ u v. u && not v) e (f ∙ sym (new_row cells row bytes x p q))
-    ∙ sym (has-cells_where cells.width cells.height (λ x y. has cells x y && not (has (row_replaced cells row bytes) x y)) x row p q)
+-- a word's cells are counted in its part of the row
+word_count : (word : ℕ) (cells : Cells) (column y a b : ℕ) → IsWordOf word cells column y
+    → count_below 64 (λ x. bit word x && x % 2 == a && y % 2 == b) ≡ sum_below 64 (λ x. cond (has cells (column * 64 + x) y && ((column * 64 + x) % 2 == a) && (y % 2 == b)) 1 0)
+word_count word cells column y a b is =
+    row_sum 64 (λ x. bit word x && x % 2 == a && y % 2 == b)
+    ∙ sum_below-cong 64 (λ x. cond (bit word x && x % 2 == a && y % 2 == b) 1 0) (λ x. cond (has cells (column * 64 + x) y && ((column * 64 + x) % 2 == a) && (y % 2 == b)) 1 0)
+    (λ x h. ap₂ (λ u v. cond (u && v && (y % 2 == b)) 1 0) (is.cell x h) (same_parity column x a))
+
+pub counts_wider : (counts here sums : List ℕ) (word : ℕ) (cells : Cells) (column y : ℕ) → AreCounts counts cells (strip y (column * 64)) → IsWordOf word cells column y
+    → ((a b : ℕ) → a < 2 → b < 2 → get_or here (2 * b + a) 0 ≡ count_below 64 (λ x. bit word x && x % 2 == a && y % 2 == b))
+    → ((k : ℕ) → k < 4 → get_or sums k 0 ≡ get_or counts k 0 + get_or here k 0) → AreCounts sums cells (strip y ((column + 1) * 64))
+counts_wider counts here sums word cells column y are is counted added =
+    let next : column * 64 + 64 ≡ (column + 1) * 64 = omega arith in
+    record {
+      count = λ a b p q.
+          added (2 * b + a) (omega arith)
+          ∙ (ap₂ (λ m n. m + n) (are.count a b p q) (counted a b p q ∙ word_count word cells column y a b is)
+          ∙ (sym (strip_more cells y (column * 64) 64 a b) ∙ ap (λ w. parity_count cells (strip y w) a b) next));
+    }
+
+-- the word of the cells that one set has and another lacks
+pub word_without : (v w : ℕ) (cells other : Cells) (column y : ℕ) → w < 2 ^ 64 → column * 64 + 64 ≤ cells.width → y < cells.height → IsWordOf v cells column y → IsWordOf w other column y
+    → IsWordOf (bit_and v (bit_not w64 w)) (without cells other) column y
+word_without v w cells other column y fits p q is is_other =
+    record {
+      cell = λ x h.
+          bit-and v (bit_not w64 w) x
+          ∙ (ap₂ (λ s t. s && t) (is.cell x h) (bit-not w x fits h ∙ ap not (is_other.cell x h))
+          ∙ sym (has-cells_where cells.width cells.height (λ x y. has cells x y && not (has other x y)) (column * 64 + x) y (omega arith) q));
+    }
+
+-- the word of eight bytes of the new row
+pub word_of_row : (word : ℕ) (cells : Cells) (row column : ℕ) (bytes chunk : List ℕ) → column * 64 + 64 ≤ cells.width → row < cells.height → ((x : ℕ) → x < 64 → bit word x ≡ row_has chunk x)
+    → ((k : ℕ) → k < 8 → get_or chunk k 0 ≡ get_or bytes (column * 8 + k) 0) → IsWordOf word (row_replaced cells row bytes) column row
+word_of_row word cells row column bytes chunk p q bits same =
+    record { cell = λ x h. bits x h ∙ (chunk_has bytes chunk column x h same ∙ sym (new_row cells row bytes (column * 64 + x) (omega arith) q)) }

@@ -2,12 +2,13 @@
 
 ghost use Rattle.std.specs.Prelude.{◌≡◌, ◌<◌, ◌*◌, length};
 ghost use Rattle.gas_terms.specs.Cells.{without};
-ghost use Rattle.gas_terms.specs.Rows.{row_has, row_replaced};
+ghost use Rattle.gas_terms.specs.Rows.{row_replaced};
 ghost use Rattle.gas_plane.specs.Planes.{IsLattice};
 ghost use Rattle.phase_step.specs.Counts.{AreCounts};
 ghost use Rattle.gas_ledger.specs.Gases.{row_of};
 
-use gas_plane::Plane;
+use bit_tile::counts_in_row;
+use gas_plane::{Plane, sums, word_of};
 use phase_step::Change;
 
 /// What comes in and goes out when the bytes' cells replace row y.
@@ -22,21 +23,16 @@ pub fn row_change(plane: &Plane, y: u32, bytes: &[u8]) -> Change
 {
     let mut gained = [0; 4];
     let mut lost = [0; 4];
-    let width = plane.size().width() as u32;
-    for x in 0..width {
-        let was = plane.get(x, y);
-        let is = row_holds(bytes, x);
-        let class = (y % 2 * 2 + x % 2) as usize;
-        gained[class] += (is && !was) as u64;
-        lost[class] += (was && !is) as u64;
+    for column in 0..plane.across() {
+        let from = column as usize * 8;
+        let was = plane.word(column, y);
+        let is = word_of(&bytes[from..from + 8]);
+        let came = counts_in_row(is & !was, y);
+        let went = counts_in_row(was & !is, y);
+        let more = sums(gained, came);
+        let less = sums(lost, went);
+        gained = more;
+        lost = less;
     }
     Change { gained, lost }
-}
-
-// whether the bytes have cell x of their row
-fn row_holds(bytes: &[u8], x: u32) -> bool
-    requires { x < 8 * length bytes.now }
-    ensures { result ≡ row_has bytes.now x }
-{
-    (bytes[(x / 8) as usize] >> (7 - x % 8)) & 1 == 1
 }

@@ -1,6 +1,5 @@
 -- The cells of a rectangle are counted tile by tile.
-use Rattle.std.proofs.Common.{◌≡◌, ℕ, zero, suc, ◌+◌, ◌-◌, ◌*◌, ◌/◌, ◌%◌, ◌<◌, ◌≤◌, ◌==◌, ◌&&◌, Bool, true, false, cond, List, [], ◌∷◌, get_or, refl, sym, ◌∙◌, ap, ap₂, arith, inl, inr, count_by, add-one, add_assoc, mul_comm}
-use Rattle.std.specs.List.{range_with_len}
+use Rattle.std.proofs.Common.{◌≡◌, ℕ, zero, suc, ◌+◌, ◌-◌, ◌*◌, ◌/◌, ◌%◌, ◌<◌, ◌≤◌, ◌==◌, ◌&&◌, Bool, true, false, cond, List, [], ◌∷◌, get_or, refl, sym, ◌∙◌, ap, ap₂, arith, inl, inr, add-one, add_assoc, mul_comm}
 use Rattle.std.proofs.Math.Nat.{mod-lt, add-mul}
 use Rattle.std.proofs.lemmas.Nat.{row-Below, mul-le, mod-mul-add, div-mul-add}
 use Rattle.std.proofs.lemmas.Bool.{cases_lt}
@@ -124,12 +123,16 @@ counts_end cells r a b i end is fits past reach none =
     let row : t / (cells.width / 64) < cells.height / 64 = (row-Below t (cells.width / 64) (cells.width / 64) (cells.height / 64) within (omega arith)).1 in
     none (left_of cells t + x) (top_of cells t + y) (cell_below cells.width (t % (cells.width / 64)) x across column p) (cell_below cells.height (t / (cells.width / 64)) y down row q) (omega arith))))))
 
--- a tile's count, as a sum over its cells
+-- a count in a row, and a tile's, as sums over their cells
+pub row_sum : (n : ℕ) (test : ℕ → Bool) → bits.count_below n test ≡ sum_below n (λ x. cond (test x) 1 0)
+unfolding bits.count_below
+row_sum n test = sum_by-range (λ x. cond (test x) 1 0) n
+
 pub tile_sum : (test : ℕ → ℕ → Bool) → count_cells test ≡ cell_sum 64 64 (λ x y. cond (test x y) 1 0)
-unfolding bits.sum_below bits.count_below
+unfolding bits.sum_below
 tile_sum test =
-    sum_by-range (λ y. count_by (λ x. test x y) (range_with_len 0 64)) 64
-    ∙ sum_below-cong 64 (λ y. count_by (λ x. test x y) (range_with_len 0 64)) (λ y. sum_below 64 (λ x. cond (test x y) 1 0)) (λ y _. sum_by-range (λ x. cond (test x y) 1 0) 64)
+    sum_by-range (λ y. bits.count_below 64 (λ x. test x y)) 64
+    ∙ sum_below-cong 64 (λ y. bits.count_below 64 (λ x. test x y)) (λ y. sum_below 64 (λ x. cond (test x y) 1 0)) (λ y _. row_sum 64 (λ x. test x y))
 
 pub same_parity : (k x a : ℕ) → (x % 2 == a) ≡ ((k * 64 + x) % 2 == a)
 same_parity k x a = ap (λ n. n == a) (let e : x % 2 ≡ (k * 64 + x) % 2 = omega arith in e)

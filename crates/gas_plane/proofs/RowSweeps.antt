@@ -103,11 +103,11 @@ row_ends cells now row bytes column is past so_far =
     (λ x y p q. ap (λ b. if b then row_has bytes x else has cells x y) (all_before (x / 64) column (y == row) (let k = tile_below cells.width x (wide (extent cells) is.sized) p in omega arith)))
 
 -- eight bytes of the row
-chunk_has : (bytes chunk : List ℕ) (column x : ℕ) → x / 64 ≡ column → ((k : ℕ) → k < 8 → get_or chunk k 0 ≡ get_or bytes (column * 8 + k) 0) → row_has chunk (x % 64) ≡ row_has bytes x
-chunk_has bytes chunk column x e same =
-    let place : column * 8 + x % 64 / 8 ≡ x / 8 = omega arith in
-    let bit_place : x % 64 % 8 ≡ x % 8 = omega arith in
-    ap₂ (λ n i. n / 2 ^ (7 - i) % 2 == 1) (same (x % 64 / 8) (omega arith) ∙ ap (λ k. get_or bytes k 0) place) bit_place
+pub chunk_has : (bytes chunk : List ℕ) (column x : ℕ) → x < 64 → ((k : ℕ) → k < 8 → get_or chunk k 0 ≡ get_or bytes (column * 8 + k) 0) → row_has chunk x ≡ row_has bytes (column * 64 + x)
+chunk_has bytes chunk column x h same =
+    let place : column * 8 + x / 8 ≡ (column * 64 + x) / 8 = omega arith in
+    let bit_place : x % 8 ≡ (column * 64 + x) % 8 = omega arith in
+    ap₂ (λ n i. n / 2 ^ (7 - i) % 2 == 1) (same (x / 8) (omega arith) ∙ ap (λ k. get_or bytes k 0) place) bit_place
 
 at_column : (n c : ℕ) (b word new old : Bool) → n ≡ c → word ≡ new → (if (n == c) && b then word else (if nat_lt n c && b then new else old)) ≡ (if nat_lt n (c + 1) && b then new else old)
 at_column n c b word new old e f = grind (arith, nat_tests)
@@ -125,7 +125,7 @@ row_next cells now next row bytes chunk column word is so_far put bits same =
     let old : has (rowed cells row bytes column) x y ≡ (if nat_lt (x / 64) column && (y == row) then row_has bytes x else has cells x y) = has-cells_where cells.width cells.height (λ x y. if nat_lt (x / 64) column && (y == row) then row_has bytes x else has cells x y) x y p q in
     ap (λ b. if (x / 64 == column) && (y == row) then bit word (x % 64) else b) old
     ∙ elim (cases_eq (x / 64) column) [
-      | inl here ↦ at_column (x / 64) column (y == row) _ _ _ here (bits (x % 64) (omega arith) ∙ chunk_has bytes chunk column x here same)
+      | inl here ↦ at_column (x / 64) column (y == row) _ _ _ here (bits (x % 64) (omega arith) ∙ (chunk_has bytes chunk column (x % 64) (omega arith) same ∙ ap (row_has bytes) (omega arith)))
       | inr other ↦ off_column (x / 64) column (y == row) _ _ _ other
     ]))
 

@@ -1,6 +1,6 @@
 //! A plane: a set of cells of a lattice, stored as tiles. The lattice is a torus.
 //!
-//! The program uses all of it but `Plane::border`, which is there for callers of the library.
+//! The program uses all of it but `Plane::get` and `Plane::border`, which are there for callers of the library.
 #![tactic(auto)]
 
 ghost use Rattle.std.specs.Borrow.{sem};
@@ -25,6 +25,7 @@ pub use counts::sums;
 use gas_terms::{NoMemory, Size};
 use marks::{Mark, are_all_bare, mark_of};
 pub use parts::part_of;
+pub use rows::word_of;
 use std::alloc::Global;
 use std::marker::Model;
 

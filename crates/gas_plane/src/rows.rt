@@ -4,7 +4,7 @@ ghost use Rattle.std.specs.Prelude.{◌≡◌, ℕ, ◌+◌, ◌*◌, ◌/◌, �
 ghost use Rattle.bit_tile.specs.Bit.{bit};
 ghost use Rattle.gas_terms.specs.Cells.{has};
 ghost use Rattle.gas_terms.specs.Rows.{row_has, row_replaced, row_bytes};
-ghost use Rattle.gas_plane.specs.Planes.{IsLattice, with_word};
+ghost use Rattle.gas_plane.specs.Planes.{with_word};
 
 use crate::Plane;
 
@@ -41,14 +41,14 @@ impl Plane {
         }
     }
 
-    // the 64 cells of row y from column 64 * column on
-    fn word(&self, column: u32, y: u32) -> u64
-        requires lattice { IsLattice self.now }
+    /// The 64 cells of row y from column 64 * column on: the lowest bit is the leftmost.
+    pub fn word(&self, column: u32, y: u32) -> u64
         requires column { column < self.now.width / 64 }
         requires y { y < self.now.height }
         ensures { (x : ℕ) → x < 64 → bit result x ≡ has self.now (column * 64 + x) y }
     {
-        self.tile_in(column, y / 64).row((y % 64) as usize)
+        let across = self.across();
+        self.tile(y / 64 * across + column).row((y % 64) as usize)
     }
 
     fn set_word(&mut self, column: u32, y: u32, word: u64)
@@ -73,8 +73,8 @@ fn bytes_of(word: u64) -> [u8; 8]
     mirrored(word).to_le_bytes()
 }
 
-// the cells of eight bytes
-fn word_of(bytes: &[u8]) -> u64
+/// The 64 cells of eight bytes of a row, as a word whose lowest bit is the leftmost.
+pub fn word_of(bytes: &[u8]) -> u64
     requires { length bytes.now ≡ 8 }
     ensures { (x : ℕ) → x < 64 → bit result x ≡ row_has bytes.now x }
 {

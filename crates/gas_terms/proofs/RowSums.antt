@@ -1,5 +1,5 @@
 -- The cells of a row: their sums and their counts, and what is so after the row is replaced.
-use Rattle.std.proofs.Common.{◌≡◌, ℕ, ◌+◌, ◌%◌, ◌<◌, ◌==◌, nat_lt, nat_le, Bool, true, false, ◌&&◌, cond, if◌then◌else◌, List, inl, inr, refl, sym, ap, ap₂, ◌∙◌, add-one, arith, ℤ}
+use Rattle.std.proofs.Common.{◌≡◌, ℕ, ◌+◌, ◌%◌, ◌<◌, ◌==◌, nat_lt, nat_le, Bool, true, false, ◌&&◌, cond, if◌then◌else◌, List, inl, inr, refl, sym, ap, ap₂, ◌∙◌, arith, ℤ}
 use Rattle.std.proofs.lemmas.Bool.{cases_eq, eq-eqb, ne_eqb}
 use Rattle.std.proofs.lemmas.Bool.Decides.{nat_tests}
 use Rattle.gas_terms.specs.Cells.{Cells, Rectangle, has, is_inside, is_size, HasEvenSides, cells_where}
@@ -7,7 +7,7 @@ use Rattle.gas_terms.specs.Rows.{row_has, row_replaced}
 use Rattle.gas_terms.specs.Accounts.{total, total_in, parity_count}
 use Rattle.gas_terms.proofs.Cells.{has-cells_where, same_cells_where}
 use Rattle.gas_terms.proofs.AccountBounds.{size-even}
-use Rattle.gas_terms.proofs.FiniteSums.{sum_below}
+use Rattle.gas_terms.proofs.FiniteSums.{sum_below, sum_below-cong, sum_below-append}
 use Rattle.gas_terms.proofs.RectangleTotals.{parity_count_is}
 use Rattle.gas_terms.proofs.ProbeTotals.{total_in-within}
 
@@ -21,16 +21,15 @@ picked cells y a b x = cond (has cells (0 + x) (y + 0) && ((0 + x) % 2 == a) && 
 pub strip_count : (cells : Cells) (y w a b : ℕ) → parity_count cells (strip y w) a b ≡ sum_below w (picked cells y a b)
 strip_count cells y w a b = parity_count_is cells (strip y w) a b ∙ (let e : 0 + sum_below w (picked cells y a b) ≡ sum_below w (picked cells y a b) = omega arith in e)
 
--- one cell more
-pub strip_next : (cells : Cells) (y w a b : ℕ) → parity_count cells (strip y (w + 1)) a b ≡ parity_count cells (strip y w) a b + cond (has cells w y && (w % 2 == a) && (y % 2 == b)) 1 0
-strip_next cells y w a b =
-    let e : 0 + w ≡ w = omega arith in
+-- n cells more
+pub strip_more : (cells : Cells) (y w n a b : ℕ) → parity_count cells (strip y (w + n)) a b ≡ parity_count cells (strip y w) a b + sum_below n (λ x. cond (has cells (w + x) y && ((w + x) % 2 == a) && (y % 2 == b)) 1 0)
+strip_more cells y w n a b =
     let f : y + 0 ≡ y = omega arith in
-    let last : picked cells y a b w ≡ cond (has cells w y && (w % 2 == a) && (y % 2 == b)) 1 0 =
-    ap₂ (λ m n. cond (has cells m n && (m % 2 == a) && (n % 2 == b)) 1 0) e f in
-    strip_count cells y (w + 1) a b
-    ∙ (ap (λ n. sum_below n (picked cells y a b)) (add-one w)
-    ∙ ap₂ (λ m n. m + n) (sym (strip_count cells y w a b)) last)
+    strip_count cells y (w + n) a b
+    ∙ (sum_below-append w n (picked cells y a b)
+    ∙ ap₂ (λ u v. u + v) (sym (strip_count cells y w a b))
+    (sum_below-cong n (λ x. picked cells y a b (w + x)) (λ x. cond (has cells (w + x) y && ((w + x) % 2 == a) && (y % 2 == b)) 1 0)
+    (λ x _. let e : 0 + (w + x) ≡ w + x = omega arith in ap₂ (λ u v. cond (has cells u v && (u % 2 == a) && (v % 2 == b)) 1 0) e f)))
 
 -- a row is replaced, and the others stay
 pub new_row : (cells : Cells) (row : ℕ) (bytes : List ℕ) (x : ℕ) → x < cells.width → row < cells.height → has (row_replaced cells row bytes) x row ≡ row_has bytes x

@@ -4,7 +4,7 @@ ghost use Rattle.std.specs.Prelude.{◌≡◌, true};
 ghost use Rattle.gas_terms.specs.Cells.{lies_within, extent};
 
 use crate::expected::{expect_same, expect_that};
-use gas_plane::{Plane, Tile};
+use gas_plane::{Plane, Tile, word_of};
 use gas_terms::{Rect, Size};
 use std::process::Abort;
 
@@ -90,6 +90,11 @@ fn reads_and_writes_rows(rt: HostRuntime) {
     let mut read = [1; 16];
     plane.row_bytes(70, &mut read);
     expect_same(&rt, read.as_slice(), row.as_slice());
+    // columns 0, 1 and 63, and 64 and 67
+    expect_same(&rt, plane.word(0, 70), 0x8000_0000_0000_0003);
+    expect_same(&rt, plane.word(1, 70), 9);
+    expect_same(&rt, word_of(&row[..8]), 0x8000_0000_0000_0003);
+    expect_same(&rt, word_of(&row[8..]), 9);
 }
 
 #[test]

@@ -1,35 +1,53 @@
-use Rattle.std.proofs.Common.{◌≡◌, ◌<◌, ◌&&◌, not, sym, ap, ◌∙◌, arith, length-set}
-use Rattle.gas_terms.specs.Cells.{Extent, has, without}
+use Rattle.std.proofs.Common.{◌+◌, ◌*◌, ◌-◌, ◌≤◌, arith, take, drop}
+use Rattle.bit_tile.proofs.Bits.{get_or-replicate_zero}
+use Rattle.gas_terms.specs.Cells.{Cells, without, extent}
 use Rattle.gas_terms.specs.Rows.{row_replaced}
-use Rattle.gas_ledger.proofs.Strips.{counts_wider, few_next, came_cell, went_cell}
+use Rattle.gas_plane.proofs.Places.{wide}
+use Rattle.gas_plane.proofs.RowSweeps.{chunk_at}
+use Rattle.gas_ledger.proofs.Strips.{IsWordOf, strip_starts, strip_ends, counts_wider, word_without, word_of_row}
 use Rattle.gas_ledger.proofs.change.row_change.Goals as goal
-use Rattle.gas_ledger.proofs.change.row_change.Goals.{then-is, else-is, then-was, else-was}
 
-pub loop-x-preserved : goal.loop-x-preserved
-loop-x-preserved c =
+pub loop-column-init : goal.loop-column-init
+loop-column-init c =
     let cells = c.args.plane.now in
-    let x = c.loop-x.x in
-    let y = c.args.y in
-    let inside : c.loop-x.x < c.args.plane.now.width = omega (arith, ap (λ (s : Extent). s.width) c.size.ensures.extent, c.width-width.ensures) in
-    let new : c.if-is.gained ≡ (c.row_holds-is.result && not c.get-was.result) =
-    elim c.if-is.branch [
-      | then-is w ↦ w.gained-is ∙ sym (ap (λ b. b && not c.get-was.result) w.if-is.true)
-      | else-is w ↦ w.gained-is ∙ (w.if-is.false ∙ sym (ap (λ b. b && not c.get-was.result) w.if-is.false))
-    ] in
-    let gone : c.if-was.lost ≡ (c.get-was.result && not c.row_holds-is.result) =
-    elim c.if-was.branch [
-      | then-was w ↦ w.lost-is ∙ sym (ap (λ b. b && not c.row_holds-is.result) w.if-was.true)
-      | else-was w ↦ w.lost-is ∙ (w.if-was.false ∙ sym (ap (λ b. b && not c.row_holds-is.result) w.if-was.false))
-    ] in
-    let came : c.if-is.gained ≡ has (without (row_replaced c.args.plane.now c.args.y c.args.bytes.now) c.args.plane.now) c.loop-x.x c.args.y =
-    new ∙ came_cell cells y c.args.bytes.now x c.get-was.result c.row_holds-is.result inside c.requires.y c.get-was.ensures c.row_holds-is.ensures in
-    let went : c.if-was.lost ≡ has (without c.args.plane.now (row_replaced c.args.plane.now c.args.y c.args.bytes.now)) c.loop-x.x c.args.y =
-    gone ∙ went_cell cells y c.args.bytes.now x c.get-was.result c.row_holds-is.result inside c.requires.y c.get-was.ensures c.row_holds-is.ensures in
+    let after : Cells = row_replaced c.args.plane.now c.args.y c.args.bytes.now in
     record {
-      gained = counts_wider c.loop-x.gained (without (row_replaced cells y c.args.bytes.now) cells) y x c.if-is.gained c.loop-x.invariant.gained c.loop-x.invariant.four_gained came;
-      lost = counts_wider c.loop-x.lost (without cells (row_replaced cells y c.args.bytes.now)) y x c.if-was.lost c.loop-x.invariant.lost c.loop-x.invariant.four_lost went;
-      four_gained = length-set c.loop-x.gained _ _ ∙ c.loop-x.invariant.four_gained;
-      four_lost = length-set c.loop-x.lost _ _ ∙ c.loop-x.invariant.four_lost;
-      few_gained = few_next c.loop-x.gained y x c.if-is.gained c.loop-x.invariant.four_gained c.loop-x.invariant.few_gained;
-      few_lost = few_next c.loop-x.lost y x c.if-was.lost c.loop-x.invariant.four_lost c.loop-x.invariant.few_lost;
+      gained = strip_starts (without after cells) c.args.y;
+      lost = strip_starts (without cells after) c.args.y;
+      few_gained = λ k h. omega (arith, get_or-replicate_zero 4 k);
+      few_lost = λ k h. omega (arith, get_or-replicate_zero 4 k);
     }
+
+pub sums-more-requires : goal.sums-more-requires
+sums-more-requires c = λ k h. omega (arith, c.loop-column.invariant.few_gained k h, c.counts_in_row-came.ensures.bound k)
+
+pub sums-less-requires : goal.sums-less-requires
+sums-less-requires c = λ k h. omega (arith, c.loop-column.invariant.few_lost k h, c.counts_in_row-went.ensures.bound k)
+
+pub loop-column-preserved : goal.loop-column-preserved
+loop-column-preserved c =
+    let cells = c.args.plane.now in
+    let y = c.args.y in
+    let column = c.loop-column.column in
+    let bytes = c.args.bytes.now in
+    let after : Cells = row_replaced c.args.plane.now c.args.y c.args.bytes.now in
+    let whole = (wide (extent c.args.plane.now) c.across-column-end.ensures.lattice.sized).tiles in
+    let inside : c.loop-column.column * 64 + 64 ≤ c.args.plane.now.width = omega (arith, whole, c.across-column-end.ensures.across) in
+    let was : IsWordOf c.word-was.result c.args.plane.now c.loop-column.column c.args.y = record { cell = c.word-was.ensures } in
+    let is = word_of_row c.word_of-is.result cells y column bytes (take (column * 8 + 8 - column * 8) (drop (column * 8) bytes)) inside c.requires.y c.word_of-is.ensures (chunk_at bytes column) in
+    let came = word_without c.word_of-is.result c.word-was.result after cells column y (omega arith) inside c.requires.y is was in
+    let went = word_without c.word-was.result c.word_of-is.result cells after column y (omega arith) inside c.requires.y was is in
+    record {
+      gained = counts_wider c.loop-column.gained c.counts_in_row-came.result c.sums-more.result _ (without after cells) column y c.loop-column.invariant.gained came c.counts_in_row-came.ensures.counts c.sums-more.ensures;
+      lost = counts_wider c.loop-column.lost c.counts_in_row-went.result c.sums-less.result _ (without cells after) column y c.loop-column.invariant.lost went c.counts_in_row-went.ensures.counts c.sums-less.ensures;
+      few_gained = λ k h. omega (arith, c.loop-column.invariant.few_gained k h, c.counts_in_row-came.ensures.bound k, c.sums-more.ensures k h);
+      few_lost = λ k h. omega (arith, c.loop-column.invariant.few_lost k h, c.counts_in_row-went.ensures.bound k, c.sums-less.ensures k h);
+    }
+
+pub returns-clause-gained : goal.returns-clause-gained
+returns-clause-gained c =
+    strip_ends c.loop-column.gained _ c.args.plane.now c.args.y c.loop-column.column c.across-column-end.ensures.lattice (omega (arith, c.across-column-end.ensures.across)) c.loop-column.invariant.gained
+
+pub returns-clause-lost : goal.returns-clause-lost
+returns-clause-lost c =
+    strip_ends c.loop-column.lost _ c.args.plane.now c.args.y c.loop-column.column c.across-column-end.ensures.lattice (omega (arith, c.across-column-end.ensures.across)) c.loop-column.invariant.lost
