@@ -33,12 +33,19 @@ eqb_same : (k : ℕ) → (k == k) ≡ true
 eqb_same k = eq-eqb k k refl
 
 -- `n | 1 << k` and `n & !(1 << k)`
-pub bit_of_set : (n k i : ℕ) → k < 32 → bit (bit_or n (1 * 2 ^ k % 2 ^ 32)) i ≡ (if i == k then true else bit n i)
+pub bit_of_set_same : (n k i : ℕ) → k < 32 → i ≡ k → bit (bit_or n (1 * 2 ^ k % 2 ^ 32)) i ≡ true
 unfolding bit
+bit_of_set_same n k i within same = rw same (ap (λ m. m == 1) (bit_at_set_same w32 n k within))
+
+pub bit_of_set_other : (n k i : ℕ) → k < 32 → (i ≡ k → ⊥) → bit (bit_or n (1 * 2 ^ k % 2 ^ 32)) i ≡ bit n i
+unfolding bit
+bit_of_set_other n k i within other = ap (λ m. m == 1) (bit_at_set_other w32 n k within i other)
+
+pub bit_of_set : (n k i : ℕ) → k < 32 → bit (bit_or n (1 * 2 ^ k % 2 ^ 32)) i ≡ (if i == k then true else bit n i)
 bit_of_set n k i within =
     elim (cases_eq i k) [
-      | inl same ↦ rw (same, eqb_same k) (ap (λ m. m == 1) (bit_at_set_same w32 n k within))
-      | inr other ↦ rw (ne_eqb i k other) (ap (λ m. m == 1) (bit_at_set_other w32 n k within i other))
+      | inl same ↦ bit_of_set_same n k i within same ∙ rw (same, eqb_same k) refl
+      | inr other ↦ bit_of_set_other n k i within other ∙ rw (ne_eqb i k other) refl
     ]
 
 pub bit_of_clear : (n k i : ℕ) → k < 32 → i < 32 → bit (bit_and n (bit_not w32 (1 * 2 ^ k % 2 ^ 32))) i ≡ (if i == k then false else bit n i)

@@ -214,6 +214,22 @@ impl Tile {
         self.even_even[j] | self.odd_even[j] | self.even_odd[j] | self.odd_odd[j]
     }
 
+    /// Which rows have cells, two by two: bit j is 0 just if rows 2 * j and 2 * j + 1 have none.
+    pub fn rows_with_cells(&self) -> u32
+        ensures none { (x y : ℕ) → x < 64 → y < 64 → bit result (y / 2) ≡ false →
+            has self.now x y ≡ false }
+        ensures known { (j : ℕ) → j < 32 →
+            ((x y : ℕ) → x < 64 → y / 2 ≡ j → has self.now x y ≡ false) → bit result j ≡ false }
+    {
+        let mut rows = 0;
+        for j in 0..32usize {
+            if self.any_in_rows(j) != 0 {
+                rows |= 1 << j;
+            }
+        }
+        rows
+    }
+
     /// Whether the other has the same cells.
     pub fn has_same_cells(&self, other: &Tile) -> bool
         ensures same { IsTrue result → HasCells self.now (has other.now) }
