@@ -1,28 +1,28 @@
 -- What is put back in walled blocks, and what it gives.
-use Rattle.std.proofs.Common.{◌≡◌, ℕ, zero, suc, inl, inr, ◌+◌, ◌-◌, ◌*◌, ◌^◌, ◌<◌, ◌≤◌, ◌⊎◌, Bool, true, false, not, ◌&&◌, ◌||◌, if◌then◌else◌, List, get_or, refl, sym, subst, Option, Some, None, ◌∙◌, ap, ap₂, arith, bit_and, bit_or}
+use Rattle.std.proofs.Common.{◌≡◌, ℕ, zero, suc, inl, inr, ◌+◌, ◌-◌, ◌*◌, ◌/◌, ◌%◌, ◌^◌, ◌<◌, ◌≤◌, ◌⊎◌, Bool, true, false, not, ◌&&◌, ◌||◌, if◌then◌else◌, List, get_or, refl, sym, subst, Option, Some, None, ◌∙◌, ap, ap₂, arith, bit_and, bit_or}
 use Rattle.std.specs.Prelude.{pos, ◌-ℤ◌, ℤ}
 use Rattle.std.proofs.lemmas.Int.{ints}
 use mir.Val.{to_z, of_z}
 use Rattle.std.specs.Int.{bit_not, w32, w64}
 use Rattle.std.specs.Int.RustNames.{count_ones}
-use Rattle.std.proofs.lemmas.Nat.{and_le_l, le_or_l, le_or_r}
-use Rattle.std.proofs.lemmas.Bool.{cases_eq, cases_lt}
+use Rattle.std.proofs.lemmas.Nat.{and_le_l}
+use Rattle.std.proofs.lemmas.Bool.{cases_lt}
 use Rattle.bit_tile.specs.Bit.{bit}
 use Rattle.bit_tile.specs.Sums.{sum_below, count_below}
 use Rattle.bit_tile.specs.Tile.{has, HasCells}
 use Rattle.bit_tile.specs.declared.Tile.{Tile}
-use Rattle.bit_tile.proofs.Bits.{bit-zero, bit-and, bit-or}
-use Rattle.bit_tile.proofs.Words32.{bit-not, none_set}
+use Rattle.bit_tile.proofs.Bits.{bit-zero, bit-and, bit-or, bit-shr, bit_of_low}
+use Rattle.bit_tile.proofs.Words32.{bit-not, bit-ones}
 use Rattle.bit_tile.proofs.Sums.{sum_below-zero, sum_below-more, sum_below-same, count_below-same, count_below-none}
 use Rattle.bit_tile.proofs.Counts.{class_count, ones_of_two}
-use Rattle.bit_tile.proofs.Classes.{IsClass}
+use Rattle.bit_tile.proofs.Classes.{IsClass, is_even_even, is_odd_even, is_even_odd, is_odd_odd}
 use Rattle.gas_terms.specs.declared.accounts.Pair.{Pair}
 use Rattle.block_rule.specs.Around.{turned, none, either, is_walled_at, is_for_walls, twice_momentum, taken}
 use Rattle.block_rule.specs.Cell.{turned_cell, made}
 use Rattle.block_rule.specs.Classes.{class, AreCounts, IsHeldIn}
 use Rattle.block_rule.specs.Rows.{ShowsTile}
-use Rattle.block_rule.specs.Lent.{HasNoCell, IsLentOf, AreWalledCells}
-use Rattle.std.specs.Borrow.{Bor}
+use Rattle.block_rule.specs.Lent.{HasNoCell, TellsRows, ArePlacesOf, IsLentOf, AreWalledCells}
+use Rattle.block_rule.specs.declared.walled.Places.{Places}
 use Rattle.block_rule.specs.declared.held.Classes.{Classes}
 use Rattle.block_rule.proofs.Around.{turned_by_cells, walled_from, walled_by_cells}
 use Rattle.block_rule.proofs.Blank.{walled_either}
@@ -50,11 +50,11 @@ held_word old new solid i fits within =
     ∙ either_word (bit old i) (bit new i) (bit solid i))
 
 -- a row without places
-nothing_there : (places i : ℕ) (a b : Bool) → places ≡ 0 → b ≡ (if bit places i then a else b)
-nothing_there places i a b e = rw (e, bit-zero i)
+nothing_there : (places i : ℕ) (a b : Bool) → bit places i ≡ false → b ≡ (if bit places i then a else b)
+nothing_there places i a b e = rw e refl
 
-none_among : (row places : ℕ) → places ≡ 0 → count_below 32 (λ i. bit row i && bit places i) ≡ 0
-none_among row places e = count_below-same 32 _ (λ _. false) (λ i _. and_false (bit row i) (bit places i) (rw (e, bit-zero i))) ∙ count_below-none 32
+none_among : (row places : ℕ) → ((i : ℕ) → i < 32 → bit places i ≡ false) → count_below 32 (λ i. bit row i && bit places i) ≡ 0
+none_among row places none = count_below-same 32 _ (λ _. false) (λ i h. and_false (bit row i) (bit places i) (none i h)) ∙ count_below-none 32
 
 -- how many of a row's cells are in places
 abbrev pub among : List ℕ → List ℕ → ℕ → ℕ
@@ -73,31 +73,23 @@ pub rows_more : (old places : List ℕ) (n more j next before : ℕ) → n + bef
 rows_more old places n more j next before so_far here e =
     rw e (omega (arith, so_far, here, sum_below-more j (among old places), sum_below-more (j + 1) (among old places)))
 
-no_row_more : (old places : List ℕ) (j : ℕ) → get_or places j 0 ≡ 0 → sum_below (j + 1) (among old places) ≡ sum_below j (among old places)
+no_row_more : (old places : List ℕ) (j : ℕ) → ((i : ℕ) → i < 32 → bit (get_or places j 0) i ≡ false) → sum_below (j + 1) (among old places) ≡ sum_below j (among old places)
 no_row_more old places j e = omega (arith, none_among (get_or old j 0) (get_or places j 0) e, sum_below-more j (among old places))
 
 -- rows without places
-no_rows_more : (old places : List ℕ) (from n : ℕ) → ((k : ℕ) → from ≤ k → k < from + n → get_or places k 0 ≡ 0) → sum_below (from + n) (among old places) ≡ sum_below from (among old places)
+no_rows_more : (old places : List ℕ) (from n : ℕ) → ((i k : ℕ) → i < 32 → from ≤ k → k < from + n → bit (get_or places k 0) i ≡ false) → sum_below (from + n) (among old places) ≡ sum_below from (among old places)
 no_rows_more old places from zero none = ap (λ m. sum_below m (among old places)) (omega arith)
 no_rows_more old places from (suc n) none =
     ap (λ m. sum_below m (among old places)) (let e : from + suc n ≡ from + n + 1 = omega arith in e)
-    ∙ (no_row_more old places (from + n) (none (from + n) (omega arith) (omega arith)) ∙ no_rows_more old places from n (λ k low high. none k low (omega arith)))
+    ∙ (no_row_more old places (from + n) (λ i h. none i (from + n) h (omega arith) (omega arith)) ∙ no_rows_more old places from n (λ i k h low high. none i k h low (omega arith)))
 
-pub or_is_zero : (a b : ℕ) → bit_or a b ≡ 0 → (a ≡ 0) × (b ≡ 0)
-or_is_zero a b e = (omega (arith, e, le_or_l a b), omega (arith, e, le_or_r a b))
-
--- a loop has seen the rows from `from` up to j, and sees two more in one word
-pub none_so_far : (rows : List ℕ) (from j any two : ℕ) → get_or rows j 0 < 2 ^ 32 → get_or rows (j + 1) 0 < 2 ^ 32 → ((i : ℕ) → i < 32 → bit two i ≡ bit (get_or rows j 0) i) → ((i : ℕ) → i < 32 → bit two (32 + i) ≡ bit (get_or rows (j + 1) 0) i)
-    → (any ≡ 0 → (k : ℕ) → from ≤ k → k < j → get_or rows k 0 ≡ 0) → bit_or any two ≡ 0 → (k : ℕ) → from ≤ k → k < j + 2 → get_or rows k 0 ≡ 0
-none_so_far rows from j any two fits also first second before e k low high =
-    let both = or_is_zero any two e in
-    elim (cases_eq k j) [
-      | inl same ↦ rw same (none_set (get_or rows j 0) fits (λ i h. sym (first i h) ∙ rw both.1 (bit-zero i)))
-      | inr other ↦ elim (cases_eq k (j + 1)) [
-        | inl next ↦ rw next (none_set (get_or rows (j + 1) 0) also (λ i h. sym (second i h) ∙ rw both.1 (bit-zero (32 + i))))
-        | inr third ↦ before both.0 k low (omega arith)
-      ]
-    ]
+-- eight rows of which a word tells nothing
+pub not_told : (rows k : ℕ) → rows / 2 ^ (8 * k) % 256 ≡ 0 → (j : ℕ) → 8 * k ≤ j → j < 8 * k + 8 → bit rows j ≡ false
+not_told rows k e j low high =
+    let same : j ≡ 8 * k + (j - 8 * k) = omega arith in
+    ap (bit rows) same
+    ∙ (sym (bit-shr rows (8 * k) (j - 8 * k))
+    ∙ (sym (bit_of_low (rows / 2 ^ (8 * k)) 8 (j - 8 * k) (omega arith)) ∙ rw e (bit-zero (j - 8 * k))))
 
 pub not_row : (j from k : ℕ) → (j < from) ⊎ (from + (k + 1) ≤ j) → j ≡ from + k → ⊥
 not_row j from k (inl h) e = omega arith
@@ -115,18 +107,16 @@ row_from j from k e (inr h) = inr (omega arith)
 pub record HeldSoFar (old places before after : List ℕ) (n k : ℕ) : Type 0 where
   pub held : IsHeldIn 0 (k * 8) old places before after
   pub count : n ≡ sum_below (k * 8) (among old places)
-  pub bound : n ≤ 256 * k
 
 pub nothing_held : (old places before : List ℕ) → HeldSoFar old places before before 0 0
 nothing_held old places before =
     record {
       held = record { cells = λ i j _ _ below. absurd (omega arith); rest = λ j _. refl };
       count = sym (sum_below-zero (among old places));
-      bound = omega arith;
     }
 
-pub held_more : (old places before class after : List ℕ) (n m k : ℕ) → HeldSoFar old places before class n k → IsHeldIn (k * 8) (k * 8 + 8) old places class after → m + sum_below (k * 8) (among old places) ≡ sum_below (k * 8 + 8) (among old places) → m ≤ 256 → HeldSoFar old places before after (n + m) (k + 1)
-held_more old places before class after n m k was here counted few =
+pub held_more : (old places before class after : List ℕ) (n m k : ℕ) → HeldSoFar old places before class n k → IsHeldIn (k * 8) (k * 8 + 8) old places class after → m + sum_below (k * 8) (among old places) ≡ sum_below (k * 8 + 8) (among old places) → HeldSoFar old places before after (n + m) (k + 1)
+held_more old places before class after n m k was here counted =
     let next : (k + 1) * 8 ≡ k * 8 + 8 = omega arith in
     record {
       held = record {
@@ -137,7 +127,6 @@ held_more old places before class after n m k was here counted few =
         rest = λ j outside. here.rest j (above_next j outside) ∙ was.held.rest j (above_now j outside);
       };
       count = rw next (omega (arith, was.count, counted));
-      bound = omega (arith, was.bound, few);
     }
   where
     above_next : (j : ℕ) → (j < 0) ⊎ ((k + 1) * 8 ≤ j) → (j < k * 8) ⊎ (k * 8 + 8 ≤ j)
@@ -148,19 +137,18 @@ held_more old places before class after n m k was here counted few =
     above_now j (inl h) = absurd (omega arith)
     above_now j (inr h) = inr (omega arith)
 
-pub none_more : (old places before class : List ℕ) (n k : ℕ) → HeldSoFar old places before class n k → ((j : ℕ) → k * 8 ≤ j → j < k * 8 + 8 → get_or places j 0 ≡ 0) → HeldSoFar old places before class n (k + 1)
+pub none_more : (old places before class : List ℕ) (n k : ℕ) → HeldSoFar old places before class n k → ((i j : ℕ) → i < 32 → k * 8 ≤ j → j < k * 8 + 8 → bit (get_or places j 0) i ≡ false) → HeldSoFar old places before class n (k + 1)
 none_more old places before class n k was none =
     let next : (k + 1) * 8 ≡ k * 8 + 8 = omega arith in
     record {
       held = record {
         cells = λ i j h _ below. elim (cases_lt j (k * 8)) [
           | inl low ↦ was.held.cells i j h (omega arith) low
-          | inr high ↦ ap (λ w. bit w i) (was.held.rest j (inr high)) ∙ nothing_there (get_or places j 0) i _ _ (none j high (omega arith))
+          | inr high ↦ ap (λ w. bit w i) (was.held.rest j (inr high)) ∙ nothing_there (get_or places j 0) i _ _ (none i j h high (omega arith))
         ];
         rest = λ j outside. was.held.rest j (above_now j outside);
       };
       count = rw next (was.count ∙ sym (no_rows_more old places (k * 8) 8 none));
-      bound = omega (arith, was.bound);
     }
   where
     above_now : (j : ℕ) → (j < 0) ⊎ ((k + 1) * 8 ≤ j) → (j < 0) ⊎ (k * 8 ≤ j)
@@ -243,11 +231,38 @@ walled_cells_are p walls left others walled obstructed is_walls is_others is_lef
     }
 
 -- what is lent of the cells that pass a test
-pub lent_cells : (lent : Option (Bor Tile)) (t : Bor Tile) (test : ℕ → ℕ → Bool) → lent ≡ Some t → IsLentOf lent test → HasCells t.now test
-lent_cells lent t test e is = subst (λ lent. IsLentOf lent test) e is
+pub lent_places : (lent : Option Places) (p : Places) (test : ℕ → ℕ → Bool) → lent ≡ Some p → IsLentOf lent test → ArePlacesOf p test
+lent_places lent p test e is = subst (λ lent. IsLentOf lent test) e is
 
-pub nothing_lent : (lent : Option (Bor Tile)) (test : ℕ → ℕ → Bool) → lent ≡ None → IsLentOf lent test → HasNoCell test
+pub nothing_lent : (lent : Option Places) (test : ℕ → ℕ → Bool) → lent ≡ None → IsLentOf lent test → HasNoCell test
 nothing_lent lent test e is = subst (λ lent. IsLentOf lent test) e is
+
+-- the rows of its cells are told
+pub tells_rows : (p : Places) (test : ℕ → ℕ → Bool) → ArePlacesOf p test → TellsRows p.rows (has p.cells.now)
+tells_rows p test are x y h k e = are.cells x y h k ∙ are.rows x y h k e
+
+-- a word that tells of all rows
+pub tells_all : (test : ℕ → ℕ → Bool) → TellsRows (2 ^ 32 - 1) test
+tells_all test x y h k e = let all = bit-ones (y / 2) (omega arith) in cc
+
+-- where nothing is told of a row, no class has a cell there
+module _ (t : Tile) (rows : ℕ) (told : TellsRows rows (has t)) (i j : ℕ) (h : i < 32) (k : j < 32) (e : bit rows j ≡ false) where
+  untold : (p q : ℕ) → p < 2 → q < 2 → has t (2 * i + p) (2 * j + q) ≡ false
+  untold p q p_two q_two =
+      let row : (2 * j + q) / 2 ≡ j = omega arith in
+      told (2 * i + p) (2 * j + q) (omega arith) (omega arith) (rw row e)
+
+  pub untold_even_even : bit (get_or t.even_even j 0) i ≡ false
+  untold_even_even = is_even_even t i j h k ∙ untold 0 0 (omega arith) (omega arith)
+
+  pub untold_odd_even : bit (get_or t.odd_even j 0) i ≡ false
+  untold_odd_even = is_odd_even t i j h k ∙ untold 1 0 (omega arith) (omega arith)
+
+  pub untold_even_odd : bit (get_or t.even_odd j 0) i ≡ false
+  untold_even_odd = is_even_odd t i j h k ∙ untold 0 1 (omega arith) (omega arith)
+
+  pub untold_odd_odd : bit (get_or t.odd_odd j 0) i ≡ false
+  untold_odd_odd = is_odd_odd t i j h k ∙ untold 1 1 (omega arith) (omega arith)
 
 -- what is put back of them, and what it gives
 pub held_at : (tile before out places : Tile) (test : ℕ → ℕ → Bool) → HasCells places test → HasCells out (λ x y. if has places x y then has tile x y else has before x y)

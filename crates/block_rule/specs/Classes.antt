@@ -2,7 +2,6 @@ use Rattle.std.specs.Prelude.{◌≡◌, ℕ, ◌+◌, ◌%◌, ◌<◌, ◌≤�
 use Rattle.bit_tile.specs.Bit.{bit}
 use Rattle.bit_tile.specs.Sums.{sum_below, count_below}
 use Rattle.bit_tile.specs.Tile.{count_cells}
-use Rattle.bit_tile.specs.declared.Tile.{Tile}
 use Rattle.block_rule.specs.declared.held.Classes.{Classes}
 
 -- none of the four counts is above n
@@ -39,10 +38,3 @@ kept old places before j i = if bit (slice_index places j) i then bit (slice_ind
 pub record IsHeldIn (from to : ℕ) (old places before after : List ℕ) : Type 0 where
   pub cells : (i j : ℕ) → i < 32 → from ≤ j → j < to → bit (slice_index after j) i ≡ kept old places before j i
   pub rest : (j : ℕ) → (j < from) ⊎ (to ≤ j) → slice_index after j ≡ slice_index before j
-
--- none of the four classes has a cell in its row j
-pub record IsBlankRow (t : Tile) (j : ℕ) : Type 0 where
-  pub even_even : slice_index t.even_even j ≡ 0
-  pub odd_even : slice_index t.odd_even j ≡ 0
-  pub even_odd : slice_index t.even_odd j ≡ 0
-  pub odd_odd : slice_index t.odd_odd j ≡ 0

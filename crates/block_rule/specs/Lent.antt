@@ -1,19 +1,28 @@
-use Rattle.std.specs.Prelude.{◌≡◌, ℕ, ◌<◌, Bool, false, Option, MatchOption}
-use Rattle.std.specs.Borrow.{Bor}
+use Rattle.std.specs.Prelude.{◌≡◌, ℕ, ◌/◌, ◌<◌, Bool, false, Option, MatchOption}
+use Rattle.bit_tile.specs.Bit.{bit}
 use Rattle.bit_tile.specs.Tile.{HasCells}
-use Rattle.bit_tile.specs.declared.Tile.{Tile}
 use Rattle.block_rule.specs.Around.{is_walled_at, is_for_walls}
 use Rattle.block_rule.specs.Rows.{ShowsTile, ShowsAllRound}
 use Rattle.block_rule.specs.declared.Window.{Window}
+use Rattle.block_rule.specs.declared.walled.Places.{Places}
 use Rattle.block_rule.specs.declared.walled.WalledCells.{WalledCells}
 
 -- none of a tile's cells passes the test
 abbrev pub HasNoCell : (ℕ → ℕ → Bool) → Type 0
 HasNoCell test = (x y : ℕ) → x < 64 → y < 64 → test x y ≡ false
 
+-- a word tells in which rows the cells lie that pass the test: bit j stands for rows 2 * j and 2 * j + 1
+abbrev pub TellsRows : ℕ → (ℕ → ℕ → Bool) → Type 0
+TellsRows rows test = (x y : ℕ) → x < 64 → y < 64 → bit rows (y / 2) ≡ false → test x y ≡ false
+
+-- the places are the cells that pass the test
+pub record ArePlacesOf (p : Places) (test : ℕ → ℕ → Bool) : Type 0 where
+  pub cells : HasCells p.cells.now test
+  pub rows : TellsRows p.rows test
+
 -- what is lent of a tile's cells that pass the test: they, or nothing where there are none
-abbrev pub IsLentOf : Option (Bor Tile) → (ℕ → ℕ → Bool) → Type 0
-IsLentOf lent test = MatchOption lent (HasNoCell test) (λ t. HasCells t.now test)
+abbrev pub IsLentOf : Option Places → (ℕ → ℕ → Bool) → Type 0
+IsLentOf lent test = MatchOption lent (HasNoCell test) (λ p. ArePlacesOf p test)
 
 -- what is seen of a set in a tile and in those round it
 pub record IsSeenIn (w : Window) (window : ℕ → ℕ → Bool) : Type 0 where

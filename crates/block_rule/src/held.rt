@@ -1,40 +1,26 @@
 //! Walled blocks: the old cells stay, and their particles give twice their momentum.
 
-ghost use Rattle.std.specs.Prelude.{◌≡◌, ℕ, ◌+◌, ◌*◌, ◌<◌, ◌≤◌, ◌&&◌, if◌then◌else◌, Bool, length, slice_index, pos, ◌-ℤ◌};
+ghost use Rattle.std.specs.Prelude.{◌≡◌, ℕ, ◌+◌, ◌*◌, ◌<◌, ◌≤◌, ◌&&◌, if◌then◌else◌, Bool, false, slice_index, pos, ◌-ℤ◌};
 ghost use Rattle.bit_tile.specs.Bit.{bit};
 ghost use Rattle.bit_tile.specs.Tile.{has, HasCells};
 ghost use Rattle.block_rule.specs.Around.{twice_momentum};
-ghost use Rattle.block_rule.specs.Classes.{HasAtMost, AreCounts, AreParticlesIn, IsBlankRow, IsHeldIn, kept};
+ghost use Rattle.block_rule.specs.Lent.{TellsRows};
+ghost use Rattle.block_rule.specs.Classes.{HasAtMost, AreCounts, AreParticlesIn, IsHeldIn, kept};
 
+use crate::walled::Places;
 use bit_tile::{Tile, joined};
 use gas_terms::Pair;
 
 // rows of a class that are looked at together
 const TOGETHER: usize = 8;
 
-// 0 just if none of the rows from `from` on has a cell
+// what a word tells of eight rows, of which the first is 8 * k
 #[inline]
-fn any_in(rows: &[u32; 32], from: usize) -> u64
-    requires { from + 8 ≤ 32 }
-    ensures { result ≡ 0 → (j : ℕ) → from ≤ j → j < from + 8 → slice_index rows.now j ≡ 0 }
+fn told_in(rows: u32, k: usize) -> u32
+    requires { k < 4 }
+    ensures { result ≡ 0 → (j : ℕ) → 8 * k ≤ j → j < 8 * k + 8 → bit rows j ≡ false }
 {
-    let mut any = 0;
-    for k in 0..TOGETHER / 2 {
-        let j = from + 2 * k;
-        any |= joined(rows[j], rows[j + 1]);
-    }
-    any
-}
-
-// the same of all four classes
-#[inline]
-fn any_in_classes(places: &Tile, from: usize) -> u64
-    requires { from + 8 ≤ 32 }
-    ensures { result ≡ 0 → (j : ℕ) → from ≤ j → j < from + 8 → IsBlankRow places.now j }
-{
-    let even_rows = any_in(&places.even_even, from) | any_in(&places.odd_even, from);
-    let odd_rows = any_in(&places.even_odd, from) | any_in(&places.odd_odd, from);
-    even_rows | odd_rows
+    (rows >> (8 * k)) % 256
 }
 
 // The rows of a class from `from` on, with the old cells of these places put back.
@@ -135,25 +121,26 @@ pub fn momentum(counts: Classes, parity: u8) -> Pair
 
 /// Puts the old cells of these places back into a tile that was turned as if there were no walls. The answer is twice the
 /// momentum that they had.
-pub fn hold(tile: &Tile, places: &Tile, parity: u8, out: &mut Tile) -> Pair
+pub fn hold(tile: &Tile, places: Places<'_>, parity: u8, out: &mut Tile) -> Pair
     requires { parity < 2 }
-    ensures cells { HasCells out.new (λ x y.
-        if has places.now x y then has tile.now x y else has out.old x y) }
-    ensures took { result ≡ twice_momentum parity (λ x y. has tile.now x y && has places.now x y) }
+    ensures cells { let p = places.entry in TellsRows p.rows (has p.cells.now) →
+        HasCells out.new (λ x y. if has p.cells.now x y then has tile.now x y else has out.old x y) }
+    ensures took { let p = places.entry in TellsRows p.rows (has p.cells.now) →
+        result ≡ twice_momentum parity (λ x y. has tile.now x y && has p.cells.now x y) }
 {
+    let cells = places.cells;
     let mut counts = NO_PARTICLES;
     for k in 0..4usize {
         let from = k * TOGETHER;
-        // most rows have no places
-        if any_in_classes(places, from) != 0 {
+        if told_in(places.rows, k) != 0 {
             let class = &mut out.even_even;
-            counts.even_even += hold_rows(&tile.even_even, &places.even_even, from, class);
+            counts.even_even += hold_rows(&tile.even_even, &cells.even_even, from, class);
             let class = &mut out.odd_even;
-            counts.odd_even += hold_rows(&tile.odd_even, &places.odd_even, from, class);
+            counts.odd_even += hold_rows(&tile.odd_even, &cells.odd_even, from, class);
             let class = &mut out.even_odd;
-            counts.even_odd += hold_rows(&tile.even_odd, &places.even_odd, from, class);
+            counts.even_odd += hold_rows(&tile.even_odd, &cells.even_odd, from, class);
             let class = &mut out.odd_odd;
-            counts.odd_odd += hold_rows(&tile.odd_odd, &places.odd_odd, from, class);
+            counts.odd_odd += hold_rows(&tile.odd_odd, &cells.odd_odd, from, class);
         }
     }
     momentum(counts, parity)

@@ -27,7 +27,7 @@ use gas_terms::accounts::{Pair, Took};
 use made::{make_even, make_odd};
 use tile_border::{Border, Neighbors, Round};
 use walled::put_back;
-pub use walled::{WalledCells, walled_cells_even, walled_cells_odd};
+pub use walled::{Places, WalledCells, walled_cells_even, walled_cells_odd};
 
 /// The cells of a block after the rule, in the order upper left, upper right, lower left, lower right.
 pub fn turn_block(cells: [bool; 4], walled: bool) -> [bool; 4]
@@ -64,7 +64,11 @@ pub struct Window<'a> {
 /// `None`. Returns the momentum that walls and obstacles take of the tile's own particles: twice that of the particles in walled
 /// blocks.
 #[inline(always)]
-pub fn turn_tile_even(tile: &mut Tile, walls: Option<&Tile>, obstacles: Option<&Tile>) -> Took
+pub fn turn_tile_even(
+    tile: &mut Tile,
+    walls: Option<Places<'_>>,
+    obstacles: Option<Places<'_>>,
+) -> Took
     ensures cells { (window walled obstructed : ℕ → ℕ → Bool) → ShowsTile window tile.old →
         IsLentOf walls.entry (is_for_walls 0 walled obstructed) →
         IsLentOf obstacles.entry (is_walled_at 0 obstructed) →
@@ -91,8 +95,8 @@ pub fn turn_tile_even(tile: &mut Tile, walls: Option<&Tile>, obstacles: Option<&
 #[inline(always)]
 pub fn turn_tile_odd(
     particles: &Window,
-    walls: Option<&Tile>,
-    obstacles: Option<&Tile>,
+    walls: Option<Places<'_>>,
+    obstacles: Option<Places<'_>>,
     out: &mut Tile,
 ) -> Took
     ensures cells { (window walled obstructed : ℕ → ℕ → Bool) → IsSeenIn particles.now window →
@@ -133,7 +137,9 @@ pub fn turn_tile_into(
     if parity == 0 {
         *out = *tile;
         let walled = walled_cells_even(walls, obstacles);
-        turn_tile_even(out, Some(&walled.walls), Some(&walled.obstacles))
+        let walls = Some(Places::anywhere(&walled.walls));
+        let obstacles = Some(Places::anywhere(&walled.obstacles));
+        turn_tile_even(out, walls, obstacles)
     } else {
         let near = border.neighbors();
         let near_walls = wall_border.neighbors();
@@ -142,12 +148,9 @@ pub fn turn_tile_into(
         let walls = window_of(walls, &near_walls);
         let obstacles = window_of(obstacles, &near_obstacles);
         let walled = walled_cells_odd(&walls, &obstacles);
-        turn_tile_odd(
-            &particles,
-            Some(&walled.walls),
-            Some(&walled.obstacles),
-            out,
-        )
+        let walls = Some(Places::anywhere(&walled.walls));
+        let obstacles = Some(Places::anywhere(&walled.obstacles));
+        turn_tile_odd(&particles, walls, obstacles, out)
     }
 }
 

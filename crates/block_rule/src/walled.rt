@@ -4,7 +4,7 @@ ghost use Rattle.std.specs.Prelude.{◌≡◌, ℕ, ◌<◌, Bool, ◌&&◌, ◌
 ghost use Rattle.bit_tile.specs.Tile.{has, HasCells};
 ghost use Rattle.block_rule.specs.Around.{is_walled_at, twice_momentum, taken, is_for_walls};
 ghost use Rattle.block_rule.specs.Rows.{ShowsTile};
-ghost use Rattle.block_rule.specs.Lent.{IsSeenIn, IsLentOf, AreWalledCells};
+ghost use Rattle.block_rule.specs.Lent.{IsSeenIn, IsLentOf, ArePlacesOf, AreWalledCells};
 
 use crate::Window;
 use crate::blocks::AnyCorner;
@@ -53,8 +53,27 @@ pub fn walled_cells_odd(walls: &Window, obstacles: &Window) -> WalledCells
     }
 }
 
+/// Cells of a tile, and a word that tells in which rows they lie: bit j is 0 only if rows 2 * j and 2 * j + 1 have none.
+#[derive(Clone, Copy)]
+pub struct Places<'a> {
+    pub cells: &'a Tile,
+    pub rows: u32,
+}
+
+impl<'a> Places<'a> {
+    /// All cells of a tile. They may lie in any row.
+    pub fn anywhere(cells: &'a Tile) -> Places<'a>
+        ensures { (test : ℕ → ℕ → Bool) → HasCells cells.now test → ArePlacesOf result test }
+    {
+        Places {
+            cells,
+            rows: u32::MAX,
+        }
+    }
+}
+
 // Puts the old cells of one set back, if it has any. The answer is twice the momentum that they had.
-fn put_back_one(tile: &Tile, places: Option<&Tile>, parity: u8, out: &mut Tile) -> Pair
+fn put_back_one(tile: &Tile, places: Option<Places<'_>>, parity: u8, out: &mut Tile) -> Pair
     requires { parity < 2 }
     ensures cells { (test : ℕ → ℕ → Bool) → IsLentOf places.entry test →
         HasCells out.new (λ x y. if test x y then has tile.now x y else has out.old x y) }
@@ -71,8 +90,8 @@ fn put_back_one(tile: &Tile, places: Option<&Tile>, parity: u8, out: &mut Tile) 
 /// tile may be `None`. The answer is twice the momentum that they had.
 pub fn put_back(
     tile: &Tile,
-    walls: Option<&Tile>,
-    obstacles: Option<&Tile>,
+    walls: Option<Places<'_>>,
+    obstacles: Option<Places<'_>>,
     parity: u8,
     out: &mut Tile,
 ) -> Took
