@@ -116,10 +116,10 @@ fn sites_of_walls_and_obstacles(rt: HostRuntime) {
     sites.prepare(&walls, &obstacles);
     let of_walls = [(0, 0), (1, 0), (0, 1), (1, 1)];
     let of_obstacles = [(20, 20), (21, 20), (20, 21), (21, 21)];
-    expect_that(&rt, has_just(&rt, &sites.even.walls, of_walls.as_slice()));
+    expect_that(&rt, has_just(&rt, sites.even.walls.cells(), of_walls.as_slice()));
     expect_that(
         &rt,
-        has_just(&rt, &sites.even.obstacles, of_obstacles.as_slice()),
+        has_just(&rt, sites.even.obstacles.cells(), of_obstacles.as_slice()),
     );
     let of_walls = [
         (127, 127),
@@ -132,10 +132,10 @@ fn sites_of_walls_and_obstacles(rt: HostRuntime) {
         (22, 20),
     ];
     let of_obstacles = [(19, 21), (20, 21), (19, 22), (20, 22)];
-    expect_that(&rt, has_just(&rt, &sites.odd.walls, of_walls.as_slice()));
+    expect_that(&rt, has_just(&rt, sites.odd.walls.cells(), of_walls.as_slice()));
     expect_that(
         &rt,
-        has_just(&rt, &sites.odd.obstacles, of_obstacles.as_slice()),
+        has_just(&rt, sites.odd.obstacles.cells(), of_obstacles.as_slice()),
     );
 }
 

@@ -1,21 +1,26 @@
 -- The cells of a tile at walled sites: by what the tile shows of the torus, and by what a plane of prepared sites has there.
 use Rattle.std.specs.Borrow.{Bor}
-use Rattle.std.proofs.Common.{◌≡◌, ℕ, ◌+◌, ◌-◌, ◌*◌, ◌/◌, ◌%◌, ◌<◌, ◌≤◌, Bool, Option, None, Some, refl, sym, ◌∙◌, ap, ap₂, subst, arith}
+use Rattle.std.proofs.Common.{◌≡◌, ℕ, inl, inr, List, get_or, ◌+◌, ◌-◌, ◌*◌, ◌/◌, ◌%◌, ◌<◌, Bool, Option, None, Some, refl, sym, ◌∙◌, ap, ap₂, subst, arith}
+use Rattle.std.proofs.lemmas.Bool.{cases_eq}
+use Rattle.bit_tile.specs.Bit.{bit}
 use Rattle.bit_tile.specs.Tile.{HasCells}
+use Rattle.bit_tile.specs.Tile as in_tiles
 use Rattle.bit_tile.specs.declared.Tile.{Tile}
-use Rattle.gas_terms.specs.Cells.{Cells, Extent, HasSidesOf, extent, has, cells_where, tile_count, tile_rectangle}
+use Rattle.bit_tile.proofs.Bits.{bit-zero}
+use Rattle.gas_terms.specs.Cells.{Cells, HasSidesOf, has, cells_where, tile_count, tile_rectangle}
 use Rattle.gas_terms.specs.Gas.{Site, site_of, takes_for_walls, takes_for_obstacles}
 use Rattle.gas_terms.proofs.Cells.{has-cells_where}
-use Rattle.gas_plane.specs.Planes.{HasNone, IsLattice, with_tile, swept}
+use Rattle.gas_plane.specs.Planes.{HasNone, IsLattice, IsTileFrom, with_tile, swept}
 use Rattle.gas_plane.proofs.Sweeps.{sweep_tile, sweep_is_whole}
 use Rattle.block_rule.specs.Around.{none, is_for_walls, is_walled_at}
-use Rattle.block_rule.specs.Lent.{IsLentOf, AreWalledCells}
+use Rattle.block_rule.specs.Lent.{HasNoCell, TellsRows, ArePlacesOf, IsLentOf, AreWalledCells}
+use Rattle.block_rule.specs.declared.walled.Places.{Places}
 use Rattle.block_rule.specs.Windows.{IsView}
 use Rattle.block_rule.specs.declared.walled.WalledCells.{WalledCells}
 use Rattle.block_rule.proofs.TorusTook.{sites_take}
-use Rattle.phase_step.specs.Turns.{IsPlaceOf, IsLentTile}
-use Rattle.phase_step.specs.WalledSites.{cells_at, in_tile, AreSitesOf, AreInTile, NoneInTile, IsFoundIn, AreLent, AreWalledSites, AllHaveSidesOf, HaveExtent}
-use Rattle.phase_step.specs.declared.sites.SitesOfParity.{SitesOfParity}
+use Rattle.phase_step.specs.Turns.{IsPlaceOf}
+use Rattle.phase_step.specs.WalledSites.{cells_at, in_tile, LiesIn, AreCellsAt, AreInTile, NoneInTile, IsFoundIn, AreLent, AllHaveSidesOf}
+use Rattle.phase_step.specs.CellsInRows.{CellsInRows}
 use Rattle.phase_step.specs.declared.sites.WalledSites.{WalledSites}
 use Rattle.phase_step.specs.declared.sites.Lent.{Lent}
 use Rattle.phase_step.proofs.TurnedTiles.{bare_view, bare_inside, bare_tile, bare_window}
@@ -58,32 +63,36 @@ none_odd walls obstacles i place no_walls no_obstacles =
     (bare_view 1 i walls walls (omega arith) refl (bare_window i walls walls place.of_walls place.right place.bottom no_walls))
     (bare_view 1 i obstacles walls (omega arith) place.of_obstacles.wide (bare_window i obstacles walls place.of_obstacles place.right place.bottom no_obstacles))
 
--- what is lent of prepared sites
-lent_of_sites : (p i : ℕ) (walls set : Cells) (test : Site → Bool) (lent : Option (Bor Tile)) → set ≡ cells_at p walls test → (tile_rectangle walls i).x + 64 ≤ walls.width → (tile_rectangle walls i).y + 64 ≤ walls.height
-    → IsLentTile set i lent → IsLentOf lent (in_tile p walls i test)
-lent_of_sites p i walls set test None are right bottom bare =
-    let here = subst (λ (set : Cells). IsLentTile set i None) are bare in
-    λ x y h k.
-    sym (has-cells_where walls.width walls.height (λ x y. test (site_of p walls.width walls.height x y)) ((tile_rectangle walls i).x + x) ((tile_rectangle walls i).y + y) (omega (arith, right)) (omega (arith, bottom)))
-    ∙ here.cell x y h k
-lent_of_sites p i walls set test (Some t) are right bottom from =
-    let here = subst (λ (set : Cells). IsLentTile set i (Some t)) are from in
-    λ x y h k.
-    here.cell x y h k
-    ∙ has-cells_where walls.width walls.height (λ x y. test (site_of p walls.width walls.height x y)) ((tile_rectangle walls i).x + x) ((tile_rectangle walls i).y + y) (omega (arith, right)) (omega (arith, bottom))
+-- a word of theirs, and their cells
+pub word_tells : (p i word : ℕ) (torus cells : Cells) (test : Site → Bool) (words : List ℕ) (s : CellsInRows) → (let v : CellsInRows = record { cells = cells; rows = words } in v) ≡ s → AreCellsAt p torus test s → i < tile_count s.cells → word ≡ get_or words i 0
+    → TellsRows word (in_tile p torus i test)
+word_tells p i word torus cells test words s view are within e = λ x y h k none.
+    are.rows i within x y h k (ap (λ (s : CellsInRows). bit (get_or s.rows i 0) (y / 2)) (sym view) ∙ (ap (λ w. bit w (y / 2)) (sym e) ∙ none))
 
-pub lent_from : (p i : ℕ) (walls obstacles : Cells) (s : SitesOfParity) (for_walls for_obstacles : Option (Bor Tile)) → AreSitesOf p walls obstacles s → IsPlaceOf walls walls obstacles i
-    → IsLentTile s.walls i for_walls → IsLentTile s.obstacles i for_obstacles → AreLent p walls obstacles i (record { walls = for_walls; obstacles = for_obstacles })
-lent_from p i walls obstacles s for_walls for_obstacles are place lent_walls lent_obstacles =
+pub cells_of : (p : ℕ) (torus cells : Cells) (test : Site → Bool) (words : List ℕ) (s : CellsInRows) → (let v : CellsInRows = record { cells = cells; rows = words } in v) ≡ s → AreCellsAt p torus test s → cells ≡ cells_at p torus test
+cells_of p torus cells test words s view are = ap (λ (s : CellsInRows). s.cells) view ∙ are.cells
+
+-- where a word tells of no row, a tile has no cell at such sites
+pub none_told : (p i word : ℕ) (torus : Cells) (test : Site → Bool) → word ≡ 0 → TellsRows word (in_tile p torus i test) → HasNoCell (in_tile p torus i test)
+none_told p i word torus test e told = λ x y h k. told x y h k (rw e (bit-zero (y / 2)))
+
+-- a tile of them
+pub places_are : (p i rows : ℕ) (torus set : Cells) (test : Site → Bool) (t : Bor Tile) → set ≡ cells_at p torus test → LiesIn torus i → IsTileFrom t.now set (tile_rectangle set i).x (tile_rectangle set i).y → TellsRows rows (in_tile p torus i test)
+    → ArePlacesOf (record { cells = t; rows = rows }) (in_tile p torus i test)
+places_are p i rows torus set test t are lies from told =
+    let here = subst (λ (set : Cells). IsTileFrom t.now set (tile_rectangle set i).x (tile_rectangle set i).y) are from in
     record {
-      of_walls = lent_of_sites p i walls s.walls (takes_for_walls walls obstacles) for_walls are.of_walls place.right place.bottom lent_walls;
-      of_obstacles = lent_of_sites p i walls s.obstacles (takes_for_obstacles walls obstacles) for_obstacles are.of_obstacles place.right place.bottom lent_obstacles;
+      cells = λ x y h k.
+          here.cell x y h k
+          ∙ has-cells_where torus.width torus.height (λ x y. test (site_of p torus.width torus.height x y)) ((tile_rectangle torus i).x + x) ((tile_rectangle torus i).y + y) (omega (arith, lies.right)) (omega (arith, lies.bottom));
+      rows = told;
     }
 
 -- what is lent by one test is lent by another that says the same
-lent_same : (lent : Option (Bor Tile)) (test other : ℕ → ℕ → Bool) → ((x y : ℕ) → x < 64 → y < 64 → other x y ≡ test x y) → IsLentOf lent test → IsLentOf lent other
+lent_same : (lent : Option Places) (test other : ℕ → ℕ → Bool) → ((x y : ℕ) → x < 64 → y < 64 → other x y ≡ test x y) → IsLentOf lent test → IsLentOf lent other
 lent_same None test other same none = λ x y h k. same x y h k ∙ none x y h k
-lent_same (Some t) test other same are = λ x y h k. are x y h k ∙ sym (same x y h k)
+lent_same (Some p) test other same are =
+    record { cells = λ x y h k. are.cells x y h k ∙ sym (same x y h k); rows = λ x y h k e. same x y h k ∙ are.rows x y h k e }
 
 -- what is lent of the walls' torus is what the particles' tile needs
 module _ (p : ℕ) (two : p < 2) (old walls obstacles : Cells) (i : ℕ) (place : IsPlaceOf old walls obstacles i) (lent : Lent) (are : AreLent p walls obstacles i lent) where
@@ -145,34 +154,22 @@ sites_end start now walls p i test is same all so_far =
     ∙ (sweep_is_whole start here is
     ∙ ap₂ (λ w h. cells_where w h here) same.wide same.high))
 
--- the sides of the planes
+-- their words are made tile by tile
+pub words_next : (rows next : List ℕ) (p i : ℕ) (torus : Cells) (test : Site → Bool) (t : Tile) → HasCells t (in_tile p torus i test) → TellsRows (get_or next i 0) (in_tiles.has t) → ((k : ℕ) → (k ≡ i → ⊥) → get_or next k 0 ≡ get_or rows k 0)
+    → ((k : ℕ) → k < i → TellsRows (get_or rows k 0) (in_tile p torus k test)) → (k : ℕ) → k < i + 1 → TellsRows (get_or next k 0) (in_tile p torus k test)
+words_next rows next p i torus test t made told rest before k below x y h v e =
+    elim (cases_eq k i) [
+      | inl same ↦ ap (λ k. in_tile p torus k test x y) same ∙ (sym (made x y h v) ∙ told x y h v (ap (λ k. bit (get_or next k 0) (y / 2)) (sym same) ∙ e))
+      | inr other ↦ before k (omega arith) x y h v (ap (λ w. bit w (y / 2)) (sym (rest k other)) ∙ e)
+    ]
+
+-- the sides of the lattices
 sides_as : (s a b : Cells) → HasSidesOf s a → HasSidesOf a b → HasSidesOf s b
 sides_as s a b of_a of_b = record { wide = of_a.wide ∙ of_b.wide; high = of_a.high ∙ of_b.high }
 
 pub all_sides_as : (s : WalledSites) (a b : Cells) → AllHaveSidesOf s a → HasSidesOf a b → AllHaveSidesOf s b
 all_sides_as s a b of_a of_b =
     record {
-      of_even = record { of_walls = sides_as s.even.walls a b of_a.of_even.of_walls of_b; of_obstacles = sides_as s.even.obstacles a b of_a.of_even.of_obstacles of_b };
-      of_odd = record { of_walls = sides_as s.odd.walls a b of_a.of_odd.of_walls of_b; of_obstacles = sides_as s.odd.obstacles a b of_a.of_odd.of_obstacles of_b };
-    }
-
-sides_of : (s walls : Cells) (p : ℕ) (test : Site → Bool) → s ≡ cells_at p walls test → HasSidesOf s walls
-sides_of s walls p test e = record { wide = ap (λ (c : Cells). c.width) e; high = ap (λ (c : Cells). c.height) e }
-
--- of sites that were prepared, and of room for them
-pub prepared_sides : (walls obstacles : Cells) (s : WalledSites) → AreWalledSites walls obstacles s → AllHaveSidesOf s walls
-prepared_sides walls obstacles s are =
-    record {
-      of_even = record { of_walls = sides_of s.even.walls walls 0 (takes_for_walls walls obstacles) are.of_even.of_walls; of_obstacles = sides_of s.even.obstacles walls 0 (takes_for_obstacles walls obstacles) are.of_even.of_obstacles };
-      of_odd = record { of_walls = sides_of s.odd.walls walls 1 (takes_for_walls walls obstacles) are.of_odd.of_walls; of_obstacles = sides_of s.odd.obstacles walls 1 (takes_for_obstacles walls obstacles) are.of_odd.of_obstacles };
-    }
-
-sides_in : (s cells : Cells) (size : Extent) → extent s ≡ size → size ≡ extent cells → HasSidesOf s cells
-sides_in s cells size e f = record { wide = ap (λ (e : Extent). e.width) (e ∙ f); high = ap (λ (e : Extent). e.height) (e ∙ f) }
-
-pub room_sides : (s : WalledSites) (size : Extent) (cells : Cells) → HaveExtent s size → size ≡ extent cells → AllHaveSidesOf s cells
-room_sides s size cells are e =
-    record {
-      of_even = record { of_walls = sides_in s.even.walls cells size are.even_walls e; of_obstacles = sides_in s.even.obstacles cells size are.even_obstacles e };
-      of_odd = record { of_walls = sides_in s.odd.walls cells size are.odd_walls e; of_obstacles = sides_in s.odd.obstacles cells size are.odd_obstacles e };
+      of_even = record { of_walls = sides_as s.even.walls.cells a b of_a.of_even.of_walls of_b; of_obstacles = sides_as s.even.obstacles.cells a b of_a.of_even.of_obstacles of_b };
+      of_odd = record { of_walls = sides_as s.odd.walls.cells a b of_a.of_odd.of_walls of_b; of_obstacles = sides_as s.odd.obstacles.cells a b of_a.of_odd.of_obstacles of_b };
     }

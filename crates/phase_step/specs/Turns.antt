@@ -1,12 +1,11 @@
-use Rattle.std.specs.Prelude.{ℕ, ◌+◌, Option, MatchOption}
-use Rattle.std.specs.Borrow.{Bor}
+use Rattle.std.specs.Prelude.{ℕ, ◌+◌}
 use Rattle.bit_tile.specs.Tile.{HasCells}
 use Rattle.bit_tile.specs.declared.Tile.{Tile}
 use Rattle.gas_terms.specs.Cells.{Cells, has, joined, tile_rectangle}
 use Rattle.gas_terms.specs.Gas.{streamed}
 use Rattle.tile_border.specs.Ring.{IsBorderOfRound}
 use Rattle.tile_border.specs.declared.Border.{Border}
-use Rattle.gas_plane.specs.Planes.{IsTileFrom, IsRingRound, IsBare}
+use Rattle.gas_plane.specs.Planes.{IsTileFrom, IsRingRound}
 use Rattle.block_rule.specs.Windows.{IsTilePlace}
 use Rattle.block_rule.specs.declared.Window.{Window}
 
@@ -19,11 +18,6 @@ IsTileAfter p particles walls obstacles i t =
 pub record IsWindowFrom (w : Window) (cells : Cells) (x0 y0 : ℕ) : Type 0 where
   pub tile : IsTileFrom w.tile.now cells x0 y0
   pub round : (b : Border) → IsBorderOfRound b w.round → IsRingRound b cells x0 y0
-
--- what is lent of the set at tile i: the tile, or nothing where it has no cell
-abbrev pub IsLentTile : Cells → ℕ → Option (Bor Tile) → Type 0
-IsLentTile cells i lent =
-    let r = tile_rectangle cells i in MatchOption lent (IsBare cells r.x r.y) (λ t. IsTileFrom t.now cells r.x r.y)
 
 -- tile i of the particles is a place of the torus that they share with walls and obstacles
 abbrev pub IsPlaceOf : Cells → Cells → Cells → ℕ → Type 0

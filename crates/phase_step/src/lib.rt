@@ -36,7 +36,7 @@ use gas_terms::Took;
 pub use later::Later;
 pub use listed::Listed;
 pub use moved::{Flow, Moved, NO_FLOW, UNMOVED};
-pub use sites::{LONG_RUN, SitesOfParity, WalledSites};
+pub use sites::{LONG_RUN, Sites, SitesOfParity, WalledSites};
 pub use solids::{Solids, are_none};
 use std::mem;
 pub use still::Still;

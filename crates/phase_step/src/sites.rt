@@ -1,24 +1,93 @@
 //! The cells at walled sites, of each parity. They depend on walls and obstacles alone, so a run of many phases prepares them
 //! once.
 
-ghost use Rattle.std.specs.Prelude.{ℕ, ◌<◌, IfOk, IsTrue};
-ghost use Rattle.gas_terms.specs.Cells.{Cells, tile_count, tile_rectangle, HasSidesOf};
-ghost use Rattle.phase_step.specs.Turns.{IsPlaceOf, IsLentTile, IsWindowFrom};
-ghost use Rattle.phase_step.specs.WalledSites.{AreSitesOf, AreWalledSites, HaveSidesOf, AllHaveSidesOf, HaveExtent, IsFoundIn, AreInTile, AreLent};
+ghost use Rattle.std.specs.Prelude.{◌≡◌, ℕ, ◌<◌, Bool, IfOk, IsTrue, slice_index};
+ghost use Rattle.bit_tile.specs.Tile.{has};
+ghost use Rattle.gas_terms.specs.Cells.{Cells, extent, tile_count, tile_rectangle, HasSidesOf};
+ghost use Rattle.gas_terms.specs.Gas.{Site};
+ghost use Rattle.gas_plane.specs.Planes.{with_tile};
+ghost use Rattle.block_rule.specs.Lent.{TellsRows, IsLentOf};
+ghost use Rattle.phase_step.specs.Turns.{IsPlaceOf, IsWindowFrom};
+ghost use Rattle.phase_step.specs.WalledSites.{in_tile, LiesIn, AreCellsAt, AreSitesOf, AreWalledSites, HaveSidesOf, AllHaveSidesOf, HasExtent, HaveExtent, IsFoundIn, AreInTile, AreLent};
 
-use block_rule::{WalledCells, Window, walled_cells_even, walled_cells_odd};
+use block_rule::{Places, WalledCells, Window, walled_cells_even, walled_cells_odd};
 use gas_plane::{Plane, Tile};
 use gas_terms::{NoMemory, Size};
 use std::alloc::Global;
+use std::marker::Model;
 
 /// From so many phases on a run prepares them: that takes about as long as some phases with walls.
 pub const LONG_RUN: u16 = 16;
 
+/// Cells of a lattice, and for each tile a word that tells in which rows they lie.
+#[derive(Drop)]
+pub struct Sites {
+    cells: Plane,
+    rows: Vec<u32>,
+}
+
+impl Model for Sites {
+    ghost use Rattle.std.specs.Prelude.{◌≡◌, length};
+    ghost use Rattle.gas_terms.specs.Cells.{tile_count};
+    ghost use Rattle.phase_step.specs.CellsInRows.{CellsInRows};
+
+    ghost Value = { CellsInRows };
+
+    ghost view = { λ s. record { cells = s.cells; rows = s.rows.items } };
+
+    ghost invariant = { λ s. length s.rows.items ≡ tile_count s.cells };
+}
+
+impl Sites {
+    // room for those of a lattice of this size
+    fn empty(alloc: Global, size: Size) -> Result<Sites, NoMemory>
+        ensures { IfOk result (λ sites. extent sites.cells ≡ size) }
+    {
+        let cells = Plane::empty(alloc, size)?;
+        let rows = vec![in alloc; 0; size.tiles() as usize]?;
+        Ok(Sites { cells, rows })
+    }
+
+    /// The cells.
+    pub fn cells(&self) -> &Plane
+        ensures { result.now ≡ self.now.cells }
+    {
+        &self.cells
+    }
+
+    // Those in tile i, if it has any.
+    #[inline(always)]
+    fn in_tile(&self, i: u32) -> Option<Places<'_>>
+        requires { i < tile_count self.now.cells }
+        ensures { (p : ℕ) (torus : Cells) (test : Site → Bool) → AreCellsAt p torus test self.now →
+            LiesIn torus i → IsLentOf result (in_tile p torus i test) }
+    {
+        let rows = self.rows[i as usize];
+        if rows == 0 {
+            return None;
+        }
+        let cells = self.cells.tile(i);
+        Some(Places { cells, rows })
+    }
+
+    // replaces those in tile i
+    fn set_tile(&mut self, i: u32, cells: Tile)
+        requires { i < tile_count self.old.cells }
+        ensures cells { self.new.cells ≡ with_tile self.old.cells i cells }
+        ensures rows { TellsRows (slice_index self.new.rows i) (has cells) }
+        ensures rest { (k : ℕ) → (k ≡ i → ⊥) →
+            slice_index self.new.rows k ≡ slice_index self.old.rows k }
+    {
+        self.cells.set_tile(i, cells);
+        self.rows[i as usize] = cells.rows_with_cells();
+    }
+}
+
 /// The cells at the sites of one parity that take for the walls, and at those that take for the obstacles.
 #[derive(Drop)]
 pub struct SitesOfParity {
-    pub walls: Plane,
-    pub obstacles: Plane,
+    pub walls: Sites,
+    pub obstacles: Sites,
 }
 
 /// These cells for both parities.
@@ -31,36 +100,38 @@ pub struct WalledSites {
 /// What is lent of the cells of a tile at such sites. A set without a cell in the tile is `None`.
 #[derive(Clone, Copy)]
 pub struct Lent<'a> {
-    pub walls: Option<&'a Tile>,
-    pub obstacles: Option<&'a Tile>,
+    pub walls: Option<Places<'a>>,
+    pub obstacles: Option<Places<'a>>,
 }
 
 impl SitesOfParity {
+    fn empty(alloc: Global, size: Size) -> Result<SitesOfParity, NoMemory>
+        ensures { IfOk result (λ sites. HasExtent sites size) }
+    {
+        let walls = Sites::empty(alloc, size)?;
+        let obstacles = Sites::empty(alloc, size)?;
+        Ok(SitesOfParity { walls, obstacles })
+    }
+
+    fn fits(&self, size: Size) -> bool
+        ensures fits { IsTrue result → HasExtent self.now size }
+        ensures known { HasExtent self.now size → IsTrue result }
+    {
+        self.walls.cells().size() == size && self.obstacles.cells().size() == size
+    }
+
     /// Those in tile i.
     #[inline(always)]
     pub fn in_tile(&self, i: u32) -> Lent<'_>
-        requires walls { i < tile_count self.now.walls }
-        requires obstacles { i < tile_count self.now.obstacles }
+        requires walls { i < tile_count self.now.walls.cells }
+        requires obstacles { i < tile_count self.now.obstacles.cells }
         ensures { (p : ℕ) (walls obstacles : Cells) → AreSitesOf p walls obstacles self.now →
             IsPlaceOf walls walls obstacles i → AreLent p walls obstacles i result }
     {
         Lent {
-            walls: tile_in(&self.walls, i),
-            obstacles: tile_in(&self.obstacles, i),
+            walls: self.walls.in_tile(i),
+            obstacles: self.obstacles.in_tile(i),
         }
-    }
-}
-
-// a set's tile, unless it has no cells
-#[inline(always)]
-fn tile_in(set: &Plane, i: u32) -> Option<&Tile>
-    requires { i < tile_count set.now }
-    ensures { IsLentTile set.now i result }
-{
-    if set.is_bare(i) {
-        None
-    } else {
-        Some(set.tile(i))
     }
 }
 
@@ -69,16 +140,9 @@ impl WalledSites {
     pub fn empty(alloc: Global, size: Size) -> Result<WalledSites, NoMemory>
         ensures { IfOk result (λ sites. HaveExtent sites size) }
     {
-        Ok(WalledSites {
-            even: SitesOfParity {
-                walls: Plane::empty(alloc, size)?,
-                obstacles: Plane::empty(alloc, size)?,
-            },
-            odd: SitesOfParity {
-                walls: Plane::empty(alloc, size)?,
-                obstacles: Plane::empty(alloc, size)?,
-            },
-        })
+        let even = SitesOfParity::empty(alloc, size)?;
+        let odd = SitesOfParity::empty(alloc, size)?;
+        Ok(WalledSites { even, odd })
     }
 
     /// Whether it is room for a lattice of this size.
@@ -86,9 +150,7 @@ impl WalledSites {
         ensures fits { IsTrue result → HaveExtent self.now size }
         ensures known { HaveExtent self.now size → IsTrue result }
     {
-        let even = self.even.walls.size() == size && self.even.obstacles.size() == size;
-        let odd = self.odd.walls.size() == size && self.odd.obstacles.size() == size;
-        even && odd
+        self.even.fits(size) && self.odd.fits(size)
     }
 
     /// Makes them those of these walls and obstacles.
@@ -109,7 +171,7 @@ fn prepare_each(parity: u8, walls: &Plane, obstacles: &Plane, sites: &mut SitesO
     ensures { AreSitesOf parity walls.now obstacles.now sites.new }
 {
     // they are lattices
-    let _ = (sites.walls.size(), sites.obstacles.size());
+    let _ = (sites.walls.cells().size(), sites.obstacles.cells().size());
     for i in 0..walls.size().tiles() {
         let cells = all_or_none(walled_cells(parity, walls, obstacles, i));
         sites.walls.set_tile(i, cells.walls);

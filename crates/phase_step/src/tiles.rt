@@ -9,7 +9,7 @@ ghost use Rattle.phase_step.specs.WalledSites.{AreInTile, AreLent};
 
 use crate::sites::{Lent, walled_cells};
 use crate::solids::Solids;
-use block_rule::{WalledCells, Window, turn_tile_even, turn_tile_odd};
+use block_rule::{Places, WalledCells, Window, turn_tile_even, turn_tile_odd};
 use gas_plane::{Plane, Position, Tile};
 use gas_terms::{Pair, Took};
 
@@ -153,7 +153,7 @@ fn lent(cells: &WalledCells) -> Lent<'_>
         AreLent p walls obstacles i result }
 {
     Lent {
-        walls: Some(&cells.walls),
-        obstacles: Some(&cells.obstacles),
+        walls: Some(Places::anywhere(&cells.walls)),
+        obstacles: Some(Places::anywhere(&cells.obstacles)),
     }
 }
