@@ -3,7 +3,7 @@ use Rattle.std.proofs.Common.{◌≡◌, ℕ, zero, suc, pos, ◌+ℤ◌, ◌-�
 use Rattle.std.proofs.lemmas.Int.{ints}
 use Rattle.std.specs.Fn.{iterate}
 use Rattle.gas_terms.specs.Cells.{Cells, extent, IsEvenTorus}
-use Rattle.gas_terms.specs.Gas.{Gas, HasNoPorts}
+use Rattle.gas_terms.specs.Gas.{Gas}
 use Rattle.gas_terms.specs.Accounts.{plus, with_taken, with_given_back, FitsI64, SumsFit}
 use Rattle.gas_terms.specs.Commands.{is_tick}
 use Rattle.gas_terms.specs.BookedGas.{BookedGas, stepped, stepped_back, book}
@@ -13,27 +13,18 @@ use Rattle.gas_terms.specs.declared.command.Command.{Command}
 use Rattle.gas_terms.specs.declared.command.Command.TheVariants.{Put, Erase, Wall, Block, Unwall, Row, Source, Drain, Unport, Step, Back, Probe, Tally, Ledger as Accounting, Read, Entry as EntryAt}
 use Rattle.gas_terms.proofs.AccountBounds.{size-even}
 use Rattle.gas_plane.specs.Planes.{IsLattice}
-use Rattle.gas_ledger.specs.PortLists.{PortLists, no_ports}
 use Rattle.phase_step.proofs.RunSteps.{back_run}
-use Rattle.phase_step.specs.Runs.{gas_after, takes_after, gas_before, takes_before, ran, ran_back}
-use Rattle.gas_ledger.specs.Gases.{ports_of}
-use Rattle.phase_step.specs.PortedRuns.{gas_stepped, steps_take, steps_move, with_moved, stepped_on}
+use Rattle.phase_step.proofs.PortedSteps.{ported_run}
+use Rattle.phase_step.specs.Runs.{gas_before, takes_before, ran_back}
+use Rattle.phase_step.specs.PortedRuns.{gas_stepped, steps_take, steps_move, with_moved}
 use Rattle.phase_step.specs.declared.moved.Flow.{Flow}
-use Rattle.gas_lab.specs.Labs.{TickHolds, TakesFit}
+use Rattle.gas_lab.specs.Labs.{TickHolds}
 
 abbrev pub pair : Gas → Ledger → BookedGas
 pair g l = record { gas = g; ledger = l }
 
 pub torus_of : (cells : Cells) → IsLattice cells → IsEvenTorus cells
 torus_of cells ok = record { sides = size-even (extent cells) ok.sized; full = ok.full }
-
--- A run forward, with what was taken.
-pub ran_on : (b : BookedGas) (g : Gas) (l : Ledger) (took : Took) (n : ℕ) → g ≡ gas_after n b.gas → took ≡ takes_after n b.gas →
-    l ≡ with_taken b.ledger took → pair g l ≡ ran n b
-ran_on b g l took n gas_is took_is ledger_is = ap₂ pair gas_is (ledger_is ∙ ap (with_taken b.ledger) took_is)
-
-pub taken_fits : (b : BookedGas) (took : Took) (n : ℕ) → took ≡ takes_after n b.gas → TakesFit (ran n b).ledger → TakesFit (with_taken b.ledger took)
-taken_fits b took n took_is fits = subst (λ t. TakesFit (with_taken b.ledger t)) (sym took_is) fits
 
 -- A run back, with what was given back.
 pub ran_back_to : (b : BookedGas) (g : Gas) (l : Ledger) (took : Took) (n : ℕ) → g ≡ gas_before n b.gas → took ≡ takes_before n b.gas →
@@ -45,28 +36,22 @@ pub given_fits : (b : BookedGas) (took : Took) (n : ℕ) → took ≡ takes_befo
 given_fits b took n took_is torus fits =
     subst (λ t. FitsI64 (with_given_back b.ledger t)) (sym took_is) (subst (λ (c : BookedGas). FitsI64 c.ledger) (back_run n b torus.sides) fits)
 
--- A run with ports, with what was taken, what came in and what went.
+-- Steps forward, with what was taken, what came in and what went.
 pub stepped_to : (b : BookedGas) (g : Gas) (taken l : Ledger) (flow : Flow) (n : ℕ) → g ≡ gas_stepped n b.gas → flow.took ≡ steps_take n b.gas → flow.moved ≡ steps_move n b.gas →
-    taken ≡ with_taken b.ledger flow.took → l ≡ with_moved taken flow.moved → pair g l ≡ stepped_on n b
+    taken ≡ with_taken b.ledger flow.took → l ≡ with_moved taken flow.moved → pair g l ≡ iterate stepped n b
 stepped_to b g taken l flow n gas_is took_is moved_is taken_is ledger_is =
-    ap₂ pair gas_is (ledger_is ∙ ap₂ with_moved (taken_is ∙ ap (with_taken b.ledger) took_is) moved_is)
+    ap₂ pair gas_is (ledger_is ∙ ap₂ with_moved (taken_is ∙ ap (with_taken b.ledger) took_is) moved_is) ∙ sym (ported_run n b)
 
-pub stepped_fits : (b : BookedGas) (flow : Flow) (n : ℕ) → flow.took ≡ steps_take n b.gas → flow.moved ≡ steps_move n b.gas → FitsI64 (stepped_on n b).ledger →
+pub stepped_fits : (b : BookedGas) (flow : Flow) (n : ℕ) → flow.took ≡ steps_take n b.gas → flow.moved ≡ steps_move n b.gas → FitsI64 (iterate stepped n b).ledger →
     FitsI64 (with_moved (with_taken b.ledger flow.took) flow.moved)
 stepped_fits b flow n took_is moved_is fits =
-    subst FitsI64 (sym (ap₂ (λ t m. with_moved (with_taken b.ledger t) m) took_is moved_is)) fits
+    subst FitsI64 (sym (ap₂ (λ t m. with_moved (with_taken b.ledger t) m) took_is moved_is)) (subst (λ (c : BookedGas). FitsI64 c.ledger) (ported_run n b) fits)
 
-pub moved_fits : (b : BookedGas) (taken : Ledger) (flow : Flow) (n : ℕ) → flow.took ≡ steps_take n b.gas → flow.moved ≡ steps_move n b.gas → FitsI64 (stepped_on n b).ledger →
+pub moved_fits : (b : BookedGas) (taken : Ledger) (flow : Flow) (n : ℕ) → flow.took ≡ steps_take n b.gas → flow.moved ≡ steps_move n b.gas → FitsI64 (iterate stepped n b).ledger →
     taken ≡ with_taken b.ledger flow.took → SumsFit (plus taken.injected flow.moved.injected) × SumsFit (plus taken.drained flow.moved.drained)
 moved_fits b taken flow n took_is moved_is fits taken_is =
     let all = stepped_fits b flow n took_is moved_is fits in
     subst (λ (l : Ledger). SumsFit (plus l.injected flow.moved.injected) × SumsFit (plus l.drained flow.moved.drained)) (sym taken_is) (all.injected, all.drained)
-
--- Without ports there is none to act.
-pub idle : (g : Gas) (ports : PortLists) → ports ≡ ports_of g → ports ≡ no_ports → HasNoPorts g
-idle g ports same none =
-    let e : ports_of g ≡ no_ports = sym same ∙ none in
-    record { no_drains = ap (λ (p : PortLists). p.drains) e; no_sources = ap (λ (p : PortLists). p.sources) e }
 
 stepped_tick : (n : ℕ) (b : BookedGas) → (iterate stepped n b).gas.tick ≡ b.gas.tick +ℤ pos n
 stepped_tick zero b = omega (arith, ints)

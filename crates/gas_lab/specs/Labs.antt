@@ -1,11 +1,10 @@
 use Rattle.std.specs.Prelude.{◌≡◌, ◌≤◌, ℕ, List, true, length, Result, Ok, Err, ◌⊎◌, ℤ, pos, ◌+ℤ◌, ◌-ℤ◌}
 use Rattle.gas_terms.specs.Cells.{Cells, HasSidesOf}
 use Rattle.gas_terms.specs.Gas.{Gas}
-use Rattle.gas_terms.specs.Accounts.{FitsI64, TakenFits}
+use Rattle.gas_terms.specs.Accounts.{FitsI64}
 use Rattle.gas_terms.specs.Commands.{is_tick, most_steps}
 use Rattle.gas_terms.specs.BookedGas.{BookedGas, book, changes}
 use Rattle.gas_terms.specs.Laboratory.{Laboratory, most_entries, accepted, IsSound}
-use Rattle.gas_terms.specs.declared.accounts.Ledger.{Ledger}
 use Rattle.gas_terms.specs.declared.command.Command.{Command}
 use Rattle.gas_terms.specs.declared.command.Command.TheVariants.{Step, Back}
 use Rattle.gas_terms.specs.declared.command.Entry.{Entry}
@@ -28,10 +27,6 @@ abbrev pub TickHolds : ℤ → Command → Type 0
 TickHolds t (Step n) = is_tick (t +ℤ pos n) ≡ true
 TickHolds t (Back n) = is_tick (t -ℤ pos n) ≡ true
 TickHolds t _ = Unit {0}
-
--- what walls and obstacles took fits 64 bits
-abbrev pub TakesFit : Ledger → Type 0
-TakesFit l = TakenFits l.walls × TakenFits l.obstacles
 
 -- the accounts stay within 64 bits whatever the next command is
 abbrev pub Affords : BookedGas → Type 0

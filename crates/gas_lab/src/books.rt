@@ -7,12 +7,11 @@ ghost use Rattle.gas_terms.specs.Accounts.{FitsI64, SumsFit, plus};
 ghost use Rattle.gas_terms.specs.Commands.{enact, fits, is_change, is_move, is_tick};
 ghost use Rattle.gas_terms.specs.BookedGas.{opened, stepped, stepped_back, book};
 ghost use Rattle.gas_terms.specs.Laboratory.{has_all_ports};
-ghost use Rattle.phase_step.specs.Runs.{ran};
-ghost use Rattle.phase_step.specs.PortedRuns.{with_moved, stepped_on};
+ghost use Rattle.phase_step.specs.PortedRuns.{with_moved};
 ghost use Rattle.gas_ledger.specs.Gases.{ports_of};
 ghost use Rattle.phase_step.specs.Moves.{moved_by};
 ghost use Rattle.gas_ledger.specs.PortLists.{adding, has_all};
-ghost use Rattle.gas_lab.specs.Labs.{books_of, TickHolds, TakesFit, Affords};
+ghost use Rattle.gas_lab.specs.Labs.{books_of, TickHolds, Affords};
 
 use gas_ledger::{Gas, Moved, Port, tally};
 use gas_plane::Plane;
@@ -62,45 +61,17 @@ impl Books {
         Ok(Books { gas, ledger })
     }
 
-    // steps forward on which no port acts: walls and obstacles take their part
-    fn run<S: Stepper>(&mut self, n: u16, spare: &mut Plane, stepper: &mut S)
-        requires tick { is_tick (self.old.gas.tick +ℤ pos n) ≡ true }
-        requires spare { HasSidesOf spare.old self.old.gas.particles }
-        requires fits { TakesFit (ran n (books_of self.old)).ledger }
-        ensures booked { books_of self.new ≡ ran n (books_of self.old) }
-        ensures spare { HasSidesOf spare.new self.new.gas.particles }
-    {
-        let took = self.gas.run_ahead(n, spare, stepper);
-        self.ledger = self.ledger.with_taken(took);
-    }
-
-    // steps forward with ports: what they bring in and take out at each new tick is booked as well
-    fn run_with_ports<S: Stepper>(&mut self, n: u16, spare: &mut Plane, stepper: &mut S)
-        requires tick { is_tick (self.old.gas.tick +ℤ pos n) ≡ true }
-        requires spare { HasSidesOf spare.old self.old.gas.particles }
-        requires fits { FitsI64 (stepped_on n (books_of self.old)).ledger }
-        ensures booked { books_of self.new ≡ stepped_on n (books_of self.old) }
-        ensures spare { HasSidesOf spare.new self.new.gas.particles }
-    {
-        let flow = self.gas.step_on(n, spare, stepper);
-        let taken = self.ledger.with_taken(flow.took);
-        self.ledger = with_moved(taken, flow.moved);
-    }
-
-    // steps forward, one after another, in a single run
+    // steps forward, one after another, in a single run: what walls and obstacles take, and what the ports bring in and take out
     fn steps<S: Stepper>(&mut self, n: u16, spare: &mut Plane, stepper: &mut S)
-        requires torus { IsEvenTorus self.old.gas.particles }
         requires tick { is_tick (self.old.gas.tick +ℤ pos n) ≡ true }
         requires spare { HasSidesOf spare.old self.old.gas.particles }
         requires fits { FitsI64 (iterate stepped n (books_of self.old)).ledger }
         ensures booked { books_of self.new ≡ iterate stepped n (books_of self.old) }
         ensures spare { HasSidesOf spare.new self.new.gas.particles }
     {
-        if self.gas.ports().any() {
-            self.run_with_ports(n, spare, stepper);
-        } else {
-            self.run(n, spare, stepper);
-        }
+        let flow = self.gas.step_on(n, spare, stepper);
+        let taken = self.ledger.with_taken(flow.took);
+        self.ledger = with_moved(taken, flow.moved);
     }
 
     // steps back, one after another, in a single run: walls and obstacles give back what they took on the way

@@ -4,7 +4,7 @@ ghost use Rattle.std.specs.Prelude.{◌≡◌, ◌↔◌, true, pos, ◌+ℤ◌,
 ghost use Rattle.gas_terms.specs.Cells.{extent, lies_within, HasSidesOf};
 ghost use Rattle.gas_terms.specs.Commands.{enact, fits, is_tick};
 ghost use Rattle.gas_terms.specs.declared.command.Command.TheVariants.{Put, Erase, Row, Wall, Block, Unwall, Unport};
-ghost use Rattle.phase_step.specs.Runs.{gas_after, gas_before, takes_after, takes_before};
+ghost use Rattle.phase_step.specs.Runs.{gas_before, takes_before};
 ghost use Rattle.gas_ledger.specs.PortLists.{adding, has_all};
 ghost use Rattle.gas_ledger.specs.Gases.{FitTogether, IsSoundGas, gas_of, ports_of, empty_gas};
 ghost use Rattle.phase_step.specs.Moves.{moved_by};
@@ -225,24 +225,8 @@ impl Gas {
         self.ports.clear();
     }
 
-    /// Steps n ticks forward without the ports. Returns what walls and obstacles took. `spare` must have the gas's size; its
-    /// cells are overwritten.
-    pub fn run_ahead<S: Stepper>(&mut self, n: u16, spare: &mut Plane, stepper: &mut S) -> Took
-        requires tick { is_tick (self.old.tick +ℤ pos n) ≡ true }
-        requires spare { HasSidesOf spare.old self.old.particles }
-        ensures gas { self.new ≡ gas_after n self.old }
-        ensures spare { HasSidesOf spare.new self.new.particles }
-        ensures took { result ≡ takes_after n self.old }
-    {
-        let first = self.tick.parity();
-        let tick = &mut self.tick;
-        *tick = tick.ahead(n).unwrap();
-        let particles = &mut self.particles;
-        stepper.run(particles, &self.walls, &self.obstacles, first, n, spare)
-    }
-
-    /// Steps n ticks forward, with the port action at each. Returns what walls and obstacles took, and what came in and went
-    /// out.
+    /// Steps n ticks forward, with the port action at each. Returns what walls and obstacles took, and what the ports brought
+    /// in and took out. `spare` must have the gas's size; its cells are overwritten.
     pub fn step_on<S: Stepper>(&mut self, n: u16, spare: &mut Plane, stepper: &mut S) -> Flow
         requires tick { is_tick (self.old.tick +ℤ pos n) ≡ true }
         requires spare { HasSidesOf spare.old self.old.particles }

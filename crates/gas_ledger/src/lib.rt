@@ -1,7 +1,8 @@
 //! A gas: particles, walls, obstacles and ports at a tick. Its edits and runs return what came in and went out; `probe` and
 //! `tally` sum its particles.
 //!
-//! The program steps by `run_ahead`, `run_back` and `step_on`. `apply_ports` is there for callers of the library.
+//! The program steps forward by `Gas::step_on`, with ports or without, and back by `Gas::run_back`. `apply_ports` is there for
+//! callers of the library.
 #![tactic(auto)]
 
 pub mod apply;

@@ -1,27 +1,21 @@
-use Rattle.std.proofs.Common.{◌∙◌, subst, sym}
-use Rattle.gas_terms.specs.Accounts.{FitsI64}
-use Rattle.gas_terms.specs.BookedGas.{BookedGas}
-use Rattle.phase_step.proofs.RunSteps.{whole_run}
-use Rattle.phase_step.proofs.PortedSteps.{ported_run}
-use Rattle.gas_lab.specs.Labs.{books_of, TakesFit}
-use Rattle.gas_lab.proofs.Stepping.{idle}
+use Rattle.gas_lab.specs.Labs.{books_of}
+use Rattle.gas_lab.proofs.Stepping.{stepped_to, stepped_fits, moved_fits}
 use Rattle.gas_lab.proofs.books.Books.steps.Goals as goal
 
-pub run_with_ports-requires-clause-fits : goal.run_with_ports-requires-clause-fits
-run_with_ports-requires-clause-fits g c =
-    subst (λ (b : BookedGas). FitsI64 b.ledger) (ported_run c.args.n (books_of c.args.self.now)) c.requires.fits
+pub with_taken-taken-requires-clause-walls : goal.with_taken-taken-requires-clause-walls
+with_taken-taken-requires-clause-walls g c = (stepped_fits (books_of c.args.self.now) c.step_on-flow.result c.args.n c.step_on-flow.ensures.took c.step_on-flow.ensures.moved c.requires.fits).walls
 
-pub returns-then-any-clause-booked : goal.returns-then-any-clause-booked
-returns-then-any-clause-booked g c = c.run_with_ports.ensures.booked ∙ sym (ported_run c.args.n (books_of c.args.self.now))
+pub with_taken-taken-requires-clause-obstacles : goal.with_taken-taken-requires-clause-obstacles
+with_taken-taken-requires-clause-obstacles g c = (stepped_fits (books_of c.args.self.now) c.step_on-flow.result c.args.n c.step_on-flow.ensures.took c.step_on-flow.ensures.moved c.requires.fits).obstacles
 
-pub run-requires-clause-fits : goal.run-requires-clause-fits
-run-requires-clause-fits g c =
-    let b = books_of c.args.self.now in
-    let none = idle b.gas c.ports.result.now c.ports.ensures (c.any.ensures.none c.if-any.false) in
-    subst (λ (b : BookedGas). TakesFit b.ledger) (whole_run c.args.n b (record { torus = c.requires.torus; no_ports = none })) (c.requires.fits.walls, c.requires.fits.obstacles)
+pub with_moved-self-requires-clause-injected : goal.with_moved-self-requires-clause-injected
+with_moved-self-requires-clause-injected g c =
+    (moved_fits (books_of c.args.self.now) c.with_taken-taken.result c.step_on-flow.result c.args.n c.step_on-flow.ensures.took c.step_on-flow.ensures.moved c.requires.fits c.with_taken-taken.ensures).0
 
-pub returns-else-any-clause-booked : goal.returns-else-any-clause-booked
-returns-else-any-clause-booked g c =
-    let b = books_of c.args.self.now in
-    let none = idle b.gas c.ports.result.now c.ports.ensures (c.any.ensures.none c.if-any.false) in
-    c.run.ensures.booked ∙ sym (whole_run c.args.n b (record { torus = c.requires.torus; no_ports = none }))
+pub with_moved-self-requires-clause-drained : goal.with_moved-self-requires-clause-drained
+with_moved-self-requires-clause-drained g c =
+    (moved_fits (books_of c.args.self.now) c.with_taken-taken.result c.step_on-flow.result c.args.n c.step_on-flow.ensures.took c.step_on-flow.ensures.moved c.requires.fits c.with_taken-taken.ensures).1
+
+pub returns-clause-booked : goal.returns-clause-booked
+returns-clause-booked g c =
+    stepped_to (books_of c.args.self.now) c.step_on-flow.new.self c.with_taken-taken.result c.with_moved-self.result c.step_on-flow.result c.args.n c.step_on-flow.ensures.gas c.step_on-flow.ensures.took c.step_on-flow.ensures.moved c.with_taken-taken.ensures c.with_moved-self.ensures
