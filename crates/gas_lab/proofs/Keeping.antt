@@ -15,9 +15,10 @@ use Rattle.gas_terms.proofs.LabBounds.{next_accounts_fit}
 use Rattle.gas_terms.proofs.Laboratories.{all_booked, opening_sound, accepted_sound, has_room}
 use Rattle.gas_terms.specs.Symmetry.{IsOnOneTorus}
 use Rattle.gas_ledger.specs.Gases.{IsSoundGas}
+use Rattle.gas_ledger.specs.Books.{TickHolds, Affords}
+use Rattle.gas_ledger.proofs.Stepping.{torus_of, book_tick}
 use Rattle.gas_plane.specs.Planes.{IsLattice}
-use Rattle.gas_lab.specs.Labs.{lab_of, TickHolds, Affords, IsKept}
-use Rattle.gas_lab.proofs.Stepping.{torus_of, book_tick}
+use Rattle.gas_lab.specs.Labs.{lab_of, IsKept}
 
 -- The gas has the start's sides.
 pub kept_extent : (lab : Laboratory) → IsSound lab → extent lab.gas.particles ≡ extent lab.start.particles

@@ -1,3 +1,1 @@
-pub mod Stepping
-pub mod Editing
 pub mod Keeping

@@ -1,36 +1,20 @@
-use Rattle.std.specs.Prelude.{◌≡◌, ◌≤◌, ℕ, List, true, length, Result, Ok, Err, ◌⊎◌, ℤ, pos, ◌+ℤ◌, ◌-ℤ◌}
+use Rattle.std.specs.Prelude.{◌≡◌, ◌≤◌, ℕ, List, true, length, Result, Ok, Err, ◌⊎◌}
 use Rattle.gas_terms.specs.Cells.{Cells, HasSidesOf}
 use Rattle.gas_terms.specs.Gas.{Gas}
-use Rattle.gas_terms.specs.Accounts.{FitsI64}
-use Rattle.gas_terms.specs.Commands.{is_tick, most_steps}
-use Rattle.gas_terms.specs.BookedGas.{BookedGas, book, changes}
+use Rattle.gas_terms.specs.Commands.{is_tick}
+use Rattle.gas_terms.specs.BookedGas.{BookedGas}
 use Rattle.gas_terms.specs.Laboratory.{Laboratory, most_entries, accepted, IsSound}
 use Rattle.gas_terms.specs.declared.command.Command.{Command}
-use Rattle.gas_terms.specs.declared.command.Command.TheVariants.{Step, Back}
 use Rattle.gas_terms.specs.declared.command.Entry.{Entry}
 use Rattle.gas_terms.specs.declared.answer.Answer.{Answer}
 use Rattle.gas_terms.specs.declared.answer.Answer.TheVariants.{Taken}
 use Rattle.gas_terms.specs.declared.refusal.Refusal.{Refusal}
 use Rattle.gas_terms.specs.declared.refusal.Refusal.TheVariants.{Memory}
 use Rattle.gas_plane.specs.Planes.{IsLattice}
-use Rattle.gas_lab.specs.declared.books.Books.{Books}
-
-abbrev pub books_of : Books → BookedGas
-books_of b = record { gas = b.gas; ledger = b.ledger }
 
 -- a laboratory of these parts
 abbrev pub lab_of : Gas → ℕ → BookedGas → List Entry → Laboratory
 lab_of start cap b journal = record { start = start; cap = cap; gas = b.gas; ledger = b.ledger; journal = journal }
-
--- the tick that a move leads to is in its range
-abbrev pub TickHolds : ℤ → Command → Type 0
-TickHolds t (Step n) = is_tick (t +ℤ pos n) ≡ true
-TickHolds t (Back n) = is_tick (t -ℤ pos n) ≡ true
-TickHolds t _ = Unit {0}
-
--- the accounts stay within 64 bits whatever the next command is
-abbrev pub Affords : BookedGas → Type 0
-Affords b = (command : Command) → changes command ≤ most_steps → FitsI64 (book b command).ledger
 
 -- What a laboratory's type keeps beside what the types of its parts keep.
 pub record IsKept (lab : Laboratory) (others : Cells) : Type 0 where

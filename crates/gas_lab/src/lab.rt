@@ -11,8 +11,7 @@ ghost use Rattle.gas_terms.specs.declared.answer.Answer.TheVariants.{RowIs};
 ghost use Rattle.gas_terms.specs.Symmetry.{IsOnOneTorus};
 ghost use Rattle.gas_lab.specs.Labs.{Changes, entry_of};
 
-use crate::books::Books;
-use gas_ledger::{Gas, probe, tally};
+use gas_ledger::{Books, Gas, probe, tally};
 use gas_plane::Plane;
 use gas_terms::{Answer, Command, Entry, Ledger, MOST_PORTS, NoMemory, Refusal, RowBits, Size};
 use phase_step::Stepper;
@@ -36,7 +35,8 @@ pub struct Lab<S: Stepper> {
 
 impl<S: Stepper> Model for Lab<S> {
     ghost use Rattle.gas_terms.specs.Laboratory.{Laboratory};
-    ghost use Rattle.gas_lab.specs.Labs.{IsKept, books_of, lab_of};
+    ghost use Rattle.gas_ledger.specs.Books.{books_of};
+    ghost use Rattle.gas_lab.specs.Labs.{IsKept, lab_of};
 
     ghost Value = { Laboratory };
 

@@ -1,10 +1,9 @@
-//! The laboratory: a gas with its ledger, and the journal of the changes that made it. `Lab::apply` does a command or
-//! refuses it; a `Door` is any way to a laboratory.
+//! The laboratory: the books of a gas, and the journal of the changes that made them. `Lab::apply` does a command or refuses
+//! it; a `Door` is any way to a laboratory.
 //!
 //! The program uses all of it but `Lab::start`, `cap`, `ledger` and `invariant`, which are there for callers of the library.
 #![tactic(auto)]
 
-mod books;
 mod door;
 pub mod lab;
 

@@ -2,3 +2,5 @@ pub mod Counting
 pub mod Strips
 pub mod Moving
 pub mod Running
+pub mod Stepping
+pub mod Editing

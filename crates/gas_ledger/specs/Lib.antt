@@ -1,2 +1,3 @@
 pub mod PortLists
 pub mod Gases
+pub mod Books

@@ -1,11 +1,12 @@
 //! A gas: particles, walls, obstacles and ports at a tick. Its edits and runs return what came in and went out; `probe` and
-//! `tally` sum its particles.
+//! `tally` sum its particles. `Books` are a gas with its ledger: `Books::enact` makes a change and books it.
 //!
-//! The program steps forward by `Gas::step_on`, with ports or without, and back by `Gas::run_back`. `apply_ports` is there for
-//! callers of the library.
+//! The program changes a gas by `Books::enact` alone. That steps forward by `Gas::step_on`, with ports or without, and back by
+//! `Gas::run_back`. `apply_ports` is there for callers of the library.
 #![tactic(auto)]
 
 pub mod apply;
+pub mod books;
 mod change;
 pub mod gas;
 pub mod port;
@@ -14,6 +15,7 @@ mod ports_from;
 pub mod sums;
 
 pub use apply::apply_ports;
+pub use books::Books;
 pub use gas::Gas;
 pub use phase_step::{Flow, Moved};
 pub use port::{Full, Port, Source};

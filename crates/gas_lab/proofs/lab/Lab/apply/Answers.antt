@@ -3,7 +3,8 @@ use Rattle.gas_terms.specs.Cells.{extent, lies_within}
 use Rattle.gas_terms.specs.Gas.{Gas}
 use Rattle.gas_terms.specs.Commands.{fits}
 use Rattle.gas_terms.specs.Laboratory.{Laboratory}
-use Rattle.gas_lab.specs.Labs.{books_of, lab_of}
+use Rattle.gas_ledger.specs.Books.{books_of}
+use Rattle.gas_lab.specs.Labs.{lab_of}
 use Rattle.gas_lab.proofs.Keeping.{kept_in_order, row_within}
 use Rattle.gas_lab.proofs.lab.Lab.apply.Goals as goal
 

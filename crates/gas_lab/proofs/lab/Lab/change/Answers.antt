@@ -1,6 +1,7 @@
 use Rattle.std.proofs.Common.{rules, ◌∙◌, ◌++◌, ◌∷◌, [], sym, ap, subst}
 use Rattle.gas_terms.specs.Laboratory.{IsAcceptable}
-use Rattle.gas_lab.specs.Labs.{books_of, lab_of, entry_of}
+use Rattle.gas_ledger.specs.Books.{books_of}
+use Rattle.gas_lab.specs.Labs.{lab_of, entry_of}
 use Rattle.gas_lab.proofs.Keeping.{kept_in_order, kept_torus, kept_affords, kept_by_change}
 use Rattle.gas_lab.proofs.lab.Lab.change.Goals as goal
 

@@ -1,7 +1,7 @@
 use Rattle.std.proofs.Common.{ap, ◌∙◌}
 use Rattle.gas_terms.specs.Cells.{Cells, Extent}
 use Rattle.gas_lab.proofs.Keeping.{kept_at_opening}
-use Rattle.gas_lab.specs.Labs.{books_of}
+use Rattle.gas_ledger.specs.Books.{books_of}
 use Rattle.gas_lab.proofs.lab.Lab.open.Goals as goal
 
 pub invariant_of-result : goal.invariant_of-result

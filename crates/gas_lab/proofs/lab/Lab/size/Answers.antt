@@ -1,7 +1,8 @@
 use Rattle.std.proofs.Common.{ap, ◌∙◌}
 use Rattle.gas_terms.specs.Cells.{extent}
 use Rattle.gas_terms.specs.Laboratory.{Laboratory}
-use Rattle.gas_lab.specs.Labs.{books_of, lab_of}
+use Rattle.gas_ledger.specs.Books.{books_of}
+use Rattle.gas_lab.specs.Labs.{lab_of}
 use Rattle.gas_lab.proofs.Keeping.{kept_extent}
 use Rattle.gas_lab.proofs.lab.Lab.size.Goals as goal
 

@@ -4,10 +4,10 @@ use Rattle.gas_terms.specs.declared.command.Command.TheVariants.{Step, Back}
 use Rattle.gas_terms.specs.Commands.{is_move}
 use Rattle.gas_terms.proofs.LabBounds.{few_changes}
 use Rattle.phase_step.specs.PortedRuns.{with_moved}
-use Rattle.gas_lab.specs.Labs.{books_of}
-use Rattle.gas_lab.proofs.Stepping.{pair}
-use Rattle.gas_lab.proofs.Editing.{no_move, edit_booked, edit_fits}
-use Rattle.gas_lab.proofs.books.Books.enact.Goals as goal
+use Rattle.gas_ledger.specs.Books.{books_of}
+use Rattle.gas_ledger.proofs.Stepping.{pair}
+use Rattle.gas_ledger.proofs.Editing.{no_move, edit_booked, edit_fits}
+use Rattle.gas_ledger.proofs.books.Books.enact.Goals as goal
 
 pub steps-requires-clause-fits : goal.steps-requires-clause-fits
 steps-requires-clause-fits g c =

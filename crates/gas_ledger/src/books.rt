@@ -11,12 +11,14 @@ ghost use Rattle.phase_step.specs.PortedRuns.{with_moved};
 ghost use Rattle.gas_ledger.specs.Gases.{ports_of};
 ghost use Rattle.phase_step.specs.Moves.{moved_by};
 ghost use Rattle.gas_ledger.specs.PortLists.{adding, has_all};
-ghost use Rattle.gas_lab.specs.Labs.{books_of, TickHolds, Affords};
+ghost use Rattle.gas_ledger.specs.Books.{books_of, TickHolds, Affords};
 
-use gas_ledger::{Gas, Moved, Port, tally};
+use crate::gas::Gas;
+use crate::port::Port;
+use crate::sums::tally;
 use gas_plane::Plane;
 use gas_terms::{Command, Ledger, NoMemory, Pair, Sums};
-use phase_step::{Stepper, UNMOVED};
+use phase_step::{Moved, Stepper, UNMOVED};
 use std::alloc::Global;
 
 /// A gas with its ledger.

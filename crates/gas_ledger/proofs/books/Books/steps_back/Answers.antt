@@ -1,8 +1,8 @@
 use Rattle.std.proofs.Common.{◌∙◌, sym}
 use Rattle.phase_step.proofs.RunSteps.{back_run}
-use Rattle.gas_lab.specs.Labs.{books_of}
-use Rattle.gas_lab.proofs.Stepping.{ran_back_to, given_fits}
-use Rattle.gas_lab.proofs.books.Books.steps_back.Goals as goal
+use Rattle.gas_ledger.specs.Books.{books_of}
+use Rattle.gas_ledger.proofs.Stepping.{ran_back_to, given_fits}
+use Rattle.gas_ledger.proofs.books.Books.steps_back.Goals as goal
 
 pub with_given_back-self-requires-clause-walls : goal.with_given_back-self-requires-clause-walls
 with_given_back-self-requires-clause-walls g c =

@@ -12,7 +12,7 @@ use Rattle.gas_terms.proofs.Stretches.{total-without_itself}
 use Rattle.phase_step.specs.Moves.{moved_by}
 use Rattle.phase_step.specs.declared.moved.Moved.{Moved}
 use Rattle.phase_step.specs.PortedRuns.{with_moved}
-use Rattle.gas_lab.proofs.Stepping.{pair}
+use Rattle.gas_ledger.proofs.Stepping.{pair}
 
 -- What is neither of the moves is no move.
 pub no_move : (command : Command) → ((n : ℕ) → command ≢ Step n) → ((n : ℕ) → command ≢ Back n) → is_move command ≡ false

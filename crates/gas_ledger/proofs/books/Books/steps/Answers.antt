@@ -1,6 +1,6 @@
-use Rattle.gas_lab.specs.Labs.{books_of}
-use Rattle.gas_lab.proofs.Stepping.{stepped_to, stepped_fits, moved_fits}
-use Rattle.gas_lab.proofs.books.Books.steps.Goals as goal
+use Rattle.gas_ledger.specs.Books.{books_of}
+use Rattle.gas_ledger.proofs.Stepping.{stepped_to, stepped_fits, moved_fits}
+use Rattle.gas_ledger.proofs.books.Books.steps.Goals as goal
 
 pub with_taken-taken-requires-clause-walls : goal.with_taken-taken-requires-clause-walls
 with_taken-taken-requires-clause-walls g c = (stepped_fits (books_of c.args.self.now) c.step_on-flow.result c.args.n c.step_on-flow.ensures.took c.step_on-flow.ensures.moved c.requires.fits).walls

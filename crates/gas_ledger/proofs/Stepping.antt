@@ -18,7 +18,7 @@ use Rattle.phase_step.proofs.PortedSteps.{ported_run}
 use Rattle.phase_step.specs.Runs.{gas_before, takes_before, ran_back}
 use Rattle.phase_step.specs.PortedRuns.{gas_stepped, steps_take, steps_move, with_moved}
 use Rattle.phase_step.specs.declared.moved.Flow.{Flow}
-use Rattle.gas_lab.specs.Labs.{TickHolds}
+use Rattle.gas_ledger.specs.Books.{TickHolds}
 
 abbrev pub pair : Gas → Ledger → BookedGas
 pair g l = record { gas = g; ledger = l }

@@ -1,6 +1,6 @@
 use Rattle.std.proofs.Common.{refl}
-use Rattle.gas_lab.proofs.Editing.{quiet_moves}
-use Rattle.gas_lab.proofs.books.edited.Goals as goal
+use Rattle.gas_ledger.proofs.Editing.{quiet_moves}
+use Rattle.gas_ledger.proofs.books.edited.Goals as goal
 
 pub returns-in-Wall-clause-moved : goal.returns-in-Wall-clause-moved
 returns-in-Wall-clause-moved c = quiet_moves c.args.gas.now c.add_walls.new.self _ c.requires.torus c.add_walls.ensures refl
