@@ -9,6 +9,7 @@ use Rattle.gas_terms.specs.declared.accounts.Ledger.{Ledger}
 use Rattle.gas_terms.specs.declared.command.Command.{Command}
 use Rattle.gas_terms.specs.declared.command.Command.TheVariants.{Put, Erase, Wall, Block, Unwall, Row, Source, Drain, Unport, Step, Back, Probe, Tally, Ledger as Accounting, Read, Entry as EntryAt}
 use Rattle.gas_terms.proofs.Stretches.{total-without_itself}
+use Rattle.phase_step.specs.Actions.{unmoved}
 use Rattle.phase_step.specs.Moves.{moved_by}
 use Rattle.phase_step.specs.declared.moved.Moved.{Moved}
 use Rattle.phase_step.specs.PortedRuns.{with_moved}
@@ -71,10 +72,7 @@ edit_tick g (Read y) still = refl
 edit_tick g (EntryAt k) still = refl
 
 -- What leaves the particles moves none.
-abbrev pub none_moved : Moved
-none_moved = record { injected = nothing; drained = nothing }
-
-pub quiet_moves : (g g' h : Gas) → IsEvenTorus g.particles → g' ≡ h → h.particles ≡ g.particles → none_moved ≡ moved_by g.tick g.particles g'.particles
+pub quiet_moves : (g g' h : Gas) → IsEvenTorus g.particles → g' ≡ h → h.particles ≡ g.particles → unmoved ≡ moved_by g.tick g.particles g'.particles
 quiet_moves g g' h torus is kept =
     let same : g'.particles ≡ g.particles = ap (λ (k : Gas). k.particles) is ∙ kept in
     let none : gained g.tick g.particles g.particles ≡ nothing = total-without_itself g.tick g.particles torus.sides in

@@ -26,7 +26,7 @@ due_first : (due : Bool) (s : Source) (rest : List Source) (x y : ℕ) → is_in
 due_first true s rest x y = refl
 due_first false s rest x y = refl
 
-pub due_cells : (tick : ℤ) (sources : List Source) (x y : ℕ) → is_in_any (due_areas tick sources) x y ≡ list_any (λ s. is_due tick s && is_inside s.area x y) sources
+due_cells : (tick : ℤ) (sources : List Source) (x y : ℕ) → is_in_any (due_areas tick sources) x y ≡ list_any (λ s. is_due tick s && is_inside s.area x y) sources
 due_cells tick [] x y = refl
 due_cells tick (s ∷ sources) x y =
     due_first (is_due tick s) s (filter (is_due tick) sources) x y

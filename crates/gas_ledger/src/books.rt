@@ -1,6 +1,6 @@
 //! A gas with its ledger, and what each change does to both.
 
-ghost use Rattle.std.specs.Prelude.{◌≡◌, ◌≤◌, ℕ, true, false, ◌+ℤ◌, ◌-ℤ◌, pos, IfOk};
+ghost use Rattle.std.specs.Prelude.{◌≡◌, true, false, ◌+ℤ◌, ◌-ℤ◌, pos, IfOk};
 ghost use Rattle.std.specs.Fn.{iterate};
 ghost use Rattle.gas_terms.specs.Cells.{extent, HasSidesOf, IsEvenTorus};
 ghost use Rattle.gas_terms.specs.Accounts.{FitsI64, SumsFit, plus};
@@ -15,9 +15,9 @@ ghost use Rattle.gas_ledger.specs.Books.{books_of, TickHolds, Affords};
 
 use crate::gas::Gas;
 use crate::port::Port;
-use crate::sums::tally;
+use crate::sums::{NOTHING, tally};
 use gas_plane::Plane;
-use gas_terms::{Command, Ledger, NoMemory, Pair, Sums};
+use gas_terms::{Command, Ledger, NoMemory, Pair};
 use phase_step::{Moved, Stepper, UNMOVED};
 use std::alloc::Global;
 
@@ -41,12 +41,6 @@ fn with_moved(ledger: Ledger, moved: Moved) -> Ledger
     }
 }
 
-const ZERO: Sums = Sums {
-    count: 0,
-    px: 0,
-    py: 0,
-};
-
 impl Books {
     /// A copy of the gas, and a ledger with its sums at the start and nothing else.
     pub fn open(alloc: Global, start: &Gas) -> Result<Books, NoMemory>
@@ -55,8 +49,8 @@ impl Books {
         let gas = start.copy(alloc)?;
         let ledger = Ledger {
             start: tally(start.particles(), start.tick()),
-            injected: ZERO,
-            drained: ZERO,
+            injected: NOTHING,
+            drained: NOTHING,
             walls: Pair { x: 0, y: 0 },
             obstacles: Pair { x: 0, y: 0 },
         };

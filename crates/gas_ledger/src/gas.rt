@@ -14,18 +14,12 @@ use crate::change::row_change;
 use crate::port::{Full, Port};
 use crate::ports::Ports;
 use crate::ports_from::PortsFrom;
-use crate::sums::probe;
+use crate::sums::{NOTHING, probe};
 use gas_plane::Plane;
-use gas_terms::{NoMemory, Rect, Size, Sums, Tick, Took};
+use gas_terms::{NoMemory, Rect, Size, Tick, Took};
 use phase_step::{Flow, Moved, Run, Stepper};
 use std::alloc::Global;
 use std::marker::Model;
-
-const NOTHING: Sums = Sums {
-    count: 0,
-    px: 0,
-    py: 0,
-};
 
 /// A gas at a tick, with its walls, its obstacles and its ports.
 #[derive(Drop)]

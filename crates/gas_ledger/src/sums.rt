@@ -9,6 +9,13 @@ use gas_plane::Plane;
 use gas_terms::{Rect, Sums, Tick};
 use phase_step::sums_by_counts;
 
+// the sums of no particles
+pub(crate) const NOTHING: Sums = Sums {
+    count: 0,
+    px: 0,
+    py: 0,
+};
+
 /// The sums of the particles in a rectangle at the tick.
 pub fn probe(plane: &Plane, area: Rect, tick: Tick) -> Sums
     requires { lies_within (extent plane.now) area ≡ true }
