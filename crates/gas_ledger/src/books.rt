@@ -3,11 +3,10 @@
 ghost use Rattle.std.specs.Prelude.{◌≡◌, true, false, ◌+ℤ◌, ◌-ℤ◌, pos, IfOk};
 ghost use Rattle.std.specs.Fn.{iterate};
 ghost use Rattle.gas_terms.specs.Cells.{extent, HasSidesOf, IsEvenTorus};
-ghost use Rattle.gas_terms.specs.Accounts.{FitsI64, SumsFit, plus};
+ghost use Rattle.gas_terms.specs.Accounts.{FitsI64};
 ghost use Rattle.gas_terms.specs.Commands.{enact, fits, is_change, is_move, is_tick};
 ghost use Rattle.gas_terms.specs.BookedGas.{opened, stepped, stepped_back, book};
 ghost use Rattle.gas_terms.specs.Laboratory.{has_all_ports};
-ghost use Rattle.phase_step.specs.PortedRuns.{with_moved};
 ghost use Rattle.gas_ledger.specs.Gases.{ports_of};
 ghost use Rattle.phase_step.specs.Moves.{moved_by};
 ghost use Rattle.gas_ledger.specs.PortLists.{adding, has_all};
@@ -26,19 +25,6 @@ use std::alloc::Global;
 pub struct Books {
     pub gas: Gas,
     pub ledger: Ledger,
-}
-
-// the ledger with what a change of the particles brought in and took out
-fn with_moved(ledger: Ledger, moved: Moved) -> Ledger
-    requires injected { SumsFit (plus ledger.injected moved.injected) }
-    requires drained { SumsFit (plus ledger.drained moved.drained) }
-    ensures { result ≡ with_moved ledger moved }
-{
-    Ledger {
-        injected: ledger.injected.plus(moved.injected),
-        drained: ledger.drained.plus(moved.drained),
-        ..ledger
-    }
 }
 
 impl Books {
@@ -67,7 +53,7 @@ impl Books {
     {
         let flow = self.gas.step_on(n, spare, stepper);
         let taken = self.ledger.with_taken(flow.took);
-        self.ledger = with_moved(taken, flow.moved);
+        self.ledger = taken.with_moved(flow.moved.injected, flow.moved.drained);
     }
 
     // steps back, one after another, in a single run: walls and obstacles give back what they took on the way
@@ -100,7 +86,7 @@ impl Books {
             Command::Back(n) => self.steps_back(*n, spare, stepper),
             edit => {
                 let moved = edited(&mut self.gas, edit);
-                self.ledger = with_moved(self.ledger, moved);
+                self.ledger = self.ledger.with_moved(moved.injected, moved.drained);
             }
         }
     }

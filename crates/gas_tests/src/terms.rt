@@ -125,7 +125,9 @@ fn velocities_lead_across_the_block(rt: HostRuntime) {
     }
 }
 
-fn sums(count: i64, px: i64, py: i64) -> Sums {
+fn sums(count: i64, px: i64, py: i64) -> Sums
+    ensures { result ≡ record { count = count; px = px; py = py } }
+{
     Sums { count, px, py }
 }
 
@@ -185,6 +187,14 @@ fn accounts_add_up(rt: HostRuntime) {
         (start, injected, drained),
     );
     expect_same(&rt, after.with_given_back(took), before);
+    let moved = before.with_moved(sums(1, 1, -1), sums(4, 2, -4));
+    expect_same(&rt, moved.injected, sums(3, 3, -3));
+    expect_same(&rt, moved.drained, sums(11, 1, -5));
+    expect_same(
+        &rt,
+        (moved.start, moved.walls, moved.obstacles),
+        (start, before.walls, before.obstacles),
+    );
 }
 
 #[test]
