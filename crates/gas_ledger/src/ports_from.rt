@@ -30,4 +30,8 @@ impl Action for PortsFrom<'_> {
     fn after_phase(&self, k: u16) -> Exchange {
         exchange_at(self.ports, self.tick.get() + i64::from(k) + 1)
     }
+
+    fn acts(&self) -> bool {
+        self.ports.any()
+    }
 }

@@ -1,17 +1,17 @@
 //! Actions: changes of the particles after each phase of a run.
 
-ghost use Rattle.std.specs.Prelude.{◌≡◌, ℕ, ℤ, ◌<◌, ◌&&◌, Bool, not};
+ghost use Rattle.std.specs.Prelude.{◌≡◌, ℕ, ℤ, ◌<◌, ◌&&◌, Bool, false, not};
 ghost use Rattle.bit_tile.specs.Tile.{HasCells};
 ghost use Rattle.bit_tile.specs.Tile as in_tile;
 ghost use Rattle.gas_terms.specs.Cells.{whole, without};
 ghost use Rattle.gas_terms.specs.Velocity.{parity as of_tick};
 ghost use Rattle.gas_plane.specs.Planes.{IsLattice};
-ghost use Rattle.phase_step.specs.Actions.{acted};
+ghost use Rattle.phase_step.specs.Actions.{acted, IsStill};
 ghost use Rattle.phase_step.specs.Counts.{AreCounts, AreTileCounts};
 ghost use Rattle.phase_step.specs.Exchanges.{leaves_of};
 ghost use Rattle.phase_step.specs.Moves.{moved_by};
 
-use crate::change::Change;
+use crate::change::{Change, NO_CHANGE};
 use crate::exchange::Exchange;
 use crate::moved::Moved;
 use gas_plane::{Plane, Tile, sums};
@@ -24,6 +24,29 @@ pub trait Action: Drop {
     fn after_phase(&self, k: u16) -> Exchange
         ensures { (x y : ℕ) (held : Bool) →
             leaves_of result x y held ≡ leaves self.now k x y held };
+
+    /// Whether it does anything at all. If not, it leaves every cell as it is, after each phase.
+    fn acts(&self) -> bool
+        ensures { result ≡ false → (k : ℕ) → IsStill (leaves self.now k) }
+    {
+        true
+    }
+}
+
+/// What an action does to every cell after phase k, at a tick of this parity. Returns what came in and what went out.
+pub fn act_after<A: Action>(plane: &mut Plane, action: &A, k: u16, parity: u8) -> Moved
+    requires { parity < 2 }
+    ensures lattice { IsLattice plane.old }
+    ensures cells { plane.new ≡ acted (A.leaves action.now k) plane.old }
+    ensures moved { (tick : ℤ) → of_tick tick ≡ parity →
+        result ≡ moved_by tick plane.old plane.new }
+{
+    // to make an exchange takes longer than some tiles do
+    if !action.acts() {
+        let _ = plane.size();
+        return NO_CHANGE.moved(parity);
+    }
+    act_on(plane, &action.after_phase(k), parity)
 }
 
 /// Acts on every cell, and says what came in and what went, at a tick of this parity.
@@ -48,7 +71,7 @@ fn act(plane: &mut Plane, exchange: &Exchange) -> Change
     let mut gained = [0; 4];
     let mut lost = [0; 4];
     if exchange.is_still() {
-        return Change { gained, lost };
+        return NO_CHANGE;
     }
     for i in 0..end {
         let old = plane.tile(i);

@@ -15,6 +15,12 @@ pub struct Change {
     pub lost: [u64; 4],
 }
 
+/// None came in and none went out.
+pub const NO_CHANGE: Change = Change {
+    gained: [0; 4],
+    lost: [0; 4],
+};
+
 impl Change {
     /// The sums of those particles at a tick of this parity.
     pub fn moved(self, parity: u8) -> Moved

@@ -19,4 +19,8 @@ impl<A: Action> Action for Later<'_, A> {
     fn after_phase(&self, k: u16) -> Exchange {
         self.action.after_phase(self.by.saturating_add(k))
     }
+
+    fn acts(&self) -> bool {
+        self.action.acts()
+    }
 }

@@ -27,7 +27,7 @@ mod still;
 mod sweep;
 mod tiles;
 
-pub use action::{Action, act_on, change_of};
+pub use action::{Action, act_after, act_on, change_of};
 pub use change::{Change, sums_by_counts};
 pub use exchange::{Exchange, any_area};
 pub use few::Few;
@@ -188,8 +188,7 @@ pub trait Stepper: Drop {
         for k in 0..run.n {
             let now = parity_at(run.parity, k);
             let took = self.phase_in_place(particles, solids, now, spare);
-            let turn = run.action.after_phase(k);
-            let moved = act_on(particles, &turn, 1 - now);
+            let moved = act_after(particles, run.action, k, 1 - now);
             flow = flow.plus(Flow { took, moved });
         }
         flow

@@ -13,4 +13,8 @@ impl Action for Still {
     fn after_phase(&self, _k: u16) -> Exchange {
         Exchange::none()
     }
+
+    fn acts(&self) -> bool {
+        false
+    }
 }
