@@ -79,9 +79,3 @@ pub next_is : (numbers : List ℕ) (i count n : ℕ) (word : List ℕ) (rest mor
 next_is numbers i count n word rest more below room first number =
     let one : count - i ≡ suc (count - (i + 1)) = omega arith in
     rw (first, one, number) (numbers_step numbers i n (take (count - (i + 1)) more) room)
-
--- or no number
-pub next_is_not : (i count : ℕ) (word : List ℕ) (rest more : List (List ℕ)) → i < count → rest ≡ word ∷ more → number_of word ≡ None → numbers_of (take (count - i) rest) ≡ None
-next_is_not i count word rest more below first number =
-    let one : count - i ≡ suc (count - (i + 1)) = omega arith in
-    rw (first, one, number) refl

@@ -31,7 +31,8 @@ pub fn read_numbers<'a>(line: &'a [u8], count: usize, numbers: &mut [u32; 5]) ->
     requires enough { count ≤ length (words line.now) }
     ensures { let read = numbers_of (take count (words line.now)) in
         MatchOption result (read ≡ None)
-        (λ rest. (read ≡ Some (take count numbers.new)) × (words rest.now ≡ drop count (words line.now))) }
+        (λ rest. (read ≡ Some (take count numbers.new))
+        × (words rest.now ≡ drop count (words line.now))) }
 {
     let mut rest = line;
     for i in 0..count {

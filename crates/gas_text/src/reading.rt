@@ -3,6 +3,7 @@
 ghost use Rattle.std.specs.Prelude.{◌≡◌, true, nat_lt, ◌≤◌, ◌/◌, ◌*◌, ◌⊎◌, ℕ, List, [], ◌∷◌, length, take, Ok, Err, IfOk, IsOk};
 ghost use Rattle.hex.specs.Hex.{decode_sized};
 ghost use Rattle.gas_terms.specs.Cells.{lies_within};
+ghost use Rattle.gas_terms.specs.Rows.{most_row_bytes};
 ghost use Rattle.gas_terms.specs.Commands.{is_step_count, is_period};
 ghost use Rattle.gas_terms.specs.declared.refusal.Refusal.TheVariants.{Memory};
 ghost use Rattle.gas_text.specs.declared.verb.Verb.TheVariants.{Row, Source};
@@ -14,7 +15,7 @@ use crate::number::read_numbers;
 use crate::request::Request;
 use crate::verb::Verb;
 use crate::word::{count_words, next_word};
-use gas_terms::{Command, MOST_PERIOD, MOST_STEPS, Rect, Refusal, RowBits, Size};
+use gas_terms::{Command, MOST_PERIOD, MOST_ROW_BYTES, MOST_STEPS, Rect, Refusal, RowBits, Size};
 use hex::decode_to_slice;
 use std::alloc::Global;
 
@@ -59,7 +60,7 @@ fn read_period(n: u32) -> Result<u16, Refusal>
 }
 
 fn copied(alloc: Global, bytes: &[u8]) -> Result<RowBits, Refusal>
-    requires { length bytes.now ≤ 512 }
+    requires { length bytes.now ≤ most_row_bytes }
     ensures { (result ≡ Ok bytes.now) ⊎ (result ≡ Err Memory) }
 {
     match RowBits::zero(alloc, bytes.len()) {
@@ -75,7 +76,7 @@ fn copied(alloc: Global, bytes: &[u8]) -> Result<RowBits, Refusal>
 fn row_length(size: Size) -> usize
     ensures value { result ≡ size.width / 8 }
     ensures whole { 8 * result ≡ size.width }
-    ensures short { result ≤ 512 }
+    ensures short { result ≤ most_row_bytes }
 {
     size.width() as usize / 8
 }
@@ -86,7 +87,7 @@ fn read_row_bits(alloc: Global, size: Size, digits: &[u8]) -> Result<RowBits, Re
         (result ≡ read) ⊎ ((result ≡ Err Memory) × IsOk read) }
     ensures fits { IfOk result (λ bits. 8 * length bits ≡ size.width) }
 {
-    let mut page = [0; 512];
+    let mut page = [0; MOST_ROW_BYTES];
     let bytes = &mut page[..row_length(size)];
     match decode_to_slice(digits, bytes) {
         Ok(()) => copied(alloc, bytes),
