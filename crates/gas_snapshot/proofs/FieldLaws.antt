@@ -96,9 +96,6 @@ word_front bytes fits long =
     let front : to_be_bytes w16 (from_be_bytes w16 (take 2 bytes)) ≡ take 2 bytes = be_bytes_2 (take 2 bytes) _ (omega (arith, length-take 2 bytes)) (IsBytes-take 2 bytes fits) refl in
     ap (λ (t : List ℕ). t ++ drop 2 bytes) front ∙ take-append-drop 2 bytes
 
-pub word_below : (bytes : List ℕ) → IsBytes bytes → from_be_bytes w16 bytes < 2 ^ 16
-word_below bytes fits = omega (arith, fits 0, fits 1)
-
 abbrev pub word : ℕ → List ℕ
 word n = to_be_bytes w16 n
 

@@ -20,7 +20,7 @@ use Rattle.gas_snapshot.specs.declared.version.Version.{Version}
 use Rattle.gas_snapshot.specs.declared.version.Version.TheVariants.{One, Two}
 use Rattle.gas_snapshot.specs.declared.fault.SnapFault.{SnapFault}
 use Rattle.gas_snapshot.specs.declared.fault.SnapFault.TheVariants.{Short, Trailing}
-use Rattle.gas_snapshot.specs.Spelling.{head, rows, obstacle_rows, spelling, HasSpelling, Spells, Allows}
+use Rattle.gas_snapshot.specs.Spelling.{head, rows, obstacle_rows, spelling, most_old_side, HasSpelling, Spells, Allows}
 use Rattle.gas_snapshot.specs.Reading.{◌>>=◌, Head, field_at, is_size_of, head_at, cells_in, cells_at, obstacles_at, obstacles_in, layers, body_at, reading, Gives}
 use Rattle.gas_snapshot.proofs.FieldLaws.{IsBytes, IsBytes-take, IsBytes-drop, bind_ok, both_true, done, ok_is, suits}
 use Rattle.gas_snapshot.proofs.HeadLaws.{head_text, made_head, HeadFits, PortsFit, head_takes, head_again, size_of}
@@ -181,8 +181,8 @@ body_text h bytes even fits e =
 -- what the version allows
 allowed : (v : Version) (size : Extent) (g : Gas) (bytes : List ℕ) → is_size_of v size ≡ true → g.particles.width ≡ size.width → g.particles.height ≡ size.height → g.obstacles ≡ obstacles_in v size bytes → Allows v g
 allowed One size g bytes ok wide high e =
-    let narrow : size.width ≤ 2048 = grind (arith, nat_tests) in
-    let low : size.height ≤ 2048 = grind (arith, nat_tests) in
+    let narrow : size.width ≤ most_old_side = grind (arith, nat_tests) in
+    let low : size.height ≤ most_old_side = grind (arith, nat_tests) in
     record { narrow = omega arith; low = omega arith; unobstructed = e ∙ ap (λ (w : ℕ). no_cells (made_extent w size.height)) (sym wide) ∙ ap (λ (h : ℕ). no_cells (made_extent g.particles.width h)) (sym high) }
 allowed Two size g bytes ok wide high e = tt
 

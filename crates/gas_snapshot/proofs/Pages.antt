@@ -18,14 +18,6 @@ pub source_put : (page : List ℕ) (s : Source) → (page ++ drain s.area) ++ to
 unfolding source
 source_put page s = simp append_assoc
 
-pub length_drain : (r : Rectangle) → length (drain r) ≡ 8
-unfolding drain
-length_drain r = refl
-
-pub length_source : (s : Source) → length (source s) ≡ 10
-unfolding source drain
-length_source s = refl
-
 pub head_put : (g : Gas) (page : List ℕ) → page ≡ ((((((([] ++ magic Two) ++ to_be_bytes w16 g.particles.width) ++ to_be_bytes w16 g.particles.height) ++ moment g.tick) ++ counts (length g.drains) (length g.sources)) ++ flat_map drain g.drains) ++ flat_map source g.sources) → page ≡ head Two g
 unfolding head sides
 head_put g page e = e ∙ simp append_assoc

@@ -1,7 +1,8 @@
 -- Writing one list after another.
-use Rattle.std.proofs.Common.{◌≡◌, ℕ, ◌+◌, ◌-◌, ◌<◌, ◌≤◌, List, ◌++◌, length, take, drop, Option, Some, None, ◌*◌, ◌/◌, refl, sym, ap, subst, ◌∙◌, append_assoc, arith}
-use Rattle.std.specs.Io.KnownBytes.{Appends, Keeps}
-use Rattle.std.proofs.lemmas.List.{append-nil, take-append-drop, length-append, length-drop, length-take, take_at}
+use Rattle.std.proofs.Common.{◌≡◌, ℕ, ◌+◌, ◌-◌, ◌<◌, ◌≤◌, List, ◌++◌, length, take, drop, Option, ◌*◌, ◌/◌, refl, sym, ap, subst, ◌∙◌, append_assoc, arith}
+use Rattle.std.proofs.KnownBytes.{Appends-trans}
+use Rattle.std.specs.Io.KnownBytes.{Appends}
+use Rattle.std.proofs.lemmas.List.{take-append-drop, length-append, length-drop, length-take, take_at}
 use Rattle.std.proofs.Math.Seq.{take-append-add, take-length}
 use Rattle.std.specs.List.{flat_map, range_with_len}
 use Rattle.gas_terms.specs.Cells.{Cells}
@@ -15,16 +16,6 @@ use Rattle.gas_snapshot.proofs.Rows.{rows_cut, rows_more}
 use Rattle.gas_snapshot.proofs.GasLaws.{spelling_two, length_of_rows, same_extent, part}
 use Rattle.gas_snapshot.specs.Written.{WritesFront}
 
-pub none_written : (a : Option (List ℕ)) (bytes : List ℕ) → Appends a a (take 0 bytes)
-none_written None bytes = tt
-none_written (Some xs) bytes = sym (append-nil xs)
-
-pub then_written : (a b c : Option (List ℕ)) (x y : List ℕ) → Appends a b x → Appends b c y → Appends a c (x ++ y)
-then_written None b c x y p q = tt
-then_written (Some xs) None c x y p q = absurd p
-then_written (Some xs) (Some ys) None x y p q = q
-then_written (Some xs) (Some ys) (Some zs) x y p q = q ∙ ap (λ (l : List ℕ). l ++ y) p ∙ append_assoc xs x y
-
 -- the same front of a longer list
 front_of : (k : ℕ) (x y : List ℕ) → take (length (take k x)) (x ++ y) ≡ take k x
 front_of k x y = ap (λ (l : List ℕ). take (length (take k x)) (l ++ y)) (sym (take-append-drop k x)) ∙ ap (take (length (take k x))) (append_assoc (take k x) (drop k x) y) ∙ take_at (take k x) (drop k x ++ y) (length (take k x)) refl
@@ -33,13 +24,7 @@ pub front_more : (a b : Option (List ℕ)) (x y : List ℕ) → WritesFront a b 
 front_more a b x y w = (length (take w.0 x), subst (λ (l : List ℕ). Appends a b l) (sym (front_of w.0 x y)) w.1)
 
 pub then_front : (a b c : Option (List ℕ)) (x y : List ℕ) → Appends a b x → WritesFront b c y → WritesFront a c (x ++ y)
-then_front a b c x y p w = (length x + w.0, subst (λ (l : List ℕ). Appends a c l) (sym (take-append-add x y w.0)) (then_written a b c x (take w.0 y) p w.1))
-
-pub kept_written : (a b c : Option (List ℕ)) (x : List ℕ) → Appends a b x → Keeps b c → Appends a c x
-kept_written None b c x p q = tt
-kept_written (Some xs) None c x p q = absurd p
-kept_written (Some xs) (Some ys) None x p q = q
-kept_written (Some xs) (Some ys) (Some zs) x p q = q ∙ p
+then_front a b c x y p w = (length x + w.0, subst (λ (l : List ℕ). Appends a c l) (sym (take-append-add x y w.0)) (Appends-trans a b c x (take w.0 y) p w.1))
 
 -- so many bytes more
 more_of : (a b c : Option (List ℕ)) (bytes : List ℕ) (i n : ℕ) → i ≤ length bytes → Appends a b (take i bytes) → Appends b c (take n (drop i bytes)) → Appends a c (take (i + n) bytes)
@@ -47,7 +32,7 @@ more_of a b c bytes i n le p q =
     let len : length (take i bytes) ≡ i = omega (arith, length-take i bytes) in
     let whole : take (i + n) bytes ≡ take i bytes ++ take n (drop i bytes) =
     ap (λ (l : List ℕ). take (i + n) l) (sym (take-append-drop i bytes)) ∙ ap (λ (k : ℕ). take (k + n) (take i bytes ++ drop i bytes)) (sym len) ∙ take-append-add (take i bytes) (drop i bytes) n in
-    subst (λ (l : List ℕ). Appends a c l) (sym whole) (then_written a b c (take i bytes) (take n (drop i bytes)) p q)
+    subst (λ (l : List ℕ). Appends a c l) (sym whole) (Appends-trans a b c (take i bytes) (take n (drop i bytes)) p q)
 
 pub more_written : (a b c : Option (List ℕ)) (bytes : List ℕ) (i n : ℕ) → i ≤ length bytes → Appends a b (take i bytes) → Appends b c (take n (take (length bytes - i) (drop i bytes))) → Appends a c (take (i + n) bytes)
 more_written a b c bytes i n le p q =
@@ -55,15 +40,10 @@ more_written a b c bytes i n le p q =
     let tail : take (length bytes - i) (drop i bytes) ≡ drop i bytes = ap (λ (k : ℕ). take k (drop i bytes)) len ∙ take-length (drop i bytes) in
     more_of a b c bytes i n le p (subst (λ (l : List ℕ). Appends b c (take n l)) tail q)
 
-pub all_written : (a b : Option (List ℕ)) (bytes : List ℕ) (i : ℕ) → length bytes ≤ i → i ≤ length bytes → Appends a b (take i bytes) → Appends a b bytes
-all_written a b bytes i le ge p =
-    let k : i ≡ length bytes = omega arith in
-    subst (λ (l : List ℕ). Appends a b l) (ap (λ (j : ℕ). take j bytes) k ∙ take-length bytes) p
-
 pub row_written : (a b c : Option (List ℕ)) (cells : Cells) (row : List ℕ) (n : ℕ) → row ≡ row_bytes cells n → Appends a b (flat_map (row_bytes cells) (range_with_len 0 n)) → Appends b c row → Appends a c (flat_map (row_bytes cells) (range_with_len 0 (n + 1)))
 row_written a b c cells row n e p q =
     subst (λ (l : List ℕ). Appends a c l) (ap (λ (l : List ℕ). flat_map (row_bytes cells) (range_with_len 0 n) ++ l) e ∙ sym (rows_more (row_bytes cells) n))
-    (then_written a b c (flat_map (row_bytes cells) (range_with_len 0 n)) row p q)
+    (Appends-trans a b c (flat_map (row_bytes cells) (range_with_len 0 n)) row p q)
 
 pub rows_front : (a b c : Option (List ℕ)) (cells : Cells) (row : List ℕ) (n : ℕ) → n < cells.height → row ≡ row_bytes cells n → Appends a b (flat_map (row_bytes cells) (range_with_len 0 n)) → WritesFront b c row → WritesFront a c (rows cells)
 rows_front a b c cells row n lt e p w =
@@ -83,15 +63,15 @@ ended_2 a b c g p w = subst (λ (l : List ℕ). WritesFront a c l) (sym (spellin
 
 pub ended_3 : (a b c d : Option (List ℕ)) (g : Gas) → Appends a b (head Two g) → Appends b c (rows g.particles) → WritesFront c d (rows g.walls) → WritesFront a d (spelling Two g)
 ended_3 a b c d g p q w = subst (λ (l : List ℕ). WritesFront a d l) (sym (spelling_two g))
-    (front_more a d ((head Two g ++ rows g.particles) ++ rows g.walls) (rows g.obstacles) (then_front a c d (head Two g ++ rows g.particles) (rows g.walls) (then_written a b c (head Two g) (rows g.particles) p q) w))
+    (front_more a d ((head Two g ++ rows g.particles) ++ rows g.walls) (rows g.obstacles) (then_front a c d (head Two g ++ rows g.particles) (rows g.walls) (Appends-trans a b c (head Two g) (rows g.particles) p q) w))
 
 pub ended_4 : (a b c d e : Option (List ℕ)) (g : Gas) → Appends a b (head Two g) → Appends b c (rows g.particles) → Appends c d (rows g.walls) → WritesFront d e (rows g.obstacles) → WritesFront a e (spelling Two g)
 ended_4 a b c d e g p q r w = subst (λ (l : List ℕ). WritesFront a e l) (sym (spelling_two g))
-    (then_front a d e ((head Two g ++ rows g.particles) ++ rows g.walls) (rows g.obstacles) (then_written a c d (head Two g ++ rows g.particles) (rows g.walls) (then_written a b c (head Two g) (rows g.particles) p q) r) w)
+    (then_front a d e ((head Two g ++ rows g.particles) ++ rows g.walls) (rows g.obstacles) (Appends-trans a c d (head Two g ++ rows g.particles) (rows g.walls) (Appends-trans a b c (head Two g) (rows g.particles) p q) r) w)
 
 pub ended_all : (a b c d e : Option (List ℕ)) (g : Gas) → Appends a b (head Two g) → Appends b c (rows g.particles) → Appends c d (rows g.walls) → Appends d e (rows g.obstacles) → Appends a e (spelling Two g)
 ended_all a b c d e g p q r w = subst (λ (l : List ℕ). Appends a e l) (sym (spelling_two g))
-    (then_written a d e ((head Two g ++ rows g.particles) ++ rows g.walls) (rows g.obstacles) (then_written a c d (head Two g ++ rows g.particles) (rows g.walls) (then_written a b c (head Two g) (rows g.particles) p q) r) w)
+    (Appends-trans a d e ((head Two g ++ rows g.particles) ++ rows g.walls) (rows g.obstacles) (Appends-trans a c d (head Two g ++ rows g.particles) (rows g.walls) (Appends-trans a b c (head Two g) (rows g.particles) p q) r) w)
 
 -- the row that stands at the front of the buffer
 pub row_there : (cells : Cells) (new rest : List ℕ) (len n : ℕ) → len ≡ cells.width / 8 → new ≡ row_bytes cells n → take len (new ++ rest) ≡ row_bytes cells n

@@ -12,7 +12,7 @@ use Rattle.gas_snapshot.specs.declared.version.Version.TheVariants.{One, Two}
 use Rattle.gas_snapshot.specs.declared.fault.SnapFault.{SnapFault}
 use Rattle.gas_snapshot.specs.declared.fault.SnapFault.TheVariants.{Short, Magic, Size, Tick, Port, Trailing, Memory}
 use Rattle.gas_snapshot.specs.declared.fields.Head.{Head as HeadOfCode}
-use Rattle.gas_snapshot.specs.Spelling.{magic}
+use Rattle.gas_snapshot.specs.Spelling.{magic, most_old_side}
 
 infixl 10 ◌>>=◌
 abbrev pub ◌>>=◌ : {A B : Type 0} → Result A SnapFault → (A → Result B SnapFault) → Result B SnapFault
@@ -34,7 +34,7 @@ magic_at bytes = do
   if bytes_eq field.0 (magic One) then Ok (One, field.1) else if bytes_eq field.0 (magic Two) then Ok (Two, field.1) else Err Magic
 
 abbrev pub greatest_side : Version → ℕ
-greatest_side One = 2048
+greatest_side One = most_old_side
 greatest_side Two = most_side
 
 abbrev pub is_size_of : Version → Extent → Bool

@@ -52,10 +52,14 @@ obstacle_rows Two cells = rows cells
 unfoldable pub spelling : Version → Gas → List ℕ
 spelling version g = head version g ++ rows g.particles ++ rows g.walls ++ obstacle_rows version g.obstacles
 
+-- how wide and how high a lattice of the first version is at most: `MOST_OLD_SIDE`
+abbrev pub most_old_side : ℕ
+most_old_side = 2048
+
 -- what the first version leaves out
 pub record IsOld (g : Gas) : Type 0 where
-  pub narrow : g.particles.width ≤ 2048
-  pub low : g.particles.height ≤ 2048
+  pub narrow : g.particles.width ≤ most_old_side
+  pub low : g.particles.height ≤ most_old_side
   pub unobstructed : g.obstacles ≡ no_cells (extent g.particles)
 
 abbrev pub Allows : Version → Gas → Type 0

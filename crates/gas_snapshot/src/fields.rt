@@ -11,7 +11,7 @@ ghost use Rattle.gas_snapshot.specs.Spelling.{magic};
 ghost use Rattle.gas_snapshot.specs.Reading.{Reads, magic_at, size_at, tick_at, counts_at, greatest_side, is_size_of, field_at, number, size_in, tick_in, are_few, counts_in, area_in, source_in, drain_at, source_at, many, ports_at, head_with, head_at};
 
 use crate::fault::SnapFault;
-use crate::version::Version;
+use crate::version::{MOST_OLD_SIDE, Version};
 use gas_ledger::{Port, Ports, Source};
 use gas_terms::{MOST_PORTS, MOST_SIDE, Rect, Size, Tick};
 
@@ -66,7 +66,7 @@ fn has_size(version: Version, size: Size) -> bool
         result ≡ (nat_le size.width most && nat_le size.height most) }
 {
     let most = match version {
-        Version::One => 2048,
+        Version::One => MOST_OLD_SIDE,
         Version::Two => MOST_SIDE,
     };
     size.width() as u32 <= most && size.height() as u32 <= most
