@@ -13,6 +13,10 @@ pub record Seat : Type 0 where
 abbrev pub fresh_seat : ℕ → Seat
 fresh_seat i = record { number = i; entries = 0 }
 
+-- how many seats a hall has at most
+abbrev pub most_seats : ℕ
+most_seats = 64
+
 abbrev pub numbers : List Seat → List ℕ
 numbers seats = map (λ seat. seat.number) seats
 

@@ -41,9 +41,11 @@ pub(crate) struct Asked {
 impl<S: Stepper> Call<InTurn<S>> for Asked {
     type Answer = Result<Answer, Refusal>;
 
-    ghost needs = { λ c by opened. (by ≤ 65535) × (fits (extent opened.0.particles) c.command ≡ true) };
+    ghost needs = { λ c by opened. (by ≤ 65535)
+        × (fits (extent opened.0.particles) c.command ≡ true) };
 
-    ghost does = { λ c by x reply y. IsSound x.lab × IsSound y.lab × (length y.lab.journal ≤ most_entries)
+    ghost does = { λ c by x reply y. IsSound x.lab × IsSound y.lab
+        × (length y.lab.journal ≤ most_entries)
         × Applies x.lab (entry_of by c.command) reply y.lab };
 
     fn call(self, by: u64, value: &mut InTurn<S>) -> Result<Answer, Refusal> {

@@ -26,7 +26,8 @@ impl<N: HallName> Model for HallSeat<N> {
 
     ghost view = { λ s. record { number = s.number; entries = s.entries } };
 
-    ghost invariant = { λ s. (s.share.parts ≡ 1) × (s.share.amount ≡ s.entries) × (s.entries ≤ most_entries) };
+    ghost invariant = { λ s. (s.share.parts ≡ 1) × (s.share.amount ≡ s.entries)
+        × (s.entries ≤ most_entries) };
 }
 
 impl<N: HallName> HallSeat<N> {

@@ -5,7 +5,7 @@ ghost use Rattle.std.specs.Prelude.{◌≡◌, ◌<◌, ◌≤◌, ◌⊎◌, []
 ghost use Rattle.gas_terms.specs.Cells.{extent};
 ghost use Rattle.gas_terms.specs.Commands.{fits};
 ghost use Rattle.gas_terms.specs.Laboratory.{most_entries, IsPrefix, made_by};
-ghost use Rattle.gas_seats.specs.Seats.{AreNumbered};
+ghost use Rattle.gas_seats.specs.Seats.{AreNumbered, most_seats};
 ghost use Rattle.gas_seats.specs.TurnSeats.{SeatView, NoteView, entries_made, opening_seat, AsksInTurn, CopiesInTurn};
 
 use crate::held::entries_of;
@@ -52,7 +52,13 @@ impl<S: Stepper> Model for TurnSeat<S> {
 
     ghost Value = { SeatView };
 
-    ghost view = { λ s. record { hall = s.door.lock; number = s.number; size = s.size; opened = s.door.fixed; seen = s.door.seen } };
+    ghost view = { λ s. record {
+      hall = s.door.lock;
+      number = s.number;
+      size = s.size;
+      opened = s.door.fixed;
+      seen = s.door.seen;
+    } };
 
     ghost invariant = { λ s. (s.door.number ≡ s.number)
         × IfSome s.door.fixed (λ opened. extent opened.0.particles ≡ s.size)
@@ -120,7 +126,7 @@ impl<S: Stepper> TurnHall<S> {
         lab: Lab<S>,
         seats: u16,
     ) -> Result<(TurnHall<S>, Vec<TurnSeat<S>>), Lab<S>>
-        requires seats { (0 < seats) × (seats ≤ 64) }
+        requires seats { (0 < seats) × (seats ≤ most_seats) }
         requires lab { lab.journal ≡ [] }
         ensures count { IfOk result (λ r. vec_len r.1 ≡ seats) }
         ensures seats { IfOk result (λ r. AreNumbered seats (opening_seat r.0 lab) r.1.items) }
