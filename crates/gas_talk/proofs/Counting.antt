@@ -1,20 +1,20 @@
 -- How many reads gave the input so far, and how many are left.
-use Rattle.std.proofs.Common.{◌≡◌, ◌≢◌, ℕ, ◌+◌, ◌*◌, ◌^◌, ◌<◌, ◌≤◌, nat_lt, true, false, List, [], ◌++◌, length, refl, arith, length-append}
+use Rattle.std.proofs.Common.{◌≡◌, ◌≢◌, ℕ, ◌+◌, ◌*◌, ◌<◌, ◌≤◌, nat_lt, true, false, List, [], ◌++◌, length, refl, arith, length-append}
 use Rattle.std.proofs.lemmas.Bool.Decides.{nat_tests}
 use Rattle.gas_talk.specs.declared.end.SessionEnd.{SessionEnd}
 use Rattle.gas_talk.specs.declared.end.SessionEnd.TheVariants.{Quit, InputEnd, ReadFault, WriteFault, BadLine, Memory, TooManyReads}
-use Rattle.gas_talk.specs.Ends.{empty_reads, AreReads}
+use Rattle.gas_talk.specs.Ends.{read_limit, most_reads, empty_reads, AreReads}
 
 -- each of them gave a byte at least
 pub record Counts (count left : ℕ) (input : List ℕ) : Type 0 where
-  pub whole : count + left ≡ 2 ^ 24
+  pub whole : count + left ≡ most_reads
   pub some : count ≤ length input
-  pub short : length input ≤ 4096 * count
+  pub short : length input ≤ read_limit * count
 
-pub none_yet : (left : ℕ) → left ≡ 2 ^ 24 → Counts 0 left []
+pub none_yet : (left : ℕ) → left ≡ most_reads → Counts 0 left []
 none_yet left all = record { whole = omega (arith, all); some = omega arith; short = omega arith }
 
-pub one_more : (count left left' n : ℕ) (input more : List ℕ) → Counts count left input → left' + 1 ≡ left → length more ≡ n → n ≤ 4096 → 0 < n
+pub one_more : (count left left' n : ℕ) (input more : List ℕ) → Counts count left input → left' + 1 ≡ left → length more ≡ n → n ≤ read_limit → 0 < n
     → Counts (count + 1) left' (input ++ more)
 one_more count left left' n input more c spent len few some = record {
   whole = omega (arith, c.whole, spent);

@@ -110,13 +110,17 @@ empty_reads BadLine = 0
 empty_reads Memory = 0
 empty_reads TooManyReads = 0
 
--- So many reads were made, at most 2^24, and all of them where another was needed. Each but an empty one gave a byte at
--- least and 4,096 bytes at most of the input.
+-- how many reads a session makes at most: `READS`
+abbrev pub most_reads : ℕ
+most_reads = 2 ^ 24
+
+-- So many reads were made. If another was needed, none was left. Each read but an empty one gave at least one byte of the
+-- input, and at most `read_limit` bytes.
 pub record AreReads (reads : ℕ) (input : List ℕ) (end : SessionEnd) : Type 0 where
-  pub few : reads ≤ 2 ^ 24
+  pub few : reads ≤ most_reads
   pub some : reads ≤ length input + empty_reads end
   pub short : length input + read_limit * empty_reads end ≤ read_limit * reads
-  pub all : end ≡ TooManyReads → reads ≡ 2 ^ 24
+  pub all : end ≡ TooManyReads → reads ≡ most_reads
 
 -- what a session asks, writes to and puts on
 pub record Place (D : Type 0) : Type 0 where
@@ -126,6 +130,16 @@ pub record Place (D : Type 0) : Type 0 where
   pub failures : ℕ
   -- what the shelf has taken, where it is known
   pub shelved : Option (List (List ℕ))
+
+-- the place of a door, a writer and a shelf
+abbrev pub place : {D W K : Type 0} → (W → Option (List ℕ)) → (K → ℕ) → (K → Option (List (List ℕ))) → D → W → K → Place D
+place contents failures shelved door writer shelf =
+    record { door = door; written = contents writer; failures = failures shelf; shelved = shelved shelf }
+
+-- This holds between the door before a call and the door after it, for every call.
+pub record EachCall {D : Type 0} (asks : D → Command → Result Answer Refusal → D → Type 0) (copies : D → Result Copied NoMemory → D → Type 0) (leads : D → D → Type 0) : Type 0 where
+  pub asked : (d : D) (command : Command) (reply : Result Answer Refusal) (e : D) → asks d command reply e → leads d e
+  pub copied : (d : D) (copied : Result Copied NoMemory) (e : D) → copies d copied e → leads d e
 
 module _ {D : Type 0} (size_of : D → Extent) (asks : D → Command → Result Answer Refusal → D → Type 0) (copies : D → Result Copied NoMemory → D → Type 0) where
   -- these turns lead from one place to the other, whatever is written
@@ -151,3 +165,9 @@ module _ {D : Type 0} (size_of : D → Extent) (asks : D → Command → Result 
     pub serves : Serves input old end new
     pub whole : end ≡ InputEnd → IsAtEnd unread_new
     pub counted : AreReads reads input end
+
+  -- This holds between the door before a session and the door after it, for every session.
+  abbrev pub EachSession : (D → D → Type 0) → Type 0
+  EachSession leads =
+      (reads : ℕ) (unread_old unread_new : Option (List ℕ)) (old : Place D) (end : SessionEnd) (new : Place D)
+      → IsSession reads unread_old unread_new old end new → leads old.door new.door

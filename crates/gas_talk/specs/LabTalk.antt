@@ -12,6 +12,7 @@ use Rattle.gas_terms.specs.declared.refusal.Refusal.{Refusal}
 use Rattle.gas_terms.specs.declared.refusal.Refusal.TheVariants as refusals
 use Rattle.gas_snapshot.specs.Shelved.{Gains}
 use Rattle.gas_lab.specs.Copying.{copy_of, Copies}
+use Rattle.gas_lab.specs.Labs.{entry_of}
 use Rattle.gas_lab.specs.declared.door.Copied.{Copied}
 use Rattle.gas_text.specs.declared.request.Request.{Request}
 use Rattle.gas_text.specs.declared.request.Request.TheVariants.{Ask, Save, Quit}
@@ -53,7 +54,7 @@ saved item lab memory = (record { item = item; reply = Refused refusals.Memory; 
 saved item lab shelf = (record { item = item; reply = Refused refusals.Save; put = put_failed }, lab)
 
 abbrev pub requested : ℕ → Item → Laboratory → Result Request Refusal → Outcome → Turn × Laboratory
-requested seat item lab (Ok (Ask command)) outcome = answered item (told lab (record { seat = seat; command = command }) (is_memory outcome && wants_memory lab command))
+requested seat item lab (Ok (Ask command)) outcome = answered item (told lab (entry_of seat command) (is_memory outcome && wants_memory lab command))
 requested seat item lab (Ok Save) outcome = saved item lab outcome
 requested seat item lab (Ok Quit) outcome = (record { item = item; reply = Bye; put = no_put }, lab)
 requested seat item lab (Err refusal) outcome = (record { item = item; reply = Refused refusal; put = no_put }, lab)
@@ -94,7 +95,7 @@ pub record IsTalk (seat : ℕ) (unread_old unread_new : Option (List ℕ)) (old 
 -- A door of a seat whose calls are those of a laboratory that nobody else uses.
 pub record IsAlone {D : Type 0} (size_of : D → Extent) (asks : D → Command → Result Answer Refusal → D → Type 0) (copies : D → Result Copied NoMemory → D → Type 0) (lab_of : D → Laboratory) (seat_of : D → ℕ) : Type 0 where
   pub size : (d : D) → size_of d ≡ extent (lab_of d).start.particles
-  pub asked : (d : D) (command : Command) (reply : Result Answer Refusal) (e : D) → asks d command reply e → Applies (lab_of d) (record { seat = seat_of d; command = command }) reply (lab_of e) × (seat_of e ≡ seat_of d)
+  pub asked : (d : D) (command : Command) (reply : Result Answer Refusal) (e : D) → asks d command reply e → Applies (lab_of d) (entry_of (seat_of d) command) reply (lab_of e) × (seat_of e ≡ seat_of d)
   pub copied : (d : D) (copied : Result Copied NoMemory) (e : D) → copies d copied e → Copies (lab_of d) copied (lab_of e) × (seat_of e ≡ seat_of d)
 
 -- the same place, where a door stands for its laboratory

@@ -1,6 +1,6 @@
 -- Definitions that only contracts of private functions cite: what a line reader has of its input, what it finds there, and
 -- how far a session has come. Callers need not read them.
-use Rattle.std.specs.Prelude.{◌≡◌, ℕ, ◌<◌, ◌⊎◌, List, [], ◌∷◌, ◌++◌, length, map, Option, Some, None, Result, string_bytes}
+use Rattle.std.specs.Prelude.{◌≡◌, ℕ, ◌<◌, ◌⊎◌, List, [], ◌∷◌, ◌++◌, length, map, Option, Some, None, Result, Bool, IsTrue, string_bytes}
 use Rattle.std.specs.Io.KnownBytes.{Appends}
 use Rattle.std.specs.declared.alloc.AllocError.{AllocError as NoMemory}
 use Rattle.tokio_util.specs.Codec.Next.{Resumes}
@@ -41,6 +41,11 @@ IsShorter (Line line) old new = new < old
 IsShorter Bad old new = Unit {0}
 IsShorter NoRoom old new = Unit {0}
 IsShorter More old new = Unit {0}
+
+-- A part of these bytes is written, and all of them if the flag is set.
+abbrev pub WritesPart : Option (List ℕ) → Option (List ℕ) → List ℕ → Bool → Type 0
+WritesPart old new bytes whole =
+    (part : List ℕ) × (rest : List ℕ) × (bytes ≡ part ++ rest) × Appends old new part × (IsTrue whole → rest ≡ [])
 
 -- the end where the last reply is written whole, or a fault of the writer
 abbrev pub EndsWith : List ℕ → SessionEnd → SessionEnd → Type 0

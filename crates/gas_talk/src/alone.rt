@@ -4,6 +4,8 @@ ghost use Rattle.std.specs.Prelude.{◌≡◌};
 ghost use Rattle.gas_terms.specs.Cells.{extent};
 ghost use Rattle.gas_terms.specs.Laboratory.{Applies};
 ghost use Rattle.gas_lab.specs.Copying.{Copies};
+ghost use Rattle.gas_lab.specs.Labs.{entry_of};
+ghost use Rattle.gas_talk.specs.Ends.{place};
 ghost use Rattle.gas_talk.specs.LabTalk.{IsTalk};
 
 use crate::end::SessionEnd;
@@ -24,7 +26,7 @@ pub struct Alone<'a, S: Stepper> {
 impl<'a, S: Stepper> Door for Alone<'a, S> {
     ghost size_of = { λ d. extent d.lab.now.start.particles };
 
-    ghost asks = { λ d command reply e. Applies d.lab.now (record { seat = d.seat; command = command }) reply e.lab.now
+    ghost asks = { λ d command reply e. Applies d.lab.now (entry_of d.seat command) reply e.lab.now
         × (e.lab.ghost_name ≡ d.lab.ghost_name) × (e.seat ≡ d.seat) };
 
     ghost copies = { λ d copied e. Copies d.lab.now copied e.lab.now
@@ -53,9 +55,9 @@ pub fn serve_alone<R: Read, W: Write, S: Stepper, K: Shelf>(
     shelf: &mut K,
 ) -> SessionEnd
     ensures { IsTalk seat (R.remaining reader.old) (R.remaining reader.new)
-        (record { door = lab.old; written = W.contents writer.old; failures = K.failures shelf.old; shelved = K.shelved shelf.old })
+        (place W.contents K.failures K.shelved lab.old writer.old shelf.old)
         result
-        (record { door = lab.new; written = W.contents writer.new; failures = K.failures shelf.new; shelved = K.shelved shelf.new }) }
+        (place W.contents K.failures K.shelved lab.new writer.new shelf.new) }
 {
     let mut door = Alone { lab, seat };
     serve_door(alloc, reader, writer, &mut door, shelf)

@@ -15,6 +15,7 @@ pub fn journals_are_scripts()
     ensures { (lab : Laboratory) → is_size (extent lab.start.particles) ≡ true → IsSound lab
         → All (λ e. IsTyped e.command) lab.journal
         → (seat cap : ℕ) → length lab.journal ≤ cap
-        → talk seat (opening lab.start cap) (asked_by_script (extent lab.start.particles) lab.journal)
+        → talk seat (opening lab.start cap)
+        (asked_by_script (extent lab.start.particles) lab.journal)
         ≡ (taken_from 0 lab.journal, made_alone seat cap lab) }
 {}

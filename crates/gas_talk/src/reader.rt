@@ -78,8 +78,10 @@ impl LineReader {
         ensures same_count { reads.new.count.ghost_name ≡ reads.old.count.ghost_name }
         ensures left { OnOk result (reads.new.left + 1 ≡ reads.old.left) }
         ensures count { OnOk result (reads.new.count.now ≡ reads.old.count.now + 1) }
-        ensures failed { result ≡ Err ReadFault.Reader → reads.new.count.now ≡ reads.old.count.now + 1 }
-        ensures not_made { result ≡ Err ReadFault.NoMemory → reads.new.count.now ≡ reads.old.count.now }
+        ensures failed { result ≡ Err ReadFault.Reader
+            → reads.new.count.now ≡ reads.old.count.now + 1 }
+        ensures not_made { result ≡ Err ReadFault.NoMemory
+            → reads.new.count.now ≡ reads.old.count.now }
         ensures read { IfOk result (λ n. (more : List ℕ) × (length more ≡ n)
             × Consumes (R.remaining reads.old.reader.now) (R.remaining reads.new.reader.now) more
             × ((unread : List ℕ) → Keeps self.old unread → Keeps self.new (unread ++ more))) }

@@ -1,10 +1,10 @@
 //! A session: reads lines, asks each of the door, and writes each reply.
 
-ghost use Rattle.std.specs.Prelude.{◌≡◌, ◌≢◌, IfSome, ℕ, List, [], ◌+◌, ◌++◌, IsTrue};
+ghost use Rattle.std.specs.Prelude.{◌≡◌, ◌≢◌, IfSome, ℕ, List, ◌+◌, ◌++◌};
 ghost use Rattle.std.specs.Io.KnownBytes.{Appends};
 ghost use Rattle.gas_text.specs.Texts.{reply_line};
-ghost use Rattle.gas_talk.specs.Ends.{Place, IsSession};
-ghost use Rattle.gas_talk.specs.Private.{EndsWith, Progress, AnswersLines};
+ghost use Rattle.gas_talk.specs.Ends.{Place, place, IsSession};
+ghost use Rattle.gas_talk.specs.Private.{WritesPart, EndsWith, Progress, AnswersLines};
 
 use crate::end::SessionEnd;
 use crate::reader::{Found, LineReader, ReadFault};
@@ -25,8 +25,8 @@ const READS: u32 = 1 << 24;
 
 // Writes the line of a reply and flushes. Where it fails a part of the line is written.
 fn send_reply<W: Write>(writer: &mut W, reply: &Reply, page: &mut ReplyPage) -> bool
-    ensures { (part : List ℕ) × (rest : List ℕ) × (reply_line reply.now ≡ part ++ rest)
-        × Appends (W.contents writer.old) (W.contents writer.new) part × (IsTrue result → rest ≡ []) }
+    ensures { let line = reply_line reply.now in
+        WritesPart (W.contents writer.old) (W.contents writer.new) line result }
 {
     reply_text(reply, page);
     send(writer, page.text())
@@ -61,9 +61,9 @@ fn answer_lines<W: Write, D: Door, K: Shelf>(
 ) -> Option<SessionEnd>
     ensures answered { (input : List ℕ) (from : Place _)
         → Progress D.size_of D.asks D.copies input from lines.old
-        (record { door = door.old; written = W.contents writer.old; failures = K.failures shelf.old; shelved = K.shelved shelf.old })
+        (place W.contents K.failures K.shelved door.old writer.old shelf.old)
         → AnswersLines D.size_of D.asks D.copies input from result lines.new
-        (record { door = door.new; written = W.contents writer.new; failures = K.failures shelf.new; shelved = K.shelved shelf.new }) }
+        (place W.contents K.failures K.shelved door.new writer.new shelf.new) }
     ensures end { IfSome result (λ end. end ≢ SessionEnd.InputEnd) }
     ensures in_time { IfSome result (λ end. end ≢ SessionEnd.TooManyReads) }
     ensures no_fault { IfSome result (λ end. end ≢ SessionEnd.ReadFault) }
@@ -101,10 +101,11 @@ pub fn session<R: Read, W: Write, D: Door, K: Shelf, L: Ledger>(
     count: &mut ReadCount<L>,
 ) -> SessionEnd
     ensures { (reads : ℕ) × (count.new ≡ count.old + reads)
-        × IsSession D.size_of D.asks D.copies reads (R.remaining reader.old) (R.remaining reader.new)
-        (record { door = door.old; written = W.contents writer.old; failures = K.failures shelf.old; shelved = K.shelved shelf.old })
+        × IsSession D.size_of D.asks D.copies reads
+        (R.remaining reader.old) (R.remaining reader.new)
+        (place W.contents K.failures K.shelved door.old writer.old shelf.old)
         result
-        (record { door = door.new; written = W.contents writer.new; failures = K.failures shelf.new; shelved = K.shelved shelf.new }) }
+        (place W.contents K.failures K.shelved door.new writer.new shelf.new) }
 {
     let mut reads = SessionReads::new(reader, READS, count);
     let mut lines = LineReader::new(alloc);
@@ -138,10 +139,11 @@ fn serve_counted<R: Read, W: Write, D: Door, K: Shelf, L: Ledger>(
     requires name { blank.name ≡ L.name }
     requires parts { (blank.parts ≡ L.parts) × (blank.parts ≡ 1) }
     ensures { (reads : ℕ)
-        × IsSession D.size_of D.asks D.copies reads (R.remaining reader.old) (R.remaining reader.new)
-        (record { door = door.old; written = W.contents writer.old; failures = K.failures shelf.old; shelved = K.shelved shelf.old })
+        × IsSession D.size_of D.asks D.copies reads
+        (R.remaining reader.old) (R.remaining reader.new)
+        (place W.contents K.failures K.shelved door.old writer.old shelf.old)
         result
-        (record { door = door.new; written = W.contents writer.new; failures = K.failures shelf.new; shelved = K.shelved shelf.new }) }
+        (place W.contents K.failures K.shelved door.new writer.new shelf.new) }
 {
     let mut count = ReadCount::<L>::new(blank);
     session(alloc, reader, writer, door, shelf, &mut count)
@@ -156,10 +158,11 @@ pub fn serve_door<R: Read, W: Write, D: Door, K: Shelf>(
     shelf: &mut K,
 ) -> SessionEnd
     ensures { (reads : ℕ)
-        × IsSession D.size_of D.asks D.copies reads (R.remaining reader.old) (R.remaining reader.new)
-        (record { door = door.old; written = W.contents writer.old; failures = K.failures shelf.old; shelved = K.shelved shelf.old })
+        × IsSession D.size_of D.asks D.copies reads
+        (R.remaining reader.old) (R.remaining reader.new)
+        (place W.contents K.failures K.shelved door.old writer.old shelf.old)
         result
-        (record { door = door.new; written = W.contents writer.new; failures = K.failures shelf.new; shelved = K.shelved shelf.new }) }
+        (place W.contents K.failures K.shelved door.new writer.new shelf.new) }
 {
     serve_counted::<R, W, D, K, Brand>(alloc, reader, writer, door, shelf, Blank::new(1))
 }

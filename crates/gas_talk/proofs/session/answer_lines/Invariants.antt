@@ -1,6 +1,6 @@
 use Rattle.std.proofs.Common.{ℕ, List}
 use Rattle.gas_talk.specs.Private.{kept_len, Progress}
-use Rattle.gas_talk.specs.Ends.{Place}
+use Rattle.gas_talk.specs.Ends.{Place, place}
 use Rattle.gas_talk.proofs.session.answer_lines.Given as goal
 
 -- what was progress at the call is so still
@@ -8,9 +8,9 @@ abbrev pub invariant-lines : goal.invariant-lines
 invariant-lines g l =
     (input : List ℕ) (from : Place _)
     → Progress g.D.Door.size_of g.D.Door.asks g.D.Door.copies input from l.fn.lines
-    (record { door = l.fn.door; written = g.W.Write.contents l.fn.writer; failures = g.K.Shelf.failures l.fn.shelf; shelved = g.K.Shelf.shelved l.fn.shelf })
+    (place g.W.Write.contents g.K.Shelf.failures g.K.Shelf.shelved l.fn.door l.fn.writer l.fn.shelf)
     → Progress g.D.Door.size_of g.D.Door.asks g.D.Door.copies input from l.lines
-    (record { door = l.door; written = g.W.Write.contents l.writer; failures = g.K.Shelf.failures l.shelf; shelved = g.K.Shelf.shelved l.shelf })
+    (place g.W.Write.contents g.K.Shelf.failures g.K.Shelf.shelved l.door l.writer l.shelf)
 
 abbrev pub decreases-lines : goal.decreases-lines
 decreases-lines g l = kept_len l.lines

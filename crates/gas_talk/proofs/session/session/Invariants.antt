@@ -1,5 +1,6 @@
 use Rattle.std.proofs.Common.{◌≡◌, ℕ, ◌+◌, List, None}
 use Rattle.std.specs.Io.KnownBytes.{Consumes}
+use Rattle.gas_talk.specs.Ends.{place}
 use Rattle.gas_talk.specs.Private.{AnswersLines}
 use Rattle.gas_talk.proofs.Counting.{Counts}
 use Rattle.gas_talk.proofs.session.session.Given as goal
@@ -9,9 +10,9 @@ abbrev pub invariant-loop-reads : goal.invariant-loop-reads
 invariant-loop-reads g l =
     (input : List ℕ) × Consumes (g.R.Read.remaining l.fn.reader) (g.R.Read.remaining l.reads.reader.now) input
     × AnswersLines g.D.Door.size_of g.D.Door.asks g.D.Door.copies input
-    (record { door = l.fn.door; written = g.W.Write.contents l.fn.writer; failures = g.K.Shelf.failures l.fn.shelf; shelved = g.K.Shelf.shelved l.fn.shelf })
+    (place g.W.Write.contents g.K.Shelf.failures g.K.Shelf.shelved l.fn.door l.fn.writer l.fn.shelf)
     None l.lines
-    (record { door = l.door; written = g.W.Write.contents l.writer; failures = g.K.Shelf.failures l.shelf; shelved = g.K.Shelf.shelved l.shelf })
+    (place g.W.Write.contents g.K.Shelf.failures g.K.Shelf.shelved l.door l.writer l.shelf)
     × (count : ℕ) × Counts count l.reads.left input × (l.reads.reader.ghost_name ≡ l.initial.reads.reader.ghost_name)
     × (l.reads.count.now ≡ l.fn.count + count) × (l.reads.count.ghost_name ≡ l.initial.reads.count.ghost_name)
 
