@@ -1,10 +1,11 @@
 //! Serves a laboratory: opens a hall over it, serves the hall, and counts the entries of all seats.
 
-ghost use Rattle.std.specs.Prelude.{◌≡◌, ℕ, ◌+◌, ◌<◌, ◌≤◌, [], All, IfSome, Some, length, slice_get, vec_len};
+ghost use Rattle.std.specs.Prelude.{◌≡◌, ℕ, ◌+◌, ◌<◌, ◌≤◌, [], All, IfSome, Some, slice_get, vec_len};
 ghost use Rattle.gas_terms.specs.Gas.{Gas};
+ghost use Rattle.gas_seats.specs.Seats.{most_seats};
 ghost use Rattle.gas_seats.specs.TurnSeats.{SeatView, made_in_all};
 
-use crate::serving::{Lobby, TurnServed, serve_turn};
+use crate::serving::{Lobby, Served, serve_turn};
 use gas_lab::{Door, Lab, Stepper};
 use gas_seats::{TurnHall, TurnNote, TurnSeat};
 use gas_snapshot::Shelf;
@@ -33,7 +34,7 @@ fn note_of<S: Stepper, R>(rt: &R, hall: &TurnHall<S>, seat: TurnSeat<S>) -> Turn
 // that it then finds at its turn begins with what each has seen.
 fn made_by_all<S: Stepper, R: Wait>(rt: &R, hall: &TurnHall<S>, seats: Vec<TurnSeat<S>>) -> u32
     requires some { 0 < vec_len seats }
-    requires few { vec_len seats ≤ 64 }
+    requires few { vec_len seats ≤ most_seats }
     requires here { All (λ seat. seat.hall ≡ hall.now) seats.items }
     requires numbers { (i : ℕ) (seat : SeatView)
         → slice_get seats.items i ≡ Some seat → seat.number ≡ i }
@@ -66,7 +67,7 @@ pub fn serve_lab<S: Stepper + Send, L: Lobby, K: Shelf + Drop + Send, R: Threads
     lobby: &mut L,
     shelves: Vec<K>,
 ) -> Option<Counts>
-    requires shelves { (0 < vec_len shelves) × (vec_len shelves ≤ 64) }
+    requires shelves { (0 < vec_len shelves) × (vec_len shelves ≤ most_seats) }
     requires lab { lab.journal ≡ [] }
     ensures seats { IfSome result (λ counts. counts.done + counts.failed ≡ vec_len shelves) }
     ensures entries { IfSome result (λ counts. counts.entries ≤ lab.cap) }
@@ -75,7 +76,7 @@ pub fn serve_lab<S: Stepper + Send, L: Lobby, K: Shelf + Drop + Send, R: Threads
     let Ok((hall, seats)) = TurnHall::open(alloc, lab, count) else {
         return None;
     };
-    let TurnServed {
+    let Served {
         done,
         failed,
         entries: _,

@@ -14,5 +14,5 @@ pub use gas_seats::{
     TurnSeat,
 };
 pub use hosting::{Counts, serve_lab};
-pub use serving::{AcceptFault, Lobby, Served, TurnServed, serve, serve_turn};
+pub use serving::{AcceptFault, Lobby, Served, serve, serve_turn};
 pub use tcp::TcpLobby;

@@ -4,7 +4,7 @@ ghost use Rattle.std.specs.Prelude.{◌≡◌, ℕ, ◌+◌, ◌≤◌, ⊤, Lis
 ghost use Rattle.std.specs.List.{sum_by};
 ghost use Rattle.gas_terms.specs.Laboratory.{most_entries, IsPrefix};
 ghost use Rattle.gas_terms.specs.declared.command.Entry.{Entry};
-ghost use Rattle.gas_seats.specs.Seats.{Seat, numbers};
+ghost use Rattle.gas_seats.specs.Seats.{Seat, most_seats, numbers};
 ghost use Rattle.gas_seats.specs.TurnSeats.{SeatView, but_for_seen, entries_made, made_in_all};
 
 use gas_lab::Stepper;
@@ -19,9 +19,11 @@ use std::sync::Wait;
 use std::sync::atomic::{AtomicU32, Ordering};
 use std::thread;
 use std::thread::{Promise, PromisedHandle, Scope, Threads};
+use thiserror::Error;
 
 /// No session came.
-#[derive(Clone, Copy, Debug, PartialEq, Eq)]
+#[derive(Clone, Copy, Debug, PartialEq, Eq, Error)]
+#[error("no session came")]
 pub struct AcceptFault;
 
 /// Where sessions come from.
@@ -161,20 +163,11 @@ impl<S: Stepper, R: Wait> Seating<TurnSeat<S>, R> for TurnHall<S> {
 
 /// How many seats were served and how many were not, the entries that all of them made, and the seats in their order.
 #[derive(Drop)]
-pub struct Served<N: HallName> {
+pub struct Served<T> {
     pub done: u32,
     pub failed: u32,
     pub entries: u32,
-    pub seats: Vec<HallSeat<N>>,
-}
-
-/// The same of a hall whose seats take turns.
-#[derive(Drop)]
-pub struct TurnServed<S: Stepper> {
-    pub done: u32,
-    pub failed: u32,
-    pub entries: u32,
-    pub seats: Vec<TurnSeat<S>>,
+    pub seats: Vec<T>,
 }
 
 /// The seat that a thread hands back is this one, but for what its session changed.
@@ -185,7 +178,8 @@ struct SeatKept<H, T, R> {
 }
 
 impl<T, R, H: Seating<T, R>> Promise<T> for SeatKept<H, T, R> {
-    ghost kept_by = { λ p seat. (H.kept seat ≡ H.kept p.seat.value) × IsPrefix (H.seen p.seat.value) (H.seen seat) };
+    ghost kept_by = { λ p seat. (H.kept seat ≡ H.kept p.seat.value)
+        × IsPrefix (H.seen p.seat.value) (H.seen seat) };
 }
 
 // What a session's thread does. It serves nobody if the thread was refused.
@@ -296,7 +290,7 @@ where
     L::R: 's,
     L::W: 's,
     K: 's,
-    requires few { vec_len seats.old ≤ 64 }
+    requires few { vec_len seats.old ≤ most_seats }
     requires shelves { vec_len shelves.old ≡ vec_len seats.old }
     requires here { All (λ seat. H.has house.now.hall.now (H.kept seat)) seats.old.items }
     ensures done { result ≤ vec_len seats.old }
@@ -339,7 +333,7 @@ where
 
 // The entries that the seats count.
 fn entries_of<T, R, H: Seating<T, R>>(seats: &[T]) -> u32
-    requires { length seats.now ≤ 64 }
+    requires { length seats.now ≤ most_seats }
     ensures { result ≡ sum_by H.made seats.now }
 {
     let mut total = 0;
@@ -349,13 +343,6 @@ fn entries_of<T, R, H: Seating<T, R>>(seats: &[T]) -> u32
     total
 }
 
-// how many seats were served, the entries that all of them made, and the seats in their order
-struct SeatsServed<T> {
-    done: u32,
-    entries: u32,
-    seats: Vec<T>,
-}
-
 // Serves each seat once.
 fn serve_seats<
     T: Drop + Send,
@@ -363,17 +350,18 @@ fn serve_seats<
     H: Seating<T, R> + Sync,
     L: Lobby,
     K: Shelf + Drop + Send,
->(rt: &R, alloc: Global, lobby: &mut L, hall: &H, seats: Vec<T>, shelves: Vec<K>) -> SeatsServed<T>
-    requires few { vec_len seats ≤ 64 }
+>(rt: &R, alloc: Global, lobby: &mut L, hall: &H, seats: Vec<T>, shelves: Vec<K>) -> Served<T>
+    requires few { vec_len seats ≤ most_seats }
     requires shelves { vec_len shelves ≡ vec_len seats }
     requires here { All (λ seat. H.has hall.now (H.kept seat)) seats.items }
-    ensures done { result.done ≤ vec_len seats }
+    ensures count { result.done + result.failed ≡ vec_len seats }
     ensures all { vec_len result.seats ≡ vec_len seats }
     ensures seats { map H.kept result.seats.items ≡ map H.kept seats.items }
     ensures seen { (i : ℕ) (old new : T) → slice_get seats.items i ≡ Some old
         → slice_get result.seats.items i ≡ Some new → IsPrefix (H.seen old) (H.seen new) }
     ensures entries { result.entries ≡ sum_by H.made result.seats.items }
 {
+    let count = seats.len() as u32;
     let refused = AtomicU32::new(u32::MAX);
     let flag = &refused;
     let mut seats = seats;
@@ -384,7 +372,7 @@ fn serve_seats<
         thread::scope_env(),
         rt,
         move |scope| -> (u32, Vec<T>)
-            requires few { vec_len seats ≤ 64 }
+            requires few { vec_len seats ≤ most_seats }
             requires shelves { vec_len shelves ≡ vec_len seats }
             requires here { All (λ seat. H.has hall.now (H.kept seat)) seats.items }
             ensures done { result.0 ≤ vec_len seats }
@@ -406,8 +394,9 @@ fn serve_seats<
         },
     );
     seats.reverse();
-    SeatsServed {
+    Served {
         done,
+        failed: count - done,
         entries: entries_of::<T, R, H>(seats.as_slice()),
         seats,
     }
@@ -430,26 +419,15 @@ pub fn serve<
     hall: &Hall<N, S, G>,
     seats: Vec<HallSeat<N>>,
     shelves: Vec<K>,
-) -> Served<N>
-    requires few { vec_len seats ≤ 64 }
+) -> Served<HallSeat<N>>
+    requires few { vec_len seats ≤ most_seats }
     requires shelves { vec_len shelves ≡ vec_len seats }
     ensures count { result.done + result.failed ≡ vec_len seats }
     ensures all { vec_len result.seats ≡ vec_len seats }
     ensures seats { numbers result.seats.items ≡ numbers seats.items }
     ensures entries { result.entries ≡ sum_by (λ seat. seat.entries) result.seats.items }
 {
-    let count = seats.len() as u32;
-    let SeatsServed {
-        done,
-        entries,
-        seats,
-    } = serve_seats(rt, alloc, lobby, hall, seats, shelves);
-    Served {
-        done,
-        failed: count - done,
-        entries,
-        seats,
-    }
+    serve_seats(rt, alloc, lobby, hall, seats, shelves)
 }
 
 /// Serves each seat of a hall that takes turns, as `serve` does. Each seat comes back as it was, but for what it has seen,
@@ -461,8 +439,8 @@ pub fn serve_turn<S: Stepper + Send, L: Lobby, K: Shelf + Drop + Send, R: Thread
     hall: &TurnHall<S>,
     seats: Vec<TurnSeat<S>>,
     shelves: Vec<K>,
-) -> TurnServed<S>
-    requires few { vec_len seats ≤ 64 }
+) -> Served<TurnSeat<S>>
+    requires few { vec_len seats ≤ most_seats }
     requires shelves { vec_len shelves ≡ vec_len seats }
     requires here { All (λ seat. seat.hall ≡ hall.now) seats.items }
     ensures count { result.done + result.failed ≡ vec_len seats }
@@ -473,16 +451,5 @@ pub fn serve_turn<S: Stepper + Send, L: Lobby, K: Shelf + Drop + Send, R: Thread
     ensures here { All (λ seat. seat.hall ≡ hall.now) result.seats.items }
     ensures entries { result.entries ≡ made_in_all result.seats.items }
 {
-    let count = seats.len() as u32;
-    let SeatsServed {
-        done,
-        entries,
-        seats,
-    } = serve_seats(rt, alloc, lobby, hall, seats, shelves);
-    TurnServed {
-        done,
-        failed: count - done,
-        entries,
-        seats,
-    }
+    serve_seats(rt, alloc, lobby, hall, seats, shelves)
 }

@@ -4,7 +4,7 @@ ghost use Rattle.std.specs.Prelude.{◌≡◌, ◌<◌, ◌≤◌, All, vec_len}
 
 use crate::expected::expect_that;
 use crate::values::{counted, counters, no_puts, small_lab};
-use gas_hall::{Lobby, TurnHall, TurnSeat, TurnServed, serve_turn};
+use gas_hall::{Lobby, Served, TurnHall, TurnSeat, serve_turn};
 use gas_lab::Serial;
 use std::process::Abort;
 use std::sync::Wait;
@@ -57,7 +57,7 @@ pub fn serve_in_turn<L: Lobby, R: Threads + Wait + Sync + Abort + AllocGlobal>(
     expect_that(&rt, !shelves.is_empty());
     expect_that(&rt, shelves.len() <= 3);
     let (hall, seats) = open_hall(rt, shelves.len() as u16);
-    let TurnServed {
+    let Served {
         done,
         failed,
         entries,

@@ -5,4 +5,4 @@ use Rattle.gas_hall.proofs.serving.serve.Goals as goal
 
 pub returns-clause-seats : goal.returns-clause-seats
 returns-clause-seats g c =
-    same_through (λ (s : Seat). s.number) (λ (s : Seat). record s { entries = 0 }) (λ s. refl) _ _ c.serve_seats-done.ensures.seats
+    same_through (λ (s : Seat). s.number) (λ (s : Seat). record s { entries = 0 }) (λ s. refl) _ _ c.serve_seats.ensures.seats

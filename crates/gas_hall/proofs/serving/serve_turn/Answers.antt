@@ -5,4 +5,4 @@ use Rattle.gas_hall.proofs.serving.serve_turn.Goals as goal
 
 pub returns-clause-here : goal.returns-clause-here
 returns-clause-here g c =
-    all_same (λ (s : SeatView). s.hall) _ _ _ (same_through (λ (s : SeatView). s.hall) but_for_seen (λ s. refl) _ _ c.serve_seats-done.ensures.seats) c.requires.here
+    all_same (λ (s : SeatView). s.hall) _ _ _ (same_through (λ (s : SeatView). s.hall) but_for_seen (λ s. refl) _ _ c.serve_seats.ensures.seats) c.requires.here
