@@ -39,9 +39,6 @@ count_below-suc n test =
     ap (count_by test) (range-suc 0 n)
     ∙ (sum_by_push (λ x. cond (test x) 1 0) (range_with_len 0 n) (0 + n) ∙ ap (λ m. count_by test (range_with_len 0 n) + (if test m then 1 else 0)) (zero-add n))
 
-pub count_below-more : (n : ℕ) (test : ℕ → Bool) → count_below (n + 1) test ≡ count_below n test + (if test n then 1 else 0)
-count_below-more n test = rw add-one (count_below-suc n test)
-
 pub sum_below-same : (n : ℕ) (f g : ℕ → ℕ) → ((k : ℕ) → k < n → f k ≡ g k) → sum_below n f ≡ sum_below n g
 sum_below-same zero f g same = sum_below-zero f ∙ sym (sum_below-zero g)
 sum_below-same (suc n) f g same =

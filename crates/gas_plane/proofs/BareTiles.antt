@@ -1,18 +1,18 @@
 -- Marks of tiles that have no cell.
 use Rattle.std.proofs.Common.{◌≡◌, ℕ, ◌+◌, ◌-◌, ◌*◌, ◌/◌, ◌%◌, ◌<◌, ◌≤◌, ◌&&◌, Bool, true, false, IsTrue, List, length, set, replicate, sym, ◌∙◌, ap, ap₂, subst, arith, inl, inr, get_or-set_other, get_or-set_same, length-set, mul_assoc}
 use Rattle.std.proofs.lemmas.List.{get_or-replicate, get_or_past, get_or_default, length-replicate}
-use Rattle.std.proofs.lemmas.Nat.{mod-mul-add, div-mul-add, div-add-mod', row-Below}
+use Rattle.std.proofs.lemmas.Nat.{mod-mul-add, div-mul-add, div-add-mod'}
 use Rattle.std.proofs.Math.Nat.{mod-lt}
 use Rattle.std.proofs.lemmas.Bool.{cases_eq, cases_lt}
 use Rattle.bit_tile.specs.Tile.{HasCells}
 use Rattle.bit_tile.specs.declared.Tile.{Tile}
-use Rattle.gas_terms.specs.Cells.{Cells, Extent, extent, has, tile_count, is_size}
+use Rattle.gas_terms.specs.Cells.{Cells, Extent, has, tile_count, is_size}
 use Rattle.gas_plane.specs.Tiles.{no_cells, tile_at, IsMarked, Cover}
 use Rattle.gas_plane.specs.Marks.{mark_at, IsMarkOf}
 use Rattle.gas_plane.specs.declared.marks.Mark.{Mark}
 use Rattle.gas_plane.specs.declared.marks.Mark.TheVariants.{Bare, Lent}
 use Rattle.gas_plane.specs.Planes.{IsTileFrom, IsBare, IsBareRound, IsBareFarRound, AreThreeBare, HasNone, place_by}
-use Rattle.gas_plane.proofs.Places.{IsWholeTiles, wide, high, ring_before, ring_after, ring_in, ring_cases, cell_below}
+use Rattle.gas_plane.proofs.Places.{IsWholeTiles, ring_before, ring_after, ring_in, ring_cases, cell_below}
 use Rattle.gas_plane.proofs.Tilings.{tiled, tile_is, tile_there, set_covers, nothing_there}
 
 -- what is put in the place of tile i, with a mark of its own
@@ -84,20 +84,8 @@ one_more_bare cells n before bare k low =
       | inr other ↦ before k (omega arith)
     ]
 
--- and the other way round
-pub bare_in_none : (cells : Cells) (i : ℕ) → is_size (extent cells) ≡ true → i < tile_count cells → HasNone cells → IsBare cells (i % (cells.width / 64) * 64) (i / (cells.width / 64) * 64)
-bare_in_none cells i sized within none =
-    let across = wide (extent cells) sized in
-    let down = high (extent cells) sized in
-    let column : i % (cells.width / 64) < cells.width / 64 = mod-lt i across.some in
-    let row : i / (cells.width / 64) < cells.height / 64 = (row-Below i (cells.width / 64) (cells.width / 64) (cells.height / 64) within (omega arith)).1 in
-    record { cell = λ x y p q. none.cell _ _ (cell_below cells.width _ x across column p) (cell_below cells.height _ y down row q) }
-
 pub is_true : (b : Bool) → b ≡ true → IsTrue b
 is_true b e = grind arith
-
-pub true_is : (b : Bool) → IsTrue b → b ≡ true
-true_is b h = grind arith
 
 stays : (n k : ℕ) → k < n → k % n ≡ k
 stays n k less = let e : k ≡ 0 * n + k = omega arith in ap (λ m. m % n) e ∙ mod-mul-add 0 n k less

@@ -41,12 +41,6 @@ tiled_from tiles size column row cover p q =
 tile_place : (tiles : List Tile) (size : Extent) (column row : ℕ) → Cover tiles size → column < size.width / 64 → row < size.height / 64 → row * (size.width / 64) + column < length tiles
 tile_place tiles size column row cover p q = omega (arith, cover.enough, mul-add-lt row (size.width / 64) column (size.height / 64) q p)
 
-pub place_within : (tiles : List Tile) (size : Extent) (cells : Cells) (column row w : ℕ) → Cover tiles size → tiled tiles size ≡ cells → column < cells.width / 64 → row < cells.height / 64 → w ≡ size.width → row * (w / 64) + column < length tiles
-place_within tiles size cells column row w cover e p q same =
-    let a : column < size.width / 64 = rw (ap (λ (c : Cells). c.width) e) p in
-    let b : row < size.height / 64 = rw (ap (λ (c : Cells). c.height) e) q in
-    rw same (tile_place tiles size column row cover a b)
-
 -- the tile that is read at a place
 pub tile_read : (tiles : List Tile) (size : Extent) (cells : Cells) (column row w : ℕ) (t : Tile) → Cover tiles size → tiled tiles size ≡ cells → column < cells.width / 64 → row < cells.height / 64 → w ≡ size.width → t ≡ get_or tiles (row * (w / 64) + column) t → IsTileFrom t cells (column * 64) (row * 64)
 tile_read tiles size cells column row w t cover e p q same read =

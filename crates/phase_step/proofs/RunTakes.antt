@@ -1,7 +1,6 @@
 -- What tiles take, in one phase and in many.
 use Rattle.std.proofs.Common.{◌≡◌, ℕ, zero, suc, ◌+◌, ◌-◌, ◌*◌, ◌/◌, ◌%◌, ◌<◌, ◌≤◌, ◌^◌, ◌⊎◌, inl, inr, true, ℤ, pos, ◌+ℤ◌, ◌*ℤ◌, nat_abs, w64, FitsSigned, refl, sym, ap, ap₂, ◌∙◌, subst, arith, add-one}
 use Rattle.std.proofs.lemmas.Int.{ints}
-use Rattle.std.proofs.lemmas.Nat.{mul-le}
 use Rattle.gas_terms.specs.Cells.{Cells, HasSidesOf, joined, extent, is_size, tile_count, tile_rectangle}
 use Rattle.gas_terms.specs.Gas.{streamed, takes_for_walls, takes_for_obstacles}
 use Rattle.gas_terms.specs.Velocity.{parity}
@@ -163,40 +162,6 @@ run_all p w o c (suc k) sized =
     ap₂ took_plus (run_all p w o c k sized)
     (ap (tiles_take (parity_at p k) now w o 0) (sym (count_after p (joined w o) c k)) ∙ all_take (parity_at p k) now w o (two (p + k)) (sized_after p (joined w o) c k sized))
 
--- one phase more
-pub after_next : (p q k : ℕ) (solid c now next : Cells) → now ≡ after p solid c k → q ≡ parity_at p k → next ≡ streamed q now solid → next ≡ after p solid c (k + 1)
-after_next p q k solid c now next so_far e step =
-    step ∙ (ap₂ (λ q (now : Cells). streamed q now solid) e so_far ∙ ap (after p solid c) (sym (add-one k)))
-
-pub takes_next : (p q k : ℕ) (w o c now : Cells) (took here : Took) → now ≡ after p (joined w o) c k → q ≡ parity_at p k → took ≡ run_takes p w o c k → here ≡ taken q now w o
-    → took_plus took here ≡ run_takes p w o c (k + 1)
-takes_next p q k w o c now took here so_far e taken_before step =
-    ap₂ took_plus taken_before (step ∙ ap₂ (λ q (now : Cells). taken q now w o) e so_far) ∙ ap (run_takes p w o c) (sym (add-one k))
-
-pub takes_fit : (p q k : ℕ) (w o c now : Cells) (took here : Took) → now ≡ after p (joined w o) c k → q ≡ parity_at p k → took ≡ run_takes p w o c k → here ≡ taken q now w o
-    → k < 65536 → is_size (extent c) ≡ true → tile_count c ≤ 4096 → TakenFits (pair_plus took.walls here.walls) × TakenFits (pair_plus took.obstacles here.obstacles)
-takes_fit p q k w o c now took here so_far e taken_before step few sized tiles =
-    let there = after p (joined w o) c k in
-    let tiles' : tile_count there ≤ 4096 = let n = count_after p (joined w o) c k in omega arith in
-    within_fits took here (2 ^ 26 * k) (2 ^ 26) (subst (IsWithin (2 ^ 26 * k)) (sym taken_before) (run_takes_within p w o c k sized tiles))
-    (subst (IsWithin (2 ^ 26)) (sym (step ∙ ap₂ (λ q (now : Cells). taken q now w o) e so_far)) (taken_within (parity_at p k) there w o (two (p + k)) (sized_after p (joined w o) c k sized) tiles'))
-    (omega arith)
-
--- the same of tiles
-pub tiles_next : (p q k : ℕ) (w o c now : Cells) (first n : ℕ) (took here : Took) → now ≡ after p (joined w o) c k → q ≡ parity_at p k → took ≡ tiles_take_in_run p w o c first n k → here ≡ tiles_take q now w o first n
-    → took_plus took here ≡ tiles_take_in_run p w o c first n (k + 1)
-tiles_next p q k w o c now first n took here so_far e taken_before step =
-    ap₂ took_plus taken_before (step ∙ ap₂ (λ q (now : Cells). tiles_take q now w o first n) e so_far) ∙ ap (tiles_take_in_run p w o c first n) (sym (add-one k))
-
-pub tiles_fit : (p q k : ℕ) (w o c now : Cells) (first n : ℕ) (took here : Took) → now ≡ after p (joined w o) c k → q ≡ parity_at p k → took ≡ tiles_take_in_run p w o c first n k → here ≡ tiles_take q now w o first n
-    → k < 65536 → n ≤ 4096 → TakenFits (pair_plus took.walls here.walls) × TakenFits (pair_plus took.obstacles here.obstacles)
-tiles_fit p q k w o c now first n took here so_far e taken_before step few tiles =
-    let there = after p (joined w o) c k in
-    let most : 16384 * n * k ≤ 2 ^ 42 = let a : 16384 * n ≤ 2 ^ 26 = omega arith in let b : k ≤ 2 ^ 16 = omega arith in mul-le (16384 * n) k (2 ^ 26) (2 ^ 16) a b in
-    within_fits took here (16384 * n * k) (16384 * n) (subst (IsWithin (16384 * n * k)) (sym taken_before) (run_within p w o c first n k))
-    (subst (IsWithin (16384 * n)) (sym (step ∙ ap₂ (λ q (now : Cells). tiles_take q now w o first n) e so_far)) (tiles_within (parity_at p k) there w o first n))
-    (omega arith)
-
 -- what has the sides of the start has those of the particles now
 pub sides_as : (p : ℕ) (solid c now other : Cells) (k : ℕ) → now ≡ after p solid c k → HasSidesOf other c → HasSidesOf other now
 sides_as p solid c now other k e same =
@@ -205,19 +170,6 @@ sides_as p solid c now other k e same =
       wide = same.wide ∙ sym (ap (λ (c : Cells). c.width) e ∙ there.wide);
       high = same.high ∙ sym (ap (λ (c : Cells). c.height) e ∙ there.high);
     }
-
--- the own tiles of a strip, by its sides at the start
-pub own_as : (p : ℕ) (solid c now w o : Cells) (k q : ℕ) (here : Took) → now ≡ after p solid c k
-    → here ≡ tiles_take q now w o (now.width / 64) (tile_count now - 2 * (now.width / 64)) → here ≡ tiles_take q now w o (c.width / 64) (tile_count c - 2 * (c.width / 64))
-own_as p solid c now w o k q here e took =
-    let there = sides_after p solid c k in
-    let wide : now.width ≡ c.width = ap (λ (c : Cells). c.width) e ∙ there.wide in
-    let high : now.height ≡ c.height = ap (λ (c : Cells). c.height) e ∙ there.high in
-    took ∙ ap₂ (λ a b. tiles_take q now w o (a / 64) (a / 64 * (b / 64) - 2 * (a / 64))) wide high
-
-pub rows_as : (p : ℕ) (solid c now : Cells) (k : ℕ) → now ≡ after p solid c k → 2 ≤ c.height / 64 → 2 ≤ now.height / 64
-rows_as p solid c now k e rows =
-    subst (λ h. 2 ≤ h / 64) (sym (ap (λ (c : Cells). c.height) e ∙ (sides_after p solid c k).high)) rows
 
 -- a strip's own tiles one after another
 pub own_more : (p : ℕ) (c w o : Cells) (across end i : ℕ) (took here : Took) → across ≤ i → i < end → took ≡ tiles_take p c w o across (i - across - (i - end)) → here ≡ taken_in (pos p) c w o (tile_rectangle c i)
@@ -258,16 +210,6 @@ takes_parts p w o c m (suc n) =
     ap (run_takes p w o c) (let e : m + suc n ≡ suc (m + n) = omega arith in e)
     ∙ (ap₂ took_plus (takes_parts p w o c m n) (ap₂ (λ q (now : Cells). taken q now w o) (parity_parts p m n) (after_parts p (joined w o) c m n))
     ∙ regrouped (run_takes p w o c m) (run_takes (parity_at p m) w o (after p (joined w o) c m) n) (taken (parity_at (parity_at p m) n) (after (parity_at p m) (joined w o) (after p (joined w o) c m) n) w o))
-
--- the next part of a run
-pub part_after : (p q m n : ℕ) (solid c now next : Cells) → now ≡ after p solid c m → q ≡ parity_at p m → next ≡ after q solid now n → next ≡ after p solid c (m + n)
-part_after p q m n solid c now next so_far e step =
-    step ∙ (ap₂ (λ q (now : Cells). after q solid now n) e so_far ∙ sym (after_parts p solid c m n))
-
-pub part_takes : (p q m n : ℕ) (w o c now : Cells) (took here : Took) → now ≡ after p (joined w o) c m → q ≡ parity_at p m → took ≡ run_takes p w o c m → here ≡ run_takes q w o now n
-    → took_plus took here ≡ run_takes p w o c (m + n)
-part_takes p q m n w o c now took here so_far e before step =
-    ap₂ took_plus before (step ∙ ap₂ (λ q (now : Cells). run_takes q w o now n) e so_far) ∙ sym (takes_parts p w o c m n)
 
 pub part_fits : (p q m n : ℕ) (w o c now : Cells) (took here : Took) → now ≡ after p (joined w o) c m → q ≡ parity_at p m → took ≡ run_takes p w o c m → here ≡ run_takes q w o now n
     → m ≤ 65535 → n ≤ 65535 → is_size (extent c) ≡ true → tile_count c ≤ 4096 → TakenFits (pair_plus took.walls here.walls) × TakenFits (pair_plus took.obstacles here.obstacles)

@@ -6,7 +6,7 @@ use Rattle.std.proofs.lemmas.List.Sums.{fold-append}
 use Rattle.gas_terms.specs.Velocity.{parity, sign}
 use Rattle.gas_terms.specs.Cells.{Cells, Rectangle, HasEvenSides, extent, is_size, tile_count, tile_rectangle}
 use Rattle.gas_terms.specs.Gas.{takes_for_walls, takes_for_obstacles}
-use Rattle.gas_terms.specs.Accounts.{nothing, plus, plus_all, pair_plus, took_plus, twice_momentum, total_in, stopped, sums_by_parity, parity_count, total, taken, TakenFits}
+use Rattle.gas_terms.specs.Accounts.{nothing, plus, plus_all, pair_plus, took_plus, twice_momentum, total_in, stopped, sums_by_parity, parity_count, total, taken}
 use Rattle.gas_terms.specs.declared.accounts.Sums.{Sums}
 use Rattle.gas_terms.specs.declared.accounts.Pair.{Pair}
 use Rattle.gas_terms.specs.declared.accounts.Took.{Took}
@@ -103,23 +103,6 @@ small_tile tick cells i counts by_parity =
 
 fits : (z : ℤ) → nat_abs z ≤ 2 ^ 26 → FitsSigned w64 z
 fits z h = omega (arith, ints)
-
-twice_small : (z : ℤ) (k n : ℕ) → nat_abs z ≤ 8192 * n → n ≤ 4096 → nat_abs (pos 2 *ℤ z) ≤ 2 ^ 26
-twice_small z k n h few = omega (arith, ints)
-
-fits_below : (f : ℕ → Sums) (n : ℕ) → ((i : ℕ) → IsSmall 8192 (f i)) → n ≤ 4096 → TakenFits (momentum_below f n)
-fits_below f n small few =
-    let all = small_below f 8192 small n in
-    (fits _ (twice_small (plus_all f (range_with_len 0 n)).px 0 n all.x few), fits _ (twice_small (plus_all f (range_with_len 0 n)).py 0 n all.y few))
-
-pub fits_next : (tick : ℤ) (particles walls obstacles : Cells) (n : ℕ) (took more : Took) → took_plus took more ≡ took_below tick particles walls obstacles n → n ≤ 4096
-    → ((cells : Cells) (r : Rectangle) (a b : ℕ) → parity_count cells r a b ≤ r.w * r.h)
-    → ((tick : ℤ) (cells : Cells) (r : Rectangle) → total_in tick cells r ≡ sums_by_parity tick (parity_count cells r 0 0) (parity_count cells r 1 0) (parity_count cells r 0 1) (parity_count cells r 1 1))
-    → TakenFits (pair_plus took.walls more.walls) × TakenFits (pair_plus took.obstacles more.obstacles)
-fits_next tick particles walls obstacles n took more e few counts by_parity = (
-  subst TakenFits (sym (ap (λ (t : Took). t.walls) e)) (fits_below (λ i. total_in tick (stopped (parity tick) particles (takes_for_walls walls obstacles)) (tile_rectangle particles i)) n (λ i. small_tile tick (stopped (parity tick) particles (takes_for_walls walls obstacles)) i counts by_parity) few),
-  subst TakenFits (sym (ap (λ (t : Took). t.obstacles) e)) (fits_below (λ i. total_in tick (stopped (parity tick) particles (takes_for_obstacles walls obstacles)) (tile_rectangle particles i)) n (λ i. small_tile tick (stopped (parity tick) particles (takes_for_obstacles walls obstacles)) i counts by_parity) few),
-)
 
 -- all tiles together take what the torus takes
 pub took_all : (p : ℕ) (particles walls obstacles : Cells) → p < 2 → is_size (extent particles) ≡ true

@@ -16,7 +16,7 @@ use Rattle.gas_plane.specs.Planes.{IsLattice}
 use Rattle.gas_plane.proofs.Sweeps.{left_of, top_of}
 use Rattle.gas_plane.proofs.PlaneCounts.{tile_sum, same_parity}
 use Rattle.phase_step.specs.Actions.{Leaves, acted, unmoved}
-use Rattle.phase_step.specs.Counts.{AreCounts, AreTileCounts, AreSmall, moved_by_counts}
+use Rattle.phase_step.specs.Counts.{AreCounts, AreTileCounts, moved_by_counts}
 use Rattle.phase_step.specs.declared.change.Change.{Change}
 use Rattle.phase_step.specs.declared.moved.Moved.{Moved}
 use Rattle.phase_step.proofs.Counting.{counted_sums, same_moved}
@@ -62,10 +62,6 @@ tile_count_is cells a b i test r is same =
 pub counts_are : (cells : Cells) (i : ℕ) (counts : List ℕ) (test : ℕ → ℕ → Bool) (r : Rectangle) → IsSquareOf cells.width i r → AreTileCounts counts test
     → ((x y : ℕ) → x < 64 → y < 64 → test x y ≡ has cells (left_of cells i + x) (top_of cells i + y)) → AreCounts counts cells r
 counts_are cells i counts test r is are same = record { count = λ a b p q. are.count a b p q ∙ tile_count_is cells a b i test r is same }
-
--- they are small
-pub tile_counts_small : (counts : List ℕ) (test : ℕ → ℕ → Bool) → AreTileCounts counts test → AreSmall counts
-tile_counts_small counts test are = record { small = λ k h. let few = are.few k h in omega (arith, few) }
 
 -- a change of one tile moves what is new and what is gone in its rectangle
 pub tile_moved : (tick : ℤ) (leaves : Leaves) (cells : Cells) (i : ℕ) (change : Change) (old new : Tile) (r : Rectangle) → IsLattice cells → i < tile_count cells → IsSquareOf cells.width i r

@@ -42,14 +42,6 @@ part_is first rows w o c sized of_walls of_obstacles =
 pub start_is : (first rows : ℕ) (c : Cells) → let shift = shift_of c first in IsStrip (window c shift ((rows + 2) * 64)) c shift 0 ((rows + 2) * 64)
 start_is first rows c = record { wide = refl; row = λ x y l _ m. window_row c (shift_of c first) ((rows + 2) * 64) c.height refl x y l m }
 
-pub own_is : (p first rows k : ℕ) (w o c : Cells) → is_size (extent c) ≡ true → HasSidesOf w c → HasSidesOf o c → k ≤ 64 → let shift = shift_of c first in let h = (rows + 2) * 64 in
-    IsStrip (after p (joined (window w shift h) (window o shift h)) (window c shift h) k) (after p (joined w o) c k) shift 64 (64 + rows * 64)
-own_is p first rows k w o c sized of_walls of_obstacles few =
-    let shift = shift_of c first in
-    let h = (rows + 2) * 64 in
-    let kept = strip_after p shift (window w shift h) (window o shift h) w o c (window c shift h) (part_is first rows w o c sized of_walls of_obstacles) (start_is first rows c) k in
-    record { wide = kept.wide; row = λ x y l low top. kept.row x y l (omega arith) (omega arith) }
-
 pub took_is : (p first rows k : ℕ) (w o c : Cells) → is_size (extent c) ≡ true → HasSidesOf w c → HasSidesOf o c → first + rows ≤ c.height / 64 → k ≤ 64 → let shift = shift_of c first in let h = (rows + 2) * 64 in
     tiles_take_in_run p (window w shift h) (window o shift h) (window c shift h) (c.width / 64) (rows * (c.width / 64)) k ≡ tiles_take_in_run p w o c (first * (c.width / 64)) (rows * (c.width / 64)) k
 took_is p first rows k w o c sized of_walls of_obstacles inside few =
