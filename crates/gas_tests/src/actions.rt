@@ -8,8 +8,8 @@ use gas_ledger::{Flow, Gas, Port, Ports, Sums, tally};
 use gas_plane::{Plane, Tile};
 use gas_terms::{Pair, Rect, Size, Tick, Took};
 use phase_step::{
-    Action, Change, Exchange, Few, Later, Listed, Moved, Run, Serial, Stepper, act_on, change_of,
-    sums_by_counts,
+    Action, Change, Exchange, Few, Later, Listed, Moved, Run, Serial, Stepper, Still, act_on,
+    change_of, sums_by_counts,
 };
 use std::process::Abort;
 
@@ -327,4 +327,5 @@ fn listed_exchanges_end(rt: HostRuntime) {
     };
     expect_that(&rt, !later.after_phase(0).is_still());
     expect_that(&rt, later.after_phase(1).is_still());
+    expect_that(&rt, later.acts() && !Still.acts());
 }

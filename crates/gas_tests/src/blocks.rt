@@ -2,7 +2,9 @@
 
 use crate::expected::{expect_same, expect_that};
 use bit_tile::Tile;
-use block_rule::{Window, turn_block, turn_tile, turn_tile_even, turn_tile_into, turn_tile_odd};
+use block_rule::{
+    Places, Window, turn_block, turn_tile, turn_tile_even, turn_tile_into, turn_tile_odd,
+};
 use gas_terms::{Pair, Took};
 use std::process::Abort;
 use tile_border::{Border, Neighbors};
@@ -118,7 +120,8 @@ fn particles_cross_their_blocks(rt: HostRuntime) {
     expect_that(&rt, has_just(&free, even));
     expect_same(&rt, took, NOTHING);
     let mut among_none = old;
-    let took = turn_tile_even(&mut among_none, Some(&none), Some(&none));
+    let places = Some(Places::anywhere(&none));
+    let took = turn_tile_even(&mut among_none, places, places);
     expect_that(&rt, has_just(&among_none, even));
     expect_same(&rt, took, NOTHING);
 
@@ -129,6 +132,25 @@ fn particles_cross_their_blocks(rt: HostRuntime) {
     let (again, took) = turn_tile(&old, &border, &none, &border, &none, &border, 1);
     expect_that(&rt, has_just(&again, odd));
     expect_same(&rt, took, NOTHING);
+}
+
+#[test]
+fn particles_of_the_told_rows_stay(rt: HostRuntime) {
+    let walled = tile_of([(10, 10), (11, 10), (10, 11), (11, 11)].as_slice());
+    let mut tile = tile_of([(0, 0), (10, 10)].as_slice());
+    // rows 10 and 11 are told by bit 5
+    let places = Places {
+        cells: &walled,
+        rows: 1 << 5,
+    };
+    let took = turn_tile_even(&mut tile, Some(places), None);
+    expect_that(&rt, has_just(&tile, [(1, 1), (10, 10)].as_slice()));
+    let twice = Pair { x: 2, y: 2 };
+    expect_same(
+        &rt,
+        (took.walls, took.obstacles),
+        (twice, NOTHING.obstacles),
+    );
 }
 
 #[test]

@@ -116,7 +116,10 @@ fn sites_of_walls_and_obstacles(rt: HostRuntime) {
     sites.prepare(&walls, &obstacles);
     let of_walls = [(0, 0), (1, 0), (0, 1), (1, 1)];
     let of_obstacles = [(20, 20), (21, 20), (20, 21), (21, 21)];
-    expect_that(&rt, has_just(&rt, sites.even.walls.cells(), of_walls.as_slice()));
+    expect_that(
+        &rt,
+        has_just(&rt, sites.even.walls.cells(), of_walls.as_slice()),
+    );
     expect_that(
         &rt,
         has_just(&rt, sites.even.obstacles.cells(), of_obstacles.as_slice()),
@@ -132,7 +135,10 @@ fn sites_of_walls_and_obstacles(rt: HostRuntime) {
         (22, 20),
     ];
     let of_obstacles = [(19, 21), (20, 21), (19, 22), (20, 22)];
-    expect_that(&rt, has_just(&rt, sites.odd.walls.cells(), of_walls.as_slice()));
+    expect_that(
+        &rt,
+        has_just(&rt, sites.odd.walls.cells(), of_walls.as_slice()),
+    );
     expect_that(
         &rt,
         has_just(&rt, sites.odd.obstacles.cells(), of_obstacles.as_slice()),

@@ -89,6 +89,7 @@ fn knows_whether_it_is_empty(rt: HostRuntime) {
         let mut tile = Tile::empty();
         tile.set(x, y, true);
         assert!(rt; !tile.is_empty(), "at {x} {y}");
+        expect_same(&rt, tile.rows_with_cells(), 1 << (y / 2));
         tile.set(x, y, false);
         assert!(rt; tile.is_empty(), "again at {x} {y}");
     }

@@ -1,11 +1,11 @@
 -- A strip that has made its course.
 use Rattle.std.proofs.Common.{◌≡◌, ℕ, ◌+◌, ◌-◌, ◌*◌, ◌/◌, ◌%◌, ◌<◌, ◌≤◌, true, refl, sym, ap, ap₂, ◌∙◌, subst, arith}
-use Rattle.gas_terms.specs.Cells.{Cells, HasSidesOf, has, joined, extent, is_size}
+use Rattle.gas_terms.specs.Cells.{Cells, HasSidesOf, has, extent, is_size}
 use Rattle.gas_terms.proofs.Cells.{has-cells_where}
 use Rattle.gas_plane.proofs.Places.{wide, high}
-use Rattle.phase_step.specs.Runs.{after, tiles_take_in_run}
+use Rattle.phase_step.specs.Runs.{tiles_take_in_run}
 use Rattle.phase_team.specs.Strips.{IsStrip, window, shift_of}
-use Rattle.phase_team.proofs.Transport.{IsPart, strip_after, run_same}
+use Rattle.phase_team.proofs.Transport.{IsPart, run_same}
 
 window_row : (c : Cells) (shift h m : ℕ) → c.height ≡ m → (x y : ℕ) → x < c.width → y < h → has (window c shift h) x y ≡ has c x ((shift + y) % m)
 window_row c shift h m e x y l q = has-cells_where c.width h (λ x y. has c x ((shift + y) % c.height)) x y l q ∙ ap (λ n. has c x ((shift + y) % n)) e
