@@ -33,6 +33,11 @@ pub record Outside : Type 0 where
   pub failures : ℕ
   pub shelved : Option (List (List ℕ))
 
+-- what a run has around it: this reader, this writer and this shelf
+abbrev pub outside : {R W K : Type 0} → (R → Option (List ℕ)) → (W → Option (List ℕ)) → (K → ℕ) → (K → Option (List (List ℕ))) → R → W → K → Outside
+outside remaining contents failures shelved reader writer shelf =
+    record { unread = remaining reader; written = contents writer; failures = failures shelf; shelved = shelved shelf }
+
 -- a laboratory and what its sessions write to and put on
 abbrev pub place_of : Laboratory → Outside → Place Laboratory
 place_of lab outside = record { door = lab; written = outside.written; failures = outside.failures; shelved = outside.shelved }

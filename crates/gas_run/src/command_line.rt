@@ -3,7 +3,7 @@
 ghost use Rattle.std.specs.Prelude.{◌≤◌, IfOk};
 ghost use Rattle.gas_run.specs.Plans.{IsInRange, HasSessions};
 
-use crate::setup::{Plan, PlanFault, Service, Setup};
+use crate::setup::{MOST_SESSIONS, MOST_WORKERS, Plan, PlanFault, Service, Setup};
 use clap::error::ErrorKind;
 use clap::{Arg, ArgMatches, Command};
 use gas_terms::{MOST_ENTRIES, MOST_SIDE, NoMemory, Size};
@@ -106,7 +106,7 @@ const WORKERS: NumberOption = NumberOption {
     example: "4",
     default: "1",
     least: 1,
-    most: 16,
+    most: MOST_WORKERS,
 };
 
 const CAP: NumberOption = NumberOption {
@@ -124,7 +124,7 @@ const SESSIONS: NumberOption = NumberOption {
     example: "2",
     default: "1",
     least: 1,
-    most: 64,
+    most: MOST_SESSIONS,
 };
 
 impl NumberOption {

@@ -1,9 +1,9 @@
 //! A run: one session, of seat 0, on a laboratory that nobody else uses.
 
-ghost use Rattle.std.specs.Prelude.{◌≡◌, ◌≤◌, IfOk};
+ghost use Rattle.std.specs.Prelude.{◌≡◌, IfOk};
 ghost use Rattle.gas_terms.specs.Laboratory.{opening};
 ghost use Rattle.gas_run.specs.Plans.{IsInRange};
-ghost use Rattle.gas_run.specs.Running.{Runs, status_of, start_of};
+ghost use Rattle.gas_run.specs.Running.{Runs, status_of, start_of, outside};
 ghost use Rattle.gas_run.specs.Statuses.{number_of};
 
 use crate::setup::Setup;
@@ -63,9 +63,9 @@ pub fn run_on<T: Threads + Drop, R: Read, W: Write, K: Shelf>(
 ) -> u8
     requires { IsInRange setup }
     ensures { Runs setup start
-        (record { unread = R.remaining reader.old; written = W.contents writer.old; failures = K.failures shelf.old; shelved = K.shelved shelf.old })
+        (outside R.remaining W.contents K.failures K.shelved reader.old writer.old shelf.old)
         result
-        (record { unread = R.remaining reader.new; written = W.contents writer.new; failures = K.failures shelf.new; shelved = K.shelved shelf.new }) }
+        (outside R.remaining W.contents K.failures K.shelved reader.new writer.new shelf.new) }
 {
     let team = Team::new(rt, alloc, setup.workers, NoGate);
     let Ok(mut lab) = opened(alloc, setup, start, team) else {

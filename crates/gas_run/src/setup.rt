@@ -2,9 +2,16 @@
 
 use gas_terms::{NoMemory, Size};
 use std::net::SocketAddr;
+use thiserror::Error;
 
-/// How a laboratory is set up: the size of a new lattice, the number of workers (1 to 16), and the capacity of the journal
-/// in entries (1 to 65,536).
+/// How many workers step a gas at most.
+pub const MOST_WORKERS: u32 = 16;
+
+/// How many sessions a server has at most.
+pub const MOST_SESSIONS: u32 = 64;
+
+/// How a laboratory is set up: the size of a new lattice, the number of workers (1 to `MOST_WORKERS`), and the capacity of
+/// the journal in entries (1 to `MOST_ENTRIES`).
 #[derive(Clone, Copy, Debug, PartialEq, Eq)]
 pub struct Setup {
     pub size: Size,
@@ -12,7 +19,8 @@ pub struct Setup {
     pub cap: u32,
 }
 
-/// Who is served: one session on standard input and output, or 1 to 64 sessions that connect to an address.
+/// Who is served: one session on standard input and output, or 1 to `MOST_SESSIONS` sessions that connect to an
+/// address.
 #[derive(Clone, Copy, Debug, PartialEq, Eq)]
 pub enum Service {
     Run,
@@ -29,9 +37,11 @@ pub struct Plan<'a> {
 }
 
 /// Memory ran out, or the line asks for help or has a fault, which the text says.
-#[derive(Debug, Drop)]
+#[derive(Debug, Drop, Error)]
 pub enum PlanFault {
+    #[error("memory")]
     Memory,
+    #[error("{0}")]
     Line(String),
 }
 
