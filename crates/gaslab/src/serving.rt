@@ -2,7 +2,7 @@
 
 ghost use Rattle.std.specs.Prelude.{◌<◌, ◌≤◌, IsTrue, vec_len};
 ghost use Rattle.std.specs.Io.KnownBytes.{Appends};
-ghost use Rattle.gas_run.specs.Plans.{IsInRange};
+ghost use Rattle.gas_run.specs.Plans.{most_sessions, IsInRange};
 ghost use Rattle.gaslab.specs.Serving.{Serves, served_line};
 
 use gas_hall::{Counts, Lobby, serve_lab};
@@ -51,8 +51,8 @@ fn tell<W: Write>(writer: &mut W, counts: Counts) -> bool
 /// shelf, 1 to 64 of them. Each seat has one accept of the lobby, in order, and each session that came has a thread and its
 /// seat's shelf. When all have ended, it writes `SERVED` with the number of seats that were served, of those that were not,
 /// and of the entries that all made. Returns the program's exit status: 0, or 1 if that line could not be written. If memory
-/// runs out for the opening it is 4, and nothing is accepted or written. The contract says of the entries only that the journal had
-/// room for as many.
+/// runs out for the opening it is 4, and nothing is accepted or written. The contract says of the entries only that the
+/// journal had room for as many.
 pub fn serve_on<T: Threads + Wait + Sync, L: Lobby, K: Shelf + Drop + Send, W: Write>(
     rt: &T,
     alloc: Global,
@@ -63,7 +63,7 @@ pub fn serve_on<T: Threads + Wait + Sync, L: Lobby, K: Shelf + Drop + Send, W: W
     writer: &mut W,
 ) -> u8
     requires setup { IsInRange setup }
-    requires shelves { (0 < vec_len shelves) × (vec_len shelves ≤ 64) }
+    requires shelves { (0 < vec_len shelves) × (vec_len shelves ≤ most_sessions) }
     ensures { Serves setup (vec_len shelves) (W.contents writer.old) result
         (W.contents writer.new) }
 {
