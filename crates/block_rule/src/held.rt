@@ -124,7 +124,8 @@ pub fn momentum(counts: Classes, parity: u8) -> Pair
 pub fn hold(tile: &Tile, places: Places<'_>, parity: u8, out: &mut Tile) -> Pair
     requires { parity < 2 }
     ensures cells { let p = places.entry in TellsRows p.rows (has p.cells.now) →
-        HasCells out.new (λ x y. if has p.cells.now x y then has tile.now x y else has out.old x y) }
+        HasCells out.new (λ x y.
+        if has p.cells.now x y then has tile.now x y else has out.old x y) }
     ensures took { let p = places.entry in TellsRows p.rows (has p.cells.now) →
         result ≡ twice_momentum parity (λ x y. has tile.now x y && has p.cells.now x y) }
 {

@@ -42,7 +42,8 @@ impl<S: Stepper> Model for Lab<S> {
 
     ghost view = { λ l. lab_of l.start l.cap (books_of l.books) l.journal.items };
 
-    ghost invariant = { λ l. IsKept (lab_of l.start l.cap (books_of l.books) l.journal.items) l.spare };
+    ghost invariant = { λ l.
+        IsKept (lab_of l.start l.cap (books_of l.books) l.journal.items) l.spare };
 }
 
 impl<S: Stepper> Lab<S> {

@@ -186,7 +186,8 @@ pub fn seated(
     rooms: &mut Vec<Room>,
 ) -> Option<Vec<Hand>>
     requires seats { All (λ s. s ≡ fresh stretch.desk.now.id) seats.old.items }
-    requires rooms { All (IsRoomFor (extent stretch.course.cells.now) stretch.parts) rooms.old.items }
+    requires rooms { let size = extent stretch.course.cells.now in
+        All (IsRoomFor size stretch.parts) rooms.old.items }
     ensures team { IfSome result (λ team. All (IsSeated stretch.entry) team.items) }
     ensures count { IfSome result (λ team. vec_len team ≡ vec_len seats.old) }
     ensures seats { IfSome result (λ _. seats.new.items ≡ []) }

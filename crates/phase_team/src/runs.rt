@@ -116,7 +116,8 @@ fn hand_in(
     requires count { vec_len team ≤ 16 }
     requires room { vec_len team ≤ vec_capacity seats.old }
     requires seats { seats.old.items ≡ [] }
-    requires rooms { All (IsRoomFor (extent stretch.course.cells.now) stretch.parts) rooms.old.items }
+    requires rooms { let size = extent stretch.course.cells.now in
+        All (IsRoomFor size stretch.parts) rooms.old.items }
     requires out { IsOut stretch.course out.old }
     ensures count { vec_len seats.new ≡ vec_len team }
     ensures seats { IfSome result (λ _. HaveDrawn stretch.entry.desk.now.id seats.new.items) }
