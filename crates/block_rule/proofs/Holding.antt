@@ -19,7 +19,7 @@ use Rattle.bit_tile.proofs.Classes.{IsClass, is_even_even, is_odd_even, is_even_
 use Rattle.gas_terms.specs.declared.accounts.Pair.{Pair}
 use Rattle.block_rule.specs.Around.{turned, none, either, is_walled_at, is_for_walls, twice_momentum, taken}
 use Rattle.block_rule.specs.Cell.{turned_cell, made}
-use Rattle.block_rule.specs.Classes.{class, AreCounts, IsHeldIn}
+use Rattle.block_rule.specs.Classes.{class, AreCounts, IsHeldIn, TellsWords}
 use Rattle.block_rule.specs.Rows.{ShowsTile}
 use Rattle.block_rule.specs.Lent.{HasNoCell, TellsRows, ArePlacesOf, IsLentOf, AreWalledCells}
 use Rattle.block_rule.specs.declared.walled.Places.{Places}
@@ -156,8 +156,8 @@ none_more old places before class n k was none =
     above_now j (inr h) = inr (omega arith)
 
 -- all of its rows
-pub all_held : (old places before after : List ℕ) (n k : ℕ) → k ≡ 4 → HeldSoFar old places before after n k → (i j : ℕ) → i < 32 → j < 32 → bit (get_or after j 0) i ≡ (if bit (get_or places j 0) i then bit (get_or old j 0) i else bit (get_or before j 0) i)
-all_held old places before after n k e is i j h below = is.held.cells i j h (omega arith) (omega arith)
+pub all_held : (old places before after : List ℕ) (n k : ℕ) → k ≡ 4 → HeldSoFar old places before after n k → IsHeldIn 0 32 old places before after
+all_held old places before after n k e is = let all : k * 8 ≡ 32 = omega arith in subst (λ m. IsHeldIn 0 m old places before after) all is.held
 
 pub all_counted : (old places before after : List ℕ) (n k : ℕ) → k ≡ 4 → HeldSoFar old places before after n k → n ≡ sum_below 32 (among old places)
 all_counted old places before after n k e is =
@@ -171,9 +171,9 @@ class_among old places p q n had there p_two q_two is_old is_places counted =
     ∙ (sum_below-same 32 _ _ (λ k in_column. count_below-same 32 _ (λ i. had (2 * i + p) (2 * k + q) && there (2 * i + p) (2 * k + q)) (λ i in_row. ap₂ (λ a b. a && b) (is_old i k in_row in_column) (is_places i k in_row in_column)))
     ∙ sym (class_count (λ x y. had x y && there x y) p q p_two q_two))
 
-pub class_held : (old places before class : List ℕ) (p q : ℕ) (had there was : ℕ → ℕ → Bool) → IsClass old p q had → IsClass places p q there → IsClass before p q was → ((i j : ℕ) → i < 32 → j < 32 → bit (get_or class j 0) i ≡ (if bit (get_or places j 0) i then bit (get_or old j 0) i else bit (get_or before j 0) i)) → IsClass class p q (λ x y. if there x y then had x y else was x y)
+pub class_held : (old places before class : List ℕ) (p q : ℕ) (had there was : ℕ → ℕ → Bool) → IsClass old p q had → IsClass places p q there → IsClass before p q was → IsHeldIn 0 32 old places before class → IsClass class p q (λ x y. if there x y then had x y else was x y)
 class_held old places before class p q had there was is_old is_places is_before is i j h k =
-    is i j h k
+    is.cells i j h (omega arith) k
     ∙ (ap (λ t. if t then bit (get_or old j 0) i else bit (get_or before j 0) i) (is_places i j h k)
     ∙ ap₂ (λ a b. if there (2 * i + p) (2 * j + q) then a else b) (is_old i j h k) (is_before i j h k))
 
@@ -245,24 +245,24 @@ tells_rows p test are x y h k e = are.cells x y h k ∙ are.rows x y h k e
 pub tells_all : (test : ℕ → ℕ → Bool) → TellsRows (2 ^ 32 - 1) test
 tells_all test x y h k e = let all = bit-ones (y / 2) (omega arith) in cc
 
--- where nothing is told of a row, no class has a cell there
-module _ (t : Tile) (rows : ℕ) (told : TellsRows rows (has t)) (i j : ℕ) (h : i < 32) (k : j < 32) (e : bit rows j ≡ false) where
-  untold : (p q : ℕ) → p < 2 → q < 2 → has t (2 * i + p) (2 * j + q) ≡ false
-  untold p q p_two q_two =
+-- a word that tells of a tile's rows tells of those of its classes
+module _ (t : Tile) (rows : ℕ) (told : TellsRows rows (has t)) where
+  untold : (p q i j : ℕ) → p < 2 → q < 2 → i < 32 → j < 32 → bit rows j ≡ false → has t (2 * i + p) (2 * j + q) ≡ false
+  untold p q i j p_two q_two h k e =
       let row : (2 * j + q) / 2 ≡ j = omega arith in
       told (2 * i + p) (2 * j + q) (omega arith) (omega arith) (rw row e)
 
-  pub untold_even_even : bit (get_or t.even_even j 0) i ≡ false
-  untold_even_even = is_even_even t i j h k ∙ untold 0 0 (omega arith) (omega arith)
+  pub told_even_even : TellsWords rows t.even_even
+  told_even_even i j h k e = is_even_even t i j h k ∙ untold 0 0 i j (omega arith) (omega arith) h k e
 
-  pub untold_odd_even : bit (get_or t.odd_even j 0) i ≡ false
-  untold_odd_even = is_odd_even t i j h k ∙ untold 1 0 (omega arith) (omega arith)
+  pub told_odd_even : TellsWords rows t.odd_even
+  told_odd_even i j h k e = is_odd_even t i j h k ∙ untold 1 0 i j (omega arith) (omega arith) h k e
 
-  pub untold_even_odd : bit (get_or t.even_odd j 0) i ≡ false
-  untold_even_odd = is_even_odd t i j h k ∙ untold 0 1 (omega arith) (omega arith)
+  pub told_even_odd : TellsWords rows t.even_odd
+  told_even_odd i j h k e = is_even_odd t i j h k ∙ untold 0 1 i j (omega arith) (omega arith) h k e
 
-  pub untold_odd_odd : bit (get_or t.odd_odd j 0) i ≡ false
-  untold_odd_odd = is_odd_odd t i j h k ∙ untold 1 1 (omega arith) (omega arith)
+  pub told_odd_odd : TellsWords rows t.odd_odd
+  told_odd_odd i j h k e = is_odd_odd t i j h k ∙ untold 1 1 i j (omega arith) (omega arith) h k e
 
 -- what is put back of them, and what it gives
 pub held_at : (tile before out places : Tile) (test : ℕ → ℕ → Bool) → HasCells places test → HasCells out (λ x y. if has places x y then has tile x y else has before x y)

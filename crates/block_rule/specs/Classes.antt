@@ -1,4 +1,4 @@
-use Rattle.std.specs.Prelude.{◌≡◌, ℕ, ◌+◌, ◌%◌, ◌<◌, ◌≤◌, ◌⊎◌, ◌==◌, Bool, ◌&&◌, if◌then◌else◌, List, slice_index}
+use Rattle.std.specs.Prelude.{false, ◌≡◌, ℕ, ◌+◌, ◌%◌, ◌<◌, ◌≤◌, ◌⊎◌, ◌==◌, Bool, ◌&&◌, if◌then◌else◌, List, slice_index}
 use Rattle.bit_tile.specs.Bit.{bit}
 use Rattle.bit_tile.specs.Sums.{sum_below, count_below}
 use Rattle.bit_tile.specs.Tile.{count_cells}
@@ -38,3 +38,7 @@ kept old places before j i = if bit (slice_index places j) i then bit (slice_ind
 pub record IsHeldIn (from to : ℕ) (old places before after : List ℕ) : Type 0 where
   pub cells : (i j : ℕ) → i < 32 → from ≤ j → j < to → bit (slice_index after j) i ≡ kept old places before j i
   pub rest : (j : ℕ) → (j < from) ⊎ (to ≤ j) → slice_index after j ≡ slice_index before j
+
+-- a word tells in which rows of a class its cells lie
+abbrev pub TellsWords : ℕ → List ℕ → Type 0
+TellsWords rows class = (i j : ℕ) → i < 32 → j < 32 → bit rows j ≡ false → bit (slice_index class j) i ≡ false

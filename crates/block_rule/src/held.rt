@@ -5,7 +5,7 @@ ghost use Rattle.bit_tile.specs.Bit.{bit};
 ghost use Rattle.bit_tile.specs.Tile.{has, HasCells};
 ghost use Rattle.block_rule.specs.Around.{twice_momentum};
 ghost use Rattle.block_rule.specs.Lent.{TellsRows};
-ghost use Rattle.block_rule.specs.Classes.{HasAtMost, AreCounts, AreParticlesIn, IsHeldIn, kept};
+ghost use Rattle.block_rule.specs.Classes.{HasAtMost, AreCounts, AreParticlesIn, IsHeldIn, TellsWords, kept, particles_among};
 
 use crate::walled::Places;
 use bit_tile::{Tile, joined};
@@ -69,6 +69,23 @@ fn hold_rows(old: &[u32; 32], places: &[u32; 32], from: usize, class: &mut [u32;
     count_rows(old, places, from)
 }
 
+// The same in all rows of the class that are told.
+#[inline]
+fn hold_class(old: &[u32; 32], places: &[u32; 32], rows: u32, class: &mut [u32; 32]) -> u32
+    ensures cells { TellsWords rows places.now →
+        IsHeldIn 0 32 old.now places.now class.old class.new }
+    ensures count { TellsWords rows places.now → result ≡ particles_among old.now places.now 32 }
+    ensures bound { result ≤ 1024 }
+{
+    let mut n = 0;
+    for k in 0..4usize {
+        if told_in(rows, k) != 0 {
+            n += hold_rows(old, places, k * TOGETHER, class);
+        }
+    }
+    n
+}
+
 /// How many particles there are in even columns of even rows, in odd of even, even of odd, and odd of odd.
 #[derive(Clone, Copy)]
 pub struct Classes {
@@ -77,14 +94,6 @@ pub struct Classes {
     pub even_odd: u32,
     pub odd_odd: u32,
 }
-
-/// None at all.
-pub const NO_PARTICLES: Classes = Classes {
-    even_even: 0,
-    odd_even: 0,
-    even_odd: 0,
-    odd_odd: 0,
-};
 
 // twice the difference
 fn twice(forward: u32, back: u32) -> i64
@@ -129,20 +138,12 @@ pub fn hold(tile: &Tile, places: Places<'_>, parity: u8, out: &mut Tile) -> Pair
     ensures took { let p = places.entry in TellsRows p.rows (has p.cells.now) →
         result ≡ twice_momentum parity (λ x y. has tile.now x y && has p.cells.now x y) }
 {
-    let cells = places.cells;
-    let mut counts = NO_PARTICLES;
-    for k in 0..4usize {
-        let from = k * TOGETHER;
-        if told_in(places.rows, k) != 0 {
-            let class = &mut out.even_even;
-            counts.even_even += hold_rows(&tile.even_even, &cells.even_even, from, class);
-            let class = &mut out.odd_even;
-            counts.odd_even += hold_rows(&tile.odd_even, &cells.odd_even, from, class);
-            let class = &mut out.even_odd;
-            counts.even_odd += hold_rows(&tile.even_odd, &cells.even_odd, from, class);
-            let class = &mut out.odd_odd;
-            counts.odd_odd += hold_rows(&tile.odd_odd, &cells.odd_odd, from, class);
-        }
-    }
+    let Places { cells, rows } = places;
+    let counts = Classes {
+        even_even: hold_class(&tile.even_even, &cells.even_even, rows, &mut out.even_even),
+        odd_even: hold_class(&tile.odd_even, &cells.odd_even, rows, &mut out.odd_even),
+        even_odd: hold_class(&tile.even_odd, &cells.even_odd, rows, &mut out.even_odd),
+        odd_odd: hold_class(&tile.odd_odd, &cells.odd_odd, rows, &mut out.odd_odd),
+    };
     momentum(counts, parity)
 }
