@@ -7,7 +7,7 @@ use crate::cells::{area_of, channels, seeded, size_of};
 use crate::watch::{report, since};
 use gas_plane::Plane;
 use gas_terms::{NoMemory, Rect, Size};
-use phase_step::{Serial, Stepper};
+use phase_step::{Run, Serial, Stepper, Still};
 use std::io;
 use std::rt::Clock;
 use std::time::Instant;
@@ -70,7 +70,14 @@ fn phases(
 // Planes of different sizes are left as they are. What the walls take is no part of the figures.
 fn stepped(cells: &mut Plane, walls: &Plane, none: &Plane, spare: &mut Plane, steps: u16) {
     if has_sides(walls, cells) && has_sides(none, cells) && has_sides(spare, cells) {
-        drop(Serial.run(cells, walls, none, 0, steps, spare));
+        let run = Run {
+            walls,
+            obstacles: none,
+            parity: 0,
+            n: steps,
+            action: &Still,
+        };
+        drop(Serial.run_with(cells, run, spare));
     }
 }
 

@@ -1,4 +1,4 @@
-use Rattle.std.proofs.Common.{◌≡◌, ℕ, zero, suc, ◌+◌, ◌*◌, ◌/◌, ◌%◌, ◌^◌, ◌<◌, ◌≤◌, Bool, true, false, if◌then◌else◌, [], ◌∷◌, ◌++◌, refl, sym, ◌∙◌, ap, arith, add-one, zero-add, add-zero, cond}
+use Rattle.std.proofs.Common.{◌≡◌, ℕ, zero, suc, ◌+◌, ◌*◌, ◌/◌, ◌%◌, ◌^◌, ◌<◌, ◌≤◌, Bool, false, if◌then◌else◌, [], ◌∷◌, ◌++◌, refl, sym, ◌∙◌, ap, arith, add-one, zero-add, add-zero, cond}
 use Rattle.std.proofs.Math.Numerals.{one-add}
 use Rattle.std.specs.List.{range_with_len, sum_by, count_by}
 use Rattle.std.specs.Int.RustNames.{count_ones}
@@ -77,16 +77,6 @@ ones_are_bits n (suc k) fits =
 pub count_below-none : (n : ℕ) → count_below n (λ _. false) ≡ 0
 count_below-none zero = count_below-zero (λ _. false)
 count_below-none (suc n) = count_below-suc n (λ _. false) ∙ ap (λ m. m + 0) (count_below-none n)
-
--- a number is 0 or 1
-one_at_most : (b : Bool) → (if b then 1 else 0) ≤ 1
-one_at_most true = omega arith
-one_at_most false = omega arith
-
--- no more pass the test than there are
-pub count_below-bound : (n : ℕ) (test : ℕ → Bool) → count_below n test ≤ n
-count_below-bound zero test = omega (arith, count_below-zero test)
-count_below-bound (suc n) test = omega (arith, count_below-suc n test, count_below-bound n test, one_at_most (test n))
 
 -- a count in two stretches
 pub count_below-parts : (m n : ℕ) (test : ℕ → Bool) → count_below (m + n) test ≡ count_below m test + count_below n (λ i. test (m + i))

@@ -23,7 +23,7 @@ use Rattle.block_rule.specs.Classes.{class, AreCounts, IsHeldIn, TellsWords}
 use Rattle.block_rule.specs.Rows.{ShowsTile}
 use Rattle.block_rule.specs.Lent.{HasNoCell, TellsRows, ArePlacesOf, IsLentOf, AreWalledCells}
 use Rattle.block_rule.specs.declared.walled.Places.{Places}
-use Rattle.block_rule.specs.declared.held.Classes.{Classes}
+use Rattle.block_rule.specs.declared.hold.Classes.{Classes}
 use Rattle.block_rule.proofs.Around.{turned_by_cells, walled_from, walled_by_cells}
 use Rattle.block_rule.proofs.Blank.{walled_either}
 use Rattle.gas_terms.specs.declared.accounts.Took.{Took}

@@ -9,7 +9,7 @@ use Rattle.bit_tile.proofs.Counts.{cells_same, class}
 use Rattle.gas_terms.specs.Velocity.{parity, sign}
 use Rattle.gas_terms.specs.Cells.{Cells, Rectangle, joined}
 use Rattle.gas_terms.specs.Cells as plane
-use Rattle.gas_terms.specs.Gas.{Site, site_of, is_walled, is_obstructed, takes_for_walls, takes_for_obstacles}
+use Rattle.gas_terms.specs.Gas.{Site, site_of, is_walled, takes_for_walls, takes_for_obstacles}
 use Rattle.gas_terms.specs.Accounts.{total_in, parity_count, sums_by_parity, stopped}
 use Rattle.gas_terms.specs.Accounts as torus
 use Rattle.gas_terms.specs.declared.accounts.Pair.{Pair}
@@ -102,7 +102,7 @@ module _ (made : MadeCells) (walled : CellsWalled) (p : ℕ) (two : p < 2) (part
       sym (walled_same walled p (either near_walls near_obstacles) (joined walls obstacles) particles.width particles.height x0 y0 x y two place.of_walls.wide place.of_walls.high (solid_view p particles walls obstacles x0 y0 near_walls near_obstacles place walls_view obstacles_view made) place.even_column place.even_row in_row in_column (omega (arith, place.right)) (omega (arith, place.bottom)))
       ∙ walled_either p near_walls near_obstacles x y
 
-  obstructed_same : is_obstructed obstacles site ≡ is_walled_at p near_obstacles x y
+  obstructed_same : is_walled obstacles site ≡ is_walled_at p near_obstacles x y
   obstructed_same =
       sym (walled_same walled p near_obstacles obstacles particles.width particles.height x0 y0 x y two place.of_obstacles.wide place.of_obstacles.high obstacles_view place.even_column place.even_row in_row in_column (omega (arith, place.right)) (omega (arith, place.bottom)))
 

@@ -2,7 +2,7 @@ use Rattle.std.specs.Prelude.{false, ◌≡◌, ℕ, ◌+◌, ◌%◌, ◌<◌, 
 use Rattle.bit_tile.specs.Bit.{bit}
 use Rattle.bit_tile.specs.Sums.{sum_below, count_below}
 use Rattle.bit_tile.specs.Tile.{count_cells}
-use Rattle.block_rule.specs.declared.held.Classes.{Classes}
+use Rattle.block_rule.specs.declared.hold.Classes.{Classes}
 
 -- none of the four counts is above n
 pub record HasAtMost (n : ℕ) (c : Classes) : Type 0 where

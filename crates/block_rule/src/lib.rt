@@ -1,8 +1,7 @@
 //! The block rule of the HPP gas: for one block of 2 by 2 cells, and for a tile, 32 blocks at once.
 //!
 //! The program calls `turn_tile_even` and `turn_tile_odd`, and `walled_cells_even` and `walled_cells_odd` for the cells that they
-//! take. `turn_block`, `turn_tile` and `turn_tile_into` are there for
-//! callers of the library.
+//! take. `turn_block` and `turn_tile` are there for callers of the library.
 #![tactic(auto)]
 
 ghost use Rattle.std.specs.Prelude.{◌≡◌, ℕ, ◌<◌, Bool, not, ◌&&◌};
@@ -16,14 +15,14 @@ ghost use Rattle.tile_border.specs.declared.Border.{Border as BorderValue};
 ghost use Rattle.block_rule.specs.Lent.{IsSeenIn, IsLentOf};
 
 mod blocks;
-mod held;
+mod hold;
 pub mod laws;
 mod made;
 mod walled;
 
 use bit_tile::Tile;
 use blocks::Collision;
-use gas_terms::accounts::{Pair, Took};
+use gas_terms::Took;
 use made::{make_even, make_odd};
 use tile_border::{Border, Neighbors, Round};
 use walled::put_back;
@@ -45,12 +44,6 @@ pub fn turn_block(cells: [bool; 4], walled: bool) -> [bool; 4]
         [d, c, b, a]
     }
 }
-
-// what nobody takes
-const NOTHING: Took = Took {
-    walls: Pair { x: 0, y: 0 },
-    obstacles: Pair { x: 0, y: 0 },
-};
 
 /// A tile with the eight tiles round it.
 #[derive(Clone, Copy)]
@@ -81,7 +74,7 @@ pub fn turn_tile_even(
     match (walls, obstacles) {
         (None, None) => {
             make_even(Collision, tile);
-            NOTHING
+            Took::ZERO
         }
         _ => {
             let old = *tile;
@@ -112,48 +105,6 @@ pub fn turn_tile_odd(
     put_back(particles.tile, walls, obstacles, 1, out)
 }
 
-/// Writes the tile after the rule to `out`. Returns the momentum that walls and obstacles take of the tile's own particles:
-/// twice that of the particles in walled blocks.
-pub fn turn_tile_into(
-    tile: &Tile,
-    border: &Border,
-    walls: &Tile,
-    wall_border: &Border,
-    obstacles: &Tile,
-    obstacle_border: &Border,
-    parity: u8,
-    out: &mut Tile,
-) -> Took
-    requires { parity < 2 }
-    ensures cells { HasCells out.new (turned parity (around tile.now border.now)
-        (either (around walls.now wall_border.now) (around obstacles.now obstacle_border.now))) }
-    ensures took { result ≡ taken parity tile.now
-        (around walls.now wall_border.now) (around obstacles.now obstacle_border.now) }
-    ensures together { plus result.walls result.obstacles ≡
-        twice_momentum parity (λ x y. has tile.now x y &&
-        is_walled_at parity (either (around walls.now wall_border.now)
-        (around obstacles.now obstacle_border.now)) x y) }
-{
-    if parity == 0 {
-        *out = *tile;
-        let walled = walled_cells_even(walls, obstacles);
-        let walls = Some(Places::anywhere(&walled.walls));
-        let obstacles = Some(Places::anywhere(&walled.obstacles));
-        turn_tile_even(out, walls, obstacles)
-    } else {
-        let near = border.neighbors();
-        let near_walls = wall_border.neighbors();
-        let near_obstacles = obstacle_border.neighbors();
-        let particles = window_of(tile, &near);
-        let walls = window_of(walls, &near_walls);
-        let obstacles = window_of(obstacles, &near_obstacles);
-        let walled = walled_cells_odd(&walls, &obstacles);
-        let walls = Some(Places::anywhere(&walled.walls));
-        let obstacles = Some(Places::anywhere(&walled.obstacles));
-        turn_tile_odd(&particles, walls, obstacles, out)
-    }
-}
-
 // a tile with tiles that are there for its border
 fn window_of<'a>(tile: &'a Tile, near: &'a Neighbors) -> Window<'a>
     ensures tile { result.tile.now ≡ tile.now }
@@ -166,7 +117,8 @@ fn window_of<'a>(tile: &'a Tile, near: &'a Neighbors) -> Window<'a>
     Window { tile, round }
 }
 
-/// The tile after the rule, and what `turn_tile_into` returns.
+/// The tile after the rule, and the momentum that walls and obstacles take of its own particles: twice that of the particles in
+/// walled blocks.
 pub fn turn_tile(
     tile: &Tile,
     border: &Border,
@@ -186,16 +138,25 @@ pub fn turn_tile(
         is_walled_at parity (either (around walls.now wall_border.now)
         (around obstacles.now obstacle_border.now)) x y) }
 {
-    let mut out = Tile::empty();
-    let took = turn_tile_into(
-        tile,
-        border,
-        walls,
-        wall_border,
-        obstacles,
-        obstacle_border,
-        parity,
-        &mut out,
-    );
-    (out, took)
+    if parity == 0 {
+        let walled = walled_cells_even(walls, obstacles);
+        let walls = Some(Places::anywhere(&walled.walls));
+        let obstacles = Some(Places::anywhere(&walled.obstacles));
+        let mut out = *tile;
+        let took = turn_tile_even(&mut out, walls, obstacles);
+        (out, took)
+    } else {
+        let near = border.neighbors();
+        let near_walls = wall_border.neighbors();
+        let near_obstacles = obstacle_border.neighbors();
+        let particles = window_of(tile, &near);
+        let walls = window_of(walls, &near_walls);
+        let obstacles = window_of(obstacles, &near_obstacles);
+        let walled = walled_cells_odd(&walls, &obstacles);
+        let walls = Some(Places::anywhere(&walled.walls));
+        let obstacles = Some(Places::anywhere(&walled.obstacles));
+        let mut out = Tile::empty();
+        let took = turn_tile_odd(&particles, walls, obstacles, &mut out);
+        (out, took)
+    }
 }

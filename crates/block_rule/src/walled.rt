@@ -8,7 +8,7 @@ ghost use Rattle.block_rule.specs.Lent.{IsSeenIn, IsLentOf, ArePlacesOf, AreWall
 
 use crate::Window;
 use crate::blocks::AnyCorner;
-use crate::held::hold;
+use crate::hold::hold;
 use crate::made::{make_even, make_odd};
 use bit_tile::Tile;
 use gas_terms::{Pair, Took};
@@ -82,7 +82,7 @@ fn put_back_one(tile: &Tile, places: Option<Places<'_>>, parity: u8, out: &mut T
 {
     match places {
         Some(places) => hold(tile, places, parity, out),
-        None => Pair { x: 0, y: 0 },
+        None => Pair::ZERO,
     }
 }
 

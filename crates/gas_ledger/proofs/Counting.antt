@@ -6,8 +6,9 @@ use Rattle.gas_terms.proofs.AccountBounds.{size-width, size-height, size-even}
 use Rattle.gas_terms.proofs.ProbeTotals.{total_in-within}
 use Rattle.gas_plane.specs.Planes.{IsLattice}
 use Rattle.gas_terms.proofs.TotalBounds.{within_width, within_height, total_bounded}
-use Rattle.phase_step.specs.Counts.{AreCounts, AreSmall}
+use Rattle.phase_step.specs.Counts.{AreCounts}
 use Rattle.phase_step.proofs.Counting.{counts_small}
+use Rattle.gas_terms.specs.Counts.{AreSmall}
 
 pub rectangle_counts_small : (counts : List ℕ) (cells : Cells) (r : Rectangle) → IsLattice cells → lies_within (extent cells) r ≡ true → AreCounts counts cells r → AreSmall counts
 rectangle_counts_small counts cells r is fits are =

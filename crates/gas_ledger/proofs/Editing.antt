@@ -2,7 +2,7 @@
 use Rattle.std.proofs.Common.{◌≡◌, ◌≢◌, ℕ, false, ℤ, refl, sym, ap, subst, ◌∙◌}
 use Rattle.gas_terms.specs.Cells.{IsEvenTorus}
 use Rattle.gas_terms.specs.Gas.{Gas}
-use Rattle.gas_terms.specs.Accounts.{nothing, gained, FitsI64}
+use Rattle.gas_terms.specs.Accounts.{nothing, gained, FitsI64, moved_by, with_moved}
 use Rattle.gas_terms.specs.Commands.{enact, is_move}
 use Rattle.gas_terms.specs.BookedGas.{BookedGas, changed, book}
 use Rattle.gas_terms.specs.declared.accounts.Ledger.{Ledger}
@@ -10,9 +10,7 @@ use Rattle.gas_terms.specs.declared.command.Command.{Command}
 use Rattle.gas_terms.specs.declared.command.Command.TheVariants.{Put, Erase, Wall, Block, Unwall, Row, Source, Drain, Unport, Step, Back, Probe, Tally, Ledger as Accounting, Read, Entry as EntryAt}
 use Rattle.gas_terms.proofs.Stretches.{total-without_itself}
 use Rattle.phase_step.specs.Actions.{unmoved}
-use Rattle.phase_step.specs.Moves.{moved_by}
-use Rattle.phase_step.specs.declared.moved.Moved.{Moved}
-use Rattle.phase_step.specs.PortedRuns.{with_moved}
+use Rattle.gas_terms.specs.declared.accounts.Moved.{Moved}
 use Rattle.gas_ledger.proofs.Stepping.{pair}
 
 -- What is neither of the moves is no move.

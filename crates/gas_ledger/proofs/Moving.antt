@@ -4,15 +4,14 @@ use Rattle.std.specs.List.{list_any}
 use Rattle.gas_terms.specs.Cells.{Cells, Rectangle, has, is_inside, extent, lies_within, without, filled, cleared, HasEvenSides}
 use Rattle.gas_terms.specs.Rows.{row_replaced}
 use Rattle.gas_terms.specs.Gas.{Source, is_due}
-use Rattle.gas_terms.specs.Accounts.{total_in, gained, lost, nothing, minus}
+use Rattle.gas_terms.specs.Accounts.{total_in, gained, lost, nothing, minus, moved_by}
 use Rattle.gas_terms.proofs.AccountBounds.{size-even, size-width}
 use Rattle.gas_plane.specs.Planes.{IsLattice}
 use Rattle.gas_terms.specs.declared.accounts.Sums.{Sums}
-use Rattle.phase_step.specs.declared.change.Change.{Change}
-use Rattle.phase_step.specs.declared.moved.Moved.{Moved}
+use Rattle.phase_step.specs.declared.sums.change.Change.{Change}
+use Rattle.gas_terms.specs.declared.accounts.Moved.{Moved}
 use Rattle.gas_ledger.specs.PortLists.{PortLists, due_areas, left_by, ported_by}
-use Rattle.phase_step.specs.Counts.{AreCounts, AreSmall, moved_by_counts}
-use Rattle.phase_step.specs.Moves.{moved_by}
+use Rattle.phase_step.specs.Counts.{AreCounts, moved_by_counts}
 use Rattle.phase_step.specs.Actions.{acted}
 use Rattle.phase_step.proofs.ActionRuns.{acted_same}
 use Rattle.phase_step.specs.Exchanges.{is_in_any, is_left}
@@ -20,6 +19,7 @@ use Rattle.gas_ledger.specs.Gases.{row_of}
 use Rattle.phase_step.proofs.Counting.{counted_sums, counts_small, same_moved}
 use Rattle.gas_terms.proofs.RowSums.{row_alone, other_row}
 use Rattle.gas_terms.proofs.Emptied.{not_both, gained-filled, lost-filled, gained-cleared, lost-cleared}
+use Rattle.gas_terms.specs.Counts.{AreSmall}
 
 -- a source that is due fills its rectangle
 due_first : (due : Bool) (s : Source) (rest : List Source) (x y : ℕ) → is_in_any (map (λ (s : Source). s.area) (cond due (s ∷ rest) rest)) x y ≡ ((due && is_inside s.area x y) || is_in_any (map (λ (s : Source). s.area) rest) x y)

@@ -1,5 +1,5 @@
 -- A run leaves the sides of the particles.
-use Rattle.std.proofs.Common.{◌≡◌, ℕ, sym, ap₂, ◌∙◌, subst}
+use Rattle.std.proofs.Common.{◌≡◌, ℕ, ℤ, Bool, true, false, Option, Some, None, if◌then◌else◌, sym, ap₂, ◌∙◌, subst}
 use Rattle.gas_terms.specs.Cells.{Cells, Extent, HasSidesOf}
 use Rattle.phase_step.specs.Runs.{after}
 use Rattle.phase_step.specs.Actions.{Leaves, after_with}
@@ -26,3 +26,8 @@ pub fit_with : (p : ℕ) (solid : Cells) (leaves : ℕ → Leaves) (cells now wa
     FitTogether cells walls obstacles ports → FitTogether now walls obstacles ports
 fit_with p solid leaves cells now walls obstacles ports n e fit =
     fit_sides cells now walls obstacles ports (subst (λ (now : Cells). HasSidesOf now cells) (sym e) (sides_with p solid leaves cells n)) fit
+
+-- the tick so many ticks away is one
+pub chosen : (fits : Bool) (t u : ℤ) → (let o : Option ℤ = Some u in o) ≡ (if fits then Some t else None) → u ≡ t
+chosen true t u e = cc
+chosen false t u e = cc

@@ -4,7 +4,7 @@ use Rattle.std.proofs.lemmas.Int.{ints}
 use Rattle.std.specs.Fn.{iterate}
 use Rattle.gas_terms.specs.Cells.{Cells, extent, IsEvenTorus}
 use Rattle.gas_terms.specs.Gas.{Gas}
-use Rattle.gas_terms.specs.Accounts.{plus, with_taken, with_given_back, FitsI64, SumsFit}
+use Rattle.gas_terms.specs.Accounts.{plus, with_taken, with_given_back, FitsI64, SumsFit, with_moved}
 use Rattle.gas_terms.specs.Commands.{is_tick}
 use Rattle.gas_terms.specs.BookedGas.{BookedGas, stepped, stepped_back, book}
 use Rattle.gas_terms.specs.declared.accounts.Ledger.{Ledger}
@@ -16,8 +16,8 @@ use Rattle.gas_plane.specs.Planes.{IsLattice}
 use Rattle.phase_step.proofs.RunSteps.{back_run}
 use Rattle.phase_step.proofs.PortedSteps.{ported_run}
 use Rattle.phase_step.specs.Runs.{gas_before, takes_before, ran_back}
-use Rattle.phase_step.specs.PortedRuns.{gas_stepped, steps_take, steps_move, with_moved}
-use Rattle.phase_step.specs.declared.moved.Flow.{Flow}
+use Rattle.phase_step.specs.PortedRuns.{gas_stepped, steps_take, steps_move}
+use Rattle.phase_step.specs.declared.sums.flow.Flow.{Flow}
 use Rattle.gas_ledger.specs.Books.{TickHolds}
 
 abbrev pub pair : Gas → Ledger → BookedGas

@@ -2,13 +2,13 @@
 
 ghost use Rattle.std.specs.Prelude.{◌≡◌};
 ghost use Rattle.gas_ledger.specs.PortLists.{ported_by};
-ghost use Rattle.phase_step.specs.Moves.{moved_by};
+ghost use Rattle.gas_terms.specs.Accounts.{moved_by};
 
 use crate::ports::Ports;
 use crate::ports_from::exchange_at;
 use gas_plane::Plane;
-use gas_terms::Tick;
-use phase_step::{Moved, act_on};
+use gas_terms::{Moved, Tick};
+use phase_step::act_on;
 
 /// The port action: drains empty their cells, then the sources that are due fill theirs. Returns what came in and went out;
 /// a particle that is drained and filled again counts as neither.

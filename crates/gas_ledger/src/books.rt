@@ -3,21 +3,20 @@
 ghost use Rattle.std.specs.Prelude.{◌≡◌, true, false, ◌+ℤ◌, ◌-ℤ◌, pos, IfOk};
 ghost use Rattle.std.specs.Fn.{iterate};
 ghost use Rattle.gas_terms.specs.Cells.{extent, HasSidesOf, IsEvenTorus};
-ghost use Rattle.gas_terms.specs.Accounts.{FitsI64};
+ghost use Rattle.gas_terms.specs.Accounts.{FitsI64, moved_by};
 ghost use Rattle.gas_terms.specs.Commands.{enact, fits, is_change, is_move, is_tick};
 ghost use Rattle.gas_terms.specs.BookedGas.{opened, stepped, stepped_back, book};
 ghost use Rattle.gas_terms.specs.Laboratory.{has_all_ports};
 ghost use Rattle.gas_ledger.specs.Gases.{ports_of};
-ghost use Rattle.phase_step.specs.Moves.{moved_by};
 ghost use Rattle.gas_ledger.specs.PortLists.{adding, has_all};
 ghost use Rattle.gas_ledger.specs.Books.{books_of, TickHolds, Affords};
 
 use crate::gas::Gas;
 use crate::port::Port;
-use crate::sums::{NOTHING, tally};
+use crate::sums::tally;
 use gas_plane::Plane;
-use gas_terms::{Command, Ledger, NoMemory, Pair};
-use phase_step::{Moved, Stepper, UNMOVED};
+use gas_terms::{Command, Ledger, Moved, NoMemory, Pair, Sums};
+use phase_step::Stepper;
 use std::alloc::Global;
 
 /// A gas with its ledger.
@@ -35,10 +34,10 @@ impl Books {
         let gas = start.copy(alloc)?;
         let ledger = Ledger {
             start: tally(start.particles(), start.tick()),
-            injected: NOTHING,
-            drained: NOTHING,
-            walls: Pair { x: 0, y: 0 },
-            obstacles: Pair { x: 0, y: 0 },
+            injected: Sums::ZERO,
+            drained: Sums::ZERO,
+            walls: Pair::ZERO,
+            obstacles: Pair::ZERO,
         };
         Ok(Books { gas, ledger })
     }
@@ -53,7 +52,7 @@ impl Books {
     {
         let flow = self.gas.step_on(n, spare, stepper);
         let taken = self.ledger.with_taken(flow.took);
-        self.ledger = taken.with_moved(flow.moved.injected, flow.moved.drained);
+        self.ledger = taken.with_moved(flow.moved);
     }
 
     // steps back, one after another, in a single run: walls and obstacles give back what they took on the way
@@ -86,7 +85,7 @@ impl Books {
             Command::Back(n) => self.steps_back(*n, spare, stepper),
             edit => {
                 let moved = edited(&mut self.gas, edit);
-                self.ledger = self.ledger.with_moved(moved.injected, moved.drained);
+                self.ledger = self.ledger.with_moved(moved);
             }
         }
     }
@@ -114,7 +113,7 @@ fn edited(gas: &mut Gas, command: &Command) -> Moved
         Command::Unport => gas.remove_ports(),
         _ => unreachable!(),
     }
-    UNMOVED
+    Moved::ZERO
 }
 
 // a port that has a place

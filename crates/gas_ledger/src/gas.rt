@@ -7,17 +7,17 @@ ghost use Rattle.gas_terms.specs.declared.command.Command.TheVariants.{Put, Eras
 ghost use Rattle.phase_step.specs.Runs.{gas_before, takes_before};
 ghost use Rattle.gas_ledger.specs.PortLists.{adding, has_all};
 ghost use Rattle.gas_ledger.specs.Gases.{FitTogether, IsSoundGas, gas_of, ports_of, empty_gas};
-ghost use Rattle.phase_step.specs.Moves.{moved_by};
+ghost use Rattle.gas_terms.specs.Accounts.{moved_by};
 ghost use Rattle.phase_step.specs.PortedRuns.{gas_stepped, steps_take, steps_move};
 
 use crate::change::row_change;
 use crate::port::{Full, Port};
 use crate::ports::Ports;
 use crate::ports_from::PortsFrom;
-use crate::sums::{NOTHING, probe};
+use crate::sums::probe;
 use gas_plane::Plane;
-use gas_terms::{NoMemory, Rect, Size, Tick, Took};
-use phase_step::{Flow, Moved, Run, Stepper};
+use gas_terms::{Moved, NoMemory, Rect, Size, Sums, Tick, Took};
+use phase_step::{Flow, Run, Stepper, Still};
 use std::alloc::Global;
 use std::marker::Model;
 
@@ -150,7 +150,7 @@ impl Gas {
         let after = probe(&self.particles, area, self.tick);
         Moved {
             injected: after.minus(before),
-            drained: NOTHING,
+            drained: Sums::ZERO,
         }
     }
 
@@ -163,7 +163,7 @@ impl Gas {
         let before = probe(&self.particles, area, self.tick);
         self.particles.clear(area);
         Moved {
-            injected: NOTHING,
+            injected: Sums::ZERO,
             drained: before,
         }
     }
@@ -261,6 +261,16 @@ impl Gas {
         let tick = &mut self.tick;
         *tick = tick.behind(n).unwrap();
         let particles = &mut self.particles;
-        stepper.run(particles, &self.walls, &self.obstacles, first, n, spare)
+        let walls = &self.walls;
+        let obstacles = &self.obstacles;
+        let action = &Still;
+        let run = Run {
+            walls,
+            obstacles,
+            parity: first,
+            n,
+            action,
+        };
+        stepper.run_with(particles, run, spare).took
     }
 }

@@ -17,10 +17,10 @@ pub mod sums;
 pub use apply::apply_ports;
 pub use books::Books;
 pub use gas::Gas;
-pub use phase_step::{Flow, Moved};
+pub use phase_step::Flow;
 pub use port::{Full, Port, Source};
 pub use ports::Ports;
 pub use sums::{probe, tally};
 
 /// The accounts of a gas, and the sums in them.
-pub use gas_terms::{Ledger, Sums};
+pub use gas_terms::{Ledger, Moved, Sums};

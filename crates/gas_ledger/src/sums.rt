@@ -7,14 +7,6 @@ ghost use Rattle.gas_plane.specs.Planes.{IsLattice};
 
 use gas_plane::Plane;
 use gas_terms::{Rect, Sums, Tick};
-use phase_step::sums_by_counts;
-
-// the sums of no particles
-pub(crate) const NOTHING: Sums = Sums {
-    count: 0,
-    px: 0,
-    py: 0,
-};
 
 /// The sums of the particles in a rectangle at the tick.
 pub fn probe(plane: &Plane, area: Rect, tick: Tick) -> Sums
@@ -25,7 +17,7 @@ pub fn probe(plane: &Plane, area: Rect, tick: Tick) -> Sums
 {
     // no side of it is longer than a lattice's
     let _ = plane.size();
-    sums_by_counts(plane.counts_in(area), tick.parity())
+    Sums::of_counts(plane.counts_in(area), tick.parity())
 }
 
 /// The sums of all particles at the tick.

@@ -5,7 +5,7 @@ use Rattle.std.proofs.lemmas.Nat.{row-Below, mul-le, mod-mul-add, div-mul-add}
 use Rattle.std.proofs.lemmas.Bool.{cases_lt}
 use Rattle.std.proofs.lemmas.Bool.Decides.{nat_tests}
 use Rattle.bit_tile.specs.Tile as tile
-use Rattle.bit_tile.specs.Tile.{HasCells, count_cells}
+use Rattle.bit_tile.specs.Tile.{count_cells}
 use Rattle.bit_tile.specs.Sums as bits
 use Rattle.bit_tile.specs.declared.Tile.{Tile}
 use Rattle.gas_terms.specs.Cells.{Cells, Rectangle, has, is_inside, extent, lies_within, tile_count}

@@ -86,9 +86,6 @@ none_before n b = grind (arith, nat_tests)
 all_before : (n c : ℕ) (b : Bool) → n < c → (nat_lt n c && b) ≡ b
 all_before n c b h = grind (arith, nat_tests)
 
-one_more : (n c : ℕ) (b : Bool) → n ≢ c → (nat_lt n (c + 1) && b) ≡ (nat_lt n c && b)
-one_more n c b h = grind (arith, nat_tests)
-
 pub row_starts : (cells : Cells) (row : ℕ) (bytes : List ℕ) → IsFull cells → cells ≡ rowed cells row bytes 0
 row_starts cells row bytes full =
     same_cells cells (rowed cells row bytes 0) full (full-cells_where cells.width cells.height (λ x y. if nat_lt (x / 64) 0 && (y == row) then row_has bytes x else has cells x y)) refl refl

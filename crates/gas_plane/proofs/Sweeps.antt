@@ -10,7 +10,6 @@ use Rattle.gas_terms.specs.Cells.{Cells, has, cells_where, extent, IsFull, tile_
 use Rattle.gas_terms.proofs.Cells.{has-cells_where, full-cells_where, same_cells_where, same_cells}
 use Rattle.gas_plane.specs.Planes.{IsLattice, IsTileFrom, tile_of, with_tile}
 pub use Rattle.gas_plane.specs.Planes.{swept}
-use Rattle.bit_tile.specs.Tile.{HasCells}
 use Rattle.gas_plane.proofs.Places.{IsWholeTiles, wide, high, tile_below, cell_below}
 use Rattle.gas_plane.proofs.Tilings.{choose_true, choose_false}
 

@@ -9,7 +9,7 @@ ghost use Rattle.tile_border.specs.declared.Border.{Border as RingCells};
 use crate::Plane;
 use crate::circle::{after, before};
 use bit_tile::Tile;
-use tile_border::{Border, NO_BORDER, Round};
+use tile_border::{Border, Round};
 
 /// A tile's number, and the column and the row of tiles that it is in.
 #[derive(Clone, Copy, Debug, PartialEq, Eq)]
@@ -85,7 +85,7 @@ impl Plane {
         requires { i < tile_count self.now }
         ensures { let r = tile_rectangle self.now i in IsRingRound result self.now r.x r.y }
     {
-        let mut border = NO_BORDER;
+        let mut border = Border::EMPTY;
         border.surround(&self.round(i));
         border
     }

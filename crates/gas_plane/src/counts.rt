@@ -37,8 +37,6 @@ impl Plane {
 
 // how many of a tile's cells the rectangle has in each class, where the tile begins at the place (left, top)
 fn counts_of(tile: &Tile, area: Rect, left: u32, top: u32) -> [u32; 4]
-    requires left { left < 2 ^ 31 }
-    requires top { top < 2 ^ 31 }
     ensures counts { (a b : ℕ) → a < 2 → b < 2 → slice_index result (2 * b + a) ≡
         count_cells (λ x y. (in_tile.has tile.now x y && is_inside area (left + x) (top + y))
         && x % 2 == a && y % 2 == b) }

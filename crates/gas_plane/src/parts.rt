@@ -35,18 +35,20 @@ pub fn part_of(area: Rect, left: u32, top: u32) -> Option<Tile>
     Some(Tile::rect(x, y, w, h))
 }
 
-// whether the rectangle has all of the 64 by 64 cells from the place (left, top) on
+/// Whether the rectangle has all of the 64 by 64 cells from the place (left, top) on.
 pub fn is_covered(area: Rect, left: u32, top: u32) -> bool
-    requires left { left < 2 ^ 31 }
-    requires top { top < 2 ^ 31 }
     ensures { IsTrue result →
         (x y : ℕ) → x < 64 → y < 64 → is_inside area (left + x) (top + y) ≡ true }
 {
-    let right = area.x() as u32 + area.w() as u32;
-    let bottom = area.y() as u32 + area.h() as u32;
-    let across = area.x() as u32 <= left && left + 64 <= right;
-    let down = area.y() as u32 <= top && top + 64 <= bottom;
-    across & down
+    spans(area.x(), area.w(), left) && spans(area.y(), area.h(), top)
+}
+
+// whether the `len` places from `start` on have all 64 from `from` on
+fn spans(start: u16, len: u16, from: u32) -> bool
+    ensures { IsTrue result → (start ≤ from) × (from + 64 ≤ start + len) }
+{
+    let start = u32::from(start);
+    start <= from && 64 <= (start + u32::from(len)).saturating_sub(from)
 }
 
 // what `len` places from `start` on have in common with the 64 from `from` on: where that begins there, and how many

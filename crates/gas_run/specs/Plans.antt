@@ -1,13 +1,10 @@
 -- What the program may be set up with.
 use Rattle.std.specs.Prelude.{ℕ, ◌≤◌, ⊤}
 use Rattle.gas_terms.specs.Laboratory.{most_entries}
+use Rattle.phase_team.specs.Limits.{most_workers}
 use Rattle.gas_run.specs.declared.setup.Setup.{Setup}
 use Rattle.gas_run.specs.declared.setup.Service.{Service}
 use Rattle.gas_run.specs.declared.setup.Service.TheVariants.{Run, Serve}
-
--- how many workers step a gas at most: `MOST_WORKERS`
-abbrev pub most_workers : ℕ
-most_workers = 16
 
 -- how many sessions a server has at most: `MOST_SESSIONS`
 abbrev pub most_sessions : ℕ

@@ -1,11 +1,9 @@
 //! What a command line asks for.
 
 use gas_terms::{NoMemory, Size};
+pub use phase_team::MOST_WORKERS;
 use std::net::SocketAddr;
 use thiserror::Error;
-
-/// How many workers step a gas at most.
-pub const MOST_WORKERS: u32 = 16;
 
 /// How many sessions a server has at most.
 pub const MOST_SESSIONS: u32 = 64;

@@ -1,21 +1,14 @@
 //! One laboratory for several people. Each has a seat, and each command is one event, made while its seat holds a lock.
 //!
-//! The program uses `TurnHall` and its seats, doors and notes, on a ticket lock. `Hall` and its seats, doors, names and
-//! gates, on a mutex, are there for callers of the library; a `Hall` can be closed, which returns the laboratory.
+//! The program uses `TurnHall` and its seats, doors and notes, on a ticket lock. `Hall` with all of the module `mutex_hall` is
+//! there for callers of the library.
 #![tactic(auto)]
 
-mod gate;
-mod hall;
-mod held;
+mod entries;
 mod in_turn;
-mod name;
+mod mutex_hall;
 pub mod receipts;
-mod seat;
 mod turn_hall;
 
-pub use gate::{HallGate, NoHallGate};
-pub use hall::{Hall, HallDoor};
-pub use held::Held;
-pub use name::HallName;
-pub use seat::HallSeat;
+pub use mutex_hall::{Hall, HallDoor, HallGate, HallName, HallSeat, Held, NoHallGate};
 pub use turn_hall::{TurnDoor, TurnHall, TurnNote, TurnSeat};

@@ -8,7 +8,7 @@ ghost use Rattle.gas_terms.specs.Laboratory.{most_entries, IsPrefix, made_by};
 ghost use Rattle.gas_seats.specs.Seats.{AreNumbered, most_seats};
 ghost use Rattle.gas_seats.specs.TurnSeats.{SeatView, NoteView, entries_made, opening_seat, AsksInTurn, CopiesInTurn};
 
-use crate::held::entries_of;
+use crate::entries::entries_of;
 use crate::in_turn::{Asked, CopyAsked, InTurn};
 use gas_lab::{Copied, Door, Lab, Stepper};
 use gas_terms::{Answer, Command, NoMemory, Refusal, Size};

@@ -21,5 +21,5 @@ pub use file_shelf::FileShelf;
 pub use reading::decode;
 pub use shelf::{MaybeShelf, NoShelf, Shelf, ShelfFault};
 pub use version::Version;
-pub use writer::{WriteFault, write_to};
+pub use writer::{WriteFault, put_all, write_to};
 pub use writing::encode;

@@ -1,7 +1,7 @@
 //! Shelves: where snapshots are put.
 
-ghost use Rattle.std.specs.Prelude.{◌≡◌, ℕ, ◌+◌, ◌-◌, ◌^◌, min, List, [], ◌∷◌, Option, None, Some, IsErr, OnOk, OnErr};
-ghost use Rattle.gas_snapshot.specs.Shelved.{Gains};
+ghost use Rattle.std.specs.Prelude.{◌≡◌, ℕ, List, [], ◌∷◌, Option, None, Some, IsErr, OnOk, OnErr};
+ghost use Rattle.gas_snapshot.specs.Shelved.{Gains, one_failure_more};
 
 use std::error::Error;
 use std::fmt;
@@ -34,7 +34,7 @@ pub trait Shelf {
     fn put(&mut self, bytes: &[u8]) -> Result<(), ShelfFault>
         ensures ok { OnOk result ((failures self.new ≡ failures self.old)
             × Gains (shelved self.old) (shelved self.new) (bytes.now ∷ [])) }
-        ensures err { OnErr result ((failures self.new ≡ min (failures self.old + 1) (2 ^ 64 - 1))
+        ensures err { OnErr result ((failures self.new ≡ one_failure_more (failures self.old))
             × Gains (shelved self.old) (shelved self.new) []) };
 
     /// How many puts have failed.
@@ -66,7 +66,7 @@ impl Shelf for NoShelf {
         ensures refused { IsErr result }
         ensures ok { OnOk result ((self.new.failures ≡ self.old.failures)
             × Gains (Some []) (Some []) (bytes.now ∷ [])) }
-        ensures err { OnErr result ((self.new.failures ≡ min (self.old.failures + 1) (2 ^ 64 - 1))
+        ensures err { OnErr result ((self.new.failures ≡ one_failure_more self.old.failures)
             × Gains (Some []) (Some []) []) }
     {
         self.failures = self.failures.saturating_add(1);

@@ -1,9 +1,9 @@
 -- How a session goes: the turns it takes over its input, and how it ends.
-use Rattle.std.specs.Prelude.{◌≡◌, ℕ, zero, suc, ◌+◌, ◌-◌, ◌*◌, ◌^◌, ◌≤◌, min, ◌⊎◌, Bool, true, false, if◌then◌else◌, List, [], ◌∷◌, ◌++◌, length, map, Option, Some, None, Result, Ok, Err}
+use Rattle.std.specs.Prelude.{◌≡◌, ℕ, zero, suc, ◌+◌, ◌*◌, ◌^◌, ◌≤◌, ◌⊎◌, Bool, true, false, if◌then◌else◌, List, [], ◌∷◌, ◌++◌, length, map, Option, Some, None, Result, Ok, Err}
 use Rattle.std.specs.List.{flat_map, sum_by, FoldsTo}
 use Rattle.std.specs.Io.KnownBytes.{Consumes, Appends, IsAtEnd}
 use Rattle.gas_terms.specs.Cells.{Extent}
-use Rattle.gas_snapshot.specs.Shelved.{Gains}
+use Rattle.gas_snapshot.specs.Shelved.{Gains, one_failure_more}
 use Rattle.gas_lab.specs.declared.door.Copied.{Copied}
 use Rattle.std.specs.declared.alloc.AllocError.{AllocError as NoMemory}
 use Rattle.gas_terms.specs.declared.command.Command.{Command}
@@ -69,7 +69,7 @@ failed_puts turns = sum_by (λ turn. failed_by turn.put) turns
 -- the count of failures after more of them, which stops at its greatest value
 abbrev pub failures_after : ℕ → ℕ → ℕ
 failures_after old zero = old
-failures_after old (suc more) = min (failures_after old more + 1) (2 ^ 64 - 1)
+failures_after old (suc more) = one_failure_more (failures_after old more)
 
 -- what was written: the lines of the replies, the last of them perhaps cut short
 abbrev pub IsCutShort : List Turn → List ℕ → Type 0

@@ -2,19 +2,15 @@
 
 ghost use Rattle.gas_talk.specs.Private.{WritesPart};
 
+use gas_snapshot::put_all;
 use std::io::Write;
 
 /// Writes the text and flushes. Where it fails a part of the text is written.
 pub fn send<W: Write>(writer: &mut W, text: &[u8]) -> bool
     ensures { WritesPart (W.contents writer.old) (W.contents writer.new) text.now result }
 {
-    let mut at = 0;
-    while at < text.len() {
-        match writer.write(&text[at..]) {
-            Ok(0) => return false,
-            Ok(n) => at += n,
-            Err(_) => return false,
-        }
+    match put_all(writer, text) {
+        Ok(()) => writer.flush().is_ok(),
+        Err(_) => false,
     }
-    writer.flush().is_ok()
 }

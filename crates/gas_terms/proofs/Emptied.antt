@@ -58,9 +58,6 @@ pub not_both : (held : Bool) → (held && not held) ≡ false
 not_both true = refl
 not_both false = refl
 
-pub total-without_itself : (tick : ℤ) (cells : Cells) → HasEvenSides cells.width cells.height → total tick (without cells cells) ≡ nothing
-total-without_itself tick cells even = total-without tick cells cells even (λ x y p q. not_both (has cells x y))
-
 -- the cells of a filled and of a cleared set
 filled_cell : (cells : Cells) (r : Rectangle) (x y : ℕ) → x < cells.width → y < cells.height → has (filled cells r) x y ≡ (has cells x y || is_inside r x y)
 filled_cell cells r x y p q = has-cells_where cells.width cells.height (λ x y. has cells x y || is_inside r x y) x y p q

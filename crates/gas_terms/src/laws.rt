@@ -6,7 +6,7 @@ ghost use Rattle.std.specs.List.{All, AllPairs, Contains};
 ghost use Rattle.gas_terms.specs.Velocity.{Velocity, opposite, outcome, parity};
 ghost use Rattle.gas_terms.specs.Cells.{Cells, has, cells_where, IsFull, joined, HasEvenSides, HasSidesOf, IsEvenTorus, extent, is_size};
 ghost use Rattle.gas_terms.specs.Rows.{row_has, row_bytes, row_replaced};
-ghost use Rattle.gas_terms.specs.Gas.{Gas, Site, sites, IsSite, site_of, neighbor, holds, is_walled, is_obstructed, sent, streamed, unstreamed, forward, back, step, HasNoPorts};
+ghost use Rattle.gas_terms.specs.Gas.{Gas, Site, sites, IsSite, site_of, neighbor, holds, is_walled, sent, streamed, unstreamed, forward, back, step, HasNoPorts};
 ghost use Rattle.gas_terms.specs.Block.{Block, block, corner, block_of, block_rule, turned, digits, corner_rule, other_coordinate};
 
 /// A set that is made by a test holds the cells that pass it.
@@ -35,7 +35,7 @@ pub fn whole_cells_are_an_even_torus()
 pub fn walls_and_obstacles_make_walled_sites()
     ensures { (p : ℕ) (walls obstacles : Cells) (s : Site) →
         HasSidesOf obstacles walls → IsSite p walls.width walls.height s →
-        is_walled (joined walls obstacles) s ≡ (is_walled walls s || is_obstructed obstacles s) }
+        is_walled (joined walls obstacles) s ≡ (is_walled walls s || is_walled obstacles s) }
 {}
 
 /// The list of the sites has each site once, and nothing else.

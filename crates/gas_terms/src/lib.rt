@@ -20,7 +20,7 @@ pub mod symmetry_laws;
 pub mod tick;
 pub mod velocity;
 
-pub use accounts::{Ledger, Pair, Sums, Took};
+pub use accounts::{Ledger, Moved, Pair, Sums, Took};
 pub use answer::Answer;
 pub use command::{Command, Entry};
 pub use limits::{MOST_ENTRIES, MOST_PERIOD, MOST_PORTS, MOST_ROW_BYTES, MOST_SIDE, MOST_STEPS};

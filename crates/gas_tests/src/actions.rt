@@ -6,10 +6,9 @@ ghost use Rattle.gas_terms.specs.Cells.{lies_within, extent};
 use crate::expected::{expect_same, expect_that};
 use gas_ledger::{Flow, Gas, Port, Ports, Sums, tally};
 use gas_plane::{Plane, Tile};
-use gas_terms::{Pair, Rect, Size, Tick, Took};
+use gas_terms::{Moved, Pair, Rect, Size, Tick, Took};
 use phase_step::{
-    Action, Change, Exchange, Few, Later, Listed, Moved, Run, Serial, Stepper, Still, act_on,
-    change_of, sums_by_counts,
+    Action, Change, Exchange, Few, Later, Listed, Run, Serial, Stepper, Still, act_on, change_of,
 };
 use std::process::Abort;
 
@@ -22,7 +21,7 @@ fn sums(count: i64, px: i64, py: i64) -> Sums
 fn took(x: i64, y: i64) -> Took {
     Took {
         walls: Pair { x, y },
-        obstacles: Pair { x: 0, y: 0 },
+        obstacles: Pair::ZERO,
     }
 }
 
@@ -198,8 +197,8 @@ fn action_at_a_tick_of_each_parity(rt: HostRuntime) {
 
 #[test]
 fn sums_by_classes(rt: HostRuntime) {
-    expect_same(&rt, sums_by_counts([1, 2, 3, 4], 0), sums(10, -2, -4));
-    expect_same(&rt, sums_by_counts([1, 2, 3, 4], 1), sums(10, 2, 4));
+    expect_same(&rt, Sums::of_counts([1, 2, 3, 4], 0), sums(10, -2, -4));
+    expect_same(&rt, Sums::of_counts([1, 2, 3, 4], 1), sums(10, 2, 4));
     let change = Change {
         gained: [1, 0, 0, 0],
         lost: [0, 0, 0, 2],

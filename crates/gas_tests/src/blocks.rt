@@ -2,9 +2,7 @@
 
 use crate::expected::{expect_same, expect_that};
 use bit_tile::Tile;
-use block_rule::{
-    Places, Window, turn_block, turn_tile, turn_tile_even, turn_tile_into, turn_tile_odd,
-};
+use block_rule::{Places, Window, turn_block, turn_tile, turn_tile_even, turn_tile_odd};
 use gas_terms::{Pair, Took};
 use std::process::Abort;
 use tile_border::{Border, Neighbors};
@@ -50,11 +48,6 @@ fn blocks_turn_as_the_table_says(rt: HostRuntime) {
         );
     }
 }
-
-const NOTHING: Took = Took {
-    walls: Pair { x: 0, y: 0 },
-    obstacles: Pair { x: 0, y: 0 },
-};
 
 fn tile_of(cells: &[(u32, u32)]) -> Tile {
     let mut tile = Tile::empty();
@@ -104,7 +97,7 @@ fn turned_odd(rt: &impl Abort, old: &Tile, border: &Border) -> Tile {
     expect_same(
         &rt,
         turn_tile_odd(&particles, None, None, &mut out),
-        NOTHING,
+        Took::ZERO,
     );
     out
 }
@@ -118,12 +111,12 @@ fn particles_cross_their_blocks(rt: HostRuntime) {
     let mut free = old;
     let took = turn_tile_even(&mut free, None, None);
     expect_that(&rt, has_just(&free, even));
-    expect_same(&rt, took, NOTHING);
+    expect_same(&rt, took, Took::ZERO);
     let mut among_none = old;
     let places = Some(Places::anywhere(&none));
     let took = turn_tile_even(&mut among_none, places, places);
     expect_that(&rt, has_just(&among_none, even));
-    expect_same(&rt, took, NOTHING);
+    expect_same(&rt, took, Took::ZERO);
 
     // at odd parity (10, 10) and (11, 11) are in blocks of their own, and (0, 0) and (63, 62) leave the tile
     let odd = [(9, 9), (12, 12)].as_slice();
@@ -131,7 +124,7 @@ fn particles_cross_their_blocks(rt: HostRuntime) {
     let border = no_border();
     let (again, took) = turn_tile(&old, &border, &none, &border, &none, &border, 1);
     expect_that(&rt, has_just(&again, odd));
-    expect_same(&rt, took, NOTHING);
+    expect_same(&rt, took, Took::ZERO);
 }
 
 #[test]
@@ -149,7 +142,7 @@ fn particles_of_the_told_rows_stay(rt: HostRuntime) {
     expect_same(
         &rt,
         (took.walls, took.obstacles),
-        (twice, NOTHING.obstacles),
+        (twice, Took::ZERO.obstacles),
     );
 }
 
@@ -208,7 +201,7 @@ fn sixteen_states_walled_and_not(rt: HostRuntime) {
             let tile = cells_at(old, x, y);
             let (out, took) = turn_tile(&tile, &border, &none, &border, &none, &border, parity);
             expect_that(&rt, out.has_same_cells(&cells_at(new, x, y)));
-            expect_same(&rt, took, NOTHING);
+            expect_same(&rt, took, Took::ZERO);
             for wall in [0b1000, 0b0100, 0b0010, 0b0001] {
                 let walls = cells_at(wall, x, y);
                 let (out, _) = turn_tile(&tile, &border, &walls, &border, &none, &border, parity);
@@ -256,7 +249,7 @@ fn a_tile_books_its_own_particles(rt: HostRuntime) {
     // with neither it meets the other head on
     let (out, took) = taken_at_corner(&free, &free);
     expect_that(&rt, has_just(&out, [].as_slice()));
-    expect_same(&rt, took, NOTHING);
+    expect_same(&rt, took, Took::ZERO);
 }
 
 #[test]
@@ -267,22 +260,17 @@ fn walls_and_obstacles_turn_particles_back(rt: HostRuntime) {
     let old = tile_of([(0, 0), (5, 8), (20, 31)].as_slice());
     let walls = tile_of([(1, 1), (4, 8)].as_slice());
     let obstacles = tile_of([(21, 30)].as_slice());
-    let mut out = Tile::rect(0, 0, 64, 64);
-    let took = turn_tile_into(
-        &old, &border, &walls, &border, &obstacles, &border, 0, &mut out,
-    );
+    let (out, took) = turn_tile(&old, &border, &walls, &border, &obstacles, &border, 0);
     expect_that(&rt, has_just(&out, [(0, 0), (5, 8), (20, 31)].as_slice()));
     expect_same(&rt, took.walls, pair(0, 4));
     expect_same(&rt, took.obstacles, pair(2, -2));
 
     // at odd parity they are in other blocks, none of them walled: (0, 0) leaves the tile
-    let took = turn_tile_into(
-        &old, &border, &walls, &border, &obstacles, &border, 1, &mut out,
-    );
+    let (out, took) = turn_tile(&old, &border, &walls, &border, &obstacles, &border, 1);
     expect_that(&rt, has_just(&out, [(6, 7), (19, 32)].as_slice()));
-    expect_same(&rt, took, NOTHING);
+    expect_same(&rt, took, Took::ZERO);
     // an obstacle on a particle's own cell takes as well
-    let took = turn_tile_into(&old, &border, &none, &border, &old, &border, 1, &mut out);
+    let (out, took) = turn_tile(&old, &border, &none, &border, &old, &border, 1);
     expect_that(&rt, has_just(&out, [(0, 0), (5, 8), (20, 31)].as_slice()));
     expect_same(&rt, took.walls, pair(0, 0));
     expect_same(&rt, took.obstacles, pair(-2, -2));

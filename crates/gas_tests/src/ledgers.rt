@@ -5,7 +5,7 @@ ghost use Rattle.gas_terms.specs.Cells.{lies_within, extent};
 
 use crate::actions::step_on;
 use crate::expected::{expect_same, expect_that};
-use gas_ledger::{Full, Gas, Moved, Port, Ports, Source, Sums, probe, tally};
+use gas_ledger::{Full, Gas, Moved, Port, Ports, Source, Sums, apply_ports, probe, tally};
 use gas_plane::Plane;
 use gas_terms::{Rect, Size, Tick};
 use std::process::Abort;
@@ -172,6 +172,37 @@ fn drained_and_refilled_cancels(rt: HostRuntime) {
         (sums(0, 0, 0), sums(0, 0, 0)),
     );
     expect_that(&rt, holds(gas.particles(), 5, 6));
+}
+
+#[test]
+fn ports_act_on_a_plane(rt: HostRuntime) {
+    let size = Size::new(64, 64).expect(&rt, "a size");
+    let drained = Rect::within(size, 0, 0, 2, 1).expect(&rt, "a rectangle");
+    let filled = Rect::within(size, 1, 0, 2, 1).expect(&rt, "a rectangle");
+    let mut ports = Ports::none();
+    expect_same(&rt, ports.add(Port::Drain(drained)), Ok(()));
+    expect_same(&rt, ports.add(Port::Source(filled, 2)), Ok(()));
+    let mut plane = Plane::empty(rt.alloc(), size).expect(&rt, "memory");
+    plane.fill(drained);
+    // the second cell is drained and filled again
+    let moved = apply_ports(&mut plane, &ports, tick(&rt, 4));
+    expect_same(
+        &rt,
+        (moved.injected, moved.drained),
+        (sums(1, 1, 1), sums(1, 1, 1)),
+    );
+    expect_that(
+        &rt,
+        !holds(&plane, 0, 0) && holds(&plane, 1, 0) && holds(&plane, 2, 0),
+    );
+    // the source is not due
+    let moved = apply_ports(&mut plane, &ports, tick(&rt, 5));
+    expect_same(
+        &rt,
+        (moved.injected, moved.drained),
+        (sums(0, 0, 0), sums(1, 1, -1)),
+    );
+    expect_that(&rt, !holds(&plane, 1, 0) && holds(&plane, 2, 0));
 }
 
 // two drains and two sources, each over an edge of a tile or at the lattice's end

@@ -40,7 +40,9 @@ impl Call<Roll> for Sign {
 
     ghost needs = { λ _ _ _. ⊤ };
 
-    ghost does = { λ _ by x r y. (r ≡ vec_len y.numbers) × ((y.numbers.items ≡ x.numbers.items) ⊎ (y.numbers.items ≡ x.numbers.items ++ by ∷ [])) };
+    ghost does = { λ _ by x r y. (r ≡ vec_len y.numbers)
+        × ((y.numbers.items ≡ x.numbers.items)
+        ⊎ (y.numbers.items ≡ x.numbers.items ++ by ∷ [])) };
 
     fn call(self, by: u64, value: &mut Roll) -> usize {
         if value.numbers.len() < value.most {

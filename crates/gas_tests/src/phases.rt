@@ -78,7 +78,7 @@ fn head_on_pair_across_tiles(rt: HostRuntime) {
     let took = phase(&rt, &old, &none, &none, 1, &mut out);
     let want = plane(&rt, 128, 128, &[(64, 63), (63, 64)]);
     expect_that(&rt, are_same(&out, &want, 128, 128));
-    let nothing = Pair { x: 0, y: 0 };
+    let nothing = Pair::ZERO;
     expect_that(&rt, took.walls == nothing);
     expect_that(&rt, took.obstacles == nothing);
 }
@@ -100,7 +100,7 @@ fn wall_that_was_cleared_is_none(rt: HostRuntime) {
     let took = phase(&rt, &old, &walls, &none, 1, &mut out);
     let want = plane(&rt, 128, 128, &[(64, 64)]);
     expect_that(&rt, are_same(&out, &want, 128, 128));
-    expect_that(&rt, took.walls == Pair { x: 0, y: 0 });
+    expect_that(&rt, took.walls == Pair::ZERO);
 }
 
 // At even ticks the wall at (0, 0) is in the block of (0, 0) to (1, 1), at odd ones across the seam. The other wall shares a
@@ -147,7 +147,7 @@ fn sites_of_walls_and_obstacles(rt: HostRuntime) {
 
 #[test]
 fn wall_across_tiles_books_once(rt: HostRuntime) {
-    let nothing = Pair { x: 0, y: 0 };
+    let nothing = Pair::ZERO;
     // at an odd tick a particle at (63, 63) goes to the right and down
     let twice = Pair { x: 2, y: 2 };
     let old = plane(&rt, 128, 128, &[(63, 63)]);
@@ -170,7 +170,7 @@ fn wall_across_tiles_books_once(rt: HostRuntime) {
 
 #[test]
 fn first_tile_by_itself(rt: HostRuntime) {
-    let nothing = Pair { x: 0, y: 0 };
+    let nothing = Pair::ZERO;
     // at an odd tick a particle at (63, 63) goes to the right and down
     let twice = Pair { x: 2, y: 2 };
     let old = plane(&rt, 128, 128, &[(63, 63)]);
@@ -198,7 +198,7 @@ fn wall_in_a_tile_at_an_even_tick(rt: HostRuntime) {
     let want = plane(&rt, 128, 64, &[(63, 62), (11, 11)]);
     expect_that(&rt, are_same(&out, &want, 128, 64));
     expect_that(&rt, took.walls == Pair { x: -2, y: 2 });
-    expect_that(&rt, took.obstacles == Pair { x: 0, y: 0 });
+    expect_that(&rt, took.obstacles == Pair::ZERO);
 }
 
 #[test]
@@ -206,7 +206,7 @@ fn wall_in_the_last_row_holds_in_the_tile_below(rt: HostRuntime) {
     // at an odd tick (10, 64) goes to the left and up, into the block of the wall in the last row of the tile above
     let old = plane(&rt, 128, 128, &[(10, 64), (12, 64)]);
     let none = plane(&rt, 128, 128, &[]);
-    let nothing = Pair { x: 0, y: 0 };
+    let nothing = Pair::ZERO;
     let back = Pair { x: -2, y: -2 };
     let edge = plane(&rt, 128, 128, &[(9, 63)]);
     for (walls, obstacles, by_walls, by_obstacles) in [
@@ -253,7 +253,7 @@ fn one_wall_in_each_row(rt: HostRuntime) {
                 y: given(y, parity),
             };
             expect_that(&rt, took.walls == back);
-            expect_that(&rt, took.obstacles == Pair { x: 0, y: 0 });
+            expect_that(&rt, took.obstacles == Pair::ZERO);
         }
     }
 }
@@ -316,8 +316,8 @@ fn fifty_steps_and_back(rt: HostRuntime) {
     let obstacles = scattered(&rt, 3, 700);
     let mut now = scattered(&rt, 1, 3);
     let mut next = scattered(&rt, 4, 2);
-    let mut by_walls = Pair { x: 0, y: 0 };
-    let mut by_obstacles = Pair { x: 0, y: 0 };
+    let mut by_walls = Pair::ZERO;
+    let mut by_obstacles = Pair::ZERO;
     for t in 0..50u8 {
         let took = phase(&rt, &now, &walls, &obstacles, t % 2, &mut next);
         add(&mut by_walls, took.walls);
@@ -325,8 +325,8 @@ fn fifty_steps_and_back(rt: HostRuntime) {
         std::mem::swap(&mut now, &mut next);
     }
     expect_that(&rt, !are_same(&now, &start, WIDE, HIGH));
-    let mut back_walls = Pair { x: 0, y: 0 };
-    let mut back_obstacles = Pair { x: 0, y: 0 };
+    let mut back_walls = Pair::ZERO;
+    let mut back_obstacles = Pair::ZERO;
     for t in (0..50u8).rev() {
         let took = phase(&rt, &now, &walls, &obstacles, t % 2, &mut next);
         add(&mut back_walls, took.walls);

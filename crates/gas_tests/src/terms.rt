@@ -5,8 +5,8 @@ ghost use Rattle.gas_terms.specs.Cells.{lies_within};
 
 use crate::expected::{expect_same, expect_that};
 use gas_terms::{
-    Command, Entry, Ledger, NoMemory, Pair, Rect, Refusal, RowBits, Size, Sums, Tick, Took, Vel,
-    vel,
+    Command, Entry, Ledger, Moved, NoMemory, Pair, Rect, Refusal, RowBits, Size, Sums, Tick, Took,
+    Vel, vel,
 };
 use std::process::Abort;
 use std::test::Fail;
@@ -170,31 +170,30 @@ fn accounts_add_up(rt: HostRuntime) {
             obstacles: Pair { x: -12, y: 16 },
         },
     );
-    let (start, injected, drained) = (sums(5, -3, 1), sums(2, 2, -2), sums(7, -1, -1));
     let before = Ledger {
-        start,
-        injected,
-        drained,
+        start: sums(5, -3, 1),
+        injected: sums(2, 2, -2),
+        drained: sums(7, -1, -1),
         walls: Pair { x: 1, y: 1 },
         obstacles: Pair { x: 0, y: 10 },
     };
-    let after = before.with_taken(took);
-    expect_same(&rt, after.walls, Pair { x: 3, y: -3 });
-    expect_same(&rt, after.obstacles, Pair { x: -6, y: 18 });
-    expect_same(
-        &rt,
-        (after.start, after.injected, after.drained),
-        (start, injected, drained),
-    );
+    let after = Ledger {
+        walls: Pair { x: 3, y: -3 },
+        obstacles: Pair { x: -6, y: 18 },
+        ..before
+    };
+    expect_same(&rt, before.with_taken(took), after);
     expect_same(&rt, after.with_given_back(took), before);
-    let moved = before.with_moved(sums(1, 1, -1), sums(4, 2, -4));
-    expect_same(&rt, moved.injected, sums(3, 3, -3));
-    expect_same(&rt, moved.drained, sums(11, 1, -5));
-    expect_same(
-        &rt,
-        (moved.start, moved.walls, moved.obstacles),
-        (start, before.walls, before.obstacles),
-    );
+    let moved = Moved {
+        injected: sums(1, 1, -1),
+        drained: sums(4, 2, -4),
+    };
+    let after = Ledger {
+        injected: sums(3, 3, -3),
+        drained: sums(11, 1, -5),
+        ..before
+    };
+    expect_same(&rt, before.with_moved(moved), after);
 }
 
 #[test]

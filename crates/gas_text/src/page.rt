@@ -11,6 +11,7 @@ use crate::reply::Reply;
 use crate::verb::Verb;
 use gas_terms::{Answer, Command, Ledger, Rect, RowBits, Sums};
 use hex::encode_to_slice;
+use itoa::Buffer;
 use std::marker::Model;
 
 // how many bytes a reply may have
@@ -88,28 +89,15 @@ impl ReplyPage {
         self.len = end;
     }
 
-    // The digits of a number.
-    fn push_digits(&mut self, n: u64)
-        requires { length self.old + length (decimal n) ≤ reply_limit }
-        ensures { self.new ≡ self.old ++ decimal n }
-    {
-        if n < 10 {
-            self.push(&[b'0' + n as u8]);
-            return;
-        }
-        self.push_digits(n / 10);
-        self.push(&[b'0' + (n % 10) as u8]);
-    }
-
     // A space, and the number.
-    #[tactic(auto, using(crate::proofs::Decimals::decimal_short))]
     fn push_number(&mut self, n: u64)
         requires { length self.old + 21 ≤ reply_limit }
         ensures text { self.new ≡ self.old ++ spaced (decimal n ∷ []) }
         ensures short { length self.new ≤ length self.old + 21 }
     {
         self.push(b" ");
-        self.push_digits(n);
+        let mut digits = Buffer::new();
+        self.push(digits.format(n).as_bytes());
     }
 
     // A space, and the number, with a sign where it is negative.
@@ -118,12 +106,9 @@ impl ReplyPage {
         ensures text { self.new ≡ self.old ++ spaced (signed_decimal n ∷ []) }
         ensures short { length self.new ≤ length self.old + 21 }
     {
-        self.push(if n < 0 {
-            b" -".as_slice()
-        } else {
-            b" ".as_slice()
-        });
-        self.push_digits(n.unsigned_abs());
+        self.push(b" ");
+        let mut signed = Buffer::new();
+        self.push(signed.format(n).as_bytes());
     }
 
     // Each number after a space.

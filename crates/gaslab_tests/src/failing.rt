@@ -9,7 +9,7 @@ use gas_terms::Size;
 use phase_team::{NoGate, Team};
 use std::process::Abort;
 use std::thread::Threads;
-use test_types::faults::{FaultAt, Sink, Source, Store};
+use test_types::faults::{FaultAt, Feed, Sink, Store};
 
 const CHANNEL: &str =
     "wall 0 20 64 1; wall 0 29 64 1; put 28 21 8 8; step 100; back 100; tally; ledger; read 21; read 28; read 29";
@@ -115,10 +115,10 @@ fn sits<R: Abort + AllocGlobal + Threads>(
     input: &[u8],
     failing: Failing,
 ) -> Session {
-    let mut source = Source::new(input, failing.read_step, failing.reads);
+    let mut feed = Feed::new(input, failing.read_step, failing.reads);
     let mut sink = Sink::new(rt.alloc(), failing.write_step, ALL, failing.writes);
     let mut store = Store::new(rt.alloc(), FaultAt::never());
-    let end = serve_alone(rt.alloc(), &mut source, &mut sink, lab, 0, &mut store);
+    let end = serve_alone(rt.alloc(), &mut feed, &mut sink, lab, 0, &mut store);
     Session { sink, store, end }
 }
 
@@ -182,10 +182,10 @@ fn runs(
     failing: Failing,
     wanted: Outcome,
 ) {
-    let mut source = Source::new(exchange.input.as_slice(), failing.read_step, failing.reads);
+    let mut feed = Feed::new(exchange.input.as_slice(), failing.read_step, failing.reads);
     let mut sink = Sink::new(rt.alloc(), failing.write_step, ALL, failing.writes);
     let mut store = Store::new(rt.alloc(), FaultAt::never());
-    let status = status_on(rt, SMALL, None, &mut source, &mut sink, &mut store);
+    let status = status_on(rt, SMALL, None, &mut feed, &mut sink, &mut store);
     expect_same(&rt, status, status_of(wanted.end));
     expect_same(
         &rt,
@@ -408,10 +408,10 @@ fn puts(
 ) {
     let input = lines(rt, input);
     let output = lines(rt, output);
-    let mut source = Source::new(input.as_slice(), ALL, FaultAt::never());
+    let mut feed = Feed::new(input.as_slice(), ALL, FaultAt::never());
     let mut sink = Sink::new(rt.alloc(), ALL, ALL, FaultAt::never());
     let mut store = Store::new(rt.alloc(), FaultAt::after(calls));
-    let status = status_on(rt, SMALL, None, &mut source, &mut sink, &mut store);
+    let status = status_on(rt, SMALL, None, &mut feed, &mut sink, &mut store);
     expect_same(&rt, status, 0);
     expect_same(&rt, sink.taken(), output.as_slice());
     expect_same(&rt, store.failures(), failures);

@@ -3,7 +3,7 @@
 use crate::expected::{expect_same, expect_that};
 use crate::script::{ALL, Room, SMALL, answers, gives, lines, status_on};
 use std::process::Abort;
-use test_types::faults::{FaultAt, Sink, Source, Store};
+use test_types::faults::{FaultAt, Feed, Sink, Store};
 
 const REFUSED: &str =
     "; jump; Put 0 0 1 1; put 0 0 1; put a 0 1; put 0 0 1 4294967296; put 00000000000 0 1 1; put 0 0 1 4294967295; step 4097; source 0 0 1 1 0; source 60 0 8 1 0; entry 0; quit; tally";
@@ -118,10 +118,10 @@ fn not_utf8_line(rt: HostRuntime) {
 #[test]
 fn writer_fails_within_a_reply(rt: HostRuntime) {
     let input = lines(&rt, "put 0 0 1 1; put 2 2 1 1; put 4 4 1 1");
-    let mut source = Source::new(input.as_slice(), ALL, FaultAt::never());
+    let mut feed = Feed::new(input.as_slice(), ALL, FaultAt::never());
     let mut sink = Sink::new(rt.alloc(), ALL, 7, FaultAt::never());
     let mut store = Store::new(rt.alloc(), FaultAt::never());
-    let status = status_on(&rt, SMALL, None, &mut source, &mut sink, &mut store);
+    let status = status_on(&rt, SMALL, None, &mut feed, &mut sink, &mut store);
     expect_same(&rt, status, 1);
     expect_same(&rt, sink.taken(), b"OK 0\nOK".as_slice());
 }
@@ -148,12 +148,12 @@ fn count_tallies(rt: &impl Abort, output: &[u8]) -> usize {
 // 2^24 reads of one byte each
 #[test]
 fn too_many_reads(rt: HostRuntime) {
-    let mut source = Source::endless(TALLY, 1);
+    let mut feed = Feed::endless(TALLY, 1);
     let mut sink = Sink::new(rt.alloc(), ALL, ALL, FaultAt::never());
     let mut store = Store::new(rt.alloc(), FaultAt::never());
-    let status = status_on(&rt, SMALL, None, &mut source, &mut sink, &mut store);
+    let status = status_on(&rt, SMALL, None, &mut feed, &mut sink, &mut store);
     expect_same(&rt, status, 1);
-    expect_same(&rt, source.reads(), 16_777_216);
+    expect_same(&rt, feed.reads(), 16_777_216);
     expect_same(&rt, count_tallies(&rt, sink.taken()), 2_796_202);
 }
 
@@ -164,12 +164,12 @@ fn reads_ask_for_at_most_a_page(rt: HostRuntime) {
     for _ in 0..2000u32 {
         input.extend_from_slice(TALLY).expect(&rt, "memory");
     }
-    let mut source = Source::new(input.as_slice(), ALL, FaultAt::never());
+    let mut feed = Feed::new(input.as_slice(), ALL, FaultAt::never());
     let mut sink = Sink::new(rt.alloc(), ALL, ALL, FaultAt::never());
     let mut store = Store::new(rt.alloc(), FaultAt::never());
-    let status = status_on(&rt, SMALL, None, &mut source, &mut sink, &mut store);
+    let status = status_on(&rt, SMALL, None, &mut feed, &mut sink, &mut store);
     expect_same(&rt, status, 0);
     expect_same(&rt, count_tallies(&rt, sink.taken()), 2000);
-    expect_that(&rt, 0 < source.asked());
-    expect_that(&rt, source.asked() <= 4096);
+    expect_that(&rt, 0 < feed.asked());
+    expect_that(&rt, feed.asked() <= 4096);
 }

@@ -15,7 +15,7 @@ use phase_team::{LeastRun, NoGate, Team};
 use std::io::{Read, Write};
 use std::process::Abort;
 use std::thread::Threads;
-use test_types::faults::{FaultAt, Sink, Source, Store};
+use test_types::faults::{FaultAt, Feed, Sink, Store};
 
 /// No limit of what is read or written at once.
 pub const ALL: usize = usize::MAX;
@@ -140,10 +140,10 @@ pub fn answers(
     output: &[u8],
     status: u8,
 ) {
-    let mut source = Source::new(input, step, FaultAt::never());
+    let mut feed = Feed::new(input, step, FaultAt::never());
     let mut sink = Sink::new(rt.alloc(), ALL, ALL, FaultAt::never());
     let mut store = Store::new(rt.alloc(), FaultAt::never());
-    let found = status_on(rt, room, start, &mut source, &mut sink, &mut store);
+    let found = status_on(rt, room, start, &mut feed, &mut sink, &mut store);
     expect_same(&rt, sink.taken(), output);
     expect_same(&rt, found, status);
 }

@@ -8,7 +8,7 @@ use gas_snapshot::{MaybeShelf, NoShelf, Shelf, decode};
 use gaslab::load_from;
 use std::process::Abort;
 use std::thread::Threads;
-use test_types::faults::{FaultAt, Sink, Source, Store};
+use test_types::faults::{FaultAt, Feed, Sink, Store};
 
 // the head of a gas of 64 by 64 at tick 0 without ports
 const HEAD: [u8; 22] = [
@@ -33,9 +33,9 @@ pub fn snapshot(rt: &(impl Abort + AllocGlobal + Threads), at: usize, byte: u8) 
 // the script gives this output, on a shelf that keeps what it takes
 fn saves(rt: &(impl Abort + AllocGlobal + Threads), script: &str, output: &str, store: &mut Store) {
     let input = lines(rt, script);
-    let mut source = Source::new(input.as_slice(), ALL, FaultAt::never());
+    let mut feed = Feed::new(input.as_slice(), ALL, FaultAt::never());
     let mut sink = Sink::new(rt.alloc(), ALL, ALL, FaultAt::never());
-    let status = status_on(rt, SMALL, None, &mut source, &mut sink, store);
+    let status = status_on(rt, SMALL, None, &mut feed, &mut sink, store);
     expect_same(&rt, sink.taken(), lines(rt, output).as_slice());
     expect_same(&rt, status, 0);
 }

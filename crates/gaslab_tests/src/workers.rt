@@ -9,7 +9,7 @@ use std::rt::Files;
 use std::sync::atomic::{AtomicBool, Ordering};
 use std::thread::Threads;
 use std::{fs, thread};
-use test_types::faults::{FaultAt, Sink, Source, Store};
+use test_types::faults::{FaultAt, Feed, Sink, Store};
 
 // the next of a sequence of words that look random
 fn next(state: &mut u64) -> u64 {
@@ -62,10 +62,10 @@ struct Told {
 }
 
 fn told_by(rt: &(impl Abort + AllocGlobal + Threads), script: &[u8], room: Room) -> Told {
-    let mut source = Source::new(script, ALL, FaultAt::never());
+    let mut feed = Feed::new(script, ALL, FaultAt::never());
     let mut sink = Sink::new(rt.alloc(), ALL, ALL, FaultAt::never());
     let mut store = Store::new(rt.alloc(), FaultAt::never());
-    let status = status_on(rt, room, None, &mut source, &mut sink, &mut store);
+    let status = status_on(rt, room, None, &mut feed, &mut sink, &mut store);
     expect_same(&rt, status, 0);
     Told { sink, store }
 }

@@ -4,7 +4,7 @@ ghost use Rattle.std.specs.Prelude.{◌≡◌, [], vec_len};
 ghost use Rattle.gas_terms.specs.Cells.{extent};
 
 use crate::expected::{expect_same, expect_that};
-use crate::values::{look_at, small_lab, sums_of};
+use crate::small_labs::{look_at, small_lab, sums_of};
 use gas_hall::{Hall, HallGate, HallName, HallSeat};
 use gas_lab::{Lab, Serial, Stepper};
 use gas_snapshot::NoShelf;

@@ -1,9 +1,9 @@
 //! A session that fails at each of its calls in turn, beside one that speaks when the first is over.
 
 use crate::expected::{expect_same, expect_that};
-use crate::served::serve_sessions;
-use crate::turn_served::serve_in_turn;
-use crate::values::{counters, no_puts, small_lab};
+use crate::open_and_serve::serve_sessions;
+use crate::small_labs::{counters, no_puts, small_lab};
+use crate::turn_hall_serving::serve_in_turn;
 use gas_hall::{AcceptFault, Lobby};
 use std::io;
 use std::io::{Read, Write};
@@ -12,7 +12,7 @@ use std::sync::atomic::{AtomicBool, Ordering};
 use std::sync::{Mutex, Wait};
 use std::thread::Threads;
 use std::time::Clock;
-use test_types::faults::{FaultAt, Source};
+use test_types::faults::{FaultAt, Feed};
 use test_types::gates::{TestGate, wait_for};
 use test_types::pages::{Page, PageWriter, shows};
 
@@ -66,7 +66,7 @@ impl Scene {
 struct Speaker<'a, C: Clock> {
     clock: C,
     scene: &'a Scene,
-    source: Source<'a>,
+    feed: Feed<'a>,
     waits: bool,
 }
 
@@ -75,7 +75,7 @@ impl<'a, C: Clock> Read for Speaker<'a, C> {
         if self.waits {
             wait_for(&self.clock, &self.scene.is_over, &self.scene.met_limit);
         }
-        match self.source.read(buf) {
+        match self.feed.read(buf) {
             Ok(0) => {
                 self.scene.is_over.store(true, Ordering::SeqCst);
                 Ok(0)
@@ -151,7 +151,7 @@ impl<'a, C: Clock + Copy + Drop + Send> Lobby for Two<'a, C> {
         let speaker = Speaker {
             clock: *clock,
             scene: *scene,
-            source: Source::new(text, 9, reads),
+            feed: Feed::new(text, 9, reads),
             waits,
         };
         let writer = Writer {

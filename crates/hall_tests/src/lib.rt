@@ -8,18 +8,18 @@ mod expected;
 #[cfg(test)]
 mod faulty;
 #[cfg(test)]
-mod many;
+mod hall_serving;
+#[cfg(test)]
+mod most_seats;
+#[cfg(test)]
+mod open_and_serve;
 #[cfg(test)]
 mod refused;
 #[cfg(test)]
-mod rows;
-#[cfg(test)]
-mod served;
+mod small_labs;
 #[cfg(test)]
 mod socket;
 #[cfg(test)]
-mod turn;
+mod turn_doors;
 #[cfg(test)]
-mod turn_served;
-#[cfg(test)]
-mod values;
+mod turn_hall_serving;

@@ -6,8 +6,8 @@ ghost use Rattle.gas_terms.specs.Cells.{extent};
 ghost use Rattle.gas_terms.specs.Commands.{fits};
 
 use crate::expected::{expect_same, expect_that};
-use crate::served::{Left, serve_sessions};
-use crate::values::{look_at, no_puts, small_lab, summed, taken};
+use crate::open_and_serve::{Left, serve_sessions};
+use crate::small_labs::{look_at, no_puts, small_lab, summed, taken};
 use gas_hall::{Hall, HallGate, HallName, HallSeat};
 use gas_lab::{Lab, Serial};
 use gas_talk::{Copied, Door};

@@ -1,8 +1,8 @@
 //! Serving sessions over sockets.
 
 use crate::expected::{expect_same, expect_that};
-use crate::served::serve_sessions;
-use crate::values::{empty_lab, no_puts};
+use crate::open_and_serve::serve_sessions;
+use crate::small_labs::{empty_lab, no_puts};
 use gas_hall::TcpLobby;
 use std::alloc::Global;
 use std::io::{ErrorKind, Read, Write};

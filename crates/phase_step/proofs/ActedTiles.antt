@@ -8,7 +8,7 @@ use Rattle.bit_tile.specs.Tile.{HasCells, count_cells}
 use Rattle.bit_tile.specs.declared.Tile.{Tile}
 use Rattle.bit_tile.proofs.Bits.{get_or-replicate_zero}
 use Rattle.gas_terms.specs.Cells.{Cells, Extent, has, cells_where, is_inside, extent, lies_within, tile_count, whole, without, IsFull, HasEvenSides}
-use Rattle.gas_terms.specs.Accounts.{parity_count, total, total_in}
+use Rattle.gas_terms.specs.Accounts.{parity_count, total, total_in, moved_by}
 use Rattle.gas_terms.proofs.AccountBounds.{size-width, size-height, size-even}
 use Rattle.gas_terms.proofs.RectangleTotals.{total-whole}
 use Rattle.gas_terms.proofs.Cells.{has-cells_where, full-cells_where, same_cells}
@@ -20,8 +20,7 @@ use Rattle.gas_plane.proofs.Sweeps.{left_of, top_of, sweep_starts, sweep_ends, s
 use Rattle.gas_plane.proofs.PlaneCounts.{counted, tile_counted, tile_counts_by, counts_end, sum_past}
 use Rattle.phase_step.specs.Actions.{Leaves, IsStill, IsLeftOf, IsTileCorner, acted}
 use Rattle.phase_step.specs.Counts.{AreCounts, moved_by_counts}
-use Rattle.phase_step.specs.Moves.{moved_by}
-use Rattle.phase_step.specs.declared.change.Change.{Change}
+use Rattle.phase_step.specs.declared.sums.change.Change.{Change}
 use Rattle.phase_step.proofs.Counting.{counted_sums, same_moved}
 
 -- what is left of each cell of a set

@@ -3,12 +3,11 @@ use Rattle.std.proofs.Common.{◌≡◌, ℕ, zero, suc, ◌+◌, ◌*◌, ◌<�
 use Rattle.gas_terms.specs.Cells.{Cells, IsFull, joined, extent, is_size, tile_count}
 use Rattle.gas_terms.specs.Gas.{streamed, arrived, site_of}
 use Rattle.gas_terms.specs.Velocity.{velocity_at}
-use Rattle.gas_terms.specs.Accounts.{taken, took_plus}
+use Rattle.gas_terms.specs.Accounts.{taken, took_plus, moved_by, moved_plus}
 use Rattle.gas_terms.proofs.Cells.{full-cells_where}
 use Rattle.phase_step.specs.Runs.{parity_at, after, run_takes}
-use Rattle.phase_step.specs.Moves.{moved_by}
-use Rattle.phase_step.specs.Actions.{Leaves, acted, after_with, takes_with, moves_with, flow_with, moved_plus, flow_plus, FlowsFit}
-use Rattle.phase_step.specs.declared.moved.Flow.{Flow}
+use Rattle.phase_step.specs.declared.sums.flow.Flow.{Flow}
+use Rattle.phase_step.specs.Actions.{Leaves, acted, after_with, takes_with, moves_with, flow_with, flow_plus, FlowsFit}
 use Rattle.phase_step.proofs.MovedSums.{moved_regrouped, moved_none}
 use Rattle.phase_step.proofs.ActedTiles.{still_acts}
 use Rattle.phase_step.proofs.ActionRuns.{acted_same, same_flow, sized_with, count_with, takes_with_within, moves_with_bounded, bounded_fits, IsMovedOfAtMost}

@@ -4,7 +4,7 @@ use Rattle.std.proofs.lemmas.Int.{ints}
 use Rattle.gas_terms.specs.Cells.{Cells, HasSidesOf, has, joined, without, extent, is_size, tile_count}
 use Rattle.gas_terms.specs.Gas.{streamed}
 use Rattle.gas_terms.specs.Velocity.{parity as of_tick}
-use Rattle.gas_terms.specs.Accounts.{taken, took_plus, SumsFit, IsOfAtMost}
+use Rattle.gas_terms.specs.Accounts.{taken, took_plus, SumsFit, IsOfAtMost, moved_by, moved_plus}
 use Rattle.gas_terms.specs.Accounts as accounts
 use Rattle.gas_terms.specs.declared.accounts.Sums.{Sums}
 use Rattle.gas_terms.specs.declared.accounts.Took.{Took}
@@ -14,10 +14,9 @@ use Rattle.gas_terms.proofs.TotalBounds.{total_bounded}
 use Rattle.gas_plane.specs.Planes.{IsLattice}
 use Rattle.gas_plane.proofs.PlaneCounts.{few_tiles}
 use Rattle.phase_step.specs.Runs.{parity_at}
-use Rattle.phase_step.specs.Moves.{moved_by}
-use Rattle.phase_step.specs.Actions.{Leaves, acted, after_with, takes_with, moves_with, flow_with, moved_plus, flow_plus, FlowsFit}
-use Rattle.phase_step.specs.declared.moved.Moved.{Moved}
-use Rattle.phase_step.specs.declared.moved.Flow.{Flow}
+use Rattle.gas_terms.specs.declared.accounts.Moved.{Moved}
+use Rattle.phase_step.specs.Actions.{Leaves, acted, after_with, takes_with, moves_with, flow_with, flow_plus, FlowsFit}
+use Rattle.phase_step.specs.declared.sums.flow.Flow.{Flow}
 use Rattle.phase_step.proofs.PhaseSweeps.{sized_as, tiles_as}
 use Rattle.phase_step.proofs.RunTakes.{IsWithin, within_nothing, within_plus, int_fits, within_fits, taken_within}
 

@@ -7,8 +7,9 @@ use Rattle.gas_terms.proofs.AccountBounds.{size-width, size-height}
 use Rattle.gas_terms.proofs.RectangleTotals.{total_in-parities, parity_count-small}
 use Rattle.gas_terms.proofs.TotalBounds.{same_counts}
 use Rattle.gas_plane.specs.Planes.{IsLattice}
-use Rattle.phase_step.specs.Counts.{AreCounts, AreSmall, sums_of_counts}
-use Rattle.phase_step.specs.declared.moved.Moved.{Moved}
+use Rattle.phase_step.specs.Counts.{AreCounts}
+use Rattle.gas_terms.specs.declared.accounts.Moved.{Moved}
+use Rattle.gas_terms.specs.Counts.{AreSmall, sums_of_counts}
 
 -- The four counts of a rectangle give its sums.
 pub counted_sums : (tick : ℤ) (counts : List ℕ) (cells : Cells) (r : Rectangle) → AreCounts counts cells r → sums_of_counts tick counts ≡ total_in tick cells r

@@ -1,14 +1,9 @@
 -- What rectangles leave of a tile.
-use Rattle.std.proofs.Common.{◌≡◌, ℕ, ◌==◌, ◌&&◌, ◌||◌, not, Bool, true, false, List, [], ◌∷◌, length, refl, sym, ◌∙◌, ap, arith}
+use Rattle.std.proofs.Common.{◌≡◌, ℕ, ◌==◌, ◌&&◌, ◌||◌, not, Bool, true, false, List, [], ◌∷◌, length, refl, ◌∙◌, ap, arith}
 use Rattle.std.proofs.lemmas.Bool.Decides.{nat_tests}
 use Rattle.gas_terms.specs.Cells.{Rectangle}
 use Rattle.phase_step.specs.Actions.{IsStill}
 use Rattle.phase_step.specs.Exchanges.{Areas, is_in_any, is_left, leaves_of, nowhere}
-
--- a tile that no rectangle meets stays
-implies_not : (some met : Bool) → (some ≡ true → met ≡ true) → met ≡ false → some ≡ false
-implies_not true met h e = let z : true ≡ false = sym (h refl) ∙ e in z
-implies_not false met h e = refl
 
 as_before : (held : Bool) → ((held && true) || false) ≡ held
 as_before true = refl

@@ -1,11 +1,11 @@
 -- What changes move, one after another.
 use Rattle.std.proofs.Common.{◌≡◌}
-use Rattle.gas_terms.specs.Accounts.{plus}
+use Rattle.gas_terms.specs.Accounts.{plus, moved_plus}
 use Rattle.gas_terms.specs.Accounts as accounts
 use Rattle.gas_terms.specs.declared.accounts.Sums.{Sums}
 use Rattle.gas_terms.proofs.Totals.{same_sums}
-use Rattle.phase_step.specs.Actions.{moved_plus, unmoved}
-use Rattle.phase_step.specs.declared.moved.Moved.{Moved}
+use Rattle.phase_step.specs.Actions.{unmoved}
+use Rattle.gas_terms.specs.declared.accounts.Moved.{Moved}
 use Rattle.phase_step.proofs.Counting.{same_moved}
 use Rattle.phase_step.proofs.RunTakes.{ints_crossed, ints_regrouped, int_plus_zero}
 

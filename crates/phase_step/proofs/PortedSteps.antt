@@ -5,7 +5,7 @@ use Rattle.std.proofs.lemmas.Int.{ints}
 use Rattle.gas_terms.specs.Velocity.{parity}
 use Rattle.gas_terms.specs.Cells.{Cells, without}
 use Rattle.gas_terms.specs.Gas.{streamed, solid}
-use Rattle.gas_terms.specs.Accounts.{Channel, channels, sums_of, taken, took_plus, plus, with_taken, nothing}
+use Rattle.gas_terms.specs.Accounts.{Channel, channels, sums_of, taken, took_plus, plus, with_taken, nothing, moved_by, moved_plus, with_moved}
 use Rattle.gas_terms.specs.BookedGas.{BookedGas, stepped}
 use Rattle.gas_terms.specs.declared.accounts.Ledger.{Ledger}
 use Rattle.gas_terms.specs.declared.accounts.Sums.{Sums}
@@ -14,10 +14,9 @@ use Rattle.gas_terms.proofs.Iterate.{iterate_last}
 use Rattle.gas_terms.proofs.Totals.{same_sums}
 use Rattle.phase_step.specs.Runs.{parity_at}
 use Rattle.phase_step.specs.Runs as runs
-use Rattle.phase_step.specs.Moves.{moved_by}
-use Rattle.phase_step.specs.Actions.{acted, after_with, unmoved, moved_plus}
-use Rattle.phase_step.specs.PortedRuns.{left_by_ports, steps_take, steps_move, with_moved, stepped_on}
-use Rattle.phase_step.specs.declared.moved.Moved.{Moved}
+use Rattle.gas_terms.specs.declared.accounts.Moved.{Moved}
+use Rattle.phase_step.specs.Actions.{acted, after_with, unmoved}
+use Rattle.phase_step.specs.PortedRuns.{left_by_ports, steps_take, steps_move, stepped_on}
 use Rattle.phase_step.proofs.RunSteps.{later, taken_twice, taken_none, at_same}
 
 -- ledgers, by their accounts of what came and went

@@ -1,8 +1,8 @@
 -- What tiles take, in one phase and in many.
 use Rattle.std.proofs.Common.{◌≡◌, ℕ, zero, suc, ◌+◌, ◌-◌, ◌*◌, ◌/◌, ◌%◌, ◌<◌, ◌≤◌, ◌^◌, ◌⊎◌, inl, inr, true, ℤ, pos, ◌+ℤ◌, ◌*ℤ◌, nat_abs, w64, FitsSigned, refl, sym, ap, ap₂, ◌∙◌, subst, arith, add-one}
 use Rattle.std.proofs.lemmas.Int.{ints}
-use Rattle.gas_terms.specs.Cells.{Cells, HasSidesOf, joined, extent, is_size, tile_count, tile_rectangle}
-use Rattle.gas_terms.specs.Gas.{streamed, takes_for_walls, takes_for_obstacles}
+use Rattle.gas_terms.specs.Cells.{Cells, HasSidesOf, extent, is_size, tile_count, tile_rectangle}
+use Rattle.gas_terms.specs.Gas.{takes_for_walls, takes_for_obstacles}
 use Rattle.gas_terms.specs.Velocity.{parity}
 use Rattle.gas_terms.specs.Accounts.{taken, took_plus, pair_plus, TakenFits, total_in, stopped}
 use Rattle.gas_terms.specs.declared.accounts.Took.{Took}
@@ -11,7 +11,7 @@ use Rattle.gas_terms.proofs.TileTotals.{total-tiles}
 use Rattle.gas_terms.proofs.RectangleTotals.{parity_count-small, total_in-parities}
 use Rattle.block_rule.specs.Windows.{taken_in}
 use Rattle.phase_step.proofs.TakenSums.{pair_same, took_same, small_sum, small_tile, took_below, took_next, took_all}
-use Rattle.phase_step.specs.Runs.{parity_at, after, nothing, run_takes, tiles_take, tiles_take_in_run}
+use Rattle.phase_step.specs.Runs.{after, nothing, tiles_take}
 
 -- no component is above k
 pub record IsWithin (k : ℕ) (t : Took) : Type 0 where
@@ -59,13 +59,6 @@ tiles_within p c w o first (suc n) =
     subst (λ k. IsWithin k (tiles_take p c w o first (suc n))) e
     (within_plus _ _ (16384 * n) 16384 (tiles_within p c w o first n) (tile_within p c w o (first + n)))
 
-pub run_within : (p : ℕ) (w o c : Cells) (first n k : ℕ) → IsWithin (16384 * n * k) (tiles_take_in_run p w o c first n k)
-run_within p w o c first n zero = within_nothing (16384 * n * 0)
-run_within p w o c first n (suc k) =
-    let e : 16384 * n * k + 16384 * n ≡ 16384 * n * suc k = omega arith in
-    subst (λ m. IsWithin m (tiles_take_in_run p w o c first n (suc k))) e
-    (within_plus _ _ (16384 * n * k) (16384 * n) (run_within p w o c first n k) (tiles_within (parity_at p k) (after p (joined w o) c k) w o first n))
-
 pub ints_crossed : (a b c d : ℤ) → (a +ℤ b) +ℤ (c +ℤ d) ≡ (a +ℤ c) +ℤ (b +ℤ d)
 ints_crossed a b c d = omega (arith, ints)
 
@@ -100,13 +93,6 @@ tiles_split p c w o first a (suc b) =
     ∙ (ap₂ (λ t i. took_plus t (taken_in (pos p) c w o (tile_rectangle c i))) (tiles_split p c w o first a b) (let e : first + (a + b) ≡ first + a + b = omega arith in e)
     ∙ regrouped (tiles_take p c w o first a) (tiles_take p c w o (first + a) b) (taken_in (pos p) c w o (tile_rectangle c (first + a + b))))
 
-pub run_split : (p : ℕ) (w o c : Cells) (first a b k : ℕ) → tiles_take_in_run p w o c first (a + b) k ≡ took_plus (tiles_take_in_run p w o c first a k) (tiles_take_in_run p w o c (first + a) b k)
-run_split p w o c first a b zero = refl
-run_split p w o c first a b (suc k) =
-    let now = after p (joined w o) c k in
-    ap₂ took_plus (run_split p w o c first a b k) (tiles_split (parity_at p k) now w o first a b)
-    ∙ crossed (tiles_take_in_run p w o c first a k) (tiles_take_in_run p w o c (first + a) b k) (tiles_take (parity_at p k) now w o first a) (tiles_take (parity_at p k) now w o (first + a) b)
-
 -- all tiles take what the lattice takes
 tiles_below : (p : ℕ) (c w o : Cells) (n : ℕ) → tiles_take p c w o 0 n ≡ took_below (pos p) c w o n
 tiles_below p c w o zero = refl
@@ -136,32 +122,6 @@ pub sides_after : (p : ℕ) (solid c : Cells) (k : ℕ) → HasSidesOf (after p 
 sides_after p solid c zero = record { wide = refl; high = refl }
 sides_after p solid c (suc k) = let before = sides_after p solid c k in record { wide = before.wide; high = before.high }
 
-pub sized_after : (p : ℕ) (solid c : Cells) (k : ℕ) → is_size (extent c) ≡ true → is_size (extent (after p solid c k)) ≡ true
-sized_after p solid c zero sized = sized
-sized_after p solid c (suc k) sized = sized_after p solid c k sized
-
-pub count_after : (p : ℕ) (solid c : Cells) (k : ℕ) → tile_count (after p solid c k) ≡ tile_count c
-count_after p solid c k = let same = sides_after p solid c k in ap₂ (λ w h. w / 64 * (h / 64)) same.wide same.high
-
-two : (n : ℕ) → n % 2 < 2
-two n = omega arith
-
-pub run_takes_within : (p : ℕ) (w o c : Cells) (k : ℕ) → is_size (extent c) ≡ true → tile_count c ≤ 4096 → IsWithin (2 ^ 26 * k) (run_takes p w o c k)
-run_takes_within p w o c zero sized few = within_nothing (2 ^ 26 * 0)
-run_takes_within p w o c (suc k) sized few =
-    let now = after p (joined w o) c k in
-    let few' : tile_count now ≤ 4096 = let e = count_after p (joined w o) c k in omega arith in
-    let e : 2 ^ 26 * k + 2 ^ 26 ≡ 2 ^ 26 * suc k = omega arith in
-    subst (λ m. IsWithin m (run_takes p w o c (suc k))) e
-    (within_plus _ _ (2 ^ 26 * k) (2 ^ 26) (run_takes_within p w o c k sized few) (taken_within (parity_at p k) now w o (two (p + k)) (sized_after p (joined w o) c k sized) few'))
-
-pub run_all : (p : ℕ) (w o c : Cells) (k : ℕ) → is_size (extent c) ≡ true → tiles_take_in_run p w o c 0 (tile_count c) k ≡ run_takes p w o c k
-run_all p w o c zero sized = refl
-run_all p w o c (suc k) sized =
-    let now = after p (joined w o) c k in
-    ap₂ took_plus (run_all p w o c k sized)
-    (ap (tiles_take (parity_at p k) now w o 0) (sym (count_after p (joined w o) c k)) ∙ all_take (parity_at p k) now w o (two (p + k)) (sized_after p (joined w o) c k sized))
-
 -- what has the sides of the start has those of the particles now
 pub sides_as : (p : ℕ) (solid c now other : Cells) (k : ℕ) → now ≡ after p solid c k → HasSidesOf other c → HasSidesOf other now
 sides_as p solid c now other k e same =
@@ -189,33 +149,3 @@ pub own_fits : (p : ℕ) (c w o : Cells) (first n i : ℕ) (took here : Took) �
     → TakenFits (pair_plus took.walls here.walls) × TakenFits (pair_plus took.obstacles here.obstacles)
 own_fits p c w o first n i took here few so_far e =
     within_fits took here (16384 * n) 16384 (subst (IsWithin (16384 * n)) (sym so_far) (tiles_within p c w o first n)) (subst (IsWithin 16384) (sym e) (tile_within p c w o i)) (omega arith)
-
-pub none_take : (p : ℕ) (w o c : Cells) (first k : ℕ) → nothing ≡ tiles_take_in_run p w o c first 0 k
-none_take p w o c first zero = refl
-none_take p w o c first (suc k) = ap (λ t. took_plus t nothing) (none_take p w o c first k)
-
--- a run in two parts
-parity_parts : (p m k : ℕ) → parity_at p (m + k) ≡ parity_at (parity_at p m) k
-parity_parts p m k = omega arith
-
-pub after_parts : (p : ℕ) (solid c : Cells) (m n : ℕ) → after p solid c (m + n) ≡ after (parity_at p m) solid (after p solid c m) n
-after_parts p solid c m zero = ap (after p solid c) (let e : m + 0 ≡ m = omega arith in e)
-after_parts p solid c m (suc n) =
-    ap (after p solid c) (let e : m + suc n ≡ suc (m + n) = omega arith in e)
-    ∙ ap₂ (λ q (now : Cells). streamed q now solid) (parity_parts p m n) (after_parts p solid c m n)
-
-pub takes_parts : (p : ℕ) (w o c : Cells) (m n : ℕ) → run_takes p w o c (m + n) ≡ took_plus (run_takes p w o c m) (run_takes (parity_at p m) w o (after p (joined w o) c m) n)
-takes_parts p w o c m zero = ap (run_takes p w o c) (let e : m + 0 ≡ m = omega arith in e) ∙ plus_nothing (run_takes p w o c m)
-takes_parts p w o c m (suc n) =
-    ap (run_takes p w o c) (let e : m + suc n ≡ suc (m + n) = omega arith in e)
-    ∙ (ap₂ took_plus (takes_parts p w o c m n) (ap₂ (λ q (now : Cells). taken q now w o) (parity_parts p m n) (after_parts p (joined w o) c m n))
-    ∙ regrouped (run_takes p w o c m) (run_takes (parity_at p m) w o (after p (joined w o) c m) n) (taken (parity_at (parity_at p m) n) (after (parity_at p m) (joined w o) (after p (joined w o) c m) n) w o))
-
-pub part_fits : (p q m n : ℕ) (w o c now : Cells) (took here : Took) → now ≡ after p (joined w o) c m → q ≡ parity_at p m → took ≡ run_takes p w o c m → here ≡ run_takes q w o now n
-    → m ≤ 65535 → n ≤ 65535 → is_size (extent c) ≡ true → tile_count c ≤ 4096 → TakenFits (pair_plus took.walls here.walls) × TakenFits (pair_plus took.obstacles here.obstacles)
-part_fits p q m n w o c now took here so_far e before step few more sized tiles =
-    let there = after p (joined w o) c m in
-    let tiles' : tile_count there ≤ 4096 = let k = count_after p (joined w o) c m in omega arith in
-    within_fits took here (2 ^ 26 * m) (2 ^ 26 * n) (subst (IsWithin (2 ^ 26 * m)) (sym before) (run_takes_within p w o c m sized tiles))
-    (subst (IsWithin (2 ^ 26 * n)) (sym (step ∙ ap₂ (λ q (now : Cells). run_takes q w o now n) e so_far)) (run_takes_within (parity_at p m) w o there n (sized_after p (joined w o) c m sized) tiles'))
-    (omega arith)

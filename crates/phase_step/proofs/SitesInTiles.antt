@@ -21,8 +21,8 @@ use Rattle.block_rule.proofs.TorusTook.{sites_take}
 use Rattle.phase_step.specs.Turns.{IsPlaceOf}
 use Rattle.phase_step.specs.WalledSites.{cells_at, in_tile, LiesIn, AreCellsAt, AreInTile, NoneInTile, IsFoundIn, AreLent, AllHaveSidesOf}
 use Rattle.phase_step.specs.CellsInRows.{CellsInRows}
-use Rattle.phase_step.specs.declared.sites.WalledSites.{WalledSites}
-use Rattle.phase_step.specs.declared.sites.Lent.{Lent}
+use Rattle.phase_step.specs.declared.steps.sites.WalledSites.{WalledSites}
+use Rattle.phase_step.specs.declared.steps.sites.Lent.{Lent}
 use Rattle.phase_step.proofs.TurnedTiles.{bare_view, bare_inside, bare_tile, bare_window}
 
 -- what the torus has round a place

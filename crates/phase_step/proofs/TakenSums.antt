@@ -1,5 +1,5 @@
 -- What tiles take adds up to what the torus takes.
-use Rattle.std.proofs.Common.{◌≡◌, ℕ, zero, suc, ◌+◌, ◌*◌, ◌%◌, ◌<◌, ◌≤◌, ◌==◌, Bool, true, false, [], ◌∷◌, ◌++◌, ℤ, pos, ◌+ℤ◌, ◌-ℤ◌, ◌*ℤ◌, nat_abs, ◌^◌, w64, subst, FitsSigned, sym, ap, ap₂, ◌∙◌, arith, add-one}
+use Rattle.std.proofs.Common.{◌≡◌, ℕ, zero, suc, ◌+◌, ◌*◌, ◌%◌, ◌<◌, ◌≤◌, ◌==◌, Bool, true, false, [], ◌∷◌, ◌++◌, ℤ, pos, ◌+ℤ◌, ◌-ℤ◌, ◌*ℤ◌, nat_abs, ◌^◌, subst, sym, ap, ap₂, ◌∙◌, arith, add-one}
 use Rattle.std.specs.List.{range_with_len}
 use Rattle.std.proofs.lemmas.Int.{ints}
 use Rattle.std.proofs.lemmas.List.Sums.{fold-append}
@@ -64,19 +64,6 @@ small_classes tick a b c d k p q r s =
 pub small_sum : (a b : ℤ) (m k : ℕ) → nat_abs a ≤ m → nat_abs b ≤ k → nat_abs (a +ℤ b) ≤ m + k
 small_sum a b m k p q = omega (arith, ints)
 
-small_below : (f : ℕ → Sums) (k : ℕ) → ((i : ℕ) → IsSmall k (f i)) → (n : ℕ) → IsSmall (k * n) (plus_all f (range_with_len 0 n))
-small_below f k small zero = record { x = omega arith; y = omega arith }
-small_below f k small (suc n) =
-    let before = small_below f k small n in
-    let here = small n in
-    let e : k * suc n ≡ k * n + k = omega arith in
-    rw (plus_last f n, e)
-    (let all : IsSmall (k * n + k) (plus (plus_all f (range_with_len 0 n)) (f n)) =
-    record {
-      x = small_sum (plus_all f (range_with_len 0 n)).px (f n).px (k * n) k before.x here.x;
-      y = small_sum (plus_all f (range_with_len 0 n)).py (f n).py (k * n) k before.y here.y;
-    } in all)
-
 -- what the tiles below n take
 abbrev pub took_below : ℤ → Cells → Cells → Cells → ℕ → Took
 took_below tick particles walls obstacles n =
@@ -100,9 +87,6 @@ pub small_tile : (tick : ℤ) (cells : Cells) (i : ℕ)
 small_tile tick cells i counts by_parity =
     let r : Rectangle = tile_rectangle cells i in
     subst (IsSmall 8192) (sym (by_parity tick cells r)) (small_classes tick (parity_count cells r 0 0) (parity_count cells r 1 0) (parity_count cells r 0 1) (parity_count cells r 1 1) 4096 (counts cells r 0 0) (counts cells r 1 0) (counts cells r 0 1) (counts cells r 1 1))
-
-fits : (z : ℤ) → nat_abs z ≤ 2 ^ 26 → FitsSigned w64 z
-fits z h = omega (arith, ints)
 
 -- all tiles together take what the torus takes
 pub took_all : (p : ℕ) (particles walls obstacles : Cells) → p < 2 → is_size (extent particles) ≡ true

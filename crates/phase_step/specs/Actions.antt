@@ -5,13 +5,12 @@ use Rattle.bit_tile.specs.Tile.{HasCells}
 use Rattle.bit_tile.specs.declared.Tile.{Tile}
 use Rattle.gas_terms.specs.Cells.{Cells, has, cells_where, joined, most_side}
 use Rattle.gas_terms.specs.Gas.{streamed}
-use Rattle.gas_terms.specs.Accounts.{taken, took_plus, pair_plus, TakenFits, SumsFit, plus}
+use Rattle.gas_terms.specs.Accounts.{taken, took_plus, pair_plus, TakenFits, SumsFit, plus, moved_by, moved_plus}
 use Rattle.gas_terms.specs.Accounts as accounts
 use Rattle.gas_terms.specs.declared.accounts.Took.{Took}
-use Rattle.phase_step.specs.Moves.{moved_by}
+use Rattle.gas_terms.specs.declared.accounts.Moved.{Moved}
 use Rattle.phase_step.specs.Runs.{parity_at, nothing}
-use Rattle.phase_step.specs.declared.moved.Moved.{Moved}
-use Rattle.phase_step.specs.declared.moved.Flow.{Flow}
+use Rattle.phase_step.specs.declared.sums.flow.Flow.{Flow}
 
 -- what an action leaves of the cell (x, y), by whether it is held
 abbrev pub Leaves : Type 0
@@ -39,9 +38,6 @@ acted leaves cells = cells_where cells.width cells.height (λ x y. leaves x y (h
 -- what several changes bring in and take out
 abbrev pub unmoved : Moved
 unmoved = record { injected = accounts.nothing; drained = accounts.nothing }
-
-abbrev pub moved_plus : Moved → Moved → Moved
-moved_plus a b = record { injected = plus a.injected b.injected; drained = plus a.drained b.drained }
 
 -- the particles after so many phases, after each of which there was an action: after phase k the one of k
 abbrev pub after_with : ℕ → Cells → (ℕ → Leaves) → Cells → ℕ → Cells

@@ -1,10 +1,10 @@
-use Rattle.std.specs.Prelude.{◌≡◌, ℕ, ◌+◌, ◌*◌, ◌%◌, ◌^◌, ◌<◌, ◌≤◌, ◌==◌, ◌&&◌, Bool, ℤ, List, slice_index}
+use Rattle.std.specs.Prelude.{◌≡◌, ℕ, ◌+◌, ◌*◌, ◌%◌, ◌<◌, ◌≤◌, ◌==◌, ◌&&◌, Bool, ℤ, List, slice_index}
 use Rattle.bit_tile.specs.Tile.{count_cells}
 use Rattle.gas_terms.specs.Cells.{Cells, Rectangle}
-use Rattle.gas_terms.specs.Accounts.{parity_count, sums_by_parity}
-use Rattle.gas_terms.specs.declared.accounts.Sums.{Sums}
-use Rattle.phase_step.specs.declared.moved.Moved.{Moved}
-use Rattle.phase_step.specs.declared.change.Change.{Change}
+use Rattle.gas_terms.specs.Accounts.{parity_count}
+use Rattle.gas_terms.specs.Counts.{sums_of_counts}
+use Rattle.gas_terms.specs.declared.accounts.Moved.{Moved}
+use Rattle.phase_step.specs.declared.sums.change.Change.{Change}
 
 -- Four counts, of even column and even row, odd and even, even and odd, odd and odd: those of a set's cells in a rectangle.
 pub record AreCounts (counts : List ℕ) (cells : Cells) (r : Rectangle) : Type 0 where
@@ -15,13 +15,6 @@ pub record AreTileCounts (counts : List ℕ) (test : ℕ → ℕ → Bool) : Typ
   pub count : (a b : ℕ) → a < 2 → b < 2 → slice_index counts (2 * b + a) ≡ count_cells (λ x y. test x y && x % 2 == a && y % 2 == b)
   pub few : (k : ℕ) → k < 4 → slice_index counts k ≤ 2048
 
--- each count is that of a lattice's cells at most
-pub record AreSmall (counts : List ℕ) : Type 0 where
-  pub small : (k : ℕ) → k < 4 → slice_index counts k < 2 ^ 32
-
--- the sums of particles that are so counted
-abbrev pub sums_of_counts : ℤ → List ℕ → Sums
-sums_of_counts tick counts = sums_by_parity tick (slice_index counts 0) (slice_index counts 1) (slice_index counts 2) (slice_index counts 3)
-
+-- the sums of particles that come in and go out, by such counts
 abbrev pub moved_by_counts : ℤ → Change → Moved
 moved_by_counts tick change = record { injected = sums_of_counts tick change.gained; drained = sums_of_counts tick change.lost }

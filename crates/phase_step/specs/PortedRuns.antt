@@ -2,12 +2,12 @@
 use Rattle.std.specs.Prelude.{ℕ, not, ◌&&◌, ◌||◌, pos, ◌+ℤ◌}
 use Rattle.gas_terms.specs.Velocity.{parity}
 use Rattle.gas_terms.specs.Gas.{Gas, solid, is_drained, is_filled}
-use Rattle.gas_terms.specs.Accounts.{plus, with_taken}
+use Rattle.gas_terms.specs.Accounts.{plus, with_taken, with_moved}
 use Rattle.gas_terms.specs.BookedGas.{BookedGas}
 use Rattle.gas_terms.specs.declared.accounts.Ledger.{Ledger}
 use Rattle.gas_terms.specs.declared.accounts.Took.{Took}
 use Rattle.phase_step.specs.Actions.{Leaves, after_with, takes_with, moves_with}
-use Rattle.phase_step.specs.declared.moved.Moved.{Moved}
+use Rattle.gas_terms.specs.declared.accounts.Moved.{Moved}
 
 -- what the ports leave after phase k, at the tick that it leads to
 abbrev pub left_by_ports : Gas → ℕ → Leaves
@@ -24,10 +24,6 @@ steps_take n g = takes_with (parity g.tick) g.walls g.obstacles (left_by_ports g
 
 abbrev pub steps_move : ℕ → Gas → Moved
 steps_move n g = moves_with (parity g.tick) (solid g) (left_by_ports g) g.particles n
-
--- a ledger in which that is booked
-abbrev pub with_moved : Ledger → Moved → Ledger
-with_moved l m = record l { injected = plus l.injected m.injected; drained = plus l.drained m.drained }
 
 -- the gas with its ledger n ticks later
 abbrev pub stepped_on : ℕ → BookedGas → BookedGas

@@ -32,13 +32,6 @@ tiles_take p particles walls obstacles first zero = nothing
 tiles_take p particles walls obstacles first (suc n) =
     took_plus (tiles_take p particles walls obstacles first n) (taken_in (pos p) particles walls obstacles (tile_rectangle particles (first + n)))
 
--- and in so many phases
-abbrev pub tiles_take_in_run : ℕ → Cells → Cells → Cells → ℕ → ℕ → ℕ → Took
-tiles_take_in_run p walls obstacles particles first n zero = nothing
-tiles_take_in_run p walls obstacles particles first n (suc k) =
-    took_plus (tiles_take_in_run p walls obstacles particles first n k)
-    (tiles_take (parity_at p k) (after p (joined walls obstacles) particles k) walls obstacles first n)
-
 -- a gas n ticks later, on which no port acted, and what walls and obstacles took on the way
 abbrev pub gas_after : ℕ → Gas → Gas
 gas_after n g = record g { tick = g.tick +ℤ pos n; particles = after (parity g.tick) (solid g) g.particles n }

@@ -6,9 +6,9 @@ use Rattle.gas_terms.specs.Gas.{Site, site_of, takes_for_walls, takes_for_obstac
 use Rattle.block_rule.specs.Lent.{HasNoCell, TellsRows, IsLentOf}
 use Rattle.block_rule.specs.declared.walled.WalledCells.{WalledCells}
 use Rattle.phase_step.specs.CellsInRows.{CellsInRows}
-use Rattle.phase_step.specs.declared.sites.SitesOfParity.{SitesOfParity}
-use Rattle.phase_step.specs.declared.sites.WalledSites.{WalledSites}
-use Rattle.phase_step.specs.declared.sites.Lent.{Lent}
+use Rattle.phase_step.specs.declared.steps.sites.SitesOfParity.{SitesOfParity}
+use Rattle.phase_step.specs.declared.steps.sites.WalledSites.{WalledSites}
+use Rattle.phase_step.specs.declared.steps.sites.Lent.{Lent}
 
 -- the cells at the sites of parity p of a torus that pass the test
 abbrev pub cells_at : ℕ → Cells → (Site → Bool) → Cells

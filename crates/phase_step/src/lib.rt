@@ -1,8 +1,8 @@
 //! Steps of a gas. A `Stepper` makes a phase or a run of phases of a plane; `Serial` does it on the calling thread. An
 //! `Action` changes the particles after each phase of a run, as ports do.
 //!
-//! The program steps by `Stepper::run_with`, and back by `Stepper::run`. `Stepper::phase` and `turn_tile_at` are there for
-//! callers of the library.
+//! The program steps by `Stepper::run_with`, forward and back. `Stepper::phase` and `turn_tile_at` are there for callers of the
+//! library.
 #![tactic(auto)]
 
 ghost use Rattle.std.specs.Prelude.{◌≡◌, ◌<◌};
@@ -10,39 +10,25 @@ ghost use Rattle.gas_terms.specs.Cells.{joined, tile_count, HasSidesOf};
 ghost use Rattle.gas_terms.specs.Gas.{streamed};
 ghost use Rattle.gas_terms.specs.Accounts.{taken};
 ghost use Rattle.gas_plane.specs.Planes.{IsLattice};
-ghost use Rattle.phase_step.specs.Runs.{parity_at, after, run_takes};
+ghost use Rattle.phase_step.specs.Runs.{parity_at};
 ghost use Rattle.phase_step.specs.Actions.{after_with, flow_with};
 
-mod action;
-mod change;
-mod exchange;
-mod few;
-mod later;
+mod exchanges;
 pub mod laws;
-mod listed;
-mod moved;
-mod sites;
-mod solids;
-mod still;
-mod sweep;
-mod tiles;
+mod steps;
+mod sums;
 
-pub use action::{Action, act_after, act_on, change_of};
-pub use change::{Change, sums_by_counts};
-pub use exchange::{Exchange, any_area};
-pub use few::Few;
+pub use exchanges::{
+    Action, Exchange, Few, Later, Listed, Still, act_after, act_on, any_area, change_of,
+};
 use gas_plane::Plane;
 use gas_terms::Took;
-pub use later::Later;
-pub use listed::Listed;
-pub use moved::{Flow, Moved, NO_FLOW, UNMOVED};
-pub use sites::{LONG_RUN, Sites, SitesOfParity, WalledSites};
-pub use solids::{Solids, are_none};
 use std::mem;
-pub use still::Still;
-use sweep::turn_each;
-pub use sweep::{Own, turn_in_place};
-pub use tiles::turn_tile_at;
+use steps::turn_each;
+pub use steps::{
+    LONG_RUN, Own, Sites, SitesOfParity, Solids, WalledSites, are_none, turn_in_place, turn_tile_at,
+};
+pub use sums::{Change, Flow};
 
 /// A run of n phases in which particles meet these walls and obstacles, from the given parity on, with an action after each.
 #[derive(Drop)]
@@ -104,39 +90,9 @@ pub trait Stepper: Drop {
         took
     }
 
-    /// A run of n phases whose parities take turns, from the given one on: `particles` become those after the run, and the
-    /// answer is what walls and obstacles took in all of it. The spare plane is written to, and what it holds does not matter.
-    fn run(
-        &mut self,
-        particles: &mut Plane,
-        walls: &Plane,
-        obstacles: &Plane,
-        parity: u8,
-        n: u16,
-        spare: &mut Plane,
-    ) -> Took
-        requires parity { parity < 2 }
-        requires walls { HasSidesOf walls.now particles.old }
-        requires obstacles { HasSidesOf obstacles.now particles.old }
-        requires spare { HasSidesOf spare.old particles.old }
-        ensures particles { particles.new ≡
-            after parity (joined walls.now obstacles.now) particles.old n }
-        ensures spare { HasSidesOf spare.new particles.old }
-        ensures took { result ≡ run_takes parity walls.now obstacles.now particles.old n }
-    {
-        let action = &Still;
-        let run = Run {
-            walls,
-            obstacles,
-            parity,
-            n,
-            action,
-        };
-        self.run_with(particles, run, spare).took
-    }
-
-    /// The same with an action after each phase: after phase k that of k. The answer is what walls and obstacles took, and
-    /// what the actions brought in and took out.
+    /// A run of phases whose parities take turns, with an action after each: after phase k that of k. `particles` become those
+    /// after the run. The answer is what walls and obstacles took in all of it, and what the actions brought in and took out.
+    /// The spare plane is written to, and what it holds does not matter.
     fn run_with<A: Action>(
         &mut self,
         particles: &mut Plane,
@@ -184,7 +140,7 @@ pub trait Stepper: Drop {
             flow_with r.parity s.walls.now s.obstacles.now (A.leaves r.action.now)
             particles.old r.n }
     {
-        let mut flow = NO_FLOW;
+        let mut flow = Flow::ZERO;
         for k in 0..run.n {
             let now = parity_at(run.parity, k);
             let took = self.phase_in_place(particles, solids, now, spare);

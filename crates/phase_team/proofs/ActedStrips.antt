@@ -6,13 +6,13 @@ use Rattle.bit_tile.specs.Tile as tile
 use Rattle.bit_tile.specs.declared.Tile.{Tile}
 use Rattle.gas_terms.specs.Cells.{Cells, has, tile_count, tile_rectangle}
 use Rattle.gas_terms.specs.Velocity.{parity as of_tick}
-use Rattle.gas_terms.specs.Accounts.{plus, SumsFit}
+use Rattle.gas_terms.specs.Accounts.{plus, SumsFit, moved_plus}
 use Rattle.gas_plane.specs.Planes.{IsLattice, IsTileFrom, swept}
 use Rattle.gas_plane.proofs.Sweeps.{left_of, top_of}
-use Rattle.phase_step.specs.Actions.{Leaves, IsStill, IsLeftOf, acted, moved_plus, unmoved}
+use Rattle.phase_step.specs.Actions.{Leaves, IsStill, IsLeftOf, acted, unmoved}
 use Rattle.phase_step.specs.Counts.{AreTileCounts, moved_by_counts}
-use Rattle.phase_step.specs.declared.change.Change.{Change}
-use Rattle.phase_step.specs.declared.moved.Moved.{Moved}
+use Rattle.phase_step.specs.declared.sums.change.Change.{Change}
+use Rattle.gas_terms.specs.declared.accounts.Moved.{Moved}
 use Rattle.phase_step.proofs.ActedTiles.{Stays, acting, still_acts, action_makes, action_was}
 use Rattle.phase_step.proofs.TileChanges.{IsSquareOf, tile_moved, none_moved}
 use Rattle.phase_step.proofs.MovedSums.{moved_none}

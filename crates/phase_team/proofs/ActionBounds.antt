@@ -2,12 +2,12 @@
 use Rattle.std.proofs.Common.{◌≡◌, ℕ, zero, suc, ◌+◌, ◌*◌, ◌≤◌, ◌^◌, ℤ, pos, nat_abs, sym, subst, arith}
 use Rattle.gas_terms.specs.Cells.{Cells, Rectangle, without, tile_rectangle}
 use Rattle.gas_terms.specs.Gas.{streamed}
-use Rattle.gas_terms.specs.Accounts.{plus, total_in, parity_count, SumsFit}
+use Rattle.gas_terms.specs.Accounts.{plus, total_in, parity_count, SumsFit, moved_plus}
 use Rattle.gas_terms.specs.declared.accounts.Sums.{Sums}
 use Rattle.gas_terms.proofs.RectangleTotals.{parity_count-small, total_in-parities}
 use Rattle.phase_step.specs.Runs.{parity_at}
-use Rattle.phase_step.specs.Actions.{Leaves, acted, after_with, moved_plus, unmoved}
-use Rattle.phase_step.specs.declared.moved.Moved.{Moved}
+use Rattle.phase_step.specs.Actions.{Leaves, acted, after_with, unmoved}
+use Rattle.gas_terms.specs.declared.accounts.Moved.{Moved}
 use Rattle.phase_step.proofs.TakenSums.{small_sum, small_tile}
 use Rattle.phase_step.proofs.RunTakes.{int_fits}
 use Rattle.phase_team.specs.ActionStrips.{tile_moves, tiles_move, tiles_move_with}

@@ -2,12 +2,12 @@
 use Rattle.std.proofs.Common.{◌≡◌, ℕ, zero, suc, ◌+◌, ◌-◌, ◌*◌, ◌/◌, ◌%◌, ◌<◌, ◌≤◌, not, ◌&&◌, pos, refl, sym, ap, ap₂, ◌∙◌, subst, arith}
 use Rattle.gas_terms.specs.Cells.{Cells, Rectangle, HasSidesOf, has, joined, without}
 use Rattle.gas_terms.specs.Gas.{streamed}
-use Rattle.gas_terms.specs.Accounts.{total_in}
+use Rattle.gas_terms.specs.Accounts.{total_in, moved_plus}
 use Rattle.gas_terms.proofs.Cells.{has-cells_where}
 use Rattle.block_rule.specs.Windows.{square}
 use Rattle.phase_step.specs.Runs.{parity_at}
-use Rattle.phase_step.specs.Actions.{Leaves, acted, after_with, moved_plus}
-use Rattle.phase_step.specs.declared.moved.Moved.{Moved}
+use Rattle.phase_step.specs.Actions.{Leaves, acted, after_with}
+use Rattle.gas_terms.specs.declared.accounts.Moved.{Moved}
 use Rattle.phase_step.proofs.ActionRuns.{sides_with}
 use Rattle.phase_step.proofs.Counting.{same_moved}
 use Rattle.phase_team.specs.Strips.{IsStrip}

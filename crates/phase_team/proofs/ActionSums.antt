@@ -3,14 +3,13 @@ use Rattle.std.proofs.Common.{◌≡◌, ℕ, zero, suc, ◌+◌, ◌*◌, ◌%�
 use Rattle.std.specs.List.{range_with_len}
 use Rattle.gas_terms.specs.Cells.{Cells, joined, without, extent, is_size, tile_count, tile_rectangle}
 use Rattle.gas_terms.specs.Gas.{streamed}
-use Rattle.gas_terms.specs.Accounts.{plus_all, total_in, took_plus}
+use Rattle.gas_terms.specs.Accounts.{plus_all, total_in, took_plus, moved_by, moved_plus}
 use Rattle.gas_terms.specs.declared.accounts.Sums.{Sums}
 use Rattle.gas_terms.proofs.TileTotals.{total-tiles}
 use Rattle.gas_plane.proofs.Places.{wide, high}
 use Rattle.phase_step.specs.Runs.{parity_at, tiles_take}
-use Rattle.phase_step.specs.Moves.{moved_by}
-use Rattle.phase_step.specs.Actions.{Leaves, acted, after_with, takes_with, moves_with, moved_plus}
-use Rattle.phase_step.specs.declared.moved.Moved.{Moved}
+use Rattle.gas_terms.specs.declared.accounts.Moved.{Moved}
+use Rattle.phase_step.specs.Actions.{Leaves, acted, after_with, takes_with, moves_with}
 use Rattle.phase_step.proofs.ActionRuns.{sized_with, count_with}
 use Rattle.phase_step.proofs.Counting.{same_moved}
 use Rattle.phase_step.proofs.MovedSums.{moved_crossed, moved_regrouped, moved_none}

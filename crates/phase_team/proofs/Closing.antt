@@ -9,7 +9,7 @@ use Rattle.gas_terms.specs.declared.accounts.Took.{Took}
 use Rattle.phase_step.proofs.TakenSums.{took_all}
 use Rattle.claim_desk.specs.Draws.{times, once_below}
 use Rattle.phase_team.specs.Teamwork.{HasTurned, cells_after, taken_in_all}
-use Rattle.phase_team.specs.declared.course.Task.{Task}
+use Rattle.phase_team.specs.declared.phase.shift.Task.{Task}
 use Rattle.phase_team.proofs.Places.{all_turned}
 use Rattle.phase_team.proofs.Takings.{take_each}
 

@@ -7,7 +7,7 @@ use Rattle.gas_terms.specs.Accounts.{plus}
 use Rattle.gas_terms.specs.declared.accounts.Sums.{Sums}
 use Rattle.gas_terms.proofs.Totals.{same_sums}
 use Rattle.phase_step.specs.Actions.{flow_plus, no_flow, FlowsFit}
-use Rattle.phase_step.specs.declared.moved.Flow.{Flow}
+use Rattle.phase_step.specs.declared.sums.flow.Flow.{Flow}
 use Rattle.phase_step.proofs.ActionRuns.{same_flow}
 use Rattle.phase_step.proofs.Counting.{same_moved}
 use Rattle.phase_step.proofs.MovedSums.{moved_none, moved_regrouped}

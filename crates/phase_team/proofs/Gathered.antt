@@ -7,24 +7,24 @@ use Rattle.bit_tile.specs.Tile as tile
 use Rattle.bit_tile.specs.declared.Tile.{Tile}
 use Rattle.gas_terms.specs.Cells.{Cells, HasSidesOf, IsFull, has, joined, extent, is_size, tile_count, tile_rectangle}
 use Rattle.gas_terms.specs.Gas.{streamed}
-use Rattle.gas_terms.specs.Accounts.{took_plus}
+use Rattle.gas_terms.specs.Accounts.{took_plus, moved_plus}
 use Rattle.gas_terms.proofs.Cells.{has-cells_where, full-cells_where, same_cells}
 use Rattle.gas_plane.specs.Planes.{IsLattice, IsTileFrom, tile_of, with_tile}
 use Rattle.gas_plane.proofs.Places.{wide, high, tile_below, cell_below}
 use Rattle.gas_plane.proofs.Sweeps.{left_of, top_of, cell_across, cell_down}
 use Rattle.gas_plane.proofs.Tilings.{choose_true, choose_false}
 use Rattle.phase_step.specs.Runs.{parity_at, nothing}
-use Rattle.phase_step.specs.Actions.{Leaves, after_with, moved_plus, unmoved, flow_plus, no_flow}
+use Rattle.phase_step.specs.Actions.{Leaves, after_with, unmoved, flow_plus, no_flow}
 use Rattle.phase_step.specs.Exchanges.{listed}
-use Rattle.phase_step.specs.declared.moved.Flow.{Flow}
+use Rattle.phase_step.specs.declared.sums.flow.Flow.{Flow}
 use Rattle.phase_step.proofs.ActionRuns.{sides_with, same_flow}
 use Rattle.phase_step.proofs.MovedSums.{moved_none}
 use Rattle.phase_team.specs.Strips.{shift_of}
 use Rattle.phase_team.specs.Work.{result_of, flow_of, tiles_give, RowsArePut, IsDone}
 use Rattle.phase_team.proofs.EachOnce.{IsFlowWithin, flow_less}
 use Rattle.phase_team.specs.ActionStrips.{tiles_flow}
-use Rattle.phase_team.specs.declared.course.Course.{Course}
-use Rattle.phase_team.specs.declared.strip.Strip.{Strip}
+use Rattle.phase_team.specs.declared.runs.course.Course.{Course}
+use Rattle.phase_team.specs.declared.runs.strip.Strip.{Strip}
 use Rattle.phase_team.proofs.Windows.{row_turns}
 use Rattle.phase_team.proofs.ActionSums.{takes_split_with, moves_split_with, takes_within_with, takes_all_with, moves_all_with}
 use Rattle.phase_team.proofs.ActionBounds.{moves_within_with}

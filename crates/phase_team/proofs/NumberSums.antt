@@ -3,7 +3,6 @@ use Rattle.std.proofs.Common.{◌≡◌, ℕ, zero, suc, ◌+◌, ◌*◌, ◌<�
 use Rattle.std.specs.List.{fold}
 use Rattle.std.proofs.lemmas.Int.{ints}
 use Rattle.std.proofs.lemmas.List.Sums.{fold-append, sum_by-cons}
-use Rattle.std.proofs.lemmas.List.{length_push}
 use Rattle.std.proofs.lemmas.Bool.{cases_eq, cases_lt, eq-eqb, ne_eqb, lt-ltb, le-ltb}
 use Rattle.gas_terms.specs.Accounts.{int_sum_by}
 use Rattle.claim_desk.specs.Draws.{times, once_below}
@@ -111,7 +110,3 @@ all_below w n (i ∷ is) none =
 -- a sum over each number below n once, in whatever order
 pub each_once : (w : ℕ → ℤ) (n : ℕ) (numbers : List ℕ) → ((x : ℕ) → times x numbers ≡ once_below n x) → int_sum_by w numbers ≡ int_sum_by w (upto n)
 each_once w n numbers once = sym (all_below w n numbers (λ x past. once x ∙ none_past n x past)) ∙ each_below w n numbers once n (omega arith)
-
-pub length-upto : (n : ℕ) → length (upto n) ≡ n
-length-upto zero = refl
-length-upto (suc n) = let l = length-upto n in let k = length_push (upto n) n in omega arith

@@ -2,10 +2,10 @@
 use Rattle.std.proofs.Common.{◌≡◌, ℕ, suc, ◌+◌, ◌-◌, ◌*◌, ◌/◌, ◌%◌, ◌<◌, ◌≤◌, ◌^◌, Bool, pos, sym, ap, ap₂, ◌∙◌, subst, arith, add-one, mul-le-mul}
 use Rattle.gas_terms.specs.Cells.{Cells, HasSidesOf, joined, tile_count}
 use Rattle.gas_terms.specs.Gas.{streamed}
-use Rattle.gas_terms.specs.Accounts.{took_plus}
+use Rattle.gas_terms.specs.Accounts.{took_plus, moved_plus}
 use Rattle.phase_step.specs.Runs.{parity_at, tiles_take}
-use Rattle.phase_step.specs.Actions.{Leaves, acted, after_with, moved_plus, flow_plus, FlowsFit}
-use Rattle.phase_step.specs.declared.moved.Flow.{Flow}
+use Rattle.phase_step.specs.Actions.{Leaves, acted, after_with, flow_plus, FlowsFit}
+use Rattle.phase_step.specs.declared.sums.flow.Flow.{Flow}
 use Rattle.phase_step.proofs.ActionRuns.{acted_same, same_flow, sides_with}
 use Rattle.phase_step.proofs.RunTakes.{IsWithin, within_fits, tiles_within}
 use Rattle.phase_team.specs.ActionStrips.{acts_there, all_there, tiles_move, tiles_flow, own_take, own_moves}

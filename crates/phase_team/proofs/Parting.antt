@@ -5,13 +5,13 @@ use Rattle.std.proofs.lemmas.List.{take_more, map-append, length-map, length-tak
 use Rattle.gas_terms.specs.Cells.{Cells, extent, tile_count}
 use Rattle.gas_plane.proofs.Places.{high}
 use Rattle.phase_step.specs.Actions.{FlowsFit, flow_plus}
-use Rattle.phase_step.specs.declared.moved.Flow.{Flow}
+use Rattle.phase_step.specs.declared.sums.flow.Flow.{Flow}
 use Rattle.claim_desk.specs.Draws.{times, once_below}
 use Rattle.claim_desk.proofs.Laws.{times-push, times-append}
 use Rattle.phase_team.specs.Work.{result_of, flow_of, tiles_give, first_of, rows_of, strip_gives, strips_give, IsDone, IsPart, IsAt, StaysPut, RowsArePut, StripsArePut, HasPut}
-use Rattle.phase_team.specs.declared.course.Parts.{Parts}
-use Rattle.phase_team.specs.declared.course.Stretch.{Stretch}
-use Rattle.phase_team.specs.declared.strip.Strip.{Strip}
+use Rattle.phase_team.specs.declared.runs.course.Parts.{Parts}
+use Rattle.phase_team.specs.declared.runs.course.Stretch.{Stretch}
+use Rattle.phase_team.specs.declared.runs.strip.Strip.{Strip}
 use Rattle.phase_team.proofs.Closing.{some_time}
 use Rattle.phase_team.proofs.Places.{all_push}
 use Rattle.phase_team.proofs.NumberSums.{upto}

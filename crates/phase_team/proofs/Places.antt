@@ -25,7 +25,7 @@ use Rattle.phase_step.specs.Turns.{IsTileAfter}
 use Rattle.claim_desk.specs.Draws.{times}
 use Rattle.claim_desk.proofs.Laws.{times-push}
 use Rattle.phase_team.specs.Tiles.{IsTurnedAt}
-use Rattle.phase_team.specs.declared.worker.Turned.{Turned}
+use Rattle.phase_team.specs.declared.phase.worker.Turned.{Turned}
 
 -- what holds of each and of one more
 pub all_push : {A : Type 0} (P : A → Type 0) (xs : List A) (y : A) → All P xs → P y → All P (xs ++ y ∷ [])

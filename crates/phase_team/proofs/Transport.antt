@@ -5,14 +5,13 @@ use Rattle.std.proofs.Math.Nat.{mod-lt}
 use Rattle.std.proofs.lemmas.Nat.{mod-mul-add, div-mul-add, div-add-mod', row-Below}
 use Rattle.gas_terms.specs.Velocity.{Velocity, velocity_at, has_parity, parity}
 use Rattle.gas_terms.specs.Cells.{Cells, Rectangle, HasEvenSides, HasSidesOf, has, joined, tile_rectangle}
-use Rattle.gas_terms.specs.Gas.{streamed, is_walled, is_obstructed, site_of, takes_for_walls, takes_for_obstacles}
+use Rattle.gas_terms.specs.Gas.{streamed, is_walled, site_of, takes_for_walls, takes_for_obstacles}
 use Rattle.gas_terms.specs.Accounts.{total_in, stopped, sums_of, twice_momentum, took_plus}
 use Rattle.gas_terms.proofs.Cells.{has-cells_where}
 use Rattle.block_rule.specs.Windows.{square, taken_in}
-use Rattle.phase_step.specs.Runs.{parity_at, after, tiles_take, tiles_take_in_run}
+use Rattle.phase_step.specs.Runs.{tiles_take}
 use Rattle.phase_team.specs.Strips.{IsStrip}
 use Rattle.phase_team.proofs.Locality.{phase_keeps, walled_same}
-use Rattle.phase_step.proofs.RunTakes.{sides_after}
 use Rattle.phase_step.proofs.TakenSums.{took_same}
 use Rattle.phase_team.proofs.Windows.{row_turns}
 
@@ -82,7 +81,7 @@ module _ (shift : ℕ) (hw ho w o : Cells) (cw ch width height : ℕ) (is : IsPa
       (subst (λ w. x < w) (sym is.of_walls.wide) l) past within
       ∙ ap₂ (λ v h. is_walled (joined w o) (site_of p v h x ((shift + y) % h))) is.of_walls.wide is.of_walls.high)
 
-  obstructed_same : is_obstructed ho (site_of p width height x y) ≡ is_obstructed o (site_of p cw ch x ((shift + y) % ch))
+  obstructed_same : is_walled ho (site_of p width height x y) ≡ is_walled o (site_of p cw ch x ((shift + y) % ch))
   obstructed_same =
       let e : ho.width ≡ o.width = is.obstacles_wide ∙ (is.wide ∙ sym is.of_obstacles.wide) in
       ap₂ (λ w h. is_walled ho (site_of p w h x y)) (sym is.obstacles_wide) (sym is.obstacles_high)
@@ -144,14 +143,6 @@ part_phase p shift k hw ho w o c sc now there is sides sides_there before =
     subst (λ n. IsStrip come come_there shift n (sc.height - suc k)) (add-one k)
     (subst (λ n. IsStrip come come_there shift (k + 1) n) (let e : sc.height - k - 1 ≡ sc.height - suc k = omega arith in e) next)
 
--- the rows that are left after k phases
-pub strip_after : (p shift : ℕ) (hw ho w o c sc : Cells) → IsPart shift hw ho w o c.width c.height sc.width sc.height → IsStrip sc c shift 0 sc.height → (k : ℕ) →
-    IsStrip (after p (joined hw ho) sc k) (after p (joined w o) c k) shift k (sc.height - k)
-strip_after p shift hw ho w o c sc is start zero = subst (λ n. IsStrip sc c shift 0 n) (let e : sc.height ≡ sc.height - 0 = omega arith in e) start
-strip_after p shift hw ho w o c sc is start (suc k) =
-    part_phase (parity_at p k) shift k hw ho w o c sc (after p (joined hw ho) sc k) (after p (joined w o) c k) is
-    (sides_after p (joined hw ho) sc k) (sides_after p (joined w o) c k) (strip_after p shift hw ho w o c sc is start k)
-
 -- tiles that take the same
 tiles_same : (p : ℕ) (sc hw ho c w o : Cells) (a b n : ℕ) → ((i : ℕ) → i < n → taken_in (pos p) sc hw ho (tile_rectangle sc (a + i)) ≡ taken_in (pos p) c w o (tile_rectangle c (b + i)))
     → tiles_take p sc hw ho a n ≡ tiles_take p c w o b n
@@ -212,16 +203,3 @@ own_tiles_same p first rows down k hw ho w o c sc now there is sides sides_there
     (λ l whole some. tile_same p first rows down i hw ho w o there now is' whole some (sides_there.high ∙ high) (sides.high ∙ strip) inside l
     (λ x y l low top. kept.row x y l (omega arith) (omega arith)))
     l (whole ∙ sym sides_there.wide) some)
-
--- in a whole run
-pub run_same : (p first rows down : ℕ) (hw ho w o c sc : Cells) → let shift = (first + down - 1) * 64 in let a = c.width / 64 in
-    IsPart shift hw ho w o c.width c.height sc.width sc.height → IsStrip sc c shift 0 sc.height → a * 64 ≡ c.width → 0 < a → c.height ≡ down * 64 → sc.height ≡ (rows + 2) * 64 → first + rows ≤ down
-    → (k : ℕ) → k ≤ 64 → tiles_take_in_run p hw ho sc a (rows * a) k ≡ tiles_take_in_run p w o c (first * a) (rows * a) k
-run_same p first rows down hw ho w o c sc is start whole some high strip inside zero few = refl
-run_same p first rows down hw ho w o c sc is start whole some high strip inside (suc k) few =
-    let shift = (first + down - 1) * 64 in
-    let now = after p (joined hw ho) sc k in
-    let there = after p (joined w o) c k in
-    ap₂ took_plus (run_same p first rows down hw ho w o c sc is start whole some high strip inside k (omega arith))
-    (own_tiles_same (parity_at p k) first rows down k hw ho w o c sc now there is (sides_after p (joined hw ho) sc k) (sides_after p (joined w o) c k)
-    (strip_after p shift hw ho w o c sc is start k) (omega arith) whole some high strip inside)

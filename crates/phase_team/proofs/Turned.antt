@@ -3,9 +3,8 @@ use Rattle.std.proofs.Common.{◌≡◌, ℕ, ◌+◌, ◌-◌, ◌*◌, ◌/◌
 use Rattle.gas_terms.specs.Cells.{Cells, HasSidesOf, has, extent, is_size}
 use Rattle.gas_terms.proofs.Cells.{has-cells_where}
 use Rattle.gas_plane.proofs.Places.{wide, high}
-use Rattle.phase_step.specs.Runs.{tiles_take_in_run}
 use Rattle.phase_team.specs.Strips.{IsStrip, window, shift_of}
-use Rattle.phase_team.proofs.Transport.{IsPart, run_same}
+use Rattle.phase_team.proofs.Transport.{IsPart}
 
 window_row : (c : Cells) (shift h m : ℕ) → c.height ≡ m → (x y : ℕ) → x < c.width → y < h → has (window c shift h) x y ≡ has c x ((shift + y) % m)
 window_row c shift h m e x y l q = has-cells_where c.width h (λ x y. has c x ((shift + y) % c.height)) x y l q ∙ ap (λ n. has c x ((shift + y) % n)) e
@@ -41,16 +40,6 @@ part_is first rows w o c sized of_walls of_obstacles =
 
 pub start_is : (first rows : ℕ) (c : Cells) → let shift = shift_of c first in IsStrip (window c shift ((rows + 2) * 64)) c shift 0 ((rows + 2) * 64)
 start_is first rows c = record { wide = refl; row = λ x y l _ m. window_row c (shift_of c first) ((rows + 2) * 64) c.height refl x y l m }
-
-pub took_is : (p first rows k : ℕ) (w o c : Cells) → is_size (extent c) ≡ true → HasSidesOf w c → HasSidesOf o c → first + rows ≤ c.height / 64 → k ≤ 64 → let shift = shift_of c first in let h = (rows + 2) * 64 in
-    tiles_take_in_run p (window w shift h) (window o shift h) (window c shift h) (c.width / 64) (rows * (c.width / 64)) k ≡ tiles_take_in_run p w o c (first * (c.width / 64)) (rows * (c.width / 64)) k
-took_is p first rows k w o c sized of_walls of_obstacles inside few =
-    let shift = shift_of c first in
-    let h = (rows + 2) * 64 in
-    let across = wide (extent c) sized in
-    let down = high (extent c) sized in
-    run_same p first rows (c.height / 64) (window w shift h) (window o shift h) w o c (window c shift h) (part_is first rows w o c sized of_walls of_obstacles) (start_is first rows c)
-    across.tiles across.some (sym down.tiles) refl inside k few
 
 -- the number of a strip's own tiles
 pub own_count : (a rows : ℕ) → a * ((rows + 2) * 64 / 64) - 2 * a ≡ rows * a

@@ -2,12 +2,12 @@
 use Rattle.std.specs.Prelude.{ℕ, zero, suc, ◌+◌, ◌-◌, ◌*◌, ◌/◌, ◌%◌, ℤ, pos}
 use Rattle.gas_terms.specs.Cells.{Cells, joined, without, tile_count, tile_rectangle}
 use Rattle.gas_terms.specs.Gas.{streamed}
-use Rattle.gas_terms.specs.Accounts.{total_in, took_plus}
+use Rattle.gas_terms.specs.Accounts.{total_in, took_plus, moved_plus}
 use Rattle.gas_terms.specs.declared.accounts.Took.{Took}
 use Rattle.phase_step.specs.Runs.{parity_at, nothing, tiles_take}
-use Rattle.phase_step.specs.Actions.{Leaves, acted, after_with, moved_plus, unmoved}
-use Rattle.phase_step.specs.declared.moved.Moved.{Moved}
-use Rattle.phase_step.specs.declared.moved.Flow.{Flow}
+use Rattle.phase_step.specs.Actions.{Leaves, acted, after_with, unmoved}
+use Rattle.gas_terms.specs.declared.accounts.Moved.{Moved}
+use Rattle.phase_step.specs.declared.sums.flow.Flow.{Flow}
 
 -- what an action on a torus of this height leaves of a strip whose rows are the torus's from row `shift` on
 abbrev pub shifted : Leaves → ℕ → ℕ → Leaves

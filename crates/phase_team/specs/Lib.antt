@@ -1,3 +1,4 @@
+pub mod Limits
 pub mod Tiles
 pub mod Teamwork
 pub mod Strips

@@ -11,9 +11,9 @@ use Rattle.gas_terms.specs.declared.accounts.Took.{Took}
 use Rattle.gas_plane.specs.Planes.{IsLattice}
 use Rattle.phase_step.specs.Turns.{IsTileAfter}
 use Rattle.phase_team.specs.Tiles.{IsTurnedAt, tile_takes, tiles_take}
-use Rattle.phase_team.specs.declared.course.Task.{Task}
-use Rattle.phase_team.specs.declared.worker.Turned.{Turned}
-use Rattle.phase_team.specs.declared.worker.Worker.{Worker}
+use Rattle.phase_team.specs.declared.phase.shift.Task.{Task}
+use Rattle.phase_team.specs.declared.phase.worker.Turned.{Turned}
+use Rattle.phase_team.specs.declared.phase.worker.Worker.{Worker}
 
 -- the worker has drawn nothing
 pub record IsReady (desk : DeskId) (w : Worker) : Type 0 where

@@ -7,15 +7,15 @@ use Rattle.gas_plane.specs.Planes.{IsLattice}
 use Rattle.phase_step.specs.Actions.{Leaves, after_with, flow_with, no_flow, flow_plus}
 use Rattle.phase_step.specs.Exchanges.{Areas, listed}
 use Rattle.phase_step.specs.WalledSites.{AllHaveSidesOf}
-use Rattle.phase_step.specs.declared.moved.Flow.{Flow}
+use Rattle.phase_step.specs.declared.sums.flow.Flow.{Flow}
 use Rattle.phase_team.specs.Strips.{IsStrip, shift_of}
 use Rattle.phase_team.specs.ActionStrips.{tiles_flow}
-use Rattle.phase_team.specs.declared.course.Course.{Course}
-use Rattle.phase_team.specs.declared.course.Parts.{Parts}
-use Rattle.phase_team.specs.declared.course.Stretch.{Stretch}
-use Rattle.phase_team.specs.declared.strip.Strip.{Strip}
-use Rattle.phase_team.specs.declared.hand.Hand.{Hand}
-use Rattle.phase_team.specs.declared.hand.Room.{Room}
+use Rattle.phase_team.specs.declared.runs.course.Course.{Course}
+use Rattle.phase_team.specs.declared.runs.course.Parts.{Parts}
+use Rattle.phase_team.specs.declared.runs.course.Stretch.{Stretch}
+use Rattle.phase_team.specs.declared.runs.strip.Strip.{Strip}
+use Rattle.phase_team.specs.declared.runs.hand.Hand.{Hand}
+use Rattle.phase_team.specs.declared.runs.hand.Room.{Room}
 
 -- the list has what an action does after each of the first n phases of a run
 abbrev pub Lists : List Areas → (ℕ → Leaves) → ℕ → Type 0

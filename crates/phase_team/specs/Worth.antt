@@ -1,6 +1,7 @@
 -- Which runs are made by strips.
 use Rattle.std.specs.Prelude.{ℕ, ◌+◌, ◌-◌, ◌*◌, ◌/◌, Bool, ◌&&◌, nat_le, min, if◌then◌else◌}
 use Rattle.gas_terms.specs.Cells.{Extent}
+use Rattle.phase_team.specs.Limits.{most_phases}
 
 -- how many strips of a lattice with so many rows of tiles each worker has: two if they are at least 8 rows high
 abbrev pub strips_each : ℕ → ℕ → ℕ
@@ -11,9 +12,9 @@ abbrev pub rows_each : ℕ → ℕ → ℕ
 rows_each down workers =
     strips_each down workers * ((down + strips_each down workers * workers - 1) / (strips_each down workers * workers) + 2)
 
--- how many tiles fewer a worker turns than one thread would, in n phases or the first 64 of them
+-- how many tiles fewer a worker turns than one thread would, in n phases or as many of them as a strip makes alone
 abbrev pub tiles_saved : Extent → ℕ → ℕ → ℕ
-tiles_saved size workers n = size.width / 64 * (size.height / 64 - rows_each (size.height / 64) workers) * min n 64
+tiles_saved size workers n = size.width / 64 * (size.height / 64 - rows_each (size.height / 64) workers) * min n most_phases
 
 -- the run has at least so many phases, and so many tiles fewer for each worker
 abbrev pub is_worth_strips : ℕ → ℕ → Extent → ℕ → ℕ → Bool

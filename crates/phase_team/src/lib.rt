@@ -4,22 +4,17 @@
 //! lattices and a team of one stay on the calling thread. A single phase (`Team::phase`) is made by workers that draw its
 //! tiles one by one.
 //!
-//! The program makes runs alone: it calls `Team::new` and `Stepper::run` and `run_with`. `Team::phase` with its `Gate`, and
+//! The program makes runs alone: it calls `Team::new` and `Stepper::run_with`. `Team::phase` with the module `phase`, and
 //! `Team::with_least_run` with its `LeastRun`, are there for callers of the library.
 #![tactic(auto)]
 
-mod course;
-mod gate;
-mod hand;
 pub mod laws;
+mod phase;
 mod runs;
-mod strip;
-mod task;
 mod team;
 #[cfg(test)]
 mod tests;
-mod worker;
 
-pub use gate::{Gate, NoGate};
+pub use phase::{Gate, NoGate};
 pub use runs::LeastRun;
-pub use team::Team;
+pub use team::{MOST_WORKERS, Team};

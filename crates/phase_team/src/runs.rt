@@ -5,21 +5,26 @@ ghost use Rattle.std.specs.Vec.{vec_capacity};
 ghost use Rattle.gas_terms.specs.Cells.{Cells, extent, joined, HasSidesOf};
 ghost use Rattle.gas_plane.specs.Planes.{IsLattice};
 ghost use Rattle.phase_step.specs.Actions.{after_with, flow_with};
+ghost use Rattle.phase_team.specs.Limits.{most_workers, most_phases, most_rows};
 ghost use Rattle.phase_team.specs.Work.{result_of, flow_of, Lists, IsRoomFor, IsDone, IsPart, HasMade};
 ghost use Rattle.phase_team.specs.Work.{IsOut, StaysPut, RowsArePut, StripsArePut, strips_give, HasPut};
 ghost use Rattle.phase_team.specs.Teamwork.{HaveDrawn, drawn};
 ghost use Rattle.phase_team.specs.Worth.{strips_each, is_worth_strips};
 
-use crate::course::{Course, Parts, Stretch};
-use crate::hand::{Hand, Room, make_all, room_of, seated};
-use crate::strip::Strip;
+mod course;
+mod hand;
+mod strip;
+
 use claim_desk::{Desk, DeskSeat};
+use course::{Course, Parts, Stretch};
 use gas_plane::Plane;
 use gas_terms::Size;
-use phase_step::{Action, Exchange, Flow, Later, NO_FLOW, Run, Serial, Stepper, parity_at};
+use hand::{Hand, Room, make_all, room_of, seated};
+use phase_step::{Action, Exchange, Flow, Later, Run, Serial, Stepper, parity_at};
 use std::alloc::Global;
 use std::mem;
 use std::thread::Threads;
+use strip::Strip;
 
 /// So many phases a strip can make alone: each takes a row from what it has of its neighbors.
 const AT_ONCE: u16 = 64;
@@ -45,7 +50,7 @@ const HIGH: u32 = 8;
 
 // How many strips there are for each worker.
 fn strips_each(down: u32, workers: u8) -> u32
-    requires { workers ≤ 16 }
+    requires { workers ≤ most_workers }
     ensures each { result ≡ strips_each down workers }
     ensures few { (0 < result) × (result ≤ 2) }
 {
@@ -59,7 +64,7 @@ fn strips_each(down: u32, workers: u8) -> u32
 /// Whether a run of n phases is no smaller than the least: what a worker turns, with the margins of its strips, is compared
 /// with the lattice.
 pub fn is_worth_strips(least: LeastRun, size: Size, workers: u8, n: u16) -> bool
-    requires { (0 < workers) × (workers ≤ 16) }
+    requires { (0 < workers) × (workers ≤ most_workers) }
     ensures { result ≡ is_worth_strips least.phases least.tiles size workers n }
 {
     let across = u32::from(size.width() / 64);
@@ -88,14 +93,14 @@ fn unload(course: Course<'_>, strip: &Strip, out: &mut Plane)
 // Puts the strips that a worker made into `out`: what the course comes to in them.
 fn put(stretch: Stretch<'_>, made: &[Strip], out: &mut Plane) -> Flow
     requires made { All (IsPart stretch) made.now }
-    requires few { length made.now ≤ 64 }
+    requires few { length made.now ≤ most_rows }
     requires out { IsOut stretch.course out.old }
     ensures out { IsOut stretch.entry.course out.new }
     ensures kept { StaysPut stretch.entry.course out.old out.new }
     ensures strips { StripsArePut stretch.entry (map (λ s. s.number) made.now) out.new }
     ensures flow { result ≡ strips_give stretch.entry (map (λ s. s.number) made.now) }
 {
-    let mut flow = NO_FLOW;
+    let mut flow = Flow::ZERO;
     for strip in made {
         unload(stretch.course, strip, out);
         flow = flow.plus(strip.flow);
@@ -113,7 +118,7 @@ fn hand_in(
     out: &mut Plane,
 ) -> Option<Flow>
     requires team { All (HasMade stretch) team.items }
-    requires count { vec_len team ≤ 16 }
+    requires count { vec_len team ≤ most_workers }
     requires room { vec_len team ≤ vec_capacity seats.old }
     requires seats { seats.old.items ≡ [] }
     requires rooms { let size = extent stretch.course.cells.now in
@@ -127,7 +132,7 @@ fn hand_in(
     ensures put { IfSome result (λ flow.
         HasPut stretch.entry (drawn seats.new.items) flow out.new) }
 {
-    let mut flow = NO_FLOW;
+    let mut flow = Flow::ZERO;
     let mut ended = false;
     while let Some(hand) = team.pop() {
         let Hand {
@@ -147,7 +152,7 @@ fn hand_in(
 
 // Has the workers make the strips of a course, and puts these together in `out`. When the desk is closed, each strip was made
 // once.
-fn round<R: Threads>(
+fn make_strips<R: Threads>(
     rt: &R,
     course: Course<'_>,
     workers: u32,
@@ -155,7 +160,7 @@ fn round<R: Threads>(
     rooms: &mut Vec<Room>,
     out: &mut Plane,
 ) -> Option<Flow>
-    requires workers { (0 < workers) × (workers ≤ 16) }
+    requires workers { (0 < workers) × (workers ≤ most_workers) }
     requires parts { parts.count * parts.low + parts.more ≡ course.cells.now.height / 64 }
     requires rooms { All (IsRoomFor (extent course.cells.now) parts) rooms.old.items }
     requires lattice { IsLattice out.old }
@@ -194,7 +199,7 @@ pub struct Strips {
     // what acts after each phase of a stretch
     turns: Vec<Exchange>,
     pub ghost some: { 0 < workers },
-    pub ghost few: { workers ≤ 16 },
+    pub ghost few: { workers ≤ most_workers },
     pub ghost all: { parts.count * parts.low + parts.more ≡ size.height / 64 },
     pub ghost ready: { All (IsRoomFor size parts) rooms.items },
 }
@@ -202,7 +207,7 @@ pub struct Strips {
 impl Strips {
     /// `None` where memory is refused.
     pub fn new(alloc: Global, size: Size, workers: u8) -> Option<Strips>
-        requires { (0 < workers) × (workers ≤ 16) }
+        requires { (0 < workers) × (workers ≤ most_workers) }
         ensures { IfSome result (λ strips. strips.size ≡ size) }
     {
         let turns = Vec::with_capacity(alloc, AT_ONCE as usize).ok()?;
@@ -226,7 +231,7 @@ pub fn strips_for(
     size: Size,
     workers: u8,
 ) -> Option<Strips>
-    requires { (0 < workers) × (workers ≤ 16) }
+    requires { (0 < workers) × (workers ≤ most_workers) }
     ensures { IfSome result (λ strips. strips.size ≡ size) }
 {
     if let Some(strips) = kept.take() {
@@ -258,7 +263,7 @@ fn stretch<R: Threads, A: Action>(
 ) -> Flow
     requires size { strips.old.size ≡ extent particles.old }
     requires parity { run.parity < 2 }
-    requires few { run.n ≤ 64 }
+    requires few { run.n ≤ most_phases }
     requires walls { HasSidesOf run.walls.now particles.old }
     requires obstacles { HasSidesOf run.obstacles.now particles.old }
     requires spare { HasSidesOf spare.old particles.old }
@@ -283,7 +288,7 @@ fn stretch<R: Threads, A: Action>(
         parity: run.parity,
         phases: run.n,
     };
-    match round(
+    match make_strips(
         rt,
         course,
         strips.workers,
@@ -321,7 +326,7 @@ pub fn run_by<R: Threads, A: Action>(
     ensures flow { let r = run.entry in result ≡
         flow_with r.parity r.walls.now r.obstacles.now (A.leaves r.action.now) particles.old r.n }
 {
-    let mut flow = NO_FLOW;
+    let mut flow = Flow::ZERO;
     let mut done = 0;
     while done < run.n {
         let next = (run.n - done).min(AT_ONCE);

@@ -94,7 +94,7 @@ fn head_on_pair_across_tiles(rt: HostRuntime) {
     let old = plane(&rt, 128, 128, &[(63, 63), (64, 64)]);
     let none = plane(&rt, 128, 128, &[]);
     let want = plane(&rt, 128, 128, &[(64, 63), (63, 64)]);
-    let nothing = Pair { x: 0, y: 0 };
+    let nothing = Pair::ZERO;
     for workers in [1, 2, 7] {
         let mut team = team(&rt, rt, rt.alloc(), workers, NoGate);
         // what was there is overwritten
@@ -107,7 +107,7 @@ fn head_on_pair_across_tiles(rt: HostRuntime) {
 
 #[test]
 fn wall_across_tiles_books_once(rt: HostRuntime) {
-    let nothing = Pair { x: 0, y: 0 };
+    let nothing = Pair::ZERO;
     // at an odd tick a particle at (63, 63) goes to the right and down
     let twice = Pair { x: 2, y: 2 };
     let old = plane(&rt, 128, 128, &[(63, 63)]);
@@ -294,7 +294,7 @@ fn refused_team_without_memory(rt: HostRuntime) {
     let mut out = plane(&rt, 128, 128, &[(5, 5)]);
     let took = step(&rt, &mut team, &old, &walls, &none, 1, &mut out);
     assert!(rt; are_same(&out, &want, 128, 128));
-    assert!(rt; took.walls == Pair { x: -2, y: -2 } && took.obstacles == Pair { x: 0, y: 0 });
+    assert!(rt; took.walls == Pair { x: -2, y: -2 } && took.obstacles == Pair::ZERO);
     let mut alone = plane(&rt, 128, 128, &[]);
     let by_one = step(&rt, &mut Serial, &old, &walls, &none, 1, &mut alone);
     assert!(rt; are_same(&out, &alone, 128, 128) && took == by_one);
@@ -309,7 +309,7 @@ struct Ground<'a> {
     n: u16,
 }
 
-// a run with actions as a laboratory makes it
+// a run as a laboratory makes it
 fn act_along<S: Stepper, A: Action>(
     rt: &impl Abort,
     stepper: &mut S,
@@ -545,29 +545,6 @@ fn strokes_in_a_run_by_two_strips(rt: HostRuntime) {
     assert!(rt; places(&now, 128) == (11262, 186152991));
 }
 
-// a run as a laboratory makes it
-fn make<S: Stepper>(
-    rt: &impl Abort,
-    stepper: &mut S,
-    run: Ground<'_>,
-    particles: &mut Plane,
-    spare: &mut Plane,
-) -> Took {
-    let size = particles.size();
-    assert!(rt; run.parity < 2);
-    assert!(rt; run.walls.size() == size);
-    assert!(rt; run.obstacles.size() == size);
-    assert!(rt; spare.size() == size);
-    stepper.run(
-        particles,
-        run.walls,
-        run.obstacles,
-        run.parity,
-        run.n,
-        spare,
-    )
-}
-
 // rows of shifted and mixed words, of which so many are put together by `and`
 fn seeded(rt: &(impl Abort + AllocGlobal), size: Size, seed: u64, words: u32) -> Plane {
     let mut plane = Plane::empty(rt.alloc(), size).expect(rt, "memory");
@@ -611,8 +588,8 @@ fn team_runs_as_one_thread(rt: HostRuntime) {
             parity,
             n,
         };
-        let took = make(&rt, &mut team, run, &mut now, &mut spare);
-        let by_one = make(&rt, &mut Serial, run, &mut alone, &mut spare);
+        let took = act_along(&rt, &mut team, run, &Still, &mut now, &mut spare).took;
+        let by_one = act_along(&rt, &mut Serial, run, &Still, &mut alone, &mut spare).took;
         assert!(rt; took == by_one && have_same_rows(&now, &alone));
     }
 }
@@ -633,7 +610,7 @@ fn team_parts_large_runs_into_strips(rt: HostRuntime) {
         let mut team = team(&rt, rt, rt.alloc(), workers, NoGate);
         let mut now = seeded(&rt, size, 88172645463325252, 1);
         let mut spare = seeded(&rt, size, 1, 1);
-        make(&rt, &mut team, run, &mut now, &mut spare);
+        act_along(&rt, &mut team, run, &Still, &mut now, &mut spare);
         assert!(rt; have_same_rows(&spare, &start) == in_strips);
     }
 }

@@ -10,7 +10,7 @@ use gas_terms::{Command, NoMemory, Size};
 use std::marker::Brand;
 use std::process::Abort;
 use std::sync::ledger::{Blank, Ledger};
-use test_types::faults::{FaultAt, Sink, Source, Store};
+use test_types::faults::{FaultAt, Feed, Sink, Store};
 
 const ALL: usize = usize::MAX;
 
@@ -33,9 +33,9 @@ fn end_of(
     sink: &mut Sink,
 ) -> SessionEnd {
     let mut lab = lab(rt);
-    let mut source = Source::new(input, step, FaultAt::never());
+    let mut feed = Feed::new(input, step, FaultAt::never());
     let mut store = Store::new(rt.alloc(), FaultAt::never());
-    serve_alone(rt.alloc(), &mut source, sink, &mut lab, 0, &mut store)
+    serve_alone(rt.alloc(), &mut feed, sink, &mut lab, 0, &mut store)
 }
 
 fn served(
@@ -92,14 +92,14 @@ fn answered_in_part<R: Abort + AllocGlobal, L: Ledger>(rt: &R, lab: &mut Lab<Ser
     requires parts { (blank.parts ≡ L.parts) × (blank.parts ≡ 1) }
 {
     let input = b"put 0 0 1 1\nput 2 2 1 1\nput 4 4 1 1\n".as_slice();
-    let mut source = Source::new(input, ALL, FaultAt::never());
+    let mut feed = Feed::new(input, ALL, FaultAt::never());
     let mut sink = Sink::new(rt.alloc(), ALL, 7, FaultAt::never());
     let mut store = Store::new(rt.alloc(), FaultAt::never());
     let mut door = Alone { lab, seat: 3 };
     let mut count = ReadCount::<L>::new(blank);
     let end = session(
         rt.alloc(),
-        &mut source,
+        &mut feed,
         &mut sink,
         &mut door,
         &mut store,
@@ -134,20 +134,20 @@ fn writer_fails_within_a_reply(rt: HostRuntime) {
 
 // each reply is flushed
 fn read_fails(rt: &(impl Abort + AllocGlobal), lab: &mut Lab<Serial>) {
-    let mut source = Source::new(b"tally\ntally\n", 6, FaultAt::after(1));
+    let mut feed = Feed::new(b"tally\ntally\n", 6, FaultAt::after(1));
     let mut sink = sink(rt);
     let mut store = Store::new(rt.alloc(), FaultAt::never());
-    let end = serve_alone(rt.alloc(), &mut source, &mut sink, lab, 0, &mut store);
+    let end = serve_alone(rt.alloc(), &mut feed, &mut sink, lab, 0, &mut store);
     expect_same(&rt, end, SessionEnd::ReadFault);
     expect_same(&rt, sink.taken(), b"TALLY 0 0 0 0\n".as_slice());
     expect_same(&rt, sink.flushes(), 1);
 }
 
 fn write_fails(rt: &(impl Abort + AllocGlobal), lab: &mut Lab<Serial>, fault: FaultAt) {
-    let mut source = Source::new(b"tally\ntally\n", ALL, FaultAt::never());
+    let mut feed = Feed::new(b"tally\ntally\n", ALL, FaultAt::never());
     let mut sink = Sink::new(rt.alloc(), ALL, ALL, fault);
     let mut store = Store::new(rt.alloc(), FaultAt::never());
-    let end = serve_alone(rt.alloc(), &mut source, &mut sink, lab, 0, &mut store);
+    let end = serve_alone(rt.alloc(), &mut feed, &mut sink, lab, 0, &mut store);
     expect_same(&rt, end, SessionEnd::WriteFault);
     expect_same(&rt, sink.taken(), b"TALLY 0 0 0 0\n".as_slice());
 }
@@ -169,12 +169,12 @@ fn failing_calls(rt: HostRuntime) {
 #[test]
 fn too_many_reads(rt: HostRuntime) {
     let mut lab = lab(&rt);
-    let mut source = Source::endless(b"tally\n", 1);
+    let mut feed = Feed::endless(b"tally\n", 1);
     let mut sink = sink(&rt);
     let mut store = Store::new(rt.alloc(), FaultAt::never());
-    let end = serve_alone(rt.alloc(), &mut source, &mut sink, &mut lab, 5, &mut store);
+    let end = serve_alone(rt.alloc(), &mut feed, &mut sink, &mut lab, 5, &mut store);
     expect_same(&rt, end, SessionEnd::TooManyReads);
-    expect_same(&rt, source.reads(), 16_777_216);
+    expect_same(&rt, feed.reads(), 16_777_216);
     expect_same(&rt, sink.taken().len(), 39_146_828);
 }
 
@@ -187,10 +187,10 @@ fn small_lab(rt: &(impl Abort + AllocGlobal)) -> Result<Lab<Serial>, NoMemory> {
 #[test]
 fn refused_memory_to_a_session_that_cannot_write(rt: HostRuntime) {
     if let Ok(mut lab) = small_lab(&rt) {
-        let mut source = Source::new(b"tally\n", ALL, FaultAt::never());
+        let mut feed = Feed::new(b"tally\n", ALL, FaultAt::never());
         let mut sink = Sink::new(rt.alloc(), ALL, ALL, FaultAt::after(0));
         let mut store = Store::new(rt.alloc(), FaultAt::never());
-        let end = serve_alone(rt.alloc(), &mut source, &mut sink, &mut lab, 2, &mut store);
+        let end = serve_alone(rt.alloc(), &mut feed, &mut sink, &mut lab, 2, &mut store);
         expect_same(&rt, end, SessionEnd::WriteFault);
         expect_that(&rt, sink.taken().is_empty());
         expect_that(&rt, lab.journal().is_empty());

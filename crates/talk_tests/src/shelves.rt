@@ -11,16 +11,16 @@ use gas_lab::{Gas, Lab, Serial};
 use gas_talk::serve_alone;
 use gas_terms::Size;
 use std::process::Abort;
-use test_types::faults::{FaultAt, Sink, Source, Store};
+use test_types::faults::{FaultAt, Feed, Sink, Store};
 
 // A session with the laboratory. What the store then has besides is the snapshots that the session's talk takes, in order.
 fn speak(rt: &impl AllocGlobal, input: &[u8], lab: &mut Lab<Serial>, store: &mut Store)
     ensures { (asked : List (Item × Outcome))
         × (kept_by store.new ≡ kept_by store.old ++ shelved_by (talk 0 lab.old asked).0) }
 {
-    let mut source = Source::new(input, usize::MAX, FaultAt::never());
+    let mut feed = Feed::new(input, usize::MAX, FaultAt::never());
     let mut sink = Sink::new(rt.alloc(), usize::MAX, usize::MAX, FaultAt::never());
-    serve_alone(rt.alloc(), &mut source, &mut sink, lab, 0, store);
+    serve_alone(rt.alloc(), &mut feed, &mut sink, lab, 0, store);
 }
 
 // The empty gas of 64 by 64, but for its first cell.

@@ -74,7 +74,7 @@ fn failure() -> io::Error {
 
 /// Gives its bytes, at most `step` of them a read, and then the same bytes again where it is told to.
 #[derive(Drop)]
-pub struct Source<'a> {
+pub struct Feed<'a> {
     bytes: &'a [u8],
     rest: &'a [u8],
     step: usize,
@@ -84,9 +84,9 @@ pub struct Source<'a> {
     asked: usize,
 }
 
-impl<'a> Source<'a> {
-    pub fn new(bytes: &'a [u8], step: usize, fault: FaultAt) -> Source<'a> {
-        Source {
+impl<'a> Feed<'a> {
+    pub fn new(bytes: &'a [u8], step: usize, fault: FaultAt) -> Feed<'a> {
+        Feed {
             bytes,
             rest: bytes,
             step,
@@ -98,10 +98,10 @@ impl<'a> Source<'a> {
     }
 
     /// Gives its bytes again and again, without an end in sight.
-    pub fn endless(bytes: &'a [u8], step: usize) -> Source<'a> {
-        Source {
+    pub fn endless(bytes: &'a [u8], step: usize) -> Feed<'a> {
+        Feed {
             repeats: u64::MAX,
-            ..Source::new(bytes, step, FaultAt::never())
+            ..Feed::new(bytes, step, FaultAt::never())
         }
     }
 
@@ -116,7 +116,7 @@ impl<'a> Source<'a> {
     }
 }
 
-impl<'a> Read for Source<'a> {
+impl<'a> Read for Feed<'a> {
     fn read(&mut self, buf: &mut [u8]) -> io::Result<usize> {
         self.reads = self.reads.saturating_add(1);
         self.asked = self.asked.max(buf.len());

@@ -11,24 +11,24 @@ use std::time::Clock;
 
 /// What a session writes, and whether its reader was asked again when just the first reply stood there.
 #[derive(Drop)]
-pub struct Place {
+pub struct Spot {
     pub page: Mutex<Page>,
     told: AtomicBool,
 }
 
-impl Place {
-    fn new(page: Page) -> Place {
-        Place {
+impl Spot {
+    fn new(page: Page) -> Spot {
+        Spot {
             page: Mutex::new(page),
             told: AtomicBool::new(false),
         }
     }
 }
 
-/// The places of three sessions.
+/// The spots of three sessions.
 #[derive(Drop)]
 pub struct Stage {
-    places: [Place; 3],
+    spots: [Spot; 3],
     met_limit: AtomicBool,
 }
 
@@ -44,10 +44,10 @@ impl Stage {
 
     fn with_last(last: Page) -> Stage {
         Stage {
-            places: [
-                Place::new(Page::new()),
-                Place::new(Page::new()),
-                Place::new(last),
+            spots: [
+                Spot::new(Page::new()),
+                Spot::new(Page::new()),
+                Spot::new(last),
             ],
             met_limit: AtomicBool::new(false),
         }
@@ -55,8 +55,8 @@ impl Stage {
 
     /// Whether this was written by the session.
     pub fn shows(&self, session: usize, text: &[u8]) -> bool {
-        match self.places.get(session) {
-            Some(place) => shows(&place.page, text),
+        match self.spots.get(session) {
+            Some(spot) => shows(&spot.page, text),
             None => false,
         }
     }
@@ -121,7 +121,7 @@ pub fn interleaved() -> [Option<Speech<'static>>; 2] {
 pub struct Speaker<'a, C: Clock> {
     clock: C,
     stage: &'a Stage,
-    place: &'a Place,
+    spot: &'a Spot,
     speech: Speech<'a>,
     said: u32,
 }
@@ -141,8 +141,8 @@ impl<'a, C: Clock> Speaker<'a, C> {
 
 impl<'a, C: Clock> Read for Speaker<'a, C> {
     fn read(&mut self, buf: &mut [u8]) -> io::Result<usize> {
-        if shows(&self.place.page, self.speech.told) {
-            self.place.told.store(true, Ordering::SeqCst);
+        if shows(&self.spot.page, self.speech.told) {
+            self.spot.told.store(true, Ordering::SeqCst);
         }
         let Some(Text { after, text }) = self.next() else {
             return if self.speech.fails {
@@ -151,7 +151,7 @@ impl<'a, C: Clock> Read for Speaker<'a, C> {
                 Ok(0)
             };
         };
-        if let Some(other) = after.and_then(|session| self.stage.places.get(session)) {
+        if let Some(other) = after.and_then(|session| self.stage.spots.get(session)) {
             wait_for(&self.clock, &other.told, &self.stage.met_limit);
         }
         let n = text.len().min(buf.len());
@@ -188,16 +188,16 @@ impl<'a, C: Clock + Copy + Drop + Send> Lobby for Speakers<'a, C> {
     fn accept(&mut self) -> Result<(Speaker<'a, C>, PageWriter<'a>), AcceptFault> {
         let at = self.next;
         self.next = at.saturating_add(1);
-        match (self.speeches.get(at), self.stage.places.get(at)) {
-            (Some(Some(speech)), Some(place)) => {
+        match (self.speeches.get(at), self.stage.spots.get(at)) {
+            (Some(Some(speech)), Some(spot)) => {
                 let speaker = Speaker {
                     clock: self.clock,
                     stage: self.stage,
-                    place,
+                    spot,
                     speech: *speech,
                     said: 0,
                 };
-                Ok((speaker, PageWriter::new(&place.page)))
+                Ok((speaker, PageWriter::new(&spot.page)))
             }
             _ => Err(AcceptFault),
         }

@@ -1,6 +1,6 @@
 //! The neighborhood of a tile: the eight tiles round it (`Round`), and the ring of cells in which they touch it (`Border`).
 //!
-//! The program uses `Round`. `Border`, `NO_BORDER` and `Neighbors` are there for callers who step single tiles.
+//! The program uses `Round`. `Border` and `Neighbors` are there for callers who step single tiles.
 #![tactic(auto)]
 
 ghost use Rattle.std.specs.Prelude.{◌≡◌, ℕ, ◌+◌, ◌<◌, ◌≤◌, slice_index, pos, negsuc, ◌≤ℤ◌};
@@ -22,15 +22,15 @@ pub struct Border {
     sides: [u64; 66],
 }
 
-/// A border without cells.
-pub const NO_BORDER: Border = Border {
-    above: 0,
-    below: 0,
-    sides: [0; 66],
-};
-
 impl Border {
     ghost use Rattle.tile_border.specs.Ring.{ring, IsOnRing, IsBorderOf, IsBorderOfRound, numbered};
+
+    /// A border without cells.
+    pub const EMPTY: Border = Border {
+        above: 0,
+        below: 0,
+        sides: [0; 66],
+    };
 
     /// The border of a tile with these neighbors.
     pub fn of(
@@ -52,7 +52,7 @@ impl Border {
         ensures below_left { ring result 0 65 ≡ has below_left.now 63 0 }
         ensures below_right { ring result 65 65 ≡ has below_right.now 0 0 }
     {
-        let mut border = NO_BORDER;
+        let mut border = Border::EMPTY;
         border.surround(&Round {
             above,
             below,

@@ -1,6 +1,6 @@
 use Rattle.std.proofs.Common.{refl, ◌∙◌, arith}
 use Rattle.gas_terms.specs.Cells.{joined}
-use Rattle.phase_step.specs.declared.moved.Flow.{Flow}
+use Rattle.phase_step.specs.declared.sums.flow.Flow.{Flow}
 use Rattle.phase_step.proofs.ActionRuns.{phase_with, sides_as_with, sides_at_start, with_next, flow_next, flow_fits}
 use Rattle.phase_step.proofs.Stepper.run_among.Goals as goal
 

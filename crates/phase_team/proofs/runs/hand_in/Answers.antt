@@ -5,7 +5,7 @@ use Rattle.claim_desk.specs.Desk.{SeatView}
 use Rattle.claim_desk.proofs.Sums.{all_last, all_front}
 use Rattle.phase_team.specs.Teamwork.{drawn}
 use Rattle.phase_team.specs.Work.{HasMade, IsPart, IsRoomFor, StripsArePut, strips_give}
-use Rattle.phase_team.specs.declared.strip.Strip.{Strip}
+use Rattle.phase_team.specs.declared.runs.strip.Strip.{Strip}
 use Rattle.phase_team.proofs.Places.{all_push}
 use Rattle.phase_team.proofs.DrawnNumbers.{drawn_push, last_ended, still_ended}
 use Rattle.phase_team.proofs.Parting.{all_either, strips_stay, strips_both, give_both, both_fit}

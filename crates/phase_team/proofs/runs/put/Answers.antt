@@ -1,6 +1,6 @@
 use Rattle.std.proofs.Common.{◌++◌, ◌∷◌, [], map, take, sym, ap, ◌∙◌, subst, arith}
 use Rattle.phase_team.specs.Work.{IsPart, StripsArePut, strips_give}
-use Rattle.phase_team.specs.declared.strip.Strip.{Strip}
+use Rattle.phase_team.specs.declared.runs.strip.Strip.{Strip}
 use Rattle.phase_team.proofs.Parting.{number_more, few_numbers, strips_more, part_gives, give_more, more_fit}
 use Rattle.phase_team.proofs.runs.put.Goals as goal
 

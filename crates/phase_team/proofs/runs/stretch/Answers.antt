@@ -22,8 +22,8 @@ returns-in-Some-clause-flow g c =
     let same : Lists c.as_slice.result.now leaves run.n = subst (λ (turns : List Areas). Lists turns leaves run.n) (sym c.as_slice.ensures.value) all in
     c.in-Some.ensures.flow ∙ flow_same run.parity run.walls.now run.obstacles.now (listed c.as_slice.result.now) leaves c.args.particles.now run.n same
 
-pub round-requires-clause-rooms : goal.round-requires-clause-rooms
-round-requires-clause-rooms g c =
+pub make_strips-requires-clause-rooms : goal.make_strips-requires-clause-rooms
+make_strips-requires-clause-rooms g c =
     let strips = c.args.strips.now in
     subst (λ (size : Extent). All (IsRoomFor size strips.parts) strips.rooms.items) c.requires.size strips.ready
 
@@ -34,5 +34,5 @@ invariant_of-strips-2 g c =
       some = strips.some;
       few = strips.few;
       all = strips.all;
-      ready = subst (λ (size : Extent). All (IsRoomFor size strips.parts) c.round.new.rooms.items) (sym c.requires.size) c.round.ensures.rooms;
+      ready = subst (λ (size : Extent). All (IsRoomFor size strips.parts) c.make_strips.new.rooms.items) (sym c.requires.size) c.make_strips.ensures.rooms;
     }

@@ -3,7 +3,7 @@ use Rattle.gas_terms.specs.BookedGas.{changes}
 use Rattle.gas_terms.specs.declared.command.Command.TheVariants.{Step, Back}
 use Rattle.gas_terms.specs.Commands.{is_move}
 use Rattle.gas_terms.proofs.LabBounds.{few_changes}
-use Rattle.phase_step.specs.PortedRuns.{with_moved}
+use Rattle.gas_terms.specs.Accounts.{with_moved}
 use Rattle.gas_ledger.specs.Books.{books_of}
 use Rattle.gas_ledger.proofs.Stepping.{pair}
 use Rattle.gas_ledger.proofs.Editing.{no_move, edit_booked, edit_fits}

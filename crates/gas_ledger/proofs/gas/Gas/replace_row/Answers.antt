@@ -1,7 +1,7 @@
 use Rattle.std.proofs.Common.{◌≡◌, ◌<◌, true, nat_lt, Bool, ℕ, ◌&&◌, ap, subst, sym, ◌∙◌, arith}
 use Rattle.std.proofs.lemmas.Bool.Decides.{nat_tests}
 use Rattle.gas_terms.specs.Gas.{Gas}
-use Rattle.phase_step.specs.Moves.{moved_by}
+use Rattle.gas_terms.specs.Accounts.{moved_by}
 use Rattle.gas_ledger.proofs.Moving.{moved_by_row, row_counts_small}
 use Rattle.gas_ledger.proofs.gas.Gas.replace_row.Goals as goal
 

@@ -1,12 +1,12 @@
-use Rattle.std.proofs.Common.{◌≡◌, ℕ, Bool, true, false, Option, Some, None, if◌then◌else◌, ℤ, pos, ◌+ℤ◌, ap, ap₂, sym, ◌∙◌}
+use Rattle.std.proofs.Common.{◌≡◌, ℕ, pos, ◌+ℤ◌, ap, ap₂, sym, ◌∙◌}
 use Rattle.gas_terms.specs.Cells.{Cells, joined}
 use Rattle.gas_terms.specs.Velocity.{parity}
 use Rattle.phase_step.specs.Actions.{Leaves, after_with, takes_with, moves_with}
-use Rattle.phase_step.specs.declared.moved.Flow.{Flow}
+use Rattle.phase_step.specs.declared.sums.flow.Flow.{Flow}
 use Rattle.phase_step.proofs.ActionRuns.{sides_as_with}
 use Rattle.gas_ledger.specs.PortLists.{left_by}
 use Rattle.gas_ledger.specs.Gases.{gas_of}
-use Rattle.gas_ledger.proofs.Running.{fit_with}
+use Rattle.gas_ledger.proofs.Running.{fit_with, chosen}
 use Rattle.gas_ledger.proofs.gas.Gas.step_on.Goals as goal
 
 pub invariant_of-self : goal.invariant_of-self
@@ -18,11 +18,6 @@ pub returns-clause-spare : goal.returns-clause-spare
 returns-clause-spare g c =
     let l = c.self.inside in
     sides_as_with c.parity-parity.result (joined l.walls l.obstacles) (λ k. left_by l.ports (l.tick +ℤ pos k +ℤ pos 1)) l.particles c.run_with.new.particles c.run_with.new.spare c.args.n c.run_with.ensures.particles c.run_with.ensures.spare
-
--- the tick n ticks on is one
-chosen : (fits : Bool) (t u : ℤ) → (let o : Option ℤ = Some u in o) ≡ (if fits then Some t else None) → u ≡ t
-chosen true t u e = cc
-chosen false t u e = cc
 
 pub returns-clause-gas : goal.returns-clause-gas
 returns-clause-gas g c =

@@ -1,0 +1,10 @@
+use Rattle.std.proofs.Common.{◌≡◌, ◌+◌, ◌*◌, ◌≤◌}
+use Rattle.block_rule.specs.Classes.{particles_among}
+use Rattle.block_rule.proofs.hold.count_rows.Given as goal
+
+abbrev pub invariant-loop-k : goal.invariant-loop-k
+invariant-loop-k l =
+    record {
+      count : l.n + particles_among l.old l.places l.from ≡ particles_among l.old l.places (l.from + 2 * l.k);
+      bound : l.n ≤ 64 * l.k;
+    }

@@ -1,0 +1,16 @@
+//! What both halls count of a reply.
+
+ghost use Rattle.std.specs.Prelude.{◌≡◌};
+ghost use Rattle.gas_seats.specs.Seats.{taken};
+
+use gas_terms::{Answer, Refusal};
+
+/// How many entries of the journal a reply tells of.
+pub fn entries_of(reply: &Result<Answer, Refusal>) -> u32
+    ensures { result ≡ taken reply.now }
+{
+    match reply {
+        Ok(Answer::Taken(_)) => 1,
+        _ => 0,
+    }
+}

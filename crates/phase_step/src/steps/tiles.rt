@@ -1,0 +1,154 @@
+//! The step of one tile of a plane.
+
+ghost use Rattle.std.specs.Prelude.{◌≡◌, ℕ, ◌/◌, ◌<◌, pos};
+ghost use Rattle.gas_terms.specs.Cells.{Cells, tile_count, tile_rectangle, HasSidesOf};
+ghost use Rattle.gas_plane.specs.Planes.{IsLattice, IsTileFrom, IsPosition};
+ghost use Rattle.block_rule.specs.Windows.{taken_in};
+ghost use Rattle.phase_step.specs.Turns.{IsTileAfter, IsPlaceOf};
+ghost use Rattle.phase_step.specs.WalledSites.{AreInTile, AreLent};
+
+use crate::steps::sites::{Lent, walled_cells};
+use crate::steps::solids::Solids;
+use block_rule::{Places, WalledCells, Window, turn_tile_even, turn_tile_odd};
+use gas_plane::{Plane, Position, Tile};
+use gas_terms::Took;
+
+// where a tile has no cell at a walled site
+const NOTHING_LENT: Lent<'static> = Lent {
+    walls: None,
+    obstacles: None,
+};
+
+/// Puts the tile at this position into `out` as it is after the phase, and returns what walls and obstacles take of its
+/// particles. A phase does this for each tile. Each plane is a lattice, as its size tells.
+#[inline(always)]
+pub fn turn_tile_at(
+    old: &Plane,
+    solids: Solids<'_>,
+    parity: u8,
+    at: Position,
+    out: &mut Tile,
+) -> Took
+    requires parity { parity < 2 }
+    requires lattice { IsLattice old.now }
+    requires tile { at.tile < tile_count old.now }
+    requires position { IsPosition (old.now.width / 64) at }
+    requires walls { HasSidesOf solids.walls.now old.now }
+    requires obstacles { HasSidesOf solids.obstacles.now old.now }
+    ensures cells { let s = solids.entry in
+        IsTileAfter parity old.now s.walls.now s.obstacles.now at.tile out.new }
+    ensures took { let s = solids.entry in
+        result ≡ taken_in (pos parity) old.now s.walls.now s.obstacles.now
+        (tile_rectangle old.now at.tile) }
+{
+    if parity == 0 {
+        *out = *old.tile(at.tile);
+        turn_tile_in_place(solids, at.tile, out)
+    } else {
+        turn_odd(old, solids, at, out)
+    }
+}
+
+/// Turns the blocks of tile i, which begin at even columns and rows, so that each lies in the tile. Returns what walls and
+/// obstacles take of its particles. The sets are lattices of one size.
+#[inline(always)]
+pub fn turn_tile_in_place(solids: Solids<'_>, i: u32, tile: &mut Tile) -> Took
+    requires walls { i < tile_count solids.walls.now }
+    requires obstacles { i < tile_count solids.obstacles.now }
+    requires place { IsPlaceOf solids.walls.now solids.walls.now solids.obstacles.now i }
+    ensures cells { (old : Cells) → let s = solids.entry in let r = tile_rectangle old i in
+        IsPlaceOf old s.walls.now s.obstacles.now i → IsTileFrom tile.old old r.x r.y →
+        IsTileAfter 0 old s.walls.now s.obstacles.now i tile.new }
+    ensures took { (old : Cells) → let s = solids.entry in let r = tile_rectangle old i in
+        IsPlaceOf old s.walls.now s.obstacles.now i → IsTileFrom tile.old old r.x r.y →
+        result ≡ taken_in (pos 0) old s.walls.now s.obstacles.now r }
+{
+    if solids.none {
+        return turn_even(solids, i, NOTHING_LENT, tile);
+    }
+    if let Some(sites) = solids.sites {
+        return turn_even(solids, i, sites.even.in_tile(i), tile);
+    }
+    match walled_cells(0, solids.walls, solids.obstacles, i) {
+        None => turn_even(solids, i, NOTHING_LENT, tile),
+        Some(cells) => turn_even(solids, i, lent(&cells), tile),
+    }
+}
+
+// Where this is lent of the tile's cells at walled sites.
+#[inline(always)]
+fn turn_even(solids: Solids<'_>, i: u32, lent: Lent<'_>, tile: &mut Tile) -> Took
+    requires lent { AreLent 0 solids.walls.now solids.obstacles.now i lent }
+    ensures cells { (old : Cells) → let s = solids.entry in let r = tile_rectangle old i in
+        IsPlaceOf old s.walls.now s.obstacles.now i → IsTileFrom tile.old old r.x r.y →
+        IsTileAfter 0 old s.walls.now s.obstacles.now i tile.new }
+    ensures took { (old : Cells) → let s = solids.entry in let r = tile_rectangle old i in
+        IsPlaceOf old s.walls.now s.obstacles.now i → IsTileFrom tile.old old r.x r.y →
+        result ≡ taken_in (pos 0) old s.walls.now s.obstacles.now r }
+{
+    turn_tile_even(tile, lent.walls, lent.obstacles)
+}
+
+// Blocks begin at odd columns and rows: those at the tile's edges reach into the tiles round it.
+#[inline(always)]
+fn turn_odd(old: &Plane, solids: Solids<'_>, at: Position, out: &mut Tile) -> Took
+    requires tile { at.tile < tile_count old.now }
+    requires position { IsPosition (old.now.width / 64) at }
+    requires place { IsPlaceOf old.now solids.walls.now solids.obstacles.now at.tile }
+    requires walls { at.tile < tile_count solids.walls.now }
+    requires obstacles { at.tile < tile_count solids.obstacles.now }
+    requires solid { IsPlaceOf solids.walls.now solids.walls.now solids.obstacles.now at.tile }
+    ensures cells { let s = solids.entry in
+        IsTileAfter 1 old.now s.walls.now s.obstacles.now at.tile out.new }
+    ensures took { let s = solids.entry in
+        result ≡ taken_in (pos 1) old.now s.walls.now s.obstacles.now
+        (tile_rectangle old.now at.tile) }
+{
+    if solids.none {
+        return turn_odd_with(old, solids, at, NOTHING_LENT, out);
+    }
+    if let Some(sites) = solids.sites {
+        return turn_odd_with(old, solids, at, sites.odd.in_tile(at.tile), out);
+    }
+    match walled_cells(1, solids.walls, solids.obstacles, at.tile) {
+        None => turn_odd_with(old, solids, at, NOTHING_LENT, out),
+        Some(cells) => turn_odd_with(old, solids, at, lent(&cells), out),
+    }
+}
+
+#[inline(always)]
+fn turn_odd_with(
+    old: &Plane,
+    solids: Solids<'_>,
+    at: Position,
+    lent: Lent<'_>,
+    out: &mut Tile,
+) -> Took
+    requires tile { at.tile < tile_count old.now }
+    requires position { IsPosition (old.now.width / 64) at }
+    requires place { IsPlaceOf old.now solids.walls.now solids.obstacles.now at.tile }
+    requires lent { AreLent 1 solids.walls.now solids.obstacles.now at.tile lent }
+    ensures cells { let s = solids.entry in
+        IsTileAfter 1 old.now s.walls.now s.obstacles.now at.tile out.new }
+    ensures took { let s = solids.entry in
+        result ≡ taken_in (pos 1) old.now s.walls.now s.obstacles.now
+        (tile_rectangle old.now at.tile) }
+{
+    let particles = Window {
+        tile: old.tile(at.tile),
+        round: old.round_at(at),
+    };
+    turn_tile_odd(&particles, lent.walls, lent.obstacles, out)
+}
+
+// what was worked out for one tile
+#[inline(always)]
+fn lent(cells: &WalledCells) -> Lent<'_>
+    ensures { (p : ℕ) (walls obstacles : Cells) (i : ℕ) → AreInTile p walls obstacles i cells.now →
+        AreLent p walls obstacles i result }
+{
+    Lent {
+        walls: Some(Places::anywhere(&cells.walls)),
+        obstacles: Some(Places::anywhere(&cells.obstacles)),
+    }
+}

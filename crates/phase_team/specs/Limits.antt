@@ -1,0 +1,14 @@
+-- How large teams, stretches and lattices are.
+use Rattle.std.specs.Prelude.{ℕ}
+
+-- how many workers a team has at most: `MOST_WORKERS`
+abbrev pub most_workers : ℕ
+most_workers = 16
+
+-- how many phases a strip can make alone: `AT_ONCE`
+abbrev pub most_phases : ℕ
+most_phases = 64
+
+-- how many rows of tiles a lattice has at most
+abbrev pub most_rows : ℕ
+most_rows = 64

@@ -1,0 +1,66 @@
+//! The inputs of a stretch of a run: planes, parity, desk, and the division into strips.
+
+ghost use Rattle.std.specs.Prelude.{◌≡◌, ◌+◌, ◌*◌, ◌/◌, ◌<◌, ◌≤◌};
+ghost use Rattle.gas_terms.specs.Cells.{HasSidesOf};
+ghost use Rattle.gas_plane.specs.Planes.{IsLattice};
+ghost use Rattle.phase_team.specs.Limits.{most_phases, most_rows};
+
+use claim_desk::Desk;
+use gas_plane::Plane;
+use phase_step::Exchange;
+
+/// Particles, walls and obstacles, what acts after each phase, the parity of the first phase, and how many phases there are:
+/// no more than a strip can make alone.
+#[derive(Clone, Copy)]
+pub struct Course<'a> {
+    pub cells: &'a Plane,
+    pub walls: &'a Plane,
+    pub obstacles: &'a Plane,
+    pub turns: &'a [Exchange],
+    pub parity: u8,
+    pub phases: u16,
+    pub ghost parity_is: { parity < 2 },
+    pub ghost few: { phases ≤ most_phases },
+    pub ghost lattice: { IsLattice cells.now },
+    pub ghost of_walls: { HasSidesOf walls.now cells.now },
+    pub ghost of_obstacles: { HasSidesOf obstacles.now cells.now },
+}
+
+/// How the rows of tiles of a lattice are parted into strips: how many strips there are, and how many rows each has. The
+/// first `more` of them have one row more.
+#[derive(Clone, Copy)]
+pub struct Parts {
+    pub count: u32,
+    pub low: u32,
+    pub more: u32,
+    pub ghost some: { 0 < low },
+    pub ghost few_rows: { low ≤ most_rows },
+    pub ghost fewer: { more < count },
+    pub ghost few: { count ≤ most_rows },
+}
+
+impl Parts {
+    /// So many rows of tiles in so many strips, or a strip for each row if there are fewer.
+    pub fn of(down: u32, strips: u32) -> Parts
+        requires down { (0 < down) × (down ≤ most_rows) }
+        requires strips { 0 < strips }
+        ensures { result.count * result.low + result.more ≡ down }
+    {
+        let count = strips.min(down);
+        Parts {
+            count,
+            low: down / count,
+            more: down % count,
+        }
+    }
+}
+
+/// A course, the strips of its lattice, and the desk at which they are drawn.
+#[derive(Clone, Copy)]
+pub struct Stretch<'a> {
+    pub course: Course<'a>,
+    pub parts: Parts,
+    pub desk: &'a Desk,
+    pub ghost limit: { desk.now.id.limit ≡ parts.count },
+    pub ghost all: { parts.count * parts.low + parts.more ≡ course.cells.now.height / 64 },
+}
