@@ -11,7 +11,7 @@ use std::process::Abort;
 use std::rt::Files as HasFiles;
 use std::thread::Threads;
 use std::{fs, process};
-use test_types::faults::{FaultAt, Sink, Source};
+use test_types::faults::{FaultAt, Feed, Sink};
 
 /// A shelf that is a file, or none: all shelves of files here are of this type.
 pub type Files<R> = MaybeShelf<FileShelf<R>>;
@@ -81,10 +81,10 @@ fn runs_in(
     output: &str,
 ) {
     let input = lines(rt, script);
-    let mut source = Source::new(input.as_slice(), ALL, FaultAt::never());
+    let mut feed = Feed::new(input.as_slice(), ALL, FaultAt::never());
     let mut sink = Sink::new(rt.alloc(), ALL, ALL, FaultAt::never());
     let mut shelf = file_of(rt, folder, 0);
-    let status = status_on(rt, room, start, &mut source, &mut sink, &mut shelf);
+    let status = status_on(rt, room, start, &mut feed, &mut sink, &mut shelf);
     expect_same(&rt, status, 0);
     expect_same(&rt, sink.taken(), lines(rt, output).as_slice());
 }
