@@ -6,7 +6,7 @@ use mir.Val.{to_z, of_z}
 use Rattle.std.specs.Int.{bit_not, w32, w64}
 use Rattle.std.specs.Int.RustNames.{count_ones}
 use Rattle.std.proofs.lemmas.Nat.{and_le_l}
-use Rattle.std.proofs.lemmas.Bool.{cases_lt}
+use Rattle.std.proofs.lemmas.Bool.{cases_eq, cases_lt, eq-eqb, ne_eqb}
 use Rattle.bit_tile.specs.Bit.{bit}
 use Rattle.bit_tile.specs.Sums.{sum_below, count_below}
 use Rattle.bit_tile.specs.Tile.{has, HasCells}
@@ -17,8 +17,10 @@ use Rattle.bit_tile.proofs.Sums.{sum_below-zero, sum_below-more, sum_below-same,
 use Rattle.bit_tile.proofs.Counts.{class_count, ones_of_two}
 use Rattle.bit_tile.proofs.Classes.{IsClass, is_even_even, is_odd_even, is_even_odd, is_odd_odd}
 use Rattle.gas_terms.specs.declared.accounts.Pair.{Pair}
-use Rattle.block_rule.specs.Around.{turned, none, either, is_walled_at, is_for_walls, twice_momentum, taken}
-use Rattle.block_rule.specs.Cell.{turned_cell, made}
+use Rattle.block_rule.specs.Accounts.{if_counted, counted_of}
+use Rattle.block_rule.specs.declared.walled.Counted.{Counted}
+use Rattle.block_rule.specs.Around.{block_start, is_block_walled, turned, none, either, is_walled_at, is_for_walls, twice_momentum, taken}
+use Rattle.block_rule.specs.Cell.{turned_cell, turned_at, made}
 use Rattle.block_rule.specs.Classes.{class, AreCounts, IsHeldIn, TellsWords}
 use Rattle.block_rule.specs.Rows.{ShowsTile}
 use Rattle.block_rule.specs.Lent.{HasNoCell, TellsRows, ArePlacesOf, IsLentOf, AreWalledCells}
@@ -49,6 +51,16 @@ held_word old new solid i fits within =
     ∙ (ap₂ (λ u v. u || v) (bit-and old solid i) (bit-and new (bit_not w32 solid) i ∙ ap (λ b. bit new i && b) (bit-not solid i fits within))
     ∙ either_word (bit old i) (bit new i) (bit solid i))
 
+-- a cell that stays in a walled block
+held_cell : (w m t own beside facing across : Bool) → t ≡ own → m ≡ turned_cell false own beside facing across → (if w then t else m) ≡ turned_cell w own beside facing across
+held_cell true m t own beside facing across e f = e
+held_cell false m t own beside facing across e f = f
+
+-- a cell of a row of blocks, which stays where its block is walled
+pub collided_bit : (old new walled i : ℕ) → walled < 2 ^ 32 → i < 32 → (beside facing across : Bool) → bit new i ≡ turned_cell false (bit old i) beside facing across → bit (bit_or (bit_and old walled) (bit_and new (bit_not w32 walled))) i ≡ turned_cell (bit walled i) (bit old i) beside facing across
+collided_bit old new walled i fits within beside facing across is =
+    held_word old new walled i fits within ∙ held_cell (bit walled i) (bit new i) (bit old i) _ _ _ _ refl is
+
 -- a row without places
 nothing_there : (places i : ℕ) (a b : Bool) → bit places i ≡ false → b ≡ (if bit places i then a else b)
 nothing_there places i a b e = rw e refl
@@ -77,7 +89,7 @@ no_row_more : (old places : List ℕ) (j : ℕ) → ((i : ℕ) → i < 32 → bi
 no_row_more old places j e = omega (arith, none_among (get_or old j 0) (get_or places j 0) e, sum_below-more j (among old places))
 
 -- rows without places
-no_rows_more : (old places : List ℕ) (from n : ℕ) → ((i k : ℕ) → i < 32 → from ≤ k → k < from + n → bit (get_or places k 0) i ≡ false) → sum_below (from + n) (among old places) ≡ sum_below from (among old places)
+pub no_rows_more : (old places : List ℕ) (from n : ℕ) → ((i k : ℕ) → i < 32 → from ≤ k → k < from + n → bit (get_or places k 0) i ≡ false) → sum_below (from + n) (among old places) ≡ sum_below from (among old places)
 no_rows_more old places from zero none = ap (λ m. sum_below m (among old places)) (omega arith)
 no_rows_more old places from (suc n) none =
     ap (λ m. sum_below m (among old places)) (let e : from + suc n ≡ from + n + 1 = omega arith in e)
@@ -103,66 +115,37 @@ pub row_from : (j from k : ℕ) → k ≡ 8 → (j < from) ⊎ (from + 8 ≤ j) 
 row_from j from k e (inl h) = inl h
 row_from j from k e (inr h) = inr (omega arith)
 
--- a class whose first rows, eight at a time, have the old cells back, and the count of those
-pub record HeldSoFar (old places before after : List ℕ) (n k : ℕ) : Type 0 where
-  pub held : IsHeldIn 0 (k * 8) old places before after
-  pub count : n ≡ sum_below (k * 8) (among old places)
+-- a class whose first rows, eight at a time, have the old cells back
+pub nothing_held : (old places before : List ℕ) → IsHeldIn 0 0 old places before before
+nothing_held old places before = record { cells = λ i j _ _ below. absurd (omega arith); rest = λ j _. refl }
 
-pub nothing_held : (old places before : List ℕ) → HeldSoFar old places before before 0 0
-nothing_held old places before =
+outside_next : (j k : ℕ) → (j < 0) ⊎ ((k + 1) * 8 ≤ j) → (j < k * 8) ⊎ (k * 8 + 8 ≤ j)
+outside_next j k (inl h) = absurd (omega arith)
+outside_next j k (inr h) = inr (omega arith)
+
+outside_now : (j k : ℕ) → (j < 0) ⊎ ((k + 1) * 8 ≤ j) → (j < 0) ⊎ (k * 8 ≤ j)
+outside_now j k (inl h) = absurd (omega arith)
+outside_now j k (inr h) = inr (omega arith)
+
+pub held_more : (old places before class after : List ℕ) (k : ℕ) → IsHeldIn 0 (k * 8) old places before class → IsHeldIn (k * 8) (k * 8 + 8) old places class after → IsHeldIn 0 ((k + 1) * 8) old places before after
+held_more old places before class after k was here =
     record {
-      held = record { cells = λ i j _ _ below. absurd (omega arith); rest = λ j _. refl };
-      count = sym (sum_below-zero (among old places));
+      cells = λ i j h _ below. elim (cases_lt j (k * 8)) [
+        | inl low ↦ ap (λ w. bit w i) (here.rest j (inl low)) ∙ was.cells i j h (omega arith) low
+        | inr high ↦ here.cells i j h high (omega arith) ∙ ap (λ w. if bit (get_or places j 0) i then bit (get_or old j 0) i else bit w i) (was.rest j (inr high))
+      ];
+      rest = λ j outside. here.rest j (outside_next j k outside) ∙ was.rest j (outside_now j k outside);
     }
 
-pub held_more : (old places before class after : List ℕ) (n m k : ℕ) → HeldSoFar old places before class n k → IsHeldIn (k * 8) (k * 8 + 8) old places class after → m + sum_below (k * 8) (among old places) ≡ sum_below (k * 8 + 8) (among old places) → HeldSoFar old places before after (n + m) (k + 1)
-held_more old places before class after n m k was here counted =
-    let next : (k + 1) * 8 ≡ k * 8 + 8 = omega arith in
+pub none_more : (old places before class : List ℕ) (k : ℕ) → IsHeldIn 0 (k * 8) old places before class → ((i j : ℕ) → i < 32 → k * 8 ≤ j → j < k * 8 + 8 → bit (get_or places j 0) i ≡ false) → IsHeldIn 0 ((k + 1) * 8) old places before class
+none_more old places before class k was none =
     record {
-      held = record {
-        cells = λ i j h _ below. elim (cases_lt j (k * 8)) [
-          | inl low ↦ ap (λ w. bit w i) (here.rest j (inl low)) ∙ was.held.cells i j h (omega arith) low
-          | inr high ↦ here.cells i j h high (omega arith) ∙ ap (λ w. if bit (get_or places j 0) i then bit (get_or old j 0) i else bit w i) (was.held.rest j (inr high))
-        ];
-        rest = λ j outside. here.rest j (above_next j outside) ∙ was.held.rest j (above_now j outside);
-      };
-      count = rw next (omega (arith, was.count, counted));
+      cells = λ i j h _ below. elim (cases_lt j (k * 8)) [
+        | inl low ↦ was.cells i j h (omega arith) low
+        | inr high ↦ ap (λ w. bit w i) (was.rest j (inr high)) ∙ nothing_there (get_or places j 0) i _ _ (none i j h high (omega arith))
+      ];
+      rest = λ j outside. was.rest j (outside_now j k outside);
     }
-  where
-    above_next : (j : ℕ) → (j < 0) ⊎ ((k + 1) * 8 ≤ j) → (j < k * 8) ⊎ (k * 8 + 8 ≤ j)
-    above_next j (inl h) = absurd (omega arith)
-    above_next j (inr h) = inr (omega arith)
-
-    above_now : (j : ℕ) → (j < 0) ⊎ ((k + 1) * 8 ≤ j) → (j < 0) ⊎ (k * 8 ≤ j)
-    above_now j (inl h) = absurd (omega arith)
-    above_now j (inr h) = inr (omega arith)
-
-pub none_more : (old places before class : List ℕ) (n k : ℕ) → HeldSoFar old places before class n k → ((i j : ℕ) → i < 32 → k * 8 ≤ j → j < k * 8 + 8 → bit (get_or places j 0) i ≡ false) → HeldSoFar old places before class n (k + 1)
-none_more old places before class n k was none =
-    let next : (k + 1) * 8 ≡ k * 8 + 8 = omega arith in
-    record {
-      held = record {
-        cells = λ i j h _ below. elim (cases_lt j (k * 8)) [
-          | inl low ↦ was.held.cells i j h (omega arith) low
-          | inr high ↦ ap (λ w. bit w i) (was.held.rest j (inr high)) ∙ nothing_there (get_or places j 0) i _ _ (none i j h high (omega arith))
-        ];
-        rest = λ j outside. was.held.rest j (above_now j outside);
-      };
-      count = rw next (was.count ∙ sym (no_rows_more old places (k * 8) 8 none));
-    }
-  where
-    above_now : (j : ℕ) → (j < 0) ⊎ ((k + 1) * 8 ≤ j) → (j < 0) ⊎ (k * 8 ≤ j)
-    above_now j (inl h) = absurd (omega arith)
-    above_now j (inr h) = inr (omega arith)
-
--- all of its rows
-pub all_held : (old places before after : List ℕ) (n k : ℕ) → k ≡ 4 → HeldSoFar old places before after n k → IsHeldIn 0 32 old places before after
-all_held old places before after n k e is = let all : k * 8 ≡ 32 = omega arith in subst (λ m. IsHeldIn 0 m old places before after) all is.held
-
-pub all_counted : (old places before after : List ℕ) (n k : ℕ) → k ≡ 4 → HeldSoFar old places before after n k → n ≡ sum_below 32 (among old places)
-all_counted old places before after n k e is =
-    let all : k * 8 ≡ 32 = omega arith in
-    is.count ∙ ap (λ m. sum_below m (among old places)) all
 
 -- the particles of a class in these places
 pub class_among : (old places : List ℕ) (p q n : ℕ) (had there : ℕ → ℕ → Bool) → p < 2 → q < 2 → IsClass old p q had → IsClass places p q there → n ≡ sum_below 32 (among old places) → n ≡ class (λ x y. had x y && there x y) p q
@@ -200,10 +183,6 @@ module _ (c : Classes) (cells : ℕ → ℕ → Bool) (is : AreCounts c cells) (
       (y_is ∙ difference_of down up _ _ (is_down ∙ sym (down_count cells p two)) (is_up ∙ sym (up_count cells p two)))
 
 -- a tile that was turned as if there were no walls, with the old cells of walled blocks put back
-held_cell : (w m t own beside facing across : Bool) → t ≡ own → m ≡ turned_cell false own beside facing across → (if w then t else m) ≡ turned_cell w own beside facing across
-held_cell true m t own beside facing across e f = e
-held_cell false m t own beside facing across e f = f
-
 pub turned_of_held : (p : ℕ) (tile free out : Tile) (window solid : ℕ → ℕ → Bool) → ShowsTile window tile → HasCells free (turned p window none) → HasCells out (λ x y. if is_walled_at p solid x y then has tile x y else has free x y) → HasCells out (turned p window solid)
 turned_of_held p tile free out window solid shows is_free is_out x y in_row in_column =
     is_out x y in_row in_column
@@ -264,7 +243,7 @@ module _ (t : Tile) (rows : ℕ) (told : TellsRows rows (has t)) where
   pub told_odd_odd : TellsWords rows t.odd_odd
   told_odd_odd i j h k e = is_odd_odd t i j h k ∙ untold 1 1 i j (omega arith) (omega arith) h k e
 
--- what is put back of them, and what it gives
+-- what is put back of them, and what is taken
 pub held_at : (tile before out places : Tile) (test : ℕ → ℕ → Bool) → HasCells places test → HasCells out (λ x y. if has places x y then has tile x y else has before x y)
     → HasCells out (λ x y. if test x y then has tile x y else has before x y)
 held_at tile before out places test is_places is_out x y h k =
@@ -294,15 +273,53 @@ joined_tests : (t w o : Bool) → (t && (w && not o)) ≡ (t && w && not o)
 joined_tests true w o = refl
 joined_tests false w o = refl
 
-module _ (p : ℕ) (tile before first out : Tile) (walled obstructed : ℕ → ℕ → Bool) where
-  pub both_held : HasCells first (λ x y. if is_for_walls p walled obstructed x y then has tile x y else has before x y) → HasCells out (λ x y. if is_walled_at p obstructed x y then has tile x y else has first x y)
-      → HasCells out (λ x y. if is_walled_at p walled x y || is_walled_at p obstructed x y then has tile x y else has before x y)
-  both_held is_first is_out x y h k =
-      held_twice (is_walled_at p walled x y) (is_walled_at p obstructed x y) (has tile x y) _ _ _ (is_first x y h k) (is_out x y h k)
+pub both_held : (p : ℕ) (tile before first out : Tile) (walled obstructed : ℕ → ℕ → Bool) → HasCells first (λ x y. if is_for_walls p walled obstructed x y then has tile x y else has before x y) → HasCells out (λ x y. if is_walled_at p obstructed x y then has tile x y else has first x y)
+    → HasCells out (λ x y. if is_walled_at p walled x y || is_walled_at p obstructed x y then has tile x y else has before x y)
+both_held p tile before first out walled obstructed is_first is_out x y h k =
+    held_twice (is_walled_at p walled x y) (is_walled_at p obstructed x y) (has tile x y) _ _ _ (is_first x y h k) (is_out x y h k)
 
-  pub both_took : (a b : Pair) → a ≡ twice_momentum p (λ x y. has tile x y && is_for_walls p walled obstructed x y) → b ≡ twice_momentum p (λ x y. has tile x y && is_walled_at p obstructed x y)
-      → (let r : Took = record { walls = a; obstacles = b } in r) ≡ taken p tile walled obstructed
-  both_took a b of_walls of_obstacles =
-      accounts_same _ _ _ _
-      (of_walls ∙ twice_momentum-same p _ _ (λ x y h k. joined_tests (has tile x y) (is_walled_at p walled x y) (is_walled_at p obstructed x y)))
-      of_obstacles
+pub both_took : (p : ℕ) (tile : Tile) (walled obstructed : ℕ → ℕ → Bool) (c : Counted) (a b : Pair) → a ≡ if_counted c.walls (twice_momentum p (λ x y. has tile x y && is_for_walls p walled obstructed x y))
+    → b ≡ if_counted c.obstacles (twice_momentum p (λ x y. has tile x y && is_walled_at p obstructed x y)) → (let r : Took = record { walls = a; obstacles = b } in r) ≡ counted_of c (taken p tile walled obstructed)
+both_took p tile walled obstructed c a b of_walls of_obstacles =
+    accounts_same _ _ _ _
+    (of_walls ∙ ap (if_counted c.walls) (twice_momentum-same p _ _ (λ x y h k. joined_tests (has tile x y) (is_walled_at p walled x y) (is_walled_at p obstructed x y))))
+    of_obstacles
+
+pub not_counted : (counted : Bool) (p : Pair) → counted ≡ false → pair (pos 0) (pos 0) ≡ if_counted counted p
+not_counted true p e = cc
+not_counted false p e = refl
+
+pub is_counted : (counted : Bool) (p q : Pair) → counted ≡ true → p ≡ q → p ≡ if_counted counted q
+is_counted true p q e f = f
+is_counted false p q e f = cc
+
+-- blocks that begin at even columns and rows
+block_begins : (x : ℕ) → block_start 0 x ≡ 2 * (x / 2) + 1
+block_begins x =
+    elim (cases_eq ((x + 0) % 2) 0) [
+      | inl e ↦ let first : x + 1 ≡ 2 * (x / 2) + 1 = omega (arith, e) in rw (eq-eqb ((x + 0) % 2) 0 e) first
+      | inr ne ↦ let second : x ≡ 2 * (x / 2) + 1 = omega (arith, ne) in rw (ne_eqb ((x + 0) % 2) 0 ne) second
+    ]
+
+same_block : (x : ℕ) → block_start 0 (2 * (x / 2)) ≡ block_start 0 x
+same_block x = block_begins (2 * (x / 2)) ∙ (let e : 2 * (2 * (x / 2) / 2) + 1 ≡ 2 * (x / 2) + 1 = omega arith in e ∙ sym (block_begins x))
+
+-- a tile of which the rule spares the blocks that these words name
+pub turned_of_spared : (window solid : ℕ → ℕ → Bool) (words : List ℕ) (out : Tile) → ((i j : ℕ) → i < 32 → j < 32 → bit (get_or words j 0) i ≡ is_walled_at 0 solid (2 * i) (2 * j))
+    → HasCells out (λ x y. turned_at 0 window (bit (get_or words (y / 2) 0) (x / 2)) x y) → HasCells out (turned 0 window solid)
+turned_of_spared window solid words out named is x y h k =
+    is x y h k
+    ∙ (ap (λ b. turned_at 0 window b x y) (named (x / 2) (y / 2) (omega arith) (omega arith) ∙ ap₂ (is_block_walled solid) (same_block x) (same_block y))
+    ∙ sym (turned_by_cells 0 window (is_walled_at 0 solid x y) x y))
+
+one_or_other : (w o : Bool) → ((w && not o) || o) ≡ (w || o)
+one_or_other true true = refl
+one_or_other true false = refl
+one_or_other false true = refl
+one_or_other false false = refl
+
+pub named_blocks : (walled obstructed : ℕ → ℕ → Bool) (a b x y i : ℕ) → bit a i ≡ is_for_walls 0 walled obstructed x y → bit b i ≡ is_walled_at 0 obstructed x y → bit (bit_or a b) i ≡ is_walled_at 0 (either walled obstructed) x y
+named_blocks walled obstructed a b x y i of_walls of_obstacles =
+    bit-or a b i
+    ∙ (ap₂ (λ u v. u || v) of_walls of_obstacles
+    ∙ (one_or_other (is_walled_at 0 walled x y) (is_walled_at 0 obstructed x y) ∙ sym (walled_either 0 walled obstructed x y)))

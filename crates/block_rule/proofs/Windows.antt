@@ -1,5 +1,5 @@
 -- Rows of blocks, seen in the window of a tile and its ring.
-use Rattle.std.proofs.Common.{◌≡◌, refl, ◌⊎◌, ℕ, ◌+◌, ◌-◌, ◌*◌, ◌%◌, ◌<◌, ◌≤◌, ◌==◌, Bool, if◌then◌else◌, List, length, get_or, set, sym, ◌∙◌, ap, ap₂, arith, inl, inr, get_or-set_other, get_or-set_same}
+use Rattle.std.proofs.Common.{◌≡◌, refl, ◌⊎◌, ℕ, ◌+◌, ◌-◌, ◌*◌, ◌/◌, ◌%◌, ◌<◌, ◌≤◌, ◌==◌, Bool, if◌then◌else◌, List, length, get_or, set, sym, ◌∙◌, ap, ap₂, arith, inl, inr, get_or-set_other, get_or-set_same}
 use Rattle.std.proofs.lemmas.Bool.{cases_eq, cases_lt, eq-eqb, ne_eqb}
 use Rattle.bit_tile.specs.Bit.{bit}
 use Rattle.bit_tile.specs.Tile.{HasCells}
@@ -67,9 +67,9 @@ pub same_blocks : (a b c d e f g h : ℕ) → a ≡ e → b ≡ f → c ≡ g �
 same_blocks a b c d e f g h p q r s = rw (p, q, r, s)
 
 -- a loop writes row j of even blocks
-pub even_row_more : (cell : Bool → Bool → Bool → Bool → Bool) (tile out : Tile) (new : Blocks) (j : ℕ) → j < length out.even_even → j < length out.odd_even → j < length out.even_odd → j < length out.odd_odd →
-    ((k : ℕ) → k < j → IsMade cell (even_row tile k) (even_row out k)) → IsMade cell (even_row tile j) new → (k : ℕ) → k < j + 1 →
-    IsMade cell (even_row tile k) (even_row (record { even_even = set out.even_even j new.upper_left; odd_even = set out.odd_even j new.upper_right; even_odd = set out.even_odd j new.lower_left; odd_odd = set out.odd_odd j new.lower_right }) k)
+pub even_row_more : (cell : ℕ → ℕ → Bool → Bool → Bool → Bool → Bool) (tile out : Tile) (new : Blocks) (j : ℕ) → j < length out.even_even → j < length out.odd_even → j < length out.even_odd → j < length out.odd_odd →
+    ((k : ℕ) → k < j → IsMade (cell k) (even_row tile k) (even_row out k)) → IsMade (cell j) (even_row tile j) new → (k : ℕ) → k < j + 1 →
+    IsMade (cell k) (even_row tile k) (even_row (record { even_even = set out.even_even j new.upper_left; odd_even = set out.odd_even j new.upper_right; even_odd = set out.even_odd j new.lower_left; odd_odd = set out.odd_odd j new.lower_right }) k)
 even_row_more cell tile out new j ee oe eo oo before here k below =
     elim (cases_eq k j) [
       | inl same ↦ rw (same, get_or-set_same out.even_even j new.upper_left 0 ee, get_or-set_same out.odd_even j new.upper_right 0 oe, get_or-set_same out.even_odd j new.lower_left 0 eo, get_or-set_same out.odd_odd j new.lower_right 0 oo) here
@@ -85,26 +85,36 @@ even_row_rest tile new j k later =
     let other : k ≡ j → ⊥ = λ e. omega arith in
     same_blocks _ _ _ _ _ _ _ _ (get_or-set_other tile.even_even j k new.upper_left 0 other) (get_or-set_other tile.odd_even j k new.upper_right 0 other) (get_or-set_other tile.even_odd j k new.lower_left 0 other) (get_or-set_other tile.odd_odd j k new.lower_right 0 other)
 
--- the even blocks' cells
-pub even_cells : (cell : Bool → Bool → Bool → Bool → Bool) (window : ℕ → ℕ → Bool) (tile out : Tile) → ShowsTile window tile → ((k : ℕ) → k < 32 → IsMade cell (even_row tile k) (even_row out k)) → HasCells out (made cell 0 window)
+-- the even blocks' cells: the rule is that of block x / 2 of row y / 2
+pub even_cells : (cell : ℕ → ℕ → Bool → Bool → Bool → Bool → Bool) (window : ℕ → ℕ → Bool) (tile out : Tile) → ShowsTile window tile → ((k : ℕ) → k < 32 → IsMade (cell k) (even_row tile k) (even_row out k)) → HasCells out (λ x y. made (cell (y / 2) (x / 2)) 0 window x y)
 even_cells cell window tile out shows done =
-    by_class out (made cell 0 window)
+    by_class out (λ x y. made (cell (y / 2) (x / 2)) 0 window x y)
     (λ i j h k.
     (done j k).upper_left i h
-    ∙ (cell_by cell _ _ _ _ _ _ _ _ (sym (ee_shown window tile shows i j h k)) (sym (oe_shown window tile shows i j h k)) (sym (eo_shown window tile shows i j h k)) (sym (oo_shown window tile shows i j h k))
-    ∙ sym (made_by_places cell 0 window (2 * i + 0) (2 * j + 0) (2 * i + 1) (2 * j + 1) (2 * i + 2) (2 * j + 2) (omega arith) (omega arith) (partner_first 0 (2 * i + 0) (omega arith) ∙ omega arith) (partner_first 0 (2 * j + 0) (omega arith) ∙ omega arith))))
+    ∙ (cell_by (cell j i) _ _ _ _ _ _ _ _ (sym (ee_shown window tile shows i j h k)) (sym (oe_shown window tile shows i j h k)) (sym (eo_shown window tile shows i j h k)) (sym (oo_shown window tile shows i j h k))
+    ∙ (sym (made_by_places (cell j i) 0 window (2 * i + 0) (2 * j + 0) (2 * i + 1) (2 * j + 1) (2 * i + 2) (2 * j + 2) (omega arith) (omega arith) (partner_first 0 (2 * i + 0) (omega arith) ∙ omega arith) (partner_first 0 (2 * j + 0) (omega arith) ∙ omega arith))
+    ∙ there i j 0 0 (omega arith) (omega arith))))
     (λ i j h k.
     (done j k).upper_right i h
-    ∙ (cell_by cell _ _ _ _ _ _ _ _ (sym (oe_shown window tile shows i j h k)) (sym (ee_shown window tile shows i j h k)) (sym (oo_shown window tile shows i j h k)) (sym (eo_shown window tile shows i j h k))
-    ∙ sym (made_by_places cell 0 window (2 * i + 1) (2 * j + 0) (2 * i + 2) (2 * j + 1) (2 * i + 1) (2 * j + 2) (omega arith) (omega arith) (partner_second 0 (2 * i + 1) (omega arith)) (partner_first 0 (2 * j + 0) (omega arith) ∙ omega arith))))
+    ∙ (cell_by (cell j i) _ _ _ _ _ _ _ _ (sym (oe_shown window tile shows i j h k)) (sym (ee_shown window tile shows i j h k)) (sym (oo_shown window tile shows i j h k)) (sym (eo_shown window tile shows i j h k))
+    ∙ (sym (made_by_places (cell j i) 0 window (2 * i + 1) (2 * j + 0) (2 * i + 2) (2 * j + 1) (2 * i + 1) (2 * j + 2) (omega arith) (omega arith) (partner_second 0 (2 * i + 1) (omega arith)) (partner_first 0 (2 * j + 0) (omega arith) ∙ omega arith))
+    ∙ there i j 1 0 (omega arith) (omega arith))))
     (λ i j h k.
     (done j k).lower_left i h
-    ∙ (cell_by cell _ _ _ _ _ _ _ _ (sym (eo_shown window tile shows i j h k)) (sym (oo_shown window tile shows i j h k)) (sym (ee_shown window tile shows i j h k)) (sym (oe_shown window tile shows i j h k))
-    ∙ sym (made_by_places cell 0 window (2 * i + 0) (2 * j + 1) (2 * i + 1) (2 * j + 2) (2 * i + 2) (2 * j + 1) (omega arith) (omega arith) (partner_first 0 (2 * i + 0) (omega arith) ∙ omega arith) (partner_second 0 (2 * j + 1) (omega arith)))))
+    ∙ (cell_by (cell j i) _ _ _ _ _ _ _ _ (sym (eo_shown window tile shows i j h k)) (sym (oo_shown window tile shows i j h k)) (sym (ee_shown window tile shows i j h k)) (sym (oe_shown window tile shows i j h k))
+    ∙ (sym (made_by_places (cell j i) 0 window (2 * i + 0) (2 * j + 1) (2 * i + 1) (2 * j + 2) (2 * i + 2) (2 * j + 1) (omega arith) (omega arith) (partner_first 0 (2 * i + 0) (omega arith) ∙ omega arith) (partner_second 0 (2 * j + 1) (omega arith)))
+    ∙ there i j 0 1 (omega arith) (omega arith))))
     (λ i j h k.
     (done j k).lower_right i h
-    ∙ (cell_by cell _ _ _ _ _ _ _ _ (sym (oo_shown window tile shows i j h k)) (sym (eo_shown window tile shows i j h k)) (sym (oe_shown window tile shows i j h k)) (sym (ee_shown window tile shows i j h k))
-    ∙ sym (made_by_places cell 0 window (2 * i + 1) (2 * j + 1) (2 * i + 2) (2 * j + 2) (2 * i + 1) (2 * j + 1) (omega arith) (omega arith) (partner_second 0 (2 * i + 1) (omega arith)) (partner_second 0 (2 * j + 1) (omega arith)))))
+    ∙ (cell_by (cell j i) _ _ _ _ _ _ _ _ (sym (oo_shown window tile shows i j h k)) (sym (eo_shown window tile shows i j h k)) (sym (oe_shown window tile shows i j h k)) (sym (ee_shown window tile shows i j h k))
+    ∙ (sym (made_by_places (cell j i) 0 window (2 * i + 1) (2 * j + 1) (2 * i + 2) (2 * j + 2) (2 * i + 1) (2 * j + 1) (omega arith) (omega arith) (partner_second 0 (2 * i + 1) (omega arith)) (partner_second 0 (2 * j + 1) (omega arith)))
+    ∙ there i j 1 1 (omega arith) (omega arith))))
+  where
+    there : (i j a b : ℕ) → a < 2 → b < 2 → made (cell j i) 0 window (2 * i + a) (2 * j + b) ≡ made (cell ((2 * j + b) / 2) ((2 * i + a) / 2)) 0 window (2 * i + a) (2 * j + b)
+    there i j a b h k =
+        let row : j ≡ (2 * j + b) / 2 = omega arith in
+        let column : i ≡ (2 * i + a) / 2 = omega arith in
+        ap₂ (λ r c. made (cell r c) 0 window (2 * i + a) (2 * j + b)) row column
 
 -- a loop writes row j of odd blocks
 pub odd_row_more : (cell : Bool → Bool → Bool → Bool → Bool) (window : ℕ → ℕ → Bool) (out : Tile) (new : Blocks) (from j : ℕ) → j < length out.odd_odd → j < length out.even_odd → j + 1 < length out.odd_even → j + 1 < length out.even_even →

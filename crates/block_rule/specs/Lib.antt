@@ -5,3 +5,4 @@ pub mod Classes
 pub mod Cell
 pub mod Rows
 pub mod Lent
+pub mod Accounts

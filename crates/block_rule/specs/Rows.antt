@@ -25,12 +25,12 @@ pub record ShowsRound (window : ℕ → ℕ → Bool) (a d l r al ar dl dr : Til
 abbrev pub ShowsAllRound : (ℕ → ℕ → Bool) → Round → Type 0
 ShowsAllRound window r = ShowsRound window r.above.now r.below.now r.left.now r.right.now r.above_left.now r.above_right.now r.below_left.now r.below_right.now
 
--- what a rule makes of a row of blocks: of each corner by its own old cell, and those beside it, facing it and across
-pub record IsMade (cell : Bool → Bool → Bool → Bool → Bool) (old new : Blocks) : Type 0 where
-  pub upper_left : (i : ℕ) → i < 32 → bit new.upper_left i ≡ cell (bit old.upper_left i) (bit old.upper_right i) (bit old.lower_left i) (bit old.lower_right i)
-  pub upper_right : (i : ℕ) → i < 32 → bit new.upper_right i ≡ cell (bit old.upper_right i) (bit old.upper_left i) (bit old.lower_right i) (bit old.lower_left i)
-  pub lower_left : (i : ℕ) → i < 32 → bit new.lower_left i ≡ cell (bit old.lower_left i) (bit old.lower_right i) (bit old.upper_left i) (bit old.upper_right i)
-  pub lower_right : (i : ℕ) → i < 32 → bit new.lower_right i ≡ cell (bit old.lower_right i) (bit old.lower_left i) (bit old.upper_right i) (bit old.upper_left i)
+-- what is made of a row of blocks: of each corner of block i by its own old cell, and those beside it, facing it and across
+pub record IsMade (cell : ℕ → Bool → Bool → Bool → Bool → Bool) (old new : Blocks) : Type 0 where
+  pub upper_left : (i : ℕ) → i < 32 → bit new.upper_left i ≡ cell i (bit old.upper_left i) (bit old.upper_right i) (bit old.lower_left i) (bit old.lower_right i)
+  pub upper_right : (i : ℕ) → i < 32 → bit new.upper_right i ≡ cell i (bit old.upper_right i) (bit old.upper_left i) (bit old.lower_right i) (bit old.lower_left i)
+  pub lower_left : (i : ℕ) → i < 32 → bit new.lower_left i ≡ cell i (bit old.lower_left i) (bit old.lower_right i) (bit old.upper_left i) (bit old.upper_right i)
+  pub lower_right : (i : ℕ) → i < 32 → bit new.lower_right i ≡ cell i (bit old.lower_right i) (bit old.lower_left i) (bit old.upper_right i) (bit old.upper_left i)
 
 -- The words show the window's rows y and y + 1: blocks that begin at odd columns begin at the window's even ones.
 pub record ShowsRows (window : ℕ → ℕ → Bool) (y : ℕ) (own : Blocks) (left right : Beside) : Type 0 where

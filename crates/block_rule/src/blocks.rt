@@ -36,7 +36,7 @@ pub trait Rule: Copy {
     ghost cell: { Self → Bool → Bool → Bool → Bool → Bool };
 
     fn made(self, old: Blocks) -> Blocks
-        ensures { IsMade (cell self) old result };
+        ensures { IsMade (λ _. cell self) old result };
 }
 
 /// The collision of HPP's four channels.
@@ -57,6 +57,20 @@ impl Rule for Collision {
             lower_left: old.upper_right ^ one_diagonal,
             lower_right: old.upper_left ^ one_diagonal,
         }
+    }
+}
+
+/// The collision in a row of blocks of which some are walled, each by its bit: these keep their cells.
+#[inline]
+pub fn collided(old: Blocks, walled: u32) -> Blocks
+    ensures { IsMade (λ i. turned_cell (bit walled i)) old result }
+{
+    let new = Collision.made(old);
+    Blocks {
+        upper_left: (old.upper_left & walled) | (new.upper_left & !walled),
+        upper_right: (old.upper_right & walled) | (new.upper_right & !walled),
+        lower_left: (old.lower_left & walled) | (new.lower_left & !walled),
+        lower_right: (old.lower_right & walled) | (new.lower_right & !walled),
     }
 }
 

@@ -1,4 +1,4 @@
-//! Walled blocks: the old cells stay, and their particles give twice their momentum.
+//! The cells of walled blocks in an odd phase, where the old ones are put back, and the momentum of the particles in them.
 
 ghost use Rattle.std.specs.Prelude.{◌≡◌, ℕ, ◌+◌, ◌*◌, ◌<◌, ◌≤◌, ◌&&◌, if◌then◌else◌, Bool, false, slice_index, pos, ◌-ℤ◌};
 ghost use Rattle.bit_tile.specs.Bit.{bit};
@@ -53,34 +53,43 @@ fn count_rows(old: &[u32; 32], places: &[u32; 32], from: usize) -> u32
     n
 }
 
-// Puts the old cells of these places back into the rows from `from` on, and answers how many there are.
+// Puts the old cells of these places back into the rows from `from` on.
 #[inline(always)]
-fn hold_rows(old: &[u32; 32], places: &[u32; 32], from: usize, class: &mut [u32; 32]) -> u32
+fn hold_rows(old: &[u32; 32], places: &[u32; 32], from: usize, class: &mut [u32; 32])
     requires { from + 8 ≤ 32 }
-    ensures cells { IsHeldIn from (from + 8) old.now places.now class.old class.new }
-    ensures count { AreParticlesIn from (from + 8) old.now places.now result }
-    ensures bound { result ≤ 256 }
+    ensures { IsHeldIn from (from + 8) old.now places.now class.old class.new }
 {
     // all are made before the first is written, so that they are made as vectors wherever `class` lies
     let rows = kept_rows(old, places, from, class);
     for k in 0..TOGETHER {
         class[from + k] = rows[k];
     }
-    count_rows(old, places, from)
 }
 
 // The same in all rows of the class that are told.
 #[inline]
-fn hold_class(old: &[u32; 32], places: &[u32; 32], rows: u32, class: &mut [u32; 32]) -> u32
-    ensures cells { TellsWords rows places.now →
+fn hold_class(old: &[u32; 32], places: &[u32; 32], rows: u32, class: &mut [u32; 32])
+    ensures { TellsWords rows places.now →
         IsHeldIn 0 32 old.now places.now class.old class.new }
-    ensures count { TellsWords rows places.now → result ≡ particles_among old.now places.now 32 }
+{
+    for k in 0..4usize {
+        if told_in(rows, k) != 0 {
+            hold_rows(old, places, k * TOGETHER, class);
+        }
+    }
+}
+
+// How many of a class's cells there are in these places, in the rows that are told.
+#[inline]
+fn count_class(cells: &[u32; 32], places: &[u32; 32], rows: u32) -> u32
+    ensures count { TellsWords rows places.now →
+        result ≡ particles_among cells.now places.now 32 }
     ensures bound { result ≤ 1024 }
 {
     let mut n = 0;
     for k in 0..4usize {
         if told_in(rows, k) != 0 {
-            n += hold_rows(old, places, k * TOGETHER, class);
+            n += count_rows(cells, places, k * TOGETHER);
         }
     }
     n
@@ -128,22 +137,31 @@ pub fn momentum(counts: Classes, parity: u8) -> Pair
     }
 }
 
-/// Puts the old cells of these places back into a tile that was turned as if there were no walls. The answer is twice the
-/// momentum that they had.
-pub fn hold(tile: &Tile, places: Places<'_>, parity: u8, out: &mut Tile) -> Pair
-    requires { parity < 2 }
-    ensures cells { let p = places.entry in TellsRows p.rows (has p.cells.now) →
+/// Puts the old cells of these places back into a tile that was turned as if there were no walls.
+pub fn hold(tile: &Tile, places: Places<'_>, out: &mut Tile)
+    ensures { let p = places.entry in TellsRows p.rows (has p.cells.now) →
         HasCells out.new (λ x y.
         if has p.cells.now x y then has tile.now x y else has out.old x y) }
-    ensures took { let p = places.entry in TellsRows p.rows (has p.cells.now) →
+{
+    let Places { cells, rows } = places;
+    hold_class(&tile.even_even, &cells.even_even, rows, &mut out.even_even);
+    hold_class(&tile.odd_even, &cells.odd_even, rows, &mut out.odd_even);
+    hold_class(&tile.even_odd, &cells.even_odd, rows, &mut out.even_odd);
+    hold_class(&tile.odd_odd, &cells.odd_odd, rows, &mut out.odd_odd);
+}
+
+/// Twice the momentum of a tile's particles in these places.
+pub fn momentum_in(tile: &Tile, places: Places<'_>, parity: u8) -> Pair
+    requires { parity < 2 }
+    ensures { let p = places.entry in TellsRows p.rows (has p.cells.now) →
         result ≡ twice_momentum parity (λ x y. has tile.now x y && has p.cells.now x y) }
 {
     let Places { cells, rows } = places;
     let counts = Classes {
-        even_even: hold_class(&tile.even_even, &cells.even_even, rows, &mut out.even_even),
-        odd_even: hold_class(&tile.odd_even, &cells.odd_even, rows, &mut out.odd_even),
-        even_odd: hold_class(&tile.even_odd, &cells.even_odd, rows, &mut out.even_odd),
-        odd_odd: hold_class(&tile.odd_odd, &cells.odd_odd, rows, &mut out.odd_odd),
+        even_even: count_class(&tile.even_even, &cells.even_even, rows),
+        odd_even: count_class(&tile.odd_even, &cells.odd_even, rows),
+        even_odd: count_class(&tile.even_odd, &cells.even_odd, rows),
+        odd_odd: count_class(&tile.odd_odd, &cells.odd_odd, rows),
     };
     momentum(counts, parity)
 }

@@ -9,6 +9,7 @@ ghost use Rattle.bit_tile.specs.Tile.{has, HasCells};
 ghost use Rattle.gas_terms.specs.Velocity.{Velocity, opposite, outcome};
 ghost use Rattle.block_rule.specs.Block.{channels_of};
 ghost use Rattle.block_rule.specs.Around.{around, turned, either, is_walled_at, is_for_walls, twice_momentum, taken, plus};
+ghost use Rattle.block_rule.specs.Accounts.{counted_of};
 ghost use Rattle.block_rule.specs.Rows.{ShowsTile};
 ghost use Rattle.tile_border.specs.Ring.{IsBorderOf};
 ghost use Rattle.tile_border.specs.declared.Border.{Border as BorderValue};
@@ -23,10 +24,10 @@ mod walled;
 use bit_tile::Tile;
 use blocks::Collision;
 use gas_terms::Took;
-use made::{make_even, make_odd};
+use made::{collide_even, make_even, make_odd};
 use tile_border::{Border, Neighbors, Round};
-use walled::put_back;
-pub use walled::{Places, WalledCells, walled_cells_even, walled_cells_odd};
+pub use walled::{Counted, Places, WalledCells, walled_cells_even, walled_cells_odd};
+use walled::{put_back, taken_of, walled_blocks};
 
 /// The cells of a block after the rule, in the order upper left, upper right, lower left, lower right.
 pub fn turn_block(cells: [bool; 4], walled: bool) -> [bool; 4]
@@ -55,12 +56,13 @@ pub struct Window<'a> {
 /// Turns the blocks of a tile in place, at even parity: blocks begin at even columns and rows, so each lies in the tile. Those
 /// with a wall and no obstacle, and those with an obstacle, are given by their cells; a set without a cell in the tile may be
 /// `None`. Returns the momentum that walls and obstacles take of the tile's own particles: twice that of the particles in walled
-/// blocks.
+/// blocks. An account that is not kept has 0.
 #[inline(always)]
 pub fn turn_tile_even(
     tile: &mut Tile,
     walls: Option<Places<'_>>,
     obstacles: Option<Places<'_>>,
+    counted: Counted,
 ) -> Took
     ensures cells { (window walled obstructed : ℕ → ℕ → Bool) → ShowsTile window tile.old →
         IsLentOf walls.entry (is_for_walls 0 walled obstructed) →
@@ -69,19 +71,17 @@ pub fn turn_tile_even(
     ensures took { (walled obstructed : ℕ → ℕ → Bool) →
         IsLentOf walls.entry (is_for_walls 0 walled obstructed) →
         IsLentOf obstacles.entry (is_walled_at 0 obstructed) →
-        result ≡ taken 0 tile.old walled obstructed }
+        result ≡ counted_of counted (taken 0 tile.old walled obstructed) }
 {
+    let took = taken_of(tile, walls, obstacles, 0, counted);
     match (walls, obstacles) {
-        (None, None) => {
-            make_even(Collision, tile);
-            Took::ZERO
-        }
+        (None, None) => make_even(Collision, tile),
         _ => {
-            let old = *tile;
-            make_even(Collision, tile);
-            put_back(&old, walls, obstacles, 0, tile)
+            let walled = walled_blocks(walls, obstacles);
+            collide_even(&walled, tile);
         }
     }
+    took
 }
 
 /// The same at odd parity: blocks begin at odd columns and rows, and reach into the eight tiles round the tile.
@@ -90,6 +90,7 @@ pub fn turn_tile_odd(
     particles: &Window,
     walls: Option<Places<'_>>,
     obstacles: Option<Places<'_>>,
+    counted: Counted,
     out: &mut Tile,
 ) -> Took
     ensures cells { (window walled obstructed : ℕ → ℕ → Bool) → IsSeenIn particles.now window →
@@ -99,10 +100,11 @@ pub fn turn_tile_odd(
     ensures took { (walled obstructed : ℕ → ℕ → Bool) →
         IsLentOf walls.entry (is_for_walls 1 walled obstructed) →
         IsLentOf obstacles.entry (is_walled_at 1 obstructed) →
-        result ≡ taken 1 particles.now.tile.now walled obstructed }
+        result ≡ counted_of counted (taken 1 particles.now.tile.now walled obstructed) }
 {
     make_odd(Collision, particles.tile, &particles.round, out);
-    put_back(particles.tile, walls, obstacles, 1, out)
+    put_back(particles.tile, walls, obstacles, out);
+    taken_of(particles.tile, walls, obstacles, 1, counted)
 }
 
 // a tile with tiles that are there for its border
@@ -143,7 +145,7 @@ pub fn turn_tile(
         let walls = Some(Places::anywhere(&walled.walls));
         let obstacles = Some(Places::anywhere(&walled.obstacles));
         let mut out = *tile;
-        let took = turn_tile_even(&mut out, walls, obstacles);
+        let took = turn_tile_even(&mut out, walls, obstacles, Counted::BOTH);
         (out, took)
     } else {
         let near = border.neighbors();
@@ -156,7 +158,7 @@ pub fn turn_tile(
         let walls = Some(Places::anywhere(&walled.walls));
         let obstacles = Some(Places::anywhere(&walled.obstacles));
         let mut out = Tile::empty();
-        let took = turn_tile_odd(&particles, walls, obstacles, &mut out);
+        let took = turn_tile_odd(&particles, walls, obstacles, Counted::BOTH, &mut out);
         (out, took)
     }
 }

@@ -1,11 +1,12 @@
 //! Applies a rule to all blocks of a tile, at even and at odd parity.
 
-ghost use Rattle.std.specs.Prelude.{◌≡◌, ℕ, ◌+◌, ◌*◌, ◌<◌, ◌≤◌, ◌⊎◌, Bool, slice_index};
+ghost use Rattle.std.specs.Prelude.{◌≡◌, ℕ, ◌+◌, ◌*◌, ◌/◌, ◌<◌, ◌≤◌, ◌⊎◌, Bool, slice_index};
+ghost use Rattle.bit_tile.specs.Bit.{bit};
 ghost use Rattle.bit_tile.specs.Tile.{HasCells};
-ghost use Rattle.block_rule.specs.Cell.{made};
+ghost use Rattle.block_rule.specs.Cell.{made, turned_at};
 ghost use Rattle.block_rule.specs.Rows.{ShowsTile, ShowsAllRound, ShowsRows, ShowsInnerRows, IsMadeOdd, odd_row, eight_row};
 
-use crate::blocks::{Beside, Blocks, EightRows, Rule, next, previous};
+use crate::blocks::{Beside, Blocks, EightRows, Rule, collided, next, previous};
 use bit_tile::Tile;
 use tile_border::Round;
 
@@ -22,6 +23,28 @@ pub fn make_even<R: Rule>(rule: R, tile: &mut Tile)
             lower_left: tile.even_odd[j],
             lower_right: tile.odd_odd[j],
         });
+        tile.even_even[j] = new.upper_left;
+        tile.odd_even[j] = new.upper_right;
+        tile.even_odd[j] = new.lower_left;
+        tile.odd_odd[j] = new.lower_right;
+    }
+}
+
+/// The collision where blocks begin at even columns and rows, of which some are walled: bit i of word j stands for block i of
+/// row j. These keep their cells.
+#[inline(always)]
+pub fn collide_even(walled: &[u32; 32], tile: &mut Tile)
+    ensures { (window : ℕ → ℕ → Bool) → ShowsTile window tile.old → HasCells tile.new (λ x y.
+        turned_at 0 window (bit (slice_index walled.now (y / 2)) (x / 2)) x y) }
+{
+    for j in 0..32usize {
+        let old = Blocks {
+            upper_left: tile.even_even[j],
+            upper_right: tile.odd_even[j],
+            lower_left: tile.even_odd[j],
+            lower_right: tile.odd_odd[j],
+        };
+        let new = collided(old, walled[j]);
         tile.even_even[j] = new.upper_left;
         tile.odd_even[j] = new.upper_right;
         tile.even_odd[j] = new.lower_left;

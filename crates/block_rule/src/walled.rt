@@ -1,14 +1,17 @@
-//! The cells of walled blocks: which of a tile's they are, and how they keep their particles in a phase.
+//! The cells of walled blocks: which of a tile's they are, how they keep their particles in a phase, and what is taken of
+//! these.
 
-ghost use Rattle.std.specs.Prelude.{◌≡◌, ℕ, ◌<◌, Bool, ◌&&◌, ◌||◌, if◌then◌else◌};
+ghost use Rattle.std.specs.Prelude.{◌≡◌, ℕ, ◌*◌, ◌<◌, Bool, ◌&&◌, ◌||◌, if◌then◌else◌, slice_index};
+ghost use Rattle.bit_tile.specs.Bit.{bit};
 ghost use Rattle.bit_tile.specs.Tile.{has, HasCells};
-ghost use Rattle.block_rule.specs.Around.{is_walled_at, twice_momentum, taken, is_for_walls};
+ghost use Rattle.block_rule.specs.Around.{is_walled_at, twice_momentum, taken, is_for_walls, either};
+ghost use Rattle.block_rule.specs.Accounts.{if_counted, counted_of};
 ghost use Rattle.block_rule.specs.Rows.{ShowsTile};
 ghost use Rattle.block_rule.specs.Lent.{IsSeenIn, IsLentOf, ArePlacesOf, AreWalledCells};
 
 use crate::Window;
 use crate::blocks::AnyCorner;
-use crate::hold::hold;
+use crate::hold::{hold, momentum_in};
 use crate::made::{make_even, make_odd};
 use bit_tile::Tile;
 use gas_terms::{Pair, Took};
@@ -72,42 +75,116 @@ impl<'a> Places<'a> {
     }
 }
 
-// Puts the old cells of one set back, if it has any. The answer is twice the momentum that they had.
-fn put_back_one(tile: &Tile, places: Option<Places<'_>>, parity: u8, out: &mut Tile) -> Pair
-    requires { parity < 2 }
-    ensures cells { (test : ℕ → ℕ → Bool) → IsLentOf places.entry test →
-        HasCells out.new (λ x y. if test x y then has tile.now x y else has out.old x y) }
-    ensures took { (test : ℕ → ℕ → Bool) → IsLentOf places.entry test →
-        result ≡ twice_momentum parity (λ x y. has tile.now x y && test x y) }
+/// The blocks of a tile's rows, at even parity, that are walled: those with a cell in one of these sets. Bit i of word j is
+/// block i of row j.
+#[inline(always)]
+pub fn walled_blocks(walls: Option<Places<'_>>, obstacles: Option<Places<'_>>) -> [u32; 32]
+    ensures { (walled obstructed : ℕ → ℕ → Bool) →
+        IsLentOf walls.entry (is_for_walls 0 walled obstructed) →
+        IsLentOf obstacles.entry (is_walled_at 0 obstructed) →
+        (i j : ℕ) → i < 32 → j < 32 →
+        bit (slice_index result j) i ≡ is_walled_at 0 (either walled obstructed) (2 * i) (2 * j) }
+{
+    let of_walls = upper_left_cells(walls);
+    let of_obstacles = upper_left_cells(obstacles);
+    let mut blocks = [0; 32];
+    for j in 0..32usize {
+        blocks[j] = of_walls[j] | of_obstacles[j];
+    }
+    blocks
+}
+
+// The cells of one set, if it has any, that are the upper left ones of blocks of even parity.
+#[inline(always)]
+fn upper_left_cells(places: Option<Places<'_>>) -> [u32; 32]
+    ensures { (test : ℕ → ℕ → Bool) → IsLentOf places.entry test → (i j : ℕ) → i < 32 → j < 32 →
+        bit (slice_index result j) i ≡ test (2 * i) (2 * j) }
 {
     match places {
-        Some(places) => hold(tile, places, parity, out),
-        None => Pair::ZERO,
+        Some(places) => places.cells.even_even,
+        None => [0; 32],
+    }
+}
+
+// Puts the old cells of one set back, if it has any.
+fn put_back_one(tile: &Tile, places: Option<Places<'_>>, out: &mut Tile)
+    ensures { (test : ℕ → ℕ → Bool) → IsLentOf places.entry test →
+        HasCells out.new (λ x y. if test x y then has tile.now x y else has out.old x y) }
+{
+    match places {
+        Some(places) => hold(tile, places, out),
+        None => (),
     }
 }
 
 /// Puts the old cells of walled blocks back into a tile that was turned as if there were no walls. A set without a cell in the
-/// tile may be `None`. The answer is twice the momentum that they had.
+/// tile may be `None`.
+#[inline(always)]
 pub fn put_back(
     tile: &Tile,
     walls: Option<Places<'_>>,
     obstacles: Option<Places<'_>>,
-    parity: u8,
     out: &mut Tile,
+)
+    ensures { (p : ℕ) (walled obstructed : ℕ → ℕ → Bool) →
+        IsLentOf walls.entry (is_for_walls p walled obstructed) →
+        IsLentOf obstacles.entry (is_walled_at p obstructed) →
+        HasCells out.new (λ x y. if is_walled_at p walled x y || is_walled_at p obstructed x y
+        then has tile.now x y else has out.old x y) }
+{
+    put_back_one(tile, walls, out);
+    put_back_one(tile, obstacles, out);
+}
+
+/// Which of two accounts are kept: of what the walls take, and of what the obstacles take.
+#[derive(Clone, Copy)]
+pub struct Counted {
+    pub walls: bool,
+    pub obstacles: bool,
+}
+
+impl Counted {
+    /// Both of them.
+    pub const BOTH: Counted = Counted {
+        walls: true,
+        obstacles: true,
+    };
+}
+
+// Twice the momentum of a tile's particles in the places of one set, if it is counted.
+#[inline(always)]
+fn taken_of_one(tile: &Tile, places: Option<Places<'_>>, parity: u8, counted: bool) -> Pair
+    requires { parity < 2 }
+    ensures { (test : ℕ → ℕ → Bool) → IsLentOf places.entry test → result ≡
+        if_counted counted (twice_momentum parity (λ x y. has tile.now x y && test x y)) }
+{
+    if !counted {
+        return Pair::ZERO;
+    }
+    match places {
+        Some(places) => momentum_in(tile, places, parity),
+        None => Pair::ZERO,
+    }
+}
+
+/// What walls and obstacles take of a tile's particles: twice the momentum of those in walled blocks. An account that is not
+/// kept has 0.
+#[inline(always)]
+pub fn taken_of(
+    tile: &Tile,
+    walls: Option<Places<'_>>,
+    obstacles: Option<Places<'_>>,
+    parity: u8,
+    counted: Counted,
 ) -> Took
     requires { parity < 2 }
-    ensures cells { (walled obstructed : ℕ → ℕ → Bool) →
+    ensures { (walled obstructed : ℕ → ℕ → Bool) →
         IsLentOf walls.entry (is_for_walls parity walled obstructed) →
         IsLentOf obstacles.entry (is_walled_at parity obstructed) →
-        HasCells out.new (λ x y. if is_walled_at parity walled x y ||
-        is_walled_at parity obstructed x y then has tile.now x y else has out.old x y) }
-    ensures took { (walled obstructed : ℕ → ℕ → Bool) →
-        IsLentOf walls.entry (is_for_walls parity walled obstructed) →
-        IsLentOf obstacles.entry (is_walled_at parity obstructed) →
-        result ≡ taken parity tile.now walled obstructed }
+        result ≡ counted_of counted (taken parity tile.now walled obstructed) }
 {
     Took {
-        walls: put_back_one(tile, walls, parity, out),
-        obstacles: put_back_one(tile, obstacles, parity, out),
+        walls: taken_of_one(tile, walls, parity, counted.walls),
+        obstacles: taken_of_one(tile, obstacles, parity, counted.obstacles),
     }
 }

@@ -1,4 +1,3 @@
-pub mod Counting
 pub mod Strips
 pub mod Moving
 pub mod Running

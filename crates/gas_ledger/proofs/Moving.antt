@@ -11,12 +11,14 @@ use Rattle.gas_terms.specs.declared.accounts.Sums.{Sums}
 use Rattle.phase_step.specs.declared.sums.change.Change.{Change}
 use Rattle.gas_terms.specs.declared.accounts.Moved.{Moved}
 use Rattle.gas_ledger.specs.PortLists.{PortLists, due_areas, left_by, ported_by}
-use Rattle.phase_step.specs.Counts.{AreCounts, moved_by_counts}
+use Rattle.gas_plane.specs.Counts.{AreCounts}
+use Rattle.phase_step.specs.Counts.{moved_by_counts}
 use Rattle.phase_step.specs.Actions.{acted}
 use Rattle.phase_step.proofs.ActionRuns.{acted_same}
 use Rattle.phase_step.specs.Exchanges.{is_in_any, is_left}
 use Rattle.gas_ledger.specs.Gases.{row_of}
-use Rattle.phase_step.proofs.Counting.{counted_sums, counts_small, same_moved}
+use Rattle.gas_plane.proofs.Counting.{counted_sums, counts_small}
+use Rattle.phase_step.proofs.Counting.{same_moved}
 use Rattle.gas_terms.proofs.RowSums.{row_alone, other_row}
 use Rattle.gas_terms.proofs.Emptied.{not_both, gained-filled, lost-filled, gained-cleared, lost-cleared}
 use Rattle.gas_terms.specs.Counts.{AreSmall}

@@ -14,7 +14,7 @@ use Rattle.gas_plane.specs.Planes.{IsLattice}
 use Rattle.gas_plane.proofs.Places.{wide}
 use Rattle.gas_plane.proofs.PlaneCounts.{row_sum, same_parity}
 use Rattle.gas_plane.proofs.RowSweeps.{chunk_has}
-use Rattle.phase_step.specs.Counts.{AreCounts}
+use Rattle.gas_plane.specs.Counts.{AreCounts}
 use Rattle.gas_ledger.specs.Gases.{row_of}
 
 -- the word has the 64 cells of row y from column 64 * column on

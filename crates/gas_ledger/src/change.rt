@@ -4,7 +4,7 @@ ghost use Rattle.std.specs.Prelude.{◌≡◌, ◌<◌, ◌*◌, length};
 ghost use Rattle.gas_terms.specs.Cells.{without};
 ghost use Rattle.gas_terms.specs.Rows.{row_replaced};
 ghost use Rattle.gas_plane.specs.Planes.{IsLattice};
-ghost use Rattle.phase_step.specs.Counts.{AreCounts};
+ghost use Rattle.gas_plane.specs.Counts.{AreCounts};
 ghost use Rattle.gas_ledger.specs.Gases.{row_of};
 
 use bit_tile::counts_in_row;

@@ -15,9 +15,7 @@ pub fn probe(plane: &Plane, area: Rect, tick: Tick) -> Sums
     ensures sums { result ≡ total_in tick plane.now area }
     ensures bounded { IsOfAtMost (2 ^ 24) result }
 {
-    // no side of it is longer than a lattice's
-    let _ = plane.size();
-    Sums::of_counts(plane.counts_in(area), tick.parity())
+    plane.sums_in(area, tick.parity())
 }
 
 /// The sums of all particles at the tick.
@@ -25,7 +23,5 @@ pub fn tally(plane: &Plane, tick: Tick) -> Sums
     ensures sums { result ≡ total tick plane.now }
     ensures bounded { IsOfAtMost (2 ^ 24) result }
 {
-    let size = plane.size();
-    let all = Rect::within(size, 0, 0, size.width() as u32, size.height() as u32).unwrap();
-    probe(plane, all, tick)
+    plane.total(tick.parity())
 }

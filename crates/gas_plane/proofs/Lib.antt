@@ -7,3 +7,4 @@ pub mod RowSweeps
 pub mod PlaneCounts
 pub mod BareTiles
 pub mod Painting
+pub mod Counting

@@ -2,3 +2,4 @@ pub mod Marks
 pub mod Tiles
 pub mod Planes
 pub mod Lending
+pub mod Counts

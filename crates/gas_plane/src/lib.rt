@@ -17,6 +17,7 @@ mod marks;
 mod paint;
 mod parts;
 mod rows;
+mod totals;
 
 pub use around::Position;
 pub use bit_tile::Tile;

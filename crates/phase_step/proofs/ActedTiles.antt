@@ -19,9 +19,11 @@ use Rattle.gas_plane.proofs.Places.{wide, high, cell_below, tile_below}
 use Rattle.gas_plane.proofs.Sweeps.{left_of, top_of, sweep_starts, sweep_ends, sweep_reads, sweep_past}
 use Rattle.gas_plane.proofs.PlaneCounts.{counted, tile_counted, tile_counts_by, counts_end, sum_past}
 use Rattle.phase_step.specs.Actions.{Leaves, IsStill, IsLeftOf, IsTileCorner, acted}
-use Rattle.phase_step.specs.Counts.{AreCounts, moved_by_counts}
+use Rattle.gas_plane.specs.Counts.{AreCounts}
+use Rattle.phase_step.specs.Counts.{moved_by_counts}
 use Rattle.phase_step.specs.declared.sums.change.Change.{Change}
-use Rattle.phase_step.proofs.Counting.{counted_sums, same_moved}
+use Rattle.gas_plane.proofs.Counting.{counted_sums}
+use Rattle.phase_step.proofs.Counting.{same_moved}
 
 -- what is left of each cell of a set
 abbrev pub acting : Leaves → Cells → ℕ → ℕ → Bool

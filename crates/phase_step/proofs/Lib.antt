@@ -13,3 +13,4 @@ pub mod PhaseSweeps
 pub mod TakenSums
 pub mod RunTakes
 pub mod RunSteps
+pub mod Balances

@@ -1,15 +1,18 @@
 -- What tiles take, in one phase and in many.
-use Rattle.std.proofs.Common.{◌≡◌, ℕ, zero, suc, ◌+◌, ◌-◌, ◌*◌, ◌/◌, ◌%◌, ◌<◌, ◌≤◌, ◌^◌, ◌⊎◌, inl, inr, true, ℤ, pos, ◌+ℤ◌, ◌*ℤ◌, nat_abs, w64, FitsSigned, refl, sym, ap, ap₂, ◌∙◌, subst, arith, add-one}
+use Rattle.std.proofs.Common.{◌≡◌, ℕ, zero, suc, ◌+◌, ◌-◌, ◌*◌, ◌/◌, ◌%◌, ◌<◌, ◌≤◌, ◌^◌, ◌⊎◌, inl, inr, Bool, true, false, ℤ, IsTrue, pos, ◌+ℤ◌, ◌*ℤ◌, nat_abs, w64, FitsSigned, refl, sym, ap, ap₂, ◌∙◌, subst, arith, add-one}
 use Rattle.std.proofs.lemmas.Int.{ints}
 use Rattle.gas_terms.specs.Cells.{Cells, HasSidesOf, extent, is_size, tile_count, tile_rectangle}
 use Rattle.gas_terms.specs.Gas.{takes_for_walls, takes_for_obstacles}
 use Rattle.gas_terms.specs.Velocity.{parity}
 use Rattle.gas_terms.specs.Accounts.{taken, took_plus, pair_plus, TakenFits, total_in, stopped}
+use Rattle.gas_terms.specs.declared.accounts.Pair.{Pair}
 use Rattle.gas_terms.specs.declared.accounts.Took.{Took}
 use Rattle.gas_terms.proofs.StoppedTotals.{taken-stopped}
 use Rattle.gas_terms.proofs.TileTotals.{total-tiles}
 use Rattle.gas_terms.proofs.RectangleTotals.{parity_count-small, total_in-parities}
+use Rattle.block_rule.specs.Accounts.{if_counted, counted_of}
 use Rattle.block_rule.specs.Windows.{taken_in}
+use Rattle.block_rule.specs.declared.walled.Counted.{Counted}
 use Rattle.phase_step.proofs.TakenSums.{pair_same, took_same, small_sum, small_tile, took_below, took_next, took_all}
 use Rattle.phase_step.specs.Runs.{after, nothing, tiles_take}
 
@@ -107,9 +110,9 @@ all_take p c w o small sized =
     ∙ took_all p c w o small sized (λ tick particles walls obstacles. taken-stopped tick particles (takes_for_walls walls obstacles))
     (λ tick particles walls obstacles. taken-stopped tick particles (takes_for_obstacles walls obstacles)) total-tiles
 
-pub own_take : (p : ℕ) (c w o : Cells) (first end : ℕ) → p < 2 → is_size (extent c) ≡ true → (first ≡ 0) × (end ≡ tile_count c) → tiles_take p c w o first (end - first) ≡ taken p c w o
-own_take p c w o first end small sized (start, count) =
-    let e : end - first ≡ tile_count c = omega arith in ap₂ (tiles_take p c w o) start e ∙ all_take p c w o small sized
+pub own_take : (p : ℕ) (c w o : Cells) (kept is : Counted) (first end : ℕ) → p < 2 → is_size (extent c) ≡ true → (first ≡ 0) × (end ≡ tile_count c) → kept ≡ is → counted_of kept (tiles_take p c w o first (end - first)) ≡ counted_of is (taken p c w o)
+own_take p c w o kept is first end small sized (start, count) same =
+    let e : end - first ≡ tile_count c = omega arith in ap₂ counted_of same (ap₂ (tiles_take p c w o) start e ∙ all_take p c w o small sized)
 
 pub taken_within : (p : ℕ) (c w o : Cells) → p < 2 → is_size (extent c) ≡ true → tile_count c ≤ 4096 → IsWithin (2 ^ 26) (taken p c w o)
 taken_within p c w o small sized few =
@@ -131,21 +134,58 @@ sides_as p solid c now other k e same =
       high = same.high ∙ sym (ap (λ (c : Cells). c.height) e ∙ there.high);
     }
 
+-- accounts that are kept, of two amounts and of one
+pub counted_plus : (c : Counted) (a b : Took) → took_plus (counted_of c a) (counted_of c b) ≡ counted_of c (took_plus a b)
+counted_plus c a b = took_same (kept_plus c.walls a.walls b.walls) (kept_plus c.obstacles a.obstacles b.obstacles)
+  where
+    kept_plus : (counted : Bool) (a b : Pair) → pair_plus (if_counted counted a) (if_counted counted b) ≡ if_counted counted (pair_plus a b)
+    kept_plus true a b = refl
+    kept_plus false a b = refl
+
+pub counted_both : (c : Counted) (t : Took) → IsTrue c.walls → IsTrue c.obstacles → counted_of c t ≡ t
+counted_both c t of_walls of_obstacles = rw (of_walls, of_obstacles) refl
+
+pub counted_none : (c : Counted) → nothing ≡ counted_of c nothing
+counted_none c = took_same (kept_none c.walls) (kept_none c.obstacles)
+  where
+    kept_none : (counted : Bool) → (let none : Pair = record { x = pos 0; y = pos 0 } in none) ≡ if_counted counted (record { x = pos 0; y = pos 0 })
+    kept_none true = refl
+    kept_none false = refl
+
+pub counted_within : (k : ℕ) (c : Counted) (t : Took) → IsWithin k t → IsWithin k (counted_of c t)
+counted_within k c t is = record {
+  wx = kept_x c.walls t.walls is.wx;
+  wy = kept_y c.walls t.walls is.wy;
+  ox = kept_x c.obstacles t.obstacles is.ox;
+  oy = kept_y c.obstacles t.obstacles is.oy;
+}
+  where
+    kept_x : (counted : Bool) (p : Pair) → nat_abs p.x ≤ k → nat_abs (if_counted counted p).x ≤ k
+    kept_x true p h = h
+    kept_x false p h = omega arith
+
+    kept_y : (counted : Bool) (p : Pair) → nat_abs p.y ≤ k → nat_abs (if_counted counted p).y ≤ k
+    kept_y true p h = h
+    kept_y false p h = omega arith
+
 -- a strip's own tiles one after another
-pub own_more : (p : ℕ) (c w o : Cells) (across end i : ℕ) (took here : Took) → across ≤ i → i < end → took ≡ tiles_take p c w o across (i - across - (i - end)) → here ≡ taken_in (pos p) c w o (tile_rectangle c i)
-    → took_plus took here ≡ tiles_take p c w o across (i + 1 - across - (i + 1 - end))
-own_more p c w o across end i took here low high so_far e =
+pub own_more : (p : ℕ) (c w o : Cells) (kept : Counted) (across end i : ℕ) (took here : Took) → across ≤ i → i < end → took ≡ counted_of kept (tiles_take p c w o across (i - across - (i - end))) → here ≡ counted_of kept (taken_in (pos p) c w o (tile_rectangle c i))
+    → took_plus took here ≡ counted_of kept (tiles_take p c w o across (i + 1 - across - (i + 1 - end)))
+own_more p c w o kept across end i took here low high so_far e =
     let n = i - across - (i - end) in
     let place : i ≡ across + n = omega arith in
     let next : suc n ≡ i + 1 - across - (i + 1 - end) = omega arith in
-    ap₂ took_plus so_far (e ∙ ap (λ i. taken_in (pos p) c w o (tile_rectangle c i)) place) ∙ ap (tiles_take p c w o across) next
+    ap₂ took_plus so_far (e ∙ ap (λ i. counted_of kept (taken_in (pos p) c w o (tile_rectangle c i))) place)
+    ∙ (counted_plus kept (tiles_take p c w o across n) (taken_in (pos p) c w o (tile_rectangle c (across + n)))
+    ∙ ap (λ m. counted_of kept (tiles_take p c w o across m)) next)
 
 -- a tile that is not one of them
 pub own_other : (first end i : ℕ) → first ≤ end → (i < first) ⊎ (end ≤ i) → i + 1 - first - (i + 1 - end) ≡ i - first - (i - end)
 own_other first end i order (inl before) = omega arith
 own_other first end i order (inr after) = omega arith
 
-pub own_fits : (p : ℕ) (c w o : Cells) (first n i : ℕ) (took here : Took) → n ≤ 4096 → took ≡ tiles_take p c w o first n → here ≡ taken_in (pos p) c w o (tile_rectangle c i)
+pub own_fits : (p : ℕ) (c w o : Cells) (kept : Counted) (first n i : ℕ) (took here : Took) → n ≤ 4096 → took ≡ counted_of kept (tiles_take p c w o first n) → here ≡ counted_of kept (taken_in (pos p) c w o (tile_rectangle c i))
     → TakenFits (pair_plus took.walls here.walls) × TakenFits (pair_plus took.obstacles here.obstacles)
-own_fits p c w o first n i took here few so_far e =
-    within_fits took here (16384 * n) 16384 (subst (IsWithin (16384 * n)) (sym so_far) (tiles_within p c w o first n)) (subst (IsWithin 16384) (sym e) (tile_within p c w o i)) (omega arith)
+own_fits p c w o kept first n i took here few so_far e =
+    within_fits took here (16384 * n) 16384 (subst (IsWithin (16384 * n)) (sym so_far) (counted_within (16384 * n) kept _ (tiles_within p c w o first n)))
+    (subst (IsWithin 16384) (sym e) (counted_within 16384 kept _ (tile_within p c w o i))) (omega arith)

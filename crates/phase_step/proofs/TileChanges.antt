@@ -16,10 +16,12 @@ use Rattle.gas_plane.specs.Planes.{IsLattice}
 use Rattle.gas_plane.proofs.Sweeps.{left_of, top_of}
 use Rattle.gas_plane.proofs.PlaneCounts.{tile_sum, same_parity}
 use Rattle.phase_step.specs.Actions.{Leaves, acted, unmoved}
-use Rattle.phase_step.specs.Counts.{AreCounts, AreTileCounts, moved_by_counts}
+use Rattle.gas_plane.specs.Counts.{AreCounts}
+use Rattle.phase_step.specs.Counts.{AreTileCounts, moved_by_counts}
 use Rattle.phase_step.specs.declared.sums.change.Change.{Change}
 use Rattle.gas_terms.specs.declared.accounts.Moved.{Moved}
-use Rattle.phase_step.proofs.Counting.{counted_sums, same_moved}
+use Rattle.gas_plane.proofs.Counting.{counted_sums}
+use Rattle.phase_step.proofs.Counting.{same_moved}
 use Rattle.phase_step.proofs.ActedTiles.{acting, Stays, cell_within}
 
 -- tiles that agree count alike

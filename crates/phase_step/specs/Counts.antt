@@ -6,11 +6,7 @@ use Rattle.gas_terms.specs.Counts.{sums_of_counts}
 use Rattle.gas_terms.specs.declared.accounts.Moved.{Moved}
 use Rattle.phase_step.specs.declared.sums.change.Change.{Change}
 
--- Four counts, of even column and even row, odd and even, even and odd, odd and odd: those of a set's cells in a rectangle.
-pub record AreCounts (counts : List ℕ) (cells : Cells) (r : Rectangle) : Type 0 where
-  pub count : (a b : ℕ) → a < 2 → b < 2 → slice_index counts (2 * b + a) ≡ parity_count cells r a b
-
--- the same of the cells of a tile that pass the test
+-- four counts, of even column and even row, odd and even, even and odd, odd and odd: those of the cells of a tile that pass the test
 pub record AreTileCounts (counts : List ℕ) (test : ℕ → ℕ → Bool) : Type 0 where
   pub count : (a b : ℕ) → a < 2 → b < 2 → slice_index counts (2 * b + a) ≡ count_cells (λ x y. test x y && x % 2 == a && y % 2 == b)
   pub few : (k : ℕ) → k < 4 → slice_index counts k ≤ 2048

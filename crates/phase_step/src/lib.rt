@@ -13,6 +13,7 @@ ghost use Rattle.gas_plane.specs.Planes.{IsLattice};
 ghost use Rattle.phase_step.specs.Runs.{parity_at};
 ghost use Rattle.phase_step.specs.Actions.{after_with, flow_with};
 
+mod balance;
 mod exchanges;
 pub mod laws;
 mod steps;
@@ -21,6 +22,8 @@ mod sums;
 pub use exchanges::{
     Action, Exchange, Few, Later, Listed, Still, act_after, act_on, any_area, change_of,
 };
+pub use balance::run_balanced;
+pub use block_rule::Counted;
 use gas_plane::Plane;
 use gas_terms::Took;
 use std::mem;
@@ -174,7 +177,7 @@ impl Stepper for Serial {
         out: &mut Plane,
     ) -> Took {
         let solids = Solids::new(walls, obstacles);
-        turn_each(old, solids, parity, all_of(old), out)
+        turn_each(old, solids, parity, all_of(old, Counted::BOTH), out)
     }
 
     fn phase_in_place(
@@ -184,18 +187,20 @@ impl Stepper for Serial {
         parity: u8,
         spare: &mut Plane,
     ) -> Took {
-        let own = all_of(particles);
+        let own = all_of(particles, Counted::BOTH);
         turn_in_place(particles, solids, parity, own, spare)
     }
 }
 
 // all tiles of a plane
-fn all_of(plane: &Plane) -> Own
+fn all_of(plane: &Plane, counted: Counted) -> Own
     ensures own { (result.first ≡ 0) × (result.end ≡ tile_count plane.now) }
+    ensures counted { result.counted ≡ counted }
     ensures lattice { IsLattice plane.now }
 {
     Own {
         first: 0,
         end: plane.size().tiles(),
+        counted,
     }
 }

@@ -15,6 +15,7 @@ use gas_plane::Plane;
 use gas_terms::{Size, Took};
 use phase_step::{
     Action, Flow, LONG_RUN, Phases, Run, Serial, Solids, Stepper, WalledSites, are_none,
+    run_balanced,
 };
 use std::alloc::Global;
 use std::marker::Model;
@@ -219,7 +220,7 @@ fn run_alone<A: Action>(
         n: run.n,
         action: run.action,
     };
-    let flow = Serial.run_among(particles, solids, phases, spare);
+    let flow = run_balanced(particles, solids, phases, spare);
     *kept = Some(sites);
     flow
 }

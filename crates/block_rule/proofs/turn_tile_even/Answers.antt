@@ -1,5 +1,5 @@
-use Rattle.block_rule.specs.Around.{is_for_walls, is_walled_at}
-use Rattle.block_rule.proofs.Holding.{turned_of_both, nothing_lent, none_held, none_took, both_held, both_took}
+use Rattle.block_rule.specs.Around.{either, is_for_walls, is_walled_at}
+use Rattle.block_rule.proofs.Holding.{turned_of_both, turned_of_spared, nothing_lent, none_held, both_held}
 use Rattle.block_rule.proofs.turn_tile_even.Goals as goal
 
 pub returns-in-None-None-clause-cells : goal.returns-in-None-None-clause-cells
@@ -11,14 +11,6 @@ returns-in-None-None-clause-cells c = λ window walled obstructed shows of_walls
     (none_held old new (is_for_walls 0 walled obstructed) (nothing_lent c.args.walls _ c.in-None-None.is-0 of_walls))
     (none_held old new (is_walled_at 0 obstructed) (nothing_lent c.args.obstacles _ c.in-None-None.is-1 of_obstacles)))
 
-pub returns-in-None-None-clause-took : goal.returns-in-None-None-clause-took
-returns-in-None-None-clause-took c = λ walled obstructed of_walls of_obstacles.
-    let old = c.args.tile.now in
-    both_took 0 old old old old walled obstructed _ _
-    (none_took 0 old (is_for_walls 0 walled obstructed) (nothing_lent c.args.walls _ c.in-None-None.is-0 of_walls))
-    (none_took 0 old (is_walled_at 0 obstructed) (nothing_lent c.args.obstacles _ c.in-None-None.is-1 of_obstacles))
-
 pub returns-in_default-clause-cells : goal.returns-in_default-clause-cells
 returns-in_default-clause-cells c = λ window walled obstructed shows of_walls of_obstacles.
-    turned_of_both 0 c.args.tile.now c.make_even-in_default.new.tile c.put_back.new.out window walled obstructed shows (c.make_even-in_default.ensures window shows)
-    (c.put_back.ensures.cells walled obstructed of_walls of_obstacles)
+    turned_of_spared window (either walled obstructed) c.walled_blocks-walled.result c.collide_even.new.tile (c.walled_blocks-walled.ensures walled obstructed of_walls of_obstacles) (c.collide_even.ensures window shows)

@@ -7,7 +7,8 @@ ghost use Rattle.gas_terms.specs.Cells.{whole, without};
 ghost use Rattle.gas_terms.specs.Velocity.{parity as of_tick};
 ghost use Rattle.gas_plane.specs.Planes.{IsLattice};
 ghost use Rattle.phase_step.specs.Actions.{acted, IsStill};
-ghost use Rattle.phase_step.specs.Counts.{AreCounts, AreTileCounts};
+ghost use Rattle.gas_plane.specs.Counts.{AreCounts};
+ghost use Rattle.phase_step.specs.Counts.{AreTileCounts};
 ghost use Rattle.phase_step.specs.Exchanges.{leaves_of};
 ghost use Rattle.gas_terms.specs.Accounts.{moved_by};
 

@@ -3,19 +3,23 @@
 ghost use Rattle.std.specs.Prelude.{◌≡◌, ◌-◌, ◌<◌, ◌≤◌, ◌⊎◌, IsTrue, false};
 ghost use Rattle.gas_terms.specs.Cells.{joined, tile_count, HasSidesOf};
 ghost use Rattle.gas_terms.specs.Gas.{streamed};
+ghost use Rattle.block_rule.specs.Accounts.{counted_of};
 ghost use Rattle.phase_step.specs.Runs.{tiles_take};
 
 use crate::steps::solids::Solids;
-use crate::steps::tiles::{turn_tile_at, turn_tile_in_place};
+use crate::steps::tiles::{turn_and_count, turn_tile_in_place};
+use block_rule::Counted;
 use gas_plane::Plane;
 use gas_terms::Took;
 use std::mem;
 
-/// The tiles of a plane from `first` up to `end`.
+/// The tiles of a plane of whose particles it is counted what is taken: those from `first` up to `end`, in the accounts that
+/// are kept.
 #[derive(Clone, Copy)]
 pub struct Own {
     pub first: u32,
     pub end: u32,
+    pub counted: Counted,
 }
 
 impl Own {
@@ -29,7 +33,8 @@ impl Own {
     }
 }
 
-/// Turns the blocks, as `Stepper::phase` says. Returns what is taken of the particles in a plane's own tiles.
+/// Turns the blocks, as `Stepper::phase` says. Returns what is taken of the particles in a plane's own tiles; an
+/// account that is not kept has 0.
 #[inline(always)]
 pub fn turn_each(old: &Plane, solids: Solids<'_>, parity: u8, own: Own, out: &mut Plane) -> Took
     requires parity { parity < 2 }
@@ -40,14 +45,14 @@ pub fn turn_each(old: &Plane, solids: Solids<'_>, parity: u8, own: Own, out: &mu
     ensures out { let s = solids.entry in
         out.new ≡ streamed parity old.now (joined s.walls.now s.obstacles.now) }
     ensures took { let s = solids.entry in
-        result ≡ tiles_take parity old.now s.walls.now s.obstacles.now
-        own.first (own.end - own.first) }
+        result ≡ counted_of own.counted (tiles_take parity old.now s.walls.now s.obstacles.now
+        own.first (own.end - own.first)) }
 {
     let across = old.across();
     let mut took = Took::ZERO;
     let mut at = old.position(0);
     for i in 0..out.size().tiles() {
-        let here = turn_tile_at(old, solids, parity, at, out.tile_mut(i));
+        let here = turn_and_count(old, solids, parity, at, own.counted, out.tile_mut(i));
         if own.has(i) {
             took = took.plus(here);
         }
@@ -65,12 +70,12 @@ fn turn_each_in_place(particles: &mut Plane, solids: Solids<'_>, own: Own) -> To
     ensures particles { let s = solids.entry in
         particles.new ≡ streamed 0 particles.old (joined s.walls.now s.obstacles.now) }
     ensures took { let s = solids.entry in
-        result ≡ tiles_take 0 particles.old s.walls.now s.obstacles.now
-        own.first (own.end - own.first) }
+        result ≡ counted_of own.counted (tiles_take 0 particles.old s.walls.now s.obstacles.now
+        own.first (own.end - own.first)) }
 {
     let mut took = Took::ZERO;
     for i in 0..particles.size().tiles() {
-        let here = turn_tile_in_place(solids, i, particles.tile_mut(i));
+        let here = turn_tile_in_place(solids, i, own.counted, particles.tile_mut(i));
         if own.has(i) {
             took = took.plus(here);
         }
@@ -96,8 +101,8 @@ fn turn_among(
         particles.new ≡ streamed parity particles.old (joined s.walls.now s.obstacles.now) }
     ensures spare { HasSidesOf spare.new particles.old }
     ensures took { let s = solids.entry in
-        result ≡ tiles_take parity particles.old s.walls.now s.obstacles.now
-        own.first (own.end - own.first) }
+        result ≡ counted_of own.counted (tiles_take parity particles.old s.walls.now s.obstacles.now
+        own.first (own.end - own.first)) }
 {
     if parity == 0 {
         turn_each_in_place(particles, solids, own)
@@ -109,7 +114,8 @@ fn turn_among(
 }
 
 /// Turns the blocks of parity 0 or 1 of `particles`, which become those after the phase. Returns what walls and obstacles
-/// take of the particles in the plane's own tiles. The spare plane may be written to, and what it holds does not matter.
+/// take of the particles in the plane's own tiles; an account that is not kept has 0. The spare plane may be written to, and what
+/// it holds does not matter.
 pub fn turn_in_place(
     particles: &mut Plane,
     solids: Solids<'_>,
@@ -126,8 +132,8 @@ pub fn turn_in_place(
         particles.new ≡ streamed parity particles.old (joined s.walls.now s.obstacles.now) }
     ensures spare { HasSidesOf spare.new particles.old }
     ensures took { let s = solids.entry in
-        result ≡ tiles_take parity particles.old s.walls.now s.obstacles.now
-        own.first (own.end - own.first) }
+        result ≡ counted_of own.counted (tiles_take parity particles.old s.walls.now s.obstacles.now
+        own.first (own.end - own.first)) }
 {
     let Solids {
         walls,

@@ -4,12 +4,13 @@ ghost use Rattle.std.specs.Prelude.{◌≡◌, ℕ, ◌/◌, ◌<◌, pos};
 ghost use Rattle.gas_terms.specs.Cells.{Cells, tile_count, tile_rectangle, HasSidesOf};
 ghost use Rattle.gas_plane.specs.Planes.{IsLattice, IsTileFrom, IsPosition};
 ghost use Rattle.block_rule.specs.Windows.{taken_in};
+ghost use Rattle.block_rule.specs.Accounts.{counted_of};
 ghost use Rattle.phase_step.specs.Turns.{IsTileAfter, IsPlaceOf};
 ghost use Rattle.phase_step.specs.WalledSites.{AreInTile, AreLent};
 
 use crate::steps::sites::{Lent, walled_cells};
 use crate::steps::solids::Solids;
-use block_rule::{Places, WalledCells, Window, turn_tile_even, turn_tile_odd};
+use block_rule::{Counted, Places, WalledCells, Window, turn_tile_even, turn_tile_odd};
 use gas_plane::{Plane, Position, Tile};
 use gas_terms::Took;
 
@@ -41,18 +42,48 @@ pub fn turn_tile_at(
         result ≡ taken_in (pos parity) old.now s.walls.now s.obstacles.now
         (tile_rectangle old.now at.tile) }
 {
+    turn_and_count(old, solids, parity, at, Counted::BOTH, out)
+}
+
+/// The same, but an account that is not kept has 0.
+#[inline(always)]
+pub fn turn_and_count(
+    old: &Plane,
+    solids: Solids<'_>,
+    parity: u8,
+    at: Position,
+    counted: Counted,
+    out: &mut Tile,
+) -> Took
+    requires parity { parity < 2 }
+    requires lattice { IsLattice old.now }
+    requires tile { at.tile < tile_count old.now }
+    requires position { IsPosition (old.now.width / 64) at }
+    requires walls { HasSidesOf solids.walls.now old.now }
+    requires obstacles { HasSidesOf solids.obstacles.now old.now }
+    ensures cells { let s = solids.entry in
+        IsTileAfter parity old.now s.walls.now s.obstacles.now at.tile out.new }
+    ensures took { let s = solids.entry in
+        result ≡ counted_of counted (taken_in (pos parity) old.now s.walls.now s.obstacles.now
+        (tile_rectangle old.now at.tile)) }
+{
     if parity == 0 {
         *out = *old.tile(at.tile);
-        turn_tile_in_place(solids, at.tile, out)
+        turn_tile_in_place(solids, at.tile, counted, out)
     } else {
-        turn_odd(old, solids, at, out)
+        turn_odd(old, solids, at, counted, out)
     }
 }
 
 /// Turns the blocks of tile i, which begin at even columns and rows, so that each lies in the tile. Returns what walls and
-/// obstacles take of its particles. The sets are lattices of one size.
+/// obstacles take of its particles; an account that is not kept has 0. The sets are lattices of one size.
 #[inline(always)]
-pub fn turn_tile_in_place(solids: Solids<'_>, i: u32, tile: &mut Tile) -> Took
+pub fn turn_tile_in_place(
+    solids: Solids<'_>,
+    i: u32,
+    counted: Counted,
+    tile: &mut Tile,
+) -> Took
     requires walls { i < tile_count solids.walls.now }
     requires obstacles { i < tile_count solids.obstacles.now }
     requires place { IsPlaceOf solids.walls.now solids.walls.now solids.obstacles.now i }
@@ -61,37 +92,49 @@ pub fn turn_tile_in_place(solids: Solids<'_>, i: u32, tile: &mut Tile) -> Took
         IsTileAfter 0 old s.walls.now s.obstacles.now i tile.new }
     ensures took { (old : Cells) → let s = solids.entry in let r = tile_rectangle old i in
         IsPlaceOf old s.walls.now s.obstacles.now i → IsTileFrom tile.old old r.x r.y →
-        result ≡ taken_in (pos 0) old s.walls.now s.obstacles.now r }
+        result ≡ counted_of counted (taken_in (pos 0) old s.walls.now s.obstacles.now r) }
 {
     if solids.none {
-        return turn_even(solids, i, NOTHING_LENT, tile);
+        return turn_even(solids, i, NOTHING_LENT, counted, tile);
     }
     if let Some(sites) = solids.sites {
-        return turn_even(solids, i, sites.even.in_tile(i), tile);
+        return turn_even(solids, i, sites.even.in_tile(i), counted, tile);
     }
     match walled_cells(0, solids.walls, solids.obstacles, i) {
-        None => turn_even(solids, i, NOTHING_LENT, tile),
-        Some(cells) => turn_even(solids, i, lent(&cells), tile),
+        None => turn_even(solids, i, NOTHING_LENT, counted, tile),
+        Some(cells) => turn_even(solids, i, lent(&cells), counted, tile),
     }
 }
 
 // Where this is lent of the tile's cells at walled sites.
 #[inline(always)]
-fn turn_even(solids: Solids<'_>, i: u32, lent: Lent<'_>, tile: &mut Tile) -> Took
+fn turn_even(
+    solids: Solids<'_>,
+    i: u32,
+    lent: Lent<'_>,
+    counted: Counted,
+    tile: &mut Tile,
+) -> Took
     requires lent { AreLent 0 solids.walls.now solids.obstacles.now i lent }
     ensures cells { (old : Cells) → let s = solids.entry in let r = tile_rectangle old i in
         IsPlaceOf old s.walls.now s.obstacles.now i → IsTileFrom tile.old old r.x r.y →
         IsTileAfter 0 old s.walls.now s.obstacles.now i tile.new }
     ensures took { (old : Cells) → let s = solids.entry in let r = tile_rectangle old i in
         IsPlaceOf old s.walls.now s.obstacles.now i → IsTileFrom tile.old old r.x r.y →
-        result ≡ taken_in (pos 0) old s.walls.now s.obstacles.now r }
+        result ≡ counted_of counted (taken_in (pos 0) old s.walls.now s.obstacles.now r) }
 {
-    turn_tile_even(tile, lent.walls, lent.obstacles)
+    turn_tile_even(tile, lent.walls, lent.obstacles, counted)
 }
 
 // Blocks begin at odd columns and rows: those at the tile's edges reach into the tiles round it.
 #[inline(always)]
-fn turn_odd(old: &Plane, solids: Solids<'_>, at: Position, out: &mut Tile) -> Took
+fn turn_odd(
+    old: &Plane,
+    solids: Solids<'_>,
+    at: Position,
+    counted: Counted,
+    out: &mut Tile,
+) -> Took
     requires tile { at.tile < tile_count old.now }
     requires position { IsPosition (old.now.width / 64) at }
     requires place { IsPlaceOf old.now solids.walls.now solids.obstacles.now at.tile }
@@ -101,18 +144,18 @@ fn turn_odd(old: &Plane, solids: Solids<'_>, at: Position, out: &mut Tile) -> To
     ensures cells { let s = solids.entry in
         IsTileAfter 1 old.now s.walls.now s.obstacles.now at.tile out.new }
     ensures took { let s = solids.entry in
-        result ≡ taken_in (pos 1) old.now s.walls.now s.obstacles.now
-        (tile_rectangle old.now at.tile) }
+        result ≡ counted_of counted (taken_in (pos 1) old.now s.walls.now s.obstacles.now
+        (tile_rectangle old.now at.tile)) }
 {
     if solids.none {
-        return turn_odd_with(old, solids, at, NOTHING_LENT, out);
+        return turn_odd_with(old, solids, at, NOTHING_LENT, counted, out);
     }
     if let Some(sites) = solids.sites {
-        return turn_odd_with(old, solids, at, sites.odd.in_tile(at.tile), out);
+        return turn_odd_with(old, solids, at, sites.odd.in_tile(at.tile), counted, out);
     }
     match walled_cells(1, solids.walls, solids.obstacles, at.tile) {
-        None => turn_odd_with(old, solids, at, NOTHING_LENT, out),
-        Some(cells) => turn_odd_with(old, solids, at, lent(&cells), out),
+        None => turn_odd_with(old, solids, at, NOTHING_LENT, counted, out),
+        Some(cells) => turn_odd_with(old, solids, at, lent(&cells), counted, out),
     }
 }
 
@@ -122,6 +165,7 @@ fn turn_odd_with(
     solids: Solids<'_>,
     at: Position,
     lent: Lent<'_>,
+    counted: Counted,
     out: &mut Tile,
 ) -> Took
     requires tile { at.tile < tile_count old.now }
@@ -131,14 +175,14 @@ fn turn_odd_with(
     ensures cells { let s = solids.entry in
         IsTileAfter 1 old.now s.walls.now s.obstacles.now at.tile out.new }
     ensures took { let s = solids.entry in
-        result ≡ taken_in (pos 1) old.now s.walls.now s.obstacles.now
-        (tile_rectangle old.now at.tile) }
+        result ≡ counted_of counted (taken_in (pos 1) old.now s.walls.now s.obstacles.now
+        (tile_rectangle old.now at.tile)) }
 {
     let particles = Window {
         tile: old.tile(at.tile),
         round: old.round_at(at),
     };
-    turn_tile_odd(&particles, lent.walls, lent.obstacles, out)
+    turn_tile_odd(&particles, lent.walls, lent.obstacles, counted, out)
 }
 
 // what was worked out for one tile

@@ -15,7 +15,7 @@ use crate::runs::course::Course;
 use gas_plane::Plane;
 use gas_terms::{Moved, NoMemory, Size};
 use phase_step::{
-    Action, Exchange, Flow, LONG_RUN, Listed, Own, Solids, WalledSites, are_none, change_of,
+    Action, Counted, Exchange, Flow, LONG_RUN, Listed, Own, Solids, WalledSites, are_none, change_of,
     parity_at, turn_in_place,
 };
 use std::alloc::Global;
@@ -69,12 +69,14 @@ fn own_tiles(strip: &Plane) -> Own
     ensures first { result.first ≡ strip.now.width / 64 }
     ensures order { (result.first ≤ result.end) × (result.end ≤ tile_count strip.now) }
     ensures count { result.end - result.first ≡ own_tiles strip.now }
+    ensures counted { IsTrue result.counted.walls × IsTrue result.counted.obstacles }
     ensures lattice { IsLattice strip.now }
 {
     let first = u32::from(strip.size().width() / 64);
     Own {
         first,
         end: strip.size().tiles() - first,
+        counted: Counted::BOTH,
     }
 }
 

@@ -1,11 +1,6 @@
-use Rattle.std.proofs.Common.{◌*◌, ◌≤◌}
-use Rattle.block_rule.specs.Classes.{TellsWords}
-use Rattle.block_rule.proofs.Holding.{HeldSoFar}
+use Rattle.std.proofs.Common.{◌*◌}
+use Rattle.block_rule.specs.Classes.{TellsWords, IsHeldIn}
 use Rattle.block_rule.proofs.hold.hold_class.Given as goal
 
 abbrev pub invariant-loop-k : goal.invariant-loop-k
-invariant-loop-k l =
-    record {
-      held : TellsWords l.rows l.places → HeldSoFar l.old l.places l.initial.class l.class l.n l.k;
-      few : l.n ≤ 256 * l.k;
-    }
+invariant-loop-k l = TellsWords l.rows l.places → IsHeldIn 0 (l.k * 8) l.old l.places l.initial.class l.class

@@ -21,8 +21,8 @@ loop-k-preserved c =
           ∙ i.rest j (outside_row j c.args.from k outside);
     }
 
-pub returns-clause-cells : goal.returns-clause-cells
-returns-clause-cells c =
+pub returns : goal.returns
+returns c =
     let i = c.loop-k.invariant in
     record {
       cells = λ x j h low below.

@@ -9,6 +9,6 @@ invariant-loop-j g l =
       oe : length l.tile.odd_even ≡ 32;
       eo : length l.tile.even_odd ≡ 32;
       oo : length l.tile.odd_odd ≡ 32;
-      done : (k : ℕ) → k < l.j → IsMade (g.R.Rule.cell l.rule) (even_row l.initial.tile k) (even_row l.tile k);
+      done : (k : ℕ) → k < l.j → IsMade (λ _. g.R.Rule.cell l.rule) (even_row l.initial.tile k) (even_row l.tile k);
       rest : (k : ℕ) → l.j ≤ k → even_row l.tile k ≡ even_row l.initial.tile k;
     }

@@ -1,7 +1,7 @@
 use Rattle.std.proofs.Common.{◌*◌, ◌<◌, ◌≤◌, ℕ, get_or}
 use Rattle.gas_terms.specs.Cells.{without}
 use Rattle.gas_terms.specs.Rows.{row_replaced}
-use Rattle.phase_step.specs.Counts.{AreCounts}
+use Rattle.gas_plane.specs.Counts.{AreCounts}
 use Rattle.gas_terms.proofs.RowSums.{strip}
 use Rattle.gas_ledger.proofs.change.row_change.Given as goal
 

@@ -1,5 +1,5 @@
 use Rattle.std.proofs.Common.{◌∙◌}
-use Rattle.phase_step.proofs.Counting.{lattice_counts_small}
+use Rattle.gas_plane.proofs.Counting.{lattice_counts_small}
 use Rattle.phase_step.proofs.ActedTiles.{moved_by_change}
 use Rattle.phase_step.specs.Exchanges.{leaves_of}
 use Rattle.phase_step.proofs.exchanges.action.act_on.Goals as goal

@@ -1,14 +1,16 @@
-use Rattle.std.proofs.Common.{◌≡◌, ◌+◌, ◌-◌, ◌∙◌, ap, sym, subst, refl, pos, arith}
+use Rattle.std.proofs.Common.{◌≡◌, ℕ, ◌+◌, ◌-◌, ◌∙◌, ap, sym, subst, refl, pos, arith}
 use Rattle.gas_terms.specs.Cells.{tile_count, tile_rectangle}
 use Rattle.gas_terms.proofs.Cells.{has-cells_where, full-cells_where, same_cells}
 use Rattle.gas_plane.proofs.PlaneCounts.{few_tiles}
 use Rattle.gas_plane.proofs.Sweeps.{sweep_begins, sweep_tile, sweep_is_whole}
 use Rattle.gas_plane.specs.Planes.{with_tile, IsPosition}
+use Rattle.gas_terms.specs.declared.accounts.Took.{Took}
 use Rattle.block_rule.specs.Windows.{taken_in}
+use Rattle.block_rule.specs.Accounts.{counted_of}
 use Rattle.phase_step.specs.Runs.{tiles_take}
 use Rattle.phase_step.specs.Turns.{IsTileAfter}
 use Rattle.phase_step.proofs.PhaseSweeps.{tiles_as, tiles_are, swept_sides, phased, phase_next, phase_ends}
-use Rattle.phase_step.proofs.RunTakes.{own_more, own_other, own_fits}
+use Rattle.phase_step.proofs.RunTakes.{counted_none, own_more, own_other, own_fits}
 use Rattle.phase_step.proofs.steps.sweep.turn_each.Goals as goal
 use Rattle.phase_step.proofs.steps.sweep.turn_each.Goals.{then-has, else-has}
 
@@ -16,7 +18,7 @@ pub loop-i-init : goal.loop-i-init
 loop-i-init c =
     record {
       cells = sym (sweep_begins c.args.out.now (phased c.args.parity c.args.old.now c.args.solids.walls.now c.args.solids.obstacles.now) c.size.ensures.lattice);
-      took = let e : 0 ≡ 0 - c.args.own.first - (0 - c.args.own.end) = omega arith in ap (tiles_take c.args.parity c.args.old.now c.args.solids.walls.now c.args.solids.obstacles.now c.args.own.first) e;
+      took = let e : 0 ≡ 0 - c.args.own.first - (0 - c.args.own.end) = omega arith in counted_none c.args.own.counted ∙ ap (λ n. counted_of c.args.own.counted (tiles_take c.args.parity c.args.old.now c.args.solids.walls.now c.args.solids.obstacles.now c.args.own.first n)) e;
       tile = c.position-at.ensures.tile;
       at = c.position-at.ensures.position;
     }
@@ -28,24 +30,24 @@ tile_mut-requires c =
 
 pub plus-took-requires : goal.plus-took-requires
 plus-took-requires c =
-    let took = subst (λ i. c.turn_tile_at-here.result ≡ taken_in (pos c.args.parity) c.args.old.now c.args.solids.walls.now c.args.solids.obstacles.now (tile_rectangle c.args.old.now i)) c.loop-i.invariant.tile c.turn_tile_at-here.ensures.took in
+    let took = subst (λ i. c.turn_and_count-here.result ≡ counted_of c.args.own.counted (taken_in (pos c.args.parity) c.args.old.now c.args.solids.walls.now c.args.solids.obstacles.now (tile_rectangle c.args.old.now i))) c.loop-i.invariant.tile c.turn_and_count-here.ensures.took in
     let few = few_tiles c.args.out.now (tile_count c.args.out.now) c.size.ensures.lattice (omega arith) in
     let same = tiles_as c.args.out.now c.args.old.now c.requires.out in
     let inside = c.requires.own in
-    let fits = own_fits c.args.parity c.args.old.now c.args.solids.walls.now c.args.solids.obstacles.now c.args.own.first (c.loop-i.i - c.args.own.first - (c.loop-i.i - c.args.own.end)) c.loop-i.i c.loop-i.took c.turn_tile_at-here.result (omega (arith, few, same, inside.1)) c.loop-i.invariant.took took in
+    let fits = own_fits c.args.parity c.args.old.now c.args.solids.walls.now c.args.solids.obstacles.now c.args.own.counted c.args.own.first (c.loop-i.i - c.args.own.first - (c.loop-i.i - c.args.own.end)) c.loop-i.i c.loop-i.took c.turn_and_count-here.result (omega (arith, few, same, inside.1)) c.loop-i.invariant.took took in
     record { walls = fits.0; obstacles = fits.1 }
 
 pub loop-i-preserved : goal.loop-i-preserved
 loop-i-preserved c =
-    let took = subst (λ i. c.turn_tile_at-here.result ≡ taken_in (pos c.args.parity) c.args.old.now c.args.solids.walls.now c.args.solids.obstacles.now (tile_rectangle c.args.old.now i)) c.loop-i.invariant.tile c.turn_tile_at-here.ensures.took in
-    let after = subst (λ i. IsTileAfter c.args.parity c.args.old.now c.args.solids.walls.now c.args.solids.obstacles.now i c.turn_tile_at-here.new.out) c.loop-i.invariant.tile c.turn_tile_at-here.ensures.cells in
-    let take = tiles_take c.args.parity c.args.old.now c.args.solids.walls.now c.args.solids.obstacles.now c.args.own.first in
+    let took = subst (λ i. c.turn_and_count-here.result ≡ counted_of c.args.own.counted (taken_in (pos c.args.parity) c.args.old.now c.args.solids.walls.now c.args.solids.obstacles.now (tile_rectangle c.args.old.now i))) c.loop-i.invariant.tile c.turn_and_count-here.ensures.took in
+    let after = subst (λ i. IsTileAfter c.args.parity c.args.old.now c.args.solids.walls.now c.args.solids.obstacles.now i c.turn_and_count-here.new.out) c.loop-i.invariant.tile c.turn_and_count-here.ensures.cells in
+    let take : ℕ → Took = λ n. counted_of c.args.own.counted (tiles_take c.args.parity c.args.old.now c.args.solids.walls.now c.args.solids.obstacles.now c.args.own.first n) in
     record {
-      cells = phase_next c.args.parity c.args.old.now c.args.solids.walls.now c.args.solids.obstacles.now c.args.out.now c.loop-i.out (with_tile c.loop-i.out c.loop-i.i c.turn_tile_at-here.new.out) c.loop-i.i c.turn_tile_at-here.new.out c.size.ensures.lattice c.requires.out c.loop-i.invariant.cells after refl sweep_tile;
+      cells = phase_next c.args.parity c.args.old.now c.args.solids.walls.now c.args.solids.obstacles.now c.args.out.now c.loop-i.out (with_tile c.loop-i.out c.loop-i.i c.turn_and_count-here.new.out) c.loop-i.i c.turn_and_count-here.new.out c.size.ensures.lattice c.requires.out c.loop-i.invariant.cells after refl sweep_tile;
       took = elim c.if-has.branch [
         | then-has w ↦
             let inside = c.has.ensures.own w.if-has.true in
-            w.took-is ∙ (w.plus-took.ensures ∙ own_more c.args.parity c.args.old.now c.args.solids.walls.now c.args.solids.obstacles.now c.args.own.first c.args.own.end c.loop-i.i c.loop-i.took c.turn_tile_at-here.result inside.0 inside.1 c.loop-i.invariant.took took)
+            w.took-is ∙ (w.plus-took.ensures ∙ own_more c.args.parity c.args.old.now c.args.solids.walls.now c.args.solids.obstacles.now c.args.own.counted c.args.own.first c.args.own.end c.loop-i.i c.loop-i.took c.turn_and_count-here.result inside.0 inside.1 c.loop-i.invariant.took took)
         | else-has w ↦ w.took-is ∙ (c.loop-i.invariant.took ∙ ap take (sym (own_other c.args.own.first c.args.own.end c.loop-i.i c.requires.own.0 (c.has.ensures.other w.if-has.false))))
       ];
       tile = c.next-at.ensures.tile ∙ ap (λ i. i + 1) c.loop-i.invariant.tile;
@@ -64,10 +66,10 @@ returns-clause-took c =
     let same = tiles_as c.args.out.now c.args.old.now c.requires.out in
     let inside = c.requires.own in
     let count : c.loop-i.i - c.args.own.first - (c.loop-i.i - c.args.own.end) ≡ c.args.own.end - c.args.own.first = omega (arith, all, same, inside.0, inside.1) in
-    c.loop-i.invariant.took ∙ ap (tiles_take c.args.parity c.args.old.now c.args.solids.walls.now c.args.solids.obstacles.now c.args.own.first) count
+    c.loop-i.invariant.took ∙ ap (λ n. counted_of c.args.own.counted (tiles_take c.args.parity c.args.old.now c.args.solids.walls.now c.args.solids.obstacles.now c.args.own.first n)) count
 
-pub turn_tile_at-here-requires-clause-tile : goal.turn_tile_at-here-requires-clause-tile
-turn_tile_at-here-requires-clause-tile c = omega (arith, c.loop-i.invariant.tile, tiles_are c.args.out.now c.size.result c.tiles-i-end.result c.size.ensures.extent c.tiles-i-end.ensures.tiles, tiles_as c.args.out.now c.args.old.now c.requires.out)
+pub turn_and_count-here-requires-clause-tile : goal.turn_and_count-here-requires-clause-tile
+turn_and_count-here-requires-clause-tile c = omega (arith, c.loop-i.invariant.tile, tiles_are c.args.out.now c.size.result c.tiles-i-end.result c.size.ensures.extent c.tiles-i-end.ensures.tiles, tiles_as c.args.out.now c.args.old.now c.requires.out)
 
 pub next-at-requires-clause-few : goal.next-at-requires-clause-few
 next-at-requires-clause-few c =

@@ -1,5 +1,6 @@
 use Rattle.std.proofs.Common.{◌≡◌, ◌-◌}
 use Rattle.gas_plane.specs.Planes.{swept}
+use Rattle.block_rule.specs.Accounts.{counted_of}
 use Rattle.phase_step.specs.Runs.{tiles_take}
 use Rattle.phase_step.proofs.PhaseSweeps.{phased}
 use Rattle.phase_step.proofs.steps.sweep.turn_each_in_place.Given as goal
@@ -10,5 +11,5 @@ invariant-loop-i l =
     let obstacles = l.solids.obstacles.now in
     record {
       cells : l.particles ≡ swept l.initial.particles (phased 0 l.initial.particles walls obstacles) l.i;
-      took : l.took ≡ tiles_take 0 l.initial.particles walls obstacles l.own.first (l.i - l.own.first - (l.i - l.own.end));
+      took : l.took ≡ counted_of l.own.counted (tiles_take 0 l.initial.particles walls obstacles l.own.first (l.i - l.own.first - (l.i - l.own.end)));
     }

@@ -1,5 +1,6 @@
-use Rattle.std.proofs.Common.{◌∙◌, refl, pos, arith}
+use Rattle.std.proofs.Common.{◌∙◌, ap, refl, pos, arith}
 use Rattle.gas_terms.specs.Cells.{tile_rectangle}
+use Rattle.block_rule.specs.Accounts.{counted_of}
 use Rattle.block_rule.specs.Around.{around}
 use Rattle.block_rule.proofs.Borders.{shows_tile}
 use Rattle.block_rule.proofs.Torus.{inside_is_view, tiles_turned}
@@ -28,5 +29,5 @@ returns c =
           let obstructed = view_of o r.x r.y in
           c.turn_tile_even.ensures.took walled obstructed
           (walls_lent 0 (omega arith) old w o c.args.i place c.args.lent c.requires.lent) (obstacles_lent 0 (omega arith) old w o c.args.i place c.args.lent c.requires.lent)
-          ∙ tiles_took (pos 0) t old w o r.x r.y walled obstructed place (tile_cells c.args.i old old t refl from) (record { cell = λ _ _ _ _. refl }) (record { cell = λ _ _ _ _. refl });
+          ∙ ap (counted_of c.args.counted) (tiles_took (pos 0) t old w o r.x r.y walled obstructed place (tile_cells c.args.i old old t refl from) (record { cell = λ _ _ _ _. refl }) (record { cell = λ _ _ _ _. refl }));
     }

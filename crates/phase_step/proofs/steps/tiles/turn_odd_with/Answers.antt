@@ -1,5 +1,6 @@
-use Rattle.std.proofs.Common.{◌∙◌, refl, pos, arith}
+use Rattle.std.proofs.Common.{◌∙◌, ap, refl, pos, arith}
 use Rattle.gas_terms.specs.Cells.{tile_rectangle}
+use Rattle.block_rule.specs.Accounts.{counted_of}
 use Rattle.block_rule.specs.Around.{around}
 use Rattle.block_rule.specs.declared.Window.{Window}
 use Rattle.block_rule.proofs.Torus.{tiles_turned}
@@ -30,5 +31,5 @@ returns c =
           ∙ tiles_turned 1 old w o r.x r.y near walled obstructed (omega arith) place view (record { cell = λ _ _ _ _. refl }) (record { cell = λ _ _ _ _. refl }) x y h k;
       took =
           c.turn_tile_odd.ensures.took walled obstructed of_walls of_obstacles
-          ∙ tiles_took (pos 1) t old w o r.x r.y walled obstructed place (tile_cells i old old t refl c.tile.ensures) (record { cell = λ _ _ _ _. refl }) (record { cell = λ _ _ _ _. refl });
+          ∙ ap (counted_of c.args.counted) (tiles_took (pos 1) t old w o r.x r.y walled obstructed place (tile_cells i old old t refl c.tile.ensures) (record { cell = λ _ _ _ _. refl }) (record { cell = λ _ _ _ _. refl }));
     }

@@ -7,6 +7,7 @@ use Rattle.phase_step.specs.Runs.{tiles_take}
 use Rattle.phase_team.specs.ActionStrips.{all_there}
 use Rattle.phase_team.proofs.OwnPhases.{rows_with, own_phase, own_next, own_flow_next, own_flow_fits}
 use Rattle.phase_step.specs.Exchanges.{leaves_of, listed}
+use Rattle.phase_step.proofs.RunTakes.{counted_both}
 use Rattle.phase_team.proofs.runs.strip.make.Goals as goal
 
 pub loop-k-init : goal.loop-k-init
@@ -46,7 +47,7 @@ plus-flow-requires c =
     let few = few_tiles c.args.cells.now (tile_count c.args.cells.now) c.requires.lattice (omega arith) in
     own_flow_fits run.parity c.args.solids.walls.now c.args.solids.obstacles.now leaves c.args.cells.now (c.args.cells.now.width / 64) (tile_count c.args.cells.now - 2 * (c.args.cells.now.width / 64)) c.loop-k.k c.loop-k.cells c.turn_in_place-took.new.particles c.act_on_strip-moved.new.strip c.loop-k.flow here
     (own_phase run.parity c.parity_at-now.result run.first run.down c.loop-k.k c.args.solids.walls.now c.args.solids.obstacles.now (listed run.turns.now) (leaves_of c.after_phase-turn.result) c.args.cells.now c.loop-k.cells c.turn_in_place-took.new.particles c.act_on_strip-moved.new.strip here
-    c.requires.parity c.loop-k.invariant.cells c.parity_at-now.ensures.parity c.turn_in_place-took.ensures.particles (c.turn_in_place-took.ensures.took ∙ ap₂ (tiles_take c.parity_at-now.result c.loop-k.cells c.args.solids.walls.now c.args.solids.obstacles.now) c.own_tiles-own.ensures.first c.own_tiles-own.ensures.count) c.act_on_strip-moved.ensures.cells c.after_phase-turn.ensures c.act_on_strip-moved.ensures.moved)
+    c.requires.parity c.loop-k.invariant.cells c.parity_at-now.ensures.parity c.turn_in_place-took.ensures.particles (c.turn_in_place-took.ensures.took ∙ counted_both c.own_tiles-own.result.counted _ c.own_tiles-own.ensures.counted.0 c.own_tiles-own.ensures.counted.1 ∙ ap₂ (tiles_take c.parity_at-now.result c.loop-k.cells c.args.solids.walls.now c.args.solids.obstacles.now) c.own_tiles-own.ensures.first c.own_tiles-own.ensures.count) c.act_on_strip-moved.ensures.cells c.after_phase-turn.ensures c.act_on_strip-moved.ensures.moved)
     c.loop-k.invariant.flow (omega (arith, few)) (let h = c.requires.phases in omega arith)
 
 pub loop-k-preserved : goal.loop-k-preserved
@@ -57,7 +58,7 @@ loop-k-preserved c =
     let a = c.args.cells.now.width / 64 in
     let n = tile_count c.args.cells.now - 2 * (c.args.cells.now.width / 64) in
     let made = own_phase run.parity c.parity_at-now.result run.first run.down c.loop-k.k c.args.solids.walls.now c.args.solids.obstacles.now (listed run.turns.now) (leaves_of c.after_phase-turn.result) c.args.cells.now c.loop-k.cells c.turn_in_place-took.new.particles c.act_on_strip-moved.new.strip here
-    c.requires.parity c.loop-k.invariant.cells c.parity_at-now.ensures.parity c.turn_in_place-took.ensures.particles (c.turn_in_place-took.ensures.took ∙ ap₂ (tiles_take c.parity_at-now.result c.loop-k.cells c.args.solids.walls.now c.args.solids.obstacles.now) c.own_tiles-own.ensures.first c.own_tiles-own.ensures.count) c.act_on_strip-moved.ensures.cells c.after_phase-turn.ensures c.act_on_strip-moved.ensures.moved in
+    c.requires.parity c.loop-k.invariant.cells c.parity_at-now.ensures.parity c.turn_in_place-took.ensures.particles (c.turn_in_place-took.ensures.took ∙ counted_both c.own_tiles-own.result.counted _ c.own_tiles-own.ensures.counted.0 c.own_tiles-own.ensures.counted.1 ∙ ap₂ (tiles_take c.parity_at-now.result c.loop-k.cells c.args.solids.walls.now c.args.solids.obstacles.now) c.own_tiles-own.ensures.first c.own_tiles-own.ensures.count) c.act_on_strip-moved.ensures.cells c.after_phase-turn.ensures c.act_on_strip-moved.ensures.moved in
     record {
       cells = own_next run.parity c.args.solids.walls.now c.args.solids.obstacles.now leaves c.args.cells.now a n c.loop-k.k c.loop-k.cells c.turn_in_place-took.new.particles c.act_on_strip-moved.new.strip here made;
       spare = sides_at_start run.parity (joined c.args.solids.walls.now c.args.solids.obstacles.now) leaves c.args.cells.now c.loop-k.cells c.turn_in_place-took.new.spare c.loop-k.k c.loop-k.invariant.cells c.turn_in_place-took.ensures.spare;

@@ -1,0 +1,119 @@
+//! Long runs among prepared sites. What one of walls and obstacles takes is counted, and the other took what is missing of the
+//! momentum.
+
+ghost use Rattle.std.specs.Prelude.{◌≡◌, ◌^◌, ◌<◌, ◌≤◌, nat_abs, ◌+ℤ◌, ◌-ℤ◌};
+ghost use Rattle.gas_terms.specs.Cells.{joined, HasSidesOf};
+ghost use Rattle.gas_terms.specs.Accounts.{IsOfAtMost, IsTakenOfAtMost};
+ghost use Rattle.phase_step.specs.Actions.{after_with, flow_with};
+ghost use Rattle.phase_step.specs.Balance.{flow_counted, missing};
+
+use crate::{Action, Counted, Flow, Phases, Solids, act_after, all_of, parity_at, turn_in_place};
+use gas_plane::Plane;
+use gas_terms::{Moved, Pair, Sums, Took};
+
+// A run in which some accounts are kept.
+fn run_counting<A: Action>(
+    particles: &mut Plane,
+    solids: Solids<'_>,
+    run: Phases<'_, A>,
+    counted: Counted,
+    spare: &mut Plane,
+) -> Flow
+    requires parity { run.parity < 2 }
+    requires walls { HasSidesOf solids.walls.now particles.old }
+    requires obstacles { HasSidesOf solids.obstacles.now particles.old }
+    requires spare { HasSidesOf spare.old particles.old }
+    ensures particles { let r = run.entry in let s = solids.entry in particles.new ≡
+        after_with r.parity (joined s.walls.now s.obstacles.now) (A.leaves r.action.now)
+        particles.old r.n }
+    ensures spare { HasSidesOf spare.new particles.old }
+    ensures flow { let r = run.entry in let s = solids.entry in result ≡ flow_counted counted
+        (flow_with r.parity s.walls.now s.obstacles.now (A.leaves r.action.now)
+        particles.old r.n) }
+{
+    let mut flow = Flow::ZERO;
+    for k in 0..run.n {
+        let now = parity_at(run.parity, k);
+        let own = all_of(particles, counted);
+        let took = turn_in_place(particles, solids, now, own, spare);
+        let moved = act_after(particles, run.action, k, 1 - now);
+        flow = flow.plus(Flow { took, moved });
+    }
+    flow
+}
+
+// One component of it.
+fn missing_in(before: i64, injected: i64, drained: i64, took: i64, after: i64) -> i64
+    requires before { nat_abs before ≤ 2 ^ 48 }
+    requires injected { nat_abs injected ≤ 2 ^ 48 }
+    requires drained { nat_abs drained ≤ 2 ^ 48 }
+    requires took { nat_abs took ≤ 2 ^ 48 }
+    requires after { nat_abs after ≤ 2 ^ 48 }
+    ensures { result ≡ before +ℤ injected -ℤ drained -ℤ took -ℤ after }
+{
+    before + injected - drained - took - after
+}
+
+// What is missing of the momentum in the end: of what there was and what came in, less what went out and what was counted.
+fn missing(before: Sums, after: Sums, flow: Flow) -> Pair
+    requires before { IsOfAtMost (2 ^ 48) before }
+    requires after { IsOfAtMost (2 ^ 48) after }
+    requires injected { IsOfAtMost (2 ^ 48) flow.moved.injected }
+    requires drained { IsOfAtMost (2 ^ 48) flow.moved.drained }
+    requires walls { IsTakenOfAtMost (2 ^ 46) flow.took.walls }
+    requires obstacles { IsTakenOfAtMost (2 ^ 46) flow.took.obstacles }
+    ensures { result ≡ missing before after flow }
+{
+    let Flow { took, moved } = flow;
+    let Moved { injected, drained } = moved;
+    let took = took.walls.plus(took.obstacles);
+    Pair {
+        x: missing_in(before.px, injected.px, drained.px, took.x, after.px),
+        y: missing_in(before.py, injected.py, drained.py, took.y, after.py),
+    }
+}
+
+/// A run on the calling thread, as `Stepper::run_with` says. The particles are summed twice for it, so it is for long runs.
+pub fn run_balanced<A: Action>(
+    particles: &mut Plane,
+    solids: Solids<'_>,
+    run: Phases<'_, A>,
+    spare: &mut Plane,
+) -> Flow
+    requires parity { run.parity < 2 }
+    requires walls { HasSidesOf solids.walls.now particles.old }
+    requires obstacles { HasSidesOf solids.obstacles.now particles.old }
+    requires spare { HasSidesOf spare.old particles.old }
+    ensures particles { let r = run.entry in let s = solids.entry in particles.new ≡
+        after_with r.parity (joined s.walls.now s.obstacles.now) (A.leaves r.action.now)
+        particles.old r.n }
+    ensures spare { HasSidesOf spare.new particles.old }
+    ensures flow { let r = run.entry in let s = solids.entry in result ≡
+        flow_with r.parity s.walls.now s.obstacles.now (A.leaves r.action.now)
+        particles.old r.n }
+{
+    // where one set is empty, it is that which is counted
+    let walls = solids.walls.is_empty();
+    let counted = Counted {
+        walls,
+        obstacles: !walls,
+    };
+    let end = parity_at(run.parity, run.n);
+    let before = particles.total(run.parity);
+    let flow = run_counting(particles, solids, run, counted, spare);
+    let after = particles.total(end);
+    let rest = missing(before, after, flow);
+    let Flow { took, moved } = flow;
+    let took = if walls {
+        Took {
+            walls: took.walls,
+            obstacles: rest,
+        }
+    } else {
+        Took {
+            walls: rest,
+            obstacles: took.obstacles,
+        }
+    };
+    Flow { took, moved }
+}
