@@ -1,5 +1,5 @@
 -- The momentum before and after a run, and what was taken in it.
-use Rattle.std.proofs.Common.{◌≡◌, ℕ, zero, suc, ◌+◌, ◌*◌, ◌%◌, ◌<◌, ◌≤◌, ◌^◌, Bool, true, false, [], map, ℤ, pos, ◌+ℤ◌, ◌-ℤ◌, nat_abs, w64, FitsSigned, to_z, of_z, refl, sym, ap, ap₂, ◌∙◌, subst, arith}
+use Rattle.std.proofs.Common.{◌≡◌, ℕ, zero, suc, ◌+◌, ◌*◌, ◌%◌, ◌<◌, ◌≤◌, ◌^◌, Bool, true, false, not, [], map, ℤ, pos, ◌+ℤ◌, ◌-ℤ◌, nat_abs, w64, FitsSigned, to_z, of_z, refl, sym, ap, ap₂, ◌∙◌, subst, arith}
 use Rattle.std.proofs.lemmas.Int.{ints}
 use Rattle.gas_terms.specs.Velocity.{parity}
 use Rattle.gas_terms.specs.Cells.{Cells, HasEvenSides, HasSidesOf, joined, extent, is_size, tile_count}
@@ -12,15 +12,17 @@ use Rattle.gas_terms.proofs.ChangeTotals.{total-change}
 use Rattle.gas_terms.proofs.StepTotals.{forward-total}
 use Rattle.gas_terms.proofs.AccountBounds.{more_sums}
 use Rattle.gas_terms.proofs.Totals.{same_sums}
+use Rattle.gas_plane.specs.Planes.{IsLattice}
+use Rattle.gas_plane.proofs.PlaneCounts.{few_tiles}
 use Rattle.block_rule.specs.Accounts.{if_counted, counted_of}
 use Rattle.block_rule.specs.declared.walled.Counted.{Counted}
 use Rattle.phase_step.specs.Runs.{parity_at}
 use Rattle.phase_step.specs.Actions.{Leaves, acted, after_with, takes_with, moves_with, flow_with, flow_plus, FlowsFit}
-use Rattle.phase_step.specs.Balance.{flow_counted, left_of, missing}
+use Rattle.phase_step.specs.Balance.{flow_counted, left_of, missing, AreFew}
 use Rattle.phase_step.specs.declared.sums.flow.Flow.{Flow}
 use Rattle.phase_step.proofs.ActionRuns.{same_flow, sides_with, takes_with_within, moves_with_bounded}
 use Rattle.phase_step.proofs.PhaseSweeps.{even_sides}
-use Rattle.phase_step.proofs.RunTakes.{IsWithin, counted_plus, counted_within}
+use Rattle.phase_step.proofs.RunTakes.{counted_plus, counted_within}
 use Rattle.phase_step.proofs.TakenSums.{pair_same, took_same}
 
 -- accounts that are kept
@@ -84,13 +86,13 @@ module _ (p : ℕ) (w o : Cells) (leaves : ℕ → Leaves) (c : Cells) (small : 
       ∙ ap (less_taken (minus (plus (total (pos p) c) (moves_with p (joined w o) leaves c (suc n)).injected) (moves_with p (joined w o) leaves c (suc n)).drained)) (together_plus (takes_with p w o leaves c n) (taken q now w o))
 
 -- the account that was not kept is what is missing
-pub found_obstacles : (before after : Sums) (flow all : Flow) → flow ≡ flow_counted (record { walls = true; obstacles = false }) all → after ≡ left_of before all
+pub found_obstacles : (c : Counted) (before after : Sums) (flow all : Flow) → c.walls ≡ true → c.obstacles ≡ not c.walls → flow ≡ flow_counted c all → after ≡ left_of before all
     → (let r : Flow = record { took = record { walls = flow.took.walls; obstacles = missing before after flow }; moved = flow.moved } in r) ≡ all
-found_obstacles before after flow all e f = rw (e, f) (same_flow _ _ (took_same refl (pair_same (omega (arith, ints)) (omega (arith, ints)))) refl)
+found_obstacles c before after flow all is one e f = rw (e, f, one, is) (same_flow _ _ (took_same refl (pair_same (omega (arith, ints)) (omega (arith, ints)))) refl)
 
-pub found_walls : (before after : Sums) (flow all : Flow) → flow ≡ flow_counted (record { walls = false; obstacles = true }) all → after ≡ left_of before all
+pub found_walls : (c : Counted) (before after : Sums) (flow all : Flow) → c.walls ≡ false → c.obstacles ≡ not c.walls → flow ≡ flow_counted c all → after ≡ left_of before all
     → (let r : Flow = record { took = record { walls = missing before after flow; obstacles = flow.took.obstacles }; moved = flow.moved } in r) ≡ all
-found_walls before after flow all e f = rw (e, f) (same_flow _ _ (took_same (pair_same (omega (arith, ints)) (omega (arith, ints))) refl) refl)
+found_walls c before after flow all is one e f = rw (e, f, one, is) (same_flow _ _ (took_same (pair_same (omega (arith, ints)) (omega (arith, ints))) refl) refl)
 
 -- numbers of 64 bits whose sums fit them too
 abbrev again : ℤ → ℤ
@@ -140,24 +142,19 @@ left_after p q n w o leaves c later before after small sized turn is of_before o
     ∙ ap (λ (s : Sums). left_of s (flow_with p w o leaves c n)) (sym (of_before (pos p) now))))
 
 -- few are moved and taken in a run
-module _ (p : ℕ) (w o : Cells) (leaves : ℕ → Leaves) (c : Cells) (n : ℕ) (kept : Counted) (flow : Flow) (is : flow ≡ flow_counted kept (flow_with p w o leaves c n)) (sized : is_size (extent c) ≡ true) (tiles : tile_count c ≤ 4096) (few : n < 65536) where
-  pub few_injected : IsOfAtMost (2 ^ 48) flow.moved.injected
-  few_injected =
-      subst (λ (f : Flow). IsOfAtMost (2 ^ 48) f.moved.injected) (sym is)
-      (more_sums (2 ^ 24 * n) (2 ^ 48) _ (omega arith) (moves_with_bounded p (joined w o) leaves c n sized).injected)
-
-  pub few_drained : IsOfAtMost (2 ^ 48) flow.moved.drained
-  few_drained =
-      subst (λ (f : Flow). IsOfAtMost (2 ^ 48) f.moved.drained) (sym is)
-      (more_sums (2 ^ 24 * n) (2 ^ 48) _ (omega arith) (moves_with_bounded p (joined w o) leaves c n sized).drained)
-
-  took_within : IsWithin (2 ^ 26 * n) flow.took
-  took_within =
-      subst (λ (f : Flow). IsWithin (2 ^ 26 * n) f.took) (sym is)
-      (counted_within (2 ^ 26 * n) kept _ (takes_with_within p w o leaves c n sized tiles))
-
-  pub few_for_walls : IsTakenOfAtMost (2 ^ 46) flow.took.walls
-  few_for_walls = let is = took_within in let x = is.wx in let y = is.wy in record { x = omega arith; y = omega arith }
-
-  pub few_for_obstacles : IsTakenOfAtMost (2 ^ 46) flow.took.obstacles
-  few_for_obstacles = let is = took_within in let x = is.ox in let y = is.oy in record { x = omega arith; y = omega arith }
+pub few_in_run : (p : ℕ) (w o : Cells) (leaves : ℕ → Leaves) (c : Cells) (n : ℕ) (kept : Counted) (before after : Sums) (flow : Flow) → flow ≡ flow_counted kept (flow_with p w o leaves c n) → IsLattice c → n < 65536
+    → IsOfAtMost (2 ^ 24) before → IsOfAtMost (2 ^ 24) after → AreFew before after flow
+few_in_run p w o leaves c n kept before after flow is lattice few of_before of_after =
+    let tiles : tile_count c ≤ 4096 = few_tiles c (tile_count c) lattice (omega arith) in
+    let moved = moves_with_bounded p (joined w o) leaves c n lattice.sized in
+    let took = counted_within (2 ^ 26 * n) kept _ (takes_with_within p w o leaves c n lattice.sized tiles) in
+    let wx = took.wx in let wy = took.wy in let ox = took.ox in let oy = took.oy in
+    subst (λ (f : Flow). AreFew before after f) (sym is)
+    (record {
+      before = more_sums (2 ^ 24) (2 ^ 48) _ (omega arith) of_before;
+      after = more_sums (2 ^ 24) (2 ^ 48) _ (omega arith) of_after;
+      injected = more_sums (2 ^ 24 * n) (2 ^ 48) _ (omega arith) moved.injected;
+      drained = more_sums (2 ^ 24 * n) (2 ^ 48) _ (omega arith) moved.drained;
+      walls = record { x = omega arith; y = omega arith };
+      obstacles = record { x = omega arith; y = omega arith };
+    })

@@ -1,18 +1,16 @@
-//! Long runs among prepared sites. What one of walls and obstacles takes is counted, and the other took what is missing of the
-//! momentum.
+//! Long runs. What one of walls and obstacles takes is counted, and the other took what is missing of the momentum.
 
-ghost use Rattle.std.specs.Prelude.{◌≡◌, ◌^◌, ◌<◌, ◌≤◌, nat_abs, ◌+ℤ◌, ◌-ℤ◌};
+ghost use Rattle.std.specs.Prelude.{◌≡◌, ◌^◌, ◌<◌, ◌≤◌, not, nat_abs, ◌+ℤ◌, ◌-ℤ◌};
 ghost use Rattle.gas_terms.specs.Cells.{joined, HasSidesOf};
-ghost use Rattle.gas_terms.specs.Accounts.{IsOfAtMost, IsTakenOfAtMost};
 ghost use Rattle.phase_step.specs.Actions.{after_with, flow_with};
-ghost use Rattle.phase_step.specs.Balance.{flow_counted, missing};
+ghost use Rattle.phase_step.specs.Balance.{flow_counted, left_of, missing, AreFew};
 
 use crate::{Action, Counted, Flow, Phases, Solids, act_after, all_of, parity_at, turn_in_place};
 use gas_plane::Plane;
 use gas_terms::{Moved, Pair, Sums, Took};
 
-// A run in which some accounts are kept.
-fn run_counting<A: Action>(
+/// A run on the calling thread, as `Stepper::run_with` says, but an account that is not kept has 0.
+pub fn run_counting<A: Action>(
     particles: &mut Plane,
     solids: Solids<'_>,
     run: Phases<'_, A>,
@@ -56,12 +54,7 @@ fn missing_in(before: i64, injected: i64, drained: i64, took: i64, after: i64) -
 
 // What is missing of the momentum in the end: of what there was and what came in, less what went out and what was counted.
 fn missing(before: Sums, after: Sums, flow: Flow) -> Pair
-    requires before { IsOfAtMost (2 ^ 48) before }
-    requires after { IsOfAtMost (2 ^ 48) after }
-    requires injected { IsOfAtMost (2 ^ 48) flow.moved.injected }
-    requires drained { IsOfAtMost (2 ^ 48) flow.moved.drained }
-    requires walls { IsTakenOfAtMost (2 ^ 46) flow.took.walls }
-    requires obstacles { IsTakenOfAtMost (2 ^ 46) flow.took.obstacles }
+    requires { AreFew before after flow }
     ensures { result ≡ missing before after flow }
 {
     let Flow { took, moved } = flow;
@@ -73,38 +66,28 @@ fn missing(before: Sums, after: Sums, flow: Flow) -> Pair
     }
 }
 
-/// A run on the calling thread, as `Stepper::run_with` says. The particles are summed twice for it, so it is for long runs.
-pub fn run_balanced<A: Action>(
-    particles: &mut Plane,
-    solids: Solids<'_>,
-    run: Phases<'_, A>,
-    spare: &mut Plane,
-) -> Flow
-    requires parity { run.parity < 2 }
-    requires walls { HasSidesOf solids.walls.now particles.old }
-    requires obstacles { HasSidesOf solids.obstacles.now particles.old }
-    requires spare { HasSidesOf spare.old particles.old }
-    ensures particles { let r = run.entry in let s = solids.entry in particles.new ≡
-        after_with r.parity (joined s.walls.now s.obstacles.now) (A.leaves r.action.now)
-        particles.old r.n }
-    ensures spare { HasSidesOf spare.new particles.old }
-    ensures flow { let r = run.entry in let s = solids.entry in result ≡
-        flow_with r.parity s.walls.now s.obstacles.now (A.leaves r.action.now)
-        particles.old r.n }
+/// The account that a long run keeps: that of a set without cells, if one has none.
+pub fn one_account(walls: &Plane) -> Counted
+    ensures { result.obstacles ≡ not result.walls }
 {
-    // where one set is empty, it is that which is counted
-    let walls = solids.walls.is_empty();
-    let counted = Counted {
+    let walls = walls.is_empty();
+    Counted {
         walls,
         obstacles: !walls,
-    };
-    let end = parity_at(run.parity, run.n);
-    let before = particles.total(run.parity);
-    let flow = run_counting(particles, solids, run, counted, spare);
-    let after = particles.total(end);
+    }
+}
+
+/// What a run comes to, by the sums of the particles before and after it and by what was counted in it, in one of the two
+/// accounts.
+pub fn completed(before: Sums, after: Sums, flow: Flow, counted: Counted) -> Flow
+    requires few { AreFew before after flow }
+    requires one { counted.obstacles ≡ not counted.walls }
+    ensures { (all : Flow) → flow ≡ flow_counted counted all → after ≡ left_of before all →
+        result ≡ all }
+{
     let rest = missing(before, after, flow);
     let Flow { took, moved } = flow;
-    let took = if walls {
+    let took = if counted.walls {
         Took {
             walls: took.walls,
             obstacles: rest,

@@ -22,7 +22,7 @@ mod sums;
 pub use exchanges::{
     Action, Exchange, Few, Later, Listed, Still, act_after, act_on, any_area, change_of,
 };
-pub use balance::run_balanced;
+pub use balance::{completed, one_account, run_counting};
 pub use block_rule::Counted;
 use gas_plane::Plane;
 use gas_terms::Took;

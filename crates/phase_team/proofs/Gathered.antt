@@ -20,6 +20,9 @@ use Rattle.phase_step.specs.declared.sums.flow.Flow.{Flow}
 use Rattle.phase_step.proofs.ActionRuns.{sides_with, same_flow}
 use Rattle.phase_step.proofs.MovedSums.{moved_none}
 use Rattle.phase_team.specs.Strips.{shift_of}
+use Rattle.phase_step.specs.Balance.{flow_counted}
+use Rattle.phase_step.proofs.Balances.{flows_counted}
+use Rattle.phase_step.proofs.RunTakes.{counted_none, counted_within}
 use Rattle.phase_team.specs.Work.{result_of, flow_of, tiles_give, RowsArePut, IsDone}
 use Rattle.phase_team.proofs.EachOnce.{IsFlowWithin, flow_less}
 use Rattle.phase_team.specs.ActionStrips.{tiles_flow}
@@ -129,13 +132,17 @@ none_flows p w o leaves c first (suc k) =
 
 pub none_give : (course : Course) (a : ℕ) → no_flow ≡ tiles_give course 0 (0 * a)
 none_give course a =
-    none_flows course.parity course.walls.now course.obstacles.now (listed course.turns.now) course.cells.now 0 course.phases ∙ ap (tiles_give course 0) (let e : 0 ≡ 0 * a = omega arith in e)
+    same_flow no_flow (flow_counted course.counted no_flow) (counted_none course.counted) refl
+    ∙ (ap (flow_counted course.counted) (none_flows course.parity course.walls.now course.obstacles.now (listed course.turns.now) course.cells.now 0 course.phases) ∙ ap (tiles_give course 0) (let e : 0 ≡ 0 * a = omega arith in e))
 
 -- one strip more
 pub flows_split : (course : Course) (a b : ℕ) → tiles_give course 0 (a + b) ≡ flow_plus (tiles_give course 0 a) (tiles_give course (0 + a) b)
 flows_split course a b =
-    same_flow _ _ (takes_split_with course.parity course.walls.now course.obstacles.now (listed course.turns.now) course.cells.now 0 a b course.phases)
-    (moves_split_with course.parity (joined course.walls.now course.obstacles.now) (listed course.turns.now) course.cells.now 0 a b course.phases)
+    let some = tiles_flow course.parity course.walls.now course.obstacles.now (listed course.turns.now) course.cells.now in
+    ap (flow_counted course.counted)
+    (same_flow (some 0 (a + b) course.phases) (flow_plus (some 0 a course.phases) (some (0 + a) b course.phases)) (takes_split_with course.parity course.walls.now course.obstacles.now (listed course.turns.now) course.cells.now 0 a b course.phases)
+    (moves_split_with course.parity (joined course.walls.now course.obstacles.now) (listed course.turns.now) course.cells.now 0 a b course.phases))
+    ∙ sym (flows_counted course.counted (some 0 a course.phases) (some (0 + a) b course.phases))
 
 few_cells : (rows a k : ℕ) → rows ≤ 128 → a ≤ 64 → k ≤ 64 → 16384 * (rows * a) * k ≤ 2 ^ 33
 few_cells rows a k few some short =
@@ -157,14 +164,15 @@ rows_within course first rows few sized =
     let leaves = listed course.turns.now in
     let most = few_cells rows a k few (wide (extent c) sized).few course.few in
     flow_less (tiles_give course (first * a) (rows * a)) (16384 * (rows * a) * k) (2 ^ 33) most
-    (record { took = takes_within_with p w o leaves c (first * a) (rows * a) k; moved = moves_within_with p (joined w o) leaves c (first * a) (rows * a) k })
+    (record { took = counted_within (16384 * (rows * a) * k) course.counted _ (takes_within_with p w o leaves c (first * a) (rows * a) k); moved = moves_within_with p (joined w o) leaves c (first * a) (rows * a) k })
 
 pub all_flow : (course : Course) (n : ℕ) (flow : Flow) → is_size (extent course.cells.now) ≡ true → n ≡ tile_count course.cells.now → flow ≡ tiles_give course 0 n → flow ≡ flow_of course
 all_flow course n flow sized e so_far =
     so_far
     ∙ (ap (tiles_give course 0) e
-    ∙ same_flow _ _ (takes_all_with course.parity course.walls.now course.obstacles.now (listed course.turns.now) course.cells.now course.phases sized)
-    (moves_all_with course.parity (joined course.walls.now course.obstacles.now) (listed course.turns.now) course.cells.now course.phases sized))
+    ∙ ap (flow_counted course.counted)
+    (same_flow (tiles_flow course.parity course.walls.now course.obstacles.now (listed course.turns.now) course.cells.now 0 (tile_count course.cells.now) course.phases) _ (takes_all_with course.parity course.walls.now course.obstacles.now (listed course.turns.now) course.cells.now course.phases sized)
+    (moves_all_with course.parity (joined course.walls.now course.obstacles.now) (listed course.turns.now) course.cells.now course.phases sized)))
 
 pub unload_within : (first rows a d i : ℕ) → first + rows ≤ d → i < rows * a → first * a + i < a * d
 unload_within first rows a d i inside within =

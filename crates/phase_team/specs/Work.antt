@@ -5,6 +5,7 @@ use Rattle.claim_desk.specs.Desk.{fresh}
 use Rattle.claim_desk.specs.Draws.{times}
 use Rattle.gas_plane.specs.Planes.{IsLattice}
 use Rattle.phase_step.specs.Actions.{Leaves, after_with, flow_with, no_flow, flow_plus}
+use Rattle.phase_step.specs.Balance.{flow_counted}
 use Rattle.phase_step.specs.Exchanges.{Areas, listed}
 use Rattle.phase_step.specs.WalledSites.{AllHaveSidesOf}
 use Rattle.phase_step.specs.declared.sums.flow.Flow.{Flow}
@@ -21,19 +22,19 @@ use Rattle.phase_team.specs.declared.runs.hand.Room.{Room}
 abbrev pub Lists : List Areas → (ℕ → Leaves) → ℕ → Type 0
 Lists turns leaves n = (k : ℕ) → k < n → (x y : ℕ) (held : Bool) → listed turns k x y held ≡ leaves k x y held
 
--- the particles after a course, and what it comes to
+-- the particles after a course, and what it comes to in the accounts that are kept
 abbrev pub result_of : Course → Cells
 result_of course =
     after_with course.parity (joined course.walls.now course.obstacles.now) (listed course.turns.now) course.cells.now course.phases
 
 abbrev pub flow_of : Course → Flow
 flow_of course =
-    flow_with course.parity course.walls.now course.obstacles.now (listed course.turns.now) course.cells.now course.phases
+    flow_counted course.counted (flow_with course.parity course.walls.now course.obstacles.now (listed course.turns.now) course.cells.now course.phases)
 
 -- what it comes to in n tiles from tile `first` on
 abbrev pub tiles_give : Course → ℕ → ℕ → Flow
 tiles_give course first n =
-    tiles_flow course.parity course.walls.now course.obstacles.now (listed course.turns.now) course.cells.now first n course.phases
+    flow_counted course.counted (tiles_flow course.parity course.walls.now course.obstacles.now (listed course.turns.now) course.cells.now first n course.phases)
 
 -- the strip has its own rows in a lattice of this size, and one row of tiles more above and below
 pub record IsOf (size : Extent) (s : Strip) : Type 0 where

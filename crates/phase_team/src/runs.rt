@@ -5,6 +5,7 @@ ghost use Rattle.std.specs.Vec.{vec_capacity};
 ghost use Rattle.gas_terms.specs.Cells.{Cells, extent, joined, HasSidesOf};
 ghost use Rattle.gas_plane.specs.Planes.{IsLattice};
 ghost use Rattle.phase_step.specs.Actions.{after_with, flow_with};
+ghost use Rattle.phase_step.specs.Balance.{flow_counted};
 ghost use Rattle.phase_team.specs.Limits.{most_workers, most_phases, most_rows};
 ghost use Rattle.phase_team.specs.Work.{result_of, flow_of, Lists, IsRoomFor, IsDone, IsPart, HasMade};
 ghost use Rattle.phase_team.specs.Work.{IsOut, StaysPut, RowsArePut, StripsArePut, strips_give, HasPut};
@@ -20,7 +21,9 @@ use course::{Course, Parts, Stretch};
 use gas_plane::Plane;
 use gas_terms::Size;
 use hand::{Hand, Room, make_all, room_of, seated};
-use phase_step::{Action, Exchange, Flow, Later, Run, Serial, Stepper, parity_at};
+use phase_step::{
+    Action, Counted, Exchange, Flow, Later, Phases, Run, Solids, parity_at, run_counting,
+};
 use std::alloc::Global;
 use std::mem;
 use std::thread::Threads;
@@ -253,12 +256,41 @@ fn list<A: Action>(action: &A, n: u16, turns: &mut Vec<Exchange>) -> Option<()>
     Some(())
 }
 
+/// A run on the calling thread, among walls and obstacles as they are. An account that is not kept has 0.
+pub fn run_unprepared<A: Action>(
+    particles: &mut Plane,
+    run: Run<'_, A>,
+    counted: Counted,
+    spare: &mut Plane,
+) -> Flow
+    requires parity { run.parity < 2 }
+    requires walls { HasSidesOf run.walls.now particles.old }
+    requires obstacles { HasSidesOf run.obstacles.now particles.old }
+    requires spare { HasSidesOf spare.old particles.old }
+    ensures particles { let r = run.entry in particles.new ≡
+        after_with r.parity (joined r.walls.now r.obstacles.now) (A.leaves r.action.now)
+        particles.old r.n }
+    ensures spare { HasSidesOf spare.new particles.old }
+    ensures flow { let r = run.entry in result ≡ flow_counted counted
+        (flow_with r.parity r.walls.now r.obstacles.now (A.leaves r.action.now)
+        particles.old r.n) }
+{
+    let solids = Solids::new(run.walls, run.obstacles);
+    let phases = Phases {
+        parity: run.parity,
+        n: run.n,
+        action: run.action,
+    };
+    run_counting(particles, solids, phases, counted, spare)
+}
+
 // Up to 64 phases: by the strips, or on the calling thread where they are not all rows or memory is refused.
 fn stretch<R: Threads, A: Action>(
     rt: &R,
     strips: &mut Strips,
     particles: &mut Plane,
     run: Run<'_, A>,
+    counted: Counted,
     spare: &mut Plane,
 ) -> Flow
     requires size { strips.old.size ≡ extent particles.old }
@@ -272,13 +304,14 @@ fn stretch<R: Threads, A: Action>(
         after_with r.parity (joined r.walls.now r.obstacles.now) (A.leaves r.action.now)
         particles.old r.n }
     ensures spare { HasSidesOf spare.new particles.old }
-    ensures flow { let r = run.entry in result ≡
-        flow_with r.parity r.walls.now r.obstacles.now (A.leaves r.action.now) particles.old r.n }
+    ensures flow { let r = run.entry in result ≡ flow_counted counted
+        (flow_with r.parity r.walls.now r.obstacles.now (A.leaves r.action.now)
+        particles.old r.n) }
 {
     // both are lattices
     let _ = (particles.size(), spare.size());
     if list(run.action, run.n, &mut strips.turns).is_none() {
-        return Serial.run_with(particles, run, spare);
+        return run_unprepared(particles, run, counted, spare);
     }
     let course = Course {
         cells: &*particles,
@@ -287,6 +320,7 @@ fn stretch<R: Threads, A: Action>(
         turns: strips.turns.as_slice(),
         parity: run.parity,
         phases: run.n,
+        counted,
     };
     match make_strips(
         rt,
@@ -300,17 +334,18 @@ fn stretch<R: Threads, A: Action>(
             mem::swap(particles, spare);
             flow
         }
-        None => Serial.run_with(particles, run, spare),
+        None => run_unprepared(particles, run, counted, spare),
     }
 }
 
 /// A run by strips of the lattice's size: each worker makes up to 64 phases of its strip, and then the strips are put
-/// together. Where no thread can be made the calling thread does its part.
+/// together. Where no thread can be made the calling thread does its part. An account that is not kept has 0.
 pub fn run_by<R: Threads, A: Action>(
     rt: &R,
     strips: &mut Strips,
     particles: &mut Plane,
     run: Run<'_, A>,
+    counted: Counted,
     spare: &mut Plane,
 ) -> Flow
     requires size { strips.old.size ≡ extent particles.old }
@@ -323,8 +358,9 @@ pub fn run_by<R: Threads, A: Action>(
         after_with r.parity (joined r.walls.now r.obstacles.now) (A.leaves r.action.now)
         particles.old r.n }
     ensures spare { HasSidesOf spare.new particles.old }
-    ensures flow { let r = run.entry in result ≡
-        flow_with r.parity r.walls.now r.obstacles.now (A.leaves r.action.now) particles.old r.n }
+    ensures flow { let r = run.entry in result ≡ flow_counted counted
+        (flow_with r.parity r.walls.now r.obstacles.now (A.leaves r.action.now)
+        particles.old r.n) }
 {
     let mut flow = Flow::ZERO;
     let mut done = 0;
@@ -341,7 +377,7 @@ pub fn run_by<R: Threads, A: Action>(
             n: next,
             action: &later,
         };
-        let here = stretch(rt, strips, particles, part, spare);
+        let here = stretch(rt, strips, particles, part, counted, spare);
         flow = flow.plus(here);
         done += next;
     }

@@ -5,17 +5,18 @@ ghost use Rattle.gas_terms.specs.Cells.{joined, HasSidesOf};
 ghost use Rattle.gas_terms.specs.Gas.{streamed};
 ghost use Rattle.gas_terms.specs.Accounts.{taken};
 ghost use Rattle.phase_step.specs.Actions.{after_with, flow_with};
+ghost use Rattle.phase_step.specs.Balance.{flow_counted};
 ghost use Rattle.phase_step.specs.WalledSites.{HaveExtent};
 ghost use Rattle.phase_team.specs.Limits.{most_workers};
 ghost use Rattle.phase_team.specs.Teamwork.{IsRoom, cells_after, taken_in_all};
 
 use crate::phase::{Crew, Gate, NoGate, Shift, Task, Turned, crew_of, hand_in, work_together};
-use crate::runs::{LeastRun, Strips, USUAL, is_worth_strips, run_by, strips_for};
+use crate::runs::{LeastRun, Strips, USUAL, is_worth_strips, run_by, run_unprepared, strips_for};
 use gas_plane::Plane;
 use gas_terms::{Size, Took};
 use phase_step::{
-    Action, Flow, LONG_RUN, Phases, Run, Serial, Solids, Stepper, WalledSites, are_none,
-    run_balanced,
+    Action, Counted, Flow, LONG_RUN, Phases, Run, Serial, Solids, Stepper, WalledSites, are_none,
+    completed, one_account, parity_at, run_counting,
 };
 use std::alloc::Global;
 use std::marker::Model;
@@ -161,13 +162,46 @@ impl<R: Threads + Drop> Stepper for Team<R, NoGate> {
         self.phase(old, walls, obstacles, parity, out)
     }
 
-    // by strips, where these are worth it
+    // a long run among walls keeps one account, and finds the other from the momentum
     fn run_with<A: Action>(
         &mut self,
         particles: &mut Plane,
         run: Run<'_, A>,
         spare: &mut Plane,
     ) -> Flow {
+        if run.n < LONG_RUN || are_none(run.walls, run.obstacles) {
+            return self.run_by_worth(particles, run, Counted::BOTH, spare);
+        }
+        let counted = one_account(run.walls);
+        let end = parity_at(run.parity, run.n);
+        let before = particles.total(run.parity);
+        let flow = self.run_by_worth(particles, run, counted, spare);
+        let after = particles.total(end);
+        completed(before, after, flow, counted)
+    }
+}
+
+impl<R: Threads + Drop> Team<R, NoGate> {
+    // A run by strips, where these are worth it. An account that is not kept has 0.
+    fn run_by_worth<A: Action>(
+        &mut self,
+        particles: &mut Plane,
+        run: Run<'_, A>,
+        counted: Counted,
+        spare: &mut Plane,
+    ) -> Flow
+        requires parity { run.parity < 2 }
+        requires walls { HasSidesOf run.walls.now particles.old }
+        requires obstacles { HasSidesOf run.obstacles.now particles.old }
+        requires spare { HasSidesOf spare.old particles.old }
+        ensures particles { let r = run.entry in particles.new ≡
+            after_with r.parity (joined r.walls.now r.obstacles.now) (A.leaves r.action.now)
+            particles.old r.n }
+        ensures spare { HasSidesOf spare.new particles.old }
+        ensures flow { let r = run.entry in result ≡ flow_counted counted
+            (flow_with r.parity r.walls.now r.obstacles.now (A.leaves r.action.now)
+            particles.old r.n) }
+    {
         let size = particles.size();
         let (alloc, workers) = (self.alloc, self.workers);
         let Team {
@@ -177,23 +211,25 @@ impl<R: Threads + Drop> Stepper for Team<R, NoGate> {
             ..
         } = self;
         if !is_worth_strips(self.least, size, workers, run.n) {
-            return run_alone(sites, alloc, particles, run, spare);
+            return run_alone(sites, alloc, particles, run, counted, spare);
         }
         let Some(mut strips) = strips_for(kept, alloc, size, workers) else {
-            return run_alone(sites, alloc, particles, run, spare);
+            return run_alone(sites, alloc, particles, run, counted, spare);
         };
-        let flow = run_by(rt, &mut strips, particles, run, spare);
+        let flow = run_by(rt, &mut strips, particles, run, counted, spare);
         *kept = Some(strips);
         flow
     }
 }
 
-// A run on the calling thread. Where it is long, the cells at walled sites are prepared first, if there is memory for them.
+// A run on the calling thread. Where it is long, the cells at walled sites are prepared first, if there is memory for them. An
+// account that is not kept has 0.
 fn run_alone<A: Action>(
     kept: &mut Option<WalledSites>,
     alloc: Global,
     particles: &mut Plane,
     run: Run<'_, A>,
+    counted: Counted,
     spare: &mut Plane,
 ) -> Flow
     requires parity { run.parity < 2 }
@@ -204,14 +240,15 @@ fn run_alone<A: Action>(
         after_with r.parity (joined r.walls.now r.obstacles.now) (A.leaves r.action.now)
         particles.old r.n }
     ensures spare { HasSidesOf spare.new particles.old }
-    ensures flow { let r = run.entry in result ≡
-        flow_with r.parity r.walls.now r.obstacles.now (A.leaves r.action.now) particles.old r.n }
+    ensures flow { let r = run.entry in result ≡ flow_counted counted
+        (flow_with r.parity r.walls.now r.obstacles.now (A.leaves r.action.now)
+        particles.old r.n) }
 {
     if run.n < LONG_RUN || are_none(run.walls, run.obstacles) {
-        return Serial.run_with(particles, run, spare);
+        return run_unprepared(particles, run, counted, spare);
     }
     let Some(mut sites) = sites_for(kept, alloc, particles.size()) else {
-        return Serial.run_with(particles, run, spare);
+        return run_unprepared(particles, run, counted, spare);
     };
     sites.prepare(run.walls, run.obstacles);
     let solids = Solids::prepared(run.walls, run.obstacles, &sites);
@@ -220,7 +257,7 @@ fn run_alone<A: Action>(
         n: run.n,
         action: run.action,
     };
-    let flow = run_balanced(particles, solids, phases, spare);
+    let flow = run_counting(particles, solids, phases, counted, spare);
     *kept = Some(sites);
     flow
 }

@@ -7,10 +7,10 @@ ghost use Rattle.phase_team.specs.Limits.{most_phases, most_rows};
 
 use claim_desk::Desk;
 use gas_plane::Plane;
-use phase_step::Exchange;
+use phase_step::{Counted, Exchange};
 
-/// Particles, walls and obstacles, what acts after each phase, the parity of the first phase, and how many phases there are:
-/// no more than a strip can make alone.
+/// Particles, walls and obstacles, what acts after each phase, the parity of the first phase, how many phases there are, which
+/// is no more than a strip can make alone, and which accounts are kept.
 #[derive(Clone, Copy)]
 pub struct Course<'a> {
     pub cells: &'a Plane,
@@ -19,6 +19,7 @@ pub struct Course<'a> {
     pub turns: &'a [Exchange],
     pub parity: u8,
     pub phases: u16,
+    pub counted: Counted,
     pub ghost parity_is: { parity < 2 },
     pub ghost few: { phases ≤ most_phases },
     pub ghost lattice: { IsLattice cells.now },

@@ -5,6 +5,7 @@ ghost use Rattle.gas_terms.specs.Cells.{joined, tile_count, HasSidesOf};
 ghost use Rattle.gas_plane.specs.Planes.{IsLattice};
 ghost use Rattle.phase_step.specs.WalledSites.{AllHaveSidesOf, HaveExtent};
 ghost use Rattle.phase_step.specs.Actions.{acted, after_with};
+ghost use Rattle.phase_step.specs.Balance.{flow_counted};
 ghost use Rattle.phase_step.specs.Exchanges.{leaves_of, listed};
 ghost use Rattle.phase_team.specs.Limits.{most_phases, most_rows};
 ghost use Rattle.phase_team.specs.Strips.{window, shift_of};
@@ -64,19 +65,19 @@ fn load(strip: &mut Plane, whole: &Plane, first: u32)
 }
 
 // a strip's own tiles: all but those of its first row and of its last
-fn own_tiles(strip: &Plane) -> Own
+fn own_tiles(strip: &Plane, counted: Counted) -> Own
     requires rows { 2 ≤ strip.now.height / 64 }
     ensures first { result.first ≡ strip.now.width / 64 }
     ensures order { (result.first ≤ result.end) × (result.end ≤ tile_count strip.now) }
     ensures count { result.end - result.first ≡ own_tiles strip.now }
-    ensures counted { IsTrue result.counted.walls × IsTrue result.counted.obstacles }
+    ensures counted { result.counted ≡ counted }
     ensures lattice { IsLattice strip.now }
 {
     let first = u32::from(strip.size().width() / 64);
     Own {
         first,
         end: strip.size().tiles() - first,
-        counted: Counted::BOTH,
+        counted,
     }
 }
 
@@ -92,7 +93,7 @@ fn act_on_strip(strip: &mut Plane, exchange: &Exchange, first: u32, down: u32, p
 {
     let across = u32::from(strip.size().width() / 64);
     let tiles = strip.size().tiles();
-    let own = own_tiles(strip);
+    let own = own_tiles(strip, Counted::BOTH);
     let mut moved = Moved::ZERO;
     if exchange.is_still() {
         return moved;
@@ -113,7 +114,7 @@ fn act_on_strip(strip: &mut Plane, exchange: &Exchange, first: u32, down: u32, p
 }
 
 // What happens on a strip: n phases, the first of this parity, with an exchange on its lattice after each. Its own rows begin
-// at row of tiles `first` of `down`.
+// at row of tiles `first` of `down`. It is counted what is taken in the accounts that are kept.
 #[derive(Drop)]
 struct StripRun<'a> {
     parity: u8,
@@ -121,6 +122,7 @@ struct StripRun<'a> {
     turns: &'a [Exchange],
     first: u32,
     down: u32,
+    counted: Counted,
 }
 
 // Makes it on a strip as a torus of its own: what it comes to in the strip's own tiles.
@@ -138,14 +140,14 @@ fn make(run: StripRun<'_>, solids: Solids<'_>, cells: &mut Plane, spare: &mut Pl
         (all_there (listed p.turns.now) p.first p.down) cells.old p.n }
     ensures spare { HasSidesOf spare.new cells.old }
     ensures flow { let p = run.entry in let s = solids.entry in result ≡
-        own_flow p.parity s.walls.now s.obstacles.now
-        (all_there (listed p.turns.now) p.first p.down) cells.old p.n }
+        flow_counted p.counted (own_flow p.parity s.walls.now s.obstacles.now
+        (all_there (listed p.turns.now) p.first p.down) cells.old p.n) }
 {
     let action = Listed { turns: run.turns };
     let mut flow = Flow::ZERO;
     for k in 0..run.n {
         let now = parity_at(run.parity, k);
-        let own = own_tiles(cells);
+        let own = own_tiles(cells, run.counted);
         let took = turn_in_place(cells, solids, now, own, spare);
         let turn = action.after_phase(k);
         let moved = act_on_strip(cells, &turn, run.first, run.down, 1 - now);
@@ -178,8 +180,8 @@ fn make_prepared(
     ensures sites { AllHaveSidesOf sites.new cells.old }
     ensures spare { HasSidesOf spare.new cells.old }
     ensures flow { let p = run.entry in result ≡
-        own_flow p.parity walls.now obstacles.now
-        (all_there (listed p.turns.now) p.first p.down) cells.old p.n }
+        flow_counted p.counted (own_flow p.parity walls.now obstacles.now
+        (all_there (listed p.turns.now) p.first p.down) cells.old p.n) }
 {
     if run.n < LONG_RUN || are_none(walls, obstacles) {
         let solids = Solids::new(walls, obstacles);
@@ -239,6 +241,7 @@ impl Strip {
             turns: course.turns,
             first: *first,
             down,
+            counted: course.counted,
         };
         *flow = make_prepared(run, walls, obstacles, sites, cells, spare);
     }

@@ -1,16 +1,20 @@
-use Rattle.std.proofs.Common.{rules, ℕ, ◌+◌, ◌≤◌, refl, sym, ap, ap₂, ◌∙◌, arith, min}
+use Rattle.std.proofs.Common.{rules, ℕ, ◌+◌, ◌≤◌, refl, sym, subst, ap, ap₂, ◌∙◌, arith, min}
 use Rattle.std.proofs.Math.Nat.{min-eq_left}
 use Rattle.gas_terms.specs.Cells.{Cells, Extent, joined, tile_count}
 use Rattle.gas_plane.proofs.PlaneCounts.{few_tiles}
-use Rattle.phase_step.specs.Actions.{Leaves}
-use Rattle.phase_step.proofs.ActionRuns.{sides_with, sides_as_with}
+use Rattle.phase_step.specs.Actions.{Leaves, flow_with, flow_plus, FlowsFit}
+use Rattle.phase_step.specs.Balance.{flow_counted}
+use Rattle.phase_step.specs.declared.sums.flow.Flow.{Flow}
+use Rattle.phase_step.proofs.ActionRuns.{same_flow, sides_with, sides_as_with}
+use Rattle.phase_step.proofs.Balances.{flows_counted, counted_fit}
+use Rattle.phase_step.proofs.RunTakes.{counted_none}
 use Rattle.phase_step.proofs.ActionParts.{IsPartWith, part_after_with, part_flow, part_flow_fits}
 use Rattle.phase_team.proofs.runs.run_by.Given.{Over}
 use Rattle.phase_team.proofs.runs.run_by.Goals.{After-stretch-here}
 use Rattle.phase_team.proofs.runs.run_by.Goals as goal
 
 pub loop-done-init : goal.loop-done-init
-loop-done-init g c = record { crew = refl; few = omega arith; cells = refl; spare = c.requires.spare; flow = refl }
+loop-done-init g c = record { crew = refl; few = omega arith; cells = refl; spare = c.requires.spare; flow = same_flow _ _ (counted_none c.args.counted) refl }
 
 pub stretch-here-requires-clause-size : goal.stretch-here-requires-clause-size
 stretch-here-requires-clause-size g c =
@@ -38,23 +42,30 @@ stretch-here-requires-clause-spare g c =
 abbrev turns_from : (ℕ → Leaves) → ℕ → ℕ → Leaves
 turns_from leaves done k x y held = leaves (min (done + k) 65535) x y held
 
--- the stretch is the part of the run that comes next
+-- The stretch is the part of the run that comes next: all that it comes to, and what of it is in the accounts that are kept.
+abbrev all_of : (g : Over) (c : After-stretch-here g) → Flow
+all_of g c =
+    flow_with c.parity_at.result c.args.run.walls.now c.args.run.obstacles.now (turns_from (g.A.Action.leaves c.args.run.action.now) c.loop-done.done) c.loop-done.particles c.min-next.result
+
 is_part : (g : Over) (c : After-stretch-here g)
-    → IsPartWith c.args.run.parity c.args.run.walls.now c.args.run.obstacles.now (g.A.Action.leaves c.args.run.action.now) c.args.particles.now c.loop-done.done c.min-next.result c.parity_at.result c.loop-done.particles c.stretch-here.new.particles (turns_from (g.A.Action.leaves c.args.run.action.now) c.loop-done.done) c.stretch-here.result
+    → IsPartWith c.args.run.parity c.args.run.walls.now c.args.run.obstacles.now (g.A.Action.leaves c.args.run.action.now) c.args.particles.now c.loop-done.done c.min-next.result c.parity_at.result c.loop-done.particles c.stretch-here.new.particles (turns_from (g.A.Action.leaves c.args.run.action.now) c.loop-done.done) (all_of g c)
 is_part g c =
     record {
       at = c.loop-done.invariant.cells;
       parity = c.parity_at.ensures.parity;
       same = λ k h x y held. ap (λ j. g.A.Action.leaves c.args.run.action.now j x y held) (min-eq_left (let few : c.loop-done.done + c.min-next.result ≤ c.args.run.n = search rules in omega (arith, few, h)));
       cells = c.stretch-here.ensures.particles;
-      flow = c.stretch-here.ensures.flow;
+      flow = refl;
     }
 
 pub plus-flow-requires : goal.plus-flow-requires
 plus-flow-requires g c =
     let run = c.args.run in
     let leaves = g.A.Action.leaves run.action.now in
-    part_flow_fits run.parity run.walls.now run.obstacles.now leaves c.args.particles.now c.loop-done.done c.min-next.result c.parity_at.result c.loop-done.particles c.stretch-here.new.particles (turns_from leaves c.loop-done.done) c.loop-done.flow c.stretch-here.result (is_part g (goal.at.plus-flow-requires g c).After-stretch-here) c.loop-done.invariant.flow (omega arith) (search rules) c.requires.lattice.sized (few_tiles c.args.particles.now (tile_count c.args.particles.now) c.requires.lattice (omega arith))
+    let so_far = flow_with run.parity run.walls.now run.obstacles.now leaves c.args.particles.now c.loop-done.done in
+    let all = all_of g (goal.at.plus-flow-requires g c).After-stretch-here in
+    let fits = part_flow_fits run.parity run.walls.now run.obstacles.now leaves c.args.particles.now c.loop-done.done c.min-next.result c.parity_at.result c.loop-done.particles c.stretch-here.new.particles (turns_from leaves c.loop-done.done) so_far all (is_part g (goal.at.plus-flow-requires g c).After-stretch-here) refl (omega arith) (search rules) c.requires.lattice.sized (few_tiles c.args.particles.now (tile_count c.args.particles.now) c.requires.lattice (omega arith)) in
+    subst (λ (f : Flow). FlowsFit f c.stretch-here.result) (sym c.loop-done.invariant.flow) (subst (FlowsFit (flow_counted c.args.counted so_far)) (sym c.stretch-here.ensures.flow) (counted_fit c.args.counted so_far all fits))
 
 pub loop-done-preserved : goal.loop-done-preserved
 loop-done-preserved g c =
@@ -62,11 +73,17 @@ loop-done-preserved g c =
     let was = c.loop-done.invariant in
     let leaves = g.A.Action.leaves run.action.now in
     let is = is_part g (goal.at.loop-done-preserved g c).After-stretch-here in
+    let all = all_of g (goal.at.loop-done-preserved g c).After-stretch-here in
+    let so_far = flow_with run.parity run.walls.now run.obstacles.now leaves c.args.particles.now c.loop-done.done in
     let sides = sides_with run.parity (joined run.walls.now run.obstacles.now) leaves c.args.particles.now c.loop-done.done in
     record {
       crew = c.stretch-here.ensures.size ∙ was.crew;
       few = search rules;
-      cells = part_after_with run.parity run.walls.now run.obstacles.now leaves c.args.particles.now c.loop-done.done c.min-next.result c.parity_at.result c.loop-done.particles c.stretch-here.new.particles (turns_from leaves c.loop-done.done) c.stretch-here.result is;
+      cells = part_after_with run.parity run.walls.now run.obstacles.now leaves c.args.particles.now c.loop-done.done c.min-next.result c.parity_at.result c.loop-done.particles c.stretch-here.new.particles (turns_from leaves c.loop-done.done) all is;
       spare = record { wide = c.stretch-here.ensures.spare.wide ∙ (ap (λ (d : Cells). d.width) was.cells ∙ sides.wide); high = c.stretch-here.ensures.spare.high ∙ (ap (λ (d : Cells). d.height) was.cells ∙ sides.high) };
-      flow = c.plus-flow.ensures ∙ part_flow run.parity run.walls.now run.obstacles.now leaves c.args.particles.now c.loop-done.done c.min-next.result c.parity_at.result c.loop-done.particles c.stretch-here.new.particles (turns_from leaves c.loop-done.done) c.loop-done.flow c.stretch-here.result is was.flow;
+      flow =
+          c.plus-flow.ensures
+          ∙ (ap₂ flow_plus was.flow c.stretch-here.ensures.flow
+          ∙ (flows_counted c.args.counted so_far all
+          ∙ ap (flow_counted c.args.counted) (part_flow run.parity run.walls.now run.obstacles.now leaves c.args.particles.now c.loop-done.done c.min-next.result c.parity_at.result c.loop-done.particles c.stretch-here.new.particles (turns_from leaves c.loop-done.done) so_far all is refl)));
     }

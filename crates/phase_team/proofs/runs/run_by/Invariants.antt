@@ -1,6 +1,7 @@
 use Rattle.std.proofs.Common.{◌≡◌, ◌≤◌, ◌-◌}
 use Rattle.gas_terms.specs.Cells.{joined, HasSidesOf}
 use Rattle.phase_step.specs.Actions.{after_with, flow_with}
+use Rattle.phase_step.specs.Balance.{flow_counted}
 use Rattle.phase_team.proofs.runs.run_by.Given as goal
 
 abbrev pub invariant-loop-done : goal.invariant-loop-done
@@ -9,7 +10,7 @@ invariant-loop-done g l = record {
   few : l.done ≤ l.run.n;
   cells : l.particles ≡ after_with l.run.parity (joined l.run.walls.now l.run.obstacles.now) (g.A.Action.leaves l.run.action.now) l.initial.particles l.done;
   spare : HasSidesOf l.spare l.initial.particles;
-  flow : l.flow ≡ flow_with l.run.parity l.run.walls.now l.run.obstacles.now (g.A.Action.leaves l.run.action.now) l.initial.particles l.done;
+  flow : l.flow ≡ flow_counted l.counted (flow_with l.run.parity l.run.walls.now l.run.obstacles.now (g.A.Action.leaves l.run.action.now) l.initial.particles l.done);
 }
 
 abbrev pub decreases-loop-done : goal.decreases-loop-done

@@ -1,5 +1,6 @@
-use Rattle.std.proofs.Common.{rules, All, List, ◌∙◌, sym, subst}
+use Rattle.std.proofs.Common.{rules, All, List, ◌∙◌, ap, sym, subst}
 use Rattle.gas_terms.specs.Cells.{Extent, joined}
+use Rattle.phase_step.specs.Balance.{flow_counted}
 use Rattle.phase_step.specs.Exchanges.{Areas, listed}
 use Rattle.phase_step.proofs.ActionParts.{after_same, flow_same}
 use Rattle.phase_team.specs.Work.{Lists, IsRoomFor}
@@ -20,7 +21,7 @@ returns-in-Some-clause-flow g c =
     let leaves = g.A.Action.leaves run.action.now in
     let all : Lists c.list.new.turns.items leaves run.n = search rules in
     let same : Lists c.as_slice.result.now leaves run.n = subst (λ (turns : List Areas). Lists turns leaves run.n) (sym c.as_slice.ensures.value) all in
-    c.in-Some.ensures.flow ∙ flow_same run.parity run.walls.now run.obstacles.now (listed c.as_slice.result.now) leaves c.args.particles.now run.n same
+    c.in-Some.ensures.flow ∙ ap (flow_counted c.args.counted) (flow_same run.parity run.walls.now run.obstacles.now (listed c.as_slice.result.now) leaves c.args.particles.now run.n same)
 
 pub make_strips-requires-clause-rooms : goal.make_strips-requires-clause-rooms
 make_strips-requires-clause-rooms g c =

@@ -1,17 +1,21 @@
-use Rattle.std.proofs.Common.{◌-◌, ◌*◌, ◌/◌, ◌≤◌, refl, sym, ◌∙◌, subst, ap₂, arith}
+use Rattle.std.proofs.Common.{◌≡◌, ◌-◌, ◌*◌, ◌/◌, ◌≤◌, refl, sym, ◌∙◌, subst, ap, ap₂, arith}
 use Rattle.gas_terms.specs.Cells.{Cells, joined, tile_count}
 use Rattle.gas_plane.proofs.PlaneCounts.{few_tiles}
 use Rattle.phase_step.specs.declared.sums.flow.Flow.{Flow}
-use Rattle.phase_step.proofs.ActionRuns.{sides_as_with, sides_at_start}
+use Rattle.phase_step.proofs.ActionRuns.{same_flow, sides_as_with, sides_at_start}
 use Rattle.phase_step.specs.Runs.{tiles_take}
-use Rattle.phase_team.specs.ActionStrips.{all_there}
+use Rattle.phase_team.specs.ActionStrips.{all_there, own_take, own_flow}
 use Rattle.phase_team.proofs.OwnPhases.{rows_with, own_phase, own_next, own_flow_next, own_flow_fits}
 use Rattle.phase_step.specs.Exchanges.{leaves_of, listed}
-use Rattle.phase_step.proofs.RunTakes.{counted_both}
+use Rattle.phase_step.proofs.RunTakes.{counted_none}
+use Rattle.phase_step.proofs.Balances.{flows_counted, counted_fit}
+use Rattle.phase_step.specs.Actions.{flow_plus, FlowsFit}
+use Rattle.phase_step.specs.Balance.{flow_counted}
+use Rattle.block_rule.specs.Accounts.{counted_of}
 use Rattle.phase_team.proofs.runs.strip.make.Goals as goal
 
 pub loop-k-init : goal.loop-k-init
-loop-k-init c = record { cells = refl; spare = c.requires.spare; flow = refl }
+loop-k-init c = record { cells = refl; spare = c.requires.spare; flow = same_flow _ _ (counted_none c.args.run.counted) refl }
 
 pub turn_in_place-took-requires-clause-walls : goal.turn_in_place-took-requires-clause-walls
 turn_in_place-took-requires-clause-walls c =
@@ -39,28 +43,49 @@ act_on_strip-moved-requires-clause-rows c =
     subst (λ (d : Cells). 2 ≤ d.height / 64) (sym c.turn_in_place-took.ensures.particles)
     (rows_with run.parity (joined c.args.solids.walls.now c.args.solids.obstacles.now) (all_there (listed run.turns.now) run.first run.down) c.args.cells.now c.loop-k.cells c.loop-k.k c.loop-k.invariant.cells c.requires.rows)
 
+-- all that was taken, and what of it is in the accounts that are kept
 pub plus-flow-requires : goal.plus-flow-requires
 plus-flow-requires c =
     let run = c.args.run in
-    let here : Flow = record { took = c.turn_in_place-took.result; moved = c.act_on_strip-moved.result } in
+    let w = c.args.solids.walls.now in
+    let o = c.args.solids.obstacles.now in
     let leaves = all_there (listed run.turns.now) run.first run.down in
+    let a = c.args.cells.now.width / 64 in
+    let n = tile_count c.args.cells.now - 2 * (c.args.cells.now.width / 64) in
+    let kept = c.args.run.counted in
+    let all : Flow = record { took = own_take c.parity_at-now.result c.loop-k.cells w o; moved = c.act_on_strip-moved.result } in
+    let here : Flow = record { took = c.turn_in_place-took.result; moved = c.act_on_strip-moved.result } in
+    let here_is : here ≡ flow_counted kept all =
+    same_flow here (flow_counted kept all) (c.turn_in_place-took.ensures.took ∙ ap₂ counted_of c.own_tiles-own.ensures.counted (ap₂ (tiles_take c.parity_at-now.result c.loop-k.cells w o) c.own_tiles-own.ensures.first c.own_tiles-own.ensures.count)) refl in
+    let so_far = own_flow run.parity w o leaves c.args.cells.now c.loop-k.k in
+    let made = own_phase run.parity c.parity_at-now.result run.first run.down c.loop-k.k w o (listed run.turns.now) (leaves_of c.after_phase-turn.result) c.args.cells.now c.loop-k.cells c.turn_in_place-took.new.particles c.act_on_strip-moved.new.strip all
+    c.requires.parity c.loop-k.invariant.cells c.parity_at-now.ensures.parity c.turn_in_place-took.ensures.particles refl c.act_on_strip-moved.ensures.cells c.after_phase-turn.ensures c.act_on_strip-moved.ensures.moved in
     let few = few_tiles c.args.cells.now (tile_count c.args.cells.now) c.requires.lattice (omega arith) in
-    own_flow_fits run.parity c.args.solids.walls.now c.args.solids.obstacles.now leaves c.args.cells.now (c.args.cells.now.width / 64) (tile_count c.args.cells.now - 2 * (c.args.cells.now.width / 64)) c.loop-k.k c.loop-k.cells c.turn_in_place-took.new.particles c.act_on_strip-moved.new.strip c.loop-k.flow here
-    (own_phase run.parity c.parity_at-now.result run.first run.down c.loop-k.k c.args.solids.walls.now c.args.solids.obstacles.now (listed run.turns.now) (leaves_of c.after_phase-turn.result) c.args.cells.now c.loop-k.cells c.turn_in_place-took.new.particles c.act_on_strip-moved.new.strip here
-    c.requires.parity c.loop-k.invariant.cells c.parity_at-now.ensures.parity c.turn_in_place-took.ensures.particles (c.turn_in_place-took.ensures.took ∙ counted_both c.own_tiles-own.result.counted _ c.own_tiles-own.ensures.counted.0 c.own_tiles-own.ensures.counted.1 ∙ ap₂ (tiles_take c.parity_at-now.result c.loop-k.cells c.args.solids.walls.now c.args.solids.obstacles.now) c.own_tiles-own.ensures.first c.own_tiles-own.ensures.count) c.act_on_strip-moved.ensures.cells c.after_phase-turn.ensures c.act_on_strip-moved.ensures.moved)
-    c.loop-k.invariant.flow (omega (arith, few)) (let h = c.requires.phases in omega arith)
+    let fits = own_flow_fits run.parity w o leaves c.args.cells.now a n c.loop-k.k c.loop-k.cells c.turn_in_place-took.new.particles c.act_on_strip-moved.new.strip so_far all made refl (omega (arith, few)) (let h = c.requires.phases in omega arith) in
+    subst (λ (f : Flow). FlowsFit f here) (sym c.loop-k.invariant.flow) (subst (FlowsFit (flow_counted kept so_far)) (sym here_is) (counted_fit kept so_far all fits))
 
 pub loop-k-preserved : goal.loop-k-preserved
 loop-k-preserved c =
     let run = c.args.run in
-    let here : Flow = record { took = c.turn_in_place-took.result; moved = c.act_on_strip-moved.result } in
+    let w = c.args.solids.walls.now in
+    let o = c.args.solids.obstacles.now in
     let leaves = all_there (listed run.turns.now) run.first run.down in
     let a = c.args.cells.now.width / 64 in
     let n = tile_count c.args.cells.now - 2 * (c.args.cells.now.width / 64) in
-    let made = own_phase run.parity c.parity_at-now.result run.first run.down c.loop-k.k c.args.solids.walls.now c.args.solids.obstacles.now (listed run.turns.now) (leaves_of c.after_phase-turn.result) c.args.cells.now c.loop-k.cells c.turn_in_place-took.new.particles c.act_on_strip-moved.new.strip here
-    c.requires.parity c.loop-k.invariant.cells c.parity_at-now.ensures.parity c.turn_in_place-took.ensures.particles (c.turn_in_place-took.ensures.took ∙ counted_both c.own_tiles-own.result.counted _ c.own_tiles-own.ensures.counted.0 c.own_tiles-own.ensures.counted.1 ∙ ap₂ (tiles_take c.parity_at-now.result c.loop-k.cells c.args.solids.walls.now c.args.solids.obstacles.now) c.own_tiles-own.ensures.first c.own_tiles-own.ensures.count) c.act_on_strip-moved.ensures.cells c.after_phase-turn.ensures c.act_on_strip-moved.ensures.moved in
+    let kept = c.args.run.counted in
+    let all : Flow = record { took = own_take c.parity_at-now.result c.loop-k.cells w o; moved = c.act_on_strip-moved.result } in
+    let here : Flow = record { took = c.turn_in_place-took.result; moved = c.act_on_strip-moved.result } in
+    let here_is : here ≡ flow_counted kept all =
+    same_flow here (flow_counted kept all) (c.turn_in_place-took.ensures.took ∙ ap₂ counted_of c.own_tiles-own.ensures.counted (ap₂ (tiles_take c.parity_at-now.result c.loop-k.cells w o) c.own_tiles-own.ensures.first c.own_tiles-own.ensures.count)) refl in
+    let so_far = own_flow run.parity w o leaves c.args.cells.now c.loop-k.k in
+    let made = own_phase run.parity c.parity_at-now.result run.first run.down c.loop-k.k w o (listed run.turns.now) (leaves_of c.after_phase-turn.result) c.args.cells.now c.loop-k.cells c.turn_in_place-took.new.particles c.act_on_strip-moved.new.strip all
+    c.requires.parity c.loop-k.invariant.cells c.parity_at-now.ensures.parity c.turn_in_place-took.ensures.particles refl c.act_on_strip-moved.ensures.cells c.after_phase-turn.ensures c.act_on_strip-moved.ensures.moved in
     record {
-      cells = own_next run.parity c.args.solids.walls.now c.args.solids.obstacles.now leaves c.args.cells.now a n c.loop-k.k c.loop-k.cells c.turn_in_place-took.new.particles c.act_on_strip-moved.new.strip here made;
-      spare = sides_at_start run.parity (joined c.args.solids.walls.now c.args.solids.obstacles.now) leaves c.args.cells.now c.loop-k.cells c.turn_in_place-took.new.spare c.loop-k.k c.loop-k.invariant.cells c.turn_in_place-took.ensures.spare;
-      flow = c.plus-flow.ensures ∙ own_flow_next run.parity c.args.solids.walls.now c.args.solids.obstacles.now leaves c.args.cells.now a n c.loop-k.k c.loop-k.cells c.turn_in_place-took.new.particles c.act_on_strip-moved.new.strip c.loop-k.flow here made c.loop-k.invariant.flow;
+      cells = own_next run.parity w o leaves c.args.cells.now a n c.loop-k.k c.loop-k.cells c.turn_in_place-took.new.particles c.act_on_strip-moved.new.strip all made;
+      spare = sides_at_start run.parity (joined w o) leaves c.args.cells.now c.loop-k.cells c.turn_in_place-took.new.spare c.loop-k.k c.loop-k.invariant.cells c.turn_in_place-took.ensures.spare;
+      flow =
+          c.plus-flow.ensures
+          ∙ (ap₂ flow_plus c.loop-k.invariant.flow here_is
+          ∙ (flows_counted kept so_far all
+          ∙ ap (flow_counted kept) (own_flow_next run.parity w o leaves c.args.cells.now a n c.loop-k.k c.loop-k.cells c.turn_in_place-took.new.particles c.act_on_strip-moved.new.strip so_far all made refl)));
     }

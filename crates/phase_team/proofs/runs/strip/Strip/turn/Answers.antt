@@ -4,6 +4,7 @@ use Rattle.phase_step.specs.Actions.{Leaves, after_with}
 use Rattle.phase_step.proofs.ActionRuns.{sides_with}
 use Rattle.phase_step.proofs.SitesInTiles.{all_sides_as}
 use Rattle.phase_team.specs.Strips.{IsStrip, window, shift_of}
+use Rattle.phase_step.specs.Balance.{flow_counted}
 use Rattle.phase_team.specs.ActionStrips.{shifted_all, own_flow, tiles_flow}
 use Rattle.phase_team.proofs.Turned.{own_count, window_as, same_sides}
 use Rattle.phase_team.proofs.ActionTurned.{own_is_with, flow_is_with, acts_are}
@@ -57,7 +58,7 @@ returns-clause-done c =
       own = subst (λ (d : Cells). IsStrip d (after_with course.parity (joined walls obstacles) leaves cells course.phases) shift 64 (64 + rows * 64)) (sym made)
           (own_is_with course.parity first rows course.phases walls obstacles cells leaves sized course.of_walls course.of_obstacles course.few);
       flow = c.make_prepared.ensures.flow
-          ∙ (ap (λ (acts : ℕ → Leaves). own_flow course.parity hw ho acts sc course.phases) acts
+          ∙ ap (flow_counted course.counted) (ap (λ (acts : ℕ → Leaves). own_flow course.parity hw ho acts sc course.phases) acts
           ∙ (ap₂ (λ (hw ho : Cells). own_flow course.parity hw ho turns sc course.phases) hw_is ho_is
           ∙ (ap (λ (sc : Cells). own_flow course.parity (window walls shift h) (window obstacles shift h) turns sc course.phases) sc_is
           ∙ (ap (λ n. tiles_flow course.parity (window walls shift h) (window obstacles shift h) turns (window cells shift h) (cells.width / 64) n course.phases) (own_count (cells.width / 64) rows)
