@@ -20,12 +20,12 @@ use Rattle.gas_terms.specs.declared.accounts.Pair.{Pair}
 use Rattle.block_rule.specs.Accounts.{if_counted, counted_of}
 use Rattle.block_rule.specs.declared.walled.Counted.{Counted}
 use Rattle.block_rule.specs.Around.{block_start, is_block_walled, turned, none, either, is_walled_at, is_for_walls, twice_momentum, taken}
-use Rattle.block_rule.specs.Cell.{turned_cell, turned_at, made}
-use Rattle.block_rule.specs.Classes.{class, AreCounts, IsHeldIn, TellsWords}
+use Rattle.block_rule.specs.Cell.{turned_cell, turned_at, made, spared, unless}
+use Rattle.block_rule.specs.Classes.{class, AreCounts, TellsWords}
 use Rattle.block_rule.specs.Rows.{ShowsTile}
 use Rattle.block_rule.specs.Lent.{HasNoCell, TellsRows, ArePlacesOf, IsLentOf, AreWalledCells}
 use Rattle.block_rule.specs.declared.walled.Places.{Places}
-use Rattle.block_rule.specs.declared.hold.Classes.{Classes}
+use Rattle.block_rule.specs.declared.count.Classes.{Classes}
 use Rattle.block_rule.proofs.Around.{turned_by_cells, walled_from, walled_by_cells}
 use Rattle.block_rule.proofs.Blank.{walled_either}
 use Rattle.gas_terms.specs.declared.accounts.Took.{Took}
@@ -56,15 +56,7 @@ held_cell : (w m t own beside facing across : Bool) → t ≡ own → m ≡ turn
 held_cell true m t own beside facing across e f = e
 held_cell false m t own beside facing across e f = f
 
--- a cell of a row of blocks, which stays where its block is walled
-pub collided_bit : (old new walled i : ℕ) → walled < 2 ^ 32 → i < 32 → (beside facing across : Bool) → bit new i ≡ turned_cell false (bit old i) beside facing across → bit (bit_or (bit_and old walled) (bit_and new (bit_not w32 walled))) i ≡ turned_cell (bit walled i) (bit old i) beside facing across
-collided_bit old new walled i fits within beside facing across is =
-    held_word old new walled i fits within ∙ held_cell (bit walled i) (bit new i) (bit old i) _ _ _ _ refl is
-
 -- a row without places
-nothing_there : (places i : ℕ) (a b : Bool) → bit places i ≡ false → b ≡ (if bit places i then a else b)
-nothing_there places i a b e = rw e refl
-
 none_among : (row places : ℕ) → ((i : ℕ) → i < 32 → bit places i ≡ false) → count_below 32 (λ i. bit row i && bit places i) ≡ 0
 none_among row places none = count_below-same 32 _ (λ _. false) (λ i h. and_false (bit row i) (bit places i) (none i h)) ∙ count_below-none 32
 
@@ -95,57 +87,13 @@ no_rows_more old places from (suc n) none =
     ap (λ m. sum_below m (among old places)) (let e : from + suc n ≡ from + n + 1 = omega arith in e)
     ∙ (no_row_more old places (from + n) (λ i h. none i (from + n) h (omega arith) (omega arith)) ∙ no_rows_more old places from n (λ i k h low high. none i k h low (omega arith)))
 
--- eight rows of which a word tells nothing
-pub not_told : (rows k : ℕ) → rows / 2 ^ (8 * k) % 256 ≡ 0 → (j : ℕ) → 8 * k ≤ j → j < 8 * k + 8 → bit rows j ≡ false
-not_told rows k e j low high =
-    let same : j ≡ 8 * k + (j - 8 * k) = omega arith in
+-- rows of which a word tells nothing
+pub not_told : (rows from n : ℕ) → rows / 2 ^ from % 2 ^ n ≡ 0 → (j : ℕ) → from ≤ j → j < from + n → bit rows j ≡ false
+not_told rows from n e j low high =
+    let same : j ≡ from + (j - from) = omega arith in
     ap (bit rows) same
-    ∙ (sym (bit-shr rows (8 * k) (j - 8 * k))
-    ∙ (sym (bit_of_low (rows / 2 ^ (8 * k)) 8 (j - 8 * k) (omega arith)) ∙ rw e (bit-zero (j - 8 * k))))
-
-pub not_row : (j from k : ℕ) → (j < from) ⊎ (from + (k + 1) ≤ j) → j ≡ from + k → ⊥
-not_row j from k (inl h) e = omega arith
-not_row j from k (inr h) e = omega arith
-
-pub outside_row : (j from k : ℕ) → (j < from) ⊎ (from + (k + 1) ≤ j) → (j < from) ⊎ (from + k ≤ j)
-outside_row j from k (inl h) = inl h
-outside_row j from k (inr h) = inr (omega arith)
-
-pub row_from : (j from k : ℕ) → k ≡ 8 → (j < from) ⊎ (from + 8 ≤ j) → (j < from) ⊎ (from + k ≤ j)
-row_from j from k e (inl h) = inl h
-row_from j from k e (inr h) = inr (omega arith)
-
--- a class whose first rows, eight at a time, have the old cells back
-pub nothing_held : (old places before : List ℕ) → IsHeldIn 0 0 old places before before
-nothing_held old places before = record { cells = λ i j _ _ below. absurd (omega arith); rest = λ j _. refl }
-
-outside_next : (j k : ℕ) → (j < 0) ⊎ ((k + 1) * 8 ≤ j) → (j < k * 8) ⊎ (k * 8 + 8 ≤ j)
-outside_next j k (inl h) = absurd (omega arith)
-outside_next j k (inr h) = inr (omega arith)
-
-outside_now : (j k : ℕ) → (j < 0) ⊎ ((k + 1) * 8 ≤ j) → (j < 0) ⊎ (k * 8 ≤ j)
-outside_now j k (inl h) = absurd (omega arith)
-outside_now j k (inr h) = inr (omega arith)
-
-pub held_more : (old places before class after : List ℕ) (k : ℕ) → IsHeldIn 0 (k * 8) old places before class → IsHeldIn (k * 8) (k * 8 + 8) old places class after → IsHeldIn 0 ((k + 1) * 8) old places before after
-held_more old places before class after k was here =
-    record {
-      cells = λ i j h _ below. elim (cases_lt j (k * 8)) [
-        | inl low ↦ ap (λ w. bit w i) (here.rest j (inl low)) ∙ was.cells i j h (omega arith) low
-        | inr high ↦ here.cells i j h high (omega arith) ∙ ap (λ w. if bit (get_or places j 0) i then bit (get_or old j 0) i else bit w i) (was.rest j (inr high))
-      ];
-      rest = λ j outside. here.rest j (outside_next j k outside) ∙ was.rest j (outside_now j k outside);
-    }
-
-pub none_more : (old places before class : List ℕ) (k : ℕ) → IsHeldIn 0 (k * 8) old places before class → ((i j : ℕ) → i < 32 → k * 8 ≤ j → j < k * 8 + 8 → bit (get_or places j 0) i ≡ false) → IsHeldIn 0 ((k + 1) * 8) old places before class
-none_more old places before class k was none =
-    record {
-      cells = λ i j h _ below. elim (cases_lt j (k * 8)) [
-        | inl low ↦ was.cells i j h (omega arith) low
-        | inr high ↦ ap (λ w. bit w i) (was.rest j (inr high)) ∙ nothing_there (get_or places j 0) i _ _ (none i j h high (omega arith))
-      ];
-      rest = λ j outside. was.rest j (outside_now j k outside);
-    }
+    ∙ (sym (bit-shr rows from (j - from))
+    ∙ (sym (bit_of_low (rows / 2 ^ from) n (j - from) (omega arith)) ∙ rw e (bit-zero (j - from))))
 
 -- the particles of a class in these places
 pub class_among : (old places : List ℕ) (p q n : ℕ) (had there : ℕ → ℕ → Bool) → p < 2 → q < 2 → IsClass old p q had → IsClass places p q there → n ≡ sum_below 32 (among old places) → n ≡ class (λ x y. had x y && there x y) p q
@@ -153,12 +101,6 @@ class_among old places p q n had there p_two q_two is_old is_places counted =
     counted
     ∙ (sum_below-same 32 _ _ (λ k in_column. count_below-same 32 _ (λ i. had (2 * i + p) (2 * k + q) && there (2 * i + p) (2 * k + q)) (λ i in_row. ap₂ (λ a b. a && b) (is_old i k in_row in_column) (is_places i k in_row in_column)))
     ∙ sym (class_count (λ x y. had x y && there x y) p q p_two q_two))
-
-pub class_held : (old places before class : List ℕ) (p q : ℕ) (had there was : ℕ → ℕ → Bool) → IsClass old p q had → IsClass places p q there → IsClass before p q was → IsHeldIn 0 32 old places before class → IsClass class p q (λ x y. if there x y then had x y else was x y)
-class_held old places before class p q had there was is_old is_places is_before is i j h k =
-    is.cells i j h (omega arith) k
-    ∙ (ap (λ t. if t then bit (get_or old j 0) i else bit (get_or before j 0) i) (is_places i j h k)
-    ∙ ap₂ (λ a b. if there (2 * i + p) (2 * j + q) then a else b) (is_old i j h k) (is_before i j h k))
 
 -- the momentum of counts, at either parity
 pub small_again : (v : ℤ) (r l : ℕ) → r ≤ 2048 → l ≤ 2048 → v ≡ pos (2 * r) -ℤ pos (2 * l) → to_z w64 (of_z w64 v) ≡ pos (2 * r) -ℤ pos (2 * l)
@@ -196,6 +138,20 @@ turned_of_both p tile free out window walls obstacles shows is_free is_out =
     turned_of_held p tile free out window (either walls obstacles) shows
     (λ x y h k. is_free x y h k ∙ sym (turned_by_cells p window false x y))
     (λ x y h k. is_out x y h k ∙ ap (λ b. if b then has tile x y else has free x y) (sym (walled_either p walls obstacles x y)))
+
+-- the same, where the rule spares the cells of two sets
+spared_cells : (w o own beside facing across : Bool) → unless o (unless (w && not o) (turned_cell false)) own beside facing across ≡ turned_cell (w || o) own beside facing across
+spared_cells true true own beside facing across = refl
+spared_cells true false own beside facing across = refl
+spared_cells false true own beside facing across = refl
+spared_cells false false own beside facing across = refl
+
+pub turned_among : (p : ℕ) (out : Tile) (window walls obstacles : ℕ → ℕ → Bool) → HasCells out (λ x y. made (spared (is_for_walls p walls obstacles) (is_walled_at p obstacles) (turned_cell false) x y) p window x y) → HasCells out (turned p window (either walls obstacles))
+turned_among p out window walls obstacles is x y h k =
+    is x y h k
+    ∙ (spared_cells (is_walled_at p walls x y) (is_walled_at p obstacles x y) _ _ _ _
+    ∙ (ap (λ b. turned_at p window b x y) (sym (walled_either p walls obstacles x y))
+    ∙ sym (turned_by_cells p window (is_walled_at p (either walls obstacles) x y) x y)))
 
 pub walled_places : (p : ℕ) (t : Tile) (window : ℕ → ℕ → Bool) → HasCells t (λ x y. walled_from p window x y) → HasCells t (is_walled_at p window)
 walled_places p t window is x y h k = is x y h k ∙ sym (walled_by_cells p window x y)
@@ -252,7 +208,7 @@ held_at tile before out places test is_places is_out x y h k =
 pub took_at : (p : ℕ) (tile places : Tile) (test : ℕ → ℕ → Bool) → HasCells places test → twice_momentum p (λ x y. has tile x y && has places x y) ≡ twice_momentum p (λ x y. has tile x y && test x y)
 took_at p tile places test is_places = twice_momentum-same p _ _ (λ x y h k. ap (λ b. has tile x y && b) (is_places x y h k))
 
-kept_of : (w t f : Bool) → w ≡ false → f ≡ (if w then t else f)
+pub kept_of : (w t f : Bool) → w ≡ false → f ≡ (if w then t else f)
 kept_of true t f e = cc
 kept_of false t f e = refl
 

@@ -1,12 +1,13 @@
 -- Rows of blocks, seen in the window of a tile and its ring.
-use Rattle.std.proofs.Common.{◌≡◌, refl, ◌⊎◌, ℕ, ◌+◌, ◌-◌, ◌*◌, ◌/◌, ◌%◌, ◌<◌, ◌≤◌, ◌==◌, Bool, if◌then◌else◌, List, length, get_or, set, sym, ◌∙◌, ap, ap₂, arith, inl, inr, get_or-set_other, get_or-set_same}
+use Rattle.std.proofs.Common.{◌≡◌, refl, ◌⊎◌, ℕ, ◌+◌, ◌-◌, ◌*◌, ◌/◌, ◌%◌, ◌<◌, ◌≤◌, ◌==◌, Bool, if◌then◌else◌, List, length, get_or, set, sym, subst, ◌∙◌, ap, ap₂, arith, inl, inr, get_or-set_other, get_or-set_same}
 use Rattle.std.proofs.lemmas.Bool.{cases_eq, cases_lt, eq-eqb, ne_eqb}
 use Rattle.bit_tile.specs.Bit.{bit}
 use Rattle.bit_tile.specs.Tile.{HasCells}
 use Rattle.bit_tile.specs.declared.Tile.{Tile}
 use Rattle.bit_tile.proofs.Classes.{by_class, even_even_at, odd_even_at, even_odd_at, odd_odd_at}
-use Rattle.block_rule.specs.Cell.{made, partner}
-use Rattle.block_rule.specs.Rows.{ShowsTile, ShowsRound, IsMade, ShowsRows, IsMadeOdd, even_row, odd_row, beside_left, beside_right, eight_row}
+use Rattle.block_rule.specs.Cell.{made, partner, spared, unless}
+use Rattle.block_rule.specs.Rows.{ShowsTile, ShowsRound, IsMade, ShowsRows, IsMadeOdd, AreMadeOdd, AreUpper, AreLower, IsSpared, IsSparedRow, even_row, odd_row, beside_left, beside_right, eight_row}
+use Rattle.block_rule.specs.declared.blocks.Beside.{Beside}
 use Rattle.block_rule.specs.declared.blocks.Blocks.{Blocks}
 use Rattle.block_rule.specs.declared.blocks.EightRows.{EightRows}
 
@@ -117,28 +118,34 @@ even_cells cell window tile out shows done =
         ap₂ (λ r c. made (cell r c) 0 window (2 * i + a) (2 * j + b)) row column
 
 -- a loop writes row j of odd blocks
-pub odd_row_more : (cell : Bool → Bool → Bool → Bool → Bool) (window : ℕ → ℕ → Bool) (out : Tile) (new : Blocks) (from j : ℕ) → j < length out.odd_odd → j < length out.even_odd → j + 1 < length out.odd_even → j + 1 < length out.even_even →
-    ((k : ℕ) → from ≤ k → k < j → IsMadeOdd cell window (2 * k + 2) (odd_row out k)) → IsMadeOdd cell window (2 * j + 2) new → (k : ℕ) → from ≤ k → k < j + 1 →
-    IsMadeOdd cell window (2 * k + 2) (odd_row (record { even_even = set out.even_even (j + 1) new.lower_right; odd_even = set out.odd_even (j + 1) new.lower_left; even_odd = set out.even_odd j new.upper_right; odd_odd = set out.odd_odd j new.upper_left }) k)
-odd_row_more cell window out new from j oo eo oe ee before here k low below =
-    elim (cases_eq k j) [
-      | inl same ↦ rw (same, get_or-set_same out.even_even (j + 1) new.lower_right 0 ee, get_or-set_same out.odd_even (j + 1) new.lower_left 0 oe, get_or-set_same out.even_odd j new.upper_right 0 eo, get_or-set_same out.odd_odd j new.upper_left 0 oo) here
-      | inr other ↦
-          let less : k < j = omega arith in
-          let next : k + 1 ≡ j + 1 → ⊥ = λ e. omega arith in
-          rw (get_or-set_other out.even_even (j + 1) (k + 1) new.lower_right 0 next, get_or-set_other out.odd_even (j + 1) (k + 1) new.lower_left 0 next, get_or-set_other out.even_odd j k new.upper_right 0 other, get_or-set_other out.odd_odd j k new.upper_left 0 other) (before k low less)
-    ]
+pub odd_row_set : (out : Tile) (new : Blocks) (j : ℕ) → j < length out.odd_odd → j < length out.even_odd → j + 1 < length out.odd_even → j + 1 < length out.even_even →
+    odd_row (record { even_even = set out.even_even (j + 1) new.lower_right; odd_even = set out.odd_even (j + 1) new.lower_left; even_odd = set out.even_odd j new.upper_right; odd_odd = set out.odd_odd j new.upper_left }) j ≡ new
+odd_row_set out new j oo eo oe ee =
+    same_blocks _ _ _ _ _ _ _ _ (get_or-set_same out.odd_odd j new.upper_left 0 oo) (get_or-set_same out.even_odd j new.upper_right 0 eo) (get_or-set_same out.odd_even (j + 1) new.lower_left 0 oe) (get_or-set_same out.even_even (j + 1) new.lower_right 0 ee)
+
+pub odd_row_rest : (out : Tile) (new : Blocks) (j k : ℕ) → k < j →
+    odd_row (record { even_even = set out.even_even (j + 1) new.lower_right; odd_even = set out.odd_even (j + 1) new.lower_left; even_odd = set out.even_odd j new.upper_right; odd_odd = set out.odd_odd j new.upper_left }) k ≡ odd_row out k
+odd_row_rest out new j k before =
+    let other : k ≡ j → ⊥ = λ e. omega arith in
+    let next : k + 1 ≡ j + 1 → ⊥ = λ e. omega arith in
+    same_blocks _ _ _ _ _ _ _ _ (get_or-set_other out.odd_odd j k new.upper_left 0 other) (get_or-set_other out.even_odd j k new.upper_right 0 other) (get_or-set_other out.odd_even (j + 1) (k + 1) new.lower_left 0 next) (get_or-set_other out.even_even (j + 1) (k + 1) new.lower_right 0 next)
 
 -- one more of eight rows
-pub eight_row_more : (cell : Bool → Bool → Bool → Bool → Bool) (window : ℕ → ℕ → Bool) (rows : EightRows) (new : Blocks) (from k : ℕ) → k < length rows.upper_left → k < length rows.upper_right → k < length rows.lower_left → k < length rows.lower_right →
-    ((m : ℕ) → m < k → IsMadeOdd cell window (2 * (from + m) + 2) (eight_row rows m)) → IsMadeOdd cell window (2 * (from + k) + 2) new → (m : ℕ) → m < k + 1 →
-    IsMadeOdd cell window (2 * (from + m) + 2) (eight_row (record { upper_left = set rows.upper_left k new.upper_left; upper_right = set rows.upper_right k new.upper_right; lower_left = set rows.lower_left k new.lower_left; lower_right = set rows.lower_right k new.lower_right }) m)
-eight_row_more cell window rows new from k ul ur ll lr before here m below =
+pub eight_more : (P : ℕ → Blocks → Type 0) (rows : EightRows) (new : Blocks) (k : ℕ) → k < length rows.upper_left → k < length rows.upper_right → k < length rows.lower_left → k < length rows.lower_right →
+    ((m : ℕ) → m < k → P m (eight_row rows m)) → P k new → (m : ℕ) → m < k + 1 →
+    P m (eight_row (record { upper_left = set rows.upper_left k new.upper_left; upper_right = set rows.upper_right k new.upper_right; lower_left = set rows.lower_left k new.lower_left; lower_right = set rows.lower_right k new.lower_right }) m)
+eight_more P rows new k ul ur ll lr before here m below =
     elim (cases_eq m k) [
       | inl same ↦ rw (same, get_or-set_same rows.upper_left k new.upper_left 0 ul, get_or-set_same rows.upper_right k new.upper_right 0 ur, get_or-set_same rows.lower_left k new.lower_left 0 ll, get_or-set_same rows.lower_right k new.lower_right 0 lr) here
       | inr other ↦
           rw (get_or-set_other rows.upper_left k m new.upper_left 0 other, get_or-set_other rows.upper_right k m new.upper_right 0 other, get_or-set_other rows.lower_left k m new.lower_left 0 other, get_or-set_other rows.lower_right k m new.lower_right 0 other) (before m (omega arith))
     ]
+
+pub eight_rest : (rows : EightRows) (new : Blocks) (k m : ℕ) → k < m →
+    eight_row (record { upper_left = set rows.upper_left k new.upper_left; upper_right = set rows.upper_right k new.upper_right; lower_left = set rows.lower_left k new.lower_left; lower_right = set rows.lower_right k new.lower_right }) m ≡ eight_row rows m
+eight_rest rows new k m after =
+    let other : m ≡ k → ⊥ = λ e. omega arith in
+    same_blocks _ _ _ _ _ _ _ _ (get_or-set_other rows.upper_left k m new.upper_left 0 other) (get_or-set_other rows.upper_right k m new.upper_right 0 other) (get_or-set_other rows.lower_left k m new.lower_left 0 other) (get_or-set_other rows.lower_right k m new.lower_right 0 other)
 
 pub upper_outside : (k from j : ℕ) → from ≤ j → (k < from) ⊎ (j + 1 ≤ k) → (k ≡ j → ⊥)
 upper_outside k from j order (inl h) e = omega arith
@@ -208,69 +215,109 @@ module _ (window : ℕ → ℕ → Bool) (t : Tile) (shows : ShowsTile window t)
         right_lower = round.below_right ∙ even_even_at dr 0 0;
       }
 
--- the upper and the lower rows of odd blocks after the rule
-pub record AreUpper (cell : Bool → Bool → Bool → Bool → Bool) (window : ℕ → ℕ → Bool) (y ul ur : ℕ) : Type 0 where
-  pub left : (i : ℕ) → i < 32 → bit ul i ≡ cell (window (2 * i + 2) y) (window (2 * i + 3) y) (window (2 * i + 2) (y + 1)) (window (2 * i + 3) (y + 1))
-  pub right : (i : ℕ) → i < 32 → bit ur i ≡ cell (window (2 * i + 1) y) (window (2 * i) y) (window (2 * i + 1) (y + 1)) (window (2 * i) (y + 1))
-
-pub record AreLower (cell : Bool → Bool → Bool → Bool → Bool) (window : ℕ → ℕ → Bool) (y ll lr : ℕ) : Type 0 where
-  pub left : (i : ℕ) → i < 32 → bit ll i ≡ cell (window (2 * i + 2) (y + 1)) (window (2 * i + 3) (y + 1)) (window (2 * i + 2) y) (window (2 * i + 3) y)
-  pub right : (i : ℕ) → i < 32 → bit lr i ≡ cell (window (2 * i + 1) (y + 1)) (window (2 * i) (y + 1)) (window (2 * i + 1) y) (window (2 * i) y)
-
-pub upper_of : (cell : Bool → Bool → Bool → Bool → Bool) (window : ℕ → ℕ → Bool) (y : ℕ) (new : Blocks) → IsMadeOdd cell window y new → AreUpper cell window y new.upper_left new.upper_right
+-- the words of a row after one rule
+pub upper_of : (cell : Bool → Bool → Bool → Bool → Bool) (window : ℕ → ℕ → Bool) (y : ℕ) (new : Blocks) → IsMadeOdd cell window y new → AreUpper (λ _. cell) (λ _. cell) window y new.upper_left new.upper_right
 upper_of cell window y new is = record { left = is.upper_left; right = is.upper_right }
 
-pub lower_of : (cell : Bool → Bool → Bool → Bool → Bool) (window : ℕ → ℕ → Bool) (y : ℕ) (new : Blocks) → IsMadeOdd cell window y new → AreLower cell window y new.lower_left new.lower_right
+pub lower_of : (cell : Bool → Bool → Bool → Bool → Bool) (window : ℕ → ℕ → Bool) (y : ℕ) (new : Blocks) → IsMadeOdd cell window y new → AreLower (λ _. cell) (λ _. cell) window y new.lower_left new.lower_right
 lower_of cell window y new is = record { left = is.lower_left; right = is.lower_right }
 
+-- and where the old cells of two sets stay
+spared_cell : (w o kept old made own beside facing across : Bool) (cell : Bool → Bool → Bool → Bool → Bool) → old ≡ own → made ≡ cell own beside facing across → kept ≡ (if w then old else made) → (if o then old else kept) ≡ unless o (unless w cell) own beside facing across
+spared_cell w o kept old made own beside facing across cell e f g = rw (g, e, f) refl
+
+module _ (cell : Bool → Bool → Bool → Bool → Bool) (window walled obstructed : ℕ → ℕ → Bool) (r y old_odd old_even odd even first_odd first_even last_odd last_even : ℕ)
+  (first : IsSpared walled r old_odd old_even odd even first_odd first_even) (last : IsSpared obstructed r old_odd old_even first_odd first_even last_odd last_even) where
+  pub spared_upper : ((i : ℕ) → i < 32 → window (2 * i + 2) y ≡ bit old_odd i) → ((i : ℕ) → i < 32 → window (2 * i + 1) y ≡ bit old_even i) → AreUpper (λ _. cell) (λ _. cell) window y odd even
+      → AreUpper (λ i. spared walled obstructed cell (2 * i + 1) r) (λ i. spared walled obstructed cell (2 * i + 0) r) window y last_odd last_even
+  spared_upper shows_odd shows_even are =
+      record {
+        left = λ i h. last.in_odd i h ∙ spared_cell (walled (2 * i + 1) r) (obstructed (2 * i + 1) r) _ _ _ _ _ _ _ cell (sym (shows_odd i h)) (are.left i h) (first.in_odd i h);
+        right = λ i h. last.in_even i h ∙ spared_cell (walled (2 * i + 0) r) (obstructed (2 * i + 0) r) _ _ _ _ _ _ _ cell (sym (shows_even i h)) (are.right i h) (first.in_even i h);
+      }
+
+  pub spared_lower : ((i : ℕ) → i < 32 → window (2 * i + 2) (y + 1) ≡ bit old_odd i) → ((i : ℕ) → i < 32 → window (2 * i + 1) (y + 1) ≡ bit old_even i) → AreLower (λ _. cell) (λ _. cell) window y odd even
+      → AreLower (λ i. spared walled obstructed cell (2 * i + 1) r) (λ i. spared walled obstructed cell (2 * i + 0) r) window y last_odd last_even
+  spared_lower shows_odd shows_even are =
+      record {
+        left = λ i h. last.in_odd i h ∙ spared_cell (walled (2 * i + 1) r) (obstructed (2 * i + 1) r) _ _ _ _ _ _ _ cell (sym (shows_odd i h)) (are.left i h) (first.in_odd i h);
+        right = λ i h. last.in_even i h ∙ spared_cell (walled (2 * i + 0) r) (obstructed (2 * i + 0) r) _ _ _ _ _ _ _ cell (sym (shows_even i h)) (are.right i h) (first.in_even i h);
+      }
+
+pub spared_row : (cell : Bool → Bool → Bool → Bool → Bool) (window walled obstructed : ℕ → ℕ → Bool) (j : ℕ) (old new first last : Blocks) (left right : Beside) → ShowsRows window (2 * j + 2) old left right → IsMadeOdd cell window (2 * j + 2) new
+    → IsSparedRow walled j old new first → IsSparedRow obstructed j old first last → AreMadeOdd (spared walled obstructed cell) window j last
+spared_row cell window walled obstructed j old new first last left right shows is among_walls among_both =
+    record {
+      upper = spared_upper cell window walled obstructed (2 * j + 1) (2 * j + 2) old.upper_left old.upper_right new.upper_left new.upper_right first.upper_left first.upper_right last.upper_left last.upper_right among_walls.upper among_both.upper
+          shows.upper_left shows.upper_right (upper_of cell window (2 * j + 2) new is);
+      lower = spared_lower cell window walled obstructed (2 * (j + 1) + 0) (2 * j + 2) old.lower_left old.lower_right new.lower_left new.lower_right first.lower_left first.lower_right last.lower_left last.lower_right among_walls.lower among_both.lower
+          shows.lower_left shows.lower_right (lower_of cell window (2 * j + 2) new is);
+    }
+
 -- the odd blocks' cells
-pub odd_cells : (cell : Bool → Bool → Bool → Bool → Bool) (window : ℕ → ℕ → Bool) (out : Tile) → ((j : ℕ) → j < 32 → AreUpper cell window (2 * j + 2) (get_or out.odd_odd j 0) (get_or out.even_odd j 0)) → ((j : ℕ) → j < 32 → AreLower cell window (2 * j) (get_or out.odd_even j 0) (get_or out.even_even j 0)) → HasCells out (made cell 1 window)
-odd_cells cell window out upper lower =
-    by_class out (made cell 1 window)
+pub odd_cells : (rule : ℕ → ℕ → Bool → Bool → Bool → Bool → Bool) (window : ℕ → ℕ → Bool) (out : Tile) → ((j : ℕ) → j < 32 → AreUpper (λ i. rule (2 * i + 1) (2 * j + 1)) (λ i. rule (2 * i + 0) (2 * j + 1)) window (2 * j + 2) (get_or out.odd_odd j 0) (get_or out.even_odd j 0))
+    → ((j : ℕ) → j < 32 → AreLower (λ i. rule (2 * i + 1) (2 * j + 0)) (λ i. rule (2 * i + 0) (2 * j + 0)) window (2 * j) (get_or out.odd_even j 0) (get_or out.even_even j 0)) → HasCells out (λ x y. made (rule x y) 1 window x y)
+odd_cells rule window out upper lower =
+    by_class out (λ x y. made (rule x y) 1 window x y)
     (λ i j h k.
     (lower j k).right i h
-    ∙ sym (made_by_places cell 1 window (2 * i + 0) (2 * j + 0) (2 * i + 1) (2 * j + 1) (2 * i) (2 * j) (omega arith) (omega arith) (partner_second 1 (2 * i + 0) (omega arith) ∙ omega arith) (partner_second 1 (2 * j + 0) (omega arith) ∙ omega arith)))
+    ∙ sym (made_by_places (rule (2 * i + 0) (2 * j + 0)) 1 window (2 * i + 0) (2 * j + 0) (2 * i + 1) (2 * j + 1) (2 * i) (2 * j) (omega arith) (omega arith) (partner_second 1 (2 * i + 0) (omega arith) ∙ omega arith) (partner_second 1 (2 * j + 0) (omega arith) ∙ omega arith)))
     (λ i j h k.
     (lower j k).left i h
-    ∙ sym (made_by_places cell 1 window (2 * i + 1) (2 * j + 0) (2 * i + 2) (2 * j + 1) (2 * i + 3) (2 * j) (omega arith) (omega arith) (partner_first 1 (2 * i + 1) (omega arith) ∙ omega arith) (partner_second 1 (2 * j + 0) (omega arith) ∙ omega arith)))
+    ∙ sym (made_by_places (rule (2 * i + 1) (2 * j + 0)) 1 window (2 * i + 1) (2 * j + 0) (2 * i + 2) (2 * j + 1) (2 * i + 3) (2 * j) (omega arith) (omega arith) (partner_first 1 (2 * i + 1) (omega arith) ∙ omega arith) (partner_second 1 (2 * j + 0) (omega arith) ∙ omega arith)))
     (λ i j h k.
     (upper j k).right i h
-    ∙ sym (made_by_places cell 1 window (2 * i + 0) (2 * j + 1) (2 * i + 1) (2 * j + 2) (2 * i) (2 * j + 2 + 1) (omega arith) (omega arith) (partner_second 1 (2 * i + 0) (omega arith) ∙ omega arith) (partner_first 1 (2 * j + 1) (omega arith) ∙ omega arith)))
+    ∙ sym (made_by_places (rule (2 * i + 0) (2 * j + 1)) 1 window (2 * i + 0) (2 * j + 1) (2 * i + 1) (2 * j + 2) (2 * i) (2 * j + 2 + 1) (omega arith) (omega arith) (partner_second 1 (2 * i + 0) (omega arith) ∙ omega arith) (partner_first 1 (2 * j + 1) (omega arith) ∙ omega arith)))
     (λ i j h k.
     (upper j k).left i h
-    ∙ sym (made_by_places cell 1 window (2 * i + 1) (2 * j + 1) (2 * i + 2) (2 * j + 2) (2 * i + 3) (2 * j + 2 + 1) (omega arith) (omega arith) (partner_first 1 (2 * i + 1) (omega arith) ∙ omega arith) (partner_first 1 (2 * j + 1) (omega arith) ∙ omega arith)))
+    ∙ sym (made_by_places (rule (2 * i + 1) (2 * j + 1)) 1 window (2 * i + 1) (2 * j + 1) (2 * i + 2) (2 * j + 2) (2 * i + 3) (2 * j + 2 + 1) (omega arith) (omega arith) (partner_first 1 (2 * i + 1) (omega arith) ∙ omega arith) (partner_first 1 (2 * j + 1) (omega arith) ∙ omega arith)))
 
-pub upper_same : (cell : Bool → Bool → Bool → Bool → Bool) (window : ℕ → ℕ → Bool) (y ul ur vl vr : ℕ) → ul ≡ vl → ur ≡ vr → AreUpper cell window y vl vr → AreUpper cell window y ul ur
-upper_same cell window y ul ur vl vr e f is = rw (e, f) is
+pub upper_same : (l r : ℕ → Bool → Bool → Bool → Bool → Bool) (window : ℕ → ℕ → Bool) (y ul ur vl vr : ℕ) → ul ≡ vl → ur ≡ vr → AreUpper l r window y vl vr → AreUpper l r window y ul ur
+upper_same l r window y ul ur vl vr e f is = rw (e, f) is
 
-pub lower_same : (cell : Bool → Bool → Bool → Bool → Bool) (window : ℕ → ℕ → Bool) (y z ll lr ml mr : ℕ) → y ≡ z → ll ≡ ml → lr ≡ mr → AreLower cell window z ml mr → AreLower cell window y ll lr
-lower_same cell window y z ll lr ml mr d e f is = rw (d, e, f) is
+pub lower_same : (l r : ℕ → Bool → Bool → Bool → Bool → Bool) (window : ℕ → ℕ → Bool) (y z ll lr ml mr : ℕ) → y ≡ z → ll ≡ ml → lr ≡ mr → AreLower l r window z ml mr → AreLower l r window y ll lr
+lower_same l r window y z ll lr ml mr d e f is = rw (d, e, f) is
 
 -- rows that are made after others
-pub uppers_more : (cell : Bool → Bool → Bool → Bool → Bool) (window : ℕ → ℕ → Bool) (old new : Tile) (from to : ℕ) → ((j : ℕ) → j < from → AreUpper cell window (2 * j + 2) (get_or old.odd_odd j 0) (get_or old.even_odd j 0))
-    → ((j : ℕ) → from ≤ j → j < to → IsMadeOdd cell window (2 * j + 2) (odd_row new j))
-    → ((j : ℕ) → (j < from) ⊎ (to ≤ j) → (get_or new.odd_odd j 0 ≡ get_or old.odd_odd j 0) × (get_or new.even_odd j 0 ≡ get_or old.even_odd j 0))
-    → (j : ℕ) → j < to → AreUpper cell window (2 * j + 2) (get_or new.odd_odd j 0) (get_or new.even_odd j 0)
-uppers_more cell window old new from to before rows rest j below =
-    elim (cases_lt j from) [
-      | inl low ↦ upper_same cell window (2 * j + 2) _ _ _ _ (rest j (inl low)).0 (rest j (inl low)).1 (before j low)
-      | inr high ↦ upper_of cell window (2 * j + 2) (odd_row new j) (rows j high below)
-    ]
+module _ (rule : ℕ → ℕ → Bool → Bool → Bool → Bool → Bool) (window : ℕ → ℕ → Bool) where
+  -- the words of the tile's rows 2 * j + 1 and 2 * j
+  abbrev UpperAt : ℕ → Tile → Type 0
+  UpperAt j t = AreUpper (λ i. rule (2 * i + 1) (2 * j + 1)) (λ i. rule (2 * i + 0) (2 * j + 1)) window (2 * j + 2) (get_or t.odd_odd j 0) (get_or t.even_odd j 0)
 
-pub lowers_more : (cell : Bool → Bool → Bool → Bool → Bool) (window : ℕ → ℕ → Bool) (old new : Tile) (from to : ℕ) → ((j : ℕ) → j < from → AreLower cell window (2 * j + 2) (get_or old.odd_even (j + 1) 0) (get_or old.even_even (j + 1) 0))
-    → ((j : ℕ) → from ≤ j → j < to → IsMadeOdd cell window (2 * j + 2) (odd_row new j))
-    → ((j : ℕ) → (j ≤ from) ⊎ (to < j) → (get_or new.odd_even j 0 ≡ get_or old.odd_even j 0) × (get_or new.even_even j 0 ≡ get_or old.even_even j 0))
-    → (j : ℕ) → j < to → AreLower cell window (2 * j + 2) (get_or new.odd_even (j + 1) 0) (get_or new.even_even (j + 1) 0)
-lowers_more cell window old new from to before rows rest j below =
-    elim (cases_lt j from) [
-      | inl low ↦ lower_same cell window (2 * j + 2) (2 * j + 2) _ _ _ _ refl (rest (j + 1) (inl (omega arith))).0 (rest (j + 1) (inl (omega arith))).1 (before j low)
-      | inr high ↦ lower_of cell window (2 * j + 2) (odd_row new j) (rows j high below)
-    ]
+  abbrev LowerAfter : ℕ → Tile → Type 0
+  LowerAfter j t = AreLower (λ i. rule (2 * i + 1) (2 * (j + 1) + 0)) (λ i. rule (2 * i + 0) (2 * (j + 1) + 0)) window (2 * j + 2) (get_or t.odd_even (j + 1) 0) (get_or t.even_even (j + 1) 0)
 
-pub upper_end : (cell : Bool → Bool → Bool → Bool → Bool) (window : ℕ → ℕ → Bool) (odd even : List ℕ) (new : Blocks) (j : ℕ) → j ≡ 31 → 31 < length odd → 31 < length even → IsMadeOdd cell window 64 new → AreUpper cell window (2 * j + 2) (get_or (set odd 31 new.upper_left) j 0) (get_or (set even 31 new.upper_right) j 0)
-upper_end cell window odd even new j e h k is =
-    rw (e, get_or-set_same odd 31 new.upper_left 0 h, get_or-set_same even 31 new.upper_right 0 k) (upper_of cell window 64 new is)
+  pub uppers_more : (old new : Tile) (from to : ℕ) → ((j : ℕ) → j < from → UpperAt j old) → ((j : ℕ) → from ≤ j → j < to → AreMadeOdd rule window j (odd_row new j))
+      → ((j : ℕ) → (j < from) ⊎ (to ≤ j) → (get_or new.odd_odd j 0 ≡ get_or old.odd_odd j 0) × (get_or new.even_odd j 0 ≡ get_or old.even_odd j 0))
+      → (j : ℕ) → j < to → UpperAt j new
+  uppers_more old new from to before rows rest j below =
+      elim (cases_lt j from) [
+        | inl low ↦ upper_same _ _ window (2 * j + 2) _ _ _ _ (rest j (inl low)).0 (rest j (inl low)).1 (before j low)
+        | inr high ↦ (rows j high below).upper
+      ]
 
-pub upper_inner : (cell : Bool → Bool → Bool → Bool → Bool) (window : ℕ → ℕ → Bool) (y : ℕ) (odd even : List ℕ) (ul ur j : ℕ) → (j ≡ 31 → ⊥) → AreUpper cell window y (get_or odd j 0) (get_or even j 0) → AreUpper cell window y (get_or (set odd 31 ul) j 0) (get_or (set even 31 ur) j 0)
-upper_inner cell window y odd even ul ur j ne is =
-    upper_same cell window y _ _ _ _ (get_or-set_other odd 31 j ul 0 ne) (get_or-set_other even 31 j ur 0 ne) is
+  pub lowers_more : (old new : Tile) (from to : ℕ) → ((j : ℕ) → j < from → LowerAfter j old) → ((j : ℕ) → from ≤ j → j < to → AreMadeOdd rule window j (odd_row new j))
+      → ((j : ℕ) → (j ≤ from) ⊎ (to < j) → (get_or new.odd_even j 0 ≡ get_or old.odd_even j 0) × (get_or new.even_even j 0 ≡ get_or old.even_even j 0))
+      → (j : ℕ) → j < to → LowerAfter j new
+  lowers_more old new from to before rows rest j below =
+      elim (cases_lt j from) [
+        | inl low ↦ lower_same _ _ window (2 * j + 2) (2 * j + 2) _ _ _ _ refl (rest (j + 1) (inl (omega arith))).0 (rest (j + 1) (inl (omega arith))).1 (before j low)
+        | inr high ↦ (rows j high below).lower
+      ]
+
+  pub upper_end : (odd even : List ℕ) (ul ur j : ℕ) → j ≡ 31 → 31 < length odd → 31 < length even → AreUpper (λ i. rule (2 * i + 1) (2 * 31 + 1)) (λ i. rule (2 * i + 0) (2 * 31 + 1)) window 64 ul ur
+      → AreUpper (λ i. rule (2 * i + 1) (2 * j + 1)) (λ i. rule (2 * i + 0) (2 * j + 1)) window (2 * j + 2) (get_or (set odd 31 ul) j 0) (get_or (set even 31 ur) j 0)
+  upper_end odd even ul ur j e h k is = rw (e, get_or-set_same odd 31 ul 0 h, get_or-set_same even 31 ur 0 k) is
+
+  -- the lower words of row j, which is the one after row j - 1
+  pub lower_next : (t : Tile) (odd even j : ℕ) → (j ≡ 0 → ⊥) → odd ≡ get_or t.odd_even j 0 → even ≡ get_or t.even_even j 0 → LowerAfter (j - 1) t → AreLower (λ i. rule (2 * i + 1) (2 * j + 0)) (λ i. rule (2 * i + 0) (2 * j + 0)) window (2 * j) odd even
+  lower_next t odd even j some e f is =
+      let next : j - 1 + 1 ≡ j = omega arith in
+      let row : 2 * (j - 1) + 2 ≡ 2 * j = omega arith in
+      rw (e, f)
+      (subst (λ m. AreLower (λ i. rule (2 * i + 1) (2 * m + 0)) (λ i. rule (2 * i + 0) (2 * m + 0)) window (2 * j) (get_or t.odd_even m 0) (get_or t.even_even m 0)) next
+      (subst (λ y. AreLower (λ i. rule (2 * i + 1) (2 * (j - 1 + 1) + 0)) (λ i. rule (2 * i + 0) (2 * (j - 1 + 1) + 0)) window y (get_or t.odd_even (j - 1 + 1) 0) (get_or t.even_even (j - 1 + 1) 0)) row is))
+
+pub upper_inner : (l r : ℕ → Bool → Bool → Bool → Bool → Bool) (window : ℕ → ℕ → Bool) (y : ℕ) (odd even : List ℕ) (ul ur j : ℕ) → (j ≡ 31 → ⊥) → AreUpper l r window y (get_or odd j 0) (get_or even j 0) → AreUpper l r window y (get_or (set odd 31 ul) j 0) (get_or (set even 31 ur) j 0)
+upper_inner l r window y odd even ul ur j ne is =
+    upper_same l r window y _ _ _ _ (get_or-set_other odd 31 j ul 0 ne) (get_or-set_other even 31 j ur 0 ne) is

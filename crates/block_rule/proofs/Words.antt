@@ -5,27 +5,32 @@ use Rattle.std.specs.Int.{bit_not, w32}
 use Rattle.std.proofs.lemmas.Nat.{xor_lt, or_lt}
 use Rattle.std.proofs.lemmas.Bool.{cases_eq, eq-eqb, ne_eqb}
 use Rattle.bit_tile.specs.Bit.{bit}
-use Rattle.bit_tile.proofs.Bits.{either, bit-and, bit-or, bit-xor, bit-shr}
+use Rattle.bit_tile.proofs.Bits.{either, bit-zero, bit-and, bit-or, bit-xor, bit-shr}
 use Rattle.bit_tile.proofs.Words32.{bit-not, bit-shl_high, bit-shl_low, bit-above}
 use Rattle.block_rule.specs.Cell.{turned_cell}
 
-upper_left_table : (ul ur ll lr : Bool) → either lr (either ul ur && not (either ul lr || either ur ll)) ≡ turned_cell false ul ur ll lr
-upper_left_table ul ur ll lr = grind arith
+-- the corners of a block, which keep their cells where it is walled
+upper_left_table : (w ul ur ll lr : Bool) → either ul (either (either ul lr) (either ul ur && not (either ul lr || either ur ll)) && not w) ≡ turned_cell w ul ur ll lr
+upper_left_table w ul ur ll lr = grind arith
 
-upper_right_table : (ul ur ll lr : Bool) → either ll (either ul ur && not (either ul lr || either ur ll)) ≡ turned_cell false ur ul lr ll
-upper_right_table ul ur ll lr = grind arith
+upper_right_table : (w ul ur ll lr : Bool) → either ur (either (either ur ll) (either ul ur && not (either ul lr || either ur ll)) && not w) ≡ turned_cell w ur ul lr ll
+upper_right_table w ul ur ll lr = grind arith
 
-lower_left_table : (ul ur ll lr : Bool) → either ur (either ul ur && not (either ul lr || either ur ll)) ≡ turned_cell false ll lr ul ur
-lower_left_table ul ur ll lr = grind arith
+lower_left_table : (w ul ur ll lr : Bool) → either ll (either (either ur ll) (either ul ur && not (either ul lr || either ur ll)) && not w) ≡ turned_cell w ll lr ul ur
+lower_left_table w ul ur ll lr = grind arith
 
-lower_right_table : (ul ur ll lr : Bool) → either ul (either ul ur && not (either ul lr || either ur ll)) ≡ turned_cell false lr ll ur ul
-lower_right_table ul ur ll lr = grind arith
+lower_right_table : (w ul ur ll lr : Bool) → either lr (either (either ul lr) (either ul ur && not (either ul lr || either ur ll)) && not w) ≡ turned_cell w lr ll ur ul
+lower_right_table w ul ur ll lr = grind arith
 
 -- the blocks that have just one diagonal
 abbrev pub diagonal : ℕ → ℕ → ℕ → ℕ → ℕ
 diagonal ul ur ll lr = bit_and (bit_xor ul ur) (bit_not w32 (bit_or (bit_xor ul lr) (bit_xor ur ll)))
 
-module _ (ul ur ll lr i : ℕ) (ul_fits : ul < 2 ^ 32) (ur_fits : ur < 2 ^ 32) (ll_fits : ll < 2 ^ 32) (lr_fits : lr < 2 ^ 32) (within : i < 32) where
+-- what a corner and the one across it change by, where the block is not walled
+abbrev pub change : ℕ → ℕ → ℕ → ℕ → ℕ
+change own across diagonal walled = bit_and (bit_xor (bit_xor own across) diagonal) (bit_not w32 walled)
+
+module _ (walled ul ur ll lr i : ℕ) (fits : walled < 2 ^ 32) (ul_fits : ul < 2 ^ 32) (ur_fits : ur < 2 ^ 32) (ll_fits : ll < 2 ^ 32) (lr_fits : lr < 2 ^ 32) (within : i < 32) where
   bit_of_diagonal : bit (diagonal ul ur ll lr) i ≡ (either (bit ul i) (bit ur i) && not (either (bit ul i) (bit lr i) || either (bit ur i) (bit ll i)))
   bit_of_diagonal =
       let a = xor_lt 32 ul lr ul_fits lr_fits in
@@ -33,17 +38,26 @@ module _ (ul ur ll lr i : ℕ) (ul_fits : ul < 2 ^ 32) (ur_fits : ur < 2 ^ 32) (
       let n = bit-not (bit_or (bit_xor ul lr) (bit_xor ur ll)) i (or_lt 32 (bit_xor ul lr) (bit_xor ur ll) a b) within in
       rw (bit-and, bit-xor, n, bit-or, bit-xor, bit-xor)
 
-  pub upper_left_bit : bit (bit_xor lr (diagonal ul ur ll lr)) i ≡ turned_cell false (bit ul i) (bit ur i) (bit ll i) (bit lr i)
-  upper_left_bit = rw (bit-xor lr (diagonal ul ur ll lr) i, bit_of_diagonal) (upper_left_table (bit ul i) (bit ur i) (bit ll i) (bit lr i))
+  bit_of_change : (own across : ℕ) → bit (change own across (diagonal ul ur ll lr) walled) i ≡ (either (either (bit own i) (bit across i)) (either (bit ul i) (bit ur i) && not (either (bit ul i) (bit lr i) || either (bit ur i) (bit ll i))) && not (bit walled i))
+  bit_of_change own across =
+      bit-and (bit_xor (bit_xor own across) (diagonal ul ur ll lr)) (bit_not w32 walled) i
+      ∙ ap₂ (λ a b. a && b) (bit-xor (bit_xor own across) (diagonal ul ur ll lr) i ∙ ap₂ either (bit-xor own across i) bit_of_diagonal) (bit-not walled i fits within)
 
-  pub upper_right_bit : bit (bit_xor ll (diagonal ul ur ll lr)) i ≡ turned_cell false (bit ur i) (bit ul i) (bit lr i) (bit ll i)
-  upper_right_bit = rw (bit-xor ll (diagonal ul ur ll lr) i, bit_of_diagonal) (upper_right_table (bit ul i) (bit ur i) (bit ll i) (bit lr i))
+  pub upper_left_bit : bit (bit_xor ul (change ul lr (diagonal ul ur ll lr) walled)) i ≡ turned_cell (bit walled i) (bit ul i) (bit ur i) (bit ll i) (bit lr i)
+  upper_left_bit = bit-xor ul (change ul lr (diagonal ul ur ll lr) walled) i ∙ (ap (either (bit ul i)) (bit_of_change ul lr) ∙ upper_left_table (bit walled i) (bit ul i) (bit ur i) (bit ll i) (bit lr i))
 
-  pub lower_left_bit : bit (bit_xor ur (diagonal ul ur ll lr)) i ≡ turned_cell false (bit ll i) (bit lr i) (bit ul i) (bit ur i)
-  lower_left_bit = rw (bit-xor ur (diagonal ul ur ll lr) i, bit_of_diagonal) (lower_left_table (bit ul i) (bit ur i) (bit ll i) (bit lr i))
+  pub upper_right_bit : bit (bit_xor ur (change ur ll (diagonal ul ur ll lr) walled)) i ≡ turned_cell (bit walled i) (bit ur i) (bit ul i) (bit lr i) (bit ll i)
+  upper_right_bit = bit-xor ur (change ur ll (diagonal ul ur ll lr) walled) i ∙ (ap (either (bit ur i)) (bit_of_change ur ll) ∙ upper_right_table (bit walled i) (bit ul i) (bit ur i) (bit ll i) (bit lr i))
 
-  pub lower_right_bit : bit (bit_xor ul (diagonal ul ur ll lr)) i ≡ turned_cell false (bit lr i) (bit ll i) (bit ur i) (bit ul i)
-  lower_right_bit = rw (bit-xor ul (diagonal ul ur ll lr) i, bit_of_diagonal) (lower_right_table (bit ul i) (bit ur i) (bit ll i) (bit lr i))
+  pub lower_left_bit : bit (bit_xor ll (change ur ll (diagonal ul ur ll lr) walled)) i ≡ turned_cell (bit walled i) (bit ll i) (bit lr i) (bit ul i) (bit ur i)
+  lower_left_bit = bit-xor ll (change ur ll (diagonal ul ur ll lr) walled) i ∙ (ap (either (bit ll i)) (bit_of_change ur ll) ∙ lower_left_table (bit walled i) (bit ul i) (bit ur i) (bit ll i) (bit lr i))
+
+  pub lower_right_bit : bit (bit_xor lr (change ul lr (diagonal ul ur ll lr) walled)) i ≡ turned_cell (bit walled i) (bit lr i) (bit ll i) (bit ur i) (bit ul i)
+  lower_right_bit = bit-xor lr (change ul lr (diagonal ul ur ll lr) walled) i ∙ (ap (either (bit lr i)) (bit_of_change ul lr) ∙ lower_right_table (bit walled i) (bit ul i) (bit ur i) (bit ll i) (bit lr i))
+
+-- where no block is walled
+pub none_walled : (i new : ℕ) (own beside facing across : Bool) → bit new i ≡ turned_cell (bit 0 i) own beside facing across → bit new i ≡ turned_cell false own beside facing across
+none_walled i new own beside facing across is = is ∙ ap (λ w. turned_cell w own beside facing across) (bit-zero i)
 
 or_false : (b : Bool) → (b || false) ≡ b
 or_false true = refl

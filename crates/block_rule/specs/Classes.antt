@@ -1,8 +1,8 @@
-use Rattle.std.specs.Prelude.{false, ◌≡◌, ℕ, ◌+◌, ◌%◌, ◌<◌, ◌≤◌, ◌⊎◌, ◌==◌, Bool, ◌&&◌, if◌then◌else◌, List, slice_index}
+use Rattle.std.specs.Prelude.{false, ◌≡◌, ℕ, ◌+◌, ◌%◌, ◌<◌, ◌≤◌, ◌==◌, Bool, ◌&&◌, List, slice_index}
 use Rattle.bit_tile.specs.Bit.{bit}
 use Rattle.bit_tile.specs.Sums.{sum_below, count_below}
 use Rattle.bit_tile.specs.Tile.{count_cells}
-use Rattle.block_rule.specs.declared.hold.Classes.{Classes}
+use Rattle.block_rule.specs.declared.count.Classes.{Classes}
 
 -- none of the four counts is above n
 pub record HasAtMost (n : ℕ) (c : Classes) : Type 0 where
@@ -29,15 +29,6 @@ particles_among old places n = sum_below n (λ j. count_below 32 (λ i. bit (sli
 -- there are n of them in the rows from `from` up to `to`
 abbrev pub AreParticlesIn : ℕ → ℕ → List ℕ → List ℕ → ℕ → Type 0
 AreParticlesIn from to old places n = n + particles_among old places from ≡ particles_among old places to
-
--- a class's word j with the old cells of these places put back
-abbrev pub kept : List ℕ → List ℕ → List ℕ → ℕ → ℕ → Bool
-kept old places before j i = if bit (slice_index places j) i then bit (slice_index old j) i else bit (slice_index before j) i
-
--- the rows from `from` up to `to` have the old cells of these places back, and the others are as before
-pub record IsHeldIn (from to : ℕ) (old places before after : List ℕ) : Type 0 where
-  pub cells : (i j : ℕ) → i < 32 → from ≤ j → j < to → bit (slice_index after j) i ≡ kept old places before j i
-  pub rest : (j : ℕ) → (j < from) ⊎ (to ≤ j) → slice_index after j ≡ slice_index before j
 
 -- a word tells in which rows of a class its cells lie
 abbrev pub TellsWords : ℕ → List ℕ → Type 0

@@ -39,7 +39,35 @@ pub trait Rule: Copy {
         ensures { IsMade (λ _. cell self) old result };
 }
 
-/// The collision of HPP's four channels.
+/// Of the new cells of a row, those that are not in these places; there the old ones stay.
+#[inline(always)]
+pub fn kept(old: u32, places: u32, new: u32) -> u32
+    ensures { (i : ℕ) → i < 32 →
+        bit result i ≡ (if bit places i then bit old i else bit new i) }
+{
+    (old & places) | (new & !places)
+}
+
+/// The collision of HPP's four channels in a row of blocks of which some are walled, each by its bit: these keep their cells.
+#[inline]
+pub fn collided(old: Blocks, walled: u32) -> Blocks
+    ensures { IsMade (λ i. turned_cell (bit walled i)) old result }
+{
+    let one_diagonal = (old.upper_left ^ old.upper_right)
+        & !((old.upper_left ^ old.lower_right) | (old.upper_right ^ old.lower_left));
+    // each particle crosses its block, but two that meet head on, with nobody else there, leave at right angles: so the two
+    // corners of a diagonal change together
+    let falling = (old.upper_left ^ old.lower_right ^ one_diagonal) & !walled;
+    let rising = (old.upper_right ^ old.lower_left ^ one_diagonal) & !walled;
+    Blocks {
+        upper_left: old.upper_left ^ falling,
+        upper_right: old.upper_right ^ rising,
+        lower_left: old.lower_left ^ rising,
+        lower_right: old.lower_right ^ falling,
+    }
+}
+
+/// The collision where no block is walled.
 #[derive(Clone, Copy)]
 pub struct Collision;
 
@@ -48,29 +76,7 @@ impl Rule for Collision {
 
     #[inline]
     fn made(self, old: Blocks) -> Blocks {
-        let one_diagonal = (old.upper_left ^ old.upper_right)
-            & !((old.upper_left ^ old.lower_right) | (old.upper_right ^ old.lower_left));
-        // each particle crosses its block, but two that meet head on, with nobody else there, leave at right angles
-        Blocks {
-            upper_left: old.lower_right ^ one_diagonal,
-            upper_right: old.lower_left ^ one_diagonal,
-            lower_left: old.upper_right ^ one_diagonal,
-            lower_right: old.upper_left ^ one_diagonal,
-        }
-    }
-}
-
-/// The collision in a row of blocks of which some are walled, each by its bit: these keep their cells.
-#[inline]
-pub fn collided(old: Blocks, walled: u32) -> Blocks
-    ensures { IsMade (λ i. turned_cell (bit walled i)) old result }
-{
-    let new = Collision.made(old);
-    Blocks {
-        upper_left: (old.upper_left & walled) | (new.upper_left & !walled),
-        upper_right: (old.upper_right & walled) | (new.upper_right & !walled),
-        lower_left: (old.lower_left & walled) | (new.lower_left & !walled),
-        lower_right: (old.lower_right & walled) | (new.lower_right & !walled),
+        collided(old, 0)
     }
 }
 

@@ -16,9 +16,10 @@ ghost use Rattle.tile_border.specs.declared.Border.{Border as BorderValue};
 ghost use Rattle.block_rule.specs.Lent.{IsSeenIn, IsLentOf};
 
 mod blocks;
-mod hold;
+mod count;
 pub mod laws;
 mod made;
+mod spare;
 mod walled;
 
 use bit_tile::Tile;
@@ -27,7 +28,7 @@ use gas_terms::Took;
 use made::{collide_even, make_even, make_odd};
 use tile_border::{Border, Neighbors, Round};
 pub use walled::{Counted, Places, WalledCells, walled_cells_even, walled_cells_odd};
-use walled::{put_back, taken_of, walled_blocks};
+use walled::{taken_of, walled_blocks};
 
 /// The cells of a block after the rule, in the order upper left, upper right, lower left, lower right.
 pub fn turn_block(cells: [bool; 4], walled: bool) -> [bool; 4]
@@ -102,9 +103,9 @@ pub fn turn_tile_odd(
         IsLentOf obstacles.entry (is_walled_at 1 obstructed) →
         result ≡ counted_of counted (taken 1 particles.now.tile.now walled obstructed) }
 {
-    make_odd(Collision, particles.tile, &particles.round, out);
-    put_back(particles.tile, walls, obstacles, out);
-    taken_of(particles.tile, walls, obstacles, 1, counted)
+    let Window { tile, round } = particles;
+    make_odd(Collision, tile, round, walls, obstacles, out);
+    taken_of(tile, walls, obstacles, 1, counted)
 }
 
 // a tile with tiles that are there for its border

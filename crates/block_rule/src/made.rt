@@ -3,10 +3,13 @@
 ghost use Rattle.std.specs.Prelude.{◌≡◌, ℕ, ◌+◌, ◌*◌, ◌/◌, ◌<◌, ◌≤◌, ◌⊎◌, Bool, slice_index};
 ghost use Rattle.bit_tile.specs.Bit.{bit};
 ghost use Rattle.bit_tile.specs.Tile.{HasCells};
-ghost use Rattle.block_rule.specs.Cell.{made, turned_at};
-ghost use Rattle.block_rule.specs.Rows.{ShowsTile, ShowsAllRound, ShowsRows, ShowsInnerRows, IsMadeOdd, odd_row, eight_row};
+ghost use Rattle.block_rule.specs.Cell.{made, spared, turned_at};
+ghost use Rattle.block_rule.specs.Lent.{IsLentOf};
+ghost use Rattle.block_rule.specs.Rows.{ShowsTile, ShowsAllRound, ShowsRows, ShowsInnerRows, IsMadeOdd, AreMadeOdd, odd_row, eight_row};
 
 use crate::blocks::{Beside, Blocks, EightRows, Rule, collided, next, previous};
+use crate::spare::{spare_bottom, spare_eight, spare_top};
+use crate::walled::Places;
 use bit_tile::Tile;
 use tile_border::Round;
 
@@ -126,20 +129,11 @@ fn made_eight<R: Rule>(rule: R, tile: &Tile, left: &Tile, right: &Tile, from: us
     rows
 }
 
-// Writes them: all are made before the first is written, so that they are made as vectors wherever `out` lies.
-#[inline]
-fn make_eight_odd<R: Rule>(
-    rule: R,
-    tile: &Tile,
-    left: &Tile,
-    right: &Tile,
-    from: usize,
-    out: &mut Tile,
-)
+// Writes them. All are made before the first is written, so that they are made as vectors wherever `out` lies.
+#[inline(always)]
+fn write_eight(rows: &EightRows, from: usize, out: &mut Tile)
     requires { from + 8 < 32 }
-    ensures rows { (window : ℕ → ℕ → Bool) →
-        ShowsInnerRows window tile.now left.now right.now → (j : ℕ) → from ≤ j → j < from + 8 →
-        IsMadeOdd (R.cell rule) window (2 * j + 2) (odd_row out.new j) }
+    ensures rows { (k : ℕ) → k < 8 → odd_row out.new (from + k) ≡ eight_row rows.now k }
     ensures upper_rest { (j : ℕ) → (j < from) ⊎ (from + 8 ≤ j) →
         (slice_index out.new.odd_odd j ≡ slice_index out.old.odd_odd j) ×
         (slice_index out.new.even_odd j ≡ slice_index out.old.even_odd j) }
@@ -147,7 +141,6 @@ fn make_eight_odd<R: Rule>(
         (slice_index out.new.odd_even j ≡ slice_index out.old.odd_even j) ×
         (slice_index out.new.even_even j ≡ slice_index out.old.even_even j) }
 {
-    let rows = made_eight(rule, tile, left, right, from);
     for k in 0..8usize {
         let j = from + k;
         out.odd_odd[j] = rows.upper_left[k];
@@ -155,6 +148,45 @@ fn make_eight_odd<R: Rule>(
         out.odd_even[j + 1] = rows.lower_left[k];
         out.even_even[j + 1] = rows.lower_right[k];
     }
+}
+
+// A tile between two others.
+#[derive(Clone, Copy)]
+struct Between<'a> {
+    tile: &'a Tile,
+    left: &'a Tile,
+    right: &'a Tile,
+}
+
+// The eight rows of odd blocks from `from` on, in which the old cells of two sets stay. Called four times a tile, it is quicker
+// than its code four times over.
+#[inline(never)]
+fn make_eight_odd<R: Rule>(
+    rule: R,
+    particles: &Between<'_>,
+    walls: Option<Places<'_>>,
+    obstacles: Option<Places<'_>>,
+    from: usize,
+    out: &mut Tile,
+)
+    requires { from < 24 }
+    ensures rows { (window walled obstructed : ℕ → ℕ → Bool) → let p = particles.now in
+        ShowsInnerRows window p.tile.now p.left.now p.right.now →
+        IsLentOf walls.entry walled → IsLentOf obstacles.entry obstructed →
+        (j : ℕ) → from ≤ j → j < from + 8 →
+        AreMadeOdd (spared walled obstructed (R.cell rule)) window j (odd_row out.new j) }
+    ensures upper_rest { (j : ℕ) → (j < from) ⊎ (from + 8 ≤ j) →
+        (slice_index out.new.odd_odd j ≡ slice_index out.old.odd_odd j) ×
+        (slice_index out.new.even_odd j ≡ slice_index out.old.even_odd j) }
+    ensures lower_rest { (j : ℕ) → (j ≤ from) ⊎ (from + 8 < j) →
+        (slice_index out.new.odd_even j ≡ slice_index out.old.odd_even j) ×
+        (slice_index out.new.even_even j ≡ slice_index out.old.even_even j) }
+{
+    let Between { tile, left, right } = *particles;
+    let mut rows = made_eight(rule, tile, left, right, from);
+    spare_eight(&mut rows, tile, walls, from);
+    spare_eight(&mut rows, tile, obstacles, from);
+    write_eight(&rows, from, out);
 }
 
 /// The row of blocks at the tile's top, whose upper corners are in the tiles above.
@@ -203,23 +235,41 @@ pub fn made_bottom<R: Rule>(rule: R, tile: &Tile, near: &Round) -> Blocks
     made_odd(rule, own, left, right)
 }
 
-/// Where blocks begin at odd columns and rows: those at the tile's edges reach into the tiles round it.
+/// Where blocks begin at odd columns and rows: those at the tile's edges reach into the tiles round it. The old cells of two
+/// sets stay; a set without a cell in the tile may be `None`.
 #[inline(always)]
-pub fn make_odd<R: Rule>(rule: R, tile: &Tile, round: &Round, out: &mut Tile)
-    ensures { (window : ℕ → ℕ → Bool) → ShowsTile window tile.now → ShowsAllRound window round.now →
-        HasCells out.new (made (R.cell rule) 1 window) }
+pub fn make_odd<R: Rule>(
+    rule: R,
+    tile: &Tile,
+    round: &Round,
+    walls: Option<Places<'_>>,
+    obstacles: Option<Places<'_>>,
+    out: &mut Tile,
+)
+    ensures { (window walled obstructed : ℕ → ℕ → Bool) → ShowsTile window tile.now →
+        ShowsAllRound window round.now →
+        IsLentOf walls.entry walled → IsLentOf obstacles.entry obstructed →
+        HasCells out.new (λ x y.
+        made (spared walled obstructed (R.cell rule) x y) 1 window x y) }
 {
     // where the tiles stand is read once
     let near = *round;
     let top = made_top(rule, tile, &near);
+    let top = spare_top(spare_top(top, tile, walls), tile, obstacles);
     out.odd_even[0] = top.lower_left;
     out.even_even[0] = top.lower_right;
     // four times eight rows: row 23 comes twice
-    make_eight_odd(rule, tile, near.left, near.right, 0, out);
-    make_eight_odd(rule, tile, near.left, near.right, 8, out);
-    make_eight_odd(rule, tile, near.left, near.right, 16, out);
-    make_eight_odd(rule, tile, near.left, near.right, 23, out);
+    let particles = Between {
+        tile,
+        left: near.left,
+        right: near.right,
+    };
+    make_eight_odd(rule, &particles, walls, obstacles, 0, out);
+    make_eight_odd(rule, &particles, walls, obstacles, 8, out);
+    make_eight_odd(rule, &particles, walls, obstacles, 16, out);
+    make_eight_odd(rule, &particles, walls, obstacles, 23, out);
     let bottom = made_bottom(rule, tile, &near);
+    let bottom = spare_bottom(spare_bottom(bottom, tile, walls), tile, obstacles);
     out.odd_odd[31] = bottom.upper_left;
     out.even_odd[31] = bottom.upper_right;
 }

@@ -11,7 +11,7 @@ ghost use Rattle.block_rule.specs.Lent.{IsSeenIn, IsLentOf, ArePlacesOf, AreWall
 
 use crate::Window;
 use crate::blocks::AnyCorner;
-use crate::hold::{hold, momentum_in};
+use crate::count::momentum_in;
 use crate::made::{make_even, make_odd};
 use bit_tile::Tile;
 use gas_terms::{Pair, Took};
@@ -47,8 +47,15 @@ pub fn walled_cells_odd(walls: &Window, obstacles: &Window) -> WalledCells
 {
     let mut walled = Tile::empty();
     let mut obstructed = Tile::empty();
-    make_odd(AnyCorner, walls.tile, &walls.round, &mut walled);
-    make_odd(AnyCorner, obstacles.tile, &obstacles.round, &mut obstructed);
+    make_odd(AnyCorner, walls.tile, &walls.round, None, None, &mut walled);
+    make_odd(
+        AnyCorner,
+        obstacles.tile,
+        &obstacles.round,
+        None,
+        None,
+        &mut obstructed,
+    );
     walled.cut(&obstructed);
     WalledCells {
         walls: walled,
@@ -104,36 +111,6 @@ fn upper_left_cells(places: Option<Places<'_>>) -> [u32; 32]
         Some(places) => places.cells.even_even,
         None => [0; 32],
     }
-}
-
-// Puts the old cells of one set back, if it has any.
-fn put_back_one(tile: &Tile, places: Option<Places<'_>>, out: &mut Tile)
-    ensures { (test : ℕ → ℕ → Bool) → IsLentOf places.entry test →
-        HasCells out.new (λ x y. if test x y then has tile.now x y else has out.old x y) }
-{
-    match places {
-        Some(places) => hold(tile, places, out),
-        None => (),
-    }
-}
-
-/// Puts the old cells of walled blocks back into a tile that was turned as if there were no walls. A set without a cell in the
-/// tile may be `None`.
-#[inline(always)]
-pub fn put_back(
-    tile: &Tile,
-    walls: Option<Places<'_>>,
-    obstacles: Option<Places<'_>>,
-    out: &mut Tile,
-)
-    ensures { (p : ℕ) (walled obstructed : ℕ → ℕ → Bool) →
-        IsLentOf walls.entry (is_for_walls p walled obstructed) →
-        IsLentOf obstacles.entry (is_walled_at p obstructed) →
-        HasCells out.new (λ x y. if is_walled_at p walled x y || is_walled_at p obstructed x y
-        then has tile.now x y else has out.old x y) }
-{
-    put_back_one(tile, walls, out);
-    put_back_one(tile, obstacles, out);
 }
 
 /// Which of two accounts are kept: of what the walls take, and of what the obstacles take.

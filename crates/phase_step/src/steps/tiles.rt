@@ -97,9 +97,31 @@ pub fn turn_tile_in_place(
     if solids.none {
         return turn_even(solids, i, NOTHING_LENT, counted, tile);
     }
-    if let Some(sites) = solids.sites {
-        return turn_even(solids, i, sites.even.in_tile(i), counted, tile);
+    match solids.sites {
+        Some(sites) => turn_even(solids, i, sites.even.in_tile(i), counted, tile),
+        None => turn_even_unprepared(solids, i, counted, tile),
     }
+}
+
+// Where the tile's cells at walled sites are worked out here. It is a function of its own, so that their room is not cleared for
+// tiles that need none.
+#[inline(never)]
+fn turn_even_unprepared(
+    solids: Solids<'_>,
+    i: u32,
+    counted: Counted,
+    tile: &mut Tile,
+) -> Took
+    requires walls { i < tile_count solids.walls.now }
+    requires obstacles { i < tile_count solids.obstacles.now }
+    requires place { IsPlaceOf solids.walls.now solids.walls.now solids.obstacles.now i }
+    ensures cells { (old : Cells) → let s = solids.entry in let r = tile_rectangle old i in
+        IsPlaceOf old s.walls.now s.obstacles.now i → IsTileFrom tile.old old r.x r.y →
+        IsTileAfter 0 old s.walls.now s.obstacles.now i tile.new }
+    ensures took { (old : Cells) → let s = solids.entry in let r = tile_rectangle old i in
+        IsPlaceOf old s.walls.now s.obstacles.now i → IsTileFrom tile.old old r.x r.y →
+        result ≡ counted_of counted (taken_in (pos 0) old s.walls.now s.obstacles.now r) }
+{
     match walled_cells(0, solids.walls, solids.obstacles, i) {
         None => turn_even(solids, i, NOTHING_LENT, counted, tile),
         Some(cells) => turn_even(solids, i, lent(&cells), counted, tile),
@@ -150,9 +172,35 @@ fn turn_odd(
     if solids.none {
         return turn_odd_with(old, solids, at, NOTHING_LENT, counted, out);
     }
-    if let Some(sites) = solids.sites {
-        return turn_odd_with(old, solids, at, sites.odd.in_tile(at.tile), counted, out);
+    match solids.sites {
+        Some(sites) => {
+            turn_odd_with(old, solids, at, sites.odd.in_tile(at.tile), counted, out)
+        }
+        None => turn_odd_unprepared(old, solids, at, counted, out),
     }
+}
+
+// Where the tile's cells at walled sites are worked out here.
+#[inline(never)]
+fn turn_odd_unprepared(
+    old: &Plane,
+    solids: Solids<'_>,
+    at: Position,
+    counted: Counted,
+    out: &mut Tile,
+) -> Took
+    requires tile { at.tile < tile_count old.now }
+    requires position { IsPosition (old.now.width / 64) at }
+    requires place { IsPlaceOf old.now solids.walls.now solids.obstacles.now at.tile }
+    requires walls { at.tile < tile_count solids.walls.now }
+    requires obstacles { at.tile < tile_count solids.obstacles.now }
+    requires solid { IsPlaceOf solids.walls.now solids.walls.now solids.obstacles.now at.tile }
+    ensures cells { let s = solids.entry in
+        IsTileAfter 1 old.now s.walls.now s.obstacles.now at.tile out.new }
+    ensures took { let s = solids.entry in
+        result ≡ counted_of counted (taken_in (pos 1) old.now s.walls.now s.obstacles.now
+        (tile_rectangle old.now at.tile)) }
+{
     match walled_cells(1, solids.walls, solids.obstacles, at.tile) {
         None => turn_odd_with(old, solids, at, NOTHING_LENT, counted, out),
         Some(cells) => turn_odd_with(old, solids, at, lent(&cells), counted, out),

@@ -1,24 +1,18 @@
-use Rattle.std.proofs.Common.{ℕ, ◌+◌, ◌≤◌, arith, length-set, ◌∙◌, get_or-set_other}
-use Rattle.block_rule.specs.Rows.{eight_row}
-use Rattle.block_rule.proofs.Windows.{odd_row_more, upper_outside, upper_before, lower_outside, lower_before, upper_end_of, lower_end_of}
+use Rattle.std.proofs.Common.{◌≡◌, ℕ, ◌+◌, ◌-◌, ◌*◌, sym, subst, arith}
+use Rattle.block_rule.specs.Cell.{spared}
+use Rattle.block_rule.specs.Rows.{AreMadeOdd, odd_row, eight_row, beside_left, beside_right}
+use Rattle.block_rule.proofs.Windows.{spared_row}
 use Rattle.block_rule.proofs.made.make_eight_odd.Goals as goal
 
-pub loop-k-preserved : goal.loop-k-preserved
-loop-k-preserved g c =
-    let from : ℕ = c.args.from in
-    let k : ℕ = c.loop-k.k in
-    let j : ℕ = c.args.from + c.loop-k.k in
-    let order : c.args.from ≤ c.args.from + c.loop-k.k = omega arith in
-    record {
-      ee = simp length-set c.loop-k.invariant.ee;
-      oe = simp length-set c.loop-k.invariant.oe;
-      eo = simp length-set c.loop-k.invariant.eo;
-      oo = simp length-set c.loop-k.invariant.oo;
-      done = λ window shown m low below.
-          odd_row_more (g.R.Rule.cell c.args.rule) window c.loop-k.out (eight_row c.made_eight-rows.result c.loop-k.k) from j (omega arith) (omega arith) (omega arith) (omega arith)
-          (c.loop-k.invariant.done window shown) (c.made_eight-rows.ensures window shown c.loop-k.k (omega arith)) m low (omega arith);
-      upper_odd = λ m h. get_or-set_other c.loop-k.out.odd_odd j m _ 0 (upper_outside m from j order (upper_end_of m from k h)) ∙ c.loop-k.invariant.upper_odd m (upper_before m from j (upper_end_of m from k h));
-      upper_even = λ m h. get_or-set_other c.loop-k.out.even_odd j m _ 0 (upper_outside m from j order (upper_end_of m from k h)) ∙ c.loop-k.invariant.upper_even m (upper_before m from j (upper_end_of m from k h));
-      lower_odd = λ m h. get_or-set_other c.loop-k.out.odd_even (j + 1) m _ 0 (lower_outside m from j order (lower_end_of m from k h)) ∙ c.loop-k.invariant.lower_odd m (lower_before m from j (lower_end_of m from k h));
-      lower_even = λ m h. get_or-set_other c.loop-k.out.even_even (j + 1) m _ 0 (lower_outside m from j order (lower_end_of m from k h)) ∙ c.loop-k.invariant.lower_even m (lower_before m from j (lower_end_of m from k h));
-    }
+pub returns-clause-rows : goal.returns-clause-rows
+returns-clause-rows g c = λ window walled obstructed shows of_walls of_obstacles j low below.
+    let cell = g.R.Rule.cell c.args.rule in
+    let rule = spared walled obstructed cell in
+    let p = c.args.particles.now in
+    let k : ℕ = j - c.args.from in
+    let there : c.args.from + (j - c.args.from) ≡ j = omega arith in
+    let at : ℕ = c.args.from + (j - c.args.from) in
+    let made = spared_row cell window walled obstructed at (odd_row p.tile.now at) (eight_row c.made_eight-rows.result k) (eight_row c.spare_eight.new.rows k) (eight_row c.spare_eight-2.new.rows k) (beside_left p.left.now at) (beside_right p.right.now at)
+    (shows at (omega arith)) (c.made_eight-rows.ensures window shows k (omega arith)) (c.spare_eight.ensures walled of_walls k (omega arith)) (c.spare_eight-2.ensures obstructed of_obstacles k (omega arith)) in
+    subst (λ m. AreMadeOdd rule window m (odd_row c.write_eight.new.out m)) there
+    (subst (AreMadeOdd rule window at) (sym (c.write_eight.ensures.rows k (omega arith))) made)

@@ -1,6 +1,6 @@
 use Rattle.std.proofs.Common.{◌≡◌, ◌+◌, ◌*◌, ◌≤◌}
 use Rattle.block_rule.specs.Classes.{particles_among}
-use Rattle.block_rule.proofs.hold.count_rows.Given as goal
+use Rattle.block_rule.proofs.count.count_rows.Given as goal
 
 abbrev pub invariant-loop-k : goal.invariant-loop-k
 invariant-loop-k l =

@@ -2,8 +2,8 @@ use Rattle.std.proofs.Common.{◌≡◌, ◌+◌, ◌*◌, sym, ◌∙◌, ap, a
 use Rattle.bit_tile.proofs.Sums.{sum_below-zero}
 use Rattle.block_rule.specs.Classes.{particles_among}
 use Rattle.block_rule.proofs.Holding.{among, no_rows_more}
-use Rattle.block_rule.proofs.hold.count_class.Goals as goal
-use Rattle.block_rule.proofs.hold.count_class.Goals.{then-told_in-ne0, else-told_in-ne0}
+use Rattle.block_rule.proofs.count.count_class.Goals as goal
+use Rattle.block_rule.proofs.count.count_class.Goals.{then-told_in-ne0, else-told_in-ne0}
 
 pub loop-k-init : goal.loop-k-init
 loop-k-init c = record { count = λ _. sym (sum_below-zero (among c.args.cells.now c.args.places.now)); few = omega arith }

@@ -1,6 +1,6 @@
 use Rattle.std.proofs.Common.{◌≡◌, ◌+◌, ap₂, arith}
 use Rattle.block_rule.proofs.Holding.{small_again, momentum_is}
-use Rattle.block_rule.proofs.hold.momentum.Goals as goal
+use Rattle.block_rule.proofs.count.momentum.Goals as goal
 
 pub returns-then-parity-eq0 : goal.returns-then-parity-eq0
 returns-then-parity-eq0 c = λ cells is.

@@ -2,7 +2,7 @@ use Rattle.std.proofs.Common.{◌≡◌, ◌+◌, ◌*◌, ◌^◌, ◌<◌, ◌
 use Rattle.std.proofs.lemmas.Nat.{ones-le, and_le_l}
 use Rattle.block_rule.specs.Classes.{particles_among}
 use Rattle.block_rule.proofs.Holding.{ones_among, rows_more}
-use Rattle.block_rule.proofs.hold.count_rows.Goals as goal
+use Rattle.block_rule.proofs.count.count_rows.Goals as goal
 
 pub loop-k-init : goal.loop-k-init
 loop-k-init c =

@@ -2,7 +2,7 @@ use Rattle.std.proofs.Common.{◌<◌, arith}
 use Rattle.bit_tile.proofs.Classes.{is_even_even, is_odd_even, is_even_odd, is_odd_odd}
 use Rattle.bit_tile.specs.Tile.{has}
 use Rattle.block_rule.proofs.Holding.{class_among, told_even_even, told_odd_even, told_even_odd, told_odd_odd}
-use Rattle.block_rule.proofs.hold.momentum_in.Goals as goal
+use Rattle.block_rule.proofs.count.momentum_in.Goals as goal
 
 pub returns : goal.returns
 returns c = λ told.

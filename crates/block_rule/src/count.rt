@@ -1,11 +1,11 @@
-//! The cells of walled blocks in an odd phase, where the old ones are put back, and the momentum of the particles in them.
+//! The momentum of particles in given places, by their counts.
 
-ghost use Rattle.std.specs.Prelude.{◌≡◌, ℕ, ◌+◌, ◌*◌, ◌<◌, ◌≤◌, ◌&&◌, if◌then◌else◌, Bool, false, slice_index, pos, ◌-ℤ◌};
+ghost use Rattle.std.specs.Prelude.{◌≡◌, ℕ, ◌+◌, ◌*◌, ◌<◌, ◌≤◌, ◌&&◌, Bool, false, slice_index, pos, ◌-ℤ◌};
 ghost use Rattle.bit_tile.specs.Bit.{bit};
-ghost use Rattle.bit_tile.specs.Tile.{has, HasCells};
+ghost use Rattle.bit_tile.specs.Tile.{has};
 ghost use Rattle.block_rule.specs.Around.{twice_momentum};
 ghost use Rattle.block_rule.specs.Lent.{TellsRows};
-ghost use Rattle.block_rule.specs.Classes.{HasAtMost, AreCounts, AreParticlesIn, IsHeldIn, TellsWords, kept, particles_among};
+ghost use Rattle.block_rule.specs.Classes.{HasAtMost, AreCounts, AreParticlesIn, TellsWords, particles_among};
 
 use crate::walled::Places;
 use bit_tile::{Tile, joined};
@@ -23,21 +23,6 @@ fn told_in(rows: u32, k: usize) -> u32
     (rows >> (8 * k)) % 256
 }
 
-// The rows of a class from `from` on, with the old cells of these places put back.
-#[inline]
-fn kept_rows(old: &[u32; 32], places: &[u32; 32], from: usize, class: &[u32; 32]) -> [u32; 8]
-    requires { from + 8 ≤ 32 }
-    ensures { (i k : ℕ) → i < 32 → k < 8 →
-        bit (slice_index result k) i ≡ kept old.now places.now class.now (from + k) i }
-{
-    let mut rows = [0; TOGETHER];
-    for k in 0..TOGETHER {
-        let j = from + k;
-        rows[k] = (old[j] & places[j]) | (class[j] & !places[j]);
-    }
-    rows
-}
-
 // How many old cells there are in these places, two rows at a time.
 #[inline]
 fn count_rows(old: &[u32; 32], places: &[u32; 32], from: usize) -> u32
@@ -51,32 +36,6 @@ fn count_rows(old: &[u32; 32], places: &[u32; 32], from: usize) -> u32
         n += (joined(old[j], old[j + 1]) & joined(places[j], places[j + 1])).count_ones();
     }
     n
-}
-
-// Puts the old cells of these places back into the rows from `from` on.
-#[inline(always)]
-fn hold_rows(old: &[u32; 32], places: &[u32; 32], from: usize, class: &mut [u32; 32])
-    requires { from + 8 ≤ 32 }
-    ensures { IsHeldIn from (from + 8) old.now places.now class.old class.new }
-{
-    // all are made before the first is written, so that they are made as vectors wherever `class` lies
-    let rows = kept_rows(old, places, from, class);
-    for k in 0..TOGETHER {
-        class[from + k] = rows[k];
-    }
-}
-
-// The same in all rows of the class that are told.
-#[inline]
-fn hold_class(old: &[u32; 32], places: &[u32; 32], rows: u32, class: &mut [u32; 32])
-    ensures { TellsWords rows places.now →
-        IsHeldIn 0 32 old.now places.now class.old class.new }
-{
-    for k in 0..4usize {
-        if told_in(rows, k) != 0 {
-            hold_rows(old, places, k * TOGETHER, class);
-        }
-    }
 }
 
 // How many of a class's cells there are in these places, in the rows that are told.
@@ -135,19 +94,6 @@ pub fn momentum(counts: Classes, parity: u8) -> Pair
         x: twice(odd_columns, even_columns),
         y: twice(odd_rows, even_rows),
     }
-}
-
-/// Puts the old cells of these places back into a tile that was turned as if there were no walls.
-pub fn hold(tile: &Tile, places: Places<'_>, out: &mut Tile)
-    ensures { let p = places.entry in TellsRows p.rows (has p.cells.now) →
-        HasCells out.new (λ x y.
-        if has p.cells.now x y then has tile.now x y else has out.old x y) }
-{
-    let Places { cells, rows } = places;
-    hold_class(&tile.even_even, &cells.even_even, rows, &mut out.even_even);
-    hold_class(&tile.odd_even, &cells.odd_even, rows, &mut out.odd_even);
-    hold_class(&tile.even_odd, &cells.even_odd, rows, &mut out.even_odd);
-    hold_class(&tile.odd_odd, &cells.odd_odd, rows, &mut out.odd_odd);
 }
 
 /// Twice the momentum of a tile's particles in these places.
