@@ -2,7 +2,7 @@
 
 use crate::expected::{expect_same, expect_that};
 use bit_tile::Tile;
-use block_rule::{Places, Window, turn_block, turn_tile, turn_tile_even, turn_tile_odd};
+use block_rule::{Counted, Places, Window, turn_block, turn_tile, turn_tile_even, turn_tile_odd};
 use gas_terms::{Pair, Took};
 use std::process::Abort;
 use tile_border::{Border, Neighbors};
@@ -96,7 +96,7 @@ fn turned_odd(rt: &impl Abort, old: &Tile, border: &Border) -> Tile {
     let mut out = Tile::full();
     expect_same(
         &rt,
-        turn_tile_odd(&particles, None, None, &mut out),
+        turn_tile_odd(&particles, None, None, Counted::BOTH, &mut out),
         Took::ZERO,
     );
     out
@@ -109,12 +109,12 @@ fn particles_cross_their_blocks(rt: HostRuntime) {
     // a lone particle crosses its block, and a pair that meets head on turns
     let even = [(1, 1), (11, 10), (10, 11), (62, 63)].as_slice();
     let mut free = old;
-    let took = turn_tile_even(&mut free, None, None);
+    let took = turn_tile_even(&mut free, None, None, Counted::BOTH);
     expect_that(&rt, has_just(&free, even));
     expect_same(&rt, took, Took::ZERO);
     let mut among_none = old;
     let places = Some(Places::anywhere(&none));
-    let took = turn_tile_even(&mut among_none, places, places);
+    let took = turn_tile_even(&mut among_none, places, places, Counted::BOTH);
     expect_that(&rt, has_just(&among_none, even));
     expect_same(&rt, took, Took::ZERO);
 
@@ -136,7 +136,7 @@ fn particles_of_the_told_rows_stay(rt: HostRuntime) {
         cells: &walled,
         rows: 1 << 5,
     };
-    let took = turn_tile_even(&mut tile, Some(places), None);
+    let took = turn_tile_even(&mut tile, Some(places), None, Counted::BOTH);
     expect_that(&rt, has_just(&tile, [(1, 1), (10, 10)].as_slice()));
     let twice = Pair { x: 2, y: 2 };
     expect_same(
@@ -144,6 +144,40 @@ fn particles_of_the_told_rows_stay(rt: HostRuntime) {
         (took.walls, took.obstacles),
         (twice, Took::ZERO.obstacles),
     );
+}
+
+/// A particle of a walled block and one of an obstructed block stay, whatever is counted. At an even tick they were on their way
+/// right and down, and right and up; at an odd tick left and up, and left and down.
+#[test]
+fn accounts_that_are_not_kept_are_zero(rt: HostRuntime) {
+    let old = tile_of([(10, 10), (20, 21)].as_slice());
+    let near = no_border().neighbors();
+    let even_walls = cells_at(0b1111, 10, 10);
+    let even_obstacles = cells_at(0b1111, 20, 20);
+    let odd_walls = cells_at(0b1111, 9, 9);
+    let odd_obstacles = cells_at(0b1111, 19, 21);
+    for (walls, obstacles) in [(true, false), (false, true), (true, true), (false, false)] {
+        let counted = Counted { walls, obstacles };
+
+        let mut tile = old;
+        let walled = Some(Places::anywhere(&even_walls));
+        let obstructed = Some(Places::anywhere(&even_obstacles));
+        let took = turn_tile_even(&mut tile, walled, obstructed, counted);
+        expect_that(&rt, tile.has_same_cells(&old));
+        let of_walls = if walls { pair(2, 2) } else { pair(0, 0) };
+        let of_obstacles = if obstacles { pair(2, -2) } else { pair(0, 0) };
+        expect_same(&rt, (took.walls, took.obstacles), (of_walls, of_obstacles));
+
+        let mut tile = Tile::full();
+        let walled = Some(Places::anywhere(&odd_walls));
+        let obstructed = Some(Places::anywhere(&odd_obstacles));
+        let particles = window(&old, &near);
+        let took = turn_tile_odd(&particles, walled, obstructed, counted, &mut tile);
+        expect_that(&rt, tile.has_same_cells(&old));
+        let of_walls = if walls { pair(-2, -2) } else { pair(0, 0) };
+        let of_obstacles = if obstacles { pair(-2, 2) } else { pair(0, 0) };
+        expect_same(&rt, (took.walls, took.obstacles), (of_walls, of_obstacles));
+    }
 }
 
 #[test]

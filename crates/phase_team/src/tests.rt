@@ -5,7 +5,7 @@ ghost use Rattle.gas_terms.specs.Cells.{HasSidesOf};
 
 use crate::{Gate, LeastRun, NoGate, Team};
 use gas_plane::Plane;
-use gas_terms::{Pair, Rect, Size, Sums, Took};
+use gas_terms::{Moved, Pair, Rect, Size, Sums, Took};
 use phase_step::{Action, Exchange, Few, Flow, Listed, Run, Serial, Stepper, Still, parity_at};
 use std::process::Abort;
 use std::sync::atomic::{AtomicBool, AtomicU64, Ordering};
@@ -543,6 +543,115 @@ fn strokes_in_a_run_by_two_strips(rt: HostRuntime) {
             }
     );
     assert!(rt; places(&now, 128) == (11262, 186152991));
+}
+
+// On 64 by 128 cells, three particles at an even tick: two on their way to the wall, one to the obstacle in the tile below.
+const START: [(u32, u32); 3] = [(10, 10), (4, 25), (41, 60)];
+
+const WALL: &[(u32, u32)] = &[(14, 14)];
+
+const OBSTACLE: &[(u32, u32)] = &[(31, 70)];
+
+// A run of 17 phases comes to this phase by phase, by a team of one, and by strips of one worker and of two.
+fn comes_to<R: Threads + Abort + AllocGlobal + Copy + Drop, A: Action>(
+    rt: &R,
+    walls: &[(u32, u32)],
+    obstacles: &[(u32, u32)],
+    action: &A,
+    flow: Flow,
+    cells: &[(u32, u32)],
+) {
+    let walls = plane(rt, 64, 128, walls);
+    let obstacles = plane(rt, 64, 128, obstacles);
+    let want = plane(rt, 64, 128, cells);
+    let run = Ground {
+        walls: &walls,
+        obstacles: &obstacles,
+        parity: 0,
+        n: 17,
+    };
+    for way in 0..4u8 {
+        let mut now = plane(rt, 64, 128, &START);
+        let mut spare = plane(rt, 64, 128, &[]);
+        let found = match way {
+            0 => act_along(rt, &mut Serial, run, action, &mut now, &mut spare),
+            1 => {
+                let mut alone = team(rt, *rt, rt.alloc(), 1, NoGate);
+                act_along(rt, &mut alone, run, action, &mut now, &mut spare)
+            }
+            2 => by_strips(rt, 1, run, action, &mut now, &mut spare),
+            _ => by_strips(rt, 2, run, action, &mut now, &mut spare),
+        };
+        assert!(rt; found == flow);
+        assert!(rt; are_same(&now, &want, 64, 128));
+    }
+}
+
+// nothing came in or went out
+fn only_took(walls: Pair, obstacles: Pair) -> Flow {
+    Flow {
+        took: Took { walls, obstacles },
+        ..Flow::ZERO
+    }
+}
+
+// A particle goes one cell along its diagonal in each phase. It stays in the phase in which it is turned back, which takes twice
+// its momentum, and goes back from the next phase on. (10, 10) is turned back at (13, 13) in phase 3, (4, 25) at (14, 15) in
+// phase 10, and (41, 60) at (32, 69) in phase 9.
+#[test]
+fn long_runs_find_both_accounts(rt: HostRuntime) {
+    let (none, by_walls, by_obstacles) = (Pair::ZERO, Pair { x: 4, y: 0 }, Pair { x: -2, y: 2 });
+    let flow = only_took(by_walls, by_obstacles);
+    let cells = &[(0, 0), (8, 21), (39, 62)];
+    comes_to(&rt, WALL, OBSTACLE, &Still, flow, cells);
+    let cells = &[(0, 0), (8, 21), (24, 77)];
+    comes_to(&rt, WALL, &[], &Still, only_took(by_walls, none), cells);
+    let cells = &[(27, 27), (21, 8), (39, 62)];
+    comes_to(
+        &rt,
+        &[],
+        OBSTACLE,
+        &Still,
+        only_took(none, by_obstacles),
+        cells,
+    );
+}
+
+// After phase 12 the particle from (4, 25) is at (12, 17), on its way left and down, and is drained. One on its way left and up
+// is injected at (50, 100).
+#[test]
+fn long_run_with_an_action_finds_both_accounts(rt: HostRuntime) {
+    let size = Size::new(64, 128).expect(&rt, "a size");
+    let drained = Rect::within(size, 12, 17, 1, 1).expect(&rt, "a cell");
+    let filled = Rect::within(size, 50, 100, 1, 1).expect(&rt, "a cell");
+    let mut turns = Vec::new(rt.alloc());
+    for _ in 0..12u8 {
+        turns.push(Exchange::none()).expect(&rt, "memory");
+    }
+    turns.push(stroke(drained, filled)).expect(&rt, "memory");
+    let action = Listed {
+        turns: turns.as_slice(),
+    };
+    let flow = Flow {
+        took: Took {
+            walls: Pair { x: 4, y: 0 },
+            obstacles: Pair { x: -2, y: 2 },
+        },
+        moved: Moved {
+            injected: Sums {
+                count: 1,
+                px: -1,
+                py: -1,
+            },
+            drained: Sums {
+                count: 1,
+                px: -1,
+                py: 1,
+            },
+        },
+    };
+    let cells = &[(0, 0), (39, 62), (46, 96)];
+    comes_to(&rt, WALL, OBSTACLE, &action, flow, cells);
 }
 
 // rows of shifted and mixed words, of which so many are put together by `and`

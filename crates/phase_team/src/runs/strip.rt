@@ -16,8 +16,8 @@ use crate::runs::course::Course;
 use gas_plane::Plane;
 use gas_terms::{Moved, NoMemory, Size};
 use phase_step::{
-    Action, Counted, Exchange, Flow, LONG_RUN, Listed, Own, Solids, WalledSites, are_none, change_of,
-    parity_at, turn_in_place,
+    Action, Counted, Exchange, Flow, LONG_RUN, Listed, Own, Solids, WalledSites, are_none,
+    change_of, parity_at, turn_in_place,
 };
 use std::alloc::Global;
 
