@@ -9,8 +9,9 @@
 // There are at most 60,000 rectangles, since a journal has room for 65,536 entries.
 //
 //   cc -O3 -march=x86-64-v3 -DSIDE=2048 -o hpp tools/hpp.c
-//   ./hpp classes free 1000    1,000 steps, by tiles of parity classes: even phases in place, cells of walled blocks
-//                              prepared for each parity. The fastest that we have.
+//   ./hpp classes free 1000    1,000 steps, by tiles of parity classes: even phases in place, walled blocks prepared for
+//                              each parity and masked, one account counted if there are walls and obstacles, and else
+//                              none. The fastest that we have.
 //   ./hpp rows free 1000       the same by rows of 64-bit words, as one writes it first
 //   ./hpp lines free           the same lattice as lines of commands for gaslab
 //
@@ -92,12 +93,19 @@ static int lay(const char *name, int tell)
 // even columns of even rows, odd columns of even rows, even of odd, odd of odd: 32 rows of 32 cells each
 typedef struct { half ee[32], oe[32], eo[32], oo[32]; } tile;
 typedef struct { half ul, ur, ll, lr; } blocks;
-typedef struct { const tile *above, *below, *left, *right, *above_left, *above_right, *below_left, *below_right; } near;
-// of one parity: the cells of the blocks that a set walls, and which tiles have any
-typedef struct { tile cells[TILES]; unsigned char any[TILES]; } held;
+// The walled blocks of one parity, for each tile: those that begin in its columns, and those that end in them. At odd parity
+// row 0 is shared with the tile above, and row 32 with the tile below. At even parity there are 32 rows, and a block begins
+// and ends in one tile. Bit j of rows is set if the tile has a cell of a walled block in row 2j or 2j + 1.
+typedef struct { half begin[TILES][33], end[TILES][33], rows[TILES]; } held;
+// what a tile needs at odd phases
+typedef struct {
+    const tile *above, *below, *left, *right, *above_left, *above_right, *below_left, *below_right;
+    const half *walled_begin, *walled_end;
+} near;
 
 static tile first[TILES] PAGE, second[TILES] PAGE;
-static held walls_held[2] PAGE, obstacles_held[2] PAGE;
+static held walled[2] PAGE, obstacles_held[2] PAGE; // by parity: blocks with a cell of any set, and with one of an obstacle
+static int some_walls, some_obstacles;
 static long long took[4];
 
 // what becomes of 32 blocks: each particle crosses, but two that meet head on leave at right angles
@@ -107,41 +115,86 @@ ALWAYS blocks turned(half ul, half ur, half ll, half lr)
     return (blocks){lr ^ diagonal, ll ^ diagonal, ur ^ diagonal, ul ^ diagonal};
 }
 
-static void even(tile *t)
+// The same, but walled blocks stay as they are. Opposite corners change alike: two words are masked and not four.
+ALWAYS blocks turned_but(half walls, half ul, half ur, half ll, half lr)
 {
-    for (int j = 0; j < 32; j++) {
-        blocks b = turned(t->ee[j], t->oe[j], t->eo[j], t->oo[j]);
+    half down = ul ^ lr, up = ur ^ ll, diagonal = (ul ^ ur) & ~(down | up);
+    down = (down ^ diagonal) & ~walls, up = (up ^ diagonal) & ~walls;
+    return (blocks){ul ^ down, ur ^ up, ll ^ up, lr ^ down};
+}
+
+// Called with constants, so that the compiler makes a loop for each case. The same holds for odd rows and for phases.
+ALWAYS void even_rows(tile *restrict t, const half *restrict walls, const int from, const int to, const int solid)
+{
+    for (int j = from; j < to; j++) {
+        half ul = t->ee[j], ur = t->oe[j], ll = t->eo[j], lr = t->oo[j];
+        blocks b = solid ? turned_but(walls[j], ul, ur, ll, lr) : turned(ul, ur, ll, lr);
         t->ee[j] = b.ul, t->oe[j] = b.ur, t->eo[j] = b.ll, t->oo[j] = b.lr;
     }
 }
 
-// a row of odd blocks: those that begin in the tile, and those that end in it. Written is what lies in it.
-ALWAYS blocks odd_row(half ul, half ur, half ll, half lr, half left_u, half left_l, half right_u, half right_l)
+ALWAYS void even_eight(tile *t, const half *walls, half rows, const int from)
 {
-    blocks begin = turned(ul, ur >> 1 | right_u << 31, ll, lr >> 1 | right_l << 31);
-    blocks end = turned(ul << 1 | left_u >> 31, ur, ll << 1 | left_l >> 31, lr);
+    rows >> from & 255 ? even_rows(t, walls, from, from + 8, 1) : even_rows(t, walls, from, from + 8, 0);
+}
+
+ALWAYS void even(tile *t, const half *walls, half rows)
+{
+    if (!rows) {
+        even_rows(t, walls, 0, 32, 0);
+        return;
+    }
+    even_eight(t, walls, rows, 0), even_eight(t, walls, rows, 8);
+    even_eight(t, walls, rows, 16), even_eight(t, walls, rows, 24);
+}
+
+// a row of odd blocks: those that begin in the tile, and those that end in it. Written is what lies in it.
+ALWAYS blocks odd_row(half ul, half ur, half ll, half lr, half left_u, half left_l, half right_u, half right_l, const near *n,
+                      int row, const int solid)
+{
+    half begin_ur = ur >> 1 | right_u << 31, begin_lr = lr >> 1 | right_l << 31;
+    half end_ul = ul << 1 | left_u >> 31, end_ll = ll << 1 | left_l >> 31;
+    blocks begin = solid ? turned_but(n->walled_begin[row], ul, begin_ur, ll, begin_lr) : turned(ul, begin_ur, ll, begin_lr);
+    blocks end = solid ? turned_but(n->walled_end[row], end_ul, ur, end_ll, lr) : turned(end_ul, ur, end_ll, lr);
     return (blocks){begin.ul, end.ur, begin.ll, end.lr};
 }
 
-static void odd_rows(const tile *restrict t, const tile *restrict l, const tile *restrict r, tile *restrict out, int from, int to)
+ALWAYS void odd_rows(const tile *restrict t, const near *n, tile *restrict out, const int from, const int to, const int solid)
 {
+    const tile *l = n->left, *r = n->right;
     for (int j = from; j < to; j++) {
-        blocks b = odd_row(t->oo[j], t->eo[j], t->oe[j + 1], t->ee[j + 1], l->oo[j], l->oe[j + 1], r->eo[j], r->ee[j + 1]);
+        blocks b = odd_row(t->oo[j], t->eo[j], t->oe[j + 1], t->ee[j + 1], l->oo[j], l->oe[j + 1], r->eo[j], r->ee[j + 1], n,
+                           j + 1, solid);
         out->oo[j] = b.ul, out->eo[j] = b.ur, out->oe[j + 1] = b.ll, out->ee[j + 1] = b.lr;
     }
 }
 
-ALWAYS void odd(const tile *restrict t, const near *n, tile *restrict out)
+ALWAYS void odd_eight(const tile *t, const near *n, half rows, tile *out, const int from)
+{
+    rows >> from & 255 ? odd_rows(t, n, out, from, from + 8, 1) : odd_rows(t, n, out, from, from + 8, 0);
+}
+
+ALWAYS void odd_ends(const tile *restrict t, const near *n, tile *restrict out, const int solid)
 {
     const tile *l = n->left, *r = n->right;
     blocks top = odd_row(n->above->oo[31], n->above->eo[31], t->oe[0], t->ee[0], n->above_left->oo[31], l->oe[0],
-                         n->above_right->eo[31], r->ee[0]);
+                         n->above_right->eo[31], r->ee[0], n, 0, solid);
     blocks bottom = odd_row(t->oo[31], t->eo[31], n->below->oe[0], n->below->ee[0], l->oo[31], n->below_left->oe[0],
-                            r->eo[31], n->below_right->ee[0]);
+                            r->eo[31], n->below_right->ee[0], n, 32, solid);
     out->oe[0] = top.ll, out->ee[0] = top.lr, out->oo[31] = bottom.ul, out->eo[31] = bottom.ur;
+}
+
+ALWAYS void odd(const tile *t, const near *n, half rows, tile *out)
+{
     // whole vectors: row 23 comes twice
-    odd_rows(t, l, r, out, 0, 24);
-    odd_rows(t, l, r, out, 23, 31);
+    if (!rows) {
+        odd_ends(t, n, out, 0);
+        odd_rows(t, n, out, 0, 24, 0), odd_rows(t, n, out, 23, 31, 0);
+        return;
+    }
+    odd_ends(t, n, out, 1);
+    odd_eight(t, n, rows, out, 0), odd_eight(t, n, rows, out, 8);
+    odd_eight(t, n, rows, out, 16), odd_eight(t, n, rows, out, 23);
 }
 
 static int count(const half *restrict cells, const half *restrict places)
@@ -155,51 +208,54 @@ static int count(const half *restrict cells, const half *restrict places)
     return sum;
 }
 
-// puts the old cells back in walled blocks, and books twice their momentum
-static void hold(const tile *restrict old, const tile *restrict places, tile *restrict out, long long *account, int parity)
+// adds a multiple of the momentum that the particles of some blocks in a tile have before a phase
+ALWAYS void add_momentum(const tile *t, const half *begin, const half *end, int parity, int times, long long *sum)
 {
-    const half *o = (const half *)old, *p = (const half *)places;
-    half *n = (half *)out;
-    for (int k = 0; k < 128; k++) n[k] ^= (n[k] ^ o[k]) & p[k];
-    long long ee = count(old->ee, places->ee), oe = count(old->oe, places->oe);
-    long long eo = count(old->eo, places->eo), oo = count(old->oo, places->oo), sign = parity ? -2 : 2;
-    account[0] += sign * (ee + eo - oe - oo);
-    account[1] += sign * (ee + oe - eo - oo);
+    long long ee = count(t->ee, end), oe = count(t->oe, begin);
+    long long eo = count(t->eo, end + parity), oo = count(t->oo, begin + parity);
+    if (parity) times = -times;
+    sum[0] += times * (ee + eo - oe - oo);
+    sum[1] += times * (ee + oe - eo - oo);
+}
+
+// the same for all particles
+static void add_all(const tile *p, int tick, int times, long long *sum)
+{
+    half all[33];
+    memset(all, 255, sizeof all);
+    for (int i = 0; i < TILES; i++) add_momentum(p + i, all, all, tick % 2, times, sum);
+}
+
+// Obstacles take twice the momentum of the particles in their blocks.
+static void book_obstacles(const tile *t, int i, int parity)
+{
+    const held *h = obstacles_held + parity;
+    if (h->rows[i]) add_momentum(t, h->begin[i], parity ? h->end[i] : h->begin[i], parity, 2, took + 2);
 }
 
 static near near_of(const tile *p, int x, int y)
 {
-    const tile *here = p + y * WORDS, *above = p + (y + WORDS - 1) % WORDS * WORDS, *below = p + (y + 1) % WORDS * WORDS;
+    int above = (y + WORDS - 1) % WORDS * WORDS, here = y * WORDS, below = (y + 1) % WORDS * WORDS;
     int l = x ? x - 1 : WORDS - 1, r = x + 1 < WORDS ? x + 1 : 0;
-    return (near){above + x, below + x, here + l, here + r, above + l, above + r, below + l, below + r};
+    return (near){p + above + x, p + below + x, p + here + l, p + here + r, p + above + l, p + above + r, p + below + l,
+                  p + below + r, walled[1].begin[here + x], walled[1].end[here + x]};
 }
 
-static void hold_both(const tile *old, tile *out, int i, int parity)
-{
-    if (walls_held[parity].any[i]) hold(old, walls_held[parity].cells + i, out, took, parity);
-    if (obstacles_held[parity].any[i]) hold(old, obstacles_held[parity].cells + i, out, took + 2, parity);
-}
-
-static void even_phase(tile *p)
+ALWAYS void even_phase(tile *p, const int solid, int counted)
 {
     for (int i = 0; i < TILES; i++) {
-        if (walls_held[0].any[i] | obstacles_held[0].any[i]) {
-            tile old = p[i];
-            even(p + i);
-            hold_both(&old, p + i, i, 0);
-        } else {
-            even(p + i);
-        }
+        if (counted) book_obstacles(p + i, i, 0);
+        even(p + i, walled[0].begin[i], solid ? walled[0].rows[i] : 0);
     }
 }
 
-static void odd_phase(const tile *from, tile *to)
+ALWAYS void odd_phase(const tile *from, tile *to, const int solid, int counted)
 {
     for (int y = 0, i = 0; y < WORDS; y++)
         for (int x = 0; x < WORDS; x++, i++) {
             near n = near_of(from, x, y);
-            odd(from + i, &n, to + i);
-            hold_both(from + i, to + i, i, 1);
+            if (counted) book_obstacles(from + i, i, 1);
+            odd(from + i, &n, solid ? walled[1].rows[i] : 0, to + i);
         }
 }
 
@@ -222,39 +278,55 @@ static int any_of_block(plane set, int x, int y)
     return get(set, x, y) | get(set, r, y) | get(set, x, b) | get(set, r, b);
 }
 
-// the cells of the blocks of a parity that have a cell of the set, and none of the other
-static void prepare(held *h, int parity, plane set, plane but)
+// marks the block of a cell in the cell's tile
+static void mark(held *h, int parity, int x, int y)
 {
+    int i = y / 64 * WORDS + x / 64;
+    half *rows = x % 2 == parity ? h->begin[i] : h->end[i];
+    rows[(y % 64 + parity) / 2] |= (half)1 << x % 64 / 2;
+    h->rows[i] |= (half)1 << y % 64 / 2;
+}
+
+// adds the blocks of a parity that have a cell of the set, and returns whether there are any
+static int prepare(held *h, int parity, plane set)
+{
+    int some = 0;
     for (int y = parity; y < SIDE; y += 2)
         for (int x = parity; x < SIDE; x += 2) {
-            if (!any_of_block(set, x, y) || (but && any_of_block(but, x, y))) continue;
-            for (int k = 0; k < 4; k++) {
-                int cx = (x + k % 2) % SIDE, cy = (y + k / 2) % SIDE;
-                set_in_tiles(h->cells, cx, cy);
-                h->any[cy / 64 * WORDS + cx / 64] = 1;
-            }
+            if (!any_of_block(set, x, y)) continue;
+            some = 1;
+            for (int k = 0; k < 4; k++) mark(h, parity, (x + k % 2) % SIDE, (y + k / 2) % SIDE);
         }
+    return some;
 }
 
 static void begin_classes(void)
 {
     for (int parity = 0; parity < 2; parity++) {
-        prepare(walls_held + parity, parity, walls, obstacles);
-        prepare(obstacles_held + parity, parity, obstacles, NULL);
+        some_walls = prepare(walled + parity, parity, walls);
+        some_obstacles = prepare(walled + parity, parity, obstacles);
+        prepare(obstacles_held + parity, parity, obstacles);
     }
     for (int y = 0; y < SIDE; y++)
         for (int x = 0; x < SIDE; x++)
             if (get(particles, x, y)) set_in_tiles(first, x, y);
 }
 
+// Walls and obstacles together take the momentum that is missing at the end. If there are both, what obstacles take is
+// counted, and walls took the rest.
 static void run_classes(int steps)
 {
     tile *now = first, *spare = second, *old;
+    int some = some_walls || some_obstacles, both = some_walls && some_obstacles;
+    long long missing[2] = {0, 0}, *account = some_walls ? took : took + 2;
+    if (some) add_all(now, 0, 1, missing);
     for (int t = 0; t < steps; t++)
         if (t % 2)
-            odd_phase(now, spare), old = now, now = spare, spare = old;
+            some ? odd_phase(now, spare, 1, both) : odd_phase(now, spare, 0, 0), old = now, now = spare, spare = old;
         else
-            even_phase(now);
+            some ? even_phase(now, 1, both) : even_phase(now, 0, 0);
+    if (some) add_all(now, steps, -1, missing);
+    for (int k = 0; k < 2; k++) account[k] = missing[k] - took[2 + k];
     if (now != first) memcpy(first, now, sizeof first);
 }
 
