@@ -1,19 +1,19 @@
 -- What is put back in walled blocks, and what it gives.
-use Rattle.std.proofs.Common.{◌≡◌, ℕ, zero, suc, inl, inr, ◌+◌, ◌-◌, ◌*◌, ◌/◌, ◌%◌, ◌^◌, ◌<◌, ◌≤◌, ◌⊎◌, Bool, true, false, not, ◌&&◌, ◌||◌, if◌then◌else◌, List, get_or, refl, sym, subst, Option, Some, None, ◌∙◌, ap, ap₂, arith, bit_and, bit_or}
+use Rattle.std.proofs.Common.{◌≡◌, ℕ, zero, suc, inl, inr, ◌+◌, ◌-◌, ◌*◌, ◌/◌, ◌%◌, ◌^◌, ◌<◌, ◌≤◌, Bool, true, false, not, ◌&&◌, ◌||◌, if◌then◌else◌, List, get_or, refl, sym, subst, Option, Some, None, ◌∙◌, ap, ap₂, arith, bit_and, bit_or}
 use Rattle.std.specs.Prelude.{pos, ◌-ℤ◌, ℤ}
 use Rattle.std.proofs.lemmas.Int.{ints}
 use mir.Val.{to_z, of_z}
 use Rattle.std.specs.Int.{bit_not, w32, w64}
 use Rattle.std.specs.Int.RustNames.{count_ones}
 use Rattle.std.proofs.lemmas.Nat.{and_le_l}
-use Rattle.std.proofs.lemmas.Bool.{cases_eq, cases_lt, eq-eqb, ne_eqb}
+use Rattle.std.proofs.lemmas.Bool.{cases_eq, eq-eqb, ne_eqb}
 use Rattle.bit_tile.specs.Bit.{bit}
 use Rattle.bit_tile.specs.Sums.{sum_below, count_below}
 use Rattle.bit_tile.specs.Tile.{has, HasCells}
 use Rattle.bit_tile.specs.declared.Tile.{Tile}
 use Rattle.bit_tile.proofs.Bits.{bit-zero, bit-and, bit-or, bit-shr, bit_of_low}
 use Rattle.bit_tile.proofs.Words32.{bit-not, bit-ones}
-use Rattle.bit_tile.proofs.Sums.{sum_below-zero, sum_below-more, sum_below-same, count_below-same, count_below-none}
+use Rattle.bit_tile.proofs.Sums.{sum_below-more, sum_below-same, count_below-same, count_below-none}
 use Rattle.bit_tile.proofs.Counts.{class_count, ones_of_two}
 use Rattle.bit_tile.proofs.Classes.{IsClass, is_even_even, is_odd_even, is_even_odd, is_odd_odd}
 use Rattle.gas_terms.specs.declared.accounts.Pair.{Pair}
@@ -200,11 +200,6 @@ module _ (t : Tile) (rows : ℕ) (told : TellsRows rows (has t)) where
   told_odd_odd i j h k e = is_odd_odd t i j h k ∙ untold 1 1 i j (omega arith) (omega arith) h k e
 
 -- what is put back of them, and what is taken
-pub held_at : (tile before out places : Tile) (test : ℕ → ℕ → Bool) → HasCells places test → HasCells out (λ x y. if has places x y then has tile x y else has before x y)
-    → HasCells out (λ x y. if test x y then has tile x y else has before x y)
-held_at tile before out places test is_places is_out x y h k =
-    is_out x y h k ∙ ap (λ b. if b then has tile x y else has before x y) (is_places x y h k)
-
 pub took_at : (p : ℕ) (tile places : Tile) (test : ℕ → ℕ → Bool) → HasCells places test → twice_momentum p (λ x y. has tile x y && has places x y) ≡ twice_momentum p (λ x y. has tile x y && test x y)
 took_at p tile places test is_places = twice_momentum-same p _ _ (λ x y h k. ap (λ b. has tile x y && b) (is_places x y h k))
 

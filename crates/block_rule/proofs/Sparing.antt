@@ -1,9 +1,9 @@
 -- Rows in which the old cells of a set stay.
-use Rattle.std.proofs.Common.{◌≡◌, ℕ, ◌+◌, ◌*◌, ◌/◌, ◌<◌, Bool, true, false, if◌then◌else◌, get_or, refl, sym, ◌∙◌, ap, arith}
+use Rattle.std.proofs.Common.{◌≡◌, ℕ, ◌+◌, ◌*◌, ◌/◌, ◌<◌, Bool, false, if◌then◌else◌, get_or, sym, ◌∙◌, ap, arith}
 use Rattle.bit_tile.specs.Bit.{bit}
 use Rattle.bit_tile.specs.Tile.{HasCells}
 use Rattle.bit_tile.specs.declared.Tile.{Tile}
-use Rattle.bit_tile.proofs.Classes.{IsClass, is_even_even, is_odd_even, is_even_odd, is_odd_odd}
+use Rattle.bit_tile.proofs.Classes.{is_even_even, is_odd_even, is_even_odd, is_odd_odd}
 use Rattle.block_rule.specs.Lent.{HasNoCell, TellsRows}
 use Rattle.block_rule.specs.Rows.{AreKept, IsSpared, IsSparedRow, IsSparedTop, IsSparedBottom, odd_row}
 use Rattle.block_rule.specs.declared.blocks.Blocks.{Blocks}

@@ -227,7 +227,7 @@ spared_cell : (w o kept old made own beside facing across : Bool) (cell : Bool �
 spared_cell w o kept old made own beside facing across cell e f g = rw (g, e, f) refl
 
 module _ (cell : Bool → Bool → Bool → Bool → Bool) (window walled obstructed : ℕ → ℕ → Bool) (r y old_odd old_even odd even first_odd first_even last_odd last_even : ℕ)
-  (first : IsSpared walled r old_odd old_even odd even first_odd first_even) (last : IsSpared obstructed r old_odd old_even first_odd first_even last_odd last_even) where
+    (first : IsSpared walled r old_odd old_even odd even first_odd first_even) (last : IsSpared obstructed r old_odd old_even first_odd first_even last_odd last_even) where
   pub spared_upper : ((i : ℕ) → i < 32 → window (2 * i + 2) y ≡ bit old_odd i) → ((i : ℕ) → i < 32 → window (2 * i + 1) y ≡ bit old_even i) → AreUpper (λ _. cell) (λ _. cell) window y odd even
       → AreUpper (λ i. spared walled obstructed cell (2 * i + 1) r) (λ i. spared walled obstructed cell (2 * i + 0) r) window y last_odd last_even
   spared_upper shows_odd shows_even are =

@@ -29,9 +29,16 @@ fn keep_eight(rows: &mut EightRows, tile: &Tile, places: &Tile, from: usize)
         let j = from + k;
         rows.upper_left[k] = kept(tile.odd_odd[j], places.odd_odd[j], rows.upper_left[k]);
         rows.upper_right[k] = kept(tile.even_odd[j], places.even_odd[j], rows.upper_right[k]);
-        rows.lower_left[k] = kept(tile.odd_even[j + 1], places.odd_even[j + 1], rows.lower_left[k]);
-        rows.lower_right[k] =
-            kept(tile.even_even[j + 1], places.even_even[j + 1], rows.lower_right[k]);
+        rows.lower_left[k] = kept(
+            tile.odd_even[j + 1],
+            places.odd_even[j + 1],
+            rows.lower_left[k],
+        );
+        rows.lower_right[k] = kept(
+            tile.even_even[j + 1],
+            places.even_even[j + 1],
+            rows.lower_right[k],
+        );
     }
 }
 
@@ -64,7 +71,11 @@ pub fn spare_top(row: Blocks, tile: &Tile, places: Option<Places<'_>>) -> Blocks
             upper_left: row.upper_left,
             upper_right: row.upper_right,
             lower_left: kept(tile.odd_even[0], places.cells.odd_even[0], row.lower_left),
-            lower_right: kept(tile.even_even[0], places.cells.even_even[0], row.lower_right),
+            lower_right: kept(
+                tile.even_even[0],
+                places.cells.even_even[0],
+                row.lower_right,
+            ),
         },
         None => row,
     }
@@ -79,7 +90,11 @@ pub fn spare_bottom(row: Blocks, tile: &Tile, places: Option<Places<'_>>) -> Blo
     match places {
         Some(places) => Blocks {
             upper_left: kept(tile.odd_odd[31], places.cells.odd_odd[31], row.upper_left),
-            upper_right: kept(tile.even_odd[31], places.cells.even_odd[31], row.upper_right),
+            upper_right: kept(
+                tile.even_odd[31],
+                places.cells.even_odd[31],
+                row.upper_right,
+            ),
             lower_left: row.lower_left,
             lower_right: row.lower_right,
         },

@@ -1,9 +1,9 @@
 -- The momentum before and after a run, and what was taken in it.
-use Rattle.std.proofs.Common.{◌≡◌, ℕ, zero, suc, ◌+◌, ◌*◌, ◌%◌, ◌<◌, ◌≤◌, ◌^◌, Bool, true, false, not, [], map, ℤ, pos, ◌+ℤ◌, ◌-ℤ◌, nat_abs, w64, FitsSigned, to_z, of_z, refl, sym, ap, ap₂, ◌∙◌, subst, arith}
+use Rattle.std.proofs.Common.{◌≡◌, ℕ, zero, suc, ◌+◌, ◌*◌, ◌%◌, ◌<◌, ◌≤◌, ◌^◌, Bool, true, false, not, [], map, ℤ, pos, ◌+ℤ◌, ◌-ℤ◌, nat_abs, w64, FitsSigned, to_z, of_z, refl, sym, ap, ◌∙◌, subst, arith}
 use Rattle.std.proofs.lemmas.Int.{ints}
 use Rattle.gas_terms.specs.Velocity.{parity}
-use Rattle.gas_terms.specs.Cells.{Cells, HasEvenSides, HasSidesOf, joined, extent, is_size, tile_count}
-use Rattle.gas_terms.specs.Gas.{Gas, streamed}
+use Rattle.gas_terms.specs.Cells.{Cells, HasEvenSides, joined, extent, is_size, tile_count}
+use Rattle.gas_terms.specs.Gas.{streamed}
 use Rattle.gas_terms.specs.Accounts.{taken, total, plus, minus, less_taken, together, gained, lost, sums_of, channels, TakenFits, pair_plus, IsOfAtMost, IsTakenOfAtMost}
 use Rattle.gas_terms.specs.declared.accounts.Pair.{Pair}
 use Rattle.gas_terms.specs.declared.accounts.Sums.{Sums}
@@ -14,7 +14,7 @@ use Rattle.gas_terms.proofs.AccountBounds.{more_sums}
 use Rattle.gas_terms.proofs.Totals.{same_sums}
 use Rattle.gas_plane.specs.Planes.{IsLattice}
 use Rattle.gas_plane.proofs.PlaneCounts.{few_tiles}
-use Rattle.block_rule.specs.Accounts.{if_counted, counted_of}
+use Rattle.block_rule.specs.Accounts.{if_counted}
 use Rattle.block_rule.specs.declared.walled.Counted.{Counted}
 use Rattle.phase_step.specs.Runs.{parity_at}
 use Rattle.phase_step.specs.Actions.{Leaves, acted, after_with, takes_with, moves_with, flow_with, flow_plus, FlowsFit}

@@ -1,5 +1,5 @@
 -- What tiles take, in one phase and in many.
-use Rattle.std.proofs.Common.{◌≡◌, ℕ, zero, suc, ◌+◌, ◌-◌, ◌*◌, ◌/◌, ◌%◌, ◌<◌, ◌≤◌, ◌^◌, ◌⊎◌, inl, inr, Bool, true, false, ℤ, IsTrue, pos, ◌+ℤ◌, ◌*ℤ◌, nat_abs, w64, FitsSigned, refl, sym, ap, ap₂, ◌∙◌, subst, arith, add-one}
+use Rattle.std.proofs.Common.{◌≡◌, ℕ, zero, suc, ◌+◌, ◌-◌, ◌*◌, ◌<◌, ◌≤◌, ◌^◌, ◌⊎◌, inl, inr, Bool, true, false, ℤ, pos, ◌+ℤ◌, ◌*ℤ◌, nat_abs, w64, FitsSigned, refl, sym, ap, ap₂, ◌∙◌, subst, arith, add-one}
 use Rattle.std.proofs.lemmas.Int.{ints}
 use Rattle.gas_terms.specs.Cells.{Cells, HasSidesOf, extent, is_size, tile_count, tile_rectangle}
 use Rattle.gas_terms.specs.Gas.{takes_for_walls, takes_for_obstacles}
@@ -141,9 +141,6 @@ counted_plus c a b = took_same (kept_plus c.walls a.walls b.walls) (kept_plus c.
     kept_plus : (counted : Bool) (a b : Pair) → pair_plus (if_counted counted a) (if_counted counted b) ≡ if_counted counted (pair_plus a b)
     kept_plus true a b = refl
     kept_plus false a b = refl
-
-pub counted_both : (c : Counted) (t : Took) → IsTrue c.walls → IsTrue c.obstacles → counted_of c t ≡ t
-counted_both c t of_walls of_obstacles = rw (of_walls, of_obstacles) refl
 
 pub counted_none : (c : Counted) → nothing ≡ counted_of c nothing
 counted_none c = took_same (kept_none c.walls) (kept_none c.obstacles)

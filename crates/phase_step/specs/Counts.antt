@@ -1,7 +1,5 @@
 use Rattle.std.specs.Prelude.{◌≡◌, ℕ, ◌+◌, ◌*◌, ◌%◌, ◌<◌, ◌≤◌, ◌==◌, ◌&&◌, Bool, ℤ, List, slice_index}
 use Rattle.bit_tile.specs.Tile.{count_cells}
-use Rattle.gas_terms.specs.Cells.{Cells, Rectangle}
-use Rattle.gas_terms.specs.Accounts.{parity_count}
 use Rattle.gas_terms.specs.Counts.{sums_of_counts}
 use Rattle.gas_terms.specs.declared.accounts.Moved.{Moved}
 use Rattle.phase_step.specs.declared.sums.change.Change.{Change}

@@ -2,9 +2,8 @@
 use Rattle.std.specs.Prelude.{ℕ, not, ◌&&◌, ◌||◌, pos, ◌+ℤ◌}
 use Rattle.gas_terms.specs.Velocity.{parity}
 use Rattle.gas_terms.specs.Gas.{Gas, solid, is_drained, is_filled}
-use Rattle.gas_terms.specs.Accounts.{plus, with_taken, with_moved}
+use Rattle.gas_terms.specs.Accounts.{with_taken, with_moved}
 use Rattle.gas_terms.specs.BookedGas.{BookedGas}
-use Rattle.gas_terms.specs.declared.accounts.Ledger.{Ledger}
 use Rattle.gas_terms.specs.declared.accounts.Took.{Took}
 use Rattle.phase_step.specs.Actions.{Leaves, after_with, takes_with, moves_with}
 use Rattle.gas_terms.specs.declared.accounts.Moved.{Moved}

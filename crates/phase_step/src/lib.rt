@@ -19,11 +19,11 @@ pub mod laws;
 mod steps;
 mod sums;
 
+pub use balance::{completed, one_account, run_counting};
+pub use block_rule::Counted;
 pub use exchanges::{
     Action, Exchange, Few, Later, Listed, Still, act_after, act_on, any_area, change_of,
 };
-pub use balance::{completed, one_account, run_counting};
-pub use block_rule::Counted;
 use gas_plane::Plane;
 use gas_terms::Took;
 use std::mem;

@@ -1,5 +1,5 @@
 -- A strip that has made its course.
-use Rattle.std.proofs.Common.{◌≡◌, ℕ, ◌+◌, ◌-◌, ◌*◌, ◌/◌, ◌%◌, ◌<◌, ◌≤◌, true, refl, sym, ap, ap₂, ◌∙◌, subst, arith}
+use Rattle.std.proofs.Common.{◌≡◌, ℕ, ◌+◌, ◌-◌, ◌*◌, ◌/◌, ◌%◌, ◌<◌, true, refl, sym, ap, ap₂, ◌∙◌, subst, arith}
 use Rattle.gas_terms.specs.Cells.{Cells, HasSidesOf, has, extent, is_size}
 use Rattle.gas_terms.proofs.Cells.{has-cells_where}
 use Rattle.gas_plane.proofs.Places.{wide, high}

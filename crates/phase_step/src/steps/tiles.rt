@@ -78,12 +78,7 @@ pub fn turn_and_count(
 /// Turns the blocks of tile i, which begin at even columns and rows, so that each lies in the tile. Returns what walls and
 /// obstacles take of its particles; an account that is not kept has 0. The sets are lattices of one size.
 #[inline(always)]
-pub fn turn_tile_in_place(
-    solids: Solids<'_>,
-    i: u32,
-    counted: Counted,
-    tile: &mut Tile,
-) -> Took
+pub fn turn_tile_in_place(solids: Solids<'_>, i: u32, counted: Counted, tile: &mut Tile) -> Took
     requires walls { i < tile_count solids.walls.now }
     requires obstacles { i < tile_count solids.obstacles.now }
     requires place { IsPlaceOf solids.walls.now solids.walls.now solids.obstacles.now i }
@@ -106,12 +101,7 @@ pub fn turn_tile_in_place(
 // Where the tile's cells at walled sites are worked out here. It is a function of its own, so that their room is not cleared for
 // tiles that need none.
 #[inline(never)]
-fn turn_even_unprepared(
-    solids: Solids<'_>,
-    i: u32,
-    counted: Counted,
-    tile: &mut Tile,
-) -> Took
+fn turn_even_unprepared(solids: Solids<'_>, i: u32, counted: Counted, tile: &mut Tile) -> Took
     requires walls { i < tile_count solids.walls.now }
     requires obstacles { i < tile_count solids.obstacles.now }
     requires place { IsPlaceOf solids.walls.now solids.walls.now solids.obstacles.now i }
@@ -130,13 +120,7 @@ fn turn_even_unprepared(
 
 // Where this is lent of the tile's cells at walled sites.
 #[inline(always)]
-fn turn_even(
-    solids: Solids<'_>,
-    i: u32,
-    lent: Lent<'_>,
-    counted: Counted,
-    tile: &mut Tile,
-) -> Took
+fn turn_even(solids: Solids<'_>, i: u32, lent: Lent<'_>, counted: Counted, tile: &mut Tile) -> Took
     requires lent { AreLent 0 solids.walls.now solids.obstacles.now i lent }
     ensures cells { (old : Cells) → let s = solids.entry in let r = tile_rectangle old i in
         IsPlaceOf old s.walls.now s.obstacles.now i → IsTileFrom tile.old old r.x r.y →
@@ -150,13 +134,7 @@ fn turn_even(
 
 // Blocks begin at odd columns and rows: those at the tile's edges reach into the tiles round it.
 #[inline(always)]
-fn turn_odd(
-    old: &Plane,
-    solids: Solids<'_>,
-    at: Position,
-    counted: Counted,
-    out: &mut Tile,
-) -> Took
+fn turn_odd(old: &Plane, solids: Solids<'_>, at: Position, counted: Counted, out: &mut Tile) -> Took
     requires tile { at.tile < tile_count old.now }
     requires position { IsPosition (old.now.width / 64) at }
     requires place { IsPlaceOf old.now solids.walls.now solids.obstacles.now at.tile }
@@ -173,9 +151,7 @@ fn turn_odd(
         return turn_odd_with(old, solids, at, NOTHING_LENT, counted, out);
     }
     match solids.sites {
-        Some(sites) => {
-            turn_odd_with(old, solids, at, sites.odd.in_tile(at.tile), counted, out)
-        }
+        Some(sites) => { turn_odd_with(old, solids, at, sites.odd.in_tile(at.tile), counted, out) }
         None => turn_odd_unprepared(old, solids, at, counted, out),
     }
 }

@@ -1,4 +1,4 @@
-use Rattle.std.proofs.Common.{ℕ, Bool, arith, length-set, sym, get_or, ◌∙◌}
+use Rattle.std.proofs.Common.{arith, length-set, sym, get_or, ◌∙◌}
 use Rattle.bit_tile.specs.Bit.{bit}
 use Rattle.block_rule.specs.Cell.{turned_cell}
 use Rattle.block_rule.proofs.Windows.{even_row_more, even_row_rest, even_cells}

@@ -1,4 +1,4 @@
-use Rattle.std.proofs.Common.{◌≡◌, ℕ, ◌+◌, ◌-◌, ◌*◌, sym, subst, arith}
+use Rattle.std.proofs.Common.{◌≡◌, ℕ, ◌+◌, ◌-◌, sym, subst, arith}
 use Rattle.block_rule.specs.Cell.{spared}
 use Rattle.block_rule.specs.Rows.{AreMadeOdd, odd_row, eight_row, beside_left, beside_right}
 use Rattle.block_rule.proofs.Windows.{spared_row}

@@ -1,8 +1,7 @@
-use Rattle.std.proofs.Common.{◌≡◌, ℕ, ◌+◌, ◌-◌, ◌*◌, ◌<◌, ◌∙◌, ap, arith, refl, inl, inr, length, get_or, get_or-set_same}
+use Rattle.std.proofs.Common.{◌≡◌, ℕ, ◌+◌, ◌-◌, ◌*◌, ◌<◌, ◌∙◌, arith, refl, inl, inr, length, get_or, get_or-set_same}
 use Rattle.std.proofs.lemmas.Bool.{cases_eq}
 use Rattle.block_rule.specs.Cell.{spared}
-use Rattle.block_rule.specs.Rows.{odd_row}
-use Rattle.block_rule.proofs.Windows.{upper_end, upper_inner, upper_of, lower_of, spared_upper, spared_lower, uppers_more, lowers_more, lower_same, lower_next, odd_cells, inner_shown, top_shown, bottom_shown}
+use Rattle.block_rule.proofs.Windows.{upper_end, upper_inner, upper_of, lower_of, spared_upper, spared_lower, uppers_more, lowers_more, lower_next, odd_cells, inner_shown, top_shown, bottom_shown}
 use Rattle.block_rule.proofs.made.make_odd.Goals as goal
 
 pub returns : goal.returns

@@ -1,4 +1,4 @@
-use Rattle.std.proofs.Common.{◌≡◌, ℕ, ◌+◌, ◌<◌, ◌≤◌, arith, length-set, inl, inr, ap, ◌∙◌, get_or-set_other}
+use Rattle.std.proofs.Common.{ℕ, ◌+◌, ◌≤◌, arith, length-set, inl, inr, ◌∙◌, get_or-set_other}
 use Rattle.std.proofs.lemmas.Bool.{cases_eq}
 use Rattle.block_rule.specs.Rows.{eight_row}
 use Rattle.block_rule.proofs.Windows.{odd_row_set, odd_row_rest, upper_outside, upper_before, lower_outside, lower_before, upper_end_of, lower_end_of}

@@ -1,4 +1,4 @@
-use Rattle.std.proofs.Common.{◌+◌, arith, length-set, sym, subst, ◌∙◌}
+use Rattle.std.proofs.Common.{◌+◌, arith, length-set, subst, ◌∙◌}
 use Rattle.block_rule.specs.Rows.{AreKept, odd_row, eight_row}
 use Rattle.block_rule.specs.declared.blocks.Blocks.{Blocks}
 use Rattle.block_rule.proofs.Windows.{eight_more, eight_rest}

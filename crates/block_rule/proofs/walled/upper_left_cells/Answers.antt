@@ -1,4 +1,4 @@
-use Rattle.std.proofs.Common.{ℕ, ◌+◌, ◌*◌, ◌<◌, ◌∙◌, sym, ap, ap₂, arith}
+use Rattle.std.proofs.Common.{◌+◌, ◌*◌, ◌∙◌, sym, ap, ap₂, arith}
 use Rattle.bit_tile.proofs.Classes.{is_even_even}
 use Rattle.block_rule.proofs.Holding.{lent_places, nothing_lent}
 use Rattle.bit_tile.proofs.Bits.{bit-zero, get_or-replicate_zero}
