@@ -236,10 +236,6 @@ both_took p tile walled obstructed c a b of_walls of_obstacles =
     (of_walls ∙ ap (if_counted c.walls) (twice_momentum-same p _ _ (λ x y h k. joined_tests (has tile x y) (is_walled_at p walled x y) (is_walled_at p obstructed x y))))
     of_obstacles
 
-pub not_counted : (counted : Bool) (p : Pair) → counted ≡ false → pair (pos 0) (pos 0) ≡ if_counted counted p
-not_counted true p e = cc
-not_counted false p e = refl
-
 pub is_counted : (counted : Bool) (p q : Pair) → counted ≡ true → p ≡ q → p ≡ if_counted counted q
 is_counted true p q e f = f
 is_counted false p q e f = cc

@@ -1,13 +1,11 @@
 -- Rows in which the old cells of a set stay.
-use Rattle.std.proofs.Common.{◌≡◌, ℕ, ◌+◌, ◌*◌, ◌/◌, ◌<◌, Bool, false, if◌then◌else◌, get_or, sym, ◌∙◌, ap, arith}
+use Rattle.std.proofs.Common.{◌≡◌, ℕ, ◌+◌, ◌*◌, ◌<◌, Bool, if◌then◌else◌, get_or, sym, ◌∙◌, arith}
 use Rattle.bit_tile.specs.Bit.{bit}
 use Rattle.bit_tile.specs.Tile.{HasCells}
 use Rattle.bit_tile.specs.declared.Tile.{Tile}
 use Rattle.bit_tile.proofs.Classes.{is_even_even, is_odd_even, is_even_odd, is_odd_odd}
-use Rattle.block_rule.specs.Lent.{HasNoCell, TellsRows}
-use Rattle.block_rule.specs.Rows.{AreKept, IsSpared, IsSparedRow, IsSparedTop, IsSparedBottom, odd_row}
+use Rattle.block_rule.specs.Rows.{AreKept, IsSparedRow, IsSparedTop, IsSparedBottom, odd_row}
 use Rattle.block_rule.specs.declared.blocks.Blocks.{Blocks}
-use Rattle.block_rule.proofs.Holding.{kept_of}
 
 -- a word of a class of the places, by the test
 module _ (test : ℕ → ℕ → Bool) (places : Tile) (are : HasCells places test) where
@@ -26,13 +24,6 @@ module _ (test : ℕ → ℕ → Bool) (places : Tile) (are : HasCells places te
 by_test : (a b x y z : Bool) → z ≡ (if a then x else y) → a ≡ b → z ≡ (if b then x else y)
 by_test a b x y z e f = rw (sym f) e
 
--- two words of which none is in the set
-words_without : (test : ℕ → ℕ → Bool) (y old_odd old_even odd even : ℕ) → ((x : ℕ) → x < 64 → test x y ≡ false) → IsSpared test y old_odd old_even odd even odd even
-words_without test y old_odd old_even odd even none = record {
-  in_odd = λ i h. kept_of (test (2 * i + 1) y) (bit old_odd i) (bit odd i) (none (2 * i + 1) (omega arith));
-  in_even = λ i h. kept_of (test (2 * i + 0) y) (bit old_even i) (bit even i) (none (2 * i + 0) (omega arith));
-}
-
 pub row_spared : (test : ℕ → ℕ → Bool) (places : Tile) (j : ℕ) (old new after : Blocks) → j < 31 → HasCells places test → AreKept old (odd_row places j) new after → IsSparedRow test j old new after
 row_spared test places j old new after inside are kept =
     record {
@@ -46,22 +37,6 @@ row_spared test places j old new after inside are kept =
       };
     }
 
-pub row_without : (test : ℕ → ℕ → Bool) (j : ℕ) (old new : Blocks) → j < 31 → HasNoCell test → IsSparedRow test j old new new
-row_without test j old new inside none =
-    record {
-      upper = words_without test (2 * j + 1) old.upper_left old.upper_right new.upper_left new.upper_right (λ x h. none x (2 * j + 1) h (omega arith));
-      lower = words_without test (2 * (j + 1) + 0) old.lower_left old.lower_right new.lower_left new.lower_right (λ x h. none x (2 * (j + 1) + 0) h (omega arith));
-    }
-
-pub row_untold : (test : ℕ → ℕ → Bool) (rows j : ℕ) (old new : Blocks) → j < 31 → TellsRows rows test → bit rows j ≡ false → bit rows (j + 1) ≡ false → IsSparedRow test j old new new
-row_untold test rows j old new inside tells upper lower =
-    let at : (2 * j + 1) / 2 ≡ j = omega arith in
-    let next : (2 * (j + 1) + 0) / 2 ≡ j + 1 = omega arith in
-    record {
-      upper = words_without test (2 * j + 1) old.upper_left old.upper_right new.upper_left new.upper_right (λ x h. tells x (2 * j + 1) h (omega arith) (ap (bit rows) at ∙ upper));
-      lower = words_without test (2 * (j + 1) + 0) old.lower_left old.lower_right new.lower_left new.lower_right (λ x h. tells x (2 * (j + 1) + 0) h (omega arith) (ap (bit rows) next ∙ lower));
-    }
-
 pub top_spared : (test : ℕ → ℕ → Bool) (t places : Tile) (new after : Blocks) → HasCells places test → ((i : ℕ) → i < 32 → bit after.lower_left i ≡ (if bit (get_or places.odd_even 0 0) i then bit (get_or t.odd_even 0 0) i else bit new.lower_left i))
     → ((i : ℕ) → i < 32 → bit after.lower_right i ≡ (if bit (get_or places.even_even 0 0) i then bit (get_or t.even_even 0 0) i else bit new.lower_right i)) → IsSparedTop test t new after
 top_spared test t places new after are odd even = record {
@@ -69,15 +44,9 @@ top_spared test t places new after are odd even = record {
   in_even = λ i h. by_test _ _ _ _ _ (even i h) (at_even_even test places are i 0 h (omega arith));
 }
 
-pub top_without : (test : ℕ → ℕ → Bool) (t : Tile) (new : Blocks) → HasNoCell test → IsSparedTop test t new new
-top_without test t new none = words_without test (2 * 0 + 0) _ _ _ _ (λ x h. none x (2 * 0 + 0) h (omega arith))
-
 pub bottom_spared : (test : ℕ → ℕ → Bool) (t places : Tile) (new after : Blocks) → HasCells places test → ((i : ℕ) → i < 32 → bit after.upper_left i ≡ (if bit (get_or places.odd_odd 31 0) i then bit (get_or t.odd_odd 31 0) i else bit new.upper_left i))
     → ((i : ℕ) → i < 32 → bit after.upper_right i ≡ (if bit (get_or places.even_odd 31 0) i then bit (get_or t.even_odd 31 0) i else bit new.upper_right i)) → IsSparedBottom test t new after
 bottom_spared test t places new after are odd even = record {
   in_odd = λ i h. by_test _ _ _ _ _ (odd i h) (at_odd_odd test places are i 31 h (omega arith));
   in_even = λ i h. by_test _ _ _ _ _ (even i h) (at_even_odd test places are i 31 h (omega arith));
 }
-
-pub bottom_without : (test : ℕ → ℕ → Bool) (t : Tile) (new : Blocks) → HasNoCell test → IsSparedBottom test t new new
-bottom_without test t new none = words_without test (2 * 31 + 1) _ _ _ _ (λ x h. none x (2 * 31 + 1) h (omega arith))

@@ -117,19 +117,6 @@ even_cells cell window tile out shows done =
         let column : i ≡ (2 * i + a) / 2 = omega arith in
         ap₂ (λ r c. made (cell r c) 0 window (2 * i + a) (2 * j + b)) row column
 
--- a loop writes row j of odd blocks
-pub odd_row_set : (out : Tile) (new : Blocks) (j : ℕ) → j < length out.odd_odd → j < length out.even_odd → j + 1 < length out.odd_even → j + 1 < length out.even_even →
-    odd_row (record { even_even = set out.even_even (j + 1) new.lower_right; odd_even = set out.odd_even (j + 1) new.lower_left; even_odd = set out.even_odd j new.upper_right; odd_odd = set out.odd_odd j new.upper_left }) j ≡ new
-odd_row_set out new j oo eo oe ee =
-    same_blocks _ _ _ _ _ _ _ _ (get_or-set_same out.odd_odd j new.upper_left 0 oo) (get_or-set_same out.even_odd j new.upper_right 0 eo) (get_or-set_same out.odd_even (j + 1) new.lower_left 0 oe) (get_or-set_same out.even_even (j + 1) new.lower_right 0 ee)
-
-pub odd_row_rest : (out : Tile) (new : Blocks) (j k : ℕ) → k < j →
-    odd_row (record { even_even = set out.even_even (j + 1) new.lower_right; odd_even = set out.odd_even (j + 1) new.lower_left; even_odd = set out.even_odd j new.upper_right; odd_odd = set out.odd_odd j new.upper_left }) k ≡ odd_row out k
-odd_row_rest out new j k before =
-    let other : k ≡ j → ⊥ = λ e. omega arith in
-    let next : k + 1 ≡ j + 1 → ⊥ = λ e. omega arith in
-    same_blocks _ _ _ _ _ _ _ _ (get_or-set_other out.odd_odd j k new.upper_left 0 other) (get_or-set_other out.even_odd j k new.upper_right 0 other) (get_or-set_other out.odd_even (j + 1) (k + 1) new.lower_left 0 next) (get_or-set_other out.even_even (j + 1) (k + 1) new.lower_right 0 next)
-
 -- one more of eight rows
 pub eight_more : (P : ℕ → Blocks → Type 0) (rows : EightRows) (new : Blocks) (k : ℕ) → k < length rows.upper_left → k < length rows.upper_right → k < length rows.lower_left → k < length rows.lower_right →
     ((m : ℕ) → m < k → P m (eight_row rows m)) → P k new → (m : ℕ) → m < k + 1 →
@@ -140,36 +127,6 @@ eight_more P rows new k ul ur ll lr before here m below =
       | inr other ↦
           rw (get_or-set_other rows.upper_left k m new.upper_left 0 other, get_or-set_other rows.upper_right k m new.upper_right 0 other, get_or-set_other rows.lower_left k m new.lower_left 0 other, get_or-set_other rows.lower_right k m new.lower_right 0 other) (before m (omega arith))
     ]
-
-pub eight_rest : (rows : EightRows) (new : Blocks) (k m : ℕ) → k < m →
-    eight_row (record { upper_left = set rows.upper_left k new.upper_left; upper_right = set rows.upper_right k new.upper_right; lower_left = set rows.lower_left k new.lower_left; lower_right = set rows.lower_right k new.lower_right }) m ≡ eight_row rows m
-eight_rest rows new k m after =
-    let other : m ≡ k → ⊥ = λ e. omega arith in
-    same_blocks _ _ _ _ _ _ _ _ (get_or-set_other rows.upper_left k m new.upper_left 0 other) (get_or-set_other rows.upper_right k m new.upper_right 0 other) (get_or-set_other rows.lower_left k m new.lower_left 0 other) (get_or-set_other rows.lower_right k m new.lower_right 0 other)
-
-pub upper_outside : (k from j : ℕ) → from ≤ j → (k < from) ⊎ (j + 1 ≤ k) → (k ≡ j → ⊥)
-upper_outside k from j order (inl h) e = omega arith
-upper_outside k from j order (inr h) e = omega arith
-
-pub upper_before : (k from j : ℕ) → (k < from) ⊎ (j + 1 ≤ k) → (k < from) ⊎ (j ≤ k)
-upper_before k from j (inl h) = inl h
-upper_before k from j (inr h) = inr (omega arith)
-
-pub lower_outside : (k from j : ℕ) → from ≤ j → (k ≤ from) ⊎ (j + 1 < k) → (k ≡ j + 1 → ⊥)
-lower_outside k from j order (inl h) e = omega arith
-lower_outside k from j order (inr h) e = omega arith
-
-pub lower_before : (k from j : ℕ) → (k ≤ from) ⊎ (j + 1 < k) → (k ≤ from) ⊎ (j < k)
-lower_before k from j (inl h) = inl h
-lower_before k from j (inr h) = inr (omega arith)
-
-pub upper_end_of : (m from k : ℕ) → (m < from) ⊎ (from + (k + 1) ≤ m) → (m < from) ⊎ (from + k + 1 ≤ m)
-upper_end_of m from k (inl h) = inl h
-upper_end_of m from k (inr h) = inr (omega arith)
-
-pub lower_end_of : (m from k : ℕ) → (m ≤ from) ⊎ (from + (k + 1) < m) → (m ≤ from) ⊎ (from + k + 1 < m)
-lower_end_of m from k (inl h) = inl h
-lower_end_of m from k (inr h) = inr (omega arith)
 
 -- the rows of odd blocks, in the window: between two rows of the tile, at its top and at its bottom
 module _ (window : ℕ → ℕ → Bool) (t : Tile) (shows : ShowsTile window t) (a d l r al ar dl dr : Tile) (round : ShowsRound window a d l r al ar dl dr) where

@@ -7,21 +7,12 @@ ghost use Rattle.block_rule.specs.Around.{twice_momentum};
 ghost use Rattle.block_rule.specs.Lent.{TellsRows};
 ghost use Rattle.block_rule.specs.Classes.{HasAtMost, AreCounts, AreParticlesIn, TellsWords, particles_among};
 
-use crate::walled::Places;
+use crate::walled::{Places, told};
 use bit_tile::{Tile, joined};
 use gas_terms::Pair;
 
 // rows of a class that are looked at together
 const TOGETHER: usize = 8;
-
-// what a word tells of eight rows, of which the first is 8 * k
-#[inline]
-fn told_in(rows: u32, k: usize) -> u32
-    requires { k < 4 }
-    ensures { result ≡ 0 → (j : ℕ) → 8 * k ≤ j → j < 8 * k + 8 → bit rows j ≡ false }
-{
-    (rows >> (8 * k)) % 256
-}
 
 // How many old cells there are in these places, two rows at a time.
 #[inline]
@@ -47,8 +38,9 @@ fn count_class(cells: &[u32; 32], places: &[u32; 32], rows: u32) -> u32
 {
     let mut n = 0;
     for k in 0..4usize {
-        if told_in(rows, k) != 0 {
-            n += count_rows(cells, places, k * TOGETHER);
+        let from = k * TOGETHER;
+        if told(rows, from, 8) != 0 {
+            n += count_rows(cells, places, from);
         }
     }
     n

@@ -150,29 +150,23 @@ fn write_eight(rows: &EightRows, from: usize, out: &mut Tile)
     }
 }
 
-// A tile between two others.
+// A tile between two others, and two sets whose old cells stay in it.
 #[derive(Clone, Copy)]
 struct Between<'a> {
     tile: &'a Tile,
     left: &'a Tile,
     right: &'a Tile,
+    walls: Option<Places<'a>>,
+    obstacles: Option<Places<'a>>,
 }
 
-// The eight rows of odd blocks from `from` on, in which the old cells of two sets stay. Called four times a tile, it is quicker
-// than its code four times over.
+// The eight rows of odd blocks from `from` on. Called four times a tile, it is quicker than its code four times over.
 #[inline(never)]
-fn make_eight_odd<R: Rule>(
-    rule: R,
-    particles: &Between<'_>,
-    walls: Option<Places<'_>>,
-    obstacles: Option<Places<'_>>,
-    from: usize,
-    out: &mut Tile,
-)
+fn make_eight_odd<R: Rule>(rule: R, here: &Between<'_>, from: usize, out: &mut Tile)
     requires { from < 24 }
-    ensures rows { (window walled obstructed : ℕ → ℕ → Bool) → let p = particles.now in
-        ShowsInnerRows window p.tile.now p.left.now p.right.now →
-        IsLentOf walls.entry walled → IsLentOf obstacles.entry obstructed →
+    ensures rows { (window walled obstructed : ℕ → ℕ → Bool) → let h = here.now in
+        ShowsInnerRows window h.tile.now h.left.now h.right.now →
+        IsLentOf h.walls walled → IsLentOf h.obstacles obstructed →
         (j : ℕ) → from ≤ j → j < from + 8 →
         AreMadeOdd (spared walled obstructed (R.cell rule)) window j (odd_row out.new j) }
     ensures upper_rest { (j : ℕ) → (j < from) ⊎ (from + 8 ≤ j) →
@@ -182,10 +176,10 @@ fn make_eight_odd<R: Rule>(
         (slice_index out.new.odd_even j ≡ slice_index out.old.odd_even j) ×
         (slice_index out.new.even_even j ≡ slice_index out.old.even_even j) }
 {
-    let Between { tile, left, right } = *particles;
-    let mut rows = made_eight(rule, tile, left, right, from);
-    spare_eight(&mut rows, tile, walls, from);
-    spare_eight(&mut rows, tile, obstacles, from);
+    let tile = here.tile;
+    let mut rows = made_eight(rule, tile, here.left, here.right, from);
+    spare_eight(&mut rows, tile, here.walls, from);
+    spare_eight(&mut rows, tile, here.obstacles, from);
     write_eight(&rows, from, out);
 }
 
@@ -259,15 +253,17 @@ pub fn make_odd<R: Rule>(
     out.odd_even[0] = top.lower_left;
     out.even_even[0] = top.lower_right;
     // four times eight rows: row 23 comes twice
-    let particles = Between {
+    let here = Between {
         tile,
         left: near.left,
         right: near.right,
+        walls,
+        obstacles,
     };
-    make_eight_odd(rule, &particles, walls, obstacles, 0, out);
-    make_eight_odd(rule, &particles, walls, obstacles, 8, out);
-    make_eight_odd(rule, &particles, walls, obstacles, 16, out);
-    make_eight_odd(rule, &particles, walls, obstacles, 23, out);
+    make_eight_odd(rule, &here, 0, out);
+    make_eight_odd(rule, &here, 8, out);
+    make_eight_odd(rule, &here, 16, out);
+    make_eight_odd(rule, &here, 23, out);
     let bottom = made_bottom(rule, tile, &near);
     let bottom = spare_bottom(spare_bottom(bottom, tile, walls), tile, obstacles);
     out.odd_odd[31] = bottom.upper_left;

@@ -6,17 +6,8 @@ ghost use Rattle.block_rule.specs.Lent.{IsLentOf};
 ghost use Rattle.block_rule.specs.Rows.{AreKept, IsSparedRow, IsSparedTop, IsSparedBottom, odd_row, eight_row};
 
 use crate::blocks::{Blocks, EightRows, kept};
-use crate::walled::Places;
+use crate::walled::{Places, told};
 use bit_tile::Tile;
-
-// What a word tells of the eight rows of odd blocks that begin in the tile's odd rows from `from` on.
-#[inline(always)]
-fn told_from(rows: u32, from: usize) -> u32
-    requires { from < 24 }
-    ensures { result ≡ 0 → (j : ℕ) → from ≤ j → j ≤ from + 8 → bit rows j ≡ false }
-{
-    (rows >> from) % 512
-}
 
 // Puts the old cells of a tile in these places back into eight rows of odd blocks.
 #[inline(always)]
@@ -50,13 +41,10 @@ pub fn spare_eight(rows: &mut EightRows, tile: &Tile, places: Option<Places<'_>>
         IsSparedRow test (from + k) (odd_row tile.now (from + k)) (eight_row rows.old k)
         (eight_row rows.new k) }
 {
-    match places {
-        Some(places) => {
-            if told_from(places.rows, from) != 0 {
-                keep_eight(rows, tile, places.cells, from);
-            }
+    if let Some(places) = places {
+        if told(places.rows, from, 9) != 0 {
+            keep_eight(rows, tile, places.cells, from);
         }
-        None => (),
     }
 }
 
@@ -66,18 +54,15 @@ pub fn spare_top(row: Blocks, tile: &Tile, places: Option<Places<'_>>) -> Blocks
     ensures { (test : ℕ → ℕ → Bool) → IsLentOf places.entry test →
         IsSparedTop test tile.now row result }
 {
-    match places {
-        Some(places) => Blocks {
-            upper_left: row.upper_left,
-            upper_right: row.upper_right,
-            lower_left: kept(tile.odd_even[0], places.cells.odd_even[0], row.lower_left),
-            lower_right: kept(
-                tile.even_even[0],
-                places.cells.even_even[0],
-                row.lower_right,
-            ),
-        },
-        None => row,
+    let Some(places) = places else {
+        return row;
+    };
+    let cells = places.cells;
+    Blocks {
+        upper_left: row.upper_left,
+        upper_right: row.upper_right,
+        lower_left: kept(tile.odd_even[0], cells.odd_even[0], row.lower_left),
+        lower_right: kept(tile.even_even[0], cells.even_even[0], row.lower_right),
     }
 }
 
@@ -87,17 +72,14 @@ pub fn spare_bottom(row: Blocks, tile: &Tile, places: Option<Places<'_>>) -> Blo
     ensures { (test : ℕ → ℕ → Bool) → IsLentOf places.entry test →
         IsSparedBottom test tile.now row result }
 {
-    match places {
-        Some(places) => Blocks {
-            upper_left: kept(tile.odd_odd[31], places.cells.odd_odd[31], row.upper_left),
-            upper_right: kept(
-                tile.even_odd[31],
-                places.cells.even_odd[31],
-                row.upper_right,
-            ),
-            lower_left: row.lower_left,
-            lower_right: row.lower_right,
-        },
-        None => row,
+    let Some(places) = places else {
+        return row;
+    };
+    let cells = places.cells;
+    Blocks {
+        upper_left: kept(tile.odd_odd[31], cells.odd_odd[31], row.upper_left),
+        upper_right: kept(tile.even_odd[31], cells.even_odd[31], row.upper_right),
+        lower_left: row.lower_left,
+        lower_right: row.lower_right,
     }
 }

@@ -1,7 +1,7 @@
 //! The cells of walled blocks: which of a tile's they are, how they keep their particles in a phase, and what is taken of
 //! these.
 
-ghost use Rattle.std.specs.Prelude.{◌≡◌, ℕ, ◌*◌, ◌<◌, Bool, ◌&&◌, ◌||◌, if◌then◌else◌, slice_index};
+ghost use Rattle.std.specs.Prelude.{◌≡◌, ℕ, ◌+◌, ◌*◌, ◌<◌, ◌≤◌, Bool, false, ◌&&◌, ◌||◌, if◌then◌else◌, slice_index};
 ghost use Rattle.bit_tile.specs.Bit.{bit};
 ghost use Rattle.bit_tile.specs.Tile.{has, HasCells};
 ghost use Rattle.block_rule.specs.Around.{is_walled_at, twice_momentum, taken, is_for_walls, either};
@@ -80,6 +80,16 @@ impl<'a> Places<'a> {
             rows: u32::MAX,
         }
     }
+}
+
+/// What such a word tells of n bits from `from` on: 0 only if there are no cells in their rows.
+#[inline(always)]
+pub fn told(rows: u32, from: usize, n: u32) -> u32
+    requires from { from < 32 }
+    requires n { n < 32 }
+    ensures { result ≡ 0 → (j : ℕ) → from ≤ j → j < from + n → bit rows j ≡ false }
+{
+    (rows >> from) % (1 << n)
 }
 
 /// The blocks of a tile's rows, at even parity, that are walled: those with a cell in one of these sets. Bit i of word j is

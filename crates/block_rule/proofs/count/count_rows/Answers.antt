@@ -1,14 +1,8 @@
-use Rattle.std.proofs.Common.{◌≡◌, ◌+◌, ◌*◌, ◌^◌, ◌<◌, ◌∙◌, ap, arith, bit_and}
+use Rattle.std.proofs.Common.{◌+◌, ◌*◌, ◌^◌, ◌<◌, arith, bit_and}
 use Rattle.std.proofs.lemmas.Nat.{ones-le, and_le_l}
 use Rattle.block_rule.specs.Classes.{particles_among}
 use Rattle.block_rule.proofs.Holding.{ones_among, rows_more}
 use Rattle.block_rule.proofs.count.count_rows.Goals as goal
-
-pub loop-k-init : goal.loop-k-init
-loop-k-init c =
-    let e : c.args.from ≡ c.args.from + 2 * 0 = omega arith in
-    let same = ap (particles_among c.args.old.now c.args.places.now) e in
-    record { count = omega (arith, same); bound = omega arith }
 
 pub loop-k-preserved : goal.loop-k-preserved
 loop-k-preserved c =
@@ -22,8 +16,3 @@ loop-k-preserved c =
       count = rows_more c.args.old.now c.args.places.now c.loop-k.n _ j (c.args.from + 2 * (c.loop-k.k + 1)) (particles_among c.args.old.now c.args.places.now c.args.from) c.loop-k.invariant.count here (omega arith);
       bound = omega (arith, ones-le 64 (bit_and cells there) both_fit, c.loop-k.invariant.bound);
     }
-
-pub returns-clause-count : goal.returns-clause-count
-returns-clause-count c =
-    let all : c.args.from + 2 * c.loop-k.k ≡ c.args.from + 8 = omega arith in
-    c.loop-k.invariant.count ∙ ap (particles_among c.args.old.now c.args.places.now) all

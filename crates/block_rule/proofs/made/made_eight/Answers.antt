@@ -14,6 +14,3 @@ loop-k-preserved g c =
           eight_more (λ m. IsMadeOdd (g.R.Rule.cell c.args.rule) window (2 * (c.args.from + m) + 2)) c.loop-k.rows c.made_inner-made.result c.loop-k.k (omega arith) (omega arith) (omega arith) (omega arith)
           (c.loop-k.invariant.done window shown) (c.made_inner-made.ensures window shown);
     }
-
-pub returns : goal.returns
-returns g c = λ window shown k below. c.loop-k.invariant.done window shown k (omega arith)

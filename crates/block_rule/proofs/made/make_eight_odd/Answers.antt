@@ -8,7 +8,7 @@ pub returns-clause-rows : goal.returns-clause-rows
 returns-clause-rows g c = λ window walled obstructed shows of_walls of_obstacles j low below.
     let cell = g.R.Rule.cell c.args.rule in
     let rule = spared walled obstructed cell in
-    let p = c.args.particles.now in
+    let p = c.args.here.now in
     let k : ℕ = j - c.args.from in
     let there : c.args.from + (j - c.args.from) ≡ j = omega arith in
     let at : ℕ = c.args.from + (j - c.args.from) in

@@ -1,19 +1,6 @@
-use Rattle.std.proofs.Common.{arith, length-set, sym, ◌∙◌}
-use Rattle.block_rule.proofs.Windows.{even_row_more, even_row_rest, even_cells}
+use Rattle.std.proofs.Common.{arith}
+use Rattle.block_rule.proofs.Windows.{even_cells}
 use Rattle.block_rule.proofs.made.make_even.Goals as goal
-
-pub loop-j-preserved : goal.loop-j-preserved
-loop-j-preserved g c =
-    record {
-      ee = simp length-set c.loop-j.invariant.ee;
-      oe = simp length-set c.loop-j.invariant.oe;
-      eo = simp length-set c.loop-j.invariant.eo;
-      oo = simp length-set c.loop-j.invariant.oo;
-      done =
-          even_row_more (λ _ _. g.R.Rule.cell c.args.rule) c.args.tile.now c.loop-j.tile c.made-new.result c.loop-j.j (omega arith) (omega arith) (omega arith) (omega arith)
-          c.loop-j.invariant.done (rw (sym (c.loop-j.invariant.rest c.loop-j.j (omega arith))) c.made-new.ensures);
-      rest = λ k low. even_row_rest c.loop-j.tile c.made-new.result c.loop-j.j k (omega arith) ∙ c.loop-j.invariant.rest k (omega arith);
-    }
 
 pub returns : goal.returns
 returns g c = λ window shows. even_cells (λ _ _. g.R.Rule.cell c.args.rule) window c.args.tile.now c.loop-j.tile shows (λ k h. c.loop-j.invariant.done k (omega arith))

@@ -1,9 +1,6 @@
 use Rattle.std.proofs.Common.{◌∙◌}
-use Rattle.block_rule.proofs.Holding.{lent_places, tells_rows, nothing_lent, took_at, none_took, is_counted, not_counted}
+use Rattle.block_rule.proofs.Holding.{lent_places, tells_rows, nothing_lent, took_at, none_took, is_counted}
 use Rattle.block_rule.proofs.walled.taken_of_one.Goals as goal
-
-pub returns-then-not-counted : goal.returns-then-not-counted
-returns-then-not-counted c = λ test is. not_counted c.args.counted _ c.if-not-counted.true
 
 pub returns-in-Some : goal.returns-in-Some
 returns-in-Some c = λ test is.
