@@ -10,7 +10,7 @@ use Rattle.bit_tile.specs.Sums.{sum_below, count_below}
 use Rattle.bit_tile.proofs.Bits.{bit_of_low, bit_of_top}
 
 -- the numbers below n + 1 are those below n, and n
-range-suc : (a n : ℕ) → range_with_len a (suc n) ≡ range_with_len a n ++ (a + n) ∷ []
+pub range-suc : (a n : ℕ) → range_with_len a (suc n) ≡ range_with_len a n ++ (a + n) ∷ []
 range-suc a zero = ap (λ m. m ∷ []) (sym (add-zero a))
 range-suc a (suc n) =
     let e : (a + 1) + n ≡ a + suc n = omega arith in

@@ -47,10 +47,6 @@ kept_torus lab others kept =
     subst (λ (b : BookedGas). IsEvenTorus b.gas.particles) (sym (all_booked lab kept.sound))
     (book_all-torus (commands lab.journal) (opened lab.start) (torus_of lab.start.particles kept.lattice))
 
--- What a gas's type keeps: its sets have the same even sides.
-pub gas_on_one_torus : (g : Gas) → IsSoundGas g → IsOnOneTorus g
-gas_on_one_torus g ok = record { sides = (torus_of g.particles ok.particles).sides; walls = ok.fit.walls_sides; obstacles = ok.fit.obstacles_sides }
-
 -- Whatever the next command is, the accounts fit.
 pub kept_affords : (lab : Laboratory) (others : Cells) (entry : Entry) → IsKept lab others → IsAcceptable lab entry → Affords (booked lab)
 kept_affords lab others entry kept acceptable = λ command few.

@@ -12,7 +12,7 @@ use Rattle.gas_plane.specs.Marks.{mark_at, IsMarkOf}
 use Rattle.gas_plane.specs.declared.marks.Mark.{Mark}
 use Rattle.gas_plane.specs.declared.marks.Mark.TheVariants.{Bare, Lent}
 use Rattle.gas_plane.specs.Planes.{IsTileFrom, IsBare, IsBareRound, IsBareFarRound, AreThreeBare, HasNone, place_by}
-use Rattle.gas_plane.proofs.Places.{IsWholeTiles, ring_before, ring_after, ring_in, ring_cases, cell_below}
+use Rattle.gas_plane.proofs.Places.{IsWholeTiles, ring_before, ring_after, ring_in, ring_cases, cell_below, stays}
 use Rattle.gas_plane.proofs.Tilings.{tiled, tile_is, tile_there, set_covers, nothing_there}
 
 -- what is put in the place of tile i, with a mark of its own
@@ -35,30 +35,6 @@ marked_set tiles marks i t mark size was low is =
 -- a lent tile may hold anything
 pub lent_is_mark : (t : Tile) → IsMarkOf t Lent
 lent_is_mark t = record { bare = λ e. absurd (cc); held = λ e. absurd (cc) }
-
-bare_is_mark : (t : Tile) → HasCells t (λ _ _. false) → IsMarkOf t Bare
-bare_is_mark t none = record { bare = λ _. none; held = λ e. absurd (cc) }
-
--- all tiles of an empty set
-pub marked_empty : (tiles : List Tile) (marks : List Mark) (size : Extent) (t : Tile) (n m : ℕ) → tiles ≡ replicate n t → marks ≡ replicate m Bare
-    → n ≡ size.width / 64 * (size.height / 64) → m ≡ size.width / 64 * (size.height / 64) → is_size size ≡ true → HasCells t (λ _ _. false) → IsMarked tiles marks size
-marked_empty tiles marks size t n m all flags en em sized none =
-    let long : length tiles ≡ n = ap length all ∙ length-replicate n t in
-    let long_marks : length marks ≡ m = ap length flags ∙ length-replicate m Bare in
-    record {
-      cover = record { sized = sized; enough = long ∙ en };
-      each = omega arith;
-      mark = λ i.
-          elim (cases_lt i m) [
-            | inl less ↦
-                let tile : tile_at tiles i ≡ t = ap (λ (tiles : List Tile). tile_at tiles i) all ∙ get_or-replicate n i t no_cells (omega arith) in
-                let mark : mark_at marks i ≡ Bare = ap (λ (marks : List Mark). mark_at marks i) flags ∙ get_or-replicate m i Bare Lent less in
-                subst (IsMarkOf (tile_at tiles i)) (sym mark) (subst (λ (t : Tile). IsMarkOf t Bare) (sym tile) (bare_is_mark t none))
-            | inr past ↦
-                let gone : mark_at marks i ≡ Lent = get_or_past marks i Lent (omega arith) in
-                subst (IsMarkOf (tile_at tiles i)) (sym gone) (lent_is_mark (tile_at tiles i))
-          ];
-    }
 
 -- the tile of a number
 pub tile_here : (tiles : List Tile) (size : Extent) (cells : Cells) (i : ℕ) → Cover tiles size → tiled tiles size ≡ cells → i < tile_count cells → IsTileFrom (tile_at tiles i) cells (i % (cells.width / 64) * 64) (i / (cells.width / 64) * 64)
@@ -86,9 +62,6 @@ one_more_bare cells n before bare k low =
 
 pub is_true : (b : Bool) → b ≡ true → IsTrue b
 is_true b e = grind arith
-
-stays : (n k : ℕ) → k < n → k % n ≡ k
-stays n k less = let e : k ≡ 0 * n + k = omega arith in ap (λ m. m % n) e ∙ mod-mul-add 0 n k less
 
 wraps : (n k : ℕ) → k < n → (k + n) % n ≡ k
 wraps n k less = let e : k + n ≡ 1 * n + k = omega arith in ap (λ m. m % n) e ∙ mod-mul-add 1 n k less

@@ -196,15 +196,6 @@ rows_end r row x y none =
 pub same_wide : (cells now : Cells) (test : ℕ → ℕ → Bool) (held : Bool) → now ≡ painted_where cells test held → now.width ≡ cells.width
 same_wide cells now test held e = ap (λ (c : Cells). c.width) e
 
-pub same_high : (cells now : Cells) (test : ℕ → ℕ → Bool) (held : Bool) → now ≡ painted_where cells test held → now.height ≡ cells.height
-same_high cells now test held e = ap (λ (c : Cells). c.height) e
-
--- the tile in the column of a row of tiles
-pub tile_in_row : (cells now : Cells) (test : ℕ → ℕ → Bool) (held : Bool) (row column across : ℕ) → now ≡ painted_where cells test held → across ≡ cells.width / 64 → row < cells.height / 64 → column < across → row * across + column < tile_count now
-tile_in_row cells now test held row column across so_far wide p q =
-    let less : column < cells.width / 64 = rw (← wide) q in
-    rw (so_far, wide) (mul-add-lt row (cells.width / 64) column (cells.height / 64) p less)
-
 pub row_more : (cells now next : Cells) (r : Rectangle) (held : Bool) (row column across : ℕ) (part : ℕ → ℕ → Bool) → IsLattice cells → across ≡ cells.width / 64 → column < across → now ≡ painted_where cells (in_row r row column) held → ((x y : ℕ) → x < 64 → y < 64 → part x y ≡ is_inside r (column * 64 + x) (row * 64 + y))
     → next ≡ painted_where now (λ x y. (tile_of now x y == row * across + column) && part (x % 64) (y % 64)) held → next ≡ painted_where cells (in_row r row (column + 1)) held
 row_more cells now next r held row column across part is wide_is less so_far of put =

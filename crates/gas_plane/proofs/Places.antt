@@ -33,7 +33,7 @@ pub cell_below : (n column x : ℕ) → IsWholeTiles n → column < n / 64 → x
 cell_below n column x is h k = let e = is.tiles in omega arith
 
 -- round a circle of n places
-stays : (n k : ℕ) → k < n → k % n ≡ k
+pub stays : (n k : ℕ) → k < n → k % n ≡ k
 stays n k less = let e : k ≡ 0 * n + k = omega arith in ap (λ m. m % n) e ∙ mod-mul-add 0 n k less
 
 wraps : (n k : ℕ) → k < n → (k + n) % n ≡ k

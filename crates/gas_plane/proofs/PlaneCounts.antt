@@ -16,6 +16,7 @@ use Rattle.gas_terms.proofs.RectangleTotals.{parity_count_is}
 use Rattle.gas_plane.specs.Planes.{IsLattice, IsTileFrom, tile_of}
 use Rattle.gas_plane.proofs.Places.{IsWholeTiles, wide, high, cell_below}
 use Rattle.gas_plane.proofs.Sweeps.{left_of, top_of, tile_column}
+use Rattle.gas_terms.proofs.ProbeTotals.{right_inside, bottom_inside}
 
 -- 1 for a cell of the rectangle with these parities
 abbrev pub counted : Cells → Rectangle → ℕ → ℕ → ℕ → ℕ → ℕ
@@ -48,12 +49,6 @@ below r x y h = grind (arith, nat_tests)
 
 within_it : (r : Rectangle) (i j : ℕ) → i < r.w → j < r.h → is_inside r (r.x + i) (r.y + j) ≡ true
 within_it r i j p q = grind (arith, nat_tests)
-
-right_inside : (w h : ℕ) (r : Rectangle) → lies_within (record { width = w; height = h }) r ≡ true → r.x + r.w ≤ w
-right_inside w h r fits = grind (arith, nat_tests)
-
-bottom_inside : (w h : ℕ) (r : Rectangle) → lies_within (record { width = w; height = h }) r ≡ true → r.y + r.h ≤ h
-bottom_inside w h r fits = grind (arith, nat_tests)
 
 -- the rectangle's count is one over all cells
 counted_over_cells : (cells : Cells) (r : Rectangle) (a b : ℕ) → lies_within (extent cells) r ≡ true → cell_sum cells.width cells.height (counted cells r a b) ≡ parity_count cells r a b
@@ -241,12 +236,6 @@ below_rows cells last x y p h =
 pub rows_within : (cells : Cells) (row : ℕ) → row ≤ cells.height / 64 → row * (cells.width / 64) ≤ tile_count cells
 rows_within cells row h = omega (arith, mul-le row (cells.width / 64) (cells.height / 64) (cells.width / 64) h (omega arith), mul_comm (cells.width / 64) (cells.height / 64))
 
-pub columns_within : (cells : Cells) (row column : ℕ) → row < cells.height / 64 → column ≤ cells.width / 64 → row * (cells.width / 64) + column ≤ tile_count cells
-columns_within cells row column p q =
-    let k : (row + 1) * (cells.width / 64) ≤ tile_count cells = rows_within cells (row + 1) (omega arith) in
-    let e : (row + 1) * (cells.width / 64) ≡ row * (cells.width / 64) + 1 * (cells.width / 64) = add-mul row 1 (cells.width / 64) in
-    omega arith
-
 -- a place in a list of four
 pub class_place : (a b : ℕ) → a < 2 → b < 2 → 2 * b + a < 4
 class_place a b p q = omega arith
@@ -255,10 +244,3 @@ pub few_tiles : (cells : Cells) (i : ℕ) → IsLattice cells → i ≤ tile_cou
 few_tiles cells i is h =
     let k : tile_count cells ≤ 64 * 64 = mul-le (cells.width / 64) (cells.height / 64) 64 64 (wide (extent cells) is.sized).few (high (extent cells) is.sized).few in
     omega arith
-
-pub sum_of_four : (m n : List ℕ) (k : ℕ) → k < 4 → get_or ((get_or m 0 0 + get_or n 0 0) ∷ (get_or m 1 0 + get_or n 1 0) ∷ (get_or m 2 0 + get_or n 2 0) ∷ (get_or m 3 0 + get_or n 3 0) ∷ []) k 0 ≡ get_or m k 0 + get_or n k 0
-sum_of_four m n zero p = refl
-sum_of_four m n (suc zero) p = refl
-sum_of_four m n (suc (suc zero)) p = refl
-sum_of_four m n (suc (suc (suc zero))) p = refl
-sum_of_four m n (suc (suc (suc (suc k)))) p = absurd (omega arith)

@@ -131,9 +131,6 @@ chunk_at bytes column k h =
     let less : k < column * 8 + 8 - column * 8 = omega arith in
     rw (get_or-take, get_or-drop)
 
-pub row_sides : (cells now : Cells) (row : ℕ) (bytes : List ℕ) (column : ℕ) → now ≡ rowed cells row bytes column → (now.width ≡ cells.width) × (now.height ≡ cells.height)
-row_sides cells now row bytes column e = (ap (λ (c : Cells). c.width) e, ap (λ (c : Cells). c.height) e)
-
 -- the tile that a word is in
 pub word_tile : (cells : Cells) (column row across : ℕ) → IsLattice cells → across ≡ cells.width / 64 → column < cells.width / 64 → row < cells.height → row / 64 * across + column < tile_count cells
 word_tile cells column row across is e p q =

@@ -116,10 +116,6 @@ sweep_next cells now next test i t made is within so_far from put makes =
     ∙ (ap (λ (now : Cells). with_tile now i made) so_far
     ∙ sweep_tile cells test i made is (λ x y p q. makes x y p q (sweep_reads cells test i t is within from_swept x y p q)))
 
-pub sweep_within : (cells now : Cells) (test : ℕ → ℕ → Bool) (i end : ℕ) → now ≡ swept cells test i → i < end → end ≤ tile_count cells → i < tile_count now
-sweep_within cells now test i end e less within =
-    subst (λ (now : Cells). i < tile_count now) (sym e) (let k : i < tile_count cells = omega arith in k)
-
 pub sweep_begins : (cells : Cells) (test : ℕ → ℕ → Bool) → IsLattice cells → swept cells test 0 ≡ cells
 sweep_begins cells test is = sym (sweep_starts cells test 0 is.full (λ x y p q h. absurd (omega arith)))
 

@@ -25,9 +25,6 @@ use Rattle.gas_snapshot.specs.Reading.{cells_in}
 abbrev pub first_rows : Extent → List ℕ → ℕ → Cells
 first_rows size field n = cells_where size.width size.height (λ x y. if nat_lt y n then row_has (drop (y * (size.width / 8)) field) x else false)
 
-pub no_rows : (size : Extent) (field : List ℕ) → no_cells size ≡ first_rows size field 0
-no_rows size field = same_cells_where size.width size.height (λ _ _. false) (λ x y. if nat_lt y 0 then row_has (drop (y * (size.width / 8)) field) x else false) (λ x y p q. grind (arith, nat_tests))
-
 pub all_rows : (size : Extent) (field : List ℕ) (n : ℕ) → size.height ≤ n → first_rows size field n ≡ cells_in size field
 all_rows size field n le =
     same_cells_where size.width size.height (λ x y. if nat_lt y n then row_has (drop (y * (size.width / 8)) field) x else false) (λ x y. row_has (drop (y * (size.width / 8)) field) x)

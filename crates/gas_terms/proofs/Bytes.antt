@@ -9,6 +9,7 @@ use Rattle.std.proofs.lemmas.List.FromFn.{get_or-map-range_with_len, length-map-
 use Rattle.gas_terms.specs.Cells.{Cells, has, IsFull}
 use Rattle.gas_terms.specs.Rows.{row_has, row_bytes, row_replaced}
 use Rattle.gas_terms.proofs.Cells.{has-cells_where, full-cells_where, same_cells}
+use Rattle.gas_terms.proofs.RowSums.{new_row}
 
 -- a byte as the sum of its bits, the first the highest
 abbrev pub bits_summed : (ℕ → Bool) → ℕ
@@ -107,17 +108,10 @@ row_has-row_bytes cells x y even h =
     ∙ (bit_summed (λ k. has cells (8 * (x / 8) + k) y) (x % 8) (omega arith)
     ∙ ap (λ x. has cells x y) (let e : 8 * (x / 8) + x % 8 ≡ x = omega arith in e))
 
--- a replaced row has the cells of its bytes, and the others are as before
-replaced_row : (row y : ℕ) (a b : Bool) → y ≡ row → (if y == row then a else b) ≡ a
-replaced_row row y a b e = grind (arith, e)
-
 pub has-row_replaced : (cells : Cells) (row : ℕ) (bytes : List ℕ) (x y : ℕ) → x < cells.width → y < cells.height
     → has (row_replaced cells row bytes) x y ≡ (if y == row then row_has bytes x else has cells x y)
 has-row_replaced cells row bytes x y p q =
     has-cells_where cells.width cells.height (λ x y. if y == row then row_has bytes x else has cells x y) x y p q
-
-has_same_row : (cells : Cells) (row : ℕ) (bytes : List ℕ) (x : ℕ) → x < cells.width → row < cells.height → has (row_replaced cells row bytes) x row ≡ row_has bytes x
-has_same_row cells row bytes x p q = has-row_replaced cells row bytes x row p q ∙ replaced_row row row (row_has bytes x) (has cells x row) refl
 
 -- what is written is read again
 bit_in_byte : (bytes : List ℕ) (i k : ℕ) → k < 8 → (get_or bytes i 0 / 2 ^ (7 - k) % 2 == 1) ≡ row_has bytes (8 * i + k)
@@ -130,7 +124,7 @@ written_byte : (cells : Cells) (y i : ℕ) (bytes : List ℕ) → i < cells.widt
     → get_or bytes i 0 ≡ bits_summed (λ k. has (row_replaced cells y bytes) (8 * i + k) y)
 written_byte cells y i bytes h q small =
     byte_from_bits (get_or bytes i 0) (λ k. has (row_replaced cells y bytes) (8 * i + k) y) small
-    (λ k l. bit_in_byte bytes i k l ∙ sym (has_same_row cells y bytes (8 * i + k) (omega arith) q))
+    (λ k l. bit_in_byte bytes i k l ∙ sym (new_row cells y bytes (8 * i + k) (omega arith) q))
 
 pub row_bytes-row_replaced : (cells : Cells) (y : ℕ) (bytes : List ℕ) → y < cells.height → length bytes ≡ cells.width / 8 → All (λ b. b < 256) bytes
     → row_bytes (row_replaced cells y bytes) y ≡ bytes

@@ -35,7 +35,6 @@ to_add n by = n - by % n
 
 pub from_is : (n by x : ℕ) → 0 < n → translated_from n by x ≡ (x + to_add n by) % n
 from_is n by x some =
-    let l : by % n < n = mod-lt by some in
     ap (λ k. k % n) (let e : x + n - by % n ≡ x + (n - by % n) = omega arith in e)
 
 -- A translation changes the parity by that of its cells.
@@ -104,7 +103,6 @@ whole_turns n by x l =
 from_there : (n by x : ℕ) → x < n → translated_from n by ((x + by) % n) ≡ x
 from_there n by x l =
     let some : 0 < n = omega arith in
-    let less : by % n < n = mod-lt by some in
     from_is n by ((x + by) % n) some
     ∙ mod-add-mod (x + by) n (to_add n by)
     ∙ ap (λ k. k % n) (let e : x + by + (n - by % n) ≡ x + (by - by % n) + n = omega (arith, div-add-mod' by n) in e)

@@ -12,6 +12,7 @@ use Rattle.phase_step.proofs.MovedSums.{moved_regrouped, moved_none}
 use Rattle.phase_step.proofs.ActedTiles.{still_acts}
 use Rattle.phase_step.proofs.ActionRuns.{acted_same, same_flow, sized_with, count_with, takes_with_within, moves_with_bounded, bounded_fits, IsMovedOfAtMost}
 use Rattle.phase_step.proofs.RunTakes.{IsWithin, within_fits, regrouped, plus_nothing}
+use Rattle.gas_terms.proofs.Steps.{full_streamed}
 
 -- the actions are the same in the first n phases
 abbrev pub AreSameBelow : ℕ → (ℕ → Leaves) → (ℕ → Leaves) → Type 0
@@ -139,14 +140,11 @@ part_flow_fits p w o leaves c m n q now next turns flow here is so_far few more 
 abbrev pub still : ℕ → Leaves
 still k x y held = held
 
-come_full : (q : ℕ) (now solid : Cells) → IsFull (streamed q now solid)
-come_full q now solid = full-cells_where now.width now.height (λ x y. arrived now solid (site_of (q + 1) now.width now.height x y) (velocity_at (q + 1) x y))
-
 pub still_after : (p : ℕ) (solid c : Cells) (n : ℕ) → after_with p solid still c n ≡ after p solid c n
 still_after p solid c zero = refl
 still_after p solid c (suc n) =
     let now = after_with p solid still c n in
-    sym (still_acts (still n) (streamed (parity_at p n) now solid) (come_full (parity_at p n) now solid) (λ x y held. refl))
+    sym (still_acts (still n) (streamed (parity_at p n) now solid) (full_streamed (parity_at p n) now solid) (λ x y held. refl))
     ∙ ap (λ (now : Cells). streamed (parity_at p n) now solid) (still_after p solid c n)
 
 pub still_takes : (p : ℕ) (w o c : Cells) (n : ℕ) → takes_with p w o still c n ≡ run_takes p w o c n

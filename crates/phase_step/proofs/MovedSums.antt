@@ -12,7 +12,7 @@ use Rattle.phase_step.proofs.RunTakes.{ints_crossed, ints_regrouped, int_plus_ze
 plus_crossed : (a b c d : Sums) → plus (plus a b) (plus c d) ≡ plus (plus a c) (plus b d)
 plus_crossed a b c d = same_sums _ _ (ints_crossed a.count b.count c.count d.count) (ints_crossed a.px b.px c.px d.px) (ints_crossed a.py b.py c.py d.py)
 
-plus_regrouped : (a b c : Sums) → plus (plus a b) c ≡ plus a (plus b c)
+pub plus_regrouped : (a b c : Sums) → plus (plus a b) c ≡ plus a (plus b c)
 plus_regrouped a b c = same_sums _ _ (ints_regrouped a.count b.count c.count) (ints_regrouped a.px b.px c.px) (ints_regrouped a.py b.py c.py)
 
 plus_none : (a : Sums) → a ≡ plus a accounts.nothing

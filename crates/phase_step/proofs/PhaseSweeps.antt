@@ -55,18 +55,6 @@ tiles_as cells others same = ap₂ (λ w h. w / 64 * (h / 64)) same.wide same.hi
 pub tiles_are : (cells : Cells) (size : Extent) (end : ℕ) → size ≡ extent cells → end ≡ size.width / 64 * (size.height / 64) → end ≡ tile_count cells
 tiles_are cells size end e f = f ∙ ap (λ (s : Extent). s.width / 64 * (s.height / 64)) e
 
--- walls and obstacles of the particles' torus, seen from the walls
-pub solid_place : (particles walls obstacles : Cells) (i : ℕ) → is_size (extent particles) ≡ true → i < tile_count particles → HasSidesOf walls particles → HasSidesOf obstacles particles
-    → (i < tile_count walls) × (i < tile_count obstacles) × IsTilePlace walls walls obstacles (tile_rectangle walls i).x (tile_rectangle walls i).y
-solid_place particles walls obstacles i sized within of_walls of_obstacles =
-    let among_walls : i < tile_count walls = subst (λ n. i < n) (sym (tiles_as walls particles of_walls)) within in
-    let among_obstacles : i < tile_count obstacles = subst (λ n. i < n) (sym (tiles_as obstacles particles of_obstacles)) within in
-    let wide = ap is_size (same_extent walls particles of_walls) ∙ sized in
-    (among_walls, among_obstacles, place_is walls walls obstacles i wide among_walls (record { wide = refl; high = refl }) (record { wide = of_obstacles.wide ∙ sym of_walls.wide; high = of_obstacles.high ∙ sym of_walls.high }))
-
-pub swept_sides : (now start old : Cells) (test : ℕ → ℕ → Bool) (i : ℕ) → now ≡ swept start test i → HasSidesOf start old → HasSidesOf now old
-swept_sides now start old test i e same = record { wide = ap (λ (c : Cells). c.width) e ∙ same.wide; high = ap (λ (c : Cells). c.height) e ∙ same.high }
-
 -- the cells after the phase
 abbrev pub phased : ℕ → Cells → Cells → Cells → ℕ → ℕ → Bool
 phased p particles walls obstacles x y = has (streamed p particles (joined walls obstacles)) x y

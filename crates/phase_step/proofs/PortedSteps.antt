@@ -18,13 +18,11 @@ use Rattle.gas_terms.specs.declared.accounts.Moved.{Moved}
 use Rattle.phase_step.specs.Actions.{acted, after_with, unmoved}
 use Rattle.phase_step.specs.PortedRuns.{left_by_ports, steps_take, steps_move, stepped_on}
 use Rattle.phase_step.proofs.RunSteps.{later, taken_twice, taken_none, at_same}
+use Rattle.phase_step.proofs.MovedSums.{plus_regrouped}
 
 -- ledgers, by their accounts of what came and went
 booked : (l : Ledger) (a b c d : Sums) → a ≡ c → b ≡ d → record l { injected = a; drained = b } ≡ record l { injected = c; drained = d }
 booked l a b c d e f = ap₂ (λ i d. record l { injected = i; drained = d }) e f
-
-three : (a b c : Sums) → plus (plus a b) c ≡ plus a (plus b c)
-three a b c = same_sums _ _ (omega (arith, ints)) (omega (arith, ints)) (omega (arith, ints))
 
 plus_none : (a : Sums) → a ≡ plus a nothing
 plus_none a = same_sums _ _ (omega (arith, ints)) (omega (arith, ints)) (omega (arith, ints))
@@ -33,7 +31,7 @@ plus_none a = same_sums _ _ (omega (arith, ints)) (omega (arith, ints)) (omega (
 flows_twice : (l : Ledger) (t u : Took) (m n : Moved) → with_moved (with_taken (with_moved (with_taken l t) m) u) n ≡ with_moved (with_taken l (took_plus t u)) (moved_plus m n)
 flows_twice l t u m n =
     booked (with_taken (with_taken l t) u) (plus (plus l.injected m.injected) n.injected) (plus (plus l.drained m.drained) n.drained) (plus l.injected (plus m.injected n.injected)) (plus l.drained (plus m.drained n.drained))
-    (three l.injected m.injected n.injected) (three l.drained m.drained n.drained)
+    (plus_regrouped l.injected m.injected n.injected) (plus_regrouped l.drained m.drained n.drained)
     ∙ ap (λ (l : Ledger). with_moved l (moved_plus m n)) (taken_twice l t u)
 
 flows_none : (l : Ledger) → l ≡ with_moved (with_taken l runs.nothing) unmoved

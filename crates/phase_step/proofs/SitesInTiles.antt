@@ -121,11 +121,6 @@ module _ (p : ℕ) (two : p < 2) (old walls obstacles : Cells) (i : ℕ) (place 
       ∙ sym (in_old_tile (takes_for_obstacles walls obstacles) x y))
       are.of_obstacles
 
--- what is put where nothing was found
-pub empty_in_tile : (p : ℕ) (walls obstacles : Cells) (i : ℕ) (a b : Tile) → HasCells a none → HasCells b none → NoneInTile p walls obstacles i → AreInTile p walls obstacles i (record { walls = a; obstacles = b })
-empty_in_tile p walls obstacles i a b no_walls no_obstacles are =
-    record { of_walls = λ x y h k. no_walls x y h k ∙ sym (are.of_walls x y h k); of_obstacles = λ x y h k. no_obstacles x y h k ∙ sym (are.of_obstacles x y h k) }
-
 -- nothing need be lent of no cells
 pub nothing_lent : (p : ℕ) (walls obstacles : Cells) (i : ℕ) → NoneInTile p walls obstacles i → AreLent p walls obstacles i (record { walls = None; obstacles = None })
 nothing_lent p walls obstacles i none = record { of_walls = none.of_walls; of_obstacles = none.of_obstacles }
@@ -133,9 +128,6 @@ nothing_lent p walls obstacles i none = record { of_walls = none.of_walls; of_ob
 -- what was found, by cases
 pub found_none : (p : ℕ) (walls obstacles : Cells) (i : ℕ) (found : Option WalledCells) → found ≡ None → IsFoundIn p walls obstacles i found → NoneInTile p walls obstacles i
 found_none p walls obstacles i found e is = subst (IsFoundIn p walls obstacles i) e is
-
-pub found_some : (p : ℕ) (walls obstacles : Cells) (i : ℕ) (found : Option WalledCells) (c : WalledCells) → found ≡ Some c → IsFoundIn p walls obstacles i found → AreInTile p walls obstacles i c
-found_some p walls obstacles i found c e is = subst (IsFoundIn p walls obstacles i) e is
 
 -- the planes are made tile by tile
 pub sites_next : (start now next walls : Cells) (p i : ℕ) (test : Site → Bool) (t : Tile) → IsLattice start → HasSidesOf start walls → now ≡ swept start (λ x y. test (site_of p walls.width walls.height x y)) i → HasCells t (in_tile p walls i test) → next ≡ with_tile now i t

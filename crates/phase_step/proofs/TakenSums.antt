@@ -13,15 +13,11 @@ use Rattle.gas_terms.specs.declared.accounts.Took.{Took}
 use Rattle.gas_plane.proofs.Places.{wide, high}
 use Rattle.block_rule.specs.Windows.{taken_in}
 use Rattle.phase_step.proofs.PhaseSweeps.{even_sides, whole_tiles}
-
--- lists and sums, one more at the end
-range_last : (a n : ℕ) → range_with_len a (suc n) ≡ range_with_len a n ++ (a + n) ∷ []
-range_last a zero = ap (λ k. k ∷ []) (let e : a ≡ a + 0 = omega arith in e)
-range_last a (suc n) = ap (λ ks. a ∷ ks) (range_last (a + 1) n ∙ ap (λ k. range_with_len (a + 1) n ++ k ∷ []) (let e : a + 1 + n ≡ a + suc n = omega arith in e))
+use Rattle.bit_tile.proofs.Sums.{range-suc}
 
 pub plus_last : (f : ℕ → Sums) (n : ℕ) → plus_all f (range_with_len 0 (suc n)) ≡ plus (plus_all f (range_with_len 0 n)) (f n)
 plus_last f n =
-    ap (plus_all f) (range_last 0 n)
+    ap (plus_all f) (range-suc 0 n)
     ∙ (fold-append (λ s x. plus s (f x)) nothing (range_with_len 0 n) ((0 + n) ∷ [])
     ∙ ap (λ k. plus (plus_all f (range_with_len 0 n)) (f k)) (let e : 0 + n ≡ n = omega arith in e))
 

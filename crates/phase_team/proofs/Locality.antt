@@ -1,5 +1,5 @@
 -- What a phase makes of a row depends on that row and the two beside it.
-use Rattle.std.proofs.Common.{◌≡◌, ℕ, ◌+◌, ◌-◌, ◌*◌, ◌/◌, ◌%◌, ◌<◌, ◌≤◌, ◌⊎◌, Bool, ◌||◌, refl, sym, ap, ap₂, ◌∙◌, subst, arith, inl, inr}
+use Rattle.std.proofs.Common.{◌≡◌, ℕ, ◌+◌, ◌-◌, ◌/◌, ◌%◌, ◌<◌, ◌≤◌, ◌⊎◌, ◌||◌, refl, sym, ap, ap₂, ◌∙◌, subst, arith, inl, inr}
 use Rattle.std.proofs.Math.Nat.{mod-lt, add-mod_right, mod-add-mod}
 use Rattle.std.proofs.lemmas.Nat.{div-add-mod'}
 use Rattle.std.proofs.lemmas.Bool.{cases_eq}
@@ -7,16 +7,9 @@ use Rattle.gas_terms.specs.Velocity.{has_parity}
 use Rattle.gas_terms.specs.Cells.{Cells, has, HasEvenSides}
 use Rattle.gas_terms.specs.Gas.{streamed, is_walled, site_of}
 use Rattle.gas_terms.specs.Block.{corner_rule, other_coordinate}
-use Rattle.gas_terms.proofs.Axis.{along_below, has_parity_true, has_parity_false, other_up, other_down}
-use Rattle.gas_terms.proofs.Blocks.{cell_streamed, cell_walled, turned_cell_is}
+use Rattle.gas_terms.proofs.Axis.{along_below, has_parity_true, has_parity_false, other_up, other_down, even_rest}
+use Rattle.gas_terms.proofs.Blocks.{cell_streamed, cell_walled, turned_cell_is, same_any}
 use Rattle.phase_team.specs.Strips.{IsStrip}
-
--- a remainder of a number of even parts keeps the parity
-even_rest : (a m q r : ℕ) → m % 2 ≡ 0 → q * m + r ≡ a → r % 2 ≡ a % 2
-even_rest a m q r even e =
-    let half : m ≡ 2 * (m / 2) = omega arith in
-    let h : q * m ≡ 2 * (q * (m / 2)) = ap (λ k. q * k) half ∙ omega arith in
-    omega arith
 
 pub place_parity : (shift m y : ℕ) → m % 2 ≡ 0 → shift % 2 ≡ 0 → (shift + y) % m % 2 ≡ y % 2
 place_parity shift m y even s =
@@ -84,9 +77,6 @@ walled_by p w h walls x y e f l m =
     let m' : y < walls.height = omega arith in
     rw (sym e, sym f) (cell_walled p walls x y l' m')
 
-any_same : (a a' b b' c c' d d' : Bool) → a ≡ a' → b ≡ b' → c ≡ c' → d ≡ d' → (a || b || c || d) ≡ (a' || b' || c' || d')
-any_same a a' b b' c c' d d' e f g h = cc
-
 -- the same cell of a row, with the lattice's width for the strip's
 turned_row : (p w shift from to : ℕ) (strip cells here solid : Cells) (x y : ℕ)
     → HasEvenSides strip.width strip.height → HasEvenSides cells.width cells.height → 0 < cells.height → shift % 2 ≡ 0 → to ≤ strip.height
@@ -108,7 +98,7 @@ turned_row p w shift from to strip cells here solid x y even_strip even some s t
     let down_high : down < to = let k = b.high in omega arith in
     let walls : is_walled here (site_of p w n x y) ≡ (has solid x ((shift + y) % m) || has solid across ((shift + down) % m) || has solid across ((shift + y) % m) || has solid x ((shift + down) % m)) =
     walled_by p w n here x y g g' l (omega arith)
-    ∙ any_same _ _ _ _ _ _ _ _ (walled x y l low' high') (walled across down x_there down_low down_high) (walled across y x_there low' high') (walled x down l down_low down_high) in
+    ∙ same_any _ _ _ _ _ _ _ _ (walled x y l low' high') (walled across down x_there down_low down_high) (walled across y x_there low' high') (walled x down l down_low down_high) in
     let turned : has (streamed p strip here) x y ≡ corner_rule (is_walled here (site_of p w n x y)) (has strip x y) (has strip across down) (has strip across y) (has strip x down) =
     subst (λ w. has (streamed p strip here) x y ≡ corner_rule (is_walled here (site_of p w n x y)) (has strip x y) (has strip (other_coordinate w p x) down) (has strip (other_coordinate w p x) y) (has strip x down)) e
     (cell_streamed p strip here x y even_strip (omega arith) (omega arith)) in
@@ -144,7 +134,7 @@ walled_same p shift n here solid x y even some s wide high row l past within =
     let z = (shift + y) % m in
     let in_strip : is_walled here (site_of p w n x y) ≡ (has solid x z || has solid across ((shift + down) % m) || has solid across z || has solid x ((shift + down) % m)) =
     walled_by p w n here x y wide high l (omega arith)
-    ∙ any_same _ _ _ _ _ _ _ _ (row x y l (omega arith) (omega arith)) (row across down x_there (omega arith) down_there) (row across y x_there (omega arith) (omega arith)) (row x down l (omega arith) down_there) in
+    ∙ same_any _ _ _ _ _ _ _ _ (row x y l (omega arith) (omega arith)) (row across down x_there (omega arith) down_there) (row across y x_there (omega arith) (omega arith)) (row x down l (omega arith) down_there) in
     ap₂ (λ w n. is_walled here (site_of p w n x y)) wide high
     ∙ (in_strip
     ∙ (ap (λ d. has solid x z || has solid across d || has solid across z || has solid x d) b.same

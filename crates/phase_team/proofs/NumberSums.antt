@@ -6,6 +6,7 @@ use Rattle.std.proofs.lemmas.List.Sums.{fold-append, sum_by-cons}
 use Rattle.std.proofs.lemmas.Bool.{cases_eq, cases_lt, eq-eqb, ne_eqb, lt-ltb, le-ltb}
 use Rattle.gas_terms.specs.Accounts.{int_sum_by}
 use Rattle.claim_desk.specs.Draws.{times, once_below}
+use Rattle.phase_step.proofs.RunTakes.{int_plus_zero}
 
 sum_from : {X : Type 0} (f : X → ℤ) (a : ℤ) (xs : List X) → fold (λ s x. s +ℤ f x) a xs ≡ a +ℤ int_sum_by f xs
 sum_from f a [] = omega (arith, ints)
@@ -52,16 +53,13 @@ below w m i = cond (nat_lt i m) (w i) (pos 0)
 here_next : (z : ℤ) → z ≡ pos 0 +ℤ (z +ℤ pos 0)
 here_next z = omega (arith, ints)
 
-same_next : (z : ℤ) → z ≡ z +ℤ pos 0
-same_next z = omega (arith, ints)
-
 below_next : (w : ℕ → ℤ) (m i : ℕ) → below w (m + 1) i ≡ below w m i +ℤ many (cond (eqb i m) 1 0) (w m)
 below_next w m i =
     elim (cases_eq i m) [
       | inl e ↦ rw (e, eq-eqb m m refl, lt-ltb m (m + 1) (omega arith), le-ltb m m (omega arith)) (here_next (w m))
       | inr ne ↦ rw (ne_eqb i m ne) (elim (cases_lt i m) [
-        | inl less ↦ rw (lt-ltb i m less, lt-ltb i (m + 1) (omega arith)) (same_next (w i))
-        | inr past ↦ rw (le-ltb i m past, le-ltb i (m + 1) (omega arith)) (same_next (pos 0))
+        | inl less ↦ rw (lt-ltb i m less, lt-ltb i (m + 1) (omega arith)) (int_plus_zero (w i))
+        | inr past ↦ rw (le-ltb i m past, le-ltb i (m + 1) (omega arith)) (int_plus_zero (pos 0))
       ])
     ]
 

@@ -34,12 +34,6 @@ pub source_is : (first : ℕ) (whole : Cells) (i across down row : ℕ) → acro
 source_is first whole i across down row e f g =
     ap₂ (λ r a. r * a + i % a) (g ∙ ap₂ (λ a d. (first + d - 1 + i / a) % d) e f) e
 
-pub source_within : (first : ℕ) (whole : Cells) (i : ℕ) → is_size (extent whole) ≡ true → source_of first (whole.width / 64) (whole.height / 64) i < tile_count whole
-source_within first whole i sized =
-    let across = wide (extent whole) sized in
-    let down = high (extent whole) sized in
-    mul-add-lt _ (whole.width / 64) (i % (whole.width / 64)) (whole.height / 64) (mod-lt (first + whole.height / 64 - 1 + i / (whole.width / 64)) down.some) (mod-lt i across.some)
-
 pub tile_seen : (first : ℕ) (strip whole : Cells) (i : ℕ) (t : Tile) → is_size (extent whole) ≡ true → strip.width ≡ whole.width
     → (let j = source_of first (whole.width / 64) (whole.height / 64) i in IsTileFrom t whole (tile_rectangle whole j).x (tile_rectangle whole j).y)
     → (x y : ℕ) → x < 64 → y < 64 → tile.has t x y ≡ seen whole (shift_of whole first) (left_of strip i + x) (top_of strip i + y)

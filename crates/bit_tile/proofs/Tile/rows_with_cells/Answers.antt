@@ -40,9 +40,3 @@ loop-j-preserved c =
             known = λ k none. was.known k (λ below. none (omega arith));
           }
     ]
-
-pub returns-clause-none : goal.returns-clause-none
-returns-clause-none c = λ x y h k e. c.loop-j.invariant.none x y h (omega arith) e
-
-pub returns-clause-known : goal.returns-clause-known
-returns-clause-known c = λ j _ none. c.loop-j.invariant.known j (λ _. none)

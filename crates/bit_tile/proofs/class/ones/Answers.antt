@@ -1,7 +1,7 @@
-use Rattle.std.proofs.Common.{◌≡◌, ◌+◌, ◌*◌, ◌^◌, ◌<◌, ◌∙◌, ap, sym, get_or, arith}
+use Rattle.std.proofs.Common.{◌+◌, ◌*◌, ◌^◌, ◌<◌, sym, get_or, arith}
 use Rattle.std.proofs.lemmas.Nat.{ones-le}
 use Rattle.bit_tile.specs.Bit.{bit}
-use Rattle.bit_tile.specs.Sums.{sum_below, count_below}
+use Rattle.bit_tile.specs.Sums.{count_below}
 use Rattle.bit_tile.proofs.Sums.{sum_below-zero}
 use Rattle.bit_tile.proofs.Counts.{ones_of_two, two_rows_more}
 use Rattle.bit_tile.proofs.class.ones.Goals as goal
@@ -19,8 +19,3 @@ loop-j-preserved c =
       so_far = two_rows_more c.loop-j.n j _ (λ k. count_below 32 (bit (get_or class k 0))) c.loop-j.invariant.so_far here;
       bound = omega (arith, ones-le 64 c.joined.result fits, c.loop-j.invariant.bound);
     }
-
-pub returns-clause-count : goal.returns-clause-count
-returns-clause-count c =
-    let all : 2 * c.loop-j.j ≡ 32 = omega arith in
-    c.loop-j.invariant.so_far ∙ ap (λ m. sum_below m (λ j. count_below 32 (bit (get_or c.args.class.now j 0)))) all

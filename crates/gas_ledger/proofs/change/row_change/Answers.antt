@@ -7,23 +7,6 @@ use Rattle.gas_plane.proofs.RowSweeps.{chunk_at}
 use Rattle.gas_ledger.proofs.Strips.{IsWordOf, strip_starts, strip_ends, counts_wider, word_without, word_of_row}
 use Rattle.gas_ledger.proofs.change.row_change.Goals as goal
 
-pub loop-column-init : goal.loop-column-init
-loop-column-init c =
-    let cells = c.args.plane.now in
-    let after : Cells = row_replaced c.args.plane.now c.args.y c.args.bytes.now in
-    record {
-      gained = strip_starts (without after cells) c.args.y;
-      lost = strip_starts (without cells after) c.args.y;
-      few_gained = λ k h. omega (arith, get_or-replicate_zero 4 k);
-      few_lost = λ k h. omega (arith, get_or-replicate_zero 4 k);
-    }
-
-pub sums-more-requires : goal.sums-more-requires
-sums-more-requires c = λ k h. omega (arith, c.loop-column.invariant.few_gained k h, c.counts_in_row-came.ensures.bound k)
-
-pub sums-less-requires : goal.sums-less-requires
-sums-less-requires c = λ k h. omega (arith, c.loop-column.invariant.few_lost k h, c.counts_in_row-went.ensures.bound k)
-
 pub loop-column-preserved : goal.loop-column-preserved
 loop-column-preserved c =
     let cells = c.args.plane.now in
@@ -43,11 +26,3 @@ loop-column-preserved c =
       few_gained = λ k h. omega (arith, c.loop-column.invariant.few_gained k h, c.counts_in_row-came.ensures.bound k, c.sums-more.ensures k h);
       few_lost = λ k h. omega (arith, c.loop-column.invariant.few_lost k h, c.counts_in_row-went.ensures.bound k, c.sums-less.ensures k h);
     }
-
-pub returns-clause-gained : goal.returns-clause-gained
-returns-clause-gained c =
-    strip_ends c.loop-column.gained _ c.args.plane.now c.args.y c.loop-column.column c.across-column-end.ensures.lattice (omega (arith, c.across-column-end.ensures.across)) c.loop-column.invariant.gained
-
-pub returns-clause-lost : goal.returns-clause-lost
-returns-clause-lost c =
-    strip_ends c.loop-column.lost _ c.args.plane.now c.args.y c.loop-column.column c.across-column-end.ensures.lattice (omega (arith, c.across-column-end.ensures.across)) c.loop-column.invariant.lost

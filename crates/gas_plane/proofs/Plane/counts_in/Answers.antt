@@ -4,7 +4,7 @@ use Rattle.bit_tile.proofs.Bits.{get_or-replicate_zero}
 use Rattle.gas_terms.specs.Cells.{extent}
 use Rattle.gas_plane.proofs.Places.{wide, high, tile_below}
 use Rattle.gas_plane.proofs.Painting.{outside_columns, outside_rows}
-use Rattle.gas_plane.proofs.PlaneCounts.{counts_start, counts_end, count_more, tile_counts, class_place, few_tiles, row_begins, row_closes, above_rows, below_rows, rows_within, columns_within, small_row, small_column, small_next}
+use Rattle.gas_plane.proofs.PlaneCounts.{counts_start, counts_end, count_more, tile_counts, class_place, row_begins, row_closes, above_rows, below_rows, rows_within, small_row, small_column, small_next}
 use Rattle.gas_plane.proofs.Plane.counts_in.Goals as goal
 
 pub loop-row-init : goal.loop-row-init
@@ -27,19 +27,6 @@ loop-column-init c =
           (λ x y h. outside_columns c.args.area x y (rw (c.x.ensures, c.w.ensures) at (c.tiles_met-left.ensures.before x h)));
       small = λ k h. small_column (c.args.self.now.width / 64) c.loop-row.row c.tiles_met-left.result.0 (get_or c.loop-row.counts k 0) (c.loop-row.invariant.small k h);
     }
-
-pub tile-tile-requires : goal.tile-tile-requires
-tile-tile-requires c =
-    let row : c.loop-row.row < c.args.self.now.height / 64 = omega (arith, c.tiles_met-top.ensures.within, c.down.ensures.down) in
-    let column : c.loop-column.column + 1 ≤ c.args.self.now.width / 64 = omega (arith, c.tiles_met-left.ensures.within, c.across-across.ensures.across) in
-    rw c.across-across.ensures.across (omega (arith, columns_within c.args.self.now c.loop-row.row (c.loop-column.column + 1) row column))
-
-pub sums-more-requires : goal.sums-more-requires
-sums-more-requires c = λ k h.
-    let row : c.loop-row.row < c.args.self.now.height / 64 = omega (arith, c.tiles_met-top.ensures.within, c.down.ensures.down) in
-    let column : c.loop-column.column ≤ c.args.self.now.width / 64 = omega (arith, c.tiles_met-left.ensures.within, c.across-across.ensures.across) in
-    let few = few_tiles c.args.self.now (c.loop-row.row * (c.args.self.now.width / 64) + c.loop-column.column) c.across-across.ensures.lattice (columns_within c.args.self.now c.loop-row.row c.loop-column.column row column) in
-    omega (arith, c.loop-column.invariant.small k h, c.counts_of-here.ensures.bound k, few)
 
 pub loop-column-preserved : goal.loop-column-preserved
 loop-column-preserved c =

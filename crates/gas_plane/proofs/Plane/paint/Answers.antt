@@ -1,17 +1,13 @@
 use Rattle.std.proofs.Common.{◌/◌, ◌+◌, ◌==◌, ◌&&◌, ◌∙◌, arith}
 use Rattle.gas_terms.specs.Cells.{is_inside, extent}
 use Rattle.gas_plane.proofs.Places.{high, tile_below}
-use Rattle.gas_plane.proofs.Painting.{in_rows, none_painted, same_painted, painted_more, outside_rows, rows_start, rows_next, rows_end, same_high}
+use Rattle.gas_plane.proofs.Painting.{in_rows, none_painted, same_painted, painted_more, outside_rows, rows_start, rows_next, rows_end}
 use Rattle.gas_plane.proofs.Plane.paint.Goals as goal
 
 pub loop-row-init : goal.loop-row-init
 loop-row-init c =
     none_painted c.args.self.now (in_rows c.args.area c.tiles_met-first.result.0) c.args.held c.down.ensures.lattice.full
     (λ x y _ _. rows_start c.args.area c.tiles_met-first.result.0 x y (λ less. outside_rows c.args.area x y (rw (c.y.ensures, c.h.ensures) at (c.tiles_met-first.ensures.before y less))))
-
-pub paint_row-requires : goal.paint_row-requires
-paint_row-requires c =
-    rw (same_high c.args.self.now c.loop-row.self (in_rows c.args.area c.loop-row.row) c.args.held c.loop-row.invariant) (omega (arith, c.tiles_met-first.ensures.within, c.down.ensures.down))
 
 pub loop-row-preserved : goal.loop-row-preserved
 loop-row-preserved c =

@@ -2,7 +2,7 @@ use Rattle.std.proofs.Common.{◌<◌, ◌∙◌, arith}
 use Rattle.bit_tile.specs.Tile as tile
 use Rattle.gas_terms.specs.Cells.{extent}
 use Rattle.gas_plane.proofs.Places.{wide, tile_below}
-use Rattle.gas_plane.proofs.Painting.{in_row, painted_lattice, none_painted, same_painted, outside_columns, row_starts, row_ends, row_more, row_more_whole, row_same, tile_in_row}
+use Rattle.gas_plane.proofs.Painting.{in_row, painted_lattice, none_painted, same_painted, outside_columns, row_starts, row_ends, row_more, row_more_whole, row_same}
 use Rattle.gas_plane.proofs.Plane.paint_row.Goals as goal
 use Rattle.gas_plane.proofs.Plane.paint_row.Goals.{then-is_covered, else-is_covered+in-Some, else-is_covered+in_default}
 
@@ -13,11 +13,6 @@ loop-column-init c =
 
 pub paint_tile-requires-clause-lattice : goal.paint_tile-requires-clause-lattice
 paint_tile-requires-clause-lattice c = painted_lattice c.args.self.now c.loop-column.self (in_row c.args.area c.args.row c.loop-column.column) c.args.held c.across-across.ensures.lattice c.loop-column.invariant
-
-pub paint_tile-requires-clause-i : goal.paint_tile-requires-clause-i
-paint_tile-requires-clause-i c =
-    tile_in_row c.args.self.now c.loop-column.self (in_row c.args.area c.args.row c.loop-column.column) c.args.held c.args.row c.loop-column.column c.across-across.result
-    c.loop-column.invariant c.across-across.ensures.across c.requires (omega (arith, c.tiles_met-first.ensures.within))
 
 pub loop-column-preserved : goal.loop-column-preserved
 loop-column-preserved c =

@@ -1,6 +1,5 @@
-use Rattle.std.proofs.Common.{◌≡◌, ℤ, pos, ◌∙◌, subst, sym, ◌^◌, ◌%◌, arith}
-use Rattle.gas_terms.specs.Accounts.{IsOfAtMost, total_in}
-use Rattle.gas_terms.specs.Velocity.{parity}
+use Rattle.std.proofs.Common.{◌≡◌, pos, ◌∙◌, subst, sym, ◌^◌, ◌%◌, arith}
+use Rattle.gas_terms.specs.Accounts.{IsOfAtMost}
 use Rattle.gas_plane.proofs.Counting.{counted_sums, rectangle_counts_small, total_in_bounded}
 use Rattle.gas_plane.proofs.Plane.sums_in.Goals as goal
 

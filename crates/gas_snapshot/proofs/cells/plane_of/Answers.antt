@@ -1,10 +1,7 @@
 use Rattle.std.proofs.Common.{◌≡◌, ◌∙◌, ◌/◌, ℕ, true, ap, sym, arith}
 use Rattle.gas_terms.specs.Cells.{Cells, Extent, extent, is_size}
-use Rattle.gas_snapshot.proofs.Rows.{no_rows, all_rows, row_is_read}
+use Rattle.gas_snapshot.proofs.Rows.{all_rows, row_is_read}
 use Rattle.gas_snapshot.proofs.cells.plane_of.Goals as goal
-
-pub loop-y-init : goal.loop-y-init
-loop-y-init c = c.in_ok-plane.ensures ∙ no_rows c.args.size c.args.bytes.now
 
 pub loop-y-preserved : goal.loop-y-preserved
 loop-y-preserved c =

@@ -1,13 +1,7 @@
 use Rattle.std.proofs.Common.{◌∙◌, ap₂}
 use Rattle.gas_terms.specs.Accounts.{taken}
-use Rattle.gas_terms.specs.Cells.{joined}
-use Rattle.gas_terms.specs.Gas.{streamed}
 use Rattle.phase_step.proofs.RunTakes.{own_take}
 use Rattle.phase_step.proofs.SerialStepper.phase.Goals as goal
-
-pub returns-clause-out : goal.returns-clause-out
-returns-clause-out c =
-    c.turn_each.ensures.out ∙ ap₂ (λ w o. streamed c.args.parity c.args.old.now (joined w o)) c.new-solids.ensures.walls c.new-solids.ensures.obstacles
 
 pub returns-clause-took : goal.returns-clause-took
 returns-clause-took c =

@@ -4,9 +4,6 @@ use Rattle.phase_step.specs.declared.sums.flow.Flow.{Flow}
 use Rattle.phase_step.proofs.ActionRuns.{phase_with, sides_as_with, sides_at_start, with_next, flow_next, flow_fits}
 use Rattle.phase_step.proofs.Stepper.run_among.Goals as goal
 
-pub loop-k-init : goal.loop-k-init
-loop-k-init g c = record { cells = refl; spare = c.requires.spare; flow = refl }
-
 pub phase_in_place-took-requires-clause-walls : goal.phase_in_place-took-requires-clause-walls
 phase_in_place-took-requires-clause-walls g c =
     let run = c.args.run in

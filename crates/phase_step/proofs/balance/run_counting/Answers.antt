@@ -6,11 +6,8 @@ use Rattle.phase_step.specs.Balance.{flow_counted}
 use Rattle.phase_step.specs.declared.sums.flow.Flow.{Flow}
 use Rattle.phase_step.proofs.ActionRuns.{phase_with, sides_as_with, sides_at_start, same_flow, with_next, flow_next, flow_fits}
 use Rattle.phase_step.proofs.Balances.{flows_counted, counted_fit}
-use Rattle.phase_step.proofs.RunTakes.{counted_none, own_take}
+use Rattle.phase_step.proofs.RunTakes.{own_take}
 use Rattle.phase_step.proofs.balance.run_counting.Goals as goal
-
-pub loop-k-init : goal.loop-k-init
-loop-k-init g c = record { cells = refl; spare = c.requires.spare; flow = same_flow _ _ (counted_none c.args.counted) refl }
 
 pub turn_in_place-took-requires-clause-walls : goal.turn_in_place-took-requires-clause-walls
 turn_in_place-took-requires-clause-walls g c =

@@ -5,16 +5,12 @@ use Rattle.gas_plane.proofs.PlaneCounts.{few_tiles}
 use Rattle.phase_step.specs.Actions.{Leaves, flow_with, flow_plus, FlowsFit}
 use Rattle.phase_step.specs.Balance.{flow_counted}
 use Rattle.phase_step.specs.declared.sums.flow.Flow.{Flow}
-use Rattle.phase_step.proofs.ActionRuns.{same_flow, sides_with, sides_as_with}
+use Rattle.phase_step.proofs.ActionRuns.{sides_with, sides_as_with}
 use Rattle.phase_step.proofs.Balances.{flows_counted, counted_fit}
-use Rattle.phase_step.proofs.RunTakes.{counted_none}
 use Rattle.phase_step.proofs.ActionParts.{IsPartWith, part_after_with, part_flow, part_flow_fits}
 use Rattle.phase_team.proofs.runs.run_by.Given.{Over}
 use Rattle.phase_team.proofs.runs.run_by.Goals.{After-stretch-here}
 use Rattle.phase_team.proofs.runs.run_by.Goals as goal
-
-pub loop-done-init : goal.loop-done-init
-loop-done-init g c = record { crew = refl; few = omega arith; cells = refl; spare = c.requires.spare; flow = same_flow _ _ (counted_none c.args.counted) refl }
 
 pub stretch-here-requires-clause-size : goal.stretch-here-requires-clause-size
 stretch-here-requires-clause-size g c =

@@ -2,9 +2,9 @@ use Rattle.std.proofs.Common.{◌<◌, ◌≤◌, ◌*◌, ◌/◌, ◌+◌, ◌
 use Rattle.bit_tile.proofs.Bits.{get_or-replicate_zero}
 use Rattle.gas_terms.specs.Cells.{Cells, tile_count, whole}
 use Rattle.gas_plane.specs.Planes.{IsLattice}
-use Rattle.gas_plane.proofs.Sweeps.{sweep_within, sweep_next}
+use Rattle.gas_plane.proofs.Sweeps.{sweep_next}
 use Rattle.gas_plane.proofs.PlaneCounts.{counts_next, class_place, few_tiles, tile_counted}
-use Rattle.phase_step.proofs.ActedTiles.{acting, came, went, came_count, went_count, action_makes, action_was, action_starts, action_ends, still_acts, still_counts, all_tiles, row_of_tiles, tile_within, corner_of, passed_by, same_tile, came_counted, went_counted}
+use Rattle.phase_step.proofs.ActedTiles.{acting, came, went, came_count, went_count, action_makes, action_was, action_starts, action_ends, still_acts, still_counts, all_tiles, row_of_tiles, tile_within, passed_by, same_tile, came_counted, went_counted}
 use Rattle.phase_step.specs.Exchanges.{leaves_of}
 use Rattle.phase_step.proofs.Exchanging.{nowhere_is_still}
 use Rattle.phase_step.proofs.exchanges.action.act.Goals as goal
@@ -19,34 +19,8 @@ loop-i-init c =
       few_lost = λ k h. omega (arith, get_or-replicate_zero 4 k);
     }
 
-pub tile-old-requires : goal.tile-old-requires
-tile-old-requires c =
-    sweep_within c.args.plane.now c.loop-i.plane (acting (leaves_of c.args.exchange.now) c.args.plane.now) c.loop-i.i c.tiles-end.result c.loop-i.invariant.cells c.loop-i-test.true
-    (let all = all_tiles c.args.plane.now c.size-2.result c.tiles-end.result c.tiles-end.ensures.tiles c.size-2.ensures.extent in omega (arith, all))
-
-pub set_tile-requires : goal.set_tile-requires
-set_tile-requires c =
-    sweep_within c.args.plane.now c.loop-i.plane (acting (leaves_of c.args.exchange.now) c.args.plane.now) c.loop-i.i c.tiles-end.result c.loop-i.invariant.cells c.loop-i-test.true
-    (let all = all_tiles c.args.plane.now c.size-2.result c.tiles-end.result c.tiles-end.ensures.tiles c.size-2.ensures.extent in omega (arith, all))
-
 few : (cells : Cells) (i : ℕ) → IsLattice cells → i < tile_count cells → i ≤ 4096
 few cells i is h = few_tiles cells i is (omega arith)
-
-pub on_tile-requires : goal.on_tile-requires
-on_tile-requires c =
-    corner_of c.args.plane.now c.loop-i.i (c.width.result / 64) c.size.ensures.lattice
-    (tile_within c.args.plane.now c.size-2.result c.tiles-end.result c.loop-i.i c.tiles-end.ensures.tiles c.size-2.ensures.extent c.loop-i-test.true)
-    (row_of_tiles c.args.plane.now c.size.result c.width.result c.width.ensures c.size.ensures.extent)
-
-pub sums-more-requires : goal.sums-more-requires
-sums-more-requires c = λ k h.
-    let within = tile_within c.args.plane.now c.size-2.result c.tiles-end.result c.loop-i.i c.tiles-end.ensures.tiles c.size-2.ensures.extent c.loop-i-test.true in
-    omega (arith, c.loop-i.invariant.few_gained k h, c.count_by_parity.ensures.bound k, few c.args.plane.now c.loop-i.i c.size.ensures.lattice within)
-
-pub sums-less-requires : goal.sums-less-requires
-sums-less-requires c = λ k h.
-    let within = tile_within c.args.plane.now c.size-2.result c.tiles-end.result c.loop-i.i c.tiles-end.ensures.tiles c.size-2.ensures.extent c.loop-i-test.true in
-    omega (arith, c.loop-i.invariant.few_lost k h, c.count_by_parity-in-loop-i.ensures.bound k, few c.args.plane.now c.loop-i.i c.size.ensures.lattice within)
 
 pub loop-i-preserved : goal.loop-i-preserved
 loop-i-preserved c =

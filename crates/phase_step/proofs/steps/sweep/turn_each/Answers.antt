@@ -9,7 +9,7 @@ use Rattle.block_rule.specs.Windows.{taken_in}
 use Rattle.block_rule.specs.Accounts.{counted_of}
 use Rattle.phase_step.specs.Runs.{tiles_take}
 use Rattle.phase_step.specs.Turns.{IsTileAfter}
-use Rattle.phase_step.proofs.PhaseSweeps.{tiles_as, tiles_are, swept_sides, phased, phase_next, phase_ends}
+use Rattle.phase_step.proofs.PhaseSweeps.{tiles_as, tiles_are, phased, phase_next, phase_ends}
 use Rattle.phase_step.proofs.RunTakes.{counted_none, own_more, own_other, own_fits}
 use Rattle.phase_step.proofs.steps.sweep.turn_each.Goals as goal
 use Rattle.phase_step.proofs.steps.sweep.turn_each.Goals.{then-has, else-has}
@@ -22,11 +22,6 @@ loop-i-init c =
       tile = c.position-at.ensures.tile;
       at = c.position-at.ensures.position;
     }
-
-pub tile_mut-requires : goal.tile_mut-requires
-tile_mut-requires c =
-    let sides = swept_sides c.loop-i.out c.args.out.now c.args.old.now (phased c.args.parity c.args.old.now c.args.solids.walls.now c.args.solids.obstacles.now) c.loop-i.i c.loop-i.invariant.cells c.requires.out in
-    omega (arith, tiles_as c.loop-i.out c.args.old.now sides, tiles_as c.args.out.now c.args.old.now c.requires.out, tiles_are c.args.out.now c.size.result c.tiles-i-end.result c.size.ensures.extent c.tiles-i-end.ensures.tiles)
 
 pub plus-took-requires : goal.plus-took-requires
 plus-took-requires c =
@@ -59,17 +54,6 @@ returns-clause-out c =
     phase_ends c.args.parity c.args.old.now c.args.solids.walls.now c.args.solids.obstacles.now c.args.out.now c.loop-i.out c.loop-i.i c.tiles-i-end.result c.size.ensures.lattice c.requires.out
     (tiles_are c.args.out.now c.size.result c.tiles-i-end.result c.size.ensures.extent c.tiles-i-end.ensures.tiles) c.loop-i-test.false c.loop-i.auto.i-end c.loop-i.invariant.cells
     sweep_is_whole has-cells_where full-cells_where same_cells
-
-pub returns-clause-took : goal.returns-clause-took
-returns-clause-took c =
-    let all = tiles_are c.args.out.now c.size.result c.tiles-i-end.result c.size.ensures.extent c.tiles-i-end.ensures.tiles in
-    let same = tiles_as c.args.out.now c.args.old.now c.requires.out in
-    let inside = c.requires.own in
-    let count : c.loop-i.i - c.args.own.first - (c.loop-i.i - c.args.own.end) ≡ c.args.own.end - c.args.own.first = omega (arith, all, same, inside.0, inside.1) in
-    c.loop-i.invariant.took ∙ ap (λ n. counted_of c.args.own.counted (tiles_take c.args.parity c.args.old.now c.args.solids.walls.now c.args.solids.obstacles.now c.args.own.first n)) count
-
-pub turn_and_count-here-requires-clause-tile : goal.turn_and_count-here-requires-clause-tile
-turn_and_count-here-requires-clause-tile c = omega (arith, c.loop-i.invariant.tile, tiles_are c.args.out.now c.size.result c.tiles-i-end.result c.size.ensures.extent c.tiles-i-end.ensures.tiles, tiles_as c.args.out.now c.args.old.now c.requires.out)
 
 pub next-at-requires-clause-few : goal.next-at-requires-clause-few
 next-at-requires-clause-few c =

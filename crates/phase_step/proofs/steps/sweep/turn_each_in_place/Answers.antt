@@ -1,5 +1,5 @@
-use Rattle.std.proofs.Common.{◌≡◌, ℕ, ◌-◌, ◌<◌, ◌∙◌, ap, sym, subst, refl, pos, arith}
-use Rattle.gas_terms.specs.Cells.{Cells, tile_count, tile_rectangle}
+use Rattle.std.proofs.Common.{◌≡◌, ℕ, ◌-◌, ◌∙◌, ap, sym, refl, pos, arith}
+use Rattle.gas_terms.specs.Cells.{tile_count, tile_rectangle}
 use Rattle.gas_terms.proofs.Cells.{has-cells_where, full-cells_where, same_cells}
 use Rattle.gas_plane.proofs.PlaneCounts.{few_tiles}
 use Rattle.gas_plane.proofs.Sweeps.{sweep_begins, sweep_tile, sweep_is_whole}
@@ -9,7 +9,7 @@ use Rattle.block_rule.specs.Windows.{taken_in}
 use Rattle.block_rule.specs.Accounts.{counted_of}
 use Rattle.phase_step.specs.Runs.{tiles_take}
 use Rattle.phase_step.specs.Turns.{IsTileAfter}
-use Rattle.phase_step.proofs.PhaseSweeps.{tiles_are, solid_place, phased, phase_next, phase_ends, as_at_start}
+use Rattle.phase_step.proofs.PhaseSweeps.{tiles_are, phased, phase_next, phase_ends, as_at_start}
 use Rattle.phase_step.proofs.RunTakes.{counted_none, own_more, own_other, own_fits}
 use Rattle.phase_step.proofs.steps.sweep.turn_each_in_place.Goals as goal
 use Rattle.phase_step.proofs.steps.sweep.turn_each_in_place.Goals.{then-has, else-has}
@@ -20,17 +20,6 @@ loop-i-init c =
       cells = sym (sweep_begins c.args.particles.now (phased 0 c.args.particles.now c.args.solids.walls.now c.args.solids.obstacles.now) c.size.ensures.lattice);
       took = let e : 0 ≡ 0 - c.args.own.first - (0 - c.args.own.end) = omega arith in counted_none c.args.own.counted ∙ ap (λ n. counted_of c.args.own.counted (tiles_take 0 c.args.particles.now c.args.solids.walls.now c.args.solids.obstacles.now c.args.own.first n)) e;
     }
-
-pub tile_mut-requires : goal.tile_mut-requires
-tile_mut-requires c =
-    let all = tiles_are c.args.particles.now c.size.result c.tiles-i-end.result c.size.ensures.extent c.tiles-i-end.ensures.tiles in
-    subst (λ (now : Cells). c.loop-i.i < tile_count now) (sym c.loop-i.invariant.cells) (omega (arith, all))
-
-pub turn_tile_in_place-here-requires : goal.turn_tile_in_place-here-requires
-turn_tile_in_place-here-requires c =
-    let all = tiles_are c.args.particles.now c.size.result c.tiles-i-end.result c.size.ensures.extent c.tiles-i-end.ensures.tiles in
-    let (walls, obstacles, place) = solid_place c.args.particles.now c.args.solids.walls.now c.args.solids.obstacles.now c.loop-i.i c.size.ensures.lattice.sized (omega (arith, all)) c.requires.walls c.requires.obstacles in
-    record { walls = walls; obstacles = obstacles; place = place }
 
 pub plus-took-requires : goal.plus-took-requires
 plus-took-requires c =
@@ -70,10 +59,3 @@ returns-clause-particles c =
     phase_ends 0 start c.args.solids.walls.now c.args.solids.obstacles.now start c.loop-i.particles c.loop-i.i c.tiles-i-end.result c.size.ensures.lattice (record { wide = refl; high = refl })
     (tiles_are c.args.particles.now c.size.result c.tiles-i-end.result c.size.ensures.extent c.tiles-i-end.ensures.tiles) c.loop-i-test.false c.loop-i.auto.i-end c.loop-i.invariant.cells
     sweep_is_whole has-cells_where full-cells_where same_cells
-
-pub returns-clause-took : goal.returns-clause-took
-returns-clause-took c =
-    let all = tiles_are c.args.particles.now c.size.result c.tiles-i-end.result c.size.ensures.extent c.tiles-i-end.ensures.tiles in
-    let inside = c.requires.own in
-    let count : c.loop-i.i - c.args.own.first - (c.loop-i.i - c.args.own.end) ≡ c.args.own.end - c.args.own.first = omega (arith, all, inside.0, inside.1) in
-    c.loop-i.invariant.took ∙ ap (λ n. counted_of c.args.own.counted (tiles_take 0 c.args.particles.now c.args.solids.walls.now c.args.solids.obstacles.now c.args.own.first n)) count

@@ -3,7 +3,7 @@ use Rattle.gas_terms.specs.Cells.{tile_rectangle}
 use Rattle.block_rule.specs.Accounts.{counted_of}
 use Rattle.block_rule.specs.Windows.{taken_in}
 use Rattle.phase_step.specs.Turns.{IsTileAfter}
-use Rattle.phase_step.proofs.PhaseSweeps.{place_is, solid_place}
+use Rattle.phase_step.proofs.PhaseSweeps.{place_is}
 use Rattle.phase_step.proofs.steps.tiles.turn_and_count.Goals as goal
 
 pub returns-then-parity-eq0-clause-cells : goal.returns-then-parity-eq0-clause-cells
@@ -27,20 +27,3 @@ pub returns-else-parity-eq0-clause-took : goal.returns-else-parity-eq0-clause-to
 returns-else-parity-eq0-clause-took c =
     let e : 1 ≡ c.args.parity = omega arith in
     c.turn_odd.ensures.took ∙ ap (λ p. counted_of c.args.counted (taken_in (pos p) c.args.old.now c.args.solids.walls.now c.args.solids.obstacles.now (tile_rectangle c.args.old.now c.args.at.tile))) e
-
-pub turn_tile_in_place-requires : goal.turn_tile_in_place-requires
-turn_tile_in_place-requires c =
-    let (walls, obstacles, place) = solid_place c.args.old.now c.args.solids.walls.now c.args.solids.obstacles.now c.args.at.tile c.requires.lattice.sized c.requires.tile c.requires.walls c.requires.obstacles in
-    record { walls = walls; obstacles = obstacles; place = place }
-
-pub turn_odd-requires : goal.turn_odd-requires
-turn_odd-requires c =
-    let (walls, obstacles, solid) = solid_place c.args.old.now c.args.solids.walls.now c.args.solids.obstacles.now c.args.at.tile c.requires.lattice.sized c.requires.tile c.requires.walls c.requires.obstacles in
-    record {
-      tile = c.requires.tile;
-      position = c.requires.position;
-      place = place_is c.args.old.now c.args.solids.walls.now c.args.solids.obstacles.now c.args.at.tile c.requires.lattice.sized c.requires.tile c.requires.walls c.requires.obstacles;
-      walls = walls;
-      obstacles = obstacles;
-      solid = solid;
-    }

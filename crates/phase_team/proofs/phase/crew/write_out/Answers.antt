@@ -2,16 +2,8 @@ use Rattle.std.proofs.Common.{rules, ◌<◌, [], length, get_or, map, take, sub
 use Rattle.gas_plane.specs.Planes.{with_tile}
 use Rattle.claim_desk.specs.Draws.{times}
 use Rattle.phase_team.specs.declared.phase.worker.Turned.{Turned}
-use Rattle.phase_team.proofs.Places.{lattice_kept, sides_kept, write_keeps, write_more, places_more, within_as}
+use Rattle.phase_team.proofs.Places.{lattice_kept, sides_kept, write_keeps, write_more, places_more}
 use Rattle.phase_team.proofs.phase.crew.write_out.Goals as goal
-
-pub tile_mut-requires : goal.tile_mut-requires
-tile_mut-requires c =
-    let task = c.args.task in
-    let j = c.loop-place.place-index in
-    let d : Turned = record { place = 0; tile = record { even_even = []; odd_even = []; even_odd = []; odd_odd = [] } } in
-    let less : j < length c.args.turned.now = search rules in
-    within_as task.parity task.old.now task.walls.now task.obstacles.now c.loop-place.out (get_or c.args.turned.now j d).place c.loop-place.invariant.sides (c.requires.right j d less).0
 
 pub loop-place-preserved : goal.loop-place-preserved
 loop-place-preserved c =

@@ -1,6 +1,6 @@
 use Rattle.std.proofs.Common.{◌≡◌, ◌-◌, ◌*◌, ◌/◌, ◌≤◌, ◌∙◌, pos, sym, ap, ap₂, arith}
 use Rattle.gas_terms.specs.Cells.{Cells, tile_count, tile_rectangle}
-use Rattle.gas_plane.proofs.Sweeps.{sweep_within, sweep_next, sweep_past}
+use Rattle.gas_plane.proofs.Sweeps.{sweep_next, sweep_past}
 use Rattle.gas_plane.proofs.PlaneCounts.{few_tiles}
 use Rattle.phase_step.specs.Actions.{acted}
 use Rattle.phase_step.proofs.ActedTiles.{acting, action_starts, action_ends, still_acts, all_tiles, row_of_tiles, tile_within, same_tile}
@@ -29,16 +29,6 @@ loop-i-init c =
       moved = let e : 0 ≡ 0 - c.own_tiles-own.result.first - (0 - c.own_tiles-own.result.end) = omega arith in
           ap (tiles_move (pos c.args.parity) c.args.strip.now (acted leaves c.args.strip.now) c.own_tiles-own.result.first) e;
     }
-
-pub tile-old-requires : goal.tile-old-requires
-tile-old-requires c =
-    sweep_within c.args.strip.now c.loop-i.strip (acting (acts_there (leaves_of c.args.exchange.now) c.args.first c.args.down) c.args.strip.now) c.loop-i.i c.tiles-tiles.result c.loop-i.invariant.cells c.loop-i-test.true
-    (let all = all_tiles c.args.strip.now c.size-2.result c.tiles-tiles.result c.tiles-tiles.ensures.tiles c.size-2.ensures.extent in omega (arith, all))
-
-pub set_tile-requires : goal.set_tile-requires
-set_tile-requires c =
-    sweep_within c.args.strip.now c.loop-i.strip (acting (acts_there (leaves_of c.args.exchange.now) c.args.first c.args.down) c.args.strip.now) c.loop-i.i c.tiles-tiles.result c.loop-i.invariant.cells c.loop-i-test.true
-    (let all = all_tiles c.args.strip.now c.size-2.result c.tiles-tiles.result c.tiles-tiles.ensures.tiles c.size-2.ensures.extent in omega (arith, all))
 
 -- a tile of which nothing is said stays
 pub loop-i-preserved-in_default : goal.loop-i-preserved-in_default

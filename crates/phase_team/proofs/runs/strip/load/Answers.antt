@@ -1,33 +1,16 @@
-use Rattle.std.proofs.Common.{◌≡◌, ◌<◌, ◌/◌, if◌then◌else◌, nat_lt, sym, ap, ◌∙◌, subst, arith}
+use Rattle.std.proofs.Common.{◌≡◌, ◌/◌, if◌then◌else◌, nat_lt, sym, ap, ◌∙◌, subst, arith}
 use Rattle.gas_terms.specs.Cells.{Extent, has, cells_where, tile_count, tile_rectangle}
 use Rattle.gas_terms.proofs.Cells.{full-cells_where}
 use Rattle.gas_plane.specs.Planes.{IsLattice, IsTileFrom, swept, tile_of}
-use Rattle.gas_plane.proofs.Sweeps.{sweep_begins, sweep_is_whole, sweep_within}
+use Rattle.gas_plane.proofs.Sweeps.{sweep_begins, sweep_is_whole}
 use Rattle.phase_step.proofs.PhaseSweeps.{tiles_are}
 use Rattle.phase_team.specs.Strips.{shift_of}
-use Rattle.phase_team.proofs.Windows.{seen, source_of, source_is, source_within, load_writes, load_leaves}
+use Rattle.phase_team.proofs.Windows.{seen, source_of, source_is, load_writes, load_leaves}
 use Rattle.phase_team.proofs.runs.strip.load.Goals as goal
 use Rattle.phase_team.proofs.runs.strip.load.Goals.{then-not-has_same_cells, else-not-has_same_cells}
 
 pub loop-i-init : goal.loop-i-init
 loop-i-init c = record { strip = sym (sweep_begins c.args.strip.now (seen c.args.whole.now (shift_of c.args.whole.now c.args.first)) c.size-3.ensures.lattice) }
-
-pub tile_or_bare-tile-requires : goal.tile_or_bare-tile-requires
-tile_or_bare-tile-requires c =
-    let across : c.from-across.result ≡ c.args.whole.now.width / 64 = c.from-across.ensures ∙ ap (λ n. n / 64) (c.width.ensures ∙ ap (λ (s : Extent). s.width) c.size.ensures.extent) in
-    let down : c.from-down.result ≡ c.args.whole.now.height / 64 = c.from-down.ensures ∙ ap (λ n. n / 64) (c.height.ensures ∙ ap (λ (s : Extent). s.height) c.size-2.ensures.extent) in
-    subst (λ j. j < tile_count c.args.whole.now) (sym (source_is c.args.first c.args.whole.now c.loop-i.i c.from-across.result c.from-down.result c.row_of.result across down c.row_of.ensures.row))
-    (source_within c.args.first c.args.whole.now c.loop-i.i c.size.ensures.lattice.sized)
-
-pub tile_or_bare-requires : goal.tile_or_bare-requires
-tile_or_bare-requires c =
-    let all = tiles_are c.args.strip.now c.size-3.result c.tiles-i-end.result c.size-3.ensures.extent c.tiles-i-end.ensures.tiles in
-    sweep_within c.args.strip.now c.loop-i.strip (seen c.args.whole.now (shift_of c.args.whole.now c.args.first)) c.loop-i.i c.tiles-i-end.result c.loop-i.invariant.strip c.loop-i-test.true (omega (arith, all))
-
-pub set_tile-requires : goal.set_tile-requires
-set_tile-requires c =
-    let all = tiles_are c.args.strip.now c.size-3.result c.tiles-i-end.result c.size-3.ensures.extent c.tiles-i-end.ensures.tiles in
-    sweep_within c.args.strip.now c.loop-i.strip (seen c.args.whole.now (shift_of c.args.whole.now c.args.first)) c.loop-i.i c.tiles-i-end.result c.loop-i.invariant.strip c.loop-i-test.true (omega (arith, all))
 
 pub loop-i-preserved : goal.loop-i-preserved
 loop-i-preserved c =

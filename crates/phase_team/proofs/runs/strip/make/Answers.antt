@@ -7,15 +7,11 @@ use Rattle.phase_step.specs.Runs.{tiles_take}
 use Rattle.phase_team.specs.ActionStrips.{all_there, own_take, own_flow}
 use Rattle.phase_team.proofs.OwnPhases.{rows_with, own_phase, own_next, own_flow_next, own_flow_fits}
 use Rattle.phase_step.specs.Exchanges.{leaves_of, listed}
-use Rattle.phase_step.proofs.RunTakes.{counted_none}
 use Rattle.phase_step.proofs.Balances.{flows_counted, counted_fit}
 use Rattle.phase_step.specs.Actions.{flow_plus, FlowsFit}
 use Rattle.phase_step.specs.Balance.{flow_counted}
 use Rattle.block_rule.specs.Accounts.{counted_of}
 use Rattle.phase_team.proofs.runs.strip.make.Goals as goal
-
-pub loop-k-init : goal.loop-k-init
-loop-k-init c = record { cells = refl; spare = c.requires.spare; flow = same_flow _ _ (counted_none c.args.run.counted) refl }
 
 pub turn_in_place-took-requires-clause-walls : goal.turn_in_place-took-requires-clause-walls
 turn_in_place-took-requires-clause-walls c =

@@ -1,4 +1,4 @@
-use Rattle.std.proofs.Common.{◌≡◌, ℕ, ◌+◌, ◌*◌, ◌/◌, sym, ap, ap₂, ◌∙◌, subst, arith}
+use Rattle.std.proofs.Common.{◌≡◌, ℕ, ◌+◌, ◌*◌, ◌/◌, sym, ap, ap₂, ◌∙◌, subst}
 use Rattle.gas_terms.specs.Cells.{Cells, Extent, joined}
 use Rattle.phase_step.specs.Actions.{Leaves, after_with}
 use Rattle.phase_step.proofs.ActionRuns.{sides_with}
@@ -10,9 +10,6 @@ use Rattle.phase_team.proofs.Turned.{own_count, window_as, same_sides}
 use Rattle.phase_team.proofs.ActionTurned.{own_is_with, flow_is_with, acts_are}
 use Rattle.phase_step.specs.Exchanges.{listed}
 use Rattle.phase_team.proofs.runs.strip.Strip.turn.Goals as goal
-
-pub load-requires-clause-first : goal.load-requires-clause-first
-load-requires-clause-first c = omega (arith, c.requires.inside, c.requires.some)
 
 pub returns-clause-done : goal.returns-clause-done
 returns-clause-done c =

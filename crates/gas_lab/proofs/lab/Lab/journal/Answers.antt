@@ -1,8 +1,0 @@
-use Rattle.std.proofs.Common.{rules}
-use Rattle.gas_lab.proofs.lab.Lab.journal.Goals as goal
-
-pub returns-clause-journal : goal.returns-clause-journal
-returns-clause-journal g c = search rules
-
-pub returns-clause-room : goal.returns-clause-room
-returns-clause-room g c = search rules

@@ -1,8 +1,0 @@
-use Rattle.std.proofs.Common.{rules}
-use Rattle.gas_lab.proofs.lab.Lab.lacks_room.Goals as goal
-
-pub returns-then-is_change : goal.returns-then-is_change
-returns-then-is_change g c = search rules
-
-pub returns-else-is_change : goal.returns-else-is_change
-returns-else-is_change g c = search rules
