@@ -134,10 +134,3 @@ transposed_symmetry =
       joins = transposed_joined;
       streams = λ t particles walls e s. transposed_streamed (parity t) particles walls e s;
     })
-
--- The velocities in a mirror.
-pub velocity_mirrored : (p w x y : ℕ) → w % 2 ≡ 0 → x < w → velocity_at p (w - 1 - x) y ≡ record (velocity_at p x y) { right = not (velocity_at p x y).right }
-velocity_mirrored p w x y e l = ap (λ b. record (velocity_at p x y) { right = b }) (sym (mirror_parity w p x e l))
-
-pub velocity_upside_down : (p h x y : ℕ) → h % 2 ≡ 0 → y < h → velocity_at p x (h - 1 - y) ≡ record (velocity_at p x y) { down = not (velocity_at p x y).down }
-velocity_upside_down p h x y e l = ap (λ b. record (velocity_at p x y) { down = b }) (sym (mirror_parity h p y e l))

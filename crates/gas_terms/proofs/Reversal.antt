@@ -11,11 +11,6 @@ use Rattle.gas_terms.proofs.Parity.{parity-small, parity-last, parity_reversed}
 use Rattle.gas_terms.proofs.Steps.{unstreamed-streamed, gas_at, same_gas, backs-forwards}
 use Rattle.gas_terms.proofs.StepWeights.{velocity_at-other}
 
--- Each particle moves the other way.
-pub velocity_reversed : (g : Gas) (x y : ℕ) → velocity_at (parity (reversed g).tick) x y ≡ opposite (velocity_at (parity g.tick) x y)
-velocity_reversed g x y =
-    ap (λ p. velocity_at p x y) (parity_reversed g.tick) ∙ velocity_at-other (parity g.tick) x y (parity-small g.tick)
-
 pub back_reversed : (g : Gas) → HasEvenSides g.particles.width g.particles.height → reversed (back g) ≡ forward (reversed g)
 unfolding gas_at
 back_reversed g e =
@@ -49,19 +44,6 @@ pub forwards_reversed : (n : ℕ) (g : Gas) → HasEvenSides g.particles.width g
     → reversed (iterate forward n g) ≡ iterate back n (reversed g)
 forwards_reversed =
     iterate_carried forward back reversed (λ g. HasEvenSides g.particles.width g.particles.height) (λ g e. e) forward_reversed
-
--- Reversed twice.
-twice_at : (t : ℤ) → pos 1 -ℤ (pos 1 -ℤ t) ≡ t
-twice_at t = omega (arith, ints)
-
-same_but_ports : (t t' : ℤ) (particles walls obstacles : Cells) (d d' : List Rectangle) (s s' : List Source) → t ≡ t' → d ≡ d' → s ≡ s'
-    → gas_at t particles walls obstacles d s ≡ gas_at t' particles walls obstacles d' s'
-same_but_ports t t' particles walls obstacles d d' s s' e f h = cc
-
-pub reversed-reversed : (g : Gas) → HasNoPorts g → reversed (reversed g) ≡ g
-unfolding gas_at
-reversed-reversed g none =
-    same_but_ports _ g.tick g.particles g.walls g.obstacles [] g.drains [] g.sources (twice_at g.tick) (sym none.no_drains) (sym none.no_sources)
 
 -- A gas that runs, is reversed and runs as long again is its start, reversed.
 pub run_returns : (n : ℕ) (g : Gas) → IsEvenTorus g.particles → iterate forward n (reversed (iterate forward n g)) ≡ reversed g

@@ -40,7 +40,7 @@ pub fn run_counting<A: Action>(
     flow
 }
 
-// One component of it.
+// One component of what is missing of the momentum in the end.
 fn missing_in(before: i64, injected: i64, drained: i64, took: i64, after: i64) -> i64
     requires before { nat_abs before ≤ 2 ^ 48 }
     requires injected { nat_abs injected ≤ 2 ^ 48 }

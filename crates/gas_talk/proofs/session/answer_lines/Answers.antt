@@ -3,7 +3,7 @@ use Rattle.gas_text.specs.Requests.{request_of}
 use Rattle.gas_talk.specs.Lines.{lines, text}
 use Rattle.gas_talk.specs.Ends.{is_quit}
 use Rattle.gas_talk.proofs.Sending.{sent_whole}
-use Rattle.gas_talk.proofs.Progress.{Leads-size, Progress_line, Serves_quit, Serves_cut, Serves_last_bad, Serves_last_memory, last_at_no_other, lines_answered}
+use Rattle.gas_talk.proofs.Progress.{Leads-size, Progress_line, Serves_quit, Serves_cut, Serves_last_bad, Serves_last_memory, lines_answered}
 use Rattle.gas_talk.proofs.session.answer_lines.Goals as goal
 
 pub returns-then-not-is_sent-clause-answered : goal.returns-then-not-is_sent-clause-answered
@@ -49,29 +49,11 @@ returns-in-Bad-clause-answered g c = λ input from before.
     let sent = c.last.ensures in
     Serves_last_bad g.D.Door.size_of g.D.Door.asks g.D.Door.copies input from c.lines.lines _ p _ c.last.result sent.0 sent.1 (c.in-Bad.ensures.found p.unread p.keeps) sent.2 sent.3 sent.4
 
-pub returns-in-Bad-clause-end : goal.returns-in-Bad-clause-end
-returns-in-Bad-clause-end g c = last_at_no_other _ _ _ _ (λ wrong. cc) (λ wrong. cc) c.last.ensures.4
-
-pub returns-in-Bad-clause-in_time : goal.returns-in-Bad-clause-in_time
-returns-in-Bad-clause-in_time g c = last_at_no_other _ _ _ _ (λ wrong. cc) (λ wrong. cc) c.last.ensures.4
-
-pub returns-in-Bad-clause-no_fault : goal.returns-in-Bad-clause-no_fault
-returns-in-Bad-clause-no_fault g c = last_at_no_other _ _ _ _ (λ wrong. cc) (λ wrong. cc) c.last.ensures.4
-
 pub returns-in-NoMemory-clause-answered : goal.returns-in-NoMemory-clause-answered
 returns-in-NoMemory-clause-answered g c = λ input from before.
     let p = c.lines.invariant input from before in
     let sent = c.last-in-NoMemory.ensures in
     Serves_last_memory g.D.Door.size_of g.D.Door.asks g.D.Door.copies input from c.lines.lines _ p _ c.last-in-NoMemory.result sent.0 sent.1 sent.2 sent.3 sent.4
-
-pub returns-in-NoMemory-clause-end : goal.returns-in-NoMemory-clause-end
-returns-in-NoMemory-clause-end g c = last_at_no_other _ _ _ _ (λ wrong. cc) (λ wrong. cc) c.last-in-NoMemory.ensures.4
-
-pub returns-in-NoMemory-clause-in_time : goal.returns-in-NoMemory-clause-in_time
-returns-in-NoMemory-clause-in_time g c = last_at_no_other _ _ _ _ (λ wrong. cc) (λ wrong. cc) c.last-in-NoMemory.ensures.4
-
-pub returns-in-NoMemory-clause-no_fault : goal.returns-in-NoMemory-clause-no_fault
-returns-in-NoMemory-clause-no_fault g c = last_at_no_other _ _ _ _ (λ wrong. cc) (λ wrong. cc) c.last-in-NoMemory.ensures.4
 
 pub returns-in-More-clause-answered : goal.returns-in-More-clause-answered
 returns-in-More-clause-answered g c = λ input from before.

@@ -1,5 +1,5 @@
 use Rattle.gas_terms.proofs.MappedTotals.{total_mirrored, total_upside_down, total_transposed}
-use Rattle.gas_terms.proofs.Mirrors.{mirror_symmetry, upside_down_symmetry, transposed_symmetry, velocity_mirrored, velocity_upside_down}
+use Rattle.gas_terms.proofs.Mirrors.{mirror_symmetry, upside_down_symmetry, transposed_symmetry}
 use Rattle.gas_terms.proofs.symmetry_laws.mirrors_are_symmetries.Goals as goal
 
 pub returns-clause-mirror : goal.returns-clause-mirror
@@ -10,12 +10,6 @@ returns-clause-flip c = upside_down_symmetry
 
 pub returns-clause-turn : goal.returns-clause-turn
 returns-clause-turn c = transposed_symmetry
-
-pub returns-clause-sideways : goal.returns-clause-sideways
-returns-clause-sideways c = velocity_mirrored
-
-pub returns-clause-upwards : goal.returns-clause-upwards
-returns-clause-upwards c = velocity_upside_down
 
 pub returns-clause-mirrored_sums : goal.returns-clause-mirrored_sums
 returns-clause-mirrored_sums c = total_mirrored

@@ -1,12 +1,6 @@
-use Rattle.gas_terms.proofs.Reversal.{velocity_reversed, reversed-reversed, backs_reversed, forwards_reversed, run_returns}
+use Rattle.gas_terms.proofs.Reversal.{backs_reversed, forwards_reversed, run_returns}
 use Rattle.gas_terms.proofs.MappedTotals.{total_reversed}
 use Rattle.gas_terms.proofs.symmetry_laws.time_reversal_is_a_symmetry.Goals as goal
-
-pub returns-clause-velocities : goal.returns-clause-velocities
-returns-clause-velocities c = velocity_reversed
-
-pub returns-clause-twice : goal.returns-clause-twice
-returns-clause-twice c = reversed-reversed
 
 pub returns-clause-runs : goal.returns-clause-runs
 returns-clause-runs c = backs_reversed

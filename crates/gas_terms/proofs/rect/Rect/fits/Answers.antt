@@ -1,8 +1,0 @@
-use Rattle.std.proofs.Common.{rules}
-use Rattle.gas_terms.proofs.rect.Rect.fits.Goals as goal
-
-pub returns-then-right-width : goal.returns-then-right-width
-returns-then-right-width c = search rules
-
-pub returns-else-right-width : goal.returns-else-right-width
-returns-else-right-width c = search rules

@@ -1,8 +1,0 @@
-use Rattle.std.proofs.Common.{rules}
-use Rattle.gas_terms.proofs.tick.vel.Goals as goal
-
-pub returns-then-y-p : goal.returns-then-y-p
-returns-then-y-p c = search rules
-
-pub returns-else-y-p : goal.returns-else-y-p
-returns-else-y-p c = search rules
