@@ -3,7 +3,7 @@ use Rattle.gas_terms.specs.Laboratory.{IsPrefix}
 use Rattle.gas_terms.specs.declared.command.Entry.{Entry}
 use Rattle.gas_seats.proofs.Events.{applies_extends}
 use Rattle.gas_seats.proofs.Numbered.{at_end, before_end}
-use Rattle.gas_seats.proofs.Seeing.{asked_sees_on, copied_sees_on}
+use Rattle.gas_seats.proofs.Seeing.{asked_sees_on}
 use Rattle.gas_seats.proofs.receipts.receipts_hold.Goals as goal
 
 stands : (journal new later : List Entry) (entry : Entry) (k : ℕ) → new ≡ journal ++ entry ∷ [] → k ≡ length journal → IsPrefix new later → slice_get later k ≡ Some entry
@@ -13,9 +13,6 @@ stands journal new later entry k is at p =
 
 pub returns-clause-asks : goal.returns-clause-asks
 returns-clause-asks c old new command reply h = asked_sees_on old command reply new h
-
-pub returns-clause-copies : goal.returns-clause-copies
-returns-clause-copies c old new copied h = copied_sees_on old copied new h
 
 pub returns-clause-entry : goal.returns-clause-entry
 returns-clause-entry c old new command k later h p =
