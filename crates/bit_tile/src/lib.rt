@@ -3,7 +3,7 @@
 //! The program uses all of it but `Tile::set` and `Tile::count`, which are there for callers of the library.
 #![tactic(auto)]
 
-ghost use Rattle.std.specs.Prelude.{◌≡◌, ℕ, ◌+◌, ◌*◌, ◌/◌, ◌<◌, ◌≤◌, Bool, true, false, not, ◌&&◌, ◌||◌, ◌==◌, ◌%◌, nat_lt, nat_le, if◌then◌else◌, slice_index, IsTrue};
+ghost use Rattle.std.specs.Prelude.{◌≡◌, ℕ, ◌+◌, ◌*◌, ◌/◌, ◌<◌, ◌≤◌, Bool, true, false, not, ◌&&◌, ◌||◌, ◌==◌, ◌%◌, ◌↔◌, nat_lt, nat_le, if◌then◌else◌, slice_index, IsTrue};
 ghost use Rattle.bit_tile.specs.Bit.{bit};
 
 mod class;
@@ -193,8 +193,7 @@ impl Tile {
 
     /// Whether there are no cells.
     pub fn is_empty(&self) -> bool
-        ensures empty { IsTrue result → HasCells self.now (λ _ _. false) }
-        ensures known { HasCells self.now (λ _ _. false) → IsTrue result }
+        ensures { IsTrue result ↔ HasCells self.now (λ _ _. false) }
     {
         for j in 0..32usize {
             if self.any_in_rows(j) != 0 {
@@ -232,8 +231,7 @@ impl Tile {
 
     /// Whether the other has the same cells.
     pub fn has_same_cells(&self, other: &Tile) -> bool
-        ensures same { IsTrue result → HasCells self.now (has other.now) }
-        ensures known { HasCells self.now (has other.now) → IsTrue result }
+        ensures { IsTrue result ↔ HasCells self.now (has other.now) }
     {
         same(&self.even_even, &other.even_even)
             && same(&self.odd_even, &other.odd_even)

@@ -1,16 +1,15 @@
 -- Marks of tiles that have no cell.
-use Rattle.std.proofs.Common.{◌≡◌, ℕ, ◌+◌, ◌-◌, ◌*◌, ◌/◌, ◌%◌, ◌<◌, ◌≤◌, ◌&&◌, Bool, true, false, IsTrue, List, length, set, replicate, sym, ◌∙◌, ap, ap₂, subst, arith, inl, inr, get_or-set_other, get_or-set_same, length-set, mul_assoc}
-use Rattle.std.proofs.lemmas.List.{get_or-replicate, get_or_past, get_or_default, length-replicate}
+use Rattle.std.proofs.Common.{◌≡◌, ℕ, ◌+◌, ◌-◌, ◌*◌, ◌/◌, ◌%◌, ◌<◌, ◌≤◌, ◌&&◌, Bool, true, IsTrue, List, length, set, sym, ◌∙◌, ap, ap₂, subst, arith, inl, inr, get_or-set_other, get_or-set_same, length-set, mul_assoc}
+use Rattle.std.proofs.lemmas.List.{get_or_default}
 use Rattle.std.proofs.lemmas.Nat.{mod-mul-add, div-mul-add, div-add-mod'}
 use Rattle.std.proofs.Math.Nat.{mod-lt}
-use Rattle.std.proofs.lemmas.Bool.{cases_eq, cases_lt}
-use Rattle.bit_tile.specs.Tile.{HasCells}
+use Rattle.std.proofs.lemmas.Bool.{cases_eq}
 use Rattle.bit_tile.specs.declared.Tile.{Tile}
-use Rattle.gas_terms.specs.Cells.{Cells, Extent, has, tile_count, is_size}
+use Rattle.gas_terms.specs.Cells.{Cells, Extent, has, tile_count}
 use Rattle.gas_plane.specs.Tiles.{no_cells, tile_at, IsMarked, Cover}
 use Rattle.gas_plane.specs.Marks.{mark_at, IsMarkOf}
 use Rattle.gas_plane.specs.declared.marks.Mark.{Mark}
-use Rattle.gas_plane.specs.declared.marks.Mark.TheVariants.{Bare, Lent}
+use Rattle.gas_plane.specs.declared.marks.Mark.TheVariants.{Lent}
 use Rattle.gas_plane.specs.Planes.{IsTileFrom, IsBare, IsBareRound, IsBareFarRound, AreThreeBare, HasNone, place_by}
 use Rattle.gas_plane.proofs.Places.{IsWholeTiles, ring_before, ring_after, ring_in, ring_cases, cell_below, stays}
 use Rattle.gas_plane.proofs.Tilings.{tiled, tile_is, tile_there, set_covers, nothing_there}

@@ -4,7 +4,7 @@
 #![tactic(auto)]
 
 ghost use Rattle.std.specs.Borrow.{sem};
-ghost use Rattle.std.specs.Prelude.{◌≡◌, IsTrue, ◌*◌, ◌/◌, ◌<◌, false, IfOk};
+ghost use Rattle.std.specs.Prelude.{◌↔◌, ◌≡◌, IsTrue, ◌*◌, ◌/◌, ◌<◌, false, IfOk};
 ghost use Rattle.gas_terms.specs.Cells.{has, cells_where, extent, tile_count, tile_rectangle};
 ghost use Rattle.gas_plane.specs.Planes.{IsLattice, IsTileFrom, IsBare, IsBareRound, IsBareFarRound, AreThreeBare, HasNone, with_tile};
 ghost use Rattle.gas_plane.specs.Lending.{LendsTile};
@@ -158,8 +158,7 @@ impl Plane {
 
     /// Whether no tile has a cell.
     pub fn is_empty(&self) -> bool
-        ensures none { IsTrue result → HasNone self.now }
-        ensures known { HasNone self.now → IsTrue result }
+        ensures { IsTrue result ↔ HasNone self.now }
     {
         if are_all_bare(self.marks.as_slice()) {
             return true;
@@ -202,8 +201,7 @@ impl Plane {
     fn are_three_bare(&self, column: u32, row: u32) -> bool
         requires column { column < self.now.width / 64 }
         requires row { row < self.now.height / 64 }
-        ensures bare { IsTrue result → AreThreeBare self.now column row }
-        ensures known { AreThreeBare self.now column row → IsTrue result }
+        ensures { IsTrue result ↔ AreThreeBare self.now column row }
     {
         let across = self.across();
         let left = self.is_bare(row * across + before(column, across));

@@ -1,6 +1,6 @@
 //! Exchanges: rectangles that are emptied, and others that are then filled.
 
-ghost use Rattle.std.specs.Prelude.{◌≡◌, true, ℕ, ◌<◌, ◌≤◌, ◌/◌, ◌+◌, ◌||◌, ◌&&◌, not, IsTrue, IfSome, MatchOption};
+ghost use Rattle.std.specs.Prelude.{◌↔◌, ◌≡◌, true, ℕ, ◌<◌, ◌≤◌, ◌/◌, ◌+◌, ◌||◌, ◌&&◌, not, IsTrue, IfSome, MatchOption};
 ghost use Rattle.bit_tile.specs.Tile.{HasCells};
 ghost use Rattle.bit_tile.specs.Tile as in_tile;
 ghost use Rattle.gas_terms.specs.Cells.{most_side};
@@ -64,8 +64,7 @@ impl Exchange {
 
     /// Whether it has neither drains nor sources.
     pub fn is_still(&self) -> bool
-        ensures none { IsTrue result → self.now ≡ nowhere }
-        ensures known { self.now ≡ nowhere → IsTrue result }
+        ensures { IsTrue result ↔ (self.now ≡ nowhere) }
     {
         self.drains.len() == 0 && self.sources.len() == 0
     }

@@ -1,7 +1,7 @@
 //! The cells at walled sites, of each parity. They depend on walls and obstacles alone, so a run of many phases prepares them
 //! once.
 
-ghost use Rattle.std.specs.Prelude.{◌≡◌, ℕ, ◌<◌, Bool, IfOk, IsTrue, slice_index};
+ghost use Rattle.std.specs.Prelude.{◌↔◌, ◌≡◌, ℕ, ◌<◌, Bool, IfOk, IsTrue, slice_index};
 ghost use Rattle.bit_tile.specs.Tile.{has};
 ghost use Rattle.gas_terms.specs.Cells.{Cells, extent, tile_count, tile_rectangle, HasSidesOf};
 ghost use Rattle.gas_terms.specs.Gas.{Site};
@@ -114,8 +114,7 @@ impl SitesOfParity {
     }
 
     fn fits(&self, size: Size) -> bool
-        ensures fits { IsTrue result → HasExtent self.now size }
-        ensures known { HasExtent self.now size → IsTrue result }
+        ensures { IsTrue result ↔ HasExtent self.now size }
     {
         self.walls.cells().size() == size && self.obstacles.cells().size() == size
     }
@@ -147,8 +146,7 @@ impl WalledSites {
 
     /// Whether it is room for a lattice of this size.
     pub fn fits(&self, size: Size) -> bool
-        ensures fits { IsTrue result → HaveExtent self.now size }
-        ensures known { HaveExtent self.now size → IsTrue result }
+        ensures { IsTrue result ↔ HaveExtent self.now size }
     {
         self.even.fits(size) && self.odd.fits(size)
     }

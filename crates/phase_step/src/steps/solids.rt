@@ -1,6 +1,6 @@
 //! Walls and obstacles, and whether there are any.
 
-ghost use Rattle.std.specs.Prelude.{◌≡◌, IsTrue};
+ghost use Rattle.std.specs.Prelude.{◌↔◌, ◌≡◌, IsTrue};
 ghost use Rattle.std.specs.Option.{ForSome};
 ghost use Rattle.gas_plane.specs.Planes.{HasNone};
 ghost use Rattle.phase_step.specs.WalledSites.{AreWalledSites};
@@ -53,8 +53,7 @@ impl<'a> Solids<'a> {
 
 /// Whether neither walls nor obstacles have a cell.
 pub fn are_none(walls: &Plane, obstacles: &Plane) -> bool
-    ensures none { IsTrue result → HasNone walls.now × HasNone obstacles.now }
-    ensures known { HasNone walls.now → HasNone obstacles.now → IsTrue result }
+    ensures { IsTrue result ↔ (HasNone walls.now × HasNone obstacles.now) }
 {
     walls.is_empty() && obstacles.is_empty()
 }

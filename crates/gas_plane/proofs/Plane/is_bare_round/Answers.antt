@@ -34,7 +34,7 @@ returns-clause-ring c = λ all.
     (by_places (AreThreeBare cells (c.args.i % c.across-across.result)) (cells.height / 64) (c.args.i / c.across-across.result) c.before-2.result c.after.result row
     (c.before-2.ensures.place ∙ ap (λ n. (c.args.i / c.across-across.result + n - 1) % n) down)
     (c.after.ensures.place ∙ ap (λ n. (c.args.i / c.across-across.result + 1) % n) down)
-    (c.are_three_bare-above.ensures.bare three.0) (c.are_three_bare-here.ensures.bare three.1) (c.are_three_bare-below.ensures.bare three.2)))
+    (c.are_three_bare-above.ensures.0 three.0) (c.are_three_bare-here.ensures.0 three.1) (c.are_three_bare-below.ensures.0 three.2)))
 
 pub returns-clause-bare : goal.returns-clause-bare
 returns-clause-bare c = λ all.
@@ -50,7 +50,7 @@ returns-clause-bare c = λ all.
     (by_places (AreThreeBare cells (c.args.i % c.across-across.result)) (cells.height / 64) (c.args.i / c.across-across.result) c.before-2.result c.after.result row
     (c.before-2.ensures.place ∙ ap (λ n. (c.args.i / c.across-across.result + n - 1) % n) down)
     (c.after.ensures.place ∙ ap (λ n. (c.args.i / c.across-across.result + 1) % n) down)
-    (c.are_three_bare-above.ensures.bare three.0) (c.are_three_bare-here.ensures.bare three.1) (c.are_three_bare-below.ensures.bare three.2)))
+    (c.are_three_bare-above.ensures.0 three.0) (c.are_three_bare-here.ensures.0 three.1) (c.are_three_bare-below.ensures.0 three.2)))
 
 pub returns-clause-known : goal.returns-clause-known
 returns-clause-known c = λ far.
@@ -65,4 +65,4 @@ returns-clause-known c = λ far.
     (c.after.ensures.place ∙ ap (λ n. (c.args.i / c.across-across.result + 1) % n) down)
     (nine_are_known cells (c.args.i % c.across-across.result) (c.args.i / c.across-across.result) (wide (extent cells) is.sized) (high (extent cells) is.sized) column row (rw (← across) at far)) in
     three_all c.are_three_bare-above.result c.are_three_bare-here.result c.are_three_bare-below.result
-    (c.are_three_bare-above.ensures.known all.0) (c.are_three_bare-here.ensures.known all.1) (c.are_three_bare-below.ensures.known all.2)
+    (c.are_three_bare-above.ensures.1 all.0) (c.are_three_bare-here.ensures.1 all.1) (c.are_three_bare-below.ensures.1 all.2)

@@ -1,7 +1,6 @@
-use Rattle.std.proofs.Common.{◌∙◌, [], ap}
+use Rattle.std.proofs.Common.{◌∙◌, ap}
 use Rattle.gas_talk.proofs.Sequential.{stays}
 use Rattle.gas_seats.specs.Seats.{Seat}
-use Rattle.gas_hall.proofs.Turns.{begins_itself}
 use Rattle.gas_hall.proofs.serving.HallSeatingHallSeat.serve_guest.Goals as goal
 
 abbrev but_for_entries : Seat → Seat
@@ -11,6 +10,3 @@ pub returns-clause-kept : goal.returns-clause-kept
 returns-clause-kept g c =
     let kept = stays _ _ _ (λ d. but_for_entries d.seat) (λ d command r e h. ap but_for_entries h.1) (λ d r e h. ap but_for_entries h.1) _ _ _ c.serve_door.ensures.1.serves.leads.talk in
     ap but_for_entries c.end.ensures ∙ kept ∙ ap but_for_entries c.door-door.ensures
-
-pub returns-clause-seen : goal.returns-clause-seen
-returns-clause-seen g c = begins_itself []

@@ -59,7 +59,7 @@ loop-i-preserved-in_default c =
 
 pub returns-then-is_still-clause-cells : goal.returns-then-is_still-clause-cells
 returns-then-is_still-clause-cells c =
-    still_acts (leaves_of c.args.exchange.now) c.args.plane.now c.size.ensures.lattice.full (nowhere_is_still c.args.exchange.now (c.is_still.ensures.none c.if-is_still.true))
+    still_acts (leaves_of c.args.exchange.now) c.args.plane.now c.size.ensures.lattice.full (nowhere_is_still c.args.exchange.now (c.is_still.ensures.0 c.if-is_still.true))
 
 pub returns-then-is_still-clause-gained : goal.returns-then-is_still-clause-gained
 returns-then-is_still-clause-gained c = still_counts c.args.plane.now

@@ -15,11 +15,11 @@ use Rattle.phase_team.proofs.runs.strip.act_on_strip.Goals.{After-moved-here, th
 
 pub returns-then-is_still-clause-cells : goal.returns-then-is_still-clause-cells
 returns-then-is_still-clause-cells c =
-    still_acts (acts_there (leaves_of c.args.exchange.now) c.args.first c.args.down) c.args.strip.now c.size.ensures.lattice.full (λ x y held. nowhere_is_still c.args.exchange.now (c.is_still.ensures.none c.if-is_still.true) x _ held)
+    still_acts (acts_there (leaves_of c.args.exchange.now) c.args.first c.args.down) c.args.strip.now c.size.ensures.lattice.full (λ x y held. nowhere_is_still c.args.exchange.now (c.is_still.ensures.0 c.if-is_still.true) x _ held)
 
 pub returns-then-is_still-clause-moved : goal.returns-then-is_still-clause-moved
 returns-then-is_still-clause-moved c =
-    none_of_still c.args.parity (acts_there (leaves_of c.args.exchange.now) c.args.first c.args.down) c.args.strip.now c.size.ensures.lattice (λ x y held. nowhere_is_still c.args.exchange.now (c.is_still.ensures.none c.if-is_still.true) x _ held) c.requires.rows
+    none_of_still c.args.parity (acts_there (leaves_of c.args.exchange.now) c.args.first c.args.down) c.args.strip.now c.size.ensures.lattice (λ x y held. nowhere_is_still c.args.exchange.now (c.is_still.ensures.0 c.if-is_still.true) x _ held) c.requires.rows
 
 pub loop-i-init : goal.loop-i-init
 loop-i-init c =

@@ -25,7 +25,7 @@ loop-i-preserved c =
       strip = elim c.if-not-has_same_cells.branch [
         | then-not-has_same_cells w ↦ w.strip-is ∙ load_writes c.args.first c.args.strip.now c.loop-i.strip w.set_tile.new.self whole c.loop-i.i t c.size.ensures.lattice.sized c.size-3.ensures.lattice c.requires.wide c.loop-i.invariant.strip w.set_tile.ensures from
         | else-not-has_same_cells w ↦ w.strip-is ∙ load_leaves c.args.first c.args.strip.now c.loop-i.strip whole c.loop-i.i t c.tile_or_bare.result.now c.size.ensures.lattice.sized c.size-3.ensures.lattice c.requires.wide (omega (arith, all)) c.loop-i.invariant.strip from c.tile_or_bare.ensures
-            (c.has_same_cells.ensures.same w.if-not-has_same_cells.false)
+            (c.has_same_cells.ensures.0 w.if-not-has_same_cells.false)
       ];
     }
 
