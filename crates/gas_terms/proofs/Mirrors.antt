@@ -1,7 +1,7 @@
 -- Mirrors and the exchange of rows and columns.
 use Rattle.std.proofs.Common.{◌≡◌, ℕ, ◌+◌, ◌-◌, ◌%◌, ◌<◌, Bool, true, false, not, ◌||◌, refl, sym, ap, ◌∙◌, arith}
 use Rattle.std.proofs.lemmas.Bool.Decides.{nat_tests}
-use Rattle.gas_terms.specs.Velocity.{has_parity, velocity_at, parity}
+use Rattle.gas_terms.specs.Velocity.{has_parity, parity}
 use Rattle.gas_terms.specs.Cells.{Cells, has, cells_where, HasEvenSides, HasSidesOf, joined}
 use Rattle.gas_terms.specs.Gas.{streamed, along}
 use Rattle.gas_terms.specs.Block.{corner_rule, other_coordinate}

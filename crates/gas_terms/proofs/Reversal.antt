@@ -1,15 +1,14 @@
 -- A run back is a run forward of the reversed gas.
-use Rattle.std.proofs.Common.{◌≡◌, ℕ, ℤ, pos, ◌+ℤ◌, ◌-ℤ◌, List, [], sym, ap, ◌∙◌, arith}
+use Rattle.std.proofs.Common.{◌≡◌, ℕ, pos, ◌+ℤ◌, ◌-ℤ◌, [], sym, ap, ◌∙◌, arith}
 use Rattle.std.proofs.lemmas.Int.{ints}
 use Rattle.std.specs.Fn.{iterate}
-use Rattle.gas_terms.specs.Velocity.{opposite, parity, velocity_at}
-use Rattle.gas_terms.specs.Cells.{Cells, Rectangle, HasEvenSides, IsEvenTorus}
-use Rattle.gas_terms.specs.Gas.{Gas, Source, streamed, unstreamed, solid, forward, back, HasNoPorts}
+use Rattle.gas_terms.specs.Velocity.{parity}
+use Rattle.gas_terms.specs.Cells.{HasEvenSides, IsEvenTorus}
+use Rattle.gas_terms.specs.Gas.{Gas, streamed, unstreamed, solid, forward, back}
 use Rattle.gas_terms.specs.Symmetry.{reversed}
 use Rattle.gas_terms.proofs.Iterate.{iterate_keeps, iterate_carried}
 use Rattle.gas_terms.proofs.Parity.{parity-small, parity-last, parity_reversed}
 use Rattle.gas_terms.proofs.Steps.{unstreamed-streamed, gas_at, same_gas, backs-forwards}
-use Rattle.gas_terms.proofs.StepWeights.{velocity_at-other}
 
 pub back_reversed : (g : Gas) → HasEvenSides g.particles.width g.particles.height → reversed (back g) ≡ forward (reversed g)
 unfolding gas_at

@@ -4,6 +4,7 @@ ghost use Rattle.std.specs.Prelude.{◌≡◌, ◌<◌, true, false};
 ghost use Rattle.gas_terms.specs.Cells.{lies_within, extent};
 
 use crate::expected::{expect_same, expect_that};
+use crate::lattices::holds;
 use gas_ledger::{Flow, Gas, Port, Ports, Sums, tally};
 use gas_plane::{Plane, Tile};
 use gas_terms::{Moved, Pair, Rect, Size, Tick, Took};
@@ -68,11 +69,6 @@ pub fn step_on(rt: &(impl Abort + AllocGlobal), gas: &mut Gas, n: u16) -> Flow {
     let mut spare = Plane::empty(rt.alloc(), gas.size()).expect(rt, "memory");
     expect_that(&rt, gas.tick().ahead(n).is_some());
     gas.step_on(n, &mut spare, &mut Serial)
-}
-
-fn holds(plane: &Plane, x: u32, y: u32) -> bool {
-    let size = plane.size();
-    x < size.width() as u32 && y < size.height() as u32 && plane.get(x, y)
 }
 
 fn count(rt: &impl Abort, plane: &Plane) -> i64 {

@@ -5,6 +5,7 @@ ghost use Rattle.gas_terms.specs.Cells.{lies_within, extent};
 
 use crate::actions::step_on;
 use crate::expected::{expect_same, expect_that};
+use crate::lattices::holds;
 use gas_ledger::{Full, Gas, Moved, Port, Ports, Source, Sums, apply_ports, probe, tally};
 use gas_plane::Plane;
 use gas_terms::{Rect, Size, Tick};
@@ -54,11 +55,6 @@ fn source(rt: &impl Abort, gas: &mut Gas, x: u32, y: u32, w: u32, h: u32, period
     let area = area(rt, gas, x, y, w, h);
     assert!(rt; 1 <= period);
     expect_that(&rt, gas.add_port(Port::Source(area, period)).is_ok());
-}
-
-fn holds(plane: &Plane, x: u32, y: u32) -> bool {
-    let size = plane.size();
-    x < size.width() as u32 && y < size.height() as u32 && plane.get(x, y)
 }
 
 #[test]

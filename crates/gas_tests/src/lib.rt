@@ -1,4 +1,5 @@
-//! Tests of the crates from `gas_terms` up to `gas_ledger`, and of `claim_desk` and `turn_lock`, through their public calls.
+//! Tests of the crates from `gas_terms` up to `gas_ledger`, of `phase_team`, `claim_desk` and `turn_lock`, through their public
+//! calls.
 #![tactic(auto)]
 
 #[cfg(test)]
@@ -12,6 +13,8 @@ mod desks;
 #[cfg(test)]
 mod expected;
 #[cfg(test)]
+mod lattices;
+#[cfg(test)]
 mod ledgers;
 #[cfg(test)]
 mod locks;
@@ -19,6 +22,10 @@ mod locks;
 mod phases;
 #[cfg(test)]
 mod planes;
+#[cfg(test)]
+mod strips;
+#[cfg(test)]
+mod teams;
 #[cfg(test)]
 mod terms;
 #[cfg(test)]

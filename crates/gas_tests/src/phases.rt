@@ -4,6 +4,7 @@ ghost use Rattle.std.specs.Prelude.{◌≡◌, ◌<◌, true};
 ghost use Rattle.gas_terms.specs.Cells.{Extent, extent, lies_within, is_inside};
 
 use crate::expected::expect_that;
+use crate::lattices::{are_same, fit, plane, scattered};
 use gas_plane::{Plane, Tile};
 use gas_terms::{Pair, Rect, Size, Took};
 use phase_step::{Serial, Solids, Stepper, WalledSites, are_none, turn_tile_at};
@@ -13,18 +14,19 @@ const WIDE: u32 = 192;
 
 const HIGH: u32 = 128;
 
-fn plane(rt: &(impl Abort + AllocGlobal), width: u32, height: u32, cells: &[(u32, u32)]) -> Plane {
-    let size = Size::new(width, height).expect(rt, "a size");
-    let mut plane = Plane::empty(rt.alloc(), size).expect(rt, "memory");
-    for (x, y) in cells {
-        plane.fill(Rect::within(size, *x, *y, 1, 1).expect(rt, "a cell"));
-    }
-    plane
-}
-
-fn holds(plane: &Plane, x: u32, y: u32) -> bool {
-    let size = plane.size();
-    x < size.width() as u32 && y < size.height() as u32 && plane.get(x, y)
+/// A phase as a laboratory makes it.
+pub fn step<S: Stepper>(
+    rt: &impl Abort,
+    stepper: &mut S,
+    old: &Plane,
+    walls: &Plane,
+    obstacles: &Plane,
+    parity: u8,
+    out: &mut Plane,
+) -> Took {
+    expect_that(&rt, parity < 2);
+    fit(rt, old, walls, obstacles, out);
+    stepper.phase(old, walls, obstacles, parity, out)
 }
 
 fn phase(
@@ -35,12 +37,7 @@ fn phase(
     parity: u8,
     out: &mut Plane,
 ) -> Took {
-    let size = old.size();
-    expect_that(&rt, parity < 2);
-    expect_that(&rt, walls.size() == size);
-    expect_that(&rt, obstacles.size() == size);
-    expect_that(&rt, out.size() == size);
-    Serial.phase(old, walls, obstacles, parity, out)
+    step(rt, &mut Serial, old, walls, obstacles, parity, out)
 }
 
 // the first tile alone, at an odd tick
@@ -57,11 +54,6 @@ fn first_tile(
     expect_that(&rt, size.tiles() > 0);
     let solids = Solids::new(walls, obstacles);
     turn_tile_at(old, solids, 1, old.position(0), out)
-}
-
-// whether two planes hold the same cells
-fn are_same(some: &Plane, others: &Plane, width: u32, height: u32) -> bool {
-    (0..height).all(|y| (0..width).all(|x| holds(some, x, y) == holds(others, x, y)))
 }
 
 // whether a plane of 128 by 128 has these cells and no others
@@ -288,22 +280,6 @@ fn steps_over_the_seam_and_back(rt: HostRuntime) {
     }
 }
 
-// cells by a linear congruence, about one in `every`
-fn scattered(rt: &(impl Abort + AllocGlobal), seed: u32, every: u32) -> Plane {
-    let size = Size::new(WIDE, HIGH).expect(rt, "a size");
-    let mut plane = Plane::empty(rt.alloc(), size).expect(rt, "memory");
-    let mut state = seed;
-    for y in 0..HIGH {
-        for x in 0..WIDE {
-            state = state.wrapping_mul(1664525).wrapping_add(1013904223);
-            if every > 0 && (state / 65536) % every == 0 {
-                plane.fill(Rect::within(size, x, y, 1, 1).expect(rt, "a cell"));
-            }
-        }
-    }
-    plane
-}
-
 fn add(total: &mut Pair, more: Pair) {
     total.x = total.x.wrapping_add(more.x);
     total.y = total.y.wrapping_add(more.y);
@@ -311,11 +287,11 @@ fn add(total: &mut Pair, more: Pair) {
 
 #[test]
 fn fifty_steps_and_back(rt: HostRuntime) {
-    let start = scattered(&rt, 1, 3);
-    let walls = scattered(&rt, 2, 400);
-    let obstacles = scattered(&rt, 3, 700);
-    let mut now = scattered(&rt, 1, 3);
-    let mut next = scattered(&rt, 4, 2);
+    let start = scattered(&rt, WIDE, HIGH, 1, 3);
+    let walls = scattered(&rt, WIDE, HIGH, 2, 400);
+    let obstacles = scattered(&rt, WIDE, HIGH, 3, 700);
+    let mut now = scattered(&rt, WIDE, HIGH, 1, 3);
+    let mut next = scattered(&rt, WIDE, HIGH, 4, 2);
     let mut by_walls = Pair::ZERO;
     let mut by_obstacles = Pair::ZERO;
     for t in 0..50u8 {

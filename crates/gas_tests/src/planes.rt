@@ -4,6 +4,7 @@ ghost use Rattle.std.specs.Prelude.{◌≡◌, true};
 ghost use Rattle.gas_terms.specs.Cells.{lies_within, extent};
 
 use crate::expected::{expect_same, expect_that};
+use crate::lattices::holds;
 use gas_plane::{Plane, Tile, word_of};
 use gas_terms::{Rect, Size};
 use std::process::Abort;
@@ -20,11 +21,6 @@ fn area(rt: &impl Abort, plane: &Plane, x: u32, y: u32, w: u32, h: u32) -> Rect
     let area = Rect::within(plane.size(), x, y, w, h).expect(rt, "a rectangle");
     expect_that(&rt, area.fits(plane.size()));
     area
-}
-
-fn holds(plane: &Plane, x: u32, y: u32) -> bool {
-    let size = plane.size();
-    x < size.width() as u32 && y < size.height() as u32 && plane.get(x, y)
 }
 
 #[test]

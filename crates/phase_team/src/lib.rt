@@ -12,8 +12,6 @@ pub mod laws;
 mod phase;
 mod runs;
 mod team;
-#[cfg(test)]
-mod tests;
 
 pub use phase::{Gate, NoGate};
 pub use runs::LeastRun;

@@ -11,3 +11,9 @@ pub returns-clause-seen : goal.returns-clause-seen
 returns-clause-seen g c =
     turned_sees_on g.H.Seating.seen c.args.seats.items c.reverse.new.self.items c.scoped-done.result.1.items c.reverse-3.new.self.items
     c.reverse.ensures.items (search rules) (search rules) c.reverse-3.ensures.items
+
+pub returns-clause-entries : goal.returns-clause-entries
+returns-clause-entries g c = search rules
+
+pub returns-clause-count : goal.returns-clause-count
+returns-clause-count g c = search rules

@@ -1,4 +1,4 @@
-use Rattle.std.proofs.Common.{refl}
+use Rattle.std.proofs.Common.{rules, refl}
 use Rattle.gas_ledger.proofs.Editing.{quiet_moves}
 use Rattle.gas_ledger.proofs.books.edited.Goals as goal
 
@@ -19,3 +19,6 @@ returns-in-Drain-clause-moved c = quiet_moves c.args.gas.now c.add_port-in-Drain
 
 pub returns-in-Unport-clause-moved : goal.returns-in-Unport-clause-moved
 returns-in-Unport-clause-moved c = quiet_moves c.args.gas.now c.remove_ports.new.self _ c.requires.torus c.remove_ports.ensures refl
+
+pub add_port-requires-in-Drain-clause-place : goal.add_port-requires-in-Drain-clause-place
+add_port-requires-in-Drain-clause-place c = search rules

@@ -1,4 +1,4 @@
-use Rattle.std.proofs.Common.{◌≡◌, ◌∷◌, [], ℕ, List, length, Ok, ap, sym, ◌∙◌, refl, inl, subst}
+use Rattle.std.proofs.Common.{rules, ◌≡◌, ◌∷◌, [], ℕ, List, length, Ok, ap, sym, ◌∙◌, refl, inl, subst}
 use Rattle.gas_text.specs.declared.reply.Reply.TheVariants.{Saved}
 use Rattle.gas_snapshot.specs.Shelved.{Gains}
 use Rattle.gas_talk.specs.Talk.{put_taken, snapshot}
@@ -16,3 +16,6 @@ returns-in-Ok-put-clause-saved g c =
       done.0,
       subst (λ (taken : List ℕ). Gains (g.K.Shelf.shelved c.args.shelf.now) (g.K.Shelf.shelved c.put.new.self) (taken ∷ [])) bytes done.1,
     )
+
+pub returns-clause-saved : goal.returns-clause-saved
+returns-clause-saved g c = search rules

@@ -1,4 +1,4 @@
-use Rattle.std.proofs.Common.{arith, ◌≡◌, ◌++◌, All, length, length-append, map, sym, ap, ◌∙◌, subst}
+use Rattle.std.proofs.Common.{rules, arith, ◌≡◌, ◌++◌, All, length, length-append, map, sym, ap, ◌∙◌, subst}
 use Rattle.std.proofs.lemmas.List.{length-map}
 use Rattle.gas_terms.specs.Cells.{extent}
 use Rattle.claim_desk.specs.Desk.{SeatView}
@@ -73,3 +73,6 @@ loop-hand-preserved c =
           ∙ (give_both stretch numbers others c.loop-hand.flow c.put-theirs.result was.flow (c.put-theirs.ensures.flow ∙ ap (strips_give stretch) theirs)
           ∙ ap (strips_give stretch) (sym all));
     }
+
+pub returns-clause-seats : goal.returns-clause-seats
+returns-clause-seats c = search rules

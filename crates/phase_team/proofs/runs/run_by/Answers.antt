@@ -34,6 +34,9 @@ stretch-here-requires-clause-spare g c =
     let run = c.args.run in
     sides_as_with run.parity (joined run.walls.now run.obstacles.now) (g.A.Action.leaves run.action.now) c.args.particles.now c.loop-done.particles c.loop-done.spare c.loop-done.done c.loop-done.invariant.cells c.loop-done.invariant.spare
 
+pub stretch-here-requires-clause-few : goal.stretch-here-requires-clause-few
+stretch-here-requires-clause-few g c = search rules
+
 -- what the action does after phase k of a stretch that begins at phase `done`
 abbrev turns_from : (ℕ → Leaves) → ℕ → ℕ → Leaves
 turns_from leaves done k x y held = leaves (min (done + k) 65535) x y held

@@ -37,3 +37,6 @@ invariant_of-strips-2 g c =
       all = strips.all;
       ready = subst (λ (size : Extent). All (IsRoomFor size strips.parts) c.make_strips.new.rooms.items) (sym c.requires.size) c.make_strips.ensures.rooms;
     }
+
+pub returns-in-None-clause-particles : goal.returns-in-None-clause-particles
+returns-in-None-clause-particles g c = search rules

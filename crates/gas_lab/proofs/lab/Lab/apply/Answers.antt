@@ -1,4 +1,4 @@
-use Rattle.std.proofs.Common.{ap, sym, ◌∙◌}
+use Rattle.std.proofs.Common.{rules, ap, sym, ◌∙◌}
 use Rattle.gas_terms.specs.Cells.{extent, lies_within}
 use Rattle.gas_terms.specs.Gas.{Gas}
 use Rattle.gas_terms.specs.Commands.{fits}
@@ -22,3 +22,6 @@ row-requires g c =
     let l = c.self.inside in
     row_within (lab_of l.start l.cap (books_of l.books) l.journal.items) _ c.args.command c.in-Read.y c.self.view_is c.in-Read.is
     (kept_in_order (lab_of l.start l.cap (books_of l.books) l.journal.items) _ c.args.command c.self.invariant.sound c.self.view_is c.requires.in_order)
+
+pub returns-in-Probe : goal.returns-in-Probe
+returns-in-Probe g c = search rules

@@ -32,3 +32,6 @@ enact-requires-clause-torus g c =
 
 pub returns-clause-sound : goal.returns-clause-sound
 returns-clause-sound g c = (invariant_of-self-2 g c).sound
+
+pub returns-clause-changed : goal.returns-clause-changed
+returns-clause-changed g c = search rules

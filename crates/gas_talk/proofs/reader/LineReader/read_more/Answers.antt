@@ -1,4 +1,4 @@
-use Rattle.std.proofs.Common.{◌≡◌, ◌≤◌, ◌+◌, ◌-◌, ◌++◌, length, take, drop, arith, ap, sym, ◌∙◌, length-take}
+use Rattle.std.proofs.Common.{rules, ◌≡◌, ◌≤◌, ◌+◌, ◌-◌, ◌++◌, length, take, drop, arith, ap, sym, ◌∙◌, length-take}
 use Rattle.tokio_util.specs.Codec.Lines.{at_line_start, gives_lines}
 use Rattle.tokio_util.proofs.CodecLemmas.Next.{Resumes-append}
 use Rattle.gas_talk.specs.Lines.{line_limit}
@@ -21,3 +21,6 @@ returns-in-Ok-clause-read g c =
       c.in-Ok.ensures.bytes.0,
       λ unread keeps. rw items (Resumes-append gives_lines (at_line_start line_limit) unread c.args.self.now.codec kept more keeps),
     )
+
+pub read-requires-clause-page : goal.read-requires-clause-page
+read-requires-clause-page g c = search rules

@@ -1,0 +1,6 @@
+use Rattle.std.proofs.Common.{rules, arith}
+use Rattle.std.proofs.lemmas.Grind.{common_steps}
+use Rattle.gas_seats.proofs.mutex_hall.hall.HallDoorDoor.size.Goals as goal
+
+pub returns : goal.returns
+returns g c = search rules

@@ -1,0 +1,5 @@
+use Rattle.std.proofs.Common.{rules}
+use Rattle.gas_seats.proofs.turn_hall.TurnDoorDoor.size.Goals as goal
+
+pub returns : goal.returns
+returns g c = search rules

@@ -1,0 +1,5 @@
+use Rattle.std.proofs.Common.{rules}
+use Rattle.gas_terms.proofs.accounts.Took.plus.Goals as goal
+
+pub plus-requires-2 : goal.plus-requires-2
+plus-requires-2 c = search rules

@@ -1,0 +1,5 @@
+use Rattle.std.proofs.Common.{rules}
+use Rattle.gas_terms.proofs.tick.Tick.behind.Goals as goal
+
+pub returns : goal.returns
+returns c = search rules

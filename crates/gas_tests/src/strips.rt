@@ -1,0 +1,478 @@
+//! Runs by strips of teams, with values found by hand and by the second implementation, and beside those of one thread.
+
+use crate::expected::expect_that;
+use crate::lattices::{are_same, holds, plane, scattered};
+use crate::phases::step;
+use crate::teams::team;
+use gas_plane::Plane;
+use gas_terms::{Moved, Pair, Rect, Size, Sums, Took};
+use phase_step::{Action, Exchange, Few, Flow, Listed, Run, Serial, Stepper, Still, parity_at};
+use phase_team::{LeastRun, NoGate, Team};
+use std::process::Abort;
+use std::thread::Threads;
+
+// walls and obstacles of a run of n phases, the first of this parity
+#[derive(Clone, Copy)]
+struct Ground<'a> {
+    walls: &'a Plane,
+    obstacles: &'a Plane,
+    parity: u8,
+    n: u16,
+}
+
+// a run as a laboratory makes it
+fn act_along<S: Stepper, A: Action>(
+    rt: &impl Abort,
+    stepper: &mut S,
+    ground: Ground<'_>,
+    action: &A,
+    particles: &mut Plane,
+    spare: &mut Plane,
+) -> Flow {
+    let size = particles.size();
+    expect_that(&rt, ground.parity < 2);
+    expect_that(&rt, ground.walls.size() == size);
+    expect_that(&rt, ground.obstacles.size() == size);
+    expect_that(&rt, spare.size() == size);
+    let run = Run {
+        walls: ground.walls,
+        obstacles: ground.obstacles,
+        parity: ground.parity,
+        n: ground.n,
+        action,
+    };
+    stepper.run_with(particles, run, spare)
+}
+
+// a run by a team that makes each by strips, however short and low
+fn by_strips<R: Threads + Abort + AllocGlobal + Copy + Drop, A: Action>(
+    rt: &R,
+    workers: u8,
+    ground: Ground<'_>,
+    action: &A,
+    particles: &mut Plane,
+    spare: &mut Plane,
+) -> Flow {
+    expect_that(&rt, 0 < workers && workers <= 16);
+    let least = LeastRun {
+        phases: 0,
+        tiles: 0,
+    };
+    let mut team = Team::with_least_run(*rt, rt.alloc(), workers, NoGate, least);
+    act_along(rt, &mut team, ground, action, particles, spare)
+}
+
+// the same on one thread, phase by phase
+fn by_phases(rt: &impl Abort, run: Ground<'_>, particles: &mut Plane, spare: &mut Plane) -> Took {
+    expect_that(&rt, run.parity < 2);
+    let mut took = [0i64; 4];
+    for k in 0..run.n {
+        let turn = parity_at(run.parity, k);
+        let Took { walls, obstacles } = step(
+            rt,
+            &mut Serial,
+            particles,
+            run.walls,
+            run.obstacles,
+            turn,
+            spare,
+        );
+        for (sum, more) in took
+            .iter_mut()
+            .zip([walls.x, walls.y, obstacles.x, obstacles.y])
+        {
+            *sum = sum.wrapping_add(more);
+        }
+        std::mem::swap(particles, spare);
+    }
+    let [x, y, u, v] = took;
+    Took {
+        walls: Pair { x, y },
+        obstacles: Pair { x: u, y: v },
+    }
+}
+
+// a run ends the same by strips of so many workers each and phase by phase
+fn strips_agree<R: Threads + Abort + AllocGlobal + Copy + Drop>(
+    rt: &R,
+    size: Size,
+    n: u16,
+    workers: &[u8],
+) {
+    let walls = seeded(rt, size, 77172645463325252, 7);
+    let obstacles = seeded(rt, size, 66172645463325252, 8);
+    let run = Ground {
+        walls: &walls,
+        obstacles: &obstacles,
+        parity: (n / 32 % 2) as u8,
+        n,
+    };
+    let mut alone = seeded(rt, size, 88172645463325252, 1);
+    let mut spare = seeded(rt, size, 1, 1);
+    let by_one = by_phases(rt, run, &mut alone, &mut spare);
+    for workers in workers {
+        let mut now = seeded(rt, size, 88172645463325252, 1);
+        let took = by_strips(rt, *workers, run, &Still, &mut now, &mut spare).took;
+        expect_that(&rt, took == by_one && have_same_rows(&now, &alone));
+    }
+}
+
+#[test]
+fn runs_by_strips_are_the_phases(rt: HostRuntime) {
+    for height in [64, 128] {
+        let size = Size::new(128, height).expect(&rt, "a size");
+        for n in [1, 31, 32, 33, 63, 64, 65] {
+            strips_agree(&rt, size, n, &[1, 2, 5]);
+        }
+    }
+}
+
+#[test]
+fn long_and_high_runs_by_strips_are_the_phases(rt: HostRuntime) {
+    let low = Size::new(64, 128).expect(&rt, "a size");
+    strips_agree(&rt, low, 4096, &[2]);
+    let high = Size::new(64, 4096).expect(&rt, "a size");
+    strips_agree(&rt, high, 65, &[3, 16]);
+}
+
+// A stretch by strips leaves what it began with in the spare plane, one phase by phase what its last phase began with.
+#[test]
+fn strips_are_put_together(rt: HostRuntime) {
+    let size = Size::new(64, 4096).expect(&rt, "a size");
+    let none = Plane::empty(rt.alloc(), size).expect(&rt, "memory");
+    let run = Ground {
+        walls: &none,
+        obstacles: &none,
+        parity: 1,
+        n: 64,
+    };
+    let start = seeded(&rt, size, 88172645463325252, 1);
+    let mut spare = seeded(&rt, size, 1, 1);
+    let mut alone = seeded(&rt, size, 88172645463325252, 1);
+    by_phases(&rt, run, &mut alone, &mut spare);
+    expect_that(&rt, !have_same_rows(&spare, &start));
+    for workers in [1, 2, 3, 16] {
+        let mut now = seeded(&rt, size, 88172645463325252, 1);
+        by_strips(&rt, workers, run, &Still, &mut now, &mut spare);
+        expect_that(&rt, have_same_rows(&spare, &start));
+    }
+}
+
+// how many cells a plane has, and the sum of their places, row by row
+fn places(plane: &Plane, height: u32) -> (u64, u64) {
+    let mut sums = (0u64, 0u64);
+    for y in 0..height {
+        for x in 0..256u32 {
+            if holds(plane, x, y) {
+                let place = u64::from(x) + 256 * u64::from(y);
+                sums = (sums.0.wrapping_add(1), sums.1.wrapping_add(place));
+            }
+        }
+    }
+    sums
+}
+
+// the sums are those of tools/channel_gas.py
+#[test]
+fn run_of_sixty_five_by_two_strips(rt: HostRuntime) {
+    let walls = scattered(&rt, 256, 128, 2, 400);
+    let obstacles = scattered(&rt, 256, 128, 3, 700);
+    let mut now = scattered(&rt, 256, 128, 1, 3);
+    let mut spare = scattered(&rt, 256, 128, 4, 2);
+    let run = Ground {
+        walls: &walls,
+        obstacles: &obstacles,
+        parity: 0,
+        n: 65,
+    };
+    let took = by_strips(&rt, 2, run, &Still, &mut now, &mut spare).took;
+    expect_that(&rt, took.walls == Pair { x: -82, y: 18 });
+    expect_that(&rt, took.obstacles == Pair { x: 0, y: -80 });
+    expect_that(&rt, places(&now, 128) == (10959, 179345058));
+}
+
+// Empties one rectangle and fills another.
+fn stroke(drained: Rect, filled: Rect) -> Exchange {
+    let mut drains = Few::none(drained);
+    drains.push(drained);
+    let mut sources = Few::none(filled);
+    sources.push(filled);
+    Exchange::new(drains, sources)
+}
+
+// That after each third phase of n, from the second on.
+fn strokes(rt: &(impl Abort + AllocGlobal), drained: Rect, filled: Rect, n: u16) -> Vec<Exchange> {
+    let mut turns = Vec::with_capacity(rt.alloc(), n as usize).expect(rt, "memory");
+    for k in 0..n {
+        let turn = if k % 3 == 1 {
+            stroke(drained, filled)
+        } else {
+            Exchange::none()
+        };
+        turns.push(turn).expect(rt, "memory");
+    }
+    turns
+}
+
+// the sums are those of tools/channel_gas.py, with such an action after its steps
+#[test]
+fn strokes_in_a_run_by_two_strips(rt: HostRuntime) {
+    let walls = scattered(&rt, 256, 128, 2, 400);
+    let obstacles = scattered(&rt, 256, 128, 3, 700);
+    let mut now = scattered(&rt, 256, 128, 1, 3);
+    let mut spare = scattered(&rt, 256, 128, 4, 2);
+    let size = now.size();
+    let drained = Rect::within(size, 60, 50, 10, 30).expect(&rt, "a rectangle");
+    let filled = Rect::within(size, 120, 118, 20, 8).expect(&rt, "a rectangle");
+    let turns = strokes(&rt, drained, filled, 65);
+    let action = Listed {
+        turns: turns.as_slice(),
+    };
+    let ground = Ground {
+        walls: &walls,
+        obstacles: &obstacles,
+        parity: 0,
+        n: 65,
+    };
+    let flow = by_strips(&rt, 2, ground, &action, &mut now, &mut spare);
+    expect_that(&rt, flow.took.walls == Pair { x: -56, y: 80 });
+    expect_that(&rt, flow.took.obstacles == Pair { x: -20, y: -52 });
+    expect_that(
+        &rt,
+        flow.moved.injected
+            == Sums {
+                count: 1322,
+                px: 0,
+                py: 96,
+            },
+    );
+    expect_that(
+        &rt,
+        flow.moved.drained
+            == Sums {
+                count: 1019,
+                px: 51,
+                py: 37,
+            },
+    );
+    expect_that(&rt, places(&now, 128) == (11262, 186152991));
+}
+
+// On 64 by 128 cells, three particles at an even tick: two on their way to the wall, one to the obstacle in the tile below.
+const START: [(u32, u32); 3] = [(10, 10), (4, 25), (41, 60)];
+
+const WALL: &[(u32, u32)] = &[(14, 14)];
+
+const OBSTACLE: &[(u32, u32)] = &[(31, 70)];
+
+// A run of 17 phases comes to this phase by phase, by a team of one, and by strips of one worker and of two.
+fn comes_to<R: Threads + Abort + AllocGlobal + Copy + Drop, A: Action>(
+    rt: &R,
+    walls: &[(u32, u32)],
+    obstacles: &[(u32, u32)],
+    action: &A,
+    flow: Flow,
+    cells: &[(u32, u32)],
+) {
+    let walls = plane(rt, 64, 128, walls);
+    let obstacles = plane(rt, 64, 128, obstacles);
+    let want = plane(rt, 64, 128, cells);
+    let run = Ground {
+        walls: &walls,
+        obstacles: &obstacles,
+        parity: 0,
+        n: 17,
+    };
+    for way in 0..4u8 {
+        let mut now = plane(rt, 64, 128, &START);
+        let mut spare = plane(rt, 64, 128, &[]);
+        let found = match way {
+            0 => act_along(rt, &mut Serial, run, action, &mut now, &mut spare),
+            1 => {
+                let mut alone = team(rt, *rt, rt.alloc(), 1, NoGate);
+                act_along(rt, &mut alone, run, action, &mut now, &mut spare)
+            }
+            2 => by_strips(rt, 1, run, action, &mut now, &mut spare),
+            _ => by_strips(rt, 2, run, action, &mut now, &mut spare),
+        };
+        expect_that(&rt, found == flow);
+        expect_that(&rt, are_same(&now, &want, 64, 128));
+    }
+}
+
+// nothing came in or went out
+fn only_took(walls: Pair, obstacles: Pair) -> Flow {
+    Flow {
+        took: Took { walls, obstacles },
+        ..Flow::ZERO
+    }
+}
+
+// A particle goes one cell along its diagonal in each phase. It stays in the phase in which it is turned back, which takes twice
+// its momentum, and goes back from the next phase on. (10, 10) is turned back at (13, 13) in phase 3, (4, 25) at (14, 15) in
+// phase 10, and (41, 60) at (32, 69) in phase 9.
+#[test]
+fn long_runs_find_both_accounts(rt: HostRuntime) {
+    let (none, by_walls, by_obstacles) = (Pair::ZERO, Pair { x: 4, y: 0 }, Pair { x: -2, y: 2 });
+    let flow = only_took(by_walls, by_obstacles);
+    let cells = &[(0, 0), (8, 21), (39, 62)];
+    comes_to(&rt, WALL, OBSTACLE, &Still, flow, cells);
+    let cells = &[(0, 0), (8, 21), (24, 77)];
+    comes_to(&rt, WALL, &[], &Still, only_took(by_walls, none), cells);
+    let cells = &[(27, 27), (21, 8), (39, 62)];
+    comes_to(
+        &rt,
+        &[],
+        OBSTACLE,
+        &Still,
+        only_took(none, by_obstacles),
+        cells,
+    );
+}
+
+// After phase 12 the particle from (4, 25) is at (12, 17), on its way left and down, and is drained. One on its way left and up
+// is injected at (50, 100).
+#[test]
+fn long_run_with_an_action_finds_both_accounts(rt: HostRuntime) {
+    let size = Size::new(64, 128).expect(&rt, "a size");
+    let drained = Rect::within(size, 12, 17, 1, 1).expect(&rt, "a cell");
+    let filled = Rect::within(size, 50, 100, 1, 1).expect(&rt, "a cell");
+    let mut turns = Vec::new(rt.alloc());
+    for _ in 0..12u8 {
+        turns.push(Exchange::none()).expect(&rt, "memory");
+    }
+    turns.push(stroke(drained, filled)).expect(&rt, "memory");
+    let action = Listed {
+        turns: turns.as_slice(),
+    };
+    let flow = Flow {
+        took: Took {
+            walls: Pair { x: 4, y: 0 },
+            obstacles: Pair { x: -2, y: 2 },
+        },
+        moved: Moved {
+            injected: Sums {
+                count: 1,
+                px: -1,
+                py: -1,
+            },
+            drained: Sums {
+                count: 1,
+                px: -1,
+                py: 1,
+            },
+        },
+    };
+    let cells = &[(0, 0), (39, 62), (46, 96)];
+    comes_to(&rt, WALL, OBSTACLE, &action, flow, cells);
+}
+
+// rows of shifted and mixed words, of which so many are put together by `and`
+fn seeded(rt: &(impl Abort + AllocGlobal), size: Size, seed: u64, words: u32) -> Plane {
+    let mut plane = Plane::empty(rt.alloc(), size).expect(rt, "memory");
+    let mut word = seed;
+    for i in 0..size.tiles() {
+        expect_that(&rt, i < plane.size().tiles());
+        let tile = plane.tile_mut(i);
+        for y in 0..64 {
+            let mut row = u64::MAX;
+            for _ in 0..words {
+                word ^= word << 13;
+                word ^= word >> 7;
+                word ^= word << 17;
+                row &= word;
+            }
+            tile.set_row(y, row);
+        }
+    }
+    plane
+}
+
+fn have_same_rows(some: &Plane, others: &Plane) -> bool {
+    let tiles = some.size().tiles().min(others.size().tiles());
+    (0..tiles).all(|i| some.tile(i).has_same_cells(others.tile(i)))
+}
+
+#[test]
+fn team_runs_as_one_thread(rt: HostRuntime) {
+    let size = Size::new(640, 4096).expect(&rt, "a size");
+    let walls = seeded(&rt, size, 77172645463325252, 7);
+    let obstacles = seeded(&rt, size, 66172645463325252, 10);
+    let mut now = seeded(&rt, size, 88172645463325252, 1);
+    let mut alone = seeded(&rt, size, 88172645463325252, 1);
+    let mut spare = seeded(&rt, size, 1, 1);
+    let mut team = team(&rt, rt, rt.alloc(), 16, NoGate);
+    // the strips of the first run serve the second, of which the second stretch is of one phase
+    for (n, parity) in [(64, 0), (65, 1)] {
+        let run = Ground {
+            walls: &walls,
+            obstacles: &obstacles,
+            parity,
+            n,
+        };
+        let took = act_along(&rt, &mut team, run, &Still, &mut now, &mut spare).took;
+        let by_one = act_along(&rt, &mut Serial, run, &Still, &mut alone, &mut spare).took;
+        expect_that(&rt, took == by_one && have_same_rows(&now, &alone));
+    }
+}
+
+// seen as in `strips_are_put_together`: 2,048 squared is large enough for four workers and too small for two
+#[test]
+fn team_parts_large_runs_into_strips(rt: HostRuntime) {
+    let size = Size::new(2048, 2048).expect(&rt, "a size");
+    let none = Plane::empty(rt.alloc(), size).expect(&rt, "memory");
+    let run = Ground {
+        walls: &none,
+        obstacles: &none,
+        parity: 0,
+        n: 64,
+    };
+    let start = seeded(&rt, size, 88172645463325252, 1);
+    for (workers, in_strips) in [(1, false), (2, false), (4, true)] {
+        let mut team = team(&rt, rt, rt.alloc(), workers, NoGate);
+        let mut now = seeded(&rt, size, 88172645463325252, 1);
+        let mut spare = seeded(&rt, size, 1, 1);
+        act_along(&rt, &mut team, run, &Still, &mut now, &mut spare);
+        expect_that(&rt, have_same_rows(&spare, &start) == in_strips);
+    }
+}
+
+// Three rows of tiles. As in `strips_are_put_together`, the spare plane has what the last stretch began with: after 69 phases
+// the particles after 64 of them.
+#[test]
+fn small_runs_by_strips_are_those_of_one_thread(rt: HostRuntime) {
+    let size = Size::new(128, 192).expect(&rt, "a size");
+    let walls = seeded(&rt, size, 77172645463325252, 7);
+    let obstacles = seeded(&rt, size, 66172645463325252, 8);
+    let drained = Rect::within(size, 30, 50, 60, 30).expect(&rt, "a rectangle");
+    let filled = Rect::within(size, 20, 100, 70, 80).expect(&rt, "a rectangle");
+    let turns = strokes(&rt, drained, filled, 69);
+    let action = Listed {
+        turns: turns.as_slice(),
+    };
+    let mut spare = seeded(&rt, size, 1, 1);
+    for (n, before) in [(1, 0), (5, 0), (69, 64)] {
+        let ground = Ground {
+            walls: &walls,
+            obstacles: &obstacles,
+            parity: 1,
+            n,
+        };
+        let mut alone = seeded(&rt, size, 88172645463325252, 1);
+        let by_one = act_along(&rt, &mut Serial, ground, &action, &mut alone, &mut spare);
+        let mut began = seeded(&rt, size, 88172645463325252, 1);
+        let ahead = Ground {
+            n: before,
+            ..ground
+        };
+        act_along(&rt, &mut Serial, ahead, &action, &mut began, &mut spare);
+        for workers in [2, 3, 7] {
+            let mut now = seeded(&rt, size, 88172645463325252, 1);
+            let flow = by_strips(&rt, workers, ground, &action, &mut now, &mut spare);
+            expect_that(&rt, flow == by_one && have_same_rows(&now, &alone));
+            expect_that(&rt, have_same_rows(&spare, &began));
+        }
+        let moved = by_one.moved.injected.count > 0 && by_one.moved.drained.count > 0;
+        expect_that(&rt, moved == (n > 1));
+    }
+}

@@ -1,0 +1,239 @@
+//! Phases by teams of several workers, with values found by hand, and beside those of one thread.
+
+use crate::expected::{expect_same, expect_that};
+use crate::lattices::{are_same, fit, plane, scattered};
+use crate::phases::step;
+use gas_plane::Plane;
+use gas_terms::{Pair, Took};
+use phase_step::Serial;
+use phase_team::{Gate, NoGate, Team};
+use std::process::Abort;
+use std::sync::atomic::{AtomicBool, AtomicU64, Ordering};
+use std::thread;
+use std::thread::Threads;
+use std::time::{Clock, Duration};
+
+/// A team of so many workers.
+pub fn team<R: Threads + Drop, G: Gate + Drop>(
+    abort: &impl Abort,
+    rt: R,
+    alloc: std::alloc::Global,
+    workers: u8,
+    gate: G,
+) -> Team<R, G> {
+    expect_that(&abort, 0 < workers && workers <= 16);
+    Team::new(rt, alloc, workers, gate)
+}
+
+// a phase with any gate
+fn phase<R: Threads + Drop, G: Gate + Drop>(
+    rt: &impl Abort,
+    team: &mut Team<R, G>,
+    old: &Plane,
+    walls: &Plane,
+    obstacles: &Plane,
+    parity: u8,
+    out: &mut Plane,
+) -> Took {
+    expect_that(&rt, parity < 2);
+    fit(rt, old, walls, obstacles, out);
+    team.phase(old, walls, obstacles, parity, out)
+}
+
+#[test]
+fn head_on_pair_across_tiles(rt: HostRuntime) {
+    let old = plane(&rt, 128, 128, &[(63, 63), (64, 64)]);
+    let none = plane(&rt, 128, 128, &[]);
+    let want = plane(&rt, 128, 128, &[(64, 63), (63, 64)]);
+    let nothing = Pair::ZERO;
+    for workers in [1, 2, 7] {
+        let mut team = team(&rt, rt, rt.alloc(), workers, NoGate);
+        // what was there is overwritten
+        let mut out = plane(&rt, 128, 128, &[(63, 63), (5, 5)]);
+        let took = step(&rt, &mut team, &old, &none, &none, 1, &mut out);
+        expect_that(&rt, are_same(&out, &want, 128, 128));
+        expect_that(&rt, took.walls == nothing && took.obstacles == nothing);
+    }
+}
+
+#[test]
+fn wall_across_tiles_books_once(rt: HostRuntime) {
+    let nothing = Pair::ZERO;
+    // at an odd tick a particle at (63, 63) goes to the right and down
+    let twice = Pair { x: 2, y: 2 };
+    let old = plane(&rt, 128, 128, &[(63, 63)]);
+    let none = plane(&rt, 128, 128, &[]);
+    let corner = plane(&rt, 128, 128, &[(64, 64)]);
+    let beside = plane(&rt, 128, 128, &[(64, 63)]);
+    for workers in [1, 2, 7] {
+        let mut team = team(&rt, rt, rt.alloc(), workers, NoGate);
+        for (walls, obstacles, by_walls, by_obstacles) in [
+            (&corner, &none, twice, nothing),
+            (&none, &corner, nothing, twice),
+            (&beside, &corner, nothing, twice),
+            (&corner, &beside, nothing, twice),
+        ] {
+            let mut out = plane(&rt, 128, 128, &[]);
+            let took = step(&rt, &mut team, &old, walls, obstacles, 1, &mut out);
+            expect_that(&rt, are_same(&out, &old, 128, 128));
+            expect_that(
+                &rt,
+                took.walls == by_walls && took.obstacles == by_obstacles,
+            );
+        }
+    }
+}
+
+// Holds the first call until another has begun, for at most ten seconds and what the sleeps take longer.
+#[derive(Drop)]
+struct TwoAtOnce<C: Clock> {
+    clock: C,
+    calls: AtomicU64,
+    met_limit: AtomicBool,
+}
+
+impl<C: Clock> TwoAtOnce<C> {
+    fn new(clock: C) -> TwoAtOnce<C> {
+        TwoAtOnce {
+            clock,
+            calls: AtomicU64::new(0),
+            met_limit: AtomicBool::new(false),
+        }
+    }
+
+    fn hold(&self) {
+        for _ in 0..100000u32 {
+            if self.calls.load(Ordering::SeqCst) > 1 {
+                return;
+            }
+            thread::sleep(&self.clock, Duration::from_micros(100));
+        }
+        self.met_limit.store(true, Ordering::SeqCst);
+    }
+}
+
+impl<C: Clock + Sync> Gate for &TwoAtOnce<C> {
+    fn at_tile(&self, _worker: u8, _tile: u32) {
+        if self.calls.fetch_add(1, Ordering::SeqCst) == 0 {
+            self.hold();
+        }
+    }
+}
+
+#[test]
+fn two_workers_at_once(rt: HostRuntime) {
+    let old = plane(&rt, 128, 128, &[(63, 63), (64, 64)]);
+    let none = plane(&rt, 128, 128, &[]);
+    let want = plane(&rt, 128, 128, &[(64, 63), (63, 64)]);
+    let mut out = plane(&rt, 128, 128, &[]);
+    let gate = TwoAtOnce::new(rt);
+    let mut team = team(&rt, rt, rt.alloc(), 2, &gate);
+    phase(&rt, &mut team, &old, &none, &none, 1, &mut out);
+    expect_that(&rt, !gate.met_limit.load(Ordering::SeqCst));
+    // each of the four tiles was drawn
+    expect_same(&rt, gate.calls.load(Ordering::SeqCst), 4);
+    expect_that(&rt, are_same(&out, &want, 128, 128));
+}
+
+// Counts the calls for each of 12 tiles, by one of 3 workers, and any others.
+#[derive(Drop)]
+struct Counts {
+    tiles: [AtomicU64; 12],
+    others: AtomicU64,
+}
+
+impl Gate for &Counts {
+    fn at_tile(&self, worker: u8, tile: u32) {
+        let calls = match self.tiles.get(tile as usize) {
+            Some(calls) if worker < 3 => calls,
+            _ => &self.others,
+        };
+        calls.fetch_add(1, Ordering::SeqCst);
+    }
+}
+
+#[test]
+fn random_gas_by_any_number_of_workers(rt: HostRuntime) {
+    let walls = scattered(&rt, 256, 192, 2, 400);
+    let obstacles = scattered(&rt, 256, 192, 3, 700);
+    for workers in [1, 2, 5, 16] {
+        let mut team = team(&rt, rt, rt.alloc(), workers, NoGate);
+        let mut serial = Serial;
+        let mut now = scattered(&rt, 256, 192, 1, 3);
+        let mut next = scattered(&rt, 256, 192, 4, 2);
+        let mut alone = scattered(&rt, 256, 192, 1, 3);
+        let mut alone_next = scattered(&rt, 256, 192, 5, 2);
+        for t in 0..40u8 {
+            let took = step(&rt, &mut team, &now, &walls, &obstacles, t % 2, &mut next);
+            let by_one = step(
+                &rt,
+                &mut serial,
+                &alone,
+                &walls,
+                &obstacles,
+                t % 2,
+                &mut alone_next,
+            );
+            expect_that(&rt, took == by_one);
+            std::mem::swap(&mut now, &mut next);
+            std::mem::swap(&mut alone, &mut alone_next);
+        }
+        expect_that(&rt, are_same(&now, &alone, 256, 192));
+    }
+}
+
+#[test]
+fn each_tile_is_drawn_once(rt: HostRuntime) {
+    let old = scattered(&rt, 256, 192, 1, 3);
+    let none = scattered(&rt, 256, 192, 1, 0);
+    let mut out = scattered(&rt, 256, 192, 1, 0);
+    let counts = Counts {
+        tiles: [
+            AtomicU64::new(0),
+            AtomicU64::new(0),
+            AtomicU64::new(0),
+            AtomicU64::new(0),
+            AtomicU64::new(0),
+            AtomicU64::new(0),
+            AtomicU64::new(0),
+            AtomicU64::new(0),
+            AtomicU64::new(0),
+            AtomicU64::new(0),
+            AtomicU64::new(0),
+            AtomicU64::new(0),
+        ],
+        others: AtomicU64::new(0),
+    };
+    let mut team = team(&rt, rt, rt.alloc(), 3, &counts);
+    for _ in 0..5 {
+        phase(&rt, &mut team, &old, &none, &none, 0, &mut out);
+    }
+    expect_same(&rt, counts.others.load(Ordering::SeqCst), 0);
+    expect_that(
+        &rt,
+        counts
+            .tiles
+            .iter()
+            .all(|calls| calls.load(Ordering::SeqCst) == 5),
+    );
+}
+
+#[test]
+fn refused_team_without_memory(rt: HostRuntime) {
+    let old = plane(&rt, 128, 128, &[(63, 63), (64, 64), (10, 10)]);
+    let none = plane(&rt, 128, 128, &[]);
+    // at an odd tick a particle at (10, 10) goes to the left and up
+    let walls = plane(&rt, 128, 128, &[(9, 9)]);
+    let want = plane(&rt, 128, 128, &[(64, 63), (63, 64), (10, 10)]);
+    let mut team = team(&rt, rt, rt.alloc(), 7, NoGate);
+    let mut out = plane(&rt, 128, 128, &[(5, 5)]);
+    let took = step(&rt, &mut team, &old, &walls, &none, 1, &mut out);
+    expect_that(&rt, are_same(&out, &want, 128, 128));
+    expect_that(
+        &rt,
+        took.walls == Pair { x: -2, y: -2 } && took.obstacles == Pair::ZERO,
+    );
+    let mut alone = plane(&rt, 128, 128, &[]);
+    let by_one = step(&rt, &mut Serial, &old, &walls, &none, 1, &mut alone);
+    expect_that(&rt, are_same(&out, &alone, 128, 128) && took == by_one);
+}

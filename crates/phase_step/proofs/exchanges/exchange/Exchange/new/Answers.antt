@@ -1,0 +1,5 @@
+use Rattle.std.proofs.Common.{rules}
+use Rattle.phase_step.proofs.exchanges.exchange.Exchange.new.Goals as goal
+
+pub returns : goal.returns
+returns c = search rules

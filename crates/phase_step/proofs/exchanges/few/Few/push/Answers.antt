@@ -1,0 +1,6 @@
+use Rattle.std.proofs.Common.{rules, arith}
+use Rattle.std.proofs.lemmas.Grind.{common_steps}
+use Rattle.phase_step.proofs.exchanges.few.Few.push.Goals as goal
+
+pub returns : goal.returns
+returns g c = grind (arith, common_steps)
