@@ -203,7 +203,7 @@ impl Tile {
         true
     }
 
-    // 0 just if rows 2 * j and 2 * j + 1 have no cells
+    // 0 exactly if rows 2 * j and 2 * j + 1 have no cells
     #[inline]
     fn any_in_rows(&self, j: usize) -> u32
         requires { j < 32 }
@@ -213,7 +213,7 @@ impl Tile {
         self.even_even[j] | self.odd_even[j] | self.even_odd[j] | self.odd_odd[j]
     }
 
-    /// Which rows have cells, two by two: bit j is 0 just if rows 2 * j and 2 * j + 1 have none.
+    /// Which pairs of rows have cells: bit j is 0 exactly if rows 2 * j and 2 * j + 1 have none.
     pub fn rows_with_cells(&self) -> u32
         ensures none { (x y : ℕ) → x < 64 → y < 64 → bit result (y / 2) ≡ false →
             has self.now x y ≡ false }

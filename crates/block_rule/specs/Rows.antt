@@ -102,7 +102,8 @@ pub record IsSpared (test : ℕ → ℕ → Bool) (y old_odd old_even new_odd ne
   pub in_odd : (i : ℕ) → i < 32 → bit odd i ≡ (if test (2 * i + 1) y then bit old_odd i else bit new_odd i)
   pub in_even : (i : ℕ) → i < 32 → bit even i ≡ (if test (2 * i + 0) y then bit old_even i else bit new_even i)
 
--- the row of odd blocks that begins in the tile's odd row j, that at its top, of which the lower cells are in the tile, and that at its bottom
+-- the row of odd blocks that begins in the tile's odd row j; the row at its top, whose lower cells are in the tile; and the row
+-- at its bottom
 pub record IsSparedRow (test : ℕ → ℕ → Bool) (j : ℕ) (old new after : Blocks) : Type 0 where
   pub upper : IsSpared test (2 * j + 1) old.upper_left old.upper_right new.upper_left new.upper_right after.upper_left after.upper_right
   pub lower : IsSpared test (2 * (j + 1) + 0) old.lower_left old.lower_right new.lower_left new.lower_right after.lower_left after.lower_right

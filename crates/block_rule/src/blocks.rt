@@ -30,8 +30,8 @@ pub struct Beside {
     pub lower: u32,
 }
 
-/// What is made of the cells of a block: of each by its own value, and by those of the cell beside it in its row, the one
-/// that faces it in its column, and the one across.
+/// A rule for the cells of a block. A cell's new value is a function of its own value and of those of the cell beside it in its
+/// row, the cell that faces it in its column, and the cell across.
 pub trait Rule: Copy {
     ghost cell: { Self → Bool → Bool → Bool → Bool → Bool };
 
@@ -39,7 +39,7 @@ pub trait Rule: Copy {
         ensures { IsMade (λ _. cell self) old result };
 }
 
-/// Of the new cells of a row, those that are not in these places; there the old ones stay.
+/// The new cells of a row, but the old ones in these places.
 #[inline(always)]
 pub fn kept(old: u32, places: u32, new: u32) -> u32
     ensures { (i : ℕ) → i < 32 →
@@ -48,15 +48,15 @@ pub fn kept(old: u32, places: u32, new: u32) -> u32
     (old & places) | (new & !places)
 }
 
-/// The collision of HPP's four channels in a row of blocks of which some are walled, each by its bit: these keep their cells.
+/// The collision of HPP's four channels in a row of blocks. Blocks whose bit is set in `walled` keep their cells.
 #[inline]
 pub fn collided(old: Blocks, walled: u32) -> Blocks
     ensures { IsMade (λ i. turned_cell (bit walled i)) old result }
 {
     let one_diagonal = (old.upper_left ^ old.upper_right)
         & !((old.upper_left ^ old.lower_right) | (old.upper_right ^ old.lower_left));
-    // each particle crosses its block, but two that meet head on, with nobody else there, leave at right angles: so the two
-    // corners of a diagonal change together
+    // Each particle crosses its block. Two that meet head on, alone in the block, leave at right angles. So the two corners of a
+    // diagonal change together.
     let falling = (old.upper_left ^ old.lower_right ^ one_diagonal) & !walled;
     let rising = (old.upper_right ^ old.lower_left ^ one_diagonal) & !walled;
     Blocks {
@@ -67,7 +67,7 @@ pub fn collided(old: Blocks, walled: u32) -> Blocks
     }
 }
 
-/// The collision where no block is walled.
+/// The collision if no block is walled.
 #[derive(Clone, Copy)]
 pub struct Collision;
 

@@ -29,7 +29,7 @@ fn count_rows(old: &[u32; 32], places: &[u32; 32], from: usize) -> u32
     n
 }
 
-// How many of a class's cells there are in these places, in the rows that are told.
+// How many of a class's cells there are in these places, in the rows that the word tells of.
 #[inline]
 fn count_class(cells: &[u32; 32], places: &[u32; 32], rows: u32) -> u32
     ensures count { TellsWords rows places.now →
@@ -39,7 +39,7 @@ fn count_class(cells: &[u32; 32], places: &[u32; 32], rows: u32) -> u32
     let mut n = 0;
     for k in 0..4usize {
         let from = k * TOGETHER;
-        if told(rows, from, 8) != 0 {
+        if told(rows, from, TOGETHER as u32) != 0 {
             n += count_rows(cells, places, from);
         }
     }
@@ -64,8 +64,8 @@ fn twice(forward: u32, back: u32) -> i64
     2 * i64::from(forward) - 2 * i64::from(back)
 }
 
-/// Twice their momentum. Where blocks begin at even places, those of even columns go to the right and those of even rows
-/// down; where they begin at odd ones, those of odd columns and rows do.
+/// Twice their momentum. If blocks begin at even places, particles in even columns go right and those in even rows go down. If
+/// blocks begin at odd places, those in odd columns and odd rows do.
 pub fn momentum(counts: Classes, parity: u8) -> Pair
     requires counts { HasAtMost 1024 counts }
     requires parity { parity < 2 }

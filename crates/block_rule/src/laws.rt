@@ -16,7 +16,7 @@ ghost use Rattle.block_rule.specs.Around.{around, turned, either, none, taken};
 ghost use Rattle.block_rule.specs.Rows.{ShowsTile, ShowsRound};
 ghost use Rattle.block_rule.specs.Windows.{IsWindow, IsView, IsTilePlace, square, taken_in};
 
-/// What a tile's blocks reach of the torus: with the border all that they need, and at even parity the tile is enough.
+/// A tile and its border have all cells of the torus that the tile's blocks need. At even parity the tile alone has them.
 pub fn tiles_see_the_torus()
     ensures window { (p : ℕ) (window : ℕ → ℕ → Bool) (cells : Cells) (x0 y0 : ℕ) → p < 2 →
         IsWindow window cells x0 y0 → IsView p window cells x0 y0 }

@@ -108,7 +108,7 @@ pub fn turn_tile_odd(
     taken_of(tile, walls, obstacles, 1, counted)
 }
 
-// a tile with tiles that are there for its border
+// a tile with neighbors that were made from its border
 fn window_of<'a>(tile: &'a Tile, near: &'a Neighbors) -> Window<'a>
     ensures tile { result.tile.now ≡ tile.now }
     ensures seen { (b : BorderValue) →

@@ -13,7 +13,7 @@ use crate::walled::Places;
 use bit_tile::Tile;
 use tile_border::Round;
 
-/// Where blocks begin at even columns and rows: each lies in the tile, which is written over.
+/// Even parity: blocks begin at even columns and rows, so each lies in the tile, which is overwritten.
 #[inline]
 pub fn make_even<R: Rule>(rule: R, tile: &mut Tile)
     ensures { (window : ℕ → ℕ → Bool) → ShowsTile window tile.old →
@@ -33,8 +33,7 @@ pub fn make_even<R: Rule>(rule: R, tile: &mut Tile)
     }
 }
 
-/// The collision where blocks begin at even columns and rows, of which some are walled: bit i of word j stands for block i of
-/// row j. These keep their cells.
+/// The collision at even parity. Bit i of word j of `walled` stands for block i of row j. Walled blocks keep their cells.
 #[inline(always)]
 pub fn collide_even(walled: &[u32; 32], tile: &mut Tile)
     ensures { (window : ℕ → ℕ → Bool) → ShowsTile window tile.old → HasCells tile.new (λ x y.
@@ -129,7 +128,7 @@ fn made_eight<R: Rule>(rule: R, tile: &Tile, left: &Tile, right: &Tile, from: us
     rows
 }
 
-// Writes them. All are made before the first is written, so that they are made as vectors wherever `out` lies.
+// Writes them. All are made before the first is written, so that the compiler makes them as vectors, wherever `out` is.
 #[inline(always)]
 fn write_eight(rows: &EightRows, from: usize, out: &mut Tile)
     requires { from + 8 < 32 }
@@ -160,7 +159,7 @@ struct Between<'a> {
     obstacles: Option<Places<'a>>,
 }
 
-// The eight rows of odd blocks from `from` on. Called four times a tile, it is quicker than its code four times over.
+// The eight rows of odd blocks from `from` on. Four calls a tile are faster than this code four times over.
 #[inline(never)]
 fn make_eight_odd<R: Rule>(rule: R, here: &Between<'_>, from: usize, out: &mut Tile)
     requires { from < 24 }
@@ -229,8 +228,8 @@ pub fn made_bottom<R: Rule>(rule: R, tile: &Tile, near: &Round) -> Blocks
     made_odd(rule, own, left, right)
 }
 
-/// Where blocks begin at odd columns and rows: those at the tile's edges reach into the tiles round it. The old cells of two
-/// sets stay; a set without a cell in the tile may be `None`.
+/// Odd parity: blocks begin at odd columns and rows, and those at the tile's edges reach into the tiles round it. The old cells
+/// of two sets stay; a set without a cell in the tile may be `None`.
 #[inline(always)]
 pub fn make_odd<R: Rule>(
     rule: R,
@@ -246,7 +245,7 @@ pub fn make_odd<R: Rule>(
         HasCells out.new (λ x y.
         made (spared walled obstructed (R.cell rule) x y) 1 window x y) }
 {
-    // where the tiles stand is read once
+    // the references are read once
     let near = *round;
     let top = made_top(rule, tile, &near);
     let top = spare_top(spare_top(top, tile, walls), tile, obstacles);

@@ -1,4 +1,4 @@
-//! The cells of walled blocks: which of a tile's they are, how they keep their particles in a phase, and what is taken of
+//! The cells of walled blocks: which cells of a tile they are, how they keep their particles in a phase, and what is taken of
 //! these.
 
 ghost use Rattle.std.specs.Prelude.{◌≡◌, ℕ, ◌+◌, ◌*◌, ◌<◌, ◌≤◌, Bool, false, ◌&&◌, ◌||◌, if◌then◌else◌, slice_index};
@@ -24,7 +24,7 @@ pub struct WalledCells {
     pub obstacles: Tile,
 }
 
-/// These cells where blocks begin at even columns and rows, so that each lies in the tile.
+/// These cells at even parity: blocks begin at even columns and rows, so each lies in the tile.
 pub fn walled_cells_even(walls: &Tile, obstacles: &Tile) -> WalledCells
     ensures { (walled obstructed : ℕ → ℕ → Bool) → ShowsTile walled walls.now →
         ShowsTile obstructed obstacles.now → AreWalledCells 0 walled obstructed result }
@@ -40,7 +40,7 @@ pub fn walled_cells_even(walls: &Tile, obstacles: &Tile) -> WalledCells
     }
 }
 
-/// The same where blocks begin at odd columns and rows, and reach into the eight tiles round the tile.
+/// These cells at odd parity: blocks begin at odd columns and rows, and reach into the eight tiles round the tile.
 pub fn walled_cells_odd(walls: &Window, obstacles: &Window) -> WalledCells
     ensures { (walled obstructed : ℕ → ℕ → Bool) → IsSeenIn walls.now walled →
         IsSeenIn obstacles.now obstructed → AreWalledCells 1 walled obstructed result }

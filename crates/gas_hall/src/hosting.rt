@@ -57,9 +57,9 @@ fn made_by_all<S: Stepper, R: Wait>(rt: &R, hall: &TurnHall<S>, seats: Vec<TurnS
     made
 }
 
-/// Serves a laboratory: opens a hall whose seats take turns, a seat for each shelf, and serves each seat once, as
-/// `serve_turn` does. `None` where memory is refused for the hall: then nothing was accepted. No seat is left to compare the
-/// entries with, so the contract says of them only that the journal had room for as many.
+/// Serves a laboratory: opens a hall whose seats take turns, a seat for each shelf, and serves each seat once, as `serve_turn`
+/// does. `None` if memory runs out for the hall; then nothing was accepted. No seat is left to compare the entries with, so the
+/// contract says of them only that the journal had room for as many.
 pub fn serve_lab<S: Stepper + Send, L: Lobby, K: Shelf + Drop + Send, R: Threads + Wait + Sync>(
     rt: &R,
     alloc: Global,

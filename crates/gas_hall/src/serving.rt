@@ -44,7 +44,7 @@ pub(crate) struct Guest<T, In, Out, K> {
     pub(crate) shelf: K,
 }
 
-/// What all sessions share: the hall, and the number of the seat whose thread was refused, where one was.
+/// What all sessions share: the hall, and the number of the seat whose thread was refused, if one was.
 #[derive(Drop)]
 pub(crate) struct House<'s, R, H> {
     pub(crate) rt: &'s R,
@@ -64,7 +64,7 @@ pub(crate) trait Seating<T, R> {
     // how many entries the seat made
     ghost made: { T → ℕ };
 
-    // what the seat has seen of the journal, where it knows that
+    // what the seat has seen of the journal, if it knows that
     ghost seen: { T → List Entry };
 
     fn number_of(seat: &T) -> u16;
@@ -170,7 +170,7 @@ pub struct Served<T> {
     pub seats: Vec<T>,
 }
 
-/// The seat that a thread hands back is this one, but for what its session changed.
+/// The seat that a thread hands back is this one, except for what its session changed.
 #[derive(Drop)]
 struct SeatKept<H, T, R> {
     seat: Snapshot<T>,
@@ -430,7 +430,7 @@ pub fn serve<
     serve_seats(rt, alloc, lobby, hall, seats, shelves)
 }
 
-/// Serves each seat of a hall that takes turns, as `serve` does. Each seat comes back as it was, but for what it has seen,
+/// Serves each seat of a hall that takes turns, as `serve` does. Each seat comes back as it was, except for what it has seen,
 /// which begins with what it had seen.
 pub fn serve_turn<S: Stepper + Send, L: Lobby, K: Shelf + Drop + Send, R: Threads + Wait + Sync>(
     rt: &R,

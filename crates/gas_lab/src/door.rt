@@ -37,10 +37,10 @@ impl Copied {
 
 /// A seat's way to a laboratory. Each type of door says what its calls may return and how they change it.
 pub trait Door {
-    // how wide and high the laboratory's lattice is
+    // the width and height of the laboratory's lattice
     ghost size_of: { Self → Extent };
 
-    // from the door as it was a command may be answered so, and leave the door as it is then
+    // how a command may be answered, and how it may change the door
     ghost asks: { Self → Command → Result Answer Refusal → Self → Type 0 };
 
     // the same for a copy of the gas

@@ -140,7 +140,7 @@ impl<S: Stepper> Lab<S> {
         // So the laws of symmetry hold for the gas of every laboratory.
         ensures torus { IsOnOneTorus self.now.gas }
     {
-        // the prover shows what a type keeps where a field is read, and what a gas keeps where its size is asked for
+        // a read of a field shows the prover what the type keeps, and a gas's size what the gas keeps
         let _cap = self.cap;
         let _size = self.gas().size();
     }

@@ -42,7 +42,7 @@ impl Books {
         Ok(Books { gas, ledger })
     }
 
-    // steps forward, one after another, in a single run: what walls and obstacles take, and what the ports bring in and take out
+    // steps forward in one run, and books what walls and obstacles take and what the ports bring in and take out
     fn steps<S: Stepper>(&mut self, n: u16, spare: &mut Plane, stepper: &mut S)
         requires tick { is_tick (self.old.gas.tick +ℤ pos n) ≡ true }
         requires spare { HasSidesOf spare.old self.old.gas.particles }
@@ -55,7 +55,7 @@ impl Books {
         self.ledger = taken.with_moved(flow.moved);
     }
 
-    // steps back, one after another, in a single run: walls and obstacles give back what they took on the way
+    // steps back in one run: walls and obstacles give back what they took
     fn steps_back<S: Stepper>(&mut self, n: u16, spare: &mut Plane, stepper: &mut S)
         requires torus { IsEvenTorus self.old.gas.particles }
         requires tick { is_tick (self.old.gas.tick -ℤ pos n) ≡ true }
@@ -116,7 +116,7 @@ fn edited(gas: &mut Gas, command: &Command) -> Moved
     Moved::ZERO
 }
 
-// a port that has a place
+// adds a port, for which there is room
 fn add_port(gas: &mut Gas, port: Port)
     requires in_order { fits (extent gas.old.particles) (adding port) ≡ true }
     requires place { has_all (ports_of gas.old) port ≡ false }

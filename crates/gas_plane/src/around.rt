@@ -20,7 +20,7 @@ pub struct Position {
 }
 
 impl Position {
-    /// Where the next tile is, on a plane that is so many tiles wide. It takes no division.
+    /// The position of the next tile, on a plane that is `across` tiles wide. It takes no division.
     #[inline]
     pub fn next(self, across: u32) -> Position
         requires across { 0 < across }
@@ -58,7 +58,7 @@ impl Plane {
         self.round_at(self.position(i))
     }
 
-    /// The same of the tile at this position.
+    /// The eight tiles round the tile at this position.
     #[inline]
     pub fn round_at(&self, at: Position) -> Round<'_>
         requires tile { at.tile < tile_count self.now }
@@ -90,7 +90,7 @@ impl Plane {
         border
     }
 
-    // where the tile at this position and those round it stand
+    // the columns and rows of the tile at this position and of those round it
     #[inline]
     fn places_at(&self, at: Position) -> TilePlaces
         requires tile { at.tile < tile_count self.now }
@@ -111,7 +111,7 @@ impl Plane {
         }
     }
 
-    /// Where tile i is.
+    /// The position of tile i.
     #[inline]
     pub fn position(&self, i: u32) -> Position
         ensures tile { result.tile ≡ i }
@@ -126,7 +126,7 @@ impl Plane {
     }
 }
 
-// the column and the row of tiles that a tile stands in, and those beside them round the torus
+// the column and the row of tiles that a tile is in, and those beside them on the torus
 #[derive(Clone, Copy)]
 struct TilePlaces {
     left: u32,

@@ -2,7 +2,7 @@
 
 ghost use Rattle.std.specs.Prelude.{◌≡◌, ◌+◌, ◌-◌, ◌%◌, ◌<◌};
 
-/// Round a circle of n places, the one before place k.
+/// The place before place k, on a circle of n places.
 pub fn before(k: u32, n: u32) -> u32
     requires { k < n }
     ensures place { result ≡ (k + n - 1) % n }
@@ -11,7 +11,7 @@ pub fn before(k: u32, n: u32) -> u32
     if k == 0 { n - 1 } else { k - 1 }
 }
 
-/// The one after place k.
+/// The place after place k.
 pub fn after(k: u32, n: u32) -> u32
     requires { k < n }
     ensures place { result ≡ (k + 1) % n }

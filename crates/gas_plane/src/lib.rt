@@ -30,8 +30,8 @@ pub use rows::word_of;
 use std::alloc::Global;
 use std::marker::Model;
 
-/// A set of cells of a lattice, which is a torus. Contracts see its width, its height and its cells; only `empty` and `copy`
-/// take memory.
+/// A set of cells of a lattice, which is a torus. Contracts see its width, its height and its cells. Only `empty` and `copy`
+/// allocate.
 #[derive(Drop)]
 pub struct Plane {
     size: Size,
@@ -55,7 +55,7 @@ impl Model for Plane {
 }
 
 impl Plane {
-    /// A lattice of this size without cells. Where memory is refused nothing stays taken.
+    /// A lattice of this size without cells. Fails if memory runs out, and then keeps none.
     pub fn empty(alloc: Global, size: Size) -> Result<Plane, NoMemory>
         ensures { IfOk result (λ plane. plane ≡ cells_where size.width size.height (λ _ _. false)) }
     {
@@ -64,7 +64,7 @@ impl Plane {
         Ok(Plane { size, tiles, marks })
     }
 
-    /// The same cells in memory of their own. Where that is refused nothing stays taken.
+    /// A clone. Fails if memory runs out, and then keeps none.
     pub fn copy(&self, alloc: Global) -> Result<Plane, NoMemory>
         ensures { IfOk result (λ plane. plane ≡ self.now) }
     {
@@ -77,7 +77,7 @@ impl Plane {
         })
     }
 
-    /// How wide and high the lattice is.
+    /// The width and height of the lattice.
     pub fn size(&self) -> Size
         ensures extent { result ≡ extent self.now }
         ensures lattice { IsLattice self.now }
@@ -96,7 +96,7 @@ impl Plane {
         self.tile(y / 64 * across + x / 64).get(x % 64, y % 64)
     }
 
-    /// Tile i: they stand row by row.
+    /// Tile i. Tiles are numbered row by row.
     #[inline]
     pub fn tile(&self, i: u32) -> &Tile
         requires { i < tile_count self.now }
@@ -105,8 +105,7 @@ impl Plane {
         &self.tiles[i as usize]
     }
 
-    /// The same cells as tile i. Where the tile has none they are read from an empty tile that all planes share, which stays
-    /// near while others are read.
+    /// Tile i, or, if it has no cell, the empty tile that all planes share, which stays in the cache.
     #[inline]
     pub fn tile_or_bare(&self, i: u32) -> &Tile
         requires { i < tile_count self.now }
@@ -119,7 +118,7 @@ impl Plane {
         }
     }
 
-    /// Puts the tile's cells in the place of tile i.
+    /// Replaces tile i.
     pub fn set_tile(&mut self, i: u32, tile: Tile)
         requires { i < tile_count self.old }
         ensures { self.new ≡ with_tile self.old i tile }
@@ -128,8 +127,8 @@ impl Plane {
         self.marks[i as usize] = mark_of(&tile);
     }
 
-    /// Tile i, to be written: the plane ends with what is left behind the reference. From then on it is looked through
-    /// when it is asked whether it has cells, so `set_tile` is better for tiles that may end without any.
+    /// Tile i, for writing. From then on `is_bare` has to look through this tile, so `set_tile` is better for tiles that may end
+    /// without cells.
     #[inline]
     pub fn tile_mut(&mut self, i: u32) -> &mut Tile
         requires { i < tile_count self.old }
@@ -210,7 +209,7 @@ impl Plane {
         left & here & right
     }
 
-    /// How many tiles stand in a row.
+    /// How many tiles a row has.
     #[inline]
     pub fn across(&self) -> u32
         ensures across { result ≡ self.now.width / 64 }

@@ -7,7 +7,7 @@ ghost use Rattle.gas_plane.specs.declared.marks.Mark.TheVariants.{Bare};
 
 use bit_tile::Tile;
 
-/// Whether a tile has cells. Of one that was lent to be written, this isn't known.
+/// Whether a tile has cells. If it was lent for writing, this isn't known.
 #[derive(Clone, Copy)]
 pub enum Mark {
     Bare,
@@ -26,7 +26,7 @@ pub fn mark_of(tile: &Tile) -> Mark
     }
 }
 
-/// Whether each tile is marked as bare. All marks are read, so that they are read as vectors.
+/// Whether each tile is marked as bare. All marks are read, since the compiler then reads them as vectors.
 pub fn are_all_bare(marks: &[Mark]) -> bool
     ensures { IsTrue result → (i : ℕ) → i < length marks.now → mark_at marks.now i ≡ Bare }
 {

@@ -11,14 +11,14 @@ use bit_tile::Tile;
 use gas_terms::Rect;
 
 impl Plane {
-    /// Puts in the cells of the rectangle.
+    /// Adds the cells of the rectangle.
     pub fn fill(&mut self, area: Rect)
         ensures { self.new ≡ filled self.old area }
     {
         self.paint(area, true);
     }
 
-    /// Takes out the cells of the rectangle.
+    /// Removes the cells of the rectangle.
     pub fn clear(&mut self, area: Rect)
         ensures { self.new ≡ cleared self.old area }
     {

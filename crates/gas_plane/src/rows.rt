@@ -57,7 +57,7 @@ impl Plane {
         ensures { self.new ≡ with_word self.old column y word }
     {
         let across = self.across();
-        // rows that are loaded are mostly as they were, and then the tile is not lent
+        // most rows that are loaded have not changed, and then the tile is not lent
         if self.word(column, y) != word {
             let tile = self.tile_mut(y / 64 * across + column);
             tile.set_row((y % 64) as usize, word);

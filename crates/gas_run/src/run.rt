@@ -19,7 +19,7 @@ use std::alloc::Global;
 use std::io::{Read, Write};
 use std::thread::Threads;
 
-/// What the program exits with after a session that ended so.
+/// The program's exit status after a session that ended so.
 fn status_of(end: SessionEnd) -> Status
     ensures { number_of result ≡ status_of end }
 {

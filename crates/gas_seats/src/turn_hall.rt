@@ -17,7 +17,7 @@ use std::marker::Model;
 use std::sync::Wait;
 use turn_lock::{Door as LockDoor, Note, TurnLock};
 
-/// A laboratory that its seats take in turn. It is not closed: its gas is had by a door's copy.
+/// A laboratory whose seats take turns. It can't be closed; a door's `copy_gas` clones its gas.
 ///
 /// Whenever no seat has its turn, the laboratory has what its type keeps, and its journal goes on from all that the seats
 /// have seen.
@@ -66,7 +66,7 @@ impl<S: Stepper> Model for TurnSeat<S> {
 }
 
 impl<S: Stepper> TurnSeat<S> {
-    /// The number that stands with the seat's entries in the journal.
+    /// The number that the seat's entries have in the journal.
     pub fn number(&self) -> u16
         ensures { result ≡ self.now.number }
     {
@@ -119,8 +119,8 @@ impl<S: Stepper> Model for TurnNote<S> {
 }
 
 impl<S: Stepper> TurnHall<S> {
-    /// A hall with seats 0, 1, .. that have seen nothing, over a laboratory whose journal is empty, or the laboratory as it
-    /// was where memory is refused.
+    /// A hall with seats 0, 1, .. that have seen nothing, over a laboratory whose journal is empty. If memory runs out, the
+    /// laboratory comes back as it was.
     pub fn open(
         alloc: Global,
         lab: Lab<S>,

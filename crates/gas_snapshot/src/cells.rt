@@ -8,7 +8,7 @@ use gas_plane::Plane;
 use gas_terms::{NoMemory, Size};
 use std::alloc::Global;
 
-/// The plane whose rows the bytes are, or an error where memory was refused.
+/// The plane whose rows the bytes are. Fails if memory runs out.
 pub fn plane_of(alloc: Global, size: Size, bytes: &[u8]) -> Result<Plane, NoMemory>
     requires { length bytes.now ≡ size.height * (size.width / 8) }
     ensures { IfOk result (λ plane. plane ≡ cells_in size bytes.now) }

@@ -19,7 +19,7 @@ const MAGIC_ONE: [u8; 8] = *b"HPPGAS1\n";
 
 const MAGIC_TWO: [u8; 8] = *b"HPPGAS2\n";
 
-/// What stands before the ports.
+/// The fields before the ports.
 #[derive(Clone, Copy, Debug, PartialEq, Eq)]
 pub struct Head {
     pub version: Version,
@@ -230,7 +230,7 @@ fn read_counts(bytes: &[u8]) -> Result<((u8, u8), &[u8]), SnapFault>
     Ok((counts(numbers)?, rest))
 }
 
-/// Reads what stands before the cells, and gives the bytes after it. The ports are added to those there are.
+/// Reads the fields before the cells, and returns the bytes after them. The ports are added to those there are.
 #[tactic(auto, unfolding(crate::specs::Reading::head_at))]
 pub fn read_head<'a>(bytes: &'a [u8], ports: &mut Ports) -> Result<(Head, &'a [u8]), SnapFault>
     requires { ports.old ≡ no_ports }

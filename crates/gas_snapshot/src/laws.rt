@@ -26,7 +26,7 @@ pub fn bytes_spell_one_gas()
         s.version ≡ t.version }
 {}
 
-/// What is read of bytes is the gas that they spell, and what they spell is read. So memory is wanted for a snapshot alone.
+/// Bytes are read as a gas exactly if they spell it. So only a snapshot needs memory.
 pub fn reading_is_spelling()
     ensures read { (bytes : List ℕ) (g : Gas) → All (λ b. b < 256) bytes →
         reading bytes ≡ Ok g → Spells bytes g }

@@ -114,7 +114,7 @@ impl Page {
     }
 }
 
-/// What stands before the cells in the gas's spelling.
+/// The bytes before the cells in the gas's spelling.
 pub fn head_of(gas: &Gas) -> Page
     ensures { result ≡ head Two gas.now }
 {

@@ -70,7 +70,7 @@ fn gas_in(alloc: Global, bytes: &[u8]) -> Result<Gas, SnapFault>
 pub fn decode(alloc: Global, bytes: &[u8]) -> Result<Gas, SnapFault>
     // What is read is spelled so.
     ensures found { IfOk result (λ gas. Spells bytes.now gas) }
-    // What is spelled so is read, unless memory is refused.
+    // What is spelled so is read, unless memory runs out.
     ensures only { (g : GasTerm) → Spells bytes.now g → Gives result (Ok g) }
     // Which fault it is.
     ensures exact { Gives result (reading bytes.now) }

@@ -27,7 +27,7 @@ pub trait Shelf {
     // how many puts have failed
     ghost failures: { Self → ℕ };
 
-    // what was put there, in order, where the type says so
+    // what was put there, in order, if the type says so
     ghost shelved: { Self → Option (List (List ℕ)) } = { λ _. None };
 
     /// Takes the bytes whole, or fails and takes none.

@@ -13,7 +13,7 @@ pub enum SessionEnd {
     WriteFault,
     /// A line that is too long or isn't UTF-8 was answered.
     BadLine,
-    /// The reader of lines found no memory, and that was answered.
+    /// Memory ran out while a line was read, and that was answered.
     Memory,
     /// As many reads as a session may make were made, and another was needed.
     TooManyReads,

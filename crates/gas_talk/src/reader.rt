@@ -23,7 +23,7 @@ pub struct LineReader {
     buffer: BytesMut,
 }
 
-/// What stands next in the input so far.
+/// What is next in the input so far.
 #[derive(Drop)]
 pub enum Found {
     Line(String),

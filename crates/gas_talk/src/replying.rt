@@ -39,7 +39,7 @@ fn save<D: Door, K: Shelf>(alloc: Global, door: &mut D, shelf: &mut K) -> Reply
     }
 }
 
-/// Asks what the line asks, and answers the reply: `Bye` where the line asks to quit, and only there.
+/// Does what the line asks, and returns the reply: `Bye` exactly if the line asks to quit.
 pub fn reply_of<D: Door, K: Shelf>(alloc: Global, line: &str, door: &mut D, shelf: &mut K) -> Reply
     ensures taken { (put : Put) × Takes D.size_of D.asks D.copies door.old
         (record { item = text line.now; reply = result; put = put }) door.new

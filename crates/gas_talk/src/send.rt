@@ -5,7 +5,7 @@ ghost use Rattle.gas_talk.specs.Private.{WritesPart};
 use gas_snapshot::put_all;
 use std::io::Write;
 
-/// Writes the text and flushes. Where it fails a part of the text is written.
+/// Writes the text and flushes. If that fails, a part of the text is written.
 pub fn send<W: Write>(writer: &mut W, text: &[u8]) -> bool
     ensures { WritesPart (W.contents writer.old) (W.contents writer.new) text.now result }
 {

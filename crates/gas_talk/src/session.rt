@@ -23,7 +23,7 @@ use std::sync::ledger::{Blank, Ledger};
 // how many reads a session makes at most
 const READS: u32 = 1 << 24;
 
-// Writes the line of a reply and flushes. Where it fails a part of the line is written.
+// Writes the line of a reply and flushes. If that fails, a part of the line is written.
 fn send_reply<W: Write>(writer: &mut W, reply: &Reply, page: &mut ReplyPage) -> bool
     ensures { let line = reply_line reply.now in
         WritesPart (W.contents writer.old) (W.contents writer.new) line result }
@@ -88,10 +88,10 @@ fn answer_lines<W: Write, D: Door, K: Shelf>(
     }
 }
 
-/// Serves one session: cuts what the reader gives into lines of at most 2,048 bytes, asks each of the door, and writes
-/// and flushes its reply before the next is taken. It reads again only where no whole line is left, at most 4,096 bytes
-/// at once and at most 2^24 times. What stands after the last newline is not asked. A snapshot is put on the shelf after
-/// the door's call has ended. `count` counts the reads; `serve_door` is the same for a caller that doesn't count them.
+/// Serves one session: cuts what the reader gives into lines of at most 2,048 bytes, asks each of the door, and writes and
+/// flushes its reply before the next is taken. It reads again only if no whole line is left, at most 4,096 bytes at once and at
+/// most 2^24 times. What is after the last newline is not asked. A snapshot is put on the shelf after the door's call has ended.
+/// `count` counts the reads; `serve_door` is the same for a caller that doesn't count them.
 pub fn session<R: Read, W: Write, D: Door, K: Shelf, L: Ledger>(
     alloc: Global,
     reader: &mut R,

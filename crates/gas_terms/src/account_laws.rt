@@ -45,8 +45,8 @@ pub fn sums_over_tiles()
         (range_with_len 0 (tile_count cells)) }
 {}
 
-/// What is taken is twice the momentum of the particles that stand at the walled sites: for the obstacles at those with an
-/// obstacle, for the walls at the others.
+/// What is taken is twice the momentum of the particles at the walled sites: for the obstacles at those with an obstacle, for the
+/// walls at the others.
 pub fn taken_over_cells()
     ensures walls { (tick : ℤ) (particles walls obstacles : Cells) →
         HasEvenSides particles.width particles.height →

@@ -58,7 +58,7 @@ pub fn accounts_fit()
         IsOfAtMost (2 ^ 24) lab.ledger.start }
 {}
 
-/// Small laboratories, worked by hand: what stands against a command, and in which order.
+/// Small laboratories, worked by hand: the causes against a command, and their order.
 pub fn small_laboratories()
     ensures ports_bar_the_way_back { cause (lab_after (pos 0) 9 (a_source ∷ [])) (Back 1)
         ≡ Some Ports }

@@ -12,7 +12,7 @@ pub const MOST_PORTS: usize = 16;
 /// How many steps one command may make.
 pub const MOST_STEPS: u16 = 4096;
 
-/// How many ticks may lie from one act of a source to the next: its period.
+/// The longest period of a source, in ticks.
 pub const MOST_PERIOD: u16 = 65535;
 
 /// How many entries a journal may have.

@@ -38,7 +38,7 @@ pub fn are_same(some: &Plane, others: &Plane, width: u32, height: u32) -> bool {
     (0..height).all(|y| (0..width).all(|x| holds(some, x, y) == holds(others, x, y)))
 }
 
-/// Stops a test where the planes of a phase are not of one size.
+/// Stops a test if the planes of a phase are not of one size.
 pub fn fit(rt: &impl Abort, old: &Plane, walls: &Plane, obstacles: &Plane, out: &Plane)
     ensures walls { HasSidesOf walls.now old.now }
     ensures obstacles { HasSidesOf obstacles.now old.now }

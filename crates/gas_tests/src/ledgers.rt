@@ -372,7 +372,7 @@ fn is_filled_in(gas: &Gas) -> bool {
         && gas.ports().sources().len() == 1
 }
 
-// Passes too where any one of its allocations is refused.
+// Passes too if any one of its allocations is refused.
 #[test]
 fn refused_memory_leaves_the_gas(rt: HostRuntime) {
     let size = Size::new(64, 128).expect(&rt, "a size");

@@ -23,6 +23,8 @@ mod phases;
 #[cfg(test)]
 mod planes;
 #[cfg(test)]
+mod steppers;
+#[cfg(test)]
 mod strips;
 #[cfg(test)]
 mod teams;

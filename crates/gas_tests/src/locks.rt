@@ -31,7 +31,7 @@ impl Journaled for Roll {
     ghost by = { λ e. e };
 }
 
-// Adds the door's number where there is room and memory, and answers how many there are.
+// Adds the door's number if there is room and memory, and returns how many there are.
 #[derive(Drop)]
 struct Sign;
 

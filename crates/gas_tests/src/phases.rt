@@ -1,43 +1,40 @@
-//! Worked examples of phases and runs on one thread, with values found by hand.
+//! Worked examples of phases, on one thread and by teams, with values found by hand.
 
 ghost use Rattle.std.specs.Prelude.{◌≡◌, ◌<◌, true};
 ghost use Rattle.gas_terms.specs.Cells.{Extent, extent, lies_within, is_inside};
 
 use crate::expected::expect_that;
-use crate::lattices::{are_same, fit, plane, scattered};
+use crate::lattices::{are_same, plane, scattered};
+use crate::steppers::{step, team};
 use gas_plane::{Plane, Tile};
 use gas_terms::{Pair, Rect, Size, Took};
-use phase_step::{Serial, Solids, Stepper, WalledSites, are_none, turn_tile_at};
+use phase_step::{Serial, Solids, WalledSites, are_none, turn_tile_at};
+use phase_team::NoGate;
 use std::process::Abort;
+use std::thread::Threads;
 
 const WIDE: u32 = 192;
 
 const HIGH: u32 = 128;
 
-/// A phase as a laboratory makes it.
-pub fn step<S: Stepper>(
-    rt: &impl Abort,
-    stepper: &mut S,
+// A phase on one thread. Teams of 1, 2 and 7 workers make the same of it, whatever was there before.
+fn phase<R: Threads + Abort + AllocGlobal + Copy + Drop>(
+    rt: &R,
     old: &Plane,
     walls: &Plane,
     obstacles: &Plane,
     parity: u8,
     out: &mut Plane,
 ) -> Took {
-    expect_that(&rt, parity < 2);
-    fit(rt, old, walls, obstacles, out);
-    stepper.phase(old, walls, obstacles, parity, out)
-}
-
-fn phase(
-    rt: &impl Abort,
-    old: &Plane,
-    walls: &Plane,
-    obstacles: &Plane,
-    parity: u8,
-    out: &mut Plane,
-) -> Took {
-    step(rt, &mut Serial, old, walls, obstacles, parity, out)
+    let (width, height) = (old.size().width() as u32, old.size().height() as u32);
+    let took = step(rt, &mut Serial, old, walls, obstacles, parity, out);
+    for workers in [1, 2, 7] {
+        let mut team = team(rt, *rt, rt.alloc(), workers, NoGate);
+        let mut by_team = plane(rt, width, height, &[(63, 63), (5, 5)]);
+        let by_all = step(rt, &mut team, old, walls, obstacles, parity, &mut by_team);
+        expect_that(rt, by_all == took && are_same(&by_team, out, width, height));
+    }
+    took
 }
 
 // the first tile alone, at an odd tick
@@ -223,7 +220,7 @@ fn across(k: u32, parity: u8) -> u32 {
     }
 }
 
-// what it gives where it is turned back
+// what it gives if it is turned back
 fn given(k: u32, parity: u8) -> i64 {
     if k % 2 == u32::from(parity) { 2 } else { -2 }
 }
@@ -251,7 +248,11 @@ fn one_wall_in_each_row(rt: HostRuntime) {
 }
 
 // a particle in each of the four corners steps over the seams to the corner across, and back
-fn cross_the_seams(rt: &(impl Abort + AllocGlobal), width: u32, height: u32) {
+fn cross_the_seams<R: Threads + Abort + AllocGlobal + Copy + Drop>(
+    rt: &R,
+    width: u32,
+    height: u32,
+) {
     expect_that(&rt, width > 0);
     expect_that(&rt, height > 0);
     let none = plane(rt, width, height, &[]);

@@ -2,8 +2,7 @@
 
 use crate::expected::expect_that;
 use crate::lattices::{are_same, holds, plane, scattered};
-use crate::phases::step;
-use crate::teams::team;
+use crate::steppers::{step, team};
 use gas_plane::Plane;
 use gas_terms::{Moved, Pair, Rect, Size, Sums, Took};
 use phase_step::{Action, Exchange, Few, Flow, Listed, Run, Serial, Stepper, Still, parity_at};

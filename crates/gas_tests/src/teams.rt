@@ -1,8 +1,9 @@
-//! Phases by teams of several workers, with values found by hand, and beside those of one thread.
+//! Phases by teams of several workers: which worker turns a tile, a random gas, and refused memory. The worked examples of
+//! `phases` are made by teams too.
 
 use crate::expected::{expect_same, expect_that};
 use crate::lattices::{are_same, fit, plane, scattered};
-use crate::phases::step;
+use crate::steppers::{step, team};
 use gas_plane::Plane;
 use gas_terms::{Pair, Took};
 use phase_step::Serial;
@@ -12,18 +13,6 @@ use std::sync::atomic::{AtomicBool, AtomicU64, Ordering};
 use std::thread;
 use std::thread::Threads;
 use std::time::{Clock, Duration};
-
-/// A team of so many workers.
-pub fn team<R: Threads + Drop, G: Gate + Drop>(
-    abort: &impl Abort,
-    rt: R,
-    alloc: std::alloc::Global,
-    workers: u8,
-    gate: G,
-) -> Team<R, G> {
-    expect_that(&abort, 0 < workers && workers <= 16);
-    Team::new(rt, alloc, workers, gate)
-}
 
 // a phase with any gate
 fn phase<R: Threads + Drop, G: Gate + Drop>(
@@ -38,50 +27,6 @@ fn phase<R: Threads + Drop, G: Gate + Drop>(
     expect_that(&rt, parity < 2);
     fit(rt, old, walls, obstacles, out);
     team.phase(old, walls, obstacles, parity, out)
-}
-
-#[test]
-fn head_on_pair_across_tiles(rt: HostRuntime) {
-    let old = plane(&rt, 128, 128, &[(63, 63), (64, 64)]);
-    let none = plane(&rt, 128, 128, &[]);
-    let want = plane(&rt, 128, 128, &[(64, 63), (63, 64)]);
-    let nothing = Pair::ZERO;
-    for workers in [1, 2, 7] {
-        let mut team = team(&rt, rt, rt.alloc(), workers, NoGate);
-        // what was there is overwritten
-        let mut out = plane(&rt, 128, 128, &[(63, 63), (5, 5)]);
-        let took = step(&rt, &mut team, &old, &none, &none, 1, &mut out);
-        expect_that(&rt, are_same(&out, &want, 128, 128));
-        expect_that(&rt, took.walls == nothing && took.obstacles == nothing);
-    }
-}
-
-#[test]
-fn wall_across_tiles_books_once(rt: HostRuntime) {
-    let nothing = Pair::ZERO;
-    // at an odd tick a particle at (63, 63) goes to the right and down
-    let twice = Pair { x: 2, y: 2 };
-    let old = plane(&rt, 128, 128, &[(63, 63)]);
-    let none = plane(&rt, 128, 128, &[]);
-    let corner = plane(&rt, 128, 128, &[(64, 64)]);
-    let beside = plane(&rt, 128, 128, &[(64, 63)]);
-    for workers in [1, 2, 7] {
-        let mut team = team(&rt, rt, rt.alloc(), workers, NoGate);
-        for (walls, obstacles, by_walls, by_obstacles) in [
-            (&corner, &none, twice, nothing),
-            (&none, &corner, nothing, twice),
-            (&beside, &corner, nothing, twice),
-            (&corner, &beside, nothing, twice),
-        ] {
-            let mut out = plane(&rt, 128, 128, &[]);
-            let took = step(&rt, &mut team, &old, walls, obstacles, 1, &mut out);
-            expect_that(&rt, are_same(&out, &old, 128, 128));
-            expect_that(
-                &rt,
-                took.walls == by_walls && took.obstacles == by_obstacles,
-            );
-        }
-    }
 }
 
 // Holds the first call until another has begun, for at most ten seconds and what the sleeps take longer.

@@ -25,7 +25,7 @@ pub fn number_of(word: &[u8]) -> Option<u32>
     Some(value as u32)
 }
 
-/// Puts the numbers that the first words are in front, and gives what stands after them.
+/// Reads the first words as numbers, to the front of `numbers`, and returns the rest of the line.
 pub fn read_numbers<'a>(line: &'a [u8], count: usize, numbers: &mut [u32; 5]) -> Option<&'a [u8]>
     requires room { count ≤ 5 }
     requires enough { count ≤ length (words line.now) }

@@ -100,7 +100,7 @@ impl ReplyPage {
         self.push(digits.format(n).as_bytes());
     }
 
-    // A space, and the number, with a sign where it is negative.
+    // A space, and the number, with a sign if it is negative.
     fn push_signed(&mut self, n: i64)
         requires { length self.old + 21 ≤ reply_limit }
         ensures text { self.new ≡ self.old ++ spaced (signed_decimal n ∷ []) }

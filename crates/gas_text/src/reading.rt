@@ -81,7 +81,7 @@ fn row_length(size: Size) -> usize
     size.width() as usize / 8
 }
 
-// Reads into a page of the greatest row first: memory is asked for only where there is no fault.
+// Reads into a page of the longest row first, so that only a row without fault allocates.
 fn read_row_bits(alloc: Global, size: Size, digits: &[u8]) -> Result<RowBits, Refusal>
     ensures exact { let read = spelled (decode_sized digits.now (size.width / 8)) in
         (result ≡ read) ⊎ ((result ≡ Err Memory) × IsOk read) }

@@ -4,7 +4,7 @@ ghost use Rattle.std.specs.Prelude.{◌≡◌, ◌<◌, ◌≤◌, ℕ, List, []
 ghost use Rattle.std.specs.List.{position_or_len};
 ghost use Rattle.gas_text.specs.Words.{is_space, words, with_word};
 
-// Where the first space stands, or else the length.
+// The index of the first space, or the length if there is none.
 fn space_at(line: &[u8]) -> usize
     ensures { result ≡ position_or_len is_space line.now }
 {
@@ -16,7 +16,7 @@ fn space_at(line: &[u8]) -> usize
     line.len()
 }
 
-// What stands before the first space, and what stands after it.
+// What is before the first space, and what is after it.
 fn cut_at_space(line: &[u8]) -> (&[u8], &[u8])
     requires { 0 < length line.now }
     ensures words { words line.now ≡ with_word result.0.now (words result.1.now) }
@@ -30,7 +30,7 @@ fn cut_at_space(line: &[u8]) -> (&[u8], &[u8])
     }
 }
 
-/// The first word, and what stands after it.
+/// The first word, and what is after it.
 pub fn next_word(line: &[u8]) -> Option<(&[u8], &[u8])>
     ensures words { MatchOption result (words line.now ≡ [])
         (λ found. words line.now ≡ found.0.now ∷ words found.1.now) }

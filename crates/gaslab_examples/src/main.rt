@@ -68,7 +68,7 @@ fn file_of(rt: &(impl Files + AllocGlobal), name: &str, kind: &str) -> io::Resul
     fs::read(rt, path.as_str())
 }
 
-// compares what was given with what stands beside the script, and says which it is
+// compares the output with the file beside the script, and prints whether they are the same
 fn tell(rt: &(impl Print + Files + AllocGlobal), name: &str, output: &[u8]) -> io::Result<bool> {
     let is_same = file_of(rt, name, "out")?.as_slice() == output;
     let verdict = if is_same {

@@ -61,7 +61,7 @@ fn start_of(
     }
 }
 
-// a shelf at the path, where there is one, for a seat
+// a shelf at the path, if there is one, for a seat
 fn shelf_of<'r, R: Files + AllocGlobal>(
     rt: &'r R,
     path: Option<&str>,
@@ -122,8 +122,8 @@ fn listen(
     Ok(TcpLobby::over(listener))
 }
 
-// A session for each shelf, over sockets. The shelves come from `main`, where their type is known: what is sent to a
-// thread is not covered where it rests on a bound.
+// A session for each shelf, over sockets. The shelves come from `main`, where their type is known: the kit does not cover what is
+// sent to a thread if it rests on a bound.
 fn serve<K: Shelf + Drop + Send>(
     rt: &(impl Threads
         + Wait

@@ -32,7 +32,7 @@ fn plans(
     expect_that(&rt, found.save.is_none());
 }
 
-// the text where the words ask for something else
+// the text if the words ask for something else
 fn text_of(rt: &(impl Abort + AllocGlobal + Threads + Copy + Drop), words: &[&str]) -> String {
     match plan(rt.alloc(), words) {
         Err(PlanFault::Line(text)) => text,

@@ -21,7 +21,7 @@ const SAVING: &str = "put 0 0 1 1; save; tally";
 
 const SAVING_REPLIES: &str = "OK 0; SAVED 1 1558; TALLY 0 1 1 1";
 
-// what a run reads, and what it writes where nothing fails
+// what a run reads, and what it writes if nothing fails
 #[derive(Drop)]
 struct Exchange {
     input: Vec<u8>,

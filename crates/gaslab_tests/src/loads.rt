@@ -57,7 +57,7 @@ impl<'a> Read for Padded<'a> {
     }
 }
 
-// the fault of a load, and none where it gives a gas
+// the fault of a load, or none if it gives a gas
 fn fault_of(rt: &impl AllocGlobal, reader: &mut Padded<'_>) -> Option<LoadFault> {
     load_from(rt.alloc(), reader).err()
 }

@@ -246,7 +246,7 @@ fn refused_channel_with_a_team(rt: HostRuntime) {
     );
 }
 
-/// On the smallest lattice whose runs the program itself makes by strips: where these find no memory, the run is made without.
+/// On the smallest lattice whose runs the program itself makes by strips: if these find no memory, the run is made without.
 #[test]
 fn refused_run_that_is_worth_strips(rt: HostRuntime) {
     let room = Room {

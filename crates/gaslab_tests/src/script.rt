@@ -30,7 +30,7 @@ pub struct Room {
     pub cap: u32,
 }
 
-/// What a run has where its command line says nothing.
+/// The setup of a run whose command line says nothing.
 pub const SMALL: Room = Room {
     width: 64,
     height: 64,

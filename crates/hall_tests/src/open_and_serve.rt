@@ -123,8 +123,8 @@ pub struct Left {
     pub lab: Seen,
 }
 
-/// Serves so many sessions of the lobby, each with a shelf that counts, and looks for these puts, or serves nobody where
-/// memory is refused.
+/// Serves so many sessions of the lobby, each with a shelf that counts, and looks for these puts. Serves nobody if memory runs
+/// out.
 pub fn serve_sessions<G: HallGate + Sync, L: Lobby, R: Threads + Wait + Sync + Abort + AllocGlobal>(
     rt: &R,
     lab: Lab<Serial>,

@@ -46,7 +46,7 @@ pub fn made_by(rt: &impl Abort, reply: &Result<Answer, Refusal>) -> u32 {
     }
 }
 
-// The entry can only be missing where none was made, or be refused for want of memory.
+// The entry can only be missing if none was made, or be refused for want of memory.
 fn entry_is_there(rt: &impl Abort, reply: &Result<Answer, Refusal>, made: u32) {
     match reply {
         Ok(_) => expect_same(&rt, made, 1),
@@ -149,7 +149,7 @@ fn refused_memory_leaves_the_laboratory(rt: HostRuntime) {
     }
 }
 
-// One session over the page, which puts a particle, where memory is not refused before.
+// One session over the page, which puts a particle, if memory is not refused before.
 fn serve_one<R: Threads + Wait + Clock + Sync + Abort + AllocGlobal + Copy>(
     rt: &R,
     page: &[Mutex<Page>],

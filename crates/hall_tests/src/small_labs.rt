@@ -26,7 +26,7 @@ pub fn empty_lab(alloc: Global, width: u32) -> Option<Lab<Serial>>
     Lab::open(alloc, gas, 1024, Serial).ok()
 }
 
-/// So many shelves, each of which counts what it takes in its own place, and in the last place where there are no more.
+/// So many shelves, each of which counts what it takes in its own place, or in the last place if there are no more.
 pub fn counters<'a>(
     alloc: Global,
     puts: &'a [AtomicU32],
@@ -95,7 +95,7 @@ pub struct Seen {
     pub are_puts: bool,
 }
 
-/// What is seen of this laboratory, where these puts are looked for.
+/// What is seen of this laboratory, with these puts looked for.
 pub fn look_at(rt: &impl Abort, lab: Lab<Serial>, puts: &[(u16, u16)]) -> Seen {
     let mut lab = lab;
     let entries = lab.journal().len();

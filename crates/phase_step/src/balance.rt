@@ -1,4 +1,4 @@
-//! Long runs. What one of walls and obstacles takes is counted, and the other took what is missing of the momentum.
+//! Long runs: one of the two accounts is counted, and the other is the momentum that is missing in the end.
 
 ghost use Rattle.std.specs.Prelude.{◌≡◌, ◌^◌, ◌<◌, ◌≤◌, not, nat_abs, ◌+ℤ◌, ◌-ℤ◌};
 ghost use Rattle.gas_terms.specs.Cells.{joined, HasSidesOf};
@@ -9,7 +9,7 @@ use crate::{Action, Counted, Flow, Phases, Solids, act_after, all_of, parity_at,
 use gas_plane::Plane;
 use gas_terms::{Moved, Pair, Sums, Took};
 
-/// A run on the calling thread, as `Stepper::run_with` says, but an account that is not kept has 0.
+/// `Stepper::run_with` on the calling thread, except that an account that is not kept has 0.
 pub fn run_counting<A: Action>(
     particles: &mut Plane,
     solids: Solids<'_>,

@@ -43,7 +43,7 @@ pub struct Run<'a, A: Action> {
     pub action: &'a A,
 }
 
-/// Its phases, without what the particles meet in them.
+/// The phases of a run, without its walls and obstacles.
 #[derive(Drop)]
 pub struct Phases<'a, A: Action> {
     pub parity: u8,
@@ -51,10 +51,11 @@ pub struct Phases<'a, A: Action> {
     pub action: &'a A,
 }
 
-/// What turns the blocks of a plane. A phase is always made: memory or threads that can't be had cost time alone. `Serial` takes no memory.
+/// Steps the particles of a plane. A phase never fails: if memory runs out or a thread can't be started, it only takes longer.
+/// `Serial` never allocates.
 pub trait Stepper: Drop {
-    /// Turns the blocks of parity 0 or 1: `out` becomes the particles after the phase, and the answer is what walls and
-    /// obstacles took of the particles of `old`.
+    /// Makes the phase of parity 0 or 1: `out` becomes the particles after it. Returns what walls and obstacles took of the
+    /// particles of `old`.
     fn phase(
         &mut self,
         old: &Plane,
@@ -70,7 +71,7 @@ pub trait Stepper: Drop {
         ensures out { out.new ≡ streamed parity old.now (joined walls.now obstacles.now) }
         ensures took { result ≡ taken parity old.now walls.now obstacles.now };
 
-    /// The same phase of `particles` themselves. The spare plane may be written to, and what it holds does not matter.
+    /// The same phase in place. `spare` may be overwritten.
     fn phase_in_place(
         &mut self,
         particles: &mut Plane,
@@ -93,9 +94,8 @@ pub trait Stepper: Drop {
         took
     }
 
-    /// A run of phases whose parities take turns, with an action after each: after phase k that of k. `particles` become those
-    /// after the run. The answer is what walls and obstacles took in all of it, and what the actions brought in and took out.
-    /// The spare plane is written to, and what it holds does not matter.
+    /// A run of n phases of alternating parities, with the action after each. `particles` become those after the run. Returns
+    /// what walls and obstacles took in all of it, and what the action brought in and took out. `spare` is overwritten.
     fn run_with<A: Action>(
         &mut self,
         particles: &mut Plane,
@@ -123,7 +123,7 @@ pub trait Stepper: Drop {
         self.run_among(particles, solids, phases, spare)
     }
 
-    /// The same among walls and obstacles whose sites may have been prepared.
+    /// The same run, among walls and obstacles whose sites may be prepared.
     fn run_among<A: Action>(
         &mut self,
         particles: &mut Plane,

@@ -29,7 +29,7 @@ use std::mem;
 use std::thread::Threads;
 use strip::Strip;
 
-/// So many phases a strip can make alone: each takes a row from what it has of its neighbors.
+/// How many phases a strip can make alone: each phase spoils one more row of its margins.
 const AT_ONCE: u16 = 64;
 
 /// The smallest run that is made by strips: how many phases it has, and how many tiles fewer each worker turns than one thread
@@ -40,15 +40,15 @@ pub struct LeastRun {
     pub tiles: u32,
 }
 
-/// Once in a stretch threads are started, and strips are filled and put together. That takes about a millisecond, so smaller
-/// runs are left to one thread.
+/// Each stretch starts threads, fills strips and puts them together. That takes about a millisecond, so smaller runs stay on one
+/// thread.
 pub const USUAL: LeastRun = LeastRun {
     phases: 16,
     tiles: 32_768,
 };
 
-/// Where the strips are at least so many rows of tiles high, there are two for each worker, so that one that is held up leaves
-/// some of its share to the others. Their margins cost a ninth more than those of one strip for each.
+/// If strips are at least so many rows of tiles high, there are two for each worker, so that a worker that is held up leaves some
+/// of its share to the others. Their margins cost a ninth more than with one strip for each.
 const HIGH: u32 = 8;
 
 // How many strips there are for each worker.
@@ -93,7 +93,7 @@ fn unload(course: Course<'_>, strip: &Strip, out: &mut Plane)
     }
 }
 
-// Puts the strips that a worker made into `out`: what the course comes to in them.
+// Puts the strips that a worker made into `out`. Returns what the course comes to in them.
 fn put(stretch: Stretch<'_>, made: &[Strip], out: &mut Plane) -> Flow
     requires made { All (IsPart stretch) made.now }
     requires few { length made.now ≤ most_rows }
@@ -112,7 +112,7 @@ fn put(stretch: Stretch<'_>, made: &[Strip], out: &mut Plane) -> Flow
 }
 
 // Puts what the workers made together in `out`, takes their seats and keeps their room, as far as there is memory to list it.
-// The answer is what the course comes to in their strips; `None` if each stopped before no number was left.
+// Returns what the course comes to in their strips, or `None` if each worker stopped while numbers were left.
 fn hand_in(
     stretch: Stretch<'_>,
     mut team: Vec<Hand>,
@@ -192,7 +192,7 @@ fn make_strips<R: Threads>(
     Some(flow)
 }
 
-/// The strips into which so many workers part the lattices of one size, and the room of each worker. It is kept between runs.
+/// The strips into which so many workers cut lattices of one size, and the room of each worker. They are kept between runs.
 #[derive(Drop)]
 pub struct Strips {
     pub size: Size,
@@ -208,7 +208,7 @@ pub struct Strips {
 }
 
 impl Strips {
-    /// `None` where memory is refused.
+    /// `None` if memory runs out.
     pub fn new(alloc: Global, size: Size, workers: u8) -> Option<Strips>
         requires { (0 < workers) × (workers ≤ most_workers) }
         ensures { IfSome result (λ strips. strips.size ≡ size) }
@@ -227,7 +227,7 @@ impl Strips {
     }
 }
 
-/// The strips of the last run, where they are those of a lattice of this size, or else new ones.
+/// The strips of the last run if they are for lattices of this size, or else new ones.
 pub fn strips_for(
     kept: &mut Option<Strips>,
     alloc: Global,
@@ -256,7 +256,7 @@ fn list<A: Action>(action: &A, n: u16, turns: &mut Vec<Exchange>) -> Option<()>
     Some(())
 }
 
-/// A run on the calling thread, among walls and obstacles as they are. An account that is not kept has 0.
+/// A run on the calling thread without prepared sites. An account that is not kept has 0.
 pub fn run_unprepared<A: Action>(
     particles: &mut Plane,
     run: Run<'_, A>,
@@ -284,7 +284,7 @@ pub fn run_unprepared<A: Action>(
     run_counting(particles, solids, phases, counted, spare)
 }
 
-// Up to 64 phases: by the strips, or on the calling thread where they are not all rows or memory is refused.
+// Up to 64 phases by the strips. The calling thread makes them if memory runs out or some strip was not made.
 fn stretch<R: Threads, A: Action>(
     rt: &R,
     strips: &mut Strips,
@@ -338,8 +338,8 @@ fn stretch<R: Threads, A: Action>(
     }
 }
 
-/// A run by strips of the lattice's size: each worker makes up to 64 phases of its strip, and then the strips are put
-/// together. Where no thread can be made the calling thread does its part. An account that is not kept has 0.
+/// A run by strips of the lattice's size: each worker makes up to 64 phases of its strip, and then the strips are put together.
+/// If a thread can't be started, the calling thread does its part. An account that is not kept has 0.
 pub fn run_by<R: Threads, A: Action>(
     rt: &R,
     strips: &mut Strips,

@@ -25,10 +25,10 @@ use std::thread::Threads;
 /// How many workers a team has at most.
 pub const MOST_WORKERS: u32 = 16;
 
-/// Up to 16 workers that draw the tiles of a plane and turn them. The calling thread is worker 0; for each other worker of a
-/// phase a thread is started, no more than there are tiles in all, so that one tile starts none. A phase never refuses: where
-/// memory or a thread can't be had, the calling thread does what remains. The tiles that other workers turn are kept in
-/// memory of their own, which a team keeps between phases, and written when all is turned. Contracts see how many workers it has.
+/// A team of 1 to 16 workers. The calling thread is worker 0; the others are threads that are started for each phase or stretch.
+/// A phase never fails: if memory runs out or a thread can't be started, the calling thread does the rest. In a single phase the
+/// workers draw tiles, never more workers than tiles; the tiles of the other workers are written to buffers, which the team
+/// keeps, and put in place when all are turned. Contracts see the number of workers.
 #[derive(Drop)]
 pub struct Team<R: Threads + Drop, G: Gate + Drop> {
     rt: R,
@@ -53,8 +53,8 @@ impl<R: Threads + Drop, G: Gate + Drop> Model for Team<R, G> {
 }
 
 impl<R: Threads + Drop, G: Gate + Drop> Team<R, G> {
-    /// A team of 1 to 16 workers. It takes memory and starts threads in its phases, not before. Its gate is called by each
-    /// worker each time that it has drawn a tile.
+    /// A team of 1 to 16 workers. It allocates and starts threads in phases and runs only. In a single phase, each worker calls
+    /// the gate after each draw.
     pub fn new(rt: R, alloc: Global, workers: u8, gate: G) -> Team<R, G>
         requires { (0 < workers) × (workers ≤ most_workers) }
         ensures { result ≡ workers }
@@ -62,7 +62,7 @@ impl<R: Threads + Drop, G: Gate + Drop> Team<R, G> {
         Team::with_least_run(rt, alloc, workers, gate, USUAL)
     }
 
-    /// The same, with the smallest run that it makes by strips; one thread makes smaller ones.
+    /// The same, with the smallest run that is made by strips. Smaller runs stay on one thread.
     pub fn with_least_run(rt: R, alloc: Global, workers: u8, gate: G, least: LeastRun) -> Team<R, G>
         requires { (0 < workers) × (workers ≤ most_workers) }
         ensures { result ≡ workers }
@@ -79,7 +79,7 @@ impl<R: Threads + Drop, G: Gate + Drop> Team<R, G> {
         }
     }
 
-    /// What `Stepper::phase` says, by the workers, with any gate.
+    /// `Stepper::phase` by the workers, with any gate.
     pub fn phase(
         &mut self,
         old: &Plane,
@@ -112,7 +112,7 @@ impl<R: Threads + Drop, G: Gate + Drop> Team<R, G> {
         }
     }
 
-    // A phase by a desk and its workers; `None` where they can't be had, and then nothing was done.
+    // A phase by a desk and its workers. `None` if memory for them runs out; then nothing was done.
     fn turn_together(&mut self, workers: u32, task: Task<'_>, out: &mut Plane) -> Option<Took>
         requires workers { (0 < workers) × (workers ≤ most_workers) }
         requires out { IsRoom task out.old }
@@ -162,7 +162,7 @@ impl<R: Threads + Drop> Stepper for Team<R, NoGate> {
         self.phase(old, walls, obstacles, parity, out)
     }
 
-    // a long run among walls keeps one account, and finds the other from the momentum
+    // a long run among walls keeps one account, and works the other out from the momentum
     fn run_with<A: Action>(
         &mut self,
         particles: &mut Plane,
@@ -182,7 +182,7 @@ impl<R: Threads + Drop> Stepper for Team<R, NoGate> {
 }
 
 impl<R: Threads + Drop> Team<R, NoGate> {
-    // A run by strips, where these are worth it. An account that is not kept has 0.
+    // A run by strips, if these are worth it. An account that is not kept has 0.
     fn run_by_worth<A: Action>(
         &mut self,
         particles: &mut Plane,
@@ -222,8 +222,8 @@ impl<R: Threads + Drop> Team<R, NoGate> {
     }
 }
 
-// A run on the calling thread. Where it is long, the cells at walled sites are prepared first, if there is memory for them. An
-// account that is not kept has 0.
+// A run on the calling thread. A long one prepares the cells at walled sites first, if there is memory for them. An account that
+// is not kept has 0.
 fn run_alone<A: Action>(
     kept: &mut Option<WalledSites>,
     alloc: Global,
@@ -262,7 +262,7 @@ fn run_alone<A: Action>(
     flow
 }
 
-// the room of the last run, where it is for a lattice of this size, or else new room
+// those of the last run if they are for lattices of this size, or else new ones
 fn sites_for(kept: &mut Option<WalledSites>, alloc: Global, size: Size) -> Option<WalledSites>
     ensures { IfSome result (λ sites. HaveExtent sites size) }
 {

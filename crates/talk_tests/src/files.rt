@@ -78,7 +78,7 @@ fn file_shelf_round_trip(rt: HostRuntime) {
     has_no_draft(&rt, path.as_str());
     holds_the_snapshot(&rt, path.as_str());
     fs::remove_dir_all(&rt, folder.as_str()).expect(&rt, "no folder");
-    // where the folder isn't there any more, the put fails and is counted
+    // if the folder is gone, the put fails and is counted
     expect_that(&rt, shelf.put(snapshot().as_slice()).is_err());
     expect_same(&rt, shelf.failures(), 1);
 }

@@ -233,7 +233,7 @@ fn widest_lattice(rt: HostRuntime) {
     );
 }
 
-// Passes too where the allocation is refused.
+// Passes too if the allocation is refused.
 #[test]
 fn refused_row_reading(rt: HostRuntime) {
     let bytes = [0xff, 0, 0, 0, 0, 0, 0, 0x55];

@@ -183,7 +183,7 @@ fn small_lab(rt: &(impl Abort + AllocGlobal)) -> Result<Lab<Serial>, NoMemory> {
     Lab::open(rt.alloc(), Gas::empty(rt.alloc(), size)?, 1024, Serial)
 }
 
-// Whichever allocation is refused, that of the line reader too: where nothing can be written the session ends so.
+// Whichever allocation is refused, that of the line reader too: if nothing can be written, the session ends so.
 #[test]
 fn refused_memory_to_a_session_that_cannot_write(rt: HostRuntime) {
     if let Ok(mut lab) = small_lab(&rt) {

@@ -58,7 +58,7 @@ impl FaultAt {
         Call::Succeeds
     }
 
-    /// How many bytes the next call moves, where it would move so many.
+    /// How many bytes the next call moves, of so many.
     pub fn room(&mut self, most: usize) -> io::Result<usize> {
         match self.next() {
             Call::Succeeds => Ok(most),
@@ -72,7 +72,7 @@ fn failure() -> io::Error {
     io::Error::from(io::ErrorKind::Other)
 }
 
-/// Gives its bytes, at most `step` of them a read, and then the same bytes again where it is told to.
+/// Gives its bytes, at most `step` of them a read, and then the same bytes again if it is told to.
 #[derive(Drop)]
 pub struct Feed<'a> {
     bytes: &'a [u8],

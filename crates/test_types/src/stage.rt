@@ -67,7 +67,7 @@ impl Stage {
     }
 }
 
-/// A text that is given once this session was told its first reply, where one is named.
+/// A text that is given at once, or after the named session was told its first reply.
 #[derive(Clone, Copy)]
 pub struct Text<'a> {
     pub after: Option<usize>,

@@ -70,7 +70,7 @@ impl Border {
     pub fn surround(&mut self, round: &Round)
         ensures { IsBorderOfRound self.new round.now }
     {
-        // where the tiles stand is read once
+        // the references are read once
         let near = *round;
         let sides = &mut self.sides;
         for y in 0..64usize {

@@ -6,7 +6,8 @@ use Rattle.atomic_table.specs.Table.{Me}
 use Rattle.turn_lock.specs.declared.view.View.{View}
 use Rattle.turn_lock.specs.Turns.{Has, entries_by, waiting, at_turn}
 
--- which lock it is a door of, its number, what it has seen of the journal, and the part of the value that never changes, if it knows it
+-- which lock it is a door of, its number, what it has seen of the journal, and the part of the value that never changes, if it
+-- knows it
 pub record DoorView (E F : Type 0) : Type 0 where
   pub lock : TableId
   pub number : ℕ
@@ -26,7 +27,8 @@ pub record NoteView (E : Type 0) : Type 0 where
   pub lock : TableId
   pub seen : List E
 
--- a value of the lock after all that the door has seen: its journal begins with that and has no other entry of the door's number, and its part that never changes is the one that the door knows
+-- a value of the lock after all that the door has seen: its journal begins with that and has no other entry of the door's number,
+-- and its part that never changes is the one that the door knows
 pub record Follows {X E F : Type 0} (entries : X → List E) (fixed : X → F) (by : E → ℕ) (door : DoorView E F) (x : X) : Type 0 where
   pub begins : IsPrefix door.seen (entries x)
   pub own : entries_by by door.number (entries x) ≡ entries_by by door.number door.seen
@@ -39,7 +41,8 @@ pub record Adds {X E F : Type 0} (entries : X → List E) (fixed : X → F) (by 
   pub all_own : All (λ e. by e ≡ number) new
   pub same : fixed y ≡ fixed x
 
--- the seat drew a ticket and took the value x at its turn, so it holds the slot, which is now empty; x follows all that the seat had seen
+-- the seat drew a ticket and took the value x at its turn, so it holds the slot, which is now empty; x follows all that the seat
+-- had seen
 pub record HasTaken {X E F : Type 0} (entries : X → List E) (fixed : X → F) (by : E → ℕ) (before after : Me (Option X) (View E F)) (x : X) : Type 0 where
   pub ticket : ℕ
   pub after_is : after ≡ (at_turn (waiting before.0 ticket) (entries x), (0, None) ∷ [])

@@ -1,6 +1,6 @@
--- The rule of a lock that serves its doors in turn, and what each step tells.
--- Word 0 counts the doors that left and word 1 the tickets that were drawn, both modulo 2 ^ 64. The slot has the value, which one door at a time takes.
--- A ticket is the number of tickets drawn before it, and the ticket that is served is the number of doors that left.
+-- The rule of a ticket lock, and what each step tells. Word 0 counts the doors that left and word 1 the tickets that were drawn,
+-- both modulo 2 ^ 64. The slot has the value, which one door at a time takes. A ticket is the number of tickets drawn before it,
+-- and the ticket that is served is the number of doors that left.
 use Rattle.std.specs.Prelude.{◌≡◌, ◌≢◌, ℕ, ◌+◌, ◌-◌, ◌%◌, ◌^◌, ◌<◌, ◌≤◌, true, false, ◌⊎◌, List, [], ◌∷◌, length, nat_lt, ◌==◌, if◌then◌else◌, filter, Option, Some, None, IfSome, MatchBool}
 use Rattle.std.specs.List.{sum_by}
 use mathlib.Core.Option as core
@@ -60,7 +60,8 @@ module _ {E F : Type 0} where
   Has v number = (v.from ≤ number) × (number < v.from + v.count)
 
 module _ {E F : Type 0} (by : E → ℕ) where
-  -- what a seat knows is right: what it has seen begins the journal, which has no other entry of its numbers; if it waits, its ticket is drawn and not yet served past; and if it has the turn, its ticket is the one that is served
+  -- what a seat knows is right: what it has seen begins the journal, which has no other entry of its numbers; if it waits, its
+  -- ticket is drawn and not yet served past; and if it has the turn, its ticket is the one that is served
   pub record IsView (served tickets : ℕ) (journal : List E) (fixed : F) (v : View E F) : Type 0 where
     pub begins : IsPrefix v.seen journal
     pub old_begins : IsPrefix v.old v.seen
@@ -87,7 +88,8 @@ module _ {X E F : Type 0} (entries : X → List E) (fixed : X → F) (by : E →
       ((x : X) × (homes ≡ core.some (Some x) ∷ []) × (entries x ≡ journal) × (fixed x ≡ f) × ((i : ℕ) (v : View E F) → get_elem? views i ≡ core.some v → v.turn ≡ false))
       ⊎ ((homes ≡ core.none ∷ []) × ((i : ℕ) × (v : View E F) × (get_elem? views i ≡ core.some v) × (v.turn ≡ true)))
 
-  -- the rule: the words count what they should, each ticket that is drawn and not served is some seat's that waits, the slot is filled or taken at a turn, and what each seat knows is right and apart from the others
+  -- the rule: the words count what they should, each ticket that is drawn and not served is some seat's that waits, the slot is
+  -- filled or taken at a turn, and what each seat knows is right and apart from the others
   pub record Keeps (key : ℕ × F) (s : State (Option X) (View E F)) : Type 0 where
     pub served : ℕ
     pub tickets : ℕ

@@ -87,7 +87,7 @@ impl<X: Journaled + Drop> TurnLock<X> {
             slice_index_or r.1.items k d ≡ new_door r.0 k (X.fixed value)) }
         ensures err { IfErr result (λ x. x ≡ value) }
     {
-        // Memory may be refused in three places, at each of which the value is at hand. Once the table stands nothing fails.
+        // Memory can run out in three places, at each of which the value is at hand. Once the table is open nothing fails.
         let Ok(mut list) = Vec::with_capacity(alloc, doors as usize) else {
             return Err(value);
         };

@@ -1,7 +1,7 @@
 //! Gates: a caller's hook before and after each call of a `Hall`'s door.
 
-/// Is told of each call of a door, before the lock is asked for and after it was given back: the seat's number, and the
-/// number of the call among the seat's own, from 0. At its last value the number stays.
+/// Called for each call of a door, before the door asks for the lock and after it has released it, with the seat's number and the
+/// number of the call among the seat's own, from 0. At its last value that number stays.
 pub trait HallGate: Drop {
     fn before(&self, seat: u16, call: u32);
 

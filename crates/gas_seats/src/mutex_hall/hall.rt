@@ -29,8 +29,8 @@ pub struct Hall<N: HallName, S: Stepper, G: HallGate> {
 }
 
 impl<N: HallName, S: Stepper, G: HallGate> Hall<N, S, G> {
-    /// A hall with seats 0, 1, .. over a laboratory whose journal is empty, or the laboratory as it was where memory is
-    /// refused. `blank` has a part for each seat.
+    /// A hall with seats 0, 1, .. over a laboratory whose journal is empty. If memory runs out, the laboratory comes back as it
+    /// was. `blank` has a part for each seat.
     pub fn open(
         alloc: Global,
         blank: Blank,

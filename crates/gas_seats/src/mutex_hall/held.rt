@@ -55,7 +55,7 @@ impl<N: HallName, S: Stepper> Held<N, S> {
         reply
     }
 
-    /// A copy of the gas with the length of the journal for the seat, unless memory is refused. Nothing changes.
+    /// A clone of the gas for the seat, with the length of the journal. Fails if memory runs out. Nothing changes.
     pub fn copy_gas(&mut self, seat: &mut HallSeat<N>) -> Result<Copied, NoMemory>
         ensures copied { Copies self.old result self.old }
         ensures named { IsNamed N.size N.cap self.old }

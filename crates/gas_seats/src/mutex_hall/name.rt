@@ -9,7 +9,7 @@ use std::sync::ledger::Ledger;
 /// Names a hall: its ledger, which has a part for each seat, and the width, the height and the capacity of its
 /// laboratory.
 pub trait HallName: Ledger {
-    // how wide and high the laboratory's lattice is
+    // the width and height of the laboratory's lattice
     ghost size: { Extent };
 
     // how many entries its journal may have

@@ -31,7 +31,7 @@ impl<N: HallName> Model for HallSeat<N> {
 }
 
 impl<N: HallName> HallSeat<N> {
-    /// The number that stands with the seat's entries in the journal.
+    /// The number that the seat's entries have in the journal.
     pub fn number(&self) -> u16
         ensures { result ≡ self.now.number }
     {

@@ -50,7 +50,7 @@ pub fn act_after<A: Action>(plane: &mut Plane, action: &A, k: u16, parity: u8) -
     act_on(plane, &action.after_phase(k), parity)
 }
 
-/// Acts on every cell, and says what came in and what went, at a tick of this parity.
+/// Acts on every cell, at a tick of this parity. Returns what came in and what went out.
 pub fn act_on(plane: &mut Plane, exchange: &Exchange, parity: u8) -> Moved
     requires { parity < 2 }
     ensures lattice { IsLattice plane.old }
@@ -88,7 +88,7 @@ fn act(plane: &mut Plane, exchange: &Exchange) -> Change
     Change { gained, lost }
 }
 
-/// What comes in and goes out where a tile is put in another's place.
+/// What comes in and goes out if `new` replaces `old`.
 pub fn change_of(old: &Tile, new: &Tile) -> Change
     ensures gained { AreTileCounts result.gained
         (λ x y. in_tile.has new.now x y && not (in_tile.has old.now x y)) }

@@ -51,7 +51,7 @@ impl Exchange {
         Exchange::new(Few::none(any_area()), Few::none(any_area()))
     }
 
-    /// The same again.
+    /// A clone.
     pub fn copy(&self) -> Exchange
         ensures { result ≡ self.now }
     {
@@ -69,7 +69,7 @@ impl Exchange {
         self.drains.len() == 0 && self.sources.len() == 0
     }
 
-    /// What becomes of a tile that begins at the place (left, top), or nothing where it stays as it is.
+    /// The tile that begins at (left, top), after the exchange, or `None` if it stays as it is.
     pub fn on_tile(&self, left: u32, top: u32, tile: &Tile) -> Option<Tile>
         requires { IsTileCorner left top }
         ensures left { MatchOption result
@@ -136,7 +136,7 @@ fn tiles_along(start: u16, len: u16) -> (u32, u32)
     (first, end - first)
 }
 
-// what is left of a tile: where one rectangle has all of it, no further one is asked for
+// the tile after the exchange: if one rectangle has all of it, no other is looked at
 fn exchanged_tile(old: &Tile, drains: &[Rect], sources: &[Rect], left: u32, top: u32) -> Tile
     ensures { HasCells result
         (λ x y. is_left (in_tile.has old.now x y) drains.now sources.now (left + x) (top + y)) }

@@ -16,7 +16,7 @@ use gas_terms::{NoMemory, Size};
 use std::alloc::Global;
 use std::marker::Model;
 
-/// From so many phases on a run prepares them: that takes about as long as some phases with walls.
+/// Runs of at least so many phases prepare them, which takes about as long as a few phases with walls.
 pub const LONG_RUN: u16 = 16;
 
 /// Cells of a lattice, and for each tile a word that tells in which rows they lie.
@@ -144,14 +144,14 @@ impl WalledSites {
         Ok(WalledSites { even, odd })
     }
 
-    /// Whether it is room for a lattice of this size.
+    /// Whether they are for lattices of this size.
     pub fn fits(&self, size: Size) -> bool
         ensures { IsTrue result ↔ HaveExtent self.now size }
     {
         self.even.fits(size) && self.odd.fits(size)
     }
 
-    /// Makes them those of these walls and obstacles.
+    /// Works the cells out for these walls and obstacles.
     pub fn prepare(&mut self, walls: &Plane, obstacles: &Plane)
         requires sites { AllHaveSidesOf self.old walls.now }
         requires obstacles { HasSidesOf obstacles.now walls.now }

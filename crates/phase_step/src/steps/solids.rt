@@ -8,8 +8,8 @@ ghost use Rattle.phase_step.specs.WalledSites.{AreWalledSites};
 use crate::steps::sites::WalledSites;
 use gas_plane::Plane;
 
-/// Walls and obstacles. If it is known that there are none, no tile asks for them; and where the cells at walled sites have
-/// been prepared, no tile works them out.
+/// Walls and obstacles. If it is known that neither has a cell, no tile asks for them. If the cells at walled sites are prepared,
+/// no tile works them out.
 #[derive(Clone, Copy)]
 pub struct Solids<'a> {
     pub walls: &'a Plane,
@@ -21,7 +21,7 @@ pub struct Solids<'a> {
 }
 
 impl<'a> Solids<'a> {
-    /// Walls and obstacles as they are, for one phase: nothing has been prepared.
+    /// Walls and obstacles for one phase: nothing is prepared.
     pub fn new(walls: &'a Plane, obstacles: &'a Plane) -> Solids<'a>
         ensures walls { result.walls.now ≡ walls.now }
         ensures obstacles { result.obstacles.now ≡ obstacles.now }

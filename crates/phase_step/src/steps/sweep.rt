@@ -13,8 +13,7 @@ use gas_plane::Plane;
 use gas_terms::Took;
 use std::mem;
 
-/// The tiles of a plane of whose particles it is counted what is taken: those from `first` up to `end`, in the accounts that
-/// are kept.
+/// Where a phase counts what is taken: of the particles in the tiles from `first` up to `end`, in the accounts that are kept.
 #[derive(Clone, Copy)]
 pub struct Own {
     pub first: u32,
@@ -33,8 +32,7 @@ impl Own {
     }
 }
 
-/// Turns the blocks, as `Stepper::phase` says. Returns what is taken of the particles in a plane's own tiles; an
-/// account that is not kept has 0.
+/// `Stepper::phase`, except that it counts only in its own tiles, and that an account that is not kept has 0.
 #[inline(always)]
 pub fn turn_each(old: &Plane, solids: Solids<'_>, parity: u8, own: Own, out: &mut Plane) -> Took
     requires parity { parity < 2 }
@@ -113,9 +111,8 @@ fn turn_among(
     }
 }
 
-/// Turns the blocks of parity 0 or 1 of `particles`, which become those after the phase. Returns what walls and obstacles
-/// take of the particles in the plane's own tiles; an account that is not kept has 0. The spare plane may be written to, and what
-/// it holds does not matter.
+/// Makes the phase of parity 0 or 1 in place. Returns what walls and obstacles take of the particles in its own tiles; an account
+/// that is not kept has 0. `spare` may be overwritten.
 pub fn turn_in_place(
     particles: &mut Plane,
     solids: Solids<'_>,

@@ -14,7 +14,7 @@ use block_rule::{Counted, Places, WalledCells, Window, turn_tile_even, turn_tile
 use gas_plane::{Plane, Position, Tile};
 use gas_terms::Took;
 
-// where a tile has no cell at a walled site
+// for a tile without a cell at a walled site
 const NOTHING_LENT: Lent<'static> = Lent {
     walls: None,
     obstacles: None,
@@ -98,7 +98,7 @@ pub fn turn_tile_in_place(solids: Solids<'_>, i: u32, counted: Counted, tile: &m
     }
 }
 
-// Where the tile's cells at walled sites are worked out here. It is a function of its own, so that their room is not cleared for
+// For a tile whose cells at walled sites are worked out here. It is a function of its own, so that their room is not cleared for
 // tiles that need none.
 #[inline(never)]
 fn turn_even_unprepared(solids: Solids<'_>, i: u32, counted: Counted, tile: &mut Tile) -> Took
@@ -118,7 +118,7 @@ fn turn_even_unprepared(solids: Solids<'_>, i: u32, counted: Counted, tile: &mut
     }
 }
 
-// Where this is lent of the tile's cells at walled sites.
+// For a tile with these cells at walled sites.
 #[inline(always)]
 fn turn_even(solids: Solids<'_>, i: u32, lent: Lent<'_>, counted: Counted, tile: &mut Tile) -> Took
     requires lent { AreLent 0 solids.walls.now solids.obstacles.now i lent }

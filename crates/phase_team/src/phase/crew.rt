@@ -31,7 +31,7 @@ fn write_out(task: Task<'_>, turned: &[Turned], out: &mut Plane)
     }
 }
 
-// A worker for each seat, with room of earlier phases where there is some; `None` where there is no memory.
+// A worker for each seat, with room of earlier phases if there is any. `None` if memory runs out.
 fn seat_workers(
     alloc: Global,
     desk: &Desk,
@@ -66,7 +66,7 @@ pub struct Crew {
     pub seats: Vec<DeskSeat>,
 }
 
-/// `None` where there is no memory.
+/// `None` if memory runs out.
 pub fn crew_of(
     alloc: Global,
     tiles: u32,
@@ -115,7 +115,7 @@ fn draw_here<G: Gate>(shift: Shift<'_>, gate: &G, seat: &mut DeskSeat, out: &mut
     took
 }
 
-/// The workers work, each in a thread of its own where one can be made, and the calling thread turns tiles in the plane.
+/// All workers turn tiles: each other one in a thread of its own, if it can be started, and the calling thread in the plane.
 pub fn work_together<R: Threads, G: Gate>(
     rt: &R,
     shift: Shift<'_>,
@@ -158,7 +158,7 @@ fn keep(rooms: &mut Vec<Vec<Turned>>, room: Vec<Turned>) {
     rooms.push(room).ok();
 }
 
-/// Puts what the workers turned to its places, takes their seats and keeps their room. The answer is what was taken in all.
+/// Writes the tiles that the workers turned, takes their seats and keeps their room. Returns what was taken in all.
 pub fn hand_in(
     shift: Shift<'_>,
     mut team: Vec<Worker>,

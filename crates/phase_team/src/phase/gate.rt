@@ -2,7 +2,7 @@
 
 use std::marker::Sync;
 
-/// What is called each time that a worker has drawn a tile, before the tile is turned. It owes nothing but to return.
+/// Called after each draw of a worker, before the tile is turned. It only has to return.
 pub trait Gate: Sync {
     /// Worker `worker`, counted from 0, is about to turn tile `tile`; tiles are counted row by row.
     fn at_tile(&self, worker: u8, tile: u32);

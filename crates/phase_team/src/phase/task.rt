@@ -10,7 +10,7 @@ use gas_terms::Took;
 use phase_step::{Solids, turn_tile_at};
 
 impl Task<'_> {
-    /// Puts tile i into `out` as it is after the phase, and answers what walls and obstacles take of its particles.
+    /// Puts tile i into `out` as it is after the phase, and returns what walls and obstacles take of its particles.
     pub fn turn(self, i: u32, out: &mut Tile) -> Took
         requires { i < tile_count self.old.now }
         ensures cells { IsMade self.entry i out.new }

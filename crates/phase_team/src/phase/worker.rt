@@ -15,7 +15,7 @@ pub struct Turned {
     pub tile: Tile,
 }
 
-/// A seat of the desk, the tiles that it drew, turned, and what was taken of their particles.
+/// A seat of the desk, the tiles that it drew and turned, and what was taken of their particles.
 #[derive(Drop)]
 pub struct Worker {
     pub seat: DeskSeat,

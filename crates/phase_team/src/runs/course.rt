@@ -27,8 +27,8 @@ pub struct Course<'a> {
     pub ghost of_obstacles: { HasSidesOf obstacles.now cells.now },
 }
 
-/// How the rows of tiles of a lattice are parted into strips: how many strips there are, and how many rows each has. The
-/// first `more` of them have one row more.
+/// How the rows of tiles of a lattice are divided into strips: how many strips there are, and how many rows each has. The first
+/// `more` of them have one row more.
 #[derive(Clone, Copy)]
 pub struct Parts {
     pub count: u32,
@@ -41,7 +41,7 @@ pub struct Parts {
 }
 
 impl Parts {
-    /// So many rows of tiles in so many strips, or a strip for each row if there are fewer.
+    /// Divides so many rows of tiles into so many strips, or one for each row if there are fewer rows.
     pub fn of(down: u32, strips: u32) -> Parts
         requires down { (0 < down) × (down ≤ most_rows) }
         requires strips { 0 < strips }

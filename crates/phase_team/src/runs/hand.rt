@@ -14,7 +14,7 @@ use std::alloc::Global;
 use std::thread;
 use std::thread::Threads;
 
-/// For so many strips of a height a worker keeps its room: for its share, and for one that is ready before a number is drawn.
+/// How many strips of each height a worker keeps as room: its share, and one that is ready before a number is drawn.
 const MOST_ROOMS: usize = 3;
 
 /// Room for strips of either height.
@@ -127,7 +127,7 @@ fn make_drawn(hand: &mut Hand, stretch: Stretch<'_>)
     }
 }
 
-// All work, each in a thread of its own where one can be made, and the calling thread with its own hand.
+// All make their strips: each of the team in a thread of its own, if it can be started, and the calling thread with its own hand.
 fn make_together<R: Threads>(rt: &R, stretch: Stretch<'_>, team: &mut [Hand], own: &mut Hand)
     requires team { All (IsSeated stretch) team.old }
     requires own { IsSeated stretch own.old }
@@ -179,7 +179,7 @@ fn next_room(stretch: Stretch<'_>, rooms: &mut Vec<Room>) -> Room
     }
 }
 
-/// A worker for each seat, with the room of an earlier stretch where there is some; `None` where memory is refused.
+/// A worker for each seat, with the room of an earlier stretch if there is any. `None` if memory runs out.
 pub fn seated(
     stretch: Stretch<'_>,
     seats: &mut Vec<DeskSeat>,

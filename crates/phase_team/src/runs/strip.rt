@@ -36,7 +36,7 @@ pub struct Strip {
     pub flow: Flow,
 }
 
-// where row k of a strip's tiles lies in the lattice
+// which row of tiles of the lattice is row k of a strip
 fn row_of(first: u32, k: u32, down: u32) -> u32
     requires down { (first < down) × (down ≤ most_rows) }
     requires k { k ≤ most_rows }
@@ -81,7 +81,7 @@ fn own_tiles(strip: &Plane, counted: Counted) -> Own
     }
 }
 
-// What an exchange does to a strip whose own rows begin at row of tiles `first` of `down`, at a tick of this parity: what
+// Makes an exchange on a strip whose own rows begin at row of tiles `first` of `down`, at a tick of this parity. Returns what
 // comes in and goes out in its own tiles.
 fn act_on_strip(strip: &mut Plane, exchange: &Exchange, first: u32, down: u32, parity: u8) -> Moved
     requires parity { parity < 2 }
@@ -113,8 +113,8 @@ fn act_on_strip(strip: &mut Plane, exchange: &Exchange, first: u32, down: u32, p
     moved
 }
 
-// What happens on a strip: n phases, the first of this parity, with an exchange on its lattice after each. Its own rows begin
-// at row of tiles `first` of `down`. It is counted what is taken in the accounts that are kept.
+// A run on a strip: n phases, the first of this parity, with an exchange of the whole lattice after each. The strip's own rows
+// begin at row of tiles `first` of `down`. `counted` says which accounts are kept.
 #[derive(Drop)]
 struct StripRun<'a> {
     parity: u8,
@@ -125,7 +125,7 @@ struct StripRun<'a> {
     counted: Counted,
 }
 
-// Makes it on a strip as a torus of its own: what it comes to in the strip's own tiles.
+// Makes it on a strip as a torus of its own. Returns what it comes to in the strip's own tiles.
 fn make(run: StripRun<'_>, solids: Solids<'_>, cells: &mut Plane, spare: &mut Plane) -> Flow
     requires parity { run.parity < 2 }
     requires phases { run.n ≤ most_phases }
@@ -156,7 +156,7 @@ fn make(run: StripRun<'_>, solids: Solids<'_>, cells: &mut Plane, spare: &mut Pl
     flow
 }
 
-// The same, where a long run has the cells at walled sites prepared first.
+// The same, except that a long run prepares the cells at walled sites first.
 fn make_prepared(
     run: StripRun<'_>,
     walls: &Plane,

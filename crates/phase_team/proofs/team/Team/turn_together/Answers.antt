@@ -24,6 +24,3 @@ pub hand_in-took-requires-clause-worked : goal.hand_in-took-requires-clause-work
 hand_in-took-requires-clause-worked g c =
     let task = c.args.task in
     all_lent (HasWorked task c.in-Some.crew.desk.id) c.in-Some.crew.team.len c.work_together-first.new.team c.in-Some.crew.team.items (search rules) c.work_together-first.ensures.worked
-
-pub hand_in-took-requires-clause-seats : goal.hand_in-took-requires-clause-seats
-hand_in-took-requires-clause-seats g c = search rules

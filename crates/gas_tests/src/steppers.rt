@@ -1,0 +1,38 @@
+//! Phases by any stepper, and teams for tests.
+
+use crate::expected::expect_that;
+use crate::lattices::fit;
+use gas_plane::Plane;
+use gas_terms::Took;
+use phase_step::Stepper;
+use phase_team::{Gate, Team};
+use std::alloc::Global;
+use std::process::Abort;
+use std::thread::Threads;
+
+/// A phase as a laboratory makes it.
+pub fn step<S: Stepper>(
+    rt: &impl Abort,
+    stepper: &mut S,
+    old: &Plane,
+    walls: &Plane,
+    obstacles: &Plane,
+    parity: u8,
+    out: &mut Plane,
+) -> Took {
+    expect_that(&rt, parity < 2);
+    fit(rt, old, walls, obstacles, out);
+    stepper.phase(old, walls, obstacles, parity, out)
+}
+
+/// A team of so many workers.
+pub fn team<R: Threads + Drop, G: Gate + Drop>(
+    abort: &impl Abort,
+    rt: R,
+    alloc: Global,
+    workers: u8,
+    gate: G,
+) -> Team<R, G> {
+    expect_that(&abort, 0 < workers && workers <= 16);
+    Team::new(rt, alloc, workers, gate)
+}
