@@ -2,7 +2,7 @@
 
 ghost use Rattle.std.specs.Prelude.{◌≡◌, ℕ, ◌+◌, ◌<◌, ◌≤◌, Bool, true, false, List, [], ◌∷◌, ◌++◌, All, IfOk, IfSome, IfNone, replicate, vec_len, length, count_by, if◌then◌else◌};
 ghost use Rattle.std.specs.List.{sum_by};
-ghost use Rattle.claim_desk.specs.Draws.{times, once_below};
+ghost use Rattle.claim_desk.specs.Draws.{times, once_below, most_seats};
 
 use crate::draws::Draws;
 use crate::rule::{Apart, DeskRule, Meets, Together};
@@ -67,7 +67,7 @@ impl Desk {
     /// A desk for the numbers below `n`, with 1 to 16 seats that have drawn nothing. Fails if memory runs out. No other call
     /// of a desk allocates.
     pub fn open(alloc: Global, n: u32, seats: u32) -> Result<(Desk, Vec<DeskSeat>), NoMemory>
-        requires { (0 < seats) × (seats ≤ 16) }
+        requires { (0 < seats) × (seats ≤ most_seats) }
         ensures desk { IfOk result (λ r. (r.0.id.limit ≡ n) × (r.0.seats ≡ seats)) }
         ensures seats { IfOk result (λ r. r.1.items ≡ replicate seats (fresh r.0.id)) }
     {

@@ -25,7 +25,7 @@ use circle::{after, before};
 pub use counts::sums;
 use gas_terms::{NoMemory, Size};
 use marks::{Mark, are_all_bare, mark_of};
-pub use parts::{is_covered, part_of};
+pub use parts::{is_covered, part_of, tiles_met};
 pub use rows::word_of;
 use std::alloc::Global;
 use std::marker::Model;

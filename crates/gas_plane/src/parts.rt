@@ -7,7 +7,7 @@ ghost use Rattle.bit_tile.specs.Tile.{HasCells};
 use bit_tile::Tile;
 use gas_terms::Rect;
 
-// of n places of 64 cells each, the first that `len` cells from `start` on meet, and the first after them
+/// Of n places of 64 cells each, the first that `len` cells from `start` on meet, and the first after them.
 pub fn tiles_met(start: u32, len: u32, n: u32) -> (u32, u32)
     requires { start + len < 2 ^ 31 }
     ensures ordered { result.0 ≤ result.1 }

@@ -17,6 +17,10 @@ fresh_seat i = record { number = i; entries = 0 }
 abbrev pub most_seats : ℕ
 most_seats = 64
 
+-- the greatest number that an entry of the journal may tell of its seat
+abbrev pub most_number : ℕ
+most_number = 65535
+
 abbrev pub numbers : List Seat → List ℕ
 numbers seats = map (λ seat. seat.number) seats
 

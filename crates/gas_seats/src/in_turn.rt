@@ -6,6 +6,7 @@ ghost use Rattle.gas_terms.specs.Commands.{fits};
 ghost use Rattle.gas_terms.specs.Laboratory.{most_entries, Applies, IsSound};
 ghost use Rattle.gas_lab.specs.Labs.{entry_of};
 ghost use Rattle.gas_lab.specs.Copying.{Copies};
+ghost use Rattle.gas_seats.specs.Seats.{most_number};
 
 use gas_lab::{Copied, Lab, Stepper};
 use gas_ledger::Gas;
@@ -41,7 +42,7 @@ pub(crate) struct Asked {
 impl<S: Stepper> Call<InTurn<S>> for Asked {
     type Answer = Result<Answer, Refusal>;
 
-    ghost needs = { λ c by opened. (by ≤ 65535)
+    ghost needs = { λ c by opened. (by ≤ most_number)
         × (fits (extent opened.0.particles) c.command ≡ true) };
 
     ghost does = { λ c by x reply y. IsSound x.lab × IsSound y.lab

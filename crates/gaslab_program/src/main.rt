@@ -2,7 +2,7 @@
 #![tactic(auto)]
 
 ghost use Rattle.std.specs.Prelude.{◌≡◌, ◌<◌, ◌≤◌, IfOk, vec_len};
-ghost use Rattle.gas_run.specs.Plans.{IsInRange, HasSessions};
+ghost use Rattle.gas_run.specs.Plans.{most_sessions, IsInRange, HasSessions};
 
 use gas_hall::TcpLobby;
 use gas_ledger::Gas;
@@ -137,7 +137,7 @@ fn serve<K: Shelf + Drop + Send>(
     shelves: Vec<K>,
 ) -> u8
     requires setup { IsInRange setup }
-    requires shelves { (0 < vec_len shelves) × (vec_len shelves ≤ 64) }
+    requires shelves { (0 < vec_len shelves) × (vec_len shelves ≤ most_sessions) }
 {
     let Ok(mut lobby) = listen(rt, address) else {
         return Status::Failed.number();

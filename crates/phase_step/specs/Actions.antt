@@ -16,6 +16,10 @@ use Rattle.phase_step.specs.declared.sums.flow.Flow.{Flow}
 abbrev pub Leaves : Type 0
 Leaves = ℕ → ℕ → Bool → Bool
 
+-- the greatest number that a phase may have
+abbrev pub last_phase : ℕ
+last_phase = 65535
+
 -- it leaves every cell as it is
 abbrev pub IsStill : Leaves → Type 0
 IsStill leaves = (x y : ℕ) (held : Bool) → leaves x y held ≡ held

@@ -9,6 +9,10 @@ use lib.ListN.{get_elem?}
 use Rattle.atomic_table.specs.Table.{State, Me, Step}
 use Rattle.turn_lock.specs.declared.view.View.{View}
 
+-- how many doors a lock has at most
+abbrev pub most_doors : ℕ
+most_doors = 64
+
 module _ {E : Type 0} where
   -- the longer of two lists, and the first where they are as long
   abbrev pub longer : List E → List E → List E
@@ -97,7 +101,7 @@ module _ {X E F : Type 0} (entries : X → List E) (fixed : X → F) (by : E →
     pub words_are : s.words ≡ (served % 2 ^ 64) ∷ (tickets % 2 ^ 64) ∷ []
     pub tickets_out : served + sum_by (λ v. if v.waits then 1 else 0) s.views ≡ tickets
     pub few_doors : sum_by (λ v. v.count) s.views ≤ key.0
-    pub key_fits : key.0 ≤ 64
+    pub key_fits : key.0 ≤ most_doors
     pub slot : Slot journal key.1 s.homes s.views
     pub each : (i : ℕ) (v : View E F) → get_elem? s.views i ≡ core.some v → IsView by served tickets journal key.1 v
     pub apart : (i j : ℕ) (v w : View E F) → i ≢ j → get_elem? s.views i ≡ core.some v → get_elem? s.views j ≡ core.some w → AreApart by v w

@@ -2,7 +2,7 @@
 
 ghost use Rattle.std.specs.Prelude.{◌≡◌, ◌⊎◌, ℕ, ◌<◌, ◌≤◌, List, [], ◌∷◌, ◌++◌, true, false, All, IsSome, IfSome, IfOk, IfErr, Some, None, vec_len, slice_index_or};
 ghost use mathlib.Core.List.{IsPrefix};
-ghost use Rattle.turn_lock.specs.Turns.{entries_by, leaving};
+ghost use Rattle.turn_lock.specs.Turns.{entries_by, leaving, most_doors};
 ghost use Rattle.turn_lock.specs.Doors.{new_door, IsIdle, Follows, Adds, HasTaken};
 
 use crate::rule::{Apart, Copy, Journaled, Leave, LockRule, Look, Meet, Serve, Ticket};
@@ -80,7 +80,7 @@ impl<X: Journaled + Drop> TurnLock<X> {
     /// A lock that holds the value, whose journal must be empty, and 1 to 64 doors of it, numbered from 0 and in this order.
     /// They have seen nothing. If memory runs out, the value comes back as it was. Never waits.
     pub fn open(alloc: Global, value: X, doors: u64) -> Result<(TurnLock<X>, Vec<Door<X>>), X>
-        requires doors { (0 < doors) × (doors ≤ 64) }
+        requires doors { (0 < doors) × (doors ≤ most_doors) }
         requires empty { X.entries value ≡ [] }
         ensures count { IfOk result (λ r. vec_len r.1 ≡ doors) }
         ensures doors { IfOk result (λ r. (k : ℕ) (d : _) → k < doors →

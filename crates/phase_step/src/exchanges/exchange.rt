@@ -131,8 +131,7 @@ fn tiles_along(start: u16, len: u16) -> (u32, u32)
     ensures met { (k : ℕ) → k < most_side → start ≤ k → k < start + len →
         (result.0 ≤ k / 64) × (k / 64 < result.0 + result.1) }
 {
-    let end = (start as u32 + len as u32).div_ceil(64).min(64);
-    let first = (start as u32 / 64).min(end);
+    let (first, end) = gas_plane::tiles_met(u32::from(start), u32::from(len), 64);
     (first, end - first)
 }
 

@@ -1,6 +1,7 @@
 //! The rest of an action, from a later phase on.
 
 ghost use Rattle.std.specs.Prelude.{◌+◌, min};
+ghost use Rattle.phase_step.specs.Actions.{last_phase};
 
 use crate::exchanges::{Action, Exchange};
 
@@ -13,7 +14,7 @@ pub struct Later<'a, A: Action> {
 }
 
 impl<A: Action> Action for Later<'_, A> {
-    ghost leaves = { λ l k x y held. A.leaves l.action.now (min (l.by + k) 65535) x y held };
+    ghost leaves = { λ l k x y held. A.leaves l.action.now (min (l.by + k) last_phase) x y held };
 
     fn after_phase(&self, k: u16) -> Exchange {
         self.action.after_phase(self.by.saturating_add(k))
