@@ -2,7 +2,6 @@
 
 ghost use Rattle.std.specs.Prelude.{◌≡◌, ◌+◌, ◌<◌, ◌≤◌, [], IfSome, length, vec_len};
 ghost use Rattle.gas_terms.specs.Cells.{extent};
-ghost use Rattle.gas_seats.specs.Seats.{most_seats};
 
 use crate::small_labs::{Seen, counters, look_at};
 use gas_hall::{Hall, HallGate, HallName, HallSeat, Lobby, Served, serve};
@@ -51,7 +50,7 @@ fn serve_and_close<
 ) -> Closed<S>
     requires parts { N.parts ≡ vec_len shelves }
     requires each { vec_len shelves ≡ vec_len seats }
-    requires seats { (0 < vec_len shelves) × (vec_len shelves ≤ most_seats) }
+    requires seats { (0 < vec_len shelves) × (vec_len shelves ≤ 64) }
     ensures count { result.counts.0 + result.counts.1 ≡ vec_len shelves }
     ensures entries { length result.lab.journal ≡ result.counts.2 }
 {
@@ -87,7 +86,7 @@ fn serve_named<
 ) -> Option<Closed<S>>
     requires name { blank.name ≡ N.name }
     requires parts { (blank.parts ≡ N.parts) × (blank.parts ≡ vec_len shelves) }
-    requires seats { (0 < vec_len shelves) × (vec_len shelves ≤ most_seats) }
+    requires seats { (0 < vec_len shelves) × (vec_len shelves ≤ 64) }
     requires lab { (extent lab.start.particles ≡ N.size) × (lab.cap ≡ N.cap) × (lab.journal ≡ []) }
     ensures count { IfSome result (λ closed. closed.counts.0 + closed.counts.1 ≡ vec_len shelves) }
     ensures entries { IfSome result (λ closed. length closed.lab.journal ≡ closed.counts.2) }

@@ -1,7 +1,6 @@
 //! Serving a `TurnHall` to sessions in memory, some of which fail.
 
 ghost use Rattle.std.specs.Prelude.{◌≡◌, ◌<◌, ◌≤◌, All, vec_len};
-ghost use Rattle.gas_seats.specs.Seats.{most_seats};
 
 use crate::expected::expect_that;
 use crate::small_labs::{counted, counters, no_puts, small_lab};
@@ -37,7 +36,7 @@ fn open_hall(
     rt: &(impl Abort + AllocGlobal),
     seats: u16,
 ) -> (TurnHall<Serial>, Vec<TurnSeat<Serial>>)
-    requires { (0 < seats) × (seats ≤ most_seats) }
+    requires { (0 < seats) × (seats ≤ 64) }
     ensures count { vec_len result.1 ≡ seats }
     ensures here { All (λ seat. seat.hall ≡ result.0) result.1.items }
 {
