@@ -5,7 +5,7 @@ ghost use Rattle.gas_terms.specs.Cells.{lies_within, extent};
 
 use crate::expected::{expect_same, expect_that};
 use crate::lattices::holds;
-use gas_plane::{Plane, Tile, is_covered, part_of, tiles_met, word_of};
+use gas_plane::{Plane, Tile, word_of};
 use gas_terms::{Rect, Size};
 use std::process::Abort;
 
@@ -41,26 +41,6 @@ fn fills_and_clears_over_the_seams(rt: HostRuntime) {
     ] {
         expect_same(&rt, (x, y, holds(&plane, x, y)), (x, y, held));
     }
-}
-
-// Columns 60 to 129 and rows 64 to 127 of three by two tiles.
-#[test]
-fn parts_of_a_rectangle_in_tiles(rt: HostRuntime) {
-    let size = Size::new(192, 128).expect(&rt, "a size");
-    let area = Rect::within(size, 60, 64, 70, 64).expect(&rt, "a rectangle");
-    expect_same(&rt, tiles_met(60, 70, 3), (0, 3));
-    expect_same(&rt, tiles_met(64, 64, 2), (1, 2));
-    // no tile after the last one
-    expect_same(&rt, tiles_met(60, 70, 2), (0, 2));
-    for (left, top, columns) in [(0, 64, (60, 4)), (64, 64, (0, 64)), (128, 64, (0, 2))] {
-        let (x, w) = columns;
-        expect_that(&rt, x + w <= 64);
-        let part = part_of(area, left, top).expect(&rt, "a part");
-        expect_that(&rt, part.has_same_cells(&Tile::rect(x, 0, w, 64)));
-        expect_same(&rt, is_covered(area, left, top), left == 64);
-    }
-    expect_that(&rt, part_of(area, 64, 0).is_none());
-    expect_that(&rt, !is_covered(area, 64, 0));
 }
 
 #[test]
