@@ -203,38 +203,28 @@ pub(crate) fn sit<T, R, H: Seating<T, R>, In: Read + Drop, Out: Write + Drop, K:
     house.hall.serve_guest(house.rt, house.alloc, guest)
 }
 
-// Starts a session's thread, or hands the seat back.
-fn start<
-    's,
-    E,
-    T: Drop + Send,
-    R: Sync,
-    H: Seating<T, R> + Sync,
-    In: Read + Drop + Send,
-    Out: Write + Drop + Send,
-    K: Shelf + Drop + Send,
->(
+// Accepts a session for the seat and starts its thread, or hands the seat back.
+fn start<'s, E, T: Drop + Send, R: Sync, H: Seating<T, R> + Sync, L: Lobby, K: Shelf + Drop + Send>(
     house: &House<'s, R, H>,
     scope: &Scope<'s, E>,
-    guest: Guest<T, In, Out, K>,
+    lobby: &mut L,
+    seat: T,
+    shelf: K,
 ) -> Result<PromisedHandle<T, SeatKept<H, T, R>>, T>
 where
     T: 's,
-    In: 's,
-    Out: 's,
+    L::R: 's,
+    L::W: 's,
     K: 's,
-    requires here { H.has house.now.hall.now (H.kept guest.seat) }
-    ensures ok { IfOk result (λ handle. handle.promise.seat.value ≡ guest.seat) }
-    ensures err { IfErr result (λ back. H.kept back ≡ H.kept guest.seat) }
-    ensures seen { IfErr result (λ back. IsPrefix (H.seen guest.seat) (H.seen back)) }
+    requires here { H.has house.now.hall.now (H.kept seat) }
+    ensures ok { IfOk result (λ handle. handle.promise.seat.value ≡ seat) }
+    ensures err { IfErr result (λ back. H.kept back ≡ H.kept seat) }
+    ensures seen { IfErr result (λ back. IsPrefix (H.seen seat) (H.seen back)) }
 {
+    let Ok((reader, writer)) = lobby.accept() else {
+        return Err(seat);
+    };
     let (rt, alloc, hall, refused) = (house.rt, house.alloc, house.hall, house.refused);
-    let Guest {
-        seat,
-        reader,
-        writer,
-        shelf,
-    } = guest;
     let number = H::number_of(&seat);
     let promise = SeatKept {
         seat: Snapshot::of(&seat),
@@ -306,25 +296,14 @@ where
     let Some(shelf) = shelves.pop() else {
         unreachable!()
     };
-    let Ok((reader, writer)) = lobby.accept() else {
-        let done = serve_rest(house, scope, lobby, seats, shelves);
-        seats.push_reserved(seat);
-        return done;
-    };
-    let guest = Guest {
-        seat,
-        reader,
-        writer,
-        shelf,
-    };
-    match start(house, scope, guest) {
+    let seated = start(house, scope, lobby, seat, shelf);
+    let done = serve_rest(house, scope, lobby, seats, shelves);
+    match seated {
         Ok(handle) => {
-            let done = serve_rest(house, scope, lobby, seats, shelves);
             seats.push_reserved(handle.join(house.rt));
             done + 1
         }
         Err(seat) => {
-            let done = serve_rest(house, scope, lobby, seats, shelves);
             seats.push_reserved(seat);
             done
         }
