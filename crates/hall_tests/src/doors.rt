@@ -9,8 +9,7 @@ use gas_hall::{Hall, HallGate, HallName, HallSeat};
 use gas_lab::{Lab, Serial, Stepper};
 use gas_snapshot::NoShelf;
 use gas_talk::session::serve_door;
-use gas_talk::{Copied, Door, SessionEnd};
-use gas_terms::NoMemory;
+use gas_talk::{Door, SessionEnd};
 use std::alloc::Global;
 use std::marker::Brand;
 use std::process::Abort;
@@ -53,10 +52,28 @@ fn take_turns<
     let (Some(second), Some(first)) = (seats.pop(), seats.pop()) else {
         panic!(rt; "no seats")
     };
-    expect_same(&rt, (first.number(), second.number()), (0, 1));
+    expect_same(rt, (first.number(), second.number()), (0, 1));
+    let (one, two) = put_by_turns(rt, alloc, hall, first, second);
+    come_back(rt, &mut seats, one, 2);
+    come_back(rt, &mut seats, two, 1);
+    seats
+}
+
+// The two sessions, with their replies.
+fn put_by_turns<
+    N: HallName + Send + Sync,
+    G: HallGate + Sync,
+    R: Threads + Wait + Abort + Sync + Send,
+>(
+    rt: &R,
+    alloc: Global,
+    hall: &Hall<N, Serial, G>,
+    first: HallSeat<N>,
+    second: HallSeat<N>,
+) -> ((HallSeat<N>, SessionEnd), (HallSeat<N>, SessionEnd)) {
     let (first_page, second_page) = (Mutex::new(Page::new()), Mutex::new(Page::new()));
     let (on_first, on_second) = (&first_page, &second_page);
-    let (one, two) = thread::join(
+    let back = thread::join(
         rt,
         move || sit_down(
             rt,
@@ -68,11 +85,9 @@ fn take_turns<
         ),
         move || sit_down(rt, alloc, hall, second, b"put 4 0 1 1\n", on_second),
     );
-    expect_that(&rt, shows(&first_page, b"OK 0\nOK 2\n"));
-    expect_that(&rt, shows(&second_page, b"OK 1\n"));
-    come_back(rt, &mut seats, one, 2);
-    come_back(rt, &mut seats, two, 1);
-    seats
+    expect_that(rt, shows(&first_page, b"OK 0\nOK 2\n"));
+    expect_that(rt, shows(&second_page, b"OK 1\n"));
+    back
 }
 
 // The seat has made so many entries, its session ended with its input, and it is with the others again.
@@ -83,9 +98,8 @@ fn come_back<N: HallName>(
     entries: u32,
 ) {
     let (seat, end) = back;
-    expect_same(&rt, end, SessionEnd::InputEnd);
-    expect_same(&rt, seat.entries(), entries);
-    expect_that(&rt, seats.push(seat).is_ok());
+    expect_same(rt, (end, seat.entries()), (SessionEnd::InputEnd, entries));
+    expect_that(rt, seats.push(seat).is_ok());
 }
 
 // A hall with two seats, held by turns.
@@ -114,13 +128,12 @@ fn close_two<N: HallName, G: HallGate>(
 )
     requires { N.parts ≡ 2 }
 {
-    expect_that(&rt, seats.len() == 2);
-    let seen = look_at(rt, hall.close(seats), &[(0, 0), (1, 4), (0, 2)]);
-    expect_same(&rt, seen.tally, (3, 3, 3));
-    expect_that(&rt, seen.are_puts);
+    expect_that(rt, seats.len() == 2);
+    let seen = look_at(hall.close(seats), &[(0, 0), (1, 4), (0, 2)]);
+    expect_same(rt, (seen.tally, seen.are_puts), ((3, 3, 3), true));
 }
 
-// The sessions, and the laboratory afterwards.
+// The sessions, a copy afterwards, and the laboratory at the end.
 fn both<N: HallName + Send + Sync, R: Threads + Wait + Clock + Abort + Sync + Copy + Send>(
     rt: &R,
     alloc: Global,
@@ -133,43 +146,42 @@ fn both<N: HallName + Send + Sync, R: Threads + Wait + Clock + Abort + Sync + Co
 {
     let turns = TestGate::turns(*rt);
     let (hall, seats) = open_two::<N, R>(rt, alloc, blank, lab, &turns);
-    let seats = take_turns(rt, alloc, &hall, seats);
-    expect_that(&rt, !turns.met_limit());
+    let mut seats = take_turns(rt, alloc, &hall, seats);
+    expect_that(rt, !turns.met_limit());
+    copy_after(rt, &hall, &mut seats);
     close_two(rt, hall, seats);
 }
 
-fn copy_through<N: HallName, S: Stepper, G: HallGate, R: Wait>(
+// What a copy through the seat's door holds.
+fn copy_through<N: HallName, G: HallGate, R: Wait + Abort>(
     rt: &R,
-    hall: &Hall<N, S, G>,
+    hall: &Hall<N, Serial, G>,
     seat: HallSeat<N>,
-) -> Result<Copied, NoMemory> {
+) -> (HallSeat<N>, ((i64, i64, i64), u32)) {
     let mut door = hall.door(rt, seat);
-    door.copy_gas()
+    let held = sums_of(rt, door.copy_gas());
+    (door.end(), held)
 }
 
-// What a door's copy holds after the sessions.
-fn copied<
-    N: HallName + Send + Sync,
-    R: Threads + Wait + Clock + Abort + Sync + Copy + Send + AllocGlobal,
->(rt: &R, alloc: Global, blank: Blank, lab: Lab<Serial>) -> ((i64, i64, i64), u32)
-    requires name { blank.name ≡ N.name }
-    requires parts { (blank.parts ≡ N.parts) × (blank.parts ≡ 2) }
-    requires lab { (extent lab.start.particles ≡ N.size) × (lab.cap ≡ N.cap) × (lab.journal ≡ []) }
-{
-    let turns = TestGate::turns(*rt);
-    let (hall, seats) = open_two::<N, R>(rt, alloc, blank, lab, &turns);
-    let mut seats = take_turns(rt, alloc, &hall, seats);
+// The last seat's copy holds the sessions' puts.
+fn copy_after<N: HallName, G: HallGate, R: Wait + Abort>(
+    rt: &R,
+    hall: &Hall<N, Serial, G>,
+    seats: &mut Vec<HallSeat<N>>,
+) {
     let Some(seat) = seats.pop() else {
         panic!(rt; "no seats")
     };
-    expect_same(&rt, (seat.number(), seat.entries()), (1, 1));
-    sums_of(rt, alloc, copy_through(rt, &hall, seat))
+    expect_same(rt, (seat.number(), seat.entries()), (1, 1));
+    let (seat, held) = copy_through(rt, hall, seat);
+    expect_same(rt, held, ((3, 3, 3), 3));
+    expect_that(rt, seats.push(seat).is_ok());
 }
 
 // What a door's copy holds that is made between two changes of a session.
 fn copied_between<
     N: HallName + Send + Sync,
-    R: Threads + Wait + Clock + Abort + Sync + Copy + Send + AllocGlobal,
+    R: Threads + Wait + Clock + Abort + Sync + Copy + Send,
 >(rt: &R, alloc: Global, blank: Blank, lab: Lab<Serial>) -> ((i64, i64, i64), u32)
     requires name { blank.name ≡ N.name }
     requires parts { (blank.parts ≡ N.parts) × (blank.parts ≡ 2) }
@@ -178,7 +190,7 @@ fn copied_between<
     let turns = TestGate::turns(*rt);
     let (hall, seats) = open_two::<N, R>(rt, alloc, blank, lab, &turns);
     let copied = copy_between(rt, alloc, &hall, seats);
-    expect_that(&rt, !turns.met_limit());
+    expect_that(rt, !turns.met_limit());
     copied
 }
 
@@ -198,7 +210,7 @@ fn copy_between<
     };
     let page = Mutex::new(Page::new());
     let on_page = &page;
-    let (_, copied) = thread::join(
+    let (_, (_, copied)) = thread::join(
         rt,
         move || sit_down(
             rt,
@@ -208,23 +220,17 @@ fn copy_between<
             b"put 0 0 1 1\nput 2 0 1 1\n",
             on_page,
         ),
-        move || sums_of(rt, alloc, copy_through(rt, hall, second)),
+        move || copy_through(rt, hall, second),
     );
-    expect_that(&rt, shows(&page, b"OK 0\nOK 1\n"));
+    expect_that(rt, shows(&page, b"OK 0\nOK 1\n"));
     copied
 }
 
+/// A copy after them and the laboratory of the closed hall hold their three puts.
 #[test]
 fn two_sessions_take_turns(rt: HostRuntime) {
     let lab = small_lab(rt.alloc()).expect(&rt, "memory");
     both::<Brand, HostRuntime>(&rt, rt.alloc(), Blank::new(2), lab);
-}
-
-#[test]
-fn copy_after_the_hall(rt: HostRuntime) {
-    let lab = small_lab(rt.alloc()).expect(&rt, "memory");
-    let found = copied::<Brand, HostRuntime>(&rt, rt.alloc(), Blank::new(2), lab);
-    expect_same(&rt, found, ((3, 3, 3), 3));
 }
 
 #[test]

@@ -2,7 +2,7 @@
 
 use crate::expected::{expect_same, expect_that};
 use crate::open_and_serve::serve_sessions;
-use crate::small_labs::{counters, no_puts, small_lab};
+use crate::small_labs::{counters, no_puts};
 use crate::turn_hall_serving::serve_in_turn;
 use gas_hall::{AcceptFault, Lobby};
 use std::io;
@@ -191,8 +191,7 @@ fn served<R: Threads + Wait + Sync + Abort + Clock + Copy + Drop + Send + AllocG
         return (counts, [first, second]);
     }
     let gate = TestGate::open(*rt);
-    let lab = small_lab(rt.alloc()).expect(rt, "memory");
-    let left = serve_sessions(rt, lab, &gate, &mut lobby, &saved, 2, &[]).expect(rt, "memory");
+    let left = serve_sessions(rt, 64, &gate, &mut lobby, &saved, 2, &[]).expect(rt, "memory");
     let [first, second, _, _] = left.of_seats;
     (left.counts, [first, second])
 }

@@ -2,7 +2,7 @@
 
 use crate::expected::{expect_same, expect_that};
 use crate::open_and_serve::{Left, serve_sessions};
-use crate::small_labs::{counted, no_puts, small_lab};
+use crate::small_labs::{counted, no_puts};
 use std::process::Abort;
 use std::sync::{Mutex, Wait};
 use std::thread::Threads;
@@ -11,7 +11,7 @@ use test_types::gates::TestGate;
 use test_types::pages::{Guests, Page, shows};
 
 // What is left of a hall: seats that were served and were not, and the entries of all; the entries of each seat; who put
-// into which column; count and momentum of the gas; how often each seat saved.
+// into which column; count and momentum of the gas; how often each seat saved; what is on each page.
 #[derive(Clone, Copy)]
 struct Outcome<'a> {
     counts: (u32, u32, u32),
@@ -19,6 +19,7 @@ struct Outcome<'a> {
     puts: &'a [(u16, u16)],
     tally: (i64, i64, i64),
     saved: [u32; 3],
+    told: &'a [&'a [u8]],
 }
 
 // Serves a session over each page on an empty laboratory of 64 by 64. Tells what is left, and how often each seat saved.
@@ -31,8 +32,7 @@ fn serve_guests<R: Threads + Wait + Clock + Sync + Abort + AllocGlobal>(
 ) -> (Left, [u32; 3]) {
     let mut lobby = Guests::new(inputs, pages);
     let saved = no_puts();
-    let lab = small_lab(rt.alloc()).expect(rt, "memory");
-    let left = serve_sessions(rt, lab, gate, &mut lobby, &saved, pages.len(), puts);
+    let left = serve_sessions(rt, 64, gate, &mut lobby, &saved, pages.len(), puts);
     (left.expect(rt, "memory"), counted(&saved))
 }
 
@@ -45,11 +45,20 @@ fn serves<R: Threads + Wait + Clock + Sync + Abort + AllocGlobal>(
     wanted: Outcome<'_>,
 ) {
     let (left, saved) = serve_guests(rt, gate, inputs, pages, wanted.puts);
-    expect_same(&rt, left.counts, wanted.counts);
-    expect_same(&rt, left.of_seats, wanted.of_seats);
-    expect_same(&rt, left.lab.tally, wanted.tally);
-    expect_same(&rt, saved, wanted.saved);
-    expect_that(&rt, left.lab.are_puts);
+    expect_same(rt, left.counts, wanted.counts);
+    expect_same(rt, left.of_seats, wanted.of_seats);
+    expect_same(rt, left.lab.tally, wanted.tally);
+    expect_same(rt, saved, wanted.saved);
+    expect_that(rt, left.lab.are_puts);
+    show(rt, pages, wanted.told);
+}
+
+// There is as much on each page as is wanted.
+fn show(rt: &impl Abort, pages: &[Mutex<Page>], wanted: &[&[u8]]) {
+    expect_same(rt, pages.len(), wanted.len());
+    for (page, text) in pages.iter().zip(wanted) {
+        expect_that(rt, shows(page, *text));
+    }
 }
 
 fn empty_pages() -> [Mutex<Page>; 3] {
@@ -73,11 +82,10 @@ fn two_served_sessions_take_turns(rt: HostRuntime) {
         puts: &[(0, 0), (1, 4), (0, 2)],
         tally: (3, 3, 3),
         saved: [0, 0, 0],
+        told: &[b"OK 0\nOK 2\n", b"OK 1\n"],
     };
     serves(&rt, &turns, &inputs, &pages[..2], wanted);
     expect_that(&rt, !turns.met_limit());
-    expect_that(&rt, shows(&pages[0], b"OK 0\nOK 2\n"));
-    expect_that(&rt, shows(&pages[1], b"OK 1\n"));
 }
 
 #[test]
@@ -90,10 +98,9 @@ fn failed_accept_is_counted(rt: HostRuntime) {
         puts: &[(1, 0)],
         tally: (1, 1, 1),
         saved: [0, 0, 0],
+        told: &[b"", b"OK 0\nBYE\n"],
     };
     serves(&rt, &TestGate::open(rt), &inputs, &pages[..2], wanted);
-    expect_that(&rt, shows(&pages[0], b""));
-    expect_that(&rt, shows(&pages[1], b"OK 0\nBYE\n"));
 }
 
 /// Seat 1's page takes nothing: its first change is made, and its second line is not asked.
@@ -116,12 +123,10 @@ fn failed_writer_beside_others(rt: HostRuntime) {
         puts: &[(0, 0), (1, 2), (0, 4)],
         tally: (3, 3, 3),
         saved: [0, 0, 0],
+        told: &[b"OK 0\nOK 2\n", b"", b"PROBE 0 0 0\nBYE\n"],
     };
     serves(&rt, &turns, &inputs, &pages, wanted);
     expect_that(&rt, !turns.met_limit());
-    expect_that(&rt, shows(&pages[0], b"OK 0\nOK 2\n"));
-    expect_that(&rt, shows(&pages[1], b""));
-    expect_that(&rt, shows(&pages[2], b"PROBE 0 0 0\nBYE\n"));
 }
 
 // 3,000 bytes in one line, and a change after it
@@ -148,11 +153,9 @@ fn torn_and_long_lines_beside_others(rt: HostRuntime) {
         puts: &[(2, 4)],
         tally: (1, 1, 1),
         saved: [0, 0, 0],
+        told: &[b"", b"ERR 1 line\n", b"OK 0\nTALLY 0 1 1 1\nBYE\n"],
     };
     serves(&rt, &TestGate::open(rt), &inputs, &pages, wanted);
-    expect_that(&rt, shows(&pages[0], b""));
-    expect_that(&rt, shows(&pages[1], b"ERR 1 line\n"));
-    expect_that(&rt, shows(&pages[2], b"OK 0\nTALLY 0 1 1 1\nBYE\n"));
 }
 
 #[test]
@@ -169,9 +172,11 @@ fn each_session_saves_on_its_own_shelf(rt: HostRuntime) {
         puts: &[],
         tally: (0, 0, 0),
         saved: [2, 1, 0],
+        told: &[
+            b"SAVED 0 1558\nSAVED 0 1558\nBYE\n",
+            b"SAVED 0 1558\nBYE\n",
+            b"BYE\n",
+        ],
     };
     serves(&rt, &TestGate::open(rt), &inputs, &pages, wanted);
-    expect_that(&rt, shows(&pages[0], b"SAVED 0 1558\nSAVED 0 1558\nBYE\n"));
-    expect_that(&rt, shows(&pages[1], b"SAVED 0 1558\nBYE\n"));
-    expect_that(&rt, shows(&pages[2], b"BYE\n"));
 }

@@ -2,7 +2,7 @@
 
 use crate::expected::{expect_same, expect_that};
 use crate::open_and_serve::serve_sessions;
-use crate::small_labs::{no_puts, small_lab};
+use crate::small_labs::no_puts;
 use std::process::Abort;
 use std::sync::{Mutex, Wait};
 use std::thread::Threads;
@@ -29,9 +29,8 @@ fn serve_all<R: Threads + Wait + Clock + Sync + Abort + AllocGlobal>(
     let line: &[u8] = b"put 6 0 1 1\n";
     let inputs = [Some(line); SEATS];
     let mut lobby = Guests::new(&inputs, pages);
-    let lab = small_lab(rt.alloc()).expect(rt, "memory");
     let saved = no_puts();
-    let left = serve_sessions(rt, lab, gate, &mut lobby, &saved, SEATS, &[]).expect(rt, "memory");
+    let left = serve_sessions(rt, 64, gate, &mut lobby, &saved, SEATS, &[]).expect(rt, "memory");
     let of_seats = left.of_seats;
     (left.counts, of_seats, left.lab.tally)
 }

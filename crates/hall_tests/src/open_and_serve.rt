@@ -1,12 +1,11 @@
 //! Opens a hall, serves it and closes it.
 
-ghost use Rattle.std.specs.Prelude.{◌≡◌, ◌+◌, ◌<◌, ◌≤◌, [], IfSome, length, vec_len};
+ghost use Rattle.std.specs.Prelude.{◌≡◌, ◌+◌, ◌<◌, ◌≤◌, [], IfSome, vec_len};
 ghost use Rattle.gas_terms.specs.Cells.{extent};
 
-use crate::small_labs::{Seen, counters, look_at};
+use crate::small_labs::{Seen, counters, empty_lab, look_at};
 use gas_hall::{Hall, HallGate, HallName, HallSeat, Lobby, Served, serve};
-use gas_lab::{Lab, Serial, Stepper};
-use gas_snapshot::Shelf;
+use gas_lab::{Lab, Serial};
 use std::alloc::Global;
 use std::marker::Brand;
 use std::process::Abort;
@@ -14,108 +13,10 @@ use std::sync::Wait;
 use std::sync::atomic::AtomicU32;
 use std::sync::ledger::Blank;
 use std::thread::Threads;
+use test_types::faults::Counter;
 
-/// How many seats were served and how many were not, the entries that all made, those of the first four seats, and the
-/// laboratory.
-#[derive(Drop)]
-pub struct Closed<S: Stepper> {
-    pub counts: (u32, u32, u32),
-    pub of_seats: [u32; 4],
-    pub lab: Lab<S>,
-}
-
-fn first_counts<N: HallName>(seats: &[HallSeat<N>]) -> [u32; 4] {
-    let mut counts = [0; 4];
-    for (count, seat) in counts.iter_mut().zip(seats) {
-        *count = seat.entries();
-    }
-    counts
-}
-
-// Serves each seat, and closes the hall.
-fn serve_and_close<
-    N: HallName + Send + Sync,
-    S: Stepper + Send,
-    G: HallGate + Sync,
-    L: Lobby,
-    K: Shelf + Drop + Send,
-    R: Threads + Wait + Sync,
->(
-    rt: &R,
-    alloc: Global,
-    hall: Hall<N, S, G>,
-    seats: Vec<HallSeat<N>>,
-    lobby: &mut L,
-    shelves: Vec<K>,
-) -> Closed<S>
-    requires parts { N.parts ≡ vec_len shelves }
-    requires each { vec_len shelves ≡ vec_len seats }
-    requires seats { (0 < vec_len shelves) × (vec_len shelves ≤ 64) }
-    ensures count { result.counts.0 + result.counts.1 ≡ vec_len shelves }
-    ensures entries { length result.lab.journal ≡ result.counts.2 }
-{
-    let Served {
-        done,
-        failed,
-        entries,
-        seats,
-    } = serve(rt, alloc, lobby, &hall, seats, shelves);
-    let of_seats = first_counts(seats.as_slice());
-    Closed {
-        counts: (done, failed, entries),
-        of_seats,
-        lab: hall.close(seats),
-    }
-}
-
-fn serve_named<
-    N: HallName + Send + Sync,
-    S: Stepper + Send,
-    G: HallGate + Sync,
-    L: Lobby,
-    K: Shelf + Drop + Send,
-    R: Threads + Wait + Sync,
->(
-    rt: &R,
-    alloc: Global,
-    blank: Blank,
-    lab: Lab<S>,
-    gate: G,
-    lobby: &mut L,
-    shelves: Vec<K>,
-) -> Option<Closed<S>>
-    requires name { blank.name ≡ N.name }
-    requires parts { (blank.parts ≡ N.parts) × (blank.parts ≡ vec_len shelves) }
-    requires seats { (0 < vec_len shelves) × (vec_len shelves ≤ 64) }
-    requires lab { (extent lab.start.particles ≡ N.size) × (lab.cap ≡ N.cap) × (lab.journal ≡ []) }
-    ensures count { IfSome result (λ closed. closed.counts.0 + closed.counts.1 ≡ vec_len shelves) }
-    ensures entries { IfSome result (λ closed. length closed.lab.journal ≡ closed.counts.2) }
-{
-    let count = shelves.len() as u16;
-    let Ok((hall, seats)) = Hall::<N, S, G>::open(alloc, blank, lab, count, gate) else {
-        return None;
-    };
-    Some(serve_and_close(rt, alloc, hall, seats, lobby, shelves))
-}
-
-/// Serves as many seats as there are shelves on one laboratory.
-pub fn serve_lab<
-    S: Stepper + Send,
-    G: HallGate + Sync,
-    L: Lobby,
-    K: Shelf + Drop + Send,
-    R: Threads + Wait + Sync,
->(rt: &R, alloc: Global, lab: Lab<S>, gate: G, lobby: &mut L, shelves: Vec<K>) -> Option<Closed<S>>
-    requires lab { lab.journal ≡ [] }
-{
-    if shelves.is_empty() || shelves.len() > 64 {
-        return None;
-    }
-    let blank = Blank::new(shelves.len() as u64);
-    serve_named::<Brand, S, G, L, K, R>(rt, alloc, blank, lab, gate, lobby, shelves)
-}
-
-/// What is left of a hall: the counts of `Closed`, and what is seen of the laboratory.
+/// What is left of a hall: how many seats were served and how many were not, and the entries that all made; those of the first
+/// four seats; and what is seen of the laboratory.
 #[derive(Clone, Copy)]
 pub struct Left {
     pub counts: (u32, u32, u32),
@@ -123,28 +24,121 @@ pub struct Left {
     pub lab: Seen,
 }
 
-/// Serves so many sessions of the lobby, each with a shelf that counts, and looks for these puts. Serves nobody if memory runs
-/// out.
+fn first_counts<N: HallName>(seats: &[HallSeat<N>]) -> [u32; 4] {
+    [
+        entries_at(seats, 0),
+        entries_at(seats, 1),
+        entries_at(seats, 2),
+        entries_at(seats, 3),
+    ]
+}
+
+// The entries that the seat at this place made, if there is one.
+fn entries_at<N: HallName>(seats: &[HallSeat<N>], place: usize) -> u32 {
+    match seats.get(place) {
+        Some(seat) => seat.entries(),
+        None => 0,
+    }
+}
+
+// Serves each seat, closes the hall, and looks for these puts.
+fn serve_and_close<
+    N: HallName + Send + Sync,
+    G: HallGate + Sync,
+    L: Lobby,
+    R: Threads + Wait + Sync + Abort + AllocGlobal,
+>(
+    rt: &R,
+    hall: Hall<N, Serial, G>,
+    seats: Vec<HallSeat<N>>,
+    lobby: &mut L,
+    shelves: Vec<Counter<'_>>,
+    puts: &[(u16, u16)],
+) -> Left
+    requires parts { N.parts ≡ vec_len shelves }
+    requires each { vec_len shelves ≡ vec_len seats }
+    requires seats { (0 < vec_len shelves) × (vec_len shelves ≤ 64) }
+    ensures count { result.counts.0 + result.counts.1 ≡ vec_len shelves.entry }
+    ensures entries { result.lab.entries ≡ result.counts.2 }
+{
+    let Served {
+        done,
+        failed,
+        entries,
+        seats,
+    } = serve(rt, rt.alloc(), lobby, &hall, seats, shelves);
+    let of_seats = first_counts(seats.as_slice());
+    Left {
+        counts: (done, failed, entries),
+        of_seats,
+        lab: look_at(hall.close(seats), puts),
+    }
+}
+
+// The opened hall with its seats, if memory is not refused.
+fn open_hall<N: HallName, G: HallGate>(
+    alloc: Global,
+    blank: Blank,
+    lab: Lab<Serial>,
+    seats: u16,
+    gate: G,
+) -> Option<(Hall<N, Serial, G>, Vec<HallSeat<N>>)>
+    requires name { blank.name ≡ N.name }
+    requires parts { (blank.parts ≡ N.parts) × (blank.parts ≡ seats) }
+    requires some { 0 < seats }
+    requires lab { (extent lab.start.particles ≡ N.size) × (lab.cap ≡ N.cap) × (lab.journal ≡ []) }
+    ensures { IfSome result (λ r. vec_len r.1 ≡ seats) }
+{
+    match Hall::<N, Serial, G>::open(alloc, blank, lab, seats, gate) {
+        Ok(opened) => Some(opened),
+        Err(lab) => {
+            drop(lab);
+            None
+        }
+    }
+}
+
+fn serve_named<
+    N: HallName + Send + Sync,
+    G: HallGate + Sync,
+    L: Lobby,
+    R: Threads + Wait + Sync + Abort + AllocGlobal,
+>(
+    rt: &R,
+    blank: Blank,
+    lab: Lab<Serial>,
+    gate: G,
+    lobby: &mut L,
+    shelves: Vec<Counter<'_>>,
+    puts: &[(u16, u16)],
+) -> Option<Left>
+    requires name { blank.name ≡ N.name }
+    requires parts { (blank.parts ≡ N.parts) × (blank.parts ≡ vec_len shelves) }
+    requires seats { (0 < vec_len shelves) × (vec_len shelves ≤ 64) }
+    requires lab { (extent lab.start.particles ≡ N.size) × (lab.cap ≡ N.cap) × (lab.journal ≡ []) }
+{
+    let count = shelves.len() as u16;
+    let (hall, seats) = open_hall::<N, G>(rt.alloc(), blank, lab, count, gate)?;
+    Some(serve_and_close(rt, hall, seats, lobby, shelves, puts))
+}
+
+/// Serves so many sessions of the lobby, each with a shelf that counts, on an empty laboratory of this width, and looks for
+/// these puts. Serves nobody if memory runs out.
 pub fn serve_sessions<G: HallGate + Sync, L: Lobby, R: Threads + Wait + Sync + Abort + AllocGlobal>(
     rt: &R,
-    lab: Lab<Serial>,
+    width: u32,
     gate: G,
     lobby: &mut L,
     saved: &[AtomicU32],
     count: usize,
     puts: &[(u16, u16)],
-) -> Option<Left>
-    requires lab { lab.journal ≡ [] }
-{
-    let shelves = counters(rt.alloc(), saved, count).ok()?;
-    let Closed {
-        counts,
-        of_seats,
-        lab,
-    } = serve_lab(rt, rt.alloc(), lab, gate, lobby, shelves)?;
-    Some(Left {
-        counts,
-        of_seats,
-        lab: look_at(rt, lab, puts),
-    })
+) -> Option<Left> {
+    let shelves = counters(rt.alloc(), saved, count)?;
+    let seats = shelves.len();
+    if seats == 0 || seats > 64 {
+        return None;
+    }
+    let lab = empty_lab(rt.alloc(), width)?;
+    let blank = Blank::new(seats as u64);
+    serve_named::<Brand, G, L, R>(rt, blank, lab, gate, lobby, shelves, puts)
 }

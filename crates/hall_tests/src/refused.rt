@@ -10,8 +10,8 @@ use crate::open_and_serve::{Left, serve_sessions};
 use crate::small_labs::{look_at, no_puts, small_lab, summed, taken};
 use gas_hall::{Hall, HallGate, HallName, HallSeat};
 use gas_lab::{Lab, Serial};
-use gas_talk::{Copied, Door};
-use gas_terms::{Answer, Command, NoMemory, Rect, Refusal, Size};
+use gas_talk::Door;
+use gas_terms::{Answer, Command, Rect, Refusal, Size};
 use std::alloc::Global;
 use std::marker::Brand;
 use std::process::Abort;
@@ -33,7 +33,7 @@ pub fn one_particle(rt: &impl Abort, size: Size) -> Command
 }
 
 /// How many entries the reply to the first put tells of. It can only be refused for want of memory.
-pub fn made_by(rt: &impl Abort, reply: &Result<Answer, Refusal>) -> u32 {
+fn made_by(rt: &impl Abort, reply: &Result<Answer, Refusal>) -> u32 {
     match taken(reply) {
         Ok(k) => {
             expect_same(&rt, k, 0);
@@ -62,8 +62,8 @@ fn is_answered_or_wants_memory(reply: &Result<Answer, Refusal>) -> bool {
     }
 }
 
-fn copied_entries(copied: &Result<Copied, NoMemory>) -> Option<u32> {
-    match copied {
+fn copied_entries<D: Door>(door: &mut D) -> Option<u32> {
+    match door.copy_gas() {
         Ok(copied) => Some(copied.entries),
         Err(_) => None,
     }
@@ -77,29 +77,51 @@ fn put_one<D: Door>(rt: &impl Abort, door: &mut D) -> u32 {
     made
 }
 
-// Readings and a copy, likewise, of a gas with so many particles and entries.
-fn read_all<D: Door>(rt: &impl Abort, door: &mut D, made: u32) {
+// A row, likewise.
+fn read_row<D: Door>(rt: &impl Abort, door: &mut D) {
     let read = Command::Read(0);
-    expect_that(&rt, read.fits(door.size()));
-    expect_that(&rt, is_answered_or_wants_memory(&door.ask(read)));
+    expect_that(rt, read.fits(door.size()));
+    expect_that(rt, is_answered_or_wants_memory(&door.ask(read)));
+}
+
+// The sums, and a copy if memory is not refused, of a gas with so many particles and entries.
+fn count_all<D: Door>(rt: &impl Abort, door: &mut D, made: u32) {
     let all = made as i64;
-    expect_same(&rt, summed(rt, &door.ask(Command::Tally)), (all, all, all));
-    let copied = copied_entries(&door.copy_gas());
-    expect_that(&rt, copied.is_none() || copied == Some(made));
+    expect_same(rt, summed(rt, &door.ask(Command::Tally)), (all, all, all));
+    let copied = copied_entries(door);
+    expect_that(rt, copied.is_none() || copied == Some(made));
 }
 
 /// A put, readings and a copy, each answered or refused for want of memory. Tells how many entries there are.
 pub fn use_door<D: Door>(rt: &impl Abort, door: &mut D) -> u32 {
     let made = put_one(rt, door);
-    read_all(rt, door, made);
+    read_row(rt, door);
+    count_all(rt, door, made);
     made
 }
 
 /// No entry was made, and the gas is empty.
 pub fn is_untouched(rt: &impl Abort, back: Lab<Serial>) {
-    let seen = look_at(rt, back, &[]);
-    expect_same(&rt, seen.entries, 0);
-    expect_same(&rt, seen.tally, (0, 0, 0));
+    let seen = look_at(back, &[]);
+    expect_same(rt, (seen.entries, seen.tally), (0, (0, 0, 0)));
+}
+
+// The last seat uses its door. Tells how many entries it made.
+fn use_last<N: HallName, G: HallGate, R: Wait + Abort>(
+    rt: &R,
+    hall: &Hall<N, Serial, G>,
+    seats: &mut Vec<HallSeat<N>>,
+) -> u32 {
+    let Some(seat) = seats.pop() else {
+        panic!(rt; "no seats")
+    };
+    let mut door = hall.door(rt, seat);
+    let made = use_door(rt, &mut door);
+    let seat = door.end();
+    expect_same(rt, (seat.number(), seat.entries()), (1, made));
+    // there is room for the seat that was taken out
+    expect_that(rt, seats.push(seat).is_ok());
+    made
 }
 
 // The last seat uses its door, and then the hall is closed.
@@ -110,19 +132,14 @@ fn use_and_close<N: HallName, G: HallGate, R: Wait + Abort>(
 )
     requires { N.parts ≡ 2 }
 {
-    let Some(seat) = seats.pop() else {
-        panic!(rt; "no seats")
-    };
-    let mut door = hall.door(rt, seat);
-    let made = use_door(rt, &mut door);
-    let seat = door.end();
-    expect_same(&rt, (seat.number(), seat.entries()), (1, made));
-    // there is room for the seat that was taken out
-    expect_that(&rt, seats.push(seat).is_ok());
-    expect_that(&rt, seats.len() == 2);
-    let seen = look_at(rt, hall.close(seats), &[(1, 0)]);
-    expect_same(&rt, seen.are_puts, made == 1);
-    expect_same(&rt, seen.entries, made as usize);
+    let made = use_last(rt, &hall, &mut seats);
+    expect_that(rt, seats.len() == 2);
+    let seen = look_at(hall.close(seats), &[(1, 0)]);
+    expect_same(
+        rt,
+        (seen.are_puts, seen.entries),
+        (made == 1, made as usize),
+    );
 }
 
 fn open_and_use<N: HallName, R: Wait + Clock + Abort + Copy>(
@@ -158,9 +175,8 @@ fn serve_one<R: Threads + Wait + Clock + Sync + Abort + AllocGlobal + Copy>(
     let inputs = [Some(line)];
     let mut lobby = Guests::new(&inputs, page);
     let gate = TestGate::open(*rt);
-    let lab = small_lab(rt.alloc())?;
     let saved = no_puts();
-    serve_sessions(rt, lab, &gate, &mut lobby, &saved, 1, &[(0, 0)])
+    serve_sessions(rt, 64, &gate, &mut lobby, &saved, 1, &[(0, 0)])
 }
 
 // What the session was told, by the counts of its hall.

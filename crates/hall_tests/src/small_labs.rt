@@ -1,11 +1,11 @@
 //! The laboratories that tests start from, and what is seen of them.
 
-ghost use Rattle.std.specs.Prelude.{◌≡◌, [], IfSome};
+ghost use Rattle.std.specs.Prelude.{◌≡◌, [], IfSome, length};
 
 use gas_lab::{Answer, Gas, Lab, Serial};
 use gas_talk::Copied;
 use gas_terms::{Command, Entry, NoMemory, Refusal, Size, Sums};
-use std::alloc::{AllocError, Global};
+use std::alloc::Global;
 use std::process::Abort;
 use std::sync::atomic::{AtomicU32, Ordering};
 use test_types::faults::Counter;
@@ -31,14 +31,14 @@ pub fn counters<'a>(
     alloc: Global,
     puts: &'a [AtomicU32],
     count: usize,
-) -> Result<Vec<Counter<'a>>, AllocError> {
+) -> Option<Vec<Counter<'a>>> {
     let mut shelves = Vec::new(alloc);
     for i in 0..count {
-        if let Some(own) = puts.get(i).or_else(|| puts.last()) {
-            shelves.push(Counter::new(own))?;
+        if let Some(own) = puts.get(i).or(puts.last()) {
+            shelves.push(Counter::new(own)).ok()?;
         }
     }
-    Ok(shelves)
+    Some(shelves)
 }
 
 /// A place for each of three shelves to count in.
@@ -81,9 +81,10 @@ pub fn summed(rt: &impl Abort, reply: &Result<Answer, Refusal>) -> (i64, i64, i6
     }
 }
 
-/// What a laboratory answers to `tally`: count and momentum.
-pub fn tally(rt: &impl Abort, lab: &mut Lab<Serial>) -> (i64, i64, i64) {
-    summed(rt, &lab.apply(0, Command::Tally))
+// The count and momentum of a gas.
+fn tally(gas: &Gas) -> (i64, i64, i64) {
+    let Sums { count, px, py } = gas.particles().total(gas.tick().parity());
+    (count, px, py)
 }
 
 /// What is seen of a laboratory: count and momentum of its gas, how many entries its journal has, and whether they are the
@@ -96,26 +97,21 @@ pub struct Seen {
 }
 
 /// What is seen of this laboratory, with these puts looked for.
-pub fn look_at(rt: &impl Abort, lab: Lab<Serial>, puts: &[(u16, u16)]) -> Seen {
-    let mut lab = lab;
-    let entries = lab.journal().len();
-    let are_puts = are_puts(lab.journal(), puts);
+pub fn look_at(lab: Lab<Serial>, puts: &[(u16, u16)]) -> Seen
+    ensures { result.entries ≡ length lab.journal }
+{
+    let journal = lab.journal();
     Seen {
-        tally: tally(rt, &mut lab),
-        entries,
-        are_puts,
+        tally: tally(lab.gas()),
+        entries: journal.len(),
+        are_puts: are_puts(journal, puts),
     }
 }
 
 /// The sums of a copy's gas, and how many entries the journal had.
-pub fn sums_of(
-    rt: &impl Abort,
-    alloc: Global,
-    copied: Result<Copied, NoMemory>,
-) -> ((i64, i64, i64), u32) {
+pub fn sums_of(rt: &impl Abort, copied: Result<Copied, NoMemory>) -> ((i64, i64, i64), u32) {
     let Copied { gas, entries } = copied.expect(rt, "memory");
-    let mut again = Lab::open(alloc, gas, 1, Serial).expect(rt, "memory");
-    (tally(rt, &mut again), entries)
+    (tally(&gas), entries)
 }
 
 /// The index of the entry that an answer tells of, or why it was refused.

@@ -2,9 +2,9 @@
 
 use crate::expected::{expect_same, expect_that};
 use crate::open_and_serve::serve_sessions;
-use crate::small_labs::{empty_lab, no_puts};
+use crate::small_labs::no_puts;
 use gas_hall::TcpLobby;
-use std::alloc::Global;
+use std::alloc::{AllocError, Global};
 use std::io::{ErrorKind, Read, Write};
 use std::net::{Net, SocketAddr, TcpListener, TcpStream};
 use std::process::Abort;
@@ -23,12 +23,20 @@ fn serve_some<R: Threads + Wait + Clock + Sync + Abort + AllocGlobal + Copy>(
     width: u32,
 ) -> Option<((u32, u32, u32), [u32; 4])> {
     let mut lobby = TcpLobby::over(listener);
-    let lab = empty_lab(rt.alloc(), width)?;
     let gate = TestGate::open(*rt);
     let saved = no_puts();
-    let left = serve_sessions(rt, lab, &gate, &mut lobby, &saved, seats, &[])?;
+    let left = serve_sessions(rt, width, &gate, &mut lobby, &saved, seats, &[])?;
     let of_seats = left.of_seats;
     Some((left.counts, of_seats))
+}
+
+// A listener at a free port, and its address.
+fn listen<R: Net<Stream = TcpStream, Listener = TcpListener> + Abort>(
+    rt: &R,
+) -> (TcpListener, SocketAddr) {
+    let listener = TcpListener::bind(rt, "127.0.0.1:0").expect(rt, "a listener");
+    let addr = listener.local_addr().expect(rt, "an address");
+    (listener, addr)
 }
 
 // What the server wrote to this input until it closed the connection.
@@ -45,19 +53,14 @@ fn talk_to<R: Net<Stream = TcpStream>>(
     Ok(replies)
 }
 
-#[test]
-fn serve_over_a_socket(rt: HostRuntime) {
-    let listener = TcpListener::bind(&rt, "127.0.0.1:0").expect(&rt, "a listener");
-    let addr = listener.local_addr().expect(&rt, "an address");
-    let alloc = rt.alloc();
-    let (served, replies) = thread::join(
-        &rt,
-        || serve_some(&rt, listener, 1, 64),
-        || talk_to(&rt, alloc, addr, b"put 0 0 1 1\nquit\n"),
-    );
-    expect_same(&rt, served, Some(((1, 0, 1), [1, 0, 0, 0])));
-    let replies = replies.expect(&rt, "replies");
-    expect_same(&rt, replies.as_slice(), b"OK 0\nBYE\n".as_slice());
+// Sends two lines at once. Tells whether both replies come in less than 10 milliseconds.
+fn is_answered_at_once<R: Clock>(rt: &R, stream: &mut TcpStream) -> io::Result<bool> {
+    let start = Instant::now(rt)?;
+    let mut replies = [0; 28];
+    stream.write_all(b"tally\ntally\n")?;
+    stream.read_exact(&mut replies)?;
+    let soon = start.elapsed(rt)? < Duration::from_millis(10);
+    Ok(soon && replies == *b"TALLY 0 0 0 0\nTALLY 0 0 0 0\n")
 }
 
 // Sends two lines at once, twenty times. Tells how many times both replies came in less than 10 milliseconds.
@@ -68,12 +71,7 @@ fn answered_at_once<R: Net<Stream = TcpStream> + Clock>(
     let mut stream = TcpStream::connect(rt, addr)?;
     let mut at_once = 0u32;
     for _ in 0..20u32 {
-        let start = Instant::now(rt)?;
-        let mut replies = [0; 28];
-        stream.write_all(b"tally\ntally\n")?;
-        stream.read_exact(&mut replies)?;
-        let soon = start.elapsed(rt)? < Duration::from_millis(10);
-        if soon && replies == *b"TALLY 0 0 0 0\nTALLY 0 0 0 0\n" {
+        if is_answered_at_once(rt, &mut stream)? {
             at_once = at_once.saturating_add(1);
         }
     }
@@ -83,8 +81,7 @@ fn answered_at_once<R: Net<Stream = TcpStream> + Clock>(
 /// The second of two replies doesn't wait until the client has acknowledged the first: more than half of twenty come at once.
 #[test]
 fn two_lines_in_one_packet_are_answered_at_once(rt: HostRuntime) {
-    let listener = TcpListener::bind(&rt, "127.0.0.1:0").expect(&rt, "a listener");
-    let addr = listener.local_addr().expect(&rt, "an address");
+    let (listener, addr) = listen(&rt);
     let (served, at_once) = thread::join(
         &rt,
         || serve_some(&rt, listener, 1, 64),
@@ -104,26 +101,34 @@ fn hang_up<R: Net<Stream = TcpStream>>(rt: &R, addr: SocketAddr) -> io::Result<[
     Ok(reply)
 }
 
-// Makes a change, and sends a line of 3,000 bytes and another change after it. The connection may be reset once the
-// replies are there.
+// A change, a line of 3,000 bytes, and another change.
+fn long_lines(alloc: Global) -> Result<Vec<u8>, AllocError> {
+    let mut lines = Vec::new(alloc);
+    lines.extend_from_slice(b"put 2 0 1 1\n")?;
+    lines.extend_from_slice(&[b'x'; 3000])?;
+    lines.extend_from_slice(b"\nput 3 0 1 1\n")?;
+    Ok(lines)
+}
+
+// What the server writes until it closes the connection, which may be reset once the replies are there.
+fn read_until_reset(alloc: Global, stream: &mut TcpStream) -> io::Result<Vec<u8>> {
+    let mut replies = Vec::new(alloc);
+    match stream.read_to_end(&mut replies) {
+        Err(e) if e.kind() != ErrorKind::ConnectionReset => Err(e),
+        _ => Ok(replies),
+    }
+}
+
+// Makes a change, and sends a line of 3,000 bytes and another change after it.
 fn ramble<R: Net<Stream = TcpStream>>(
     rt: &R,
     alloc: Global,
     addr: SocketAddr,
 ) -> io::Result<Vec<u8>> {
-    let mut input = vec![in alloc; b'x'; 3012]?;
-    for (place, byte) in input.iter_mut().zip(b"put 2 0 1 1\n") {
-        *place = *byte;
-    }
-    input.extend_from_slice(b"\nput 3 0 1 1\n")?;
+    let lines = long_lines(alloc)?;
     let mut stream = TcpStream::connect(rt, addr)?;
-    stream.write_all(input.as_slice())?;
-    let mut replies = Vec::new(alloc);
-    match stream.read_to_end(&mut replies) {
-        Ok(_) => Ok(replies),
-        Err(e) if e.kind() == ErrorKind::ConnectionReset => Ok(replies),
-        Err(e) => Err(e),
-    }
+    stream.write_all(lines.as_slice())?;
+    read_until_reset(alloc, &mut stream)
 }
 
 // Sends lines with long replies, which it doesn't read, until a write has waited for a second: the server reads no more,
@@ -180,9 +185,7 @@ fn wanted(rt: &(impl Abort + AllocGlobal)) -> Vec<u8> {
             b"OK 2\nOK 3\nOK 4\nTALLY 1 4 4 4\nLEDGER 0 4 0 0 4 0 0 0 0 4 0 0 0\nROW 55",
         )
         .expect(rt, "memory");
-    for _ in 0..1022u32 {
-        wanted.push(b'0').expect(rt, "memory");
-    }
+    wanted.extend_from_slice(&[b'0'; 1022]).expect(rt, "memory");
     wanted
         .extend_from_slice(
             b"\nENTRY 0 put 0 0 1 1\nENTRY 1 put 2 0 1 1\nENTRY 3 put 6 0 1 1\nBYE\n",
@@ -192,22 +195,21 @@ fn wanted(rt: &(impl Abort + AllocGlobal)) -> Vec<u8> {
 }
 
 fn hears(rt: &(impl Abort + AllocGlobal), heard: &Heard) {
-    expect_same(&rt, heard.first, *b"OK 0\n");
+    expect_same(rt, heard.first, *b"OK 0\n");
     expect_same(
-        &rt,
+        rt,
         heard.second.as_slice(),
         b"OK 1\nERR 1 line\n".as_slice(),
     );
-    expect_that(&rt, heard.waited);
-    expect_same(&rt, heard.last.as_slice(), wanted(rt).as_slice());
+    expect_that(rt, heard.waited);
+    expect_same(rt, heard.last.as_slice(), wanted(rt).as_slice());
 }
 
 /// One client hangs up in the middle of a line, one sends a line that is too long, and one never reads. All four
 /// particles move right and down.
 #[test]
 fn clients_that_misbehave_beside_another(rt: HostRuntime) {
-    let listener = TcpListener::bind(&rt, "127.0.0.1:0").expect(&rt, "a listener");
-    let addr = listener.local_addr().expect(&rt, "an address");
+    let (listener, addr) = listen(&rt);
     let alloc = rt.alloc();
     let (served, heard) = thread::join(
         &rt,

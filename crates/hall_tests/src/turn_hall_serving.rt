@@ -15,7 +15,7 @@ use test_types::stage::{Speakers, Speech, Stage, Text, interleaved};
 
 /// What became of the seats: how many were served and how many not, and the entries of all; the entries of each, and how
 /// often each saved.
-#[derive(Clone, Copy, Debug, PartialEq, Eq)]
+#[derive(Clone, Copy, PartialEq)]
 struct Outcome {
     counts: (u32, u32, u32),
     of_seats: [u32; 3],
@@ -31,8 +31,8 @@ fn counts_of(seats: &[TurnSeat<Serial>]) -> [u32; 3] {
     counts
 }
 
-// A hall with so many seats over an empty laboratory of 64 by 64.
-fn open_hall(
+/// A hall with so many seats over an empty laboratory of 64 by 64.
+pub fn open_hall(
     rt: &(impl Abort + AllocGlobal),
     seats: u16,
 ) -> (TurnHall<Serial>, Vec<TurnSeat<Serial>>)
@@ -54,9 +54,10 @@ pub fn serve_in_turn<L: Lobby, R: Threads + Wait + Sync + Abort + AllocGlobal>(
     lobby: &mut L,
     shelves: Vec<Counter<'_>>,
 ) -> ((u32, u32, u32), [u32; 3]) {
-    expect_that(&rt, !shelves.is_empty());
-    expect_that(&rt, shelves.len() <= 3);
-    let (hall, seats) = open_hall(rt, shelves.len() as u16);
+    let count = shelves.len();
+    expect_that(rt, count > 0);
+    expect_that(rt, count <= 3);
+    let (hall, seats) = open_hall(rt, count as u16);
     let Served {
         done,
         failed,

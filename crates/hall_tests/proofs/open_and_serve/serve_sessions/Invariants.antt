@@ -1,5 +1,5 @@
 use Rattle.gas_terms.specs.Cells.{extent}
-use Rattle.hall_tests.proofs.open_and_serve.serve_lab.Given as goal
+use Rattle.hall_tests.proofs.open_and_serve.serve_sessions.Given as goal
 
 abbrev pub ghosts-serve_named-N-Ledger : goal.ghosts-serve_named-N-Ledger
 ghosts-serve_named-N-Ledger g a = record { name = a.blank.name; parts = a.blank.parts }
