@@ -38,6 +38,17 @@ fn sit_down<N: HallName, S: Stepper, G: HallGate, R: Wait>(
     (door.end(), end)
 }
 
+// What a copy through the seat's door holds.
+fn copy_through<N: HallName, G: HallGate, R: Wait + Abort>(
+    rt: &R,
+    hall: &Hall<N, Serial, G>,
+    seat: HallSeat<N>,
+) -> (HallSeat<N>, ((i64, i64, i64), u32)) {
+    let mut door = hall.door(rt, seat);
+    let held = sums_of(rt, door.copy_gas());
+    (door.end(), held)
+}
+
 // Seat 0 puts into columns 0 and 2, and seat 1 between the two into column 4.
 fn take_turns<
     N: HallName + Send + Sync,
@@ -54,8 +65,8 @@ fn take_turns<
     };
     expect_same(rt, (first.number(), second.number()), (0, 1));
     let (one, two) = put_by_turns(rt, alloc, hall, first, second);
-    come_back(rt, &mut seats, one, 2);
-    come_back(rt, &mut seats, two, 1);
+    come_back(rt, hall, &mut seats, one, (0, 2));
+    come_back(rt, hall, &mut seats, two, (1, 1));
     seats
 }
 
@@ -90,15 +101,20 @@ fn put_by_turns<
     back
 }
 
-// The seat has made so many entries, its session ended with its input, and it is with the others again.
-fn come_back<N: HallName>(
-    rt: &impl Abort,
+// The session ended with its input, the seat has this number and so many entries, and its copy holds the three puts. It is
+// with the others again.
+fn come_back<N: HallName, G: HallGate, R: Wait + Abort>(
+    rt: &R,
+    hall: &Hall<N, Serial, G>,
     seats: &mut Vec<HallSeat<N>>,
     back: (HallSeat<N>, SessionEnd),
-    entries: u32,
+    wanted: (u16, u32),
 ) {
     let (seat, end) = back;
-    expect_same(rt, (end, seat.entries()), (SessionEnd::InputEnd, entries));
+    expect_same(rt, end, SessionEnd::InputEnd);
+    expect_same(rt, (seat.number(), seat.entries()), wanted);
+    let (seat, held) = copy_through(rt, hall, seat);
+    expect_same(rt, held, ((3, 3, 3), 3));
     expect_that(rt, seats.push(seat).is_ok());
 }
 
@@ -130,10 +146,11 @@ fn close_two<N: HallName, G: HallGate>(
 {
     expect_that(rt, seats.len() == 2);
     let seen = look_at(hall.close(seats), &[(0, 0), (1, 4), (0, 2)]);
-    expect_same(rt, (seen.tally, seen.are_puts), ((3, 3, 3), true));
+    expect_same(rt, seen.tally, (3, 3, 3));
+    expect_that(rt, seen.are_puts);
 }
 
-// The sessions, a copy afterwards, and the laboratory at the end.
+// The sessions, and the laboratory at the end.
 fn both<N: HallName + Send + Sync, R: Threads + Wait + Clock + Abort + Sync + Copy + Send>(
     rt: &R,
     alloc: Global,
@@ -146,36 +163,9 @@ fn both<N: HallName + Send + Sync, R: Threads + Wait + Clock + Abort + Sync + Co
 {
     let turns = TestGate::turns(*rt);
     let (hall, seats) = open_two::<N, R>(rt, alloc, blank, lab, &turns);
-    let mut seats = take_turns(rt, alloc, &hall, seats);
+    let seats = take_turns(rt, alloc, &hall, seats);
     expect_that(rt, !turns.met_limit());
-    copy_after(rt, &hall, &mut seats);
     close_two(rt, hall, seats);
-}
-
-// What a copy through the seat's door holds.
-fn copy_through<N: HallName, G: HallGate, R: Wait + Abort>(
-    rt: &R,
-    hall: &Hall<N, Serial, G>,
-    seat: HallSeat<N>,
-) -> (HallSeat<N>, ((i64, i64, i64), u32)) {
-    let mut door = hall.door(rt, seat);
-    let held = sums_of(rt, door.copy_gas());
-    (door.end(), held)
-}
-
-// The last seat's copy holds the sessions' puts.
-fn copy_after<N: HallName, G: HallGate, R: Wait + Abort>(
-    rt: &R,
-    hall: &Hall<N, Serial, G>,
-    seats: &mut Vec<HallSeat<N>>,
-) {
-    let Some(seat) = seats.pop() else {
-        panic!(rt; "no seats")
-    };
-    expect_same(rt, (seat.number(), seat.entries()), (1, 1));
-    let (seat, held) = copy_through(rt, hall, seat);
-    expect_same(rt, held, ((3, 3, 3), 3));
-    expect_that(rt, seats.push(seat).is_ok());
 }
 
 // What a door's copy holds that is made between two changes of a session.
@@ -226,7 +216,7 @@ fn copy_between<
     copied
 }
 
-/// A copy after them and the laboratory of the closed hall hold their three puts.
+/// The copies after them and the laboratory of the closed hall hold their three puts.
 #[test]
 fn two_sessions_take_turns(rt: HostRuntime) {
     let lab = small_lab(rt.alloc()).expect(&rt, "memory");
