@@ -56,13 +56,6 @@ fn teaches(
     }
 }
 
-#[test]
-fn plan_of_words(rt: HostRuntime) {
-    plans(&rt, &["gaslab", "run"], [64, 64, 1024]);
-    teaches(&rt, &["gaslab", "run", "--width", "65"], &["--width"]);
-    teaches(&rt, &["gaslab", "run", "--cap", "0"], &["--cap"]);
-}
-
 const NO_SIDES: [&str; 16] = [
     "0",
     "1",
@@ -82,46 +75,107 @@ const NO_SIDES: [&str; 16] = [
     "0x40",
 ];
 
+const WIDTH: [&str; 5] = [
+    "--width",
+    "multiple of 64",
+    "from 64 to 4096",
+    "is 64",
+    "--width 256",
+];
+
+const HEIGHT: [&str; 5] = [
+    "--height",
+    "multiple of 64",
+    "from 64 to 4096",
+    "is 64",
+    "--height 128",
+];
+
 const NO_CAPACITIES: [&str; 7] = ["0", "65537", "4294967296", "4294967297", "x", "", "1e3"];
 
-const WITH_VALUES: [&str; 5] = ["--width", "--height", "--cap", "--load", "--save"];
+const CAPACITY: [&str; 4] = ["--cap", "from 1 to 65536", "is 1024", "--cap 5000"];
 
-// an option of run with this value
-fn with<'a>(option: &'a str, value: &'a str) -> [&'a str; 4] {
-    ["gaslab", "run", option, value]
-}
+const WORKERS: [&str; 4] = ["--workers", "from 1 to 16", "is 1", "--workers 4"];
 
-fn refuses_sides(rt: &(impl Abort + AllocGlobal + Threads + Copy + Drop)) {
-    for side in NO_SIDES {
-        teaches(rt, &with("--width", side), &["--width"]);
-        teaches(rt, &with("--height", side), &["--height"]);
+const OPTIONS_OF_RUN: [&str; 5] = ["--width", "--height", "--cap", "--load", "--save"];
+
+const NO_SESSIONS: [&str; 6] = ["0", "65", "256", "4294967297", "x", ""];
+
+const SESSIONS: [&str; 4] = ["--sessions", "from 1 to 64", "is 1", "--sessions 2"];
+
+const NO_ADDRESSES: [&str; 6] = [
+    "127.0.0.1",
+    "7878",
+    "localhost:7878",
+    "127.0.0.1:65536",
+    "127.0.0.256:1",
+    "",
+];
+
+const LISTEN: [&str; 4] = [
+    "--listen",
+    "IP address and port",
+    "is 127.0.0.1:0",
+    "--listen 127.0.0.1:7878",
+];
+
+// each of these values of the option is refused, and the text has all these parts
+fn refuses(
+    rt: &(impl Abort + AllocGlobal + Threads + Copy + Drop),
+    command: &str,
+    option: &str,
+    values: &[&str],
+    parts: &[&str],
+) {
+    for value in values {
+        teaches(rt, &["gaslab", command, option, *value], parts);
     }
 }
 
-fn refuses_capacities(rt: &(impl Abort + AllocGlobal + Threads + Copy + Drop)) {
-    for cap in NO_CAPACITIES {
-        teaches(rt, &with("--cap", cap), &["--cap"]);
-    }
-}
-
-fn refuses_no_value(rt: &(impl Abort + AllocGlobal + Threads + Copy + Drop)) {
-    for option in WITH_VALUES {
-        teaches(rt, &["gaslab", "run", option], &[option]);
+// each of these options is refused without a value
+fn refuses_alone(
+    rt: &(impl Abort + AllocGlobal + Threads + Copy + Drop),
+    command: &str,
+    options: &[&str],
+) {
+    for option in options {
+        teaches(rt, &["gaslab", command, *option], &[*option]);
     }
 }
 
 #[test]
+fn values_beyond_the_limits_teach(rt: HostRuntime) {
+    refuses(&rt, "run", "--width", &NO_SIDES, &WIDTH);
+    refuses(&rt, "run", "--height", &NO_SIDES, &HEIGHT);
+    refuses(&rt, "run", "--cap", &NO_CAPACITIES, &CAPACITY);
+    refuses(&rt, "run", "--workers", &["0", "17", "256"], &WORKERS);
+    refuses(&rt, "serve", "--sessions", &NO_SESSIONS, &SESSIONS);
+    refuses(&rt, "serve", "--listen", &NO_ADDRESSES, &LISTEN);
+    refuses(&rt, "serve", "--width", &["65"], &WIDTH);
+    refuses_alone(&rt, "run", &OPTIONS_OF_RUN);
+    refuses_alone(&rt, "serve", &["--listen", "--sessions"]);
+}
+
+// the option of a run is read as this width, height and capacity
+fn plans_with(
+    rt: &(impl Abort + AllocGlobal + Threads + Copy + Drop),
+    option: &str,
+    value: &str,
+    wanted: [u32; 3],
+) {
+    plans(rt, &["gaslab", "run", option, value], wanted);
+}
+
+#[test]
 fn limits_of_options(rt: HostRuntime) {
-    plans(&rt, &with("--width", "128"), [128, 64, 1024]);
-    plans(&rt, &with("--width", "4096"), [4096, 64, 1024]);
+    plans(&rt, &["gaslab", "run"], [64, 64, 1024]);
     plans(&rt, &["gaslab", "run", "--width=64"], [64, 64, 1024]);
-    plans(&rt, &with("--height", "4096"), [64, 4096, 1024]);
-    plans(&rt, &with("--height", "192"), [64, 192, 1024]);
-    plans(&rt, &with("--cap", "1"), [64, 64, 1]);
-    plans(&rt, &with("--cap", "65536"), [64, 64, 65536]);
-    refuses_sides(&rt);
-    refuses_capacities(&rt);
-    refuses_no_value(&rt);
+    plans_with(&rt, "--width", "128", [128, 64, 1024]);
+    plans_with(&rt, "--width", "4096", [4096, 64, 1024]);
+    plans_with(&rt, "--height", "4096", [64, 4096, 1024]);
+    plans_with(&rt, "--height", "192", [64, 192, 1024]);
+    plans_with(&rt, "--cap", "1", [64, 64, 1]);
+    plans_with(&rt, "--cap", "65536", [64, 64, 65536]);
 }
 
 #[test]
@@ -170,26 +224,16 @@ fn workers_of(rt: &(impl Abort + AllocGlobal), words: &[&str]) -> u8 {
     planned(rt, words).setup.workers
 }
 
+// how many workers a run with this value has
+fn workers_with(rt: &(impl Abort + AllocGlobal), value: &str) -> u8 {
+    workers_of(rt, &["gaslab", "run", "--workers", value])
+}
+
 #[test]
 fn limits_of_workers(rt: HostRuntime) {
     expect_same(&rt, workers_of(&rt, &["gaslab", "run"]), 1);
-    expect_same(
-        &rt,
-        workers_of(&rt, &["gaslab", "run", "--workers", "1"]),
-        1,
-    );
-    expect_same(
-        &rt,
-        workers_of(&rt, &["gaslab", "run", "--workers", "16"]),
-        16,
-    );
-    for n in ["0", "17", "256"] {
-        teaches(
-            &rt,
-            &["gaslab", "run", "--workers", n],
-            &["--workers", "from 1 to 16", "is 1", "--workers 4"],
-        );
-    }
+    expect_same(&rt, workers_with(&rt, "1"), 1);
+    expect_same(&rt, workers_with(&rt, "16"), 16);
 }
 
 #[test]
@@ -249,40 +293,6 @@ fn plan_of_a_server(rt: HostRuntime) {
 }
 
 #[test]
-fn limits_of_a_server(rt: HostRuntime) {
-    for n in ["0", "65", "256", "4294967297", "x", ""] {
-        teaches(
-            &rt,
-            &["gaslab", "serve", "--sessions", n],
-            &["--sessions", "from 1 to 64", "is 1", "--sessions 2"],
-        );
-    }
-    for address in [
-        "127.0.0.1",
-        "7878",
-        "localhost:7878",
-        "127.0.0.1:65536",
-        "127.0.0.256:1",
-        "",
-    ] {
-        teaches(
-            &rt,
-            &["gaslab", "serve", "--listen", address],
-            &[
-                "--listen",
-                "IP address and port",
-                "is 127.0.0.1:0",
-                "--listen 127.0.0.1:7878",
-            ],
-        );
-    }
-    teaches(&rt, &["gaslab", "serve", "--width", "65"], &["--width"]);
-    for option in ["--listen", "--sessions"] {
-        teaches(&rt, &["gaslab", "serve", option], &[option]);
-    }
-}
-
-#[test]
 fn help_of_a_server_teaches(rt: HostRuntime) {
     teaches(
         &rt,
@@ -305,39 +315,6 @@ fn help_of_a_server_teaches(rt: HostRuntime) {
         ],
     );
     teaches(&rt, &["gaslab", "--help"], &["run", "serve"]);
-}
-
-#[test]
-fn faults_teach(rt: HostRuntime) {
-    for side in ["65", "0", "4160"] {
-        teaches(
-            &rt,
-            &["gaslab", "run", "--width", side],
-            &[
-                "--width",
-                "multiple of 64",
-                "from 64 to 4096",
-                "is 64",
-                "--width 256",
-            ],
-        );
-        teaches(
-            &rt,
-            &["gaslab", "run", "--height", side],
-            &[
-                "--height",
-                "multiple of 64",
-                "from 64 to 4096",
-                "is 64",
-                "--height 128",
-            ],
-        );
-    }
-    teaches(
-        &rt,
-        &["gaslab", "run", "--cap", "0"],
-        &["--cap", "from 1 to 65536", "is 1024", "--cap 5000"],
-    );
 }
 
 #[test]
@@ -382,15 +359,13 @@ fn help_teaches(rt: HostRuntime) {
 
 #[test]
 fn numbers_of_statuses(rt: HostRuntime) {
-    let statuses = [
-        (Status::Done, 0),
-        (Status::Failed, 1),
-        (Status::NoPlan, 2),
-        (Status::NotLoaded, 3),
-        (Status::NoMemory, 4),
-        (Status::BadLine, 5),
+    let numbers = [
+        Status::Done.number(),
+        Status::Failed.number(),
+        Status::NoPlan.number(),
+        Status::NotLoaded.number(),
+        Status::NoMemory.number(),
+        Status::BadLine.number(),
     ];
-    for (status, number) in statuses {
-        expect_same(&rt, status.number(), number);
-    }
+    expect_same(&rt, numbers, [0, 1, 2, 3, 4, 5]);
 }

@@ -1,7 +1,7 @@
 //! Readers, writers and shelves that fail at one of their calls. What was done and written before stays.
 
 use crate::expected::expect_same;
-use crate::script::{ALL, SMALL, lines, status_on};
+use crate::script::{ALL, SMALL, gives_with, lines, status_on};
 use gas_lab::{Gas, Lab};
 use gas_snapshot::Shelf;
 use gas_talk::{SessionEnd, serve_alone};
@@ -406,16 +406,13 @@ fn puts(
     failures: u64,
     kept: usize,
 ) {
-    let input = lines(rt, input);
-    let output = lines(rt, output);
-    let mut feed = Feed::new(input.as_slice(), ALL, FaultAt::never());
-    let mut sink = Sink::new(rt.alloc(), ALL, ALL, FaultAt::never());
     let mut store = Store::new(rt.alloc(), FaultAt::after(calls));
-    let status = status_on(rt, SMALL, None, &mut feed, &mut sink, &mut store);
-    expect_same(&rt, status, 0);
-    expect_same(&rt, sink.taken(), output.as_slice());
-    expect_same(&rt, store.failures(), failures);
-    expect_same(&rt, store.kept().len(), kept);
+    gives_with(rt, SMALL, None, &mut store, input, output);
+    expect_same(
+        &rt,
+        (store.failures(), store.kept().len()),
+        (failures, kept),
+    );
 }
 
 #[test]

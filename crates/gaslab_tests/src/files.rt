@@ -2,7 +2,7 @@
 
 use crate::expected::{expect_same, expect_that};
 use crate::loads::written_now;
-use crate::script::{ALL, Room, SMALL, lines, status_on};
+use crate::script::{Room, SMALL, gives_with};
 use crate::snapshots::goes_on;
 use gas_ledger::Gas;
 use gas_snapshot::{FileShelf, MaybeShelf, Shelf, encode};
@@ -11,7 +11,6 @@ use std::process::Abort;
 use std::rt::Files as HasFiles;
 use std::thread::Threads;
 use std::{fs, process};
-use test_types::faults::{FaultAt, Feed, Sink};
 
 /// A shelf that is a file, or none: all shelves of files here are of this type.
 pub type Files<R> = MaybeShelf<FileShelf<R>>;
@@ -80,13 +79,8 @@ fn runs_in(
     script: &str,
     output: &str,
 ) {
-    let input = lines(rt, script);
-    let mut feed = Feed::new(input.as_slice(), ALL, FaultAt::never());
-    let mut sink = Sink::new(rt.alloc(), ALL, ALL, FaultAt::never());
     let mut shelf = file_of(rt, folder, 0);
-    let status = status_on(rt, room, start, &mut feed, &mut sink, &mut shelf);
-    expect_same(&rt, status, 0);
-    expect_same(&rt, sink.taken(), lines(rt, output).as_slice());
+    gives_with(rt, room, start, &mut shelf, script, output);
 }
 
 /// What `--load` and `--save` ask of a run: it starts from the gas of a file, which has the size, and saves into the file. The

@@ -3,6 +3,7 @@
 use crate::expected::{expect_same, expect_that};
 use crate::script::{ALL, Room, SMALL, answers, gives, lines, status_on};
 use std::process::Abort;
+use std::thread::Threads;
 use test_types::faults::{FaultAt, Feed, Sink, Store};
 
 const REFUSED: &str =
@@ -13,12 +14,12 @@ const REFUSALS: &str =
 
 #[test]
 fn empty_input(rt: HostRuntime) {
-    answers(&rt, SMALL, None, b"", ALL, b"", 0);
+    answers(&rt, SMALL, b"", ALL, b"", 0);
 }
 
 #[test]
 fn torn_last_line(rt: HostRuntime) {
-    answers(&rt, SMALL, None, b"put 0 0 1 1", ALL, b"", 0);
+    answers(&rt, SMALL, b"put 0 0 1 1", ALL, b"", 0);
 }
 
 #[test]
@@ -31,15 +32,7 @@ fn any_cut_of_the_input(rt: HostRuntime) {
     let input = lines(&rt, REFUSED);
     let output = lines(&rt, REFUSALS);
     for step in [1, 7, 4096] {
-        answers(
-            &rt,
-            SMALL,
-            None,
-            input.as_slice(),
-            step,
-            output.as_slice(),
-            0,
-        );
+        answers(&rt, SMALL, input.as_slice(), step, output.as_slice(), 0);
     }
 }
 
@@ -59,7 +52,7 @@ fn order_of_refusals(rt: HostRuntime) {
         "tally x; probe 0 0 1 -1; probe 0 0 0 1; source 0 0 65 1 0; row 64 zz; step 4294967296; entry 65536; +tally",
         "ERR 3 count; ERR 4 number; ERR 5 rect; ERR 5 rect; ERR 5 rect; ERR 4 number; ERR 9 entry; ERR 2 word",
     );
-    answers(&rt, SMALL, None, b"tally\r\r\n", ALL, b"ERR 2 word\n", 0);
+    answers(&rt, SMALL, b"tally\r\r\n", ALL, b"ERR 2 word\n", 0);
 }
 
 fn push_all(rt: &impl Abort, bytes: &mut Vec<u8>, byte: u8, count: u32) {
@@ -85,7 +78,7 @@ fn widest_lattice(rt: HostRuntime) {
         width: 4096,
         ..SMALL
     };
-    answers(&rt, room, None, input.as_slice(), ALL, output.as_slice(), 0);
+    answers(&rt, room, input.as_slice(), ALL, output.as_slice(), 0);
 }
 
 // a line of 2,049 bytes, with a newline or without; and `tally` with spaces and a carriage return, of 2,048 bytes
@@ -93,37 +86,18 @@ fn widest_lattice(rt: HostRuntime) {
 fn too_long_line(rt: HostRuntime) {
     let mut long = Vec::new(rt.alloc());
     push_all(&rt, &mut long, b'x', 2049);
-    answers(&rt, SMALL, None, long.as_slice(), ALL, b"ERR 1 line\n", 5);
+    answers(&rt, SMALL, long.as_slice(), ALL, b"ERR 1 line\n", 5);
     long.extend_from_slice(b"\ntally\n").expect(&rt, "memory");
-    answers(&rt, SMALL, None, long.as_slice(), ALL, b"ERR 1 line\n", 5);
+    answers(&rt, SMALL, long.as_slice(), ALL, b"ERR 1 line\n", 5);
     let mut fits = Vec::from_slice(rt.alloc(), b"tally").expect(&rt, "memory");
     push_all(&rt, &mut fits, b' ', 2042);
     fits.extend_from_slice(b"\r\n").expect(&rt, "memory");
-    answers(
-        &rt,
-        SMALL,
-        None,
-        fits.as_slice(),
-        ALL,
-        b"TALLY 0 0 0 0\n",
-        0,
-    );
+    answers(&rt, SMALL, fits.as_slice(), ALL, b"TALLY 0 0 0 0\n", 0);
 }
 
 #[test]
 fn not_utf8_line(rt: HostRuntime) {
-    answers(&rt, SMALL, None, b"\xff\ntally\n", ALL, b"ERR 1 line\n", 5);
-}
-
-#[test]
-fn writer_fails_within_a_reply(rt: HostRuntime) {
-    let input = lines(&rt, "put 0 0 1 1; put 2 2 1 1; put 4 4 1 1");
-    let mut feed = Feed::new(input.as_slice(), ALL, FaultAt::never());
-    let mut sink = Sink::new(rt.alloc(), ALL, 7, FaultAt::never());
-    let mut store = Store::new(rt.alloc(), FaultAt::never());
-    let status = status_on(&rt, SMALL, None, &mut feed, &mut sink, &mut store);
-    expect_same(&rt, status, 1);
-    expect_same(&rt, sink.taken(), b"OK 0\nOK".as_slice());
+    answers(&rt, SMALL, b"\xff\ntally\n", ALL, b"ERR 1 line\n", 5);
 }
 
 const TALLY: &[u8] = b"tally\n";
@@ -145,16 +119,20 @@ fn count_tallies(rt: &impl Abort, output: &[u8]) -> usize {
     count
 }
 
+// the status of a run over this feed, and how many tallies it writes
+fn tallied(rt: &(impl Abort + AllocGlobal + Threads), feed: &mut Feed<'_>) -> (u8, usize) {
+    let mut sink = Sink::new(rt.alloc(), ALL, ALL, FaultAt::never());
+    let mut store = Store::new(rt.alloc(), FaultAt::never());
+    let status = status_on(rt, SMALL, None, feed, &mut sink, &mut store);
+    (status, count_tallies(rt, sink.taken()))
+}
+
 // 2^24 reads of one byte each
 #[test]
 fn too_many_reads(rt: HostRuntime) {
     let mut feed = Feed::endless(TALLY, 1);
-    let mut sink = Sink::new(rt.alloc(), ALL, ALL, FaultAt::never());
-    let mut store = Store::new(rt.alloc(), FaultAt::never());
-    let status = status_on(&rt, SMALL, None, &mut feed, &mut sink, &mut store);
-    expect_same(&rt, status, 1);
+    expect_same(&rt, tallied(&rt, &mut feed), (1, 2_796_202));
     expect_same(&rt, feed.reads(), 16_777_216);
-    expect_same(&rt, count_tallies(&rt, sink.taken()), 2_796_202);
 }
 
 // 12,000 bytes
@@ -165,11 +143,6 @@ fn reads_ask_for_at_most_a_page(rt: HostRuntime) {
         input.extend_from_slice(TALLY).expect(&rt, "memory");
     }
     let mut feed = Feed::new(input.as_slice(), ALL, FaultAt::never());
-    let mut sink = Sink::new(rt.alloc(), ALL, ALL, FaultAt::never());
-    let mut store = Store::new(rt.alloc(), FaultAt::never());
-    let status = status_on(&rt, SMALL, None, &mut feed, &mut sink, &mut store);
-    expect_same(&rt, status, 0);
-    expect_same(&rt, count_tallies(&rt, sink.taken()), 2000);
-    expect_that(&rt, 0 < feed.asked());
-    expect_that(&rt, feed.asked() <= 4096);
+    expect_same(&rt, tallied(&rt, &mut feed), (0, 2000));
+    expect_that(&rt, 0 < feed.asked() && feed.asked() <= 4096);
 }

@@ -18,26 +18,24 @@ fn set_up(rt: &(impl Abort + AllocGlobal), start: Option<Gas>) -> Lab<Serial> {
     opened(rt.alloc(), setup, start, Serial).expect(rt, "memory")
 }
 
-// the count and the momentum that it started with
-fn start_of(lab: &Lab<Serial>) -> (i64, i64, i64) {
-    let start = lab.ledger().start;
-    (start.count, start.px, start.py)
-}
-
-#[test]
-fn opened_empty(rt: HostRuntime) {
-    let lab = set_up(&rt, None);
-    expect_same(&rt, (lab.size().width(), lab.size().height()), (128, 64));
-    expect_same(&rt, lab.cap(), 7);
-    expect_same(&rt, start_of(&lab), (0, 0, 0));
+// its width, height and capacity, and the count and the momentum that it started with
+fn opening(rt: &(impl Abort + AllocGlobal), start: Option<Gas>) -> [i64; 6] {
+    let lab = set_up(rt, start);
+    let (size, cap, start) = (lab.size(), lab.cap(), lab.ledger().start);
+    [
+        size.width() as i64,
+        size.height() as i64,
+        cap as i64,
+        start.count,
+        start.px,
+        start.py,
+    ]
 }
 
 /// The gas has a size of its own.
 #[test]
-fn opened_with_a_gas(rt: HostRuntime) {
+fn opened_empty_and_with_a_gas(rt: HostRuntime) {
+    expect_same(&rt, opening(&rt, None), [128, 64, 7, 0, 0, 0]);
     let gas = decode(rt.alloc(), snapshot(&rt, 22, 0x80).as_slice()).expect(&rt, "a gas");
-    let lab = set_up(&rt, Some(gas));
-    expect_same(&rt, (lab.size().width(), lab.size().height()), (64, 64));
-    expect_same(&rt, lab.cap(), 7);
-    expect_same(&rt, start_of(&lab), (1, 1, 1));
+    expect_same(&rt, opening(&rt, Some(gas)), [64, 64, 7, 1, 1, 1]);
 }

@@ -111,6 +111,36 @@ fn status_after(end: SessionEnd) -> u8 {
     }
 }
 
+// how a session on this laboratory ends
+fn end_on<T: AllocGlobal + Threads, R: Read, W: Write, K: Shelf>(
+    rt: &T,
+    mut lab: Lab<Team<&T, NoGate>>,
+    reader: &mut R,
+    writer: &mut W,
+    shelf: &mut K,
+) -> SessionEnd
+    requires { lab.journal ≡ [] }
+{
+    serve_alone(rt.alloc(), reader, writer, &mut lab, 0, shelf)
+}
+
+// the status of a run all by strips
+fn status_by_strips<R: Read, W: Write, K: Shelf>(
+    rt: &(impl AllocGlobal + Threads),
+    setup: Setup,
+    start: Option<Gas>,
+    reader: &mut R,
+    writer: &mut W,
+    shelf: &mut K,
+) -> u8
+    requires { IsInRange setup }
+{
+    match opened_by_strips(rt, setup, start) {
+        Some(lab) => status_after(end_on(rt, lab, reader, writer, shelf)),
+        None => Status::NoMemory.number(),
+    }
+}
+
 /// The status of a run. The program itself makes no small run by strips, so such a room has a laboratory of the test's own.
 pub fn status_on<R: Read, W: Write, K: Shelf>(
     rt: &(impl Abort + AllocGlobal + Threads),
@@ -121,38 +151,62 @@ pub fn status_on<R: Read, W: Write, K: Shelf>(
     shelf: &mut K,
 ) -> u8 {
     let setup = setup_of(rt, room);
-    if !room.by_strips {
-        return run_on(rt, rt.alloc(), setup, start, reader, writer, shelf);
-    }
-    match opened_by_strips(rt, setup, start) {
-        Some(mut lab) => status_after(serve_alone(rt.alloc(), reader, writer, &mut lab, 0, shelf)),
-        None => Status::NoMemory.number(),
+    if room.by_strips {
+        status_by_strips(rt, setup, start, reader, writer, shelf)
+    } else {
+        run_on(rt, rt.alloc(), setup, start, reader, writer, shelf)
     }
 }
 
-/// The run writes these bytes for those that are read, at most `step` at once, and has this status.
-pub fn answers(
+/// The run over this feed writes these bytes, and has this status.
+pub fn writes<K: Shelf>(
     rt: &(impl Abort + AllocGlobal + Threads),
     room: Room,
     start: Option<Gas>,
+    feed: &mut Feed<'_>,
+    shelf: &mut K,
+    output: &[u8],
+    status: u8,
+) {
+    let mut sink = Sink::new(rt.alloc(), ALL, ALL, FaultAt::never());
+    let found = status_on(rt, room, start, feed, &mut sink, shelf);
+    expect_same(&rt, sink.taken(), output);
+    expect_same(&rt, found, status);
+}
+
+/// The same for these bytes, which are read at most `step` at once, on a lattice without anything.
+pub fn answers(
+    rt: &(impl Abort + AllocGlobal + Threads),
+    room: Room,
     input: &[u8],
     step: usize,
     output: &[u8],
     status: u8,
 ) {
     let mut feed = Feed::new(input, step, FaultAt::never());
-    let mut sink = Sink::new(rt.alloc(), ALL, ALL, FaultAt::never());
     let mut store = Store::new(rt.alloc(), FaultAt::never());
-    let found = status_on(rt, room, start, &mut feed, &mut sink, &mut store);
-    expect_same(&rt, sink.taken(), output);
-    expect_same(&rt, found, status);
+    writes(rt, room, None, &mut feed, &mut store, output, status);
+}
+
+/// The script gives this output, from this gas or on a lattice without anything, with this shelf.
+pub fn gives_with<K: Shelf>(
+    rt: &(impl Abort + AllocGlobal + Threads),
+    room: Room,
+    start: Option<Gas>,
+    shelf: &mut K,
+    script: &str,
+    output: &str,
+) {
+    let input = lines(rt, script);
+    let output = lines(rt, output);
+    let mut feed = Feed::new(input.as_slice(), ALL, FaultAt::never());
+    writes(rt, room, start, &mut feed, shelf, output.as_slice(), 0);
 }
 
 /// The script gives this output, on a lattice without anything.
 pub fn gives_on(rt: &(impl Abort + AllocGlobal + Threads), room: Room, script: &str, output: &str) {
-    let input = lines(rt, script);
-    let output = lines(rt, output);
-    answers(rt, room, None, input.as_slice(), ALL, output.as_slice(), 0);
+    let mut store = Store::new(rt.alloc(), FaultAt::never());
+    gives_with(rt, room, None, &mut store, script, output);
 }
 
 /// The same on one thread, and by strips of two, three and seven workers.

@@ -2,13 +2,13 @@
 
 use crate::expected::{expect_same, expect_that};
 use crate::loads::{Padded, WITH_PORTS};
-use crate::script::{ALL, SMALL, answers, lines, status_on};
+use crate::script::{ALL, SMALL, gives_with};
 use gas_ledger::Gas;
 use gas_snapshot::{MaybeShelf, NoShelf, Shelf, decode};
 use gaslab::load_from;
 use std::process::Abort;
 use std::thread::Threads;
-use test_types::faults::{FaultAt, Feed, Sink, Store};
+use test_types::faults::{FaultAt, Store};
 
 // the head of a gas of 64 by 64 at tick 0 without ports
 const HEAD: [u8; 22] = [
@@ -30,14 +30,15 @@ pub fn snapshot(rt: &(impl Abort + AllocGlobal + Threads), at: usize, byte: u8) 
     bytes
 }
 
-// the script gives this output, on a shelf that keeps what it takes
-fn saves(rt: &(impl Abort + AllocGlobal + Threads), script: &str, output: &str, store: &mut Store) {
-    let input = lines(rt, script);
-    let mut feed = Feed::new(input.as_slice(), ALL, FaultAt::never());
-    let mut sink = Sink::new(rt.alloc(), ALL, ALL, FaultAt::never());
-    let status = status_on(rt, SMALL, None, &mut feed, &mut sink, store);
-    expect_same(&rt, sink.taken(), lines(rt, output).as_slice());
-    expect_same(&rt, status, 0);
+// the one snapshot that is saved while the script gives this output
+fn saved_by(rt: &(impl Abort + AllocGlobal + Threads), script: &str, output: &str) -> Vec<u8> {
+    let mut store = Store::new(rt.alloc(), FaultAt::never());
+    gives_with(rt, SMALL, None, &mut store, script, output);
+    expect_same(&rt, store.failures(), 0);
+    let [bytes] = store.kept() else {
+        panic!(rt; "one snapshot")
+    };
+    Vec::from_slice(rt.alloc(), bytes.as_slice()).expect(rt, "memory")
 }
 
 // the gas of a head, then zeros
@@ -48,73 +49,39 @@ fn loaded(rt: &(impl Abort + AllocGlobal + Threads), head: &[u8], len: usize) ->
 
 /// A run from this gas, whose script gives this output.
 pub fn goes_on(rt: &(impl Abort + AllocGlobal + Threads), start: Gas, script: &str, output: &str) {
-    let input = lines(rt, script);
-    let output = lines(rt, output);
-    answers(
-        rt,
-        SMALL,
-        Some(start),
-        input.as_slice(),
-        ALL,
-        output.as_slice(),
-        0,
-    );
+    let mut store = Store::new(rt.alloc(), FaultAt::never());
+    gives_with(rt, SMALL, Some(start), &mut store, script, output);
 }
 
 #[test]
 fn save_to_a_shelf(rt: HostRuntime) {
-    let mut store = Store::new(rt.alloc(), FaultAt::never());
-    saves(
+    let bytes = saved_by(
         &rt,
         "put 0 0 1 1; save; tally",
         "OK 0; SAVED 1 1558; TALLY 0 1 1 1",
-        &mut store,
     );
-    expect_same(&rt, store.failures(), 0);
-    expect_same(&rt, store.kept().len(), 1);
-    for bytes in store.kept() {
-        expect_same(&rt, bytes.as_slice(), snapshot(&rt, 22, 0x80).as_slice());
-    }
+    expect_same(&rt, bytes.as_slice(), snapshot(&rt, 22, 0x80).as_slice());
 }
 
-#[test]
-fn save_to_a_shelf_that_fails(rt: HostRuntime) {
-    let mut store = Store::new(rt.alloc(), FaultAt::after(0));
-    saves(
-        &rt,
-        "put 0 0 1 1; save; tally",
-        "OK 0; ERR 15 save; TALLY 0 1 1 1",
-        &mut store,
-    );
-    expect_same(&rt, store.failures(), 1);
-    expect_that(&rt, store.kept().is_empty());
-}
-
+// the particles stand from byte 22 on, and row 1 of the obstacles from byte 1,054 on
 #[test]
 fn obstacle_in_a_snapshot(rt: HostRuntime) {
-    let mut store = Store::new(rt.alloc(), FaultAt::never());
-    saves(
+    let bytes = saved_by(
         &rt,
         "put 0 0 1 1; block 1 1 1 1; save",
         "OK 0; OK 1; SAVED 2 1558",
-        &mut store,
     );
-    expect_same(&rt, store.kept().len(), 1);
-    for bytes in store.kept() {
-        // the particles stand from byte 22 on, and row 1 of the obstacles from byte 1,054 on
-        let mut wanted = snapshot(&rt, 1054, 0x40);
-        if wanted.len() > 22 {
-            wanted[22] = 0x80;
-        }
-        expect_same(&rt, bytes.as_slice(), wanted.as_slice());
-        let gas = decode(rt.alloc(), bytes.as_slice()).expect(&rt, "a gas");
-        goes_on(
-            &rt,
-            gas,
-            "step 1; ledger",
-            "OK 0; LEDGER 1 0 0 1 0 0 0 2 1 0 0 0 2",
-        );
+    let mut wanted = snapshot(&rt, 1054, 0x40);
+    if wanted.len() > 22 {
+        wanted[22] = 0x80;
     }
+    expect_same(&rt, bytes.as_slice(), wanted.as_slice());
+    goes_on(
+        &rt,
+        decode(rt.alloc(), bytes.as_slice()).expect(&rt, "a gas"),
+        "step 1; ledger",
+        "OK 0; LEDGER 1 0 0 1 0 0 0 2 1 0 0 0 2",
+    );
 }
 
 #[test]
