@@ -18,9 +18,8 @@ fn set_up(rt: &(impl Abort + AllocGlobal), start: Option<Gas>) -> Lab<Serial> {
     opened(rt.alloc(), setup, start, Serial).expect(rt, "memory")
 }
 
-// its width, height and capacity, and the count and the momentum that it started with
-fn opening(rt: &(impl Abort + AllocGlobal), start: Option<Gas>) -> [i64; 6] {
-    let lab = set_up(rt, start);
+// the width, height and capacity, and the count and the momentum that it started with
+fn numbers_of(lab: &Lab<Serial>) -> [i64; 6] {
     let (size, cap, start) = (lab.size(), lab.cap(), lab.ledger().start);
     [
         size.width() as i64,
@@ -30,6 +29,12 @@ fn opening(rt: &(impl Abort + AllocGlobal), start: Option<Gas>) -> [i64; 6] {
         start.px,
         start.py,
     ]
+}
+
+// these numbers after an opening
+fn opening(rt: &(impl Abort + AllocGlobal), start: Option<Gas>) -> [i64; 6] {
+    let lab = set_up(rt, start);
+    numbers_of(&lab)
 }
 
 /// The gas has a size of its own.

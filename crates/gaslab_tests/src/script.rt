@@ -114,14 +114,12 @@ fn status_after(end: SessionEnd) -> u8 {
 // how a session on this laboratory ends
 fn end_on<T: AllocGlobal + Threads, R: Read, W: Write, K: Shelf>(
     rt: &T,
-    mut lab: Lab<Team<&T, NoGate>>,
+    lab: &mut Lab<Team<&T, NoGate>>,
     reader: &mut R,
     writer: &mut W,
     shelf: &mut K,
-) -> SessionEnd
-    requires { lab.journal ≡ [] }
-{
-    serve_alone(rt.alloc(), reader, writer, &mut lab, 0, shelf)
+) -> SessionEnd {
+    serve_alone(rt.alloc(), reader, writer, lab, 0, shelf)
 }
 
 // the status of a run all by strips
@@ -136,7 +134,7 @@ fn status_by_strips<R: Read, W: Write, K: Shelf>(
     requires { IsInRange setup }
 {
     match opened_by_strips(rt, setup, start) {
-        Some(lab) => status_after(end_on(rt, lab, reader, writer, shelf)),
+        Some(mut lab) => status_after(end_on(rt, &mut lab, reader, writer, shelf)),
         None => Status::NoMemory.number(),
     }
 }
