@@ -1,23 +1,14 @@
 //! Worked examples of runs with an action after each phase, with values found by hand.
 
-ghost use Rattle.std.specs.Prelude.{◌≡◌, ◌<◌, true, false};
-ghost use Rattle.gas_terms.specs.Cells.{lies_within, extent};
-
 use crate::expected::{expect_same, expect_that};
-use crate::lattices::holds;
-use gas_ledger::{Flow, Gas, Port, Ports, Sums, tally};
+use crate::gases::{Part, run, sums, tick};
+use gas_ledger::{Flow, Sums, tally};
 use gas_plane::{Plane, Tile};
-use gas_terms::{Moved, Pair, Rect, Size, Tick, Took};
+use gas_terms::{Moved, Pair, Rect, Size, Took};
 use phase_step::{
     Action, Change, Exchange, Few, Later, Listed, Run, Serial, Stepper, Still, act_on, change_of,
 };
 use std::process::Abort;
-
-fn sums(count: i64, px: i64, py: i64) -> Sums
-    ensures { result ≡ record { count = count; px = px; py = py } }
-{
-    Sums { count, px, py }
-}
 
 fn took(x: i64, y: i64) -> Took {
     Took {
@@ -26,69 +17,26 @@ fn took(x: i64, y: i64) -> Took {
     }
 }
 
-fn tick(rt: &impl Abort, number: i64) -> Tick {
-    Tick::new(number).expect(rt, "a tick")
-}
-
-// A gas of four tiles without cells and ports.
-fn gas_at(rt: &(impl Abort + AllocGlobal), number: i64) -> Gas {
-    let size = Size::new(128, 128).expect(rt, "a size");
-    let particles = Plane::empty(rt.alloc(), size).expect(rt, "memory");
-    let walls = Plane::empty(rt.alloc(), size).expect(rt, "memory");
-    let obstacles = Plane::empty(rt.alloc(), size).expect(rt, "memory");
-    Gas::new(tick(rt, number), particles, walls, obstacles, Ports::none())
-}
-
-// a cell of the gas
-fn cell(rt: &impl Abort, gas: &Gas, x: u32, y: u32) -> Rect
-    ensures { lies_within (extent gas.now.particles) result ≡ true }
-{
-    let cell = Rect::within(gas.size(), x, y, 1, 1).expect(rt, "a cell");
-    expect_that(&rt, cell.fits(gas.size()));
-    cell
-}
-
-fn source(rt: &impl Abort, gas: &mut Gas, x: u32, y: u32, period: u16) {
-    let area = cell(rt, gas, x, y);
-    assert!(rt; 1 <= period);
-    expect_that(&rt, gas.add_port(Port::Source(area, period)).is_ok());
-}
-
-fn drain(rt: &impl Abort, gas: &mut Gas, x: u32, y: u32) {
-    let area = cell(rt, gas, x, y);
-    expect_that(&rt, gas.add_port(Port::Drain(area)).is_ok());
-}
-
-fn put(rt: &impl Abort, gas: &mut Gas, x: u32, y: u32) {
-    let area = cell(rt, gas, x, y);
-    let moved = gas.fill_particles(area);
-    expect_same(&rt, moved.injected.count, 1);
-}
-
-pub fn step_on(rt: &(impl Abort + AllocGlobal), gas: &mut Gas, n: u16) -> Flow {
-    let mut spare = Plane::empty(rt.alloc(), gas.size()).expect(rt, "memory");
-    expect_that(&rt, gas.tick().ahead(n).is_some());
-    gas.step_on(n, &mut spare, &mut Serial)
-}
-
 fn count(rt: &impl Abort, plane: &Plane) -> i64 {
     tally(plane, tick(rt, 0)).count
+}
+
+fn flow(took: Took, injected: Sums, drained: Sums) -> Flow {
+    let moved = Moved { injected, drained };
+    Flow { took, moved }
 }
 
 // A source that acts at each tick: at tick 1 its particle goes up and to the left, and at tick 2 the next one down and to
 // the right.
 #[test]
 fn source_acts_at_each_tick_of_a_run(rt: HostRuntime) {
-    let mut gas = gas_at(&rt, 0);
-    source(&rt, &mut gas, 10, 10, 1);
-    let flow = step_on(&rt, &mut gas, 2);
-    expect_same(&rt, gas.tick().get(), 2);
-    expect_same(&rt, flow.moved.injected, sums(2, 0, 0));
-    expect_same(&rt, flow.moved.drained, sums(0, 0, 0));
-    expect_same(&rt, flow.took, took(0, 0));
-    expect_that(&rt, holds(gas.particles(), 9, 9));
-    expect_that(&rt, holds(gas.particles(), 10, 10));
-    expect_same(&rt, count(&rt, gas.particles()), 2);
+    let source = [(Part::Source(1), 10, 10, 1, 1)];
+    let cells = [(9, 9, true), (10, 10, true)];
+    expect_same(
+        &rt,
+        run(&rt, 0, &source, 2, &cells, 2),
+        flow(took(0, 0), sums(2, 0, 0), sums(0, 0, 0)),
+    );
 }
 
 #[test]
@@ -101,41 +49,34 @@ fn source_of_a_run_keeps_its_period(rt: HostRuntime) {
         (1, 3, 2),
         (-3, 3, 2),
     ] {
-        let mut gas = gas_at(&rt, start);
-        source(&rt, &mut gas, 20, 30, 2);
-        let flow = step_on(&rt, &mut gas, n);
-        expect_same(
-            &rt,
-            (n, start, flow.moved.injected.count),
-            (n, start, times),
-        );
+        let source = [(Part::Source(2), 20, 30, 1, 1)];
+        let moved = run(&rt, start, &source, n, &[], times).moved;
+        expect_same(&rt, (n, start, moved.injected.count), (n, start, times));
     }
 }
 
 // A particle crosses its block, is drained at tick 1, and is gone.
 #[test]
 fn drain_of_a_run_takes_once(rt: HostRuntime) {
-    let mut gas = gas_at(&rt, 0);
-    drain(&rt, &mut gas, 1, 1);
-    put(&rt, &mut gas, 0, 0);
-    let flow = step_on(&rt, &mut gas, 3);
-    expect_same(&rt, flow.moved.drained, sums(1, 1, 1));
-    expect_same(&rt, flow.moved.injected, sums(0, 0, 0));
-    expect_same(&rt, count(&rt, gas.particles()), 0);
+    let parts = [(Part::Drain, 1, 1, 1, 1), (Part::Particles, 0, 0, 1, 1)];
+    expect_same(
+        &rt,
+        run(&rt, 0, &parts, 3, &[], 0).moved,
+        flow(took(0, 0), sums(0, 0, 0), sums(1, 1, 1)).moved,
+    );
 }
 
 // A wall takes what it turns back, before the port acts.
 #[test]
 fn wall_takes_in_a_run_with_ports(rt: HostRuntime) {
-    let mut gas = gas_at(&rt, 0);
-    drain(&rt, &mut gas, 100, 100);
-    put(&rt, &mut gas, 0, 0);
-    let wall = cell(&rt, &gas, 1, 1);
-    gas.add_walls(wall);
-    let flow = step_on(&rt, &mut gas, 1);
-    expect_same(&rt, flow.took, took(2, 2));
-    expect_same(&rt, flow.moved.drained, sums(0, 0, 0));
-    expect_that(&rt, holds(gas.particles(), 0, 0));
+    let parts = [
+        (Part::Drain, 100, 100, 1, 1),
+        (Part::Particles, 0, 0, 1, 1),
+        (Part::Wall, 1, 1, 1, 1),
+    ];
+    let found = run(&rt, 0, &parts, 1, &[(0, 0, true)], 1);
+    expect_same(&rt, found.took, took(2, 2));
+    expect_same(&rt, found.moved.drained, sums(0, 0, 0));
 }
 
 // Empties all cells of a lattice.
@@ -157,25 +98,27 @@ fn two(rt: &(impl Abort + AllocGlobal)) -> Plane {
     plane
 }
 
+// a run of three phases on one thread, the first at an even tick
+fn act_thrice(rt: &(impl Abort + AllocGlobal), particles: &mut Plane, action: &Listed<'_>) -> Flow {
+    let size = particles.size();
+    let mut spare = Plane::empty(rt.alloc(), size).expect(rt, "memory");
+    let none = Plane::empty(rt.alloc(), size).expect(rt, "memory");
+    let run = Run {
+        walls: &none,
+        obstacles: &none,
+        parity: 0,
+        n: 3,
+        action,
+    };
+    Serial.run_with(particles, run, &mut spare)
+}
+
 #[test]
 fn action_after_the_first_phase(rt: HostRuntime) {
     let mut particles = two(&rt);
-    let size = particles.size();
-    let mut spare = Plane::empty(rt.alloc(), size).expect(&rt, "memory");
-    let walls = Plane::empty(rt.alloc(), size).expect(&rt, "memory");
-    let obstacles = Plane::empty(rt.alloc(), size).expect(&rt, "memory");
-    let turns = [emptied(&rt, size)];
-    let run = Run {
-        walls: &walls,
-        obstacles: &obstacles,
-        parity: 0,
-        n: 3,
-        action: &Listed { turns: &turns },
-    };
-    let flow = Serial.run_with(&mut particles, run, &mut spare);
-    expect_same(&rt, flow.moved.drained, sums(2, 2, 2));
-    expect_same(&rt, flow.moved.injected, sums(0, 0, 0));
-    expect_same(&rt, flow.took, took(0, 0));
+    let turns = [emptied(&rt, particles.size())];
+    let found = act_thrice(&rt, &mut particles, &Listed { turns: &turns });
+    expect_same(&rt, found, flow(took(0, 0), sums(0, 0, 0), sums(2, 2, 2)));
     expect_same(&rt, count(&rt, &particles), 0);
 }
 
@@ -313,14 +256,17 @@ fn few_rectangles(rt: HostRuntime) {
 fn listed_exchanges_end(rt: HostRuntime) {
     let turns = [Exchange::none(), shift(&rt)];
     let listed = Listed { turns: &turns };
-    expect_that(&rt, listed.after_phase(0).is_still());
-    expect_that(&rt, !listed.after_phase(1).is_still());
-    expect_that(&rt, listed.after_phase(2).is_still());
     let later = Later {
         action: &listed,
         by: 1,
     };
-    expect_that(&rt, !later.after_phase(0).is_still());
-    expect_that(&rt, later.after_phase(1).is_still());
+    let found = [
+        listed.after_phase(0).is_still(),
+        listed.after_phase(1).is_still(),
+        listed.after_phase(2).is_still(),
+        later.after_phase(0).is_still(),
+        later.after_phase(1).is_still(),
+    ];
+    expect_same(&rt, found, [true, false, true, false, true]);
     expect_that(&rt, later.acts() && !Still.acts());
 }

@@ -1,8 +1,36 @@
 //! Worked examples of borders, with values found by hand.
 
-use crate::expected::expect_that;
+use crate::expected::{expect_same, expect_that};
 use bit_tile::Tile;
+use std::process::Abort;
 use tile_border::{Border, Round};
+
+/// A side of a tile. Along it, -1 and 64 are the corners.
+#[derive(Clone, Copy)]
+pub enum Side {
+    Above,
+    Below,
+    Left,
+    Right,
+}
+
+fn cell_at(rt: &impl Abort, border: &Border, side: Side, k: i32) -> bool {
+    expect_that(&rt, -1 <= k);
+    expect_that(&rt, k <= 64);
+    match side {
+        Side::Above => border.cell(k, -1),
+        Side::Below => border.cell(k, 64),
+        Side::Left => border.cell(-1, k),
+        Side::Right => border.cell(64, k),
+    }
+}
+
+/// Stops a test if one of these cells of a border is not full or empty as told.
+pub fn expect_ring(rt: &impl Abort, border: &Border, cells: &[(Side, i32, bool)]) {
+    for (side, k, held) in cells {
+        expect_same(&rt, (*k, cell_at(rt, border, *side, *k)), (*k, *held));
+    }
+}
 
 #[test]
 fn the_ring_is_what_the_neighbors_touch(rt: HostRuntime) {
@@ -21,20 +49,23 @@ fn the_ring_is_what_the_neighbors_touch(rt: HostRuntime) {
     let none = Tile::empty();
     let border = Border::of(&above, &below, &left, &right, &none, &none, &none, &none);
 
-    expect_that(&rt, border.cell(5, -1));
-    expect_that(&rt, border.cell(6, 64));
-    expect_that(&rt, border.cell(-1, 7));
-    expect_that(&rt, border.cell(64, 8));
-    // each of these on the other side
-    expect_that(&rt, !border.cell(5, 64));
-    expect_that(&rt, !border.cell(6, -1));
-    expect_that(&rt, !border.cell(64, 7));
-    expect_that(&rt, !border.cell(-1, 8));
-    // cells that do not touch the tile
-    expect_that(&rt, !border.cell(9, -1));
-    expect_that(&rt, !border.cell(10, 64));
-    expect_that(&rt, !border.cell(-1, 11));
-    expect_that(&rt, !border.cell(64, 12));
+    let cells = [
+        (Side::Above, 5, true),
+        (Side::Below, 6, true),
+        (Side::Left, 7, true),
+        (Side::Right, 8, true),
+        // each of these on the other side
+        (Side::Below, 5, false),
+        (Side::Above, 6, false),
+        (Side::Right, 7, false),
+        (Side::Left, 8, false),
+        // cells that do not touch the tile
+        (Side::Above, 9, false),
+        (Side::Below, 10, false),
+        (Side::Left, 11, false),
+        (Side::Right, 12, false),
+    ];
+    expect_ring(&rt, &border, &cells);
 }
 
 // the neighbors' cells that touch the tile's corners
@@ -51,14 +82,22 @@ fn each_corner_is_a_corner_of_its_tile(rt: HostRuntime) {
         &Tile::rect(63, 0, 1, 1),
         &Tile::rect(0, 0, 1, 1),
     );
-    expect_that(&rt, touching.cell(-1, -1));
-    expect_that(&rt, touching.cell(64, -1));
-    expect_that(&rt, touching.cell(-1, 64));
-    expect_that(&rt, touching.cell(64, 64));
-    expect_that(&rt, !touching.cell(0, -1));
-    expect_that(&rt, !touching.cell(-1, 0));
-    expect_that(&rt, !touching.cell(63, 64));
-    expect_that(&rt, !touching.cell(64, 63));
+    expect_corners(&rt, &touching, true);
+}
+
+// the cells at the corners are full or empty as told, and one beside each is not
+fn expect_corners(rt: &impl Abort, border: &Border, held: bool) {
+    let cells = [
+        (Side::Above, -1, held),
+        (Side::Above, 64, held),
+        (Side::Below, -1, held),
+        (Side::Below, 64, held),
+        (Side::Above, 0, !held),
+        (Side::Left, 0, !held),
+        (Side::Below, 63, !held),
+        (Side::Right, 63, !held),
+    ];
+    expect_ring(rt, border, &cells);
 }
 
 // the neighbors at the sides are full, and those at the corners have cells that do not touch the tile
@@ -75,14 +114,7 @@ fn sides_end_at_the_corners(rt: HostRuntime) {
         &Tile::rect(0, 63, 1, 1),
         &Tile::rect(63, 63, 1, 1),
     );
-    expect_that(&rt, !apart.cell(-1, -1));
-    expect_that(&rt, !apart.cell(64, -1));
-    expect_that(&rt, !apart.cell(-1, 64));
-    expect_that(&rt, !apart.cell(64, 64));
-    expect_that(&rt, apart.cell(0, -1));
-    expect_that(&rt, apart.cell(-1, 0));
-    expect_that(&rt, apart.cell(63, 64));
-    expect_that(&rt, apart.cell(64, 63));
+    expect_corners(&rt, &apart, false);
 }
 
 #[test]
@@ -105,15 +137,18 @@ fn what_stood_in_a_border_is_overwritten(rt: HostRuntime) {
         below_left: &none,
         below_right: &below_right,
     });
-    expect_that(&rt, border.cell(5, -1));
-    expect_that(&rt, border.cell(-1, 7));
-    expect_that(&rt, border.cell(64, 64));
-    expect_that(&rt, !border.cell(5, 64));
-    expect_that(&rt, !border.cell(64, 7));
-    expect_that(&rt, !border.cell(-1, -1));
-    expect_that(&rt, !border.cell(6, -1));
-    expect_that(&rt, !border.cell(-1, 8));
-    expect_that(&rt, !border.cell(64, -1));
+    let cells = [
+        (Side::Above, 5, true),
+        (Side::Left, 7, true),
+        (Side::Below, 64, true),
+        (Side::Below, 5, false),
+        (Side::Right, 7, false),
+        (Side::Above, -1, false),
+        (Side::Above, 6, false),
+        (Side::Left, 8, false),
+        (Side::Above, 64, false),
+    ];
+    expect_ring(&rt, &border, &cells);
 }
 
 #[test]

@@ -3,7 +3,7 @@
 ghost use Rattle.std.specs.Prelude.{◌≡◌};
 ghost use Rattle.gas_terms.specs.Cells.{HasSidesOf};
 
-use crate::expected::expect_that;
+use crate::expected::{expect_same, expect_that};
 use gas_plane::Plane;
 use gas_terms::{Rect, Size};
 use std::process::Abort;
@@ -31,6 +31,13 @@ pub fn plane(
 pub fn holds(plane: &Plane, x: u32, y: u32) -> bool {
     let size = plane.size();
     x < size.width() as u32 && y < size.height() as u32 && plane.get(x, y)
+}
+
+/// Stops a test if one of these cells is not full or empty as told.
+pub fn expect_cells(rt: &impl Abort, plane: &Plane, cells: &[(u32, u32, bool)]) {
+    for (x, y, held) in cells {
+        expect_same(&rt, (*x, *y, holds(plane, *x, *y)), (*x, *y, *held));
+    }
 }
 
 /// Whether two planes hold the same cells.

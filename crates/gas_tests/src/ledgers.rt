@@ -1,66 +1,27 @@
 //! Worked examples of gases, ports and sums, with values found by hand.
 
-ghost use Rattle.std.specs.Prelude.{◌≡◌, true};
-ghost use Rattle.gas_terms.specs.Cells.{lies_within, extent};
-
-use crate::actions::step_on;
 use crate::expected::{expect_same, expect_that};
-use crate::lattices::holds;
-use gas_ledger::{Full, Gas, Moved, Port, Ports, Source, Sums, apply_ports, probe, tally};
+use crate::gases::{Part, add, add_all, area, gas_at, run, step_on, sums, tick};
+use crate::lattices::expect_cells;
+use gas_ledger::{Full, Gas, Port, Ports, Sums, apply_ports, probe, tally};
 use gas_plane::Plane;
-use gas_terms::{Rect, Size, Tick};
+use gas_terms::{Rect, Size};
 use std::process::Abort;
 
-fn tick(rt: &impl Abort, number: i64) -> Tick {
-    Tick::new(number).expect(rt, "a tick")
-}
-
-fn sums(count: i64, px: i64, py: i64) -> Sums {
-    Sums { count, px, py }
-}
-
-// A gas of four tiles without cells and ports.
-fn gas_at(rt: &(impl Abort + AllocGlobal), number: i64) -> Gas {
-    let size = Size::new(128, 128).expect(rt, "a size");
-    let particles = Plane::empty(rt.alloc(), size).expect(rt, "memory");
-    let walls = Plane::empty(rt.alloc(), size).expect(rt, "memory");
-    let obstacles = Plane::empty(rt.alloc(), size).expect(rt, "memory");
-    Gas::new(tick(rt, number), particles, walls, obstacles, Ports::none())
-}
-
-fn area(rt: &impl Abort, gas: &Gas, x: u32, y: u32, w: u32, h: u32) -> Rect
-    ensures { lies_within (extent gas.now.particles) result ≡ true }
-{
-    let area = Rect::within(gas.size(), x, y, w, h).expect(rt, "a rectangle");
-    expect_that(&rt, area.fits(gas.size()));
-    area
-}
-
-fn put(rt: &impl Abort, gas: &mut Gas, x: u32, y: u32, w: u32, h: u32) -> Moved {
-    let area = area(rt, gas, x, y, w, h);
-    gas.fill_particles(area)
-}
-
-fn erase(rt: &impl Abort, gas: &mut Gas, x: u32, y: u32, w: u32, h: u32) -> Moved {
-    let area = area(rt, gas, x, y, w, h);
-    gas.clear_particles(area)
-}
-
-fn drain(rt: &impl Abort, gas: &mut Gas, x: u32, y: u32, w: u32, h: u32) {
-    let area = area(rt, gas, x, y, w, h);
-    expect_that(&rt, gas.add_port(Port::Drain(area)).is_ok());
-}
-
-fn source(rt: &impl Abort, gas: &mut Gas, x: u32, y: u32, w: u32, h: u32, period: u16) {
-    let area = area(rt, gas, x, y, w, h);
-    assert!(rt; 1 <= period);
-    expect_that(&rt, gas.add_port(Port::Source(area, period)).is_ok());
+// how many drains and sources there are, and the column and period of the first source
+fn kinds(ports: &Ports) -> (usize, usize, Option<(u16, u16)>) {
+    let first = ports.sources().first().copied();
+    (
+        ports.drains().len(),
+        ports.sources().len(),
+        first.map(|s| (s.area.x(), s.period)),
+    )
 }
 
 #[test]
 fn seventeen_drains(rt: HostRuntime) {
-    let gas = gas_at(&rt, 0);
-    let area = area(&rt, &gas, 3, 4, 5, 6);
+    let size = Size::new(64, 64).expect(&rt, "a size");
+    let area = Rect::within(size, 3, 4, 5, 6).expect(&rt, "a rectangle");
     let mut ports = Ports::none();
     expect_that(&rt, !ports.any());
     for k in 0..16 {
@@ -69,31 +30,28 @@ fn seventeen_drains(rt: HostRuntime) {
     expect_same(&rt, ports.add(Port::Drain(area)), Err(Full));
     expect_same(&rt, ports.add(Port::Source(area, 1)), Ok(()));
     expect_that(&rt, ports.any());
-    expect_same(&rt, ports.drains().len(), 16);
-    expect_same(&rt, ports.sources().len(), 1);
+    expect_same(&rt, kinds(&ports), (16, 1, Some((3, 1))));
     ports.clear();
     expect_that(&rt, !ports.any());
     expect_same(&rt, ports.add(Port::Drain(area)), Ok(()));
 }
 
-// sixteen sources, in columns 1 to 16 of row 0
-fn add_sixteen_sources(rt: &impl Abort, gas: &mut Gas) {
+// sixteen sources, in columns 1 to 16 of row 0, and one drain
+fn sixteen_sources(rt: &(impl Abort + AllocGlobal)) -> Gas {
+    let mut gas = gas_at(rt, -1);
     for k in 1..17 {
-        source(rt, gas, k, 0, 1, 1, 1);
+        add(rt, &mut gas, Part::Source(1), k, 0, 1, 1);
     }
+    add(rt, &mut gas, Part::Drain, 0, 0, 1, 1);
+    gas
 }
 
 #[test]
 fn seventeen_sources(rt: HostRuntime) {
-    let mut gas = gas_at(&rt, -1);
-    add_sixteen_sources(&rt, &mut gas);
+    let mut gas = sixteen_sources(&rt);
     let area = area(&rt, &gas, 0, 0, 1, 1);
     expect_same(&rt, gas.add_port(Port::Source(area, 1)), Err(Full));
-    expect_same(&rt, gas.ports().sources().len(), 16);
-    let first = gas.ports().sources().first().copied();
-    expect_same(&rt, first.map(|s| (s.area.x(), s.period)), Some((1, 1)));
-    drain(&rt, &mut gas, 0, 0, 1, 1);
-    expect_same(&rt, gas.ports().drains().len(), 1);
+    expect_same(&rt, kinds(gas.ports()), (1, 16, Some((1, 1))));
     let moved = step_on(&rt, &mut gas, 1).moved;
     expect_same(&rt, moved.injected, sums(16, 0, 16));
     gas.remove_ports();
@@ -112,12 +70,14 @@ fn full_says_which(rt: HostRuntime) {
 
 // a source of this period acts in the step from this tick on, or does nothing
 fn acts_after(rt: &(impl Abort + AllocGlobal), number: i64, period: u16, is_due: bool) {
-    let mut gas = gas_at(rt, number);
-    source(rt, &mut gas, 10, 10, 1, 1, period);
-    let moved = step_on(rt, &mut gas, 1).moved;
-    expect_same(&rt, holds(gas.particles(), 10, 10), is_due);
-    expect_same(&rt, moved.injected.count, if is_due { 1 } else { 0 });
-    expect_same(&rt, moved.drained, sums(0, 0, 0));
+    let count = if is_due { 1 } else { 0 };
+    let source = [(Part::Source(period), 10, 10, 1, 1)];
+    let moved = run(rt, number, &source, 1, &[(10, 10, is_due)], count).moved;
+    expect_same(
+        &rt,
+        (moved.injected.count, moved.drained),
+        (count, sums(0, 0, 0)),
+    );
 }
 
 #[test]
@@ -141,33 +101,30 @@ fn source_on_its_period(rt: HostRuntime) {
 
 #[test]
 fn source_refills_a_drain(rt: HostRuntime) {
-    let mut gas = gas_at(&rt, 2);
-    source(&rt, &mut gas, 5, 6, 1, 1, 1);
-    drain(&rt, &mut gas, 5, 6, 1, 1);
+    let ports = [(Part::Source(1), 5, 6, 1, 1), (Part::Drain, 5, 6, 1, 1)];
     // an empty cell is filled
-    let moved = step_on(&rt, &mut gas, 1).moved;
+    let moved = run(&rt, 2, &ports, 1, &[(5, 6, true)], 1).moved;
     expect_same(
         &rt,
         (moved.injected, moved.drained),
         (sums(1, 1, -1), sums(0, 0, 0)),
     );
-    expect_that(&rt, holds(gas.particles(), 5, 6));
 }
 
 #[test]
 fn drained_and_refilled_cancels(rt: HostRuntime) {
-    let mut gas = gas_at(&rt, 2);
-    // it goes to (5, 6)
-    expect_same(&rt, put(&rt, &mut gas, 4, 7, 1, 1).injected.count, 1);
-    source(&rt, &mut gas, 5, 6, 1, 1, 1);
-    drain(&rt, &mut gas, 5, 6, 1, 1);
-    let moved = step_on(&rt, &mut gas, 1).moved;
+    let parts = [
+        // it goes to (5, 6)
+        (Part::Particles, 4, 7, 1, 1),
+        (Part::Source(1), 5, 6, 1, 1),
+        (Part::Drain, 5, 6, 1, 1),
+    ];
+    let moved = run(&rt, 2, &parts, 1, &[(5, 6, true)], 1).moved;
     expect_same(
         &rt,
         (moved.injected, moved.drained),
         (sums(0, 0, 0), sums(0, 0, 0)),
     );
-    expect_that(&rt, holds(gas.particles(), 5, 6));
 }
 
 #[test]
@@ -187,10 +144,7 @@ fn ports_act_on_a_plane(rt: HostRuntime) {
         (moved.injected, moved.drained),
         (sums(1, 1, 1), sums(1, 1, 1)),
     );
-    expect_that(
-        &rt,
-        !holds(&plane, 0, 0) && holds(&plane, 1, 0) && holds(&plane, 2, 0),
-    );
+    expect_cells(&rt, &plane, &[(0, 0, false), (1, 0, true), (2, 0, true)]);
     // the source is not due
     let moved = apply_ports(&mut plane, &ports, tick(&rt, 5));
     expect_same(
@@ -198,29 +152,23 @@ fn ports_act_on_a_plane(rt: HostRuntime) {
         (moved.injected, moved.drained),
         (sums(0, 0, 0), sums(1, 1, -1)),
     );
-    expect_that(&rt, !holds(&plane, 1, 0) && holds(&plane, 2, 0));
+    expect_cells(&rt, &plane, &[(1, 0, false), (2, 0, true)]);
 }
 
-// two drains and two sources, each over an edge of a tile or at the lattice's end
-fn add_ports_across_tiles(rt: &impl Abort, gas: &mut Gas) {
-    drain(rt, gas, 63, 10, 2, 1);
-    drain(rt, gas, 100, 0, 1, 128);
-    source(rt, gas, 64, 10, 2, 1, 7);
-    source(rt, gas, 0, 127, 1, 1, 5);
-}
-
+// Two drains and two sources, each over an edge of a tile or at the lattice's end. The particles go to (63, 10) and (64, 10), and
+// to (99, 127) and (100, 127).
 #[test]
 fn ports_across_tiles(rt: HostRuntime) {
-    let mut gas = gas_at(&rt, -1);
-    add_ports_across_tiles(&rt, &mut gas);
-    // they go to (63, 10) and (64, 10), and to (99, 127) and (100, 127)
-    expect_same(&rt, put(&rt, &mut gas, 63, 9, 2, 1).injected.count, 2);
-    expect_same(&rt, put(&rt, &mut gas, 99, 0, 2, 1).injected.count, 2);
-    let moved = step_on(&rt, &mut gas, 1).moved;
+    let parts = [
+        (Part::Drain, 63, 10, 2, 1),
+        (Part::Drain, 100, 0, 1, 128),
+        (Part::Source(7), 64, 10, 2, 1),
+        (Part::Source(5), 0, 127, 1, 1),
+        (Part::Particles, 63, 9, 2, 1),
+        (Part::Particles, 99, 0, 2, 1),
+    ];
     // (63, 10) and (100, 127) are gone, (64, 10) has stayed, (65, 10) and (0, 127) are new
-    expect_same(&rt, moved.drained, sums(2, 0, 0));
-    expect_same(&rt, moved.injected, sums(2, 0, 0));
-    for (x, y, held) in [
+    let cells = [
         (63, 10, false),
         (64, 10, true),
         (65, 10, true),
@@ -228,9 +176,13 @@ fn ports_across_tiles(rt: HostRuntime) {
         (0, 127, true),
         (99, 127, true),
         (100, 127, false),
-    ] {
-        expect_same(&rt, holds(gas.particles(), x, y), held);
-    }
+    ];
+    let moved = run(&rt, -1, &parts, 1, &cells, 4).moved;
+    expect_same(
+        &rt,
+        (moved.injected, moved.drained),
+        (sums(2, 0, 0), sums(2, 0, 0)),
+    );
 }
 
 // the sums of the whole gas at a tick, of row 0 and of the tile at (64, 64)
@@ -246,130 +198,120 @@ fn sums_are(rt: &impl Abort, gas: &Gas, number: i64, all: Sums, row: Sums, far: 
 // the cells (0, 0), (1, 0), (0, 1) and (65, 67)
 fn four_cells(rt: &(impl Abort + AllocGlobal)) -> Gas {
     let mut gas = gas_at(rt, 0);
-    expect_same(&rt, put(rt, &mut gas, 0, 0, 2, 1).injected.count, 2);
-    expect_same(&rt, put(rt, &mut gas, 0, 1, 1, 1).injected.count, 1);
-    expect_same(&rt, put(rt, &mut gas, 65, 67, 1, 1).injected.count, 1);
+    let cells = [
+        (Part::Particles, 0, 0, 2, 1),
+        (Part::Particles, 0, 1, 1, 1),
+        (Part::Particles, 65, 67, 1, 1),
+    ];
+    add_all(rt, &mut gas, &cells);
     gas
 }
 
 #[test]
 fn probe_and_tally_by_parities(rt: HostRuntime) {
     let mut gas = four_cells(&rt);
-    for number in [0, -2] {
-        sums_are(
-            &rt,
-            &gas,
-            number,
-            sums(4, 0, 0),
-            sums(2, 0, 2),
-            sums(1, -1, -1),
-        );
+    for (number, row, far) in [
+        (0, sums(2, 0, 2), sums(1, -1, -1)),
+        (-2, sums(2, 0, 2), sums(1, -1, -1)),
+        (1, sums(2, 0, -2), sums(1, 1, 1)),
+        (-1, sums(2, 0, -2), sums(1, 1, 1)),
+    ] {
+        sums_are(&rt, &gas, number, sums(4, 0, 0), row, far);
     }
-    for number in [1, -1] {
-        sums_are(
-            &rt,
-            &gas,
-            number,
-            sums(4, 0, 0),
-            sums(2, 0, -2),
-            sums(1, 1, 1),
-        );
-    }
-    expect_same(&rt, erase(&rt, &mut gas, 65, 67, 1, 1).drained.count, 1);
+    let last = area(&rt, &gas, 65, 67, 1, 1);
+    expect_same(&rt, gas.clear_particles(last).drained.count, 1);
     expect_same(&rt, tally(gas.particles(), tick(&rt, 0)), sums(3, 1, 1));
     expect_same(&rt, tally(gas.particles(), tick(&rt, -7)), sums(3, -1, -1));
+}
+
+// what comes in and goes out if the first so many cells of row 0 are filled
+fn put(rt: &impl Abort, gas: &mut Gas, w: u32) -> (Sums, Sums) {
+    let cells = area(rt, gas, 0, 0, w, 1);
+    let moved = gas.fill_particles(cells);
+    (moved.injected, moved.drained)
 }
 
 #[test]
 fn full_cells_are_not_injected(rt: HostRuntime) {
     let mut gas = gas_at(&rt, 0);
-    let first = put(&rt, &mut gas, 0, 0, 1, 1);
-    expect_same(
-        &rt,
-        (first.injected, first.drained),
-        (sums(1, 1, 1), sums(0, 0, 0)),
-    );
-    let again = put(&rt, &mut gas, 0, 0, 1, 1);
-    expect_same(
-        &rt,
-        (again.injected, again.drained),
-        (sums(0, 0, 0), sums(0, 0, 0)),
-    );
-    let wider = put(&rt, &mut gas, 0, 0, 2, 1);
-    expect_same(&rt, wider.injected, sums(1, -1, 1));
-    let out = erase(&rt, &mut gas, 0, 0, 2, 2);
-    expect_same(
-        &rt,
-        (out.injected, out.drained),
-        (sums(0, 0, 0), sums(2, 0, 2)),
-    );
+    let nothing = sums(0, 0, 0);
+    expect_same(&rt, put(&rt, &mut gas, 1), (sums(1, 1, 1), nothing));
+    expect_same(&rt, put(&rt, &mut gas, 1), (nothing, nothing));
+    expect_same(&rt, put(&rt, &mut gas, 2), (sums(1, -1, 1), nothing));
+    let all = area(&rt, &gas, 0, 0, 2, 2);
+    let out = gas.clear_particles(all);
+    expect_same(&rt, (out.injected, out.drained), (nothing, sums(2, 0, 2)));
 }
 
-fn row_0_replaced(rt: &impl Abort, gas: &mut Gas, row: &[u8; 16]) -> Moved {
+// what comes in and goes out if row 0 becomes one with these first and eighth bytes
+fn replace_row_0(rt: &impl Abort, gas: &mut Gas, first: u8, eighth: u8) -> (Sums, Sums) {
+    let row = [first, 0, 0, 0, 0, 0, 0, eighth, 0, 0, 0, 0, 0, 0, 0, 0];
     expect_that(&rt, gas.size().width() == 128);
     expect_that(&rt, gas.size().height() == 128);
-    gas.replace_row(0, row)
+    let moved = gas.replace_row(0, &row);
+    (moved.injected, moved.drained)
 }
 
 #[test]
 fn rows_are_replaced(rt: HostRuntime) {
     let mut gas = gas_at(&rt, 0);
-    let mut row = [0; 16];
-    row[0] = 0x80;
-    row[7] = 0x01;
-    let first = row_0_replaced(&rt, &mut gas, &row);
     // (0, 0) and (63, 0)
-    expect_same(
-        &rt,
-        (first.injected, first.drained),
-        (sums(2, 0, 2), sums(0, 0, 0)),
-    );
-    row[0] = 0xc0;
-    row[7] = 0x00;
-    let second = row_0_replaced(&rt, &mut gas, &row);
+    let moved = replace_row_0(&rt, &mut gas, 0x80, 0x01);
+    expect_same(&rt, moved, (sums(2, 0, 2), sums(0, 0, 0)));
     // (1, 0) comes in and (63, 0) goes out
-    expect_same(
-        &rt,
-        (second.injected, second.drained),
-        (sums(1, -1, 1), sums(1, -1, 1)),
-    );
-    expect_that(&rt, holds(gas.particles(), 0, 0));
-    expect_that(&rt, holds(gas.particles(), 1, 0));
-    expect_that(&rt, !holds(gas.particles(), 63, 0));
+    let moved = replace_row_0(&rt, &mut gas, 0xc0, 0x00);
+    expect_same(&rt, moved, (sums(1, -1, 1), sums(1, -1, 1)));
+    let cells = [(0, 0, true), (1, 0, true), (63, 0, false)];
+    expect_cells(&rt, gas.particles(), &cells);
+}
+
+fn expect_solids(
+    rt: &impl Abort,
+    gas: &Gas,
+    walls: &[(u32, u32, bool)],
+    obstacles: &[(u32, u32, bool)],
+) {
+    expect_cells(rt, gas.walls(), walls);
+    expect_cells(rt, gas.obstacles(), obstacles);
 }
 
 #[test]
 fn wall_removed_again(rt: HostRuntime) {
     let mut gas = gas_at(&rt, 0);
-    let both = area(&rt, &gas, 1, 1, 3, 1);
+    let both = [(Part::Wall, 1, 1, 3, 1), (Part::Obstacle, 1, 1, 3, 1)];
+    add_all(&rt, &mut gas, &both);
+    expect_solids(&rt, &gas, &[(1, 1, true), (1, 2, false)], &[(3, 1, true)]);
     let part = area(&rt, &gas, 1, 1, 2, 2);
-    gas.add_walls(both);
-    gas.add_obstacles(both);
-    expect_that(&rt, holds(gas.walls(), 1, 1));
-    expect_that(&rt, holds(gas.obstacles(), 3, 1));
-    expect_that(&rt, !holds(gas.walls(), 1, 2));
     gas.remove_walls_and_obstacles(part);
-    expect_that(&rt, !holds(gas.walls(), 1, 1));
-    expect_that(&rt, !holds(gas.obstacles(), 2, 1));
-    expect_that(&rt, holds(gas.walls(), 3, 1));
-    expect_that(&rt, holds(gas.obstacles(), 3, 1));
+    let walls = [(1, 1, false), (3, 1, true)];
+    let obstacles = [(2, 1, false), (3, 1, true)];
+    expect_solids(&rt, &gas, &walls, &obstacles);
 }
 
 // A gas with a particle, a wall, an obstacle and a source.
 fn fill_in(rt: &impl Abort, gas: &mut Gas) {
-    expect_same(&rt, put(rt, gas, 2, 3, 1, 1).injected.count, 1);
-    let wall = area(rt, gas, 4, 5, 1, 1);
-    gas.add_walls(wall);
-    let obstacle = area(rt, gas, 6, 70, 1, 1);
-    gas.add_obstacles(obstacle);
-    source(rt, gas, 8, 9, 1, 1, 10);
+    let parts = [
+        (Part::Particles, 2, 3, 1, 1),
+        (Part::Wall, 4, 5, 1, 1),
+        (Part::Obstacle, 6, 70, 1, 1),
+        (Part::Source(10), 8, 9, 1, 1),
+    ];
+    add_all(rt, gas, &parts);
 }
 
-fn is_filled_in(gas: &Gas) -> bool {
-    holds(gas.particles(), 2, 3)
-        && holds(gas.walls(), 4, 5)
-        && holds(gas.obstacles(), 6, 70)
-        && gas.ports().sources().len() == 1
+fn expect_filled_in(rt: &impl Abort, gas: &Gas) {
+    expect_cells(rt, gas.particles(), &[(2, 3, true)]);
+    expect_cells(rt, gas.walls(), &[(4, 5, true)]);
+    expect_cells(rt, gas.obstacles(), &[(6, 70, true)]);
+    expect_same(&rt, gas.ports().sources().len(), 1);
+}
+
+fn expect_copied(rt: &impl Abort, copy: &Gas, gas: &Gas) {
+    expect_that(&rt, copy.size() == gas.size());
+    expect_that(&rt, copy.tick().get() == 0);
+    expect_same(&rt, tally(copy.particles(), copy.tick()), sums(1, 1, -1));
+    expect_filled_in(rt, copy);
+    expect_same(&rt, copy.ports().sources(), gas.ports().sources());
 }
 
 // Passes too if any one of its allocations is refused.
@@ -379,13 +321,10 @@ fn refused_memory_leaves_the_gas(rt: HostRuntime) {
     let Ok(mut gas) = Gas::empty(rt.alloc(), size) else {
         return;
     };
+    expect_that(&rt, gas.size() == size);
     fill_in(&rt, &mut gas);
     if let Ok(copy) = gas.copy(rt.alloc()) {
-        expect_that(&rt, copy.size() == size);
-        expect_that(&rt, copy.tick().get() == 0);
-        expect_same(&rt, tally(copy.particles(), copy.tick()), sums(1, 1, -1));
-        expect_that(&rt, is_filled_in(&copy));
-        expect_same(&rt, copy.ports().sources(), gas.ports().sources());
+        expect_copied(&rt, &copy, &gas);
     }
-    expect_that(&rt, is_filled_in(&gas));
+    expect_filled_in(&rt, &gas);
 }

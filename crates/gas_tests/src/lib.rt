@@ -13,6 +13,8 @@ mod desks;
 #[cfg(test)]
 mod expected;
 #[cfg(test)]
+mod gases;
+#[cfg(test)]
 mod lattices;
 #[cfg(test)]
 mod ledgers;

@@ -3,11 +3,13 @@
 ghost use Rattle.std.specs.Prelude.{◌≡◌, true};
 ghost use Rattle.gas_terms.specs.Cells.{lies_within, extent};
 
+use crate::borders::{Side, expect_ring};
 use crate::expected::{expect_same, expect_that};
-use crate::lattices::holds;
+use crate::lattices::{are_same, expect_cells, holds};
 use gas_plane::{Plane, Tile, word_of};
 use gas_terms::{Rect, Size};
 use std::process::Abort;
+use tile_border::Round;
 
 // An empty plane of 128 by 128: four tiles.
 fn four_tiles(rt: &(impl Abort + AllocGlobal)) -> Plane {
@@ -23,12 +25,44 @@ fn area(rt: &impl Abort, plane: &Plane, x: u32, y: u32, w: u32, h: u32) -> Rect
     area
 }
 
+fn write_row(rt: &impl Abort, plane: &mut Plane, y: u32, row: &[u8]) {
+    let size = plane.size();
+    expect_that(&rt, y < u32::from(size.height()));
+    expect_that(&rt, row.len() == usize::from(size.width()) / 8);
+    plane.set_row(y, row);
+}
+
+fn read_row(rt: &impl Abort, plane: &Plane, y: u32, row: &mut [u8]) {
+    let size = plane.size();
+    expect_that(&rt, y < u32::from(size.height()));
+    expect_that(&rt, row.len() == usize::from(size.width()) / 8);
+    plane.row_bytes(y, row);
+}
+
+// puts a cell into a tile that is lent, or takes it out
+fn lend(rt: &impl Abort, plane: &mut Plane, i: u32, x: u32, y: u32, held: bool) {
+    expect_that(&rt, i < plane.size().tiles());
+    assert!(rt; x < 64 && y < 64);
+    plane.tile_mut(i).set(x, y, held);
+}
+
+fn empty_tile(rt: &impl Abort, plane: &mut Plane, i: u32) {
+    expect_that(&rt, i < plane.size().tiles());
+    plane.set_tile(i, Tile::empty());
+}
+
+// stops a test if one of these cells round a tile is not full or empty as told
+fn expect_border(rt: &impl Abort, plane: &Plane, i: u32, cells: &[(Side, i32, bool)]) {
+    expect_that(&rt, i < plane.size().tiles());
+    expect_ring(rt, &plane.border(i), cells);
+}
+
 #[test]
 fn fills_and_clears_over_the_seams(rt: HostRuntime) {
     let mut plane = four_tiles(&rt);
     plane.fill(area(&rt, &plane, 62, 63, 4, 3));
     plane.clear(area(&rt, &plane, 64, 64, 1, 1));
-    for (x, y, held) in [
+    let cells = [
         (61, 63, false),
         (62, 63, true),
         (65, 63, true),
@@ -38,9 +72,8 @@ fn fills_and_clears_over_the_seams(rt: HostRuntime) {
         (63, 66, false),
         (64, 64, false),
         (65, 65, true),
-    ] {
-        expect_same(&rt, (x, y, holds(&plane, x, y)), (x, y, held));
-    }
+    ];
+    expect_cells(&rt, &plane, &cells);
 }
 
 #[test]
@@ -58,39 +91,35 @@ fn counts_by_parities(rt: HostRuntime) {
 #[test]
 fn reads_and_writes_rows(rt: HostRuntime) {
     let mut plane = four_tiles(&rt);
+    let row = [0xc0, 0, 0, 0, 0, 0, 0, 0x01, 0x90, 0, 0, 0, 0, 0, 0, 0];
+    write_row(&rt, &mut plane, 70, &row);
+    let cells = [
+        (0, 70, true),
+        (1, 70, true),
+        (2, 70, false),
+        (62, 70, false),
+        (63, 70, true),
+        (64, 70, true),
+        (67, 70, true),
+        (127, 70, false),
+        (0, 69, false),
+        (0, 71, false),
+    ];
+    expect_cells(&rt, &plane, &cells);
+    let mut read = [1; 16];
+    read_row(&rt, &plane, 70, &mut read);
+    expect_same(&rt, read.as_slice(), row.as_slice());
+    // columns 0, 1 and 63, and 64 and 67
+    let words = (0x8000_0000_0000_0003, 9);
+    expect_same(&rt, words_of_row_70(&rt, &plane), words);
+    expect_same(&rt, (word_of(&row[..8]), word_of(&row[8..])), words);
+}
+
+fn words_of_row_70(rt: &impl Abort, plane: &Plane) -> (u64, u64) {
     let size = plane.size();
     expect_that(&rt, size.width() == 128);
     expect_that(&rt, size.height() == 128);
-    let mut row = [0; 16];
-    row[0] = 0xc0;
-    row[7] = 0x01;
-    row[8] = 0x90;
-    plane.set_row(70, &row);
-    for (x, held) in [
-        (0, true),
-        (1, true),
-        (2, false),
-        (62, false),
-        (63, true),
-        (64, true),
-        (67, true),
-        (127, false),
-    ] {
-        expect_same(&rt, (x, holds(&plane, x, 70)), (x, held));
-    }
-    expect_that(&rt, !holds(&plane, 0, 69));
-    expect_that(&rt, !holds(&plane, 0, 71));
-    let again = plane.size();
-    expect_that(&rt, again.width() == 128);
-    expect_that(&rt, again.height() == 128);
-    let mut read = [1; 16];
-    plane.row_bytes(70, &mut read);
-    expect_same(&rt, read.as_slice(), row.as_slice());
-    // columns 0, 1 and 63, and 64 and 67
-    expect_same(&rt, plane.word(0, 70), 0x8000_0000_0000_0003);
-    expect_same(&rt, plane.word(1, 70), 9);
-    expect_same(&rt, word_of(&row[..8]), 0x8000_0000_0000_0003);
-    expect_same(&rt, word_of(&row[8..]), 9);
+    (plane.word(0, 70), plane.word(1, 70))
 }
 
 #[test]
@@ -98,16 +127,19 @@ fn has_borders_round_the_torus(rt: HostRuntime) {
     let mut plane = four_tiles(&rt);
     plane.fill(area(&rt, &plane, 127, 127, 1, 1));
     plane.fill(area(&rt, &plane, 64, 5, 1, 1));
-    expect_that(&rt, plane.size().tiles() == 4);
-    let first = plane.border(0);
-    expect_that(&rt, first.cell(-1, -1));
-    expect_that(&rt, first.cell(64, 5));
-    expect_that(&rt, !first.cell(-1, 5));
-    expect_that(&rt, !first.cell(64, 64));
-    let second = plane.border(1);
-    expect_that(&rt, second.cell(63, -1));
-    expect_that(&rt, !second.cell(64, 5));
-    expect_that(&rt, !second.cell(-1, -1));
+    let first = [
+        (Side::Above, -1, true),
+        (Side::Right, 5, true),
+        (Side::Left, 5, false),
+        (Side::Below, 64, false),
+    ];
+    expect_border(&rt, &plane, 0, &first);
+    let second = [
+        (Side::Above, 63, true),
+        (Side::Right, 5, false),
+        (Side::Above, -1, false),
+    ];
+    expect_border(&rt, &plane, 1, &second);
 }
 
 #[test]
@@ -120,62 +152,59 @@ fn replaces_a_tile(rt: HostRuntime) {
     let counts = plane.counts_in(area(&rt, &plane, 0, 64, 64, 64));
     // columns 1 to 3 and rows 66 to 69
     expect_same(&rt, counts.as_slice(), [2, 4, 2, 4].as_slice());
-    expect_that(&rt, holds(&plane, 64, 64));
-    expect_that(&rt, holds(&plane, 0, 63));
+    expect_cells(&rt, &plane, &[(64, 64, true), (0, 63, true)]);
     expect_that(&rt, holds(&was, 0, 64));
     expect_that(&rt, was.size().tiles() == 4);
     expect_that(&rt, was.tile(2).get(0, 0));
 }
 
+// a row with these columns has these bytes, and they make that row again: for each of two ranges, its first column and width
+fn row_is(rt: &(impl Abort + AllocGlobal), ranges: [(u32, u32); 2], bytes: &[u8; 8]) {
+    let size = Size::new(64, 64).expect(rt, "a size");
+    let mut plane = Plane::empty(rt.alloc(), size).expect(rt, "memory");
+    for (x, w) in ranges {
+        plane.fill(area(rt, &plane, x, 5, w, 1));
+    }
+    let mut read = [1; 8];
+    read_row(rt, &plane, 5, &mut read);
+    expect_same(&rt, read.as_slice(), bytes.as_slice());
+    let mut again = Plane::empty(rt.alloc(), size).expect(rt, "memory");
+    write_row(rt, &mut again, 5, bytes);
+    expect_that(&rt, are_same(&again, &plane, 64, 64));
+}
+
 #[test]
 fn writes_rows_from_the_highest_bit(rt: HostRuntime) {
-    let size = Size::new(64, 64).expect(&rt, "a size");
-    for (cells, want) in [
-        ((0, 1, 0, 0), [0x80, 0, 0, 0, 0, 0, 0, 0]),
-        ((63, 1, 0, 0), [0, 0, 0, 0, 0, 0, 0, 0x01]),
-        ((0, 1, 63, 1), [0x80, 0, 0, 0, 0, 0, 0, 0x01]),
-        ((28, 8, 0, 0), [0, 0, 0, 0x0f, 0xf0, 0, 0, 0]),
+    for (ranges, bytes) in [
+        ([(0, 1), (0, 1)], [0x80, 0, 0, 0, 0, 0, 0, 0]),
+        ([(63, 1), (63, 1)], [0, 0, 0, 0, 0, 0, 0, 0x01]),
+        ([(0, 1), (63, 1)], [0x80, 0, 0, 0, 0, 0, 0, 0x01]),
+        ([(28, 4), (32, 4)], [0, 0, 0, 0x0f, 0xf0, 0, 0, 0]),
     ] {
-        let mut plane = Plane::empty(rt.alloc(), size).expect(&rt, "memory");
-        for (x, w) in [(cells.0, cells.1), (cells.2, cells.3)] {
-            if w > 0 {
-                plane.fill(area(&rt, &plane, x, 5, w, 1));
-            }
-        }
-        let sides = plane.size();
-        assert!(rt; sides.width() == 64 && sides.height() == 64);
-        let mut read = [1; 8];
-        plane.row_bytes(5, &mut read);
-        assert_eq!(rt; read.as_slice(), want.as_slice());
-        let mut again = Plane::empty(rt.alloc(), size).expect(&rt, "memory");
-        let sides = again.size();
-        assert!(rt; sides.width() == 64 && sides.height() == 64);
-        again.set_row(5, &want);
-        for x in 0..64 {
-            expect_same(&rt, (x, holds(&again, x, 5)), (x, holds(&plane, x, 5)));
-        }
+        row_is(&rt, ranges, &bytes);
+    }
+}
+
+fn bit_of(row: &[u8], x: u32) -> bool {
+    match row.get((x / 8) as usize) {
+        Some(byte) => (*byte >> (7 - x % 8)) & 1 == 1,
+        None => false,
     }
 }
 
 // puts the first bytes of a row into row 37, reads them again, and asks for each of their cells
 fn put_and_read(rt: &impl Abort, plane: &mut Plane, row: &[u8]) {
-    let n = usize::from(plane.size().width()) / 8;
-    expect_that(&rt, plane.size().height() == 64);
+    let width = plane.size().width();
+    let n = usize::from(width) / 8;
     expect_that(&rt, n <= row.len());
     expect_that(&rt, n <= 512);
-    let bytes = &row[..n];
-    plane.set_row(37, bytes);
-    expect_that(&rt, plane.size().height() == 64);
-    expect_that(&rt, usize::from(plane.size().width()) / 8 == n);
+    write_row(rt, plane, 37, &row[..n]);
     let mut room = [1; 512];
     let read = &mut room[..n];
-    plane.row_bytes(37, read);
-    expect_that(&rt, &*read == bytes);
-    for k in 0..n {
-        for i in 0..8u32 {
-            let held = (bytes[k] >> (7 - i)) & 1 == 1;
-            expect_that(&rt, holds(plane, 8 * k as u32 + i, 37) == held);
-        }
+    read_row(rt, plane, 37, read);
+    expect_that(&rt, &*read == &row[..n]);
+    for x in 0..u32::from(width) {
+        expect_that(&rt, holds(plane, x, 37) == bit_of(row, x));
     }
 }
 
@@ -202,26 +231,32 @@ fn is_as_wide_as_a_lattice_may_be(rt: HostRuntime) {
     // columns 4030 to 4095 in row 10, and to 4094 in row 11
     let counts = plane.counts_in(area(&rt, &plane, 0, 0, 4096, 64));
     expect_same(&rt, counts.as_slice(), [33, 33, 33, 32].as_slice());
-    expect_that(&rt, plane.size().tiles() == 64);
-    let first = plane.border(0);
-    expect_that(&rt, first.cell(-1, 10));
-    expect_that(&rt, !first.cell(-1, 11));
-    expect_that(&rt, !first.cell(64, 10));
-    // one row of tiles is above and below itself
-    let last = plane.border(63);
-    expect_that(&rt, last.cell(-1, 10));
-    expect_that(&rt, !last.cell(64, 10));
-    expect_that(&rt, !last.cell(0, -1));
-    expect_that(&rt, !last.cell(0, 64));
-    let sides = plane.size();
-    expect_that(&rt, sides.width() == 4096);
-    expect_that(&rt, sides.height() == 64);
+    expect_wide_borders(&rt, &plane);
     let mut row = [0; 512];
-    plane.row_bytes(11, &mut row);
-    expect_that(&rt, row[502] == 0);
-    expect_that(&rt, row[503] == 0x03);
-    expect_that(&rt, row[504] == 0xff);
-    expect_that(&rt, row[511] == 0xfe);
+    read_row(&rt, &plane, 11, &mut row);
+    expect_same(
+        &rt,
+        (row[502], row[503], row[504], row[511]),
+        (0, 0x03, 0xff, 0xfe),
+    );
+}
+
+fn expect_wide_borders(rt: &impl Abort, plane: &Plane) {
+    expect_same(&rt, plane.size().tiles(), 64);
+    let first = [
+        (Side::Left, 10, true),
+        (Side::Left, 11, false),
+        (Side::Right, 10, false),
+    ];
+    expect_border(rt, plane, 0, &first);
+    // one row of tiles is above and below itself
+    let last = [
+        (Side::Left, 10, true),
+        (Side::Right, 10, false),
+        (Side::Above, 0, false),
+        (Side::Below, 0, false),
+    ];
+    expect_border(rt, plane, 63, &last);
 }
 
 fn is_bare(plane: &Plane, i: u32) -> bool {
@@ -244,21 +279,36 @@ const NEAR: [u32; 9] = [0, 1, 4, 5, 6, 9, 20, 21, 24];
 
 fn assert_bare_but_near(rt: &impl Abort, plane: &Plane, name: &str) {
     for i in 0..25u32 {
-        expect_same(&rt, (name, i, is_bare(plane, i)), (name, i, i > 0));
+        let found = (is_bare(plane, i), is_bare_round(plane, i));
         expect_same(
             &rt,
-            (name, i, is_bare_round(plane, i)),
-            (name, i, !NEAR.contains(&i)),
+            (name, i, found),
+            (name, i, (i > 0, !NEAR.contains(&i))),
         );
     }
 }
 
 fn assert_bare(rt: &impl Abort, plane: &Plane, name: &str) {
     for i in 0..25u32 {
-        assert!(rt;
-            is_bare(plane, i) && is_bare_round(plane, i),
-            "{name}, tile {i}"
-        );
+        let found = (is_bare(plane, i), is_bare_round(plane, i));
+        expect_same(&rt, (name, i, found), (name, i, (true, true)));
+    }
+}
+
+// round tile i, one place has the tile with the cell (5, 5), and the others have no cells
+fn expect_first_in(rt: &impl Abort, i: u32, round: &Round<'_>) {
+    for (tile, at) in [
+        (round.above, 5),
+        (round.below, 20),
+        (round.left, 1),
+        (round.right, 4),
+        (round.above_left, 6),
+        (round.above_right, 9),
+        (round.below_left, 21),
+        (round.below_right, 24),
+    ] {
+        let found = (tile.get(5, 5), tile.is_empty());
+        expect_same(&rt, (i, found), (i, (i == at, i != at)));
     }
 }
 
@@ -271,26 +321,12 @@ fn reads_what_is_round_a_tile(rt: HostRuntime) {
     // the tile that has tile 0 in each of the eight places
     for i in 0..25u32 {
         expect_that(&rt, plane.size().tiles() == 25);
-        let round = plane.round(i);
-        for (tile, at) in [
-            (round.above, 5),
-            (round.below, 20),
-            (round.left, 1),
-            (round.right, 4),
-            (round.above_left, 6),
-            (round.above_right, 9),
-            (round.below_left, 21),
-            (round.below_right, 24),
-        ] {
-            expect_same(&rt, (i, tile.get(5, 5)), (i, i == at));
-            expect_same(&rt, (i, tile.is_empty()), (i, i != at));
-        }
+        expect_first_in(&rt, i, &plane.round(i));
     }
-    expect_that(&rt, plane.size().tiles() == 25);
-    plane.tile_mut(12).set(63, 0, true);
+    lend(&rt, &mut plane, 12, 63, 0, true);
     expect_that(&rt, plane.size().tiles() == 25);
     expect_that(&rt, plane.round(13).left.get(63, 0));
-    expect_that(&rt, plane.border(13).cell(-1, 0));
+    expect_border(&rt, &plane, 13, &[(Side::Left, 0, true)]);
 }
 
 #[test]
@@ -322,25 +358,16 @@ fn knows_again_what_was_cleared(rt: HostRuntime) {
 fn knows_what_rows_leave(rt: HostRuntime) {
     let mut plane = five_by_five(&rt);
     for y in 0..320u32 {
-        let sides = plane.size();
-        expect_that(&rt, sides.width() == 320);
-        expect_that(&rt, sides.height() == 320);
         let mut row = [0; 40];
-        plane.row_bytes(y, &mut row);
-        plane.set_row(y, &row);
+        read_row(&rt, &plane, y, &mut row);
+        write_row(&rt, &mut plane, y, &row);
         assert_bare_but_near(&rt, &plane, "rows as they were");
     }
-    let sides = plane.size();
-    expect_that(&rt, sides.width() == 320);
-    expect_that(&rt, sides.height() == 320);
-    plane.set_row(5, &[0; 40]);
-    assert_bare(&rt, &plane, "a row of zeros");
     let mut row = [0; 40];
+    write_row(&rt, &mut plane, 5, &row);
+    assert_bare(&rt, &plane, "a row of zeros");
     row[0] = 0x01;
-    let sides = plane.size();
-    expect_that(&rt, sides.width() == 320);
-    expect_that(&rt, sides.height() == 320);
-    plane.set_row(63, &row);
+    write_row(&rt, &mut plane, 63, &row);
     assert_bare_but_near(&rt, &plane, "a row with a cell");
 }
 
@@ -348,20 +375,16 @@ fn knows_what_rows_leave(rt: HostRuntime) {
 fn knows_what_tiles_leave(rt: HostRuntime) {
     let mut plane = five_by_five(&rt);
     for i in 1..25u32 {
-        expect_that(&rt, plane.size().tiles() == 25);
-        plane.set_tile(i, Tile::empty());
+        empty_tile(&rt, &mut plane, i);
     }
     assert_bare_but_near(&rt, &plane, "tiles without cells");
-    expect_that(&rt, plane.size().tiles() == 25);
-    plane.tile_mut(12).set(63, 0, true);
-    expect_that(&rt, !is_bare(&plane, 12));
-    expect_that(&rt, !is_bare(&plane, 0));
-    expect_that(&rt, is_bare(&plane, 11));
-    expect_that(&rt, plane.size().tiles() == 25);
-    plane.tile_mut(12).set(63, 0, false);
+    lend(&rt, &mut plane, 12, 63, 0, true);
+    for (i, bare) in [(0, false), (11, true), (12, false)] {
+        expect_same(&rt, (i, is_bare(&plane, i)), (i, bare));
+    }
+    lend(&rt, &mut plane, 12, 63, 0, false);
     assert_bare_but_near(&rt, &plane, "a tile that was lent");
-    expect_that(&rt, plane.size().tiles() == 25);
-    plane.set_tile(0, Tile::empty());
+    empty_tile(&rt, &mut plane, 0);
     assert_bare(&rt, &plane, "the last one's tile");
 }
 
@@ -373,12 +396,16 @@ fn knows_whether_it_has_cells(rt: HostRuntime) {
     expect_that(&rt, !plane.is_empty());
     plane.clear(area(&rt, &plane, 100, 70, 1, 1));
     expect_that(&rt, plane.is_empty());
-    expect_that(&rt, plane.size().tiles() == 4);
-    plane.tile_mut(1).set(63, 63, true);
+    lend(&rt, &mut plane, 1, 63, 63, true);
     expect_that(&rt, !plane.is_empty());
-    expect_that(&rt, plane.size().tiles() == 4);
-    plane.tile_mut(1).set(63, 63, false);
+    lend(&rt, &mut plane, 1, 63, 63, false);
     expect_that(&rt, plane.is_empty());
+}
+
+// whether the tile above tile i and to the left has the cell (5, 5)
+fn is_upper_left(rt: &impl Abort, plane: &Plane, i: u32) -> bool {
+    expect_that(&rt, i < plane.size().tiles());
+    plane.round_at(plane.position(i)).above_left.get(5, 5)
 }
 
 // 5 tiles in a row
@@ -394,22 +421,17 @@ fn positions_follow_one_another(rt: HostRuntime) {
         expect_that(&rt, next == plane.position(tile + 1));
     }
     // tile 6 has tile 0 above it and to the left
-    expect_that(&rt, plane.size().tiles() == 25);
-    expect_that(&rt, plane.round_at(plane.position(6)).above_left.get(5, 5));
-    expect_that(&rt, plane.size().tiles() == 25);
-    expect_that(&rt, !plane.round_at(plane.position(7)).above_left.get(5, 5));
+    expect_that(&rt, is_upper_left(&rt, &plane, 6));
+    expect_that(&rt, !is_upper_left(&rt, &plane, 7));
 }
 
 #[test]
 fn lends_a_tile(rt: HostRuntime) {
     let mut plane = four_tiles(&rt);
-    expect_that(&rt, plane.size().tiles() == 4);
-    plane.tile_mut(3).set(1, 2, true);
-    expect_that(&rt, holds(&plane, 65, 66));
-    expect_that(&rt, !holds(&plane, 1, 2));
+    lend(&rt, &mut plane, 3, 1, 2, true);
+    expect_cells(&rt, &plane, &[(65, 66, true), (1, 2, false)]);
     expect_that(&rt, !is_bare_round(&plane, 0));
-    expect_that(&rt, plane.size().tiles() == 4);
-    plane.tile_mut(3).set(1, 2, false);
+    lend(&rt, &mut plane, 3, 1, 2, false);
     expect_that(&rt, !holds(&plane, 65, 66));
 }
 
@@ -426,10 +448,7 @@ fn refused_memory_leaves_planes(rt: HostRuntime) {
         Ok(copy) => copy,
         Err(_) => plane.copy(rt.alloc()).expect(&rt, "memory"),
     };
-    expect_that(&rt, holds(&copy, 63, 0));
-    expect_that(&rt, holds(&copy, 64, 0));
-    expect_that(&rt, !holds(&copy, 65, 0));
-    expect_that(&rt, holds(&plane, 63, 0));
-    expect_that(&rt, holds(&plane, 64, 0));
-    expect_that(&rt, !holds(&plane, 65, 0));
+    let cells = [(63, 0, true), (64, 0, true), (65, 0, false)];
+    expect_cells(&rt, &copy, &cells);
+    expect_cells(&rt, &plane, &cells);
 }

@@ -3,7 +3,7 @@
 use crate::expected::expect_that;
 use crate::lattices::fit;
 use gas_plane::Plane;
-use gas_terms::Took;
+use gas_terms::{Pair, Took};
 use phase_step::Stepper;
 use phase_team::{Gate, Team};
 use std::alloc::Global;
@@ -35,4 +35,15 @@ pub fn team<R: Threads + Drop, G: Gate + Drop>(
 ) -> Team<R, G> {
     expect_that(&abort, 0 < workers && workers <= 16);
     Team::new(rt, alloc, workers, gate)
+}
+
+fn add(total: &mut Pair, more: Pair) {
+    total.x = total.x.wrapping_add(more.x);
+    total.y = total.y.wrapping_add(more.y);
+}
+
+/// Adds what a phase took to a sum.
+pub fn add_taken(total: &mut Took, more: Took) {
+    add(&mut total.walls, more.walls);
+    add(&mut total.obstacles, more.obstacles);
 }

@@ -1,8 +1,8 @@
 //! Runs by strips of teams, with values found by hand and by the second implementation, and beside those of one thread.
 
 use crate::expected::expect_that;
-use crate::lattices::{are_same, holds, plane, scattered};
-use crate::steppers::{step, team};
+use crate::lattices::{are_same, fit, holds, plane, scattered};
+use crate::steppers::{add_taken, step, team};
 use gas_plane::Plane;
 use gas_terms::{Moved, Pair, Rect, Size, Sums, Took};
 use phase_step::{Action, Exchange, Few, Flow, Listed, Run, Serial, Stepper, Still, parity_at};
@@ -28,11 +28,8 @@ fn act_along<S: Stepper, A: Action>(
     particles: &mut Plane,
     spare: &mut Plane,
 ) -> Flow {
-    let size = particles.size();
     expect_that(&rt, ground.parity < 2);
-    expect_that(&rt, ground.walls.size() == size);
-    expect_that(&rt, ground.obstacles.size() == size);
-    expect_that(&rt, spare.size() == size);
+    fit(rt, particles, ground.walls, ground.obstacles, spare);
     let run = Run {
         walls: ground.walls,
         obstacles: ground.obstacles,
@@ -64,10 +61,10 @@ fn by_strips<R: Threads + Abort + AllocGlobal + Copy + Drop, A: Action>(
 // the same on one thread, phase by phase
 fn by_phases(rt: &impl Abort, run: Ground<'_>, particles: &mut Plane, spare: &mut Plane) -> Took {
     expect_that(&rt, run.parity < 2);
-    let mut took = [0i64; 4];
+    let mut took = Took::ZERO;
     for k in 0..run.n {
         let turn = parity_at(run.parity, k);
-        let Took { walls, obstacles } = step(
+        let more = step(
             rt,
             &mut Serial,
             particles,
@@ -76,19 +73,10 @@ fn by_phases(rt: &impl Abort, run: Ground<'_>, particles: &mut Plane, spare: &mu
             turn,
             spare,
         );
-        for (sum, more) in took
-            .iter_mut()
-            .zip([walls.x, walls.y, obstacles.x, obstacles.y])
-        {
-            *sum = sum.wrapping_add(more);
-        }
+        add_taken(&mut took, more);
         std::mem::swap(particles, spare);
     }
-    let [x, y, u, v] = took;
-    Took {
-        walls: Pair { x, y },
-        obstacles: Pair { x: u, y: v },
-    }
+    took
 }
 
 // a run ends the same by strips of so many workers each and phase by phase

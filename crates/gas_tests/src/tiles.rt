@@ -2,6 +2,18 @@
 
 use crate::expected::{expect_same, expect_that};
 use bit_tile::{Tile, counts_in_row};
+use std::process::Abort;
+
+fn holds(tile: &Tile, x: u32, y: u32) -> bool {
+    x < 64 && y < 64 && tile.get(x, y)
+}
+
+// stops a test if one of these cells is not full or empty as told
+fn expect_cells(rt: &impl Abort, tile: &Tile, cells: &[(u32, u32, bool)]) {
+    for (x, y, held) in cells {
+        expect_same(&rt, (*x, *y, holds(tile, *x, *y)), (*x, *y, *held));
+    }
+}
 
 #[test]
 fn cells_are_put_in_and_taken_out(rt: HostRuntime) {
@@ -27,14 +39,17 @@ fn cells_are_put_in_and_taken_out(rt: HostRuntime) {
 fn rectangles_end_at_their_edges(rt: HostRuntime) {
     // columns 62 and 63, rows 1 to 3
     let mask = Tile::rect(62, 1, 2, 3);
-    expect_that(&rt, mask.get(62, 1));
-    expect_that(&rt, mask.get(63, 1));
-    expect_that(&rt, mask.get(62, 3));
-    expect_that(&rt, mask.get(63, 3));
-    expect_that(&rt, !mask.get(61, 1));
-    expect_that(&rt, !mask.get(62, 0));
-    expect_that(&rt, !mask.get(63, 4));
-    expect_that(&rt, !mask.get(0, 2));
+    let cells = [
+        (62, 1, true),
+        (63, 1, true),
+        (62, 3, true),
+        (63, 3, true),
+        (61, 1, false),
+        (62, 0, false),
+        (63, 4, false),
+        (0, 2, false),
+    ];
+    expect_cells(&rt, &mask, &cells);
     expect_same(&rt, mask.count(), 6);
     // by columns and rows: even and even, odd and even, even and odd, odd and odd
     expect_same(
@@ -57,9 +72,7 @@ fn tiles_are_joined_cut_and_met(rt: HostRuntime) {
     let others = Tile::rect(2, 2, 4, 4);
     let both = some.meet(&others);
     expect_same(&rt, both.count(), 4);
-    expect_that(&rt, both.get(2, 3));
-    expect_that(&rt, !both.get(1, 3));
-    expect_that(&rt, !both.get(4, 3));
+    expect_cells(&rt, &both, &[(2, 3, true), (1, 3, false), (4, 3, false)]);
     expect_same(
         &rt,
         both.count_by_parity().as_slice(),
@@ -69,17 +82,13 @@ fn tiles_are_joined_cut_and_met(rt: HostRuntime) {
     let mut joined = some;
     joined.join(&others);
     expect_same(&rt, joined.count(), 28);
-    expect_that(&rt, joined.get(0, 0));
-    expect_that(&rt, joined.get(5, 5));
-    expect_that(&rt, !joined.get(5, 0));
+    expect_cells(&rt, &joined, &[(0, 0, true), (5, 5, true), (5, 0, false)]);
 
     let mut cut = some;
     cut.cut(&others);
     expect_same(&rt, cut.count(), 12);
-    expect_that(&rt, cut.get(0, 0));
-    expect_that(&rt, cut.get(1, 3));
-    expect_that(&rt, !cut.get(2, 2));
-    expect_that(&rt, !cut.get(5, 5));
+    let cells = [(0, 0, true), (1, 3, true), (2, 2, false), (5, 5, false)];
+    expect_cells(&rt, &cut, &cells);
 }
 
 #[test]
@@ -88,10 +97,10 @@ fn knows_whether_it_is_empty(rt: HostRuntime) {
     for (x, y) in [(0, 0), (63, 0), (5, 31), (0, 63), (63, 63)] {
         let mut tile = Tile::empty();
         tile.set(x, y, true);
-        assert!(rt; !tile.is_empty(), "at {x} {y}");
-        expect_same(&rt, tile.rows_with_cells(), 1 << (y / 2));
+        let found = (tile.is_empty(), tile.rows_with_cells());
+        expect_same(&rt, (x, y, found), (x, y, (false, 1 << (y / 2))));
         tile.set(x, y, false);
-        assert!(rt; tile.is_empty(), "again at {x} {y}");
+        expect_same(&rt, (x, y, tile.is_empty()), (x, y, true));
     }
 }
 
@@ -116,10 +125,6 @@ fn rows_are_words(rt: HostRuntime) {
     expect_that(&rt, !tile.get(0, 62));
 }
 
-fn holds(tile: &Tile, x: u32, y: u32) -> bool {
-    x < 64 && y < 64 && tile.get(x, y)
-}
-
 #[test]
 fn rows_are_put_and_read_back(rt: HostRuntime) {
     // the ends, even and odd columns, two of every four, and the columns from 32 on: two that are there and two that are not
@@ -135,16 +140,14 @@ fn rows_are_put_and_read_back(rt: HostRuntime) {
         let at = y as u32;
         for (row, [some, another], [none, nor], count) in rows {
             tile.set_row(y, row);
-            expect_same(&rt, (y, tile.row(y)), (y, row));
-            assert!(rt;
-                holds(&tile, some, at) && holds(&tile, another, at),
-                "{row:x} in row {y}"
-            );
-            assert!(rt;
-                !holds(&tile, none, at) && !holds(&tile, nor, at),
-                "{row:x} in row {y}"
-            );
-            expect_same(&rt, (y, tile.count()), (y, 4032 + count));
+            expect_same(&rt, (y, tile.row(y), tile.count()), (y, row, 4032 + count));
+            let cells = [
+                (some, at, true),
+                (another, at, true),
+                (none, at, false),
+                (nor, at, false),
+            ];
+            expect_cells(&rt, &tile, &cells);
         }
     }
 }
@@ -192,6 +195,7 @@ fn whole_and_empty_tiles(rt: HostRuntime) {
     for (x, y) in [(0, 0), (63, 0), (5, 31), (0, 63), (63, 63)] {
         let mut tile = Tile::full();
         tile.set(x, y, false);
-        assert!(rt; !tile.has_same_cells(&Tile::full()), "at {x} {y}");
+        let is_full = tile.has_same_cells(&Tile::full());
+        expect_same(&rt, (x, y, is_full), (x, y, false));
     }
 }

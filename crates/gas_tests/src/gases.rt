@@ -1,0 +1,105 @@
+//! Gases of four tiles for tests, and short runs of them.
+
+ghost use Rattle.std.specs.Prelude.{◌≡◌, true};
+ghost use Rattle.gas_terms.specs.Cells.{lies_within, extent};
+
+use crate::expected::{expect_same, expect_that};
+use crate::lattices::expect_cells;
+use gas_ledger::{Flow, Gas, Port, Ports, Sums, tally};
+use gas_plane::Plane;
+use gas_terms::{Rect, Size, Tick};
+use phase_step::Serial;
+use std::process::Abort;
+
+pub fn sums(count: i64, px: i64, py: i64) -> Sums
+    ensures { result ≡ record { count = count; px = px; py = py } }
+{
+    Sums { count, px, py }
+}
+
+pub fn tick(rt: &impl Abort, number: i64) -> Tick {
+    Tick::new(number).expect(rt, "a tick")
+}
+
+/// A gas of four tiles without cells and ports.
+pub fn gas_at(rt: &(impl Abort + AllocGlobal), number: i64) -> Gas {
+    let size = Size::new(128, 128).expect(rt, "a size");
+    let particles = Plane::empty(rt.alloc(), size).expect(rt, "memory");
+    let walls = Plane::empty(rt.alloc(), size).expect(rt, "memory");
+    let obstacles = Plane::empty(rt.alloc(), size).expect(rt, "memory");
+    Gas::new(tick(rt, number), particles, walls, obstacles, Ports::none())
+}
+
+pub fn area(rt: &impl Abort, gas: &Gas, x: u32, y: u32, w: u32, h: u32) -> Rect
+    ensures { lies_within (extent gas.now.particles) result ≡ true }
+{
+    let area = Rect::within(gas.size(), x, y, w, h).expect(rt, "a rectangle");
+    expect_that(&rt, area.fits(gas.size()));
+    area
+}
+
+/// What a rectangle of a gas is for. A source has a period.
+#[derive(Clone, Copy)]
+pub enum Part {
+    Particles,
+    Wall,
+    Obstacle,
+    Drain,
+    Source(u16),
+}
+
+/// Adds a part to a gas. Particles are put where none are.
+pub fn add(rt: &impl Abort, gas: &mut Gas, part: Part, x: u32, y: u32, w: u32, h: u32) {
+    let area = area(rt, gas, x, y, w, h);
+    match part {
+        Part::Particles => {
+            let count = gas.fill_particles(area).injected.count;
+            expect_same(&rt, count, i64::from(w.wrapping_mul(h)));
+        }
+        Part::Wall => gas.add_walls(area),
+        Part::Obstacle => gas.add_obstacles(area),
+        Part::Drain => expect_that(&rt, gas.add_port(Port::Drain(area)).is_ok()),
+        Part::Source(period) => {
+            assert!(rt; 1 <= period);
+            expect_that(&rt, gas.add_port(Port::Source(area, period)).is_ok());
+        }
+    }
+}
+
+pub fn step_on(rt: &(impl Abort + AllocGlobal), gas: &mut Gas, n: u16) -> Flow {
+    let mut spare = Plane::empty(rt.alloc(), gas.size()).expect(rt, "memory");
+    expect_that(&rt, gas.tick().ahead(n).is_some());
+    gas.step_on(n, &mut spare, &mut Serial)
+}
+
+/// A rectangle, and what it is for.
+pub type Placed = (Part, u32, u32, u32, u32);
+
+pub fn add_all(rt: &impl Abort, gas: &mut Gas, parts: &[Placed]) {
+    for (part, x, y, w, h) in parts {
+        add(rt, gas, *part, *x, *y, *w, *h);
+    }
+}
+
+/// Runs a gas with these parts for n phases. It then has these cells, so many in all.
+pub fn run(
+    rt: &(impl Abort + AllocGlobal),
+    number: i64,
+    parts: &[Placed],
+    n: u16,
+    cells: &[(u32, u32, bool)],
+    count: i64,
+) -> Flow {
+    let mut gas = gas_at(rt, number);
+    add_all(rt, &mut gas, parts);
+    let flow = step_on(rt, &mut gas, n);
+    let end = number.wrapping_add(i64::from(n));
+    expect_stepped(rt, &gas, end, cells, count);
+    flow
+}
+
+fn expect_stepped(rt: &impl Abort, gas: &Gas, end: i64, cells: &[(u32, u32, bool)], count: i64) {
+    expect_cells(rt, gas.particles(), cells);
+    let all = tally(gas.particles(), gas.tick());
+    expect_same(&rt, (gas.tick().get(), all.count), (end, count));
+}
