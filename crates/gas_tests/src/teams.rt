@@ -87,6 +87,28 @@ struct Counts {
     others: AtomicU64,
 }
 
+impl Counts {
+    fn new() -> Counts {
+        Counts {
+            tiles: [
+                AtomicU64::new(0),
+                AtomicU64::new(0),
+                AtomicU64::new(0),
+                AtomicU64::new(0),
+                AtomicU64::new(0),
+                AtomicU64::new(0),
+                AtomicU64::new(0),
+                AtomicU64::new(0),
+                AtomicU64::new(0),
+                AtomicU64::new(0),
+                AtomicU64::new(0),
+                AtomicU64::new(0),
+            ],
+            others: AtomicU64::new(0),
+        }
+    }
+}
+
 impl Gate for &Counts {
     fn at_tile(&self, worker: u8, tile: u32) {
         let calls = match self.tiles.get(tile as usize) {
@@ -132,23 +154,7 @@ fn each_tile_is_drawn_once(rt: HostRuntime) {
     let old = scattered(&rt, 256, 192, 1, 3);
     let none = scattered(&rt, 256, 192, 1, 0);
     let mut out = scattered(&rt, 256, 192, 1, 0);
-    let counts = Counts {
-        tiles: [
-            AtomicU64::new(0),
-            AtomicU64::new(0),
-            AtomicU64::new(0),
-            AtomicU64::new(0),
-            AtomicU64::new(0),
-            AtomicU64::new(0),
-            AtomicU64::new(0),
-            AtomicU64::new(0),
-            AtomicU64::new(0),
-            AtomicU64::new(0),
-            AtomicU64::new(0),
-            AtomicU64::new(0),
-        ],
-        others: AtomicU64::new(0),
-    };
+    let counts = Counts::new();
     let mut team = team(&rt, rt, rt.alloc(), 3, &counts);
     for _ in 0..5 {
         phase(&rt, &mut team, &old, &none, &none, 0, &mut out);
