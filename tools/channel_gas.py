@@ -248,4 +248,5 @@ def main():
             print(*reply, flush=True)
 
 
-main()
+if __name__ == "__main__":
+    main()
