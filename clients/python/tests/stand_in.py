@@ -14,7 +14,9 @@ import sys
 import threading
 
 HERE = os.path.dirname(os.path.abspath(__file__))
-SECOND = os.path.join(HERE, "..", "..", "..", "tools", "channel_gas.py")
+sys.path.append(os.path.join(HERE, "..", "..", "..", "tools"))
+
+import channel_gas
 
 RECTANGLES = {"put": 0, "erase": 0, "wall": 0, "block": 0, "unwall": 0, "probe": 0, "drain": 0,
               "source": 1}
@@ -22,26 +24,15 @@ ONE = ("step", "back", "entry", "read")
 NONE = ("unport", "tally", "ledger", "save", "quit")
 
 
-def second():
-    """The names of the second implementation, without its run."""
-    with open(SECOND, encoding="utf-8") as file:
-        text = file.read()
-    names = {"__name__": "channel_gas"}
-    assert text.rstrip().endswith("main()")
-    exec(compile(text.rstrip()[:-len("main()")], SECOND, "exec"), names)
-    return names
-
-
 class Laboratory:
     def __init__(self, asked):
-        self.second = second()
         self.save_path = asked.save
         if asked.load:
             with open(asked.load, "rb") as file:
-                self.gas = self.second["from_snapshot"](file.read())
+                self.gas = channel_gas.from_snapshot(file.read())
         else:
-            self.gas = self.second["Gas"](asked.width, asked.height)
-        self.books = self.second["Books"](self.gas.sums(self.gas.particles))
+            self.gas = channel_gas.Gas(asked.width, asked.height)
+        self.books = channel_gas.Books(self.gas.sums(self.gas.particles))
         self.journal = []
         self.lock = threading.Lock()
 
@@ -76,7 +67,7 @@ class Laboratory:
             if refused:
                 return refused
             parts = (self.gas, self.books, self.journal, self.save_path)
-            reply, = self.second["session"](seat, [line], *parts)
+            reply, = channel_gas.session(seat, [line], *parts)
             return " ".join(map(str, reply))
 
     def session(self, seat, lines, out):

@@ -9,7 +9,7 @@ from gaslab import (Drain, MagicFault, PortFault, ShortFault, SizeFault, Snapsho
 from gaslab.cells import array_of, column_counts, find_numpy, pack_array, rows_of
 from gaslab.scene import rectangles_of
 
-from . import stand_in
+from .stand_in import channel_gas
 
 STORED = Path(__file__).with_name("start.gas")
 
@@ -79,18 +79,17 @@ class Vectors(unittest.TestCase):
         self.assertEqual(gas.to_bytes(), STORED.read_bytes())
 
     def test_the_second_implementation_writes_the_same(self):
-        second = stand_in.second()
-        it = second["Gas"](128, 64)
+        it = channel_gas.Gas(128, 64)
         it.tick = -3
         it.particles, it.walls, it.obstacles = {(0, 0), (127, 63)}, {(5, 6)}, {(64, 1), (65, 1)}
         it.drains, it.sources = [(1, 2, 3, 4)], [(5, 6, 7, 8, 9)]
-        gas = Snapshot.from_bytes(second["snapshot"](it))
+        gas = Snapshot.from_bytes(channel_gas.snapshot(it))
         for cells, plane in ((it.particles, gas.particles), (it.walls, gas.walls),
                              (it.obstacles, gas.obstacles)):
             self.assertEqual({(x, y) for y in range(64) for x in range(128) if plane[y][x]}, cells)
         self.assertEqual((gas.tick, gas.drains, gas.sources),
                          (-3, ((1, 2, 3, 4),), ((5, 6, 7, 8, 9),)))
-        self.assertEqual(gas.to_bytes(), second["snapshot"](it))
+        self.assertEqual(gas.to_bytes(), channel_gas.snapshot(it))
 
 
 class EachDamage(unittest.TestCase):
