@@ -1,7 +1,7 @@
 //! A shelf that is a file, in a folder of the test's own.
 
 use crate::expected::{expect_same, expect_that};
-use gas_snapshot::{FileShelf, Shelf, decode};
+use gas_snapshot::{FileShelf, Shelf};
 use std::process::Abort;
 use std::rt::Files;
 use std::{fs, process};
@@ -36,51 +36,50 @@ fn has_no_draft(rt: &(impl Abort + AllocGlobal + Files), path: &str) {
     expect_that(&rt, fs::metadata(rt, draft_of(rt, path).as_str()).is_err());
 }
 
-fn is_read(rt: &(impl Abort + AllocGlobal), bytes: &[u8]) {
-    let gas = decode(rt.alloc(), bytes).expect(rt, "a gas");
-    expect_same(&rt, gas.tick().get(), -1);
-    expect_same(&rt, gas.ports().drains().len(), 1);
-    expect_same(&rt, gas.ports().sources().len(), 1);
-}
-
 fn holds_the_snapshot(rt: &(impl Abort + AllocGlobal + Files), path: &str) {
     let read = fs::read(rt, path).expect(rt, "a file");
     expect_same(&rt, read.as_slice(), snapshot().as_slice());
-    is_read(rt, read.as_slice());
+}
+
+// A put succeeds or fails, and so many have failed then.
+fn puts<K: Shelf>(rt: &impl Abort, shelf: &mut K, bytes: &[u8], succeeds: bool, failures: u64) {
+    let done = shelf.put(bytes).is_ok();
+    expect_same(&rt, (done, shelf.failures()), (succeeds, failures));
+}
+
+fn takes_the_place_of_the_last<K: Shelf>(
+    rt: &(impl Abort + AllocGlobal + Files),
+    shelf: &mut K,
+    path: &str,
+) {
+    puts(rt, shelf, [1, 2, 3].as_slice(), true, 0);
+    puts(rt, shelf, snapshot().as_slice(), true, 0);
+    has_no_draft(rt, path);
+    holds_the_snapshot(rt, path);
 }
 
 // A folder where the draft would be: the put fails, is counted, and leaves the file that was there.
-#[test]
-fn failed_put_leaves_the_file(rt: HostRuntime) {
-    let folder = format!(in rt.alloc(); "/tmp/gaslab_kept_{}", process::id(rt.process())).expect(
-        &rt, "memory",
-    );
-    let path = path_in(&rt, folder.as_str());
-    let draft = draft_of(&rt, path.as_str());
-    fs::create_dir_all(&rt, draft.as_str()).expect(&rt, "a new folder");
-    fs::write(&rt, path.as_str(), snapshot().as_slice()).expect(&rt, "a file");
-    let mut shelf = FileShelf::new(rt.alloc(), rt, path.as_str(), 7).expect(&rt, "memory");
-    expect_that(&rt, shelf.put([1, 2, 3].as_slice()).is_err());
-    expect_same(&rt, shelf.failures(), 1);
-    holds_the_snapshot(&rt, path.as_str());
-    fs::remove_dir_all(&rt, folder.as_str()).expect(&rt, "no folder");
+fn fails_and_leaves_the_file<K: Shelf>(
+    rt: &(impl Abort + AllocGlobal + Files),
+    shelf: &mut K,
+    path: &str,
+) {
+    fs::create_dir_all(rt, draft_of(rt, path).as_str()).expect(rt, "a new folder");
+    puts(rt, shelf, [1, 2, 3].as_slice(), false, 1);
+    holds_the_snapshot(rt, path);
 }
 
 #[test]
-fn file_shelf_round_trip(rt: HostRuntime) {
+fn file_shelf_keeps_the_last_put_that_succeeds(rt: HostRuntime) {
     let folder = folder_of(&rt, process::id(rt.process()));
     fs::create_dir_all(&rt, folder.as_str()).expect(&rt, "a new folder");
     let path = path_in(&rt, folder.as_str());
     let mut shelf = FileShelf::new(rt.alloc(), rt, path.as_str(), 7).expect(&rt, "memory");
-    expect_that(&rt, shelf.put([1, 2, 3].as_slice()).is_ok());
-    expect_that(&rt, shelf.put(snapshot().as_slice()).is_ok());
-    expect_same(&rt, shelf.failures(), 0);
-    has_no_draft(&rt, path.as_str());
-    holds_the_snapshot(&rt, path.as_str());
+    takes_the_place_of_the_last(&rt, &mut shelf, path.as_str());
+    fails_and_leaves_the_file(&rt, &mut shelf, path.as_str());
     fs::remove_dir_all(&rt, folder.as_str()).expect(&rt, "no folder");
     // if the folder is gone, the put fails and is counted
-    expect_that(&rt, shelf.put(snapshot().as_slice()).is_err());
-    expect_same(&rt, shelf.failures(), 1);
+    puts(&rt, &mut shelf, snapshot().as_slice(), false, 2);
 }
 
 #[test]

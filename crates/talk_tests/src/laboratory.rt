@@ -1,20 +1,18 @@
 //! A laboratory that is called directly, with allocations that fail one by one: a change is done whole or not at all.
 
 use crate::expected::{expect_same, expect_that};
+use crate::fixtures::{CAP, lab, opened, parts_of};
 use gas_lab::{Gas, Lab, Serial};
 use gas_ledger::Source;
 use gas_plane::Plane;
-use gas_terms::{Answer, Command, Entry, Ledger, Rect, Refusal, RowBits, Size};
+use gas_terms::{Answer, Command, Entry, Ledger, Rect, Refusal, RowBits};
 use std::process::Abort;
 
 // The bytes of the rows of 64 by 64 cells.
 const CELLS: usize = 512;
 
-// How many entries the journal may have.
-const CAP: usize = 8;
-
 // What a gas shows. Nothing here takes memory that could be refused.
-#[derive(Clone, Copy, Debug, PartialEq, Eq)]
+#[derive(Clone, Copy, PartialEq, Eq)]
 struct ShownGas {
     tick: i64,
     particles: [u8; CELLS],
@@ -25,17 +23,15 @@ struct ShownGas {
 }
 
 // An entry: its seat and its command, by the command's place in its type, its rectangle, its number and its row.
-#[derive(Clone, Copy, Debug, PartialEq, Eq)]
+#[derive(Clone, Copy, PartialEq, Eq)]
 struct ShownEntry {
     seat: u16,
-    kind: u8,
-    area: Option<Rect>,
-    number: u32,
-    row: Option<[u8; 8]>,
+    parts: (u8, Option<Rect>, u32),
+    row: [Option<u8>; 16],
 }
 
 // What a laboratory shows.
-#[derive(Clone, Copy, Debug, PartialEq, Eq)]
+#[derive(Clone, Copy, PartialEq, Eq)]
 struct Shown {
     start: ShownGas,
     cap: u32,
@@ -77,45 +73,18 @@ fn gas_view(rt: &impl Abort, gas: &Gas) -> ShownGas {
     }
 }
 
-fn row_of(bits: &RowBits) -> [u8; 8] {
-    let mut row = [0; 8];
-    for (place, byte) in row.iter_mut().zip(bits.bytes()) {
-        *place = *byte;
-    }
-    row
-}
-
-// a command's place in its type, its rectangle and its number
-fn parts_of(command: &Command) -> (u8, Option<Rect>, u32) {
+fn row_bytes(command: &Command) -> &[u8] {
     match command {
-        Command::Put(area) => (0, Some(*area), 0),
-        Command::Erase(area) => (1, Some(*area), 0),
-        Command::Wall(area) => (2, Some(*area), 0),
-        Command::Block(area) => (3, Some(*area), 0),
-        Command::Unwall(area) => (4, Some(*area), 0),
-        Command::Row(y, _) => (5, None, u32::from(*y)),
-        Command::Source(area, period) => (6, Some(*area), u32::from(*period)),
-        Command::Drain(area) => (7, Some(*area), 0),
-        Command::Unport => (8, None, 0),
-        Command::Step(n) => (9, None, u32::from(*n)),
-        Command::Back(n) => (10, None, u32::from(*n)),
-        // no entry of a journal
-        _ => (11, None, 0),
+        Command::Row(_, bits) => bits.bytes(),
+        _ => &[],
     }
 }
 
 fn entry_view(entry: &Entry) -> ShownEntry {
-    let (kind, area, number) = parts_of(&entry.command);
-    let row = match &entry.command {
-        Command::Row(_, bits) => Some(row_of(bits)),
-        _ => None,
-    };
     ShownEntry {
         seat: entry.seat,
-        kind,
-        area,
-        number,
-        row,
+        parts: parts_of(&entry.command),
+        row: few(row_bytes(&entry.command)),
     }
 }
 
@@ -138,12 +107,6 @@ fn view_of(rt: &impl Abort, lab: &Lab<Serial>) -> Shown {
     }
 }
 
-fn opened(rt: &(impl Abort + AllocGlobal)) -> Option<Lab<Serial>> {
-    let size = Size::new(64, 64).expect(rt, "a size");
-    let gas = Gas::empty(rt.alloc(), size).ok()?;
-    Lab::open(rt.alloc(), gas, CAP as u32, Serial).ok()
-}
-
 fn ask(
     rt: &impl Abort,
     lab: &mut Lab<Serial>,
@@ -154,12 +117,15 @@ fn ask(
     lab.apply(seat, command)
 }
 
-// Entry k is one of the seat, whoever asks for it.
-fn has_entry_of(rt: &impl Abort, lab: &mut Lab<Serial>, k: u32, seat: u16) {
+// The seat, the command's place in its type and the number of entry k, whoever asks for it.
+fn entry_at(rt: &impl Abort, lab: &mut Lab<Serial>, k: u32) -> Result<(u16, u8, u32), Refusal> {
     match ask(rt, lab, 7, Command::Entry(k)) {
-        Ok(Answer::EntryIs(entry)) => expect_same(&rt, entry.seat, seat),
+        Ok(Answer::EntryIs(entry)) => {
+            let (kind, _, number) = parts_of(&entry.command);
+            Ok((entry.seat, kind, number))
+        }
         Ok(_) => panic!(rt; "no entry"),
-        Err(refusal) => expect_same(&rt, refusal, Refusal::Memory),
+        Err(refusal) => Err(refusal),
     }
 }
 
@@ -178,55 +144,34 @@ fn change(number: u32, area: Rect) -> Command {
 }
 
 // A change is taken as seat 3's, or memory is wanted and nothing changes.
-fn changes_or_not(rt: &impl Abort, lab: &mut Lab<Serial>, command: Command) {
+fn changes_or_not(rt: &impl Abort, lab: &mut Lab<Serial>, number: u32, area: Rect) {
     let before = view_of(rt, lab);
-    match ask(rt, lab, 3, command) {
+    match ask(rt, lab, 3, change(number, area)) {
         Ok(Answer::Taken(k)) => {
             expect_same(&rt, k as usize, before.entries);
-            has_entry_of(rt, lab, k, 3);
+            let entry = entry_at(rt, lab, k);
+            expect_that(&rt, matches!(entry, Ok((3, _, _)) | Err(Refusal::Memory)));
         }
         Ok(_) => panic!(rt; "a reading"),
         Err(refusal) => {
             expect_same(&rt, refusal, Refusal::Memory);
-            expect_same(&rt, view_of(rt, lab), before);
+            expect_that(&rt, view_of(rt, lab) == before);
         }
+    }
+}
+
+fn take_changes_or_not(rt: &impl Abort, lab: &mut Lab<Serial>) {
+    let area = Rect::within(lab.size(), 0, 0, 2, 2).expect(rt, "a rectangle");
+    for number in 0..8u32 {
+        changes_or_not(rt, lab, number, area);
     }
 }
 
 #[test]
 fn refused_changes_leave_the_laboratory(rt: HostRuntime) {
-    if let Some(mut lab) = opened(&rt) {
-        let area = Rect::within(lab.size(), 0, 0, 2, 2).expect(&rt, "a rectangle");
-        for number in 0..8u32 {
-            changes_or_not(&rt, &mut lab, change(number, area));
-        }
+    if let Ok(mut lab) = opened(&rt) {
+        take_changes_or_not(&rt, &mut lab);
     }
-}
-
-// A row without cells is read, or memory is wanted.
-fn reads_an_empty_row(rt: &impl Abort, reply: &Result<Answer, Refusal>) {
-    match reply {
-        Ok(Answer::RowIs(row)) => expect_same(&rt, row.bytes(), [0; 8].as_slice()),
-        Ok(_) => panic!(rt; "no row"),
-        Err(refusal) => expect_same(&rt, *refusal, Refusal::Memory),
-    }
-}
-
-// Seat 0's entry of the row is answered, or memory is wanted, or there is none.
-fn reads_the_entry(rt: &impl Abort, reply: &Result<Answer, Refusal>, entries: usize) {
-    match reply {
-        Ok(Answer::EntryIs(entry)) => {
-            expect_same(&rt, entry.seat, 0);
-            expect_that(&rt, matches!(&entry.command, Command::Row(3, _)));
-        }
-        Ok(_) => panic!(rt; "no entry"),
-        Err(refusal) => expect_that(&rt, *refusal == Refusal::Memory || entries == 0),
-    }
-}
-
-fn copied_tick(lab: &Lab<Serial>) -> Option<i64> {
-    let gas = lab.copy_gas().ok()?;
-    Some(gas.tick().get())
 }
 
 // Puts a row, unless memory is refused.
@@ -238,57 +183,71 @@ fn put_a_row(rt: &(impl Abort + AllocGlobal), lab: &mut Lab<Serial>) {
     }
 }
 
-// A row is read, and the laboratory stays as it was.
-fn reading_leaves(rt: &impl Abort, lab: &mut Lab<Serial>) {
-    let before = view_of(rt, lab);
-    reads_an_empty_row(rt, &ask(rt, lab, 0, Command::Read(3)));
-    expect_same(&rt, view_of(rt, lab), before);
+// A row without cells is read, or memory is wanted.
+fn is_an_empty_row(rt: &impl Abort, reply: &Result<Answer, Refusal>) {
+    match reply {
+        Ok(Answer::RowIs(row)) => expect_same(&rt, row.bytes(), [0; 8].as_slice()),
+        Ok(_) => panic!(rt; "no row"),
+        Err(refusal) => expect_same(&rt, *refusal, Refusal::Memory),
+    }
 }
 
-// So it does when an entry is asked for.
-fn entry_leaves(rt: &impl Abort, lab: &mut Lab<Serial>) {
-    let before = view_of(rt, lab);
-    let entries = lab.journal().len();
-    reads_the_entry(rt, &ask(rt, lab, 0, Command::Entry(0)), entries);
-    expect_same(&rt, view_of(rt, lab), before);
+// Seat 0's entry of the row is answered, or memory is wanted, or there is none.
+fn reads_the_entry(rt: &impl Abort, lab: &mut Lab<Serial>) {
+    let none = lab.journal().is_empty();
+    match entry_at(rt, lab, 0) {
+        Ok(entry) => expect_same(&rt, entry, (0, 5, 3)),
+        Err(refusal) => expect_that(&rt, none || refusal == Refusal::Memory),
+    }
 }
 
-// And when it is copied.
-fn copy_leaves(rt: &impl Abort, lab: &Lab<Serial>) {
+// The tick of a gas, and the particles of a rectangle.
+fn numbers_of(rt: &impl Abort, gas: &Gas, area: Rect) -> (i64, [u64; 4]) {
+    expect_that(&rt, area.fits(gas.size()));
+    (gas.tick().get(), gas.particles().counts_in(area))
+}
+
+// So in a copy.
+fn copied(rt: &impl Abort, lab: &Lab<Serial>, area: Rect) -> Option<(i64, [u64; 4])> {
+    let gas = lab.copy_gas().ok()?;
+    Some(numbers_of(rt, &gas, area))
+}
+
+fn stays(rt: &impl Abort, lab: &Lab<Serial>, before: &Shown) {
+    expect_that(&rt, view_of(rt, lab) == *before);
+}
+
+// A row is read, an entry is asked for and the gas is copied, and the laboratory stays as it was.
+fn readings_leave(rt: &(impl Abort + AllocGlobal), lab: &mut Lab<Serial>) {
+    put_a_row(rt, lab);
+    let area = Rect::within(lab.size(), 0, 3, 64, 1).expect(rt, "a rectangle");
     let before = view_of(rt, lab);
-    let tick = copied_tick(lab);
-    expect_that(&rt, tick.is_none() || tick == Some(0));
-    expect_same(&rt, view_of(rt, lab), before);
+    is_an_empty_row(rt, &ask(rt, lab, 0, Command::Read(3)));
+    stays(rt, lab, &before);
+    reads_the_entry(rt, lab);
+    stays(rt, lab, &before);
+    let copy = copied(rt, lab, area);
+    expect_that(&rt, copy.is_none() || copy == Some((0, [0; 4])));
+    stays(rt, lab, &before);
 }
 
 #[test]
 fn refused_readings_leave_the_laboratory(rt: HostRuntime) {
-    if let Some(mut lab) = opened(&rt) {
-        put_a_row(&rt, &mut lab);
-        reading_leaves(&rt, &mut lab);
-        entry_leaves(&rt, &mut lab);
-        copy_leaves(&rt, &lab);
+    if let Ok(mut lab) = opened(&rt) {
+        readings_leave(&rt, &mut lab);
     }
 }
 
-fn puts(rt: &impl Abort, lab: &mut Lab<Serial>, area: Rect) {
+fn puts_and_copies(rt: &impl Abort, lab: &mut Lab<Serial>) {
+    let area = Rect::within(lab.size(), 5, 6, 3, 2).expect(rt, "a rectangle");
     expect_that(&rt, ask(rt, lab, 0, Command::Put(area)).is_ok());
-}
-
-// The particles of a rectangle in a copy of the gas.
-fn copied_counts(rt: &impl Abort, lab: &Lab<Serial>, area: Rect) -> [u64; 4] {
-    let gas = lab.copy_gas().expect(rt, "memory");
-    expect_that(&rt, area.fits(gas.size()));
-    gas.particles().counts_in(area)
+    // columns 5 to 7 and rows 6 and 7
+    expect_same(&rt, copied(rt, lab, area), Some((0, [1, 2, 1, 2])));
+    expect_same(&rt, (lab.start().tick().get(), lab.cap()), (0, 8));
 }
 
 #[test]
 fn a_gas_is_copied(rt: HostRuntime) {
-    let mut lab = opened(&rt).expect(&rt, "memory");
-    let area = Rect::within(lab.size(), 5, 6, 3, 2).expect(&rt, "a rectangle");
-    puts(&rt, &mut lab, area);
-    // columns 5 to 7 and rows 6 and 7
-    expect_same(&rt, copied_counts(&rt, &lab, area), [1, 2, 1, 2]);
-    expect_same(&rt, lab.start().tick().get(), 0);
-    expect_same(&rt, lab.cap(), 8);
+    let mut lab = lab(&rt);
+    puts_and_copies(&rt, &mut lab);
 }

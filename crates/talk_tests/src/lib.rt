@@ -6,6 +6,8 @@ mod expected;
 #[cfg(test)]
 mod files;
 #[cfg(test)]
+mod fixtures;
+#[cfg(test)]
 mod laboratory;
 #[cfg(test)]
 mod reading;

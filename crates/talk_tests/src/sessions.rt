@@ -3,10 +3,11 @@
 ghost use Rattle.std.specs.Prelude.{◌≡◌};
 
 use crate::expected::{expect_same, expect_that};
-use gas_lab::{Gas, Lab, Serial};
+use crate::fixtures::{has, lab, opened};
+use gas_lab::{Lab, Serial};
 use gas_talk::session::session;
 use gas_talk::{Alone, ReadCount, SessionEnd, serve_alone};
-use gas_terms::{Command, NoMemory, Size};
+use gas_terms::Command;
 use std::marker::Brand;
 use std::process::Abort;
 use std::sync::ledger::{Blank, Ledger};
@@ -14,28 +15,45 @@ use test_types::faults::{FaultAt, Feed, Sink, Store};
 
 const ALL: usize = usize::MAX;
 
-// an empty laboratory of 64 by 64
-fn lab(rt: &(impl Abort + AllocGlobal)) -> Lab<Serial> {
-    let size = Size::new(64, 64).expect(rt, "a size");
-    let gas = Gas::empty(rt.alloc(), size).expect(rt, "memory");
-    Lab::open(rt.alloc(), gas, 1024, Serial).expect(rt, "memory")
-}
-
 fn sink(rt: &impl AllocGlobal) -> Sink {
     Sink::new(rt.alloc(), ALL, ALL, FaultAt::never())
 }
 
-// how a session of seat 0 ends, over an input that comes in pieces
-fn end_of(
+// how a session of seat 5 ends, and what it writes
+fn ends_so(
     rt: &(impl Abort + AllocGlobal),
-    input: &[u8],
-    step: usize,
+    lab: &mut Lab<Serial>,
+    feed: &mut Feed<'_>,
+    sink: &mut Sink,
+    replies: &[u8],
+    end: SessionEnd,
+) {
+    let found = end_of(rt, lab, feed, sink);
+    expect_same(&rt, (found, sink.taken()), (end, replies));
+}
+
+fn end_of(
+    rt: &impl AllocGlobal,
+    lab: &mut Lab<Serial>,
+    feed: &mut Feed<'_>,
     sink: &mut Sink,
 ) -> SessionEnd {
-    let mut lab = lab(rt);
-    let mut feed = Feed::new(input, step, FaultAt::never());
     let mut store = Store::new(rt.alloc(), FaultAt::never());
-    serve_alone(rt.alloc(), &mut feed, sink, &mut lab, 0, &mut store)
+    serve_alone(rt.alloc(), feed, sink, lab, 5, &mut store)
+}
+
+// an input that comes in pieces
+fn served_on(
+    rt: &(impl Abort + AllocGlobal),
+    lab: &mut Lab<Serial>,
+    input: &[u8],
+    step: usize,
+    replies: &[u8],
+    end: SessionEnd,
+) {
+    let mut feed = Feed::new(input, step, FaultAt::never());
+    let mut sink = sink(rt);
+    ends_so(rt, lab, &mut feed, &mut sink, replies, end);
 }
 
 fn served(
@@ -45,10 +63,8 @@ fn served(
     replies: &[u8],
     end: SessionEnd,
 ) {
-    let mut sink = sink(rt);
-    let found = end_of(rt, input, step, &mut sink);
-    expect_same(&rt, sink.taken(), replies);
-    expect_same(&rt, found, end);
+    let mut lab = lab(rt);
+    served_on(rt, &mut lab, input, step, replies, end);
 }
 
 #[test]
@@ -86,6 +102,21 @@ fn not_utf8_line(rt: HostRuntime) {
     );
 }
 
+// the first two puts are there, and are seat 3's
+fn has_two_puts(rt: &impl Abort, lab: &Lab<Serial>) {
+    expect_same(&rt, lab.journal().len(), 2);
+    for entry in lab.journal() {
+        expect_that(&rt, entry.seat == 3);
+        expect_that(&rt, matches!(&entry.command, Command::Put(_)));
+    }
+    let particles = lab.gas().particles();
+    expect_same(
+        &rt,
+        (has(particles, 0, 0), has(particles, 2, 2)),
+        (true, true),
+    );
+}
+
 // seat 3 asks for three puts, and its writer fails within the second reply
 fn answered_in_part<R: Abort + AllocGlobal, L: Ledger>(rt: &R, lab: &mut Lab<Serial>, blank: Blank)
     requires name { blank.name ≡ L.name }
@@ -95,7 +126,10 @@ fn answered_in_part<R: Abort + AllocGlobal, L: Ledger>(rt: &R, lab: &mut Lab<Ser
     let mut feed = Feed::new(input, ALL, FaultAt::never());
     let mut sink = Sink::new(rt.alloc(), ALL, 7, FaultAt::never());
     let mut store = Store::new(rt.alloc(), FaultAt::never());
-    let mut door = Alone { lab, seat: 3 };
+    let mut door = Alone {
+        lab: &mut *lab,
+        seat: 3,
+    };
     let mut count = ReadCount::<L>::new(blank);
     let end = session(
         rt.alloc(),
@@ -107,92 +141,94 @@ fn answered_in_part<R: Abort + AllocGlobal, L: Ledger>(rt: &R, lab: &mut Lab<Ser
     );
     expect_same(&rt, end, SessionEnd::WriteFault);
     expect_same(&rt, sink.taken(), b"OK 0\nOK".as_slice());
-}
-
-// the first two puts are there, and are seat 3's
-fn has_two_puts(rt: &impl Abort, lab: &Lab<Serial>) {
-    expect_same(&rt, lab.journal().len(), 2);
-    for entry in lab.journal() {
-        expect_that(&rt, entry.seat == 3);
-        expect_that(&rt, matches!(&entry.command, Command::Put(_)));
-    }
-    let size = lab.size();
-    let particles = lab.gas().particles();
-    for at in [0, 2] {
-        expect_that(&rt, at < size.width() as u32);
-        expect_that(&rt, at < size.height() as u32);
-        expect_that(&rt, particles.get(at, at));
-    }
+    has_two_puts(rt, lab);
 }
 
 #[test]
 fn writer_fails_within_a_reply(rt: HostRuntime) {
     let mut lab = lab(&rt);
     answered_in_part::<HostRuntime, Brand>(&rt, &mut lab, Blank::new(1));
-    has_two_puts(&rt, &lab);
 }
 
 // each reply is flushed
 fn read_fails(rt: &(impl Abort + AllocGlobal), lab: &mut Lab<Serial>) {
     let mut feed = Feed::new(b"tally\ntally\n", 6, FaultAt::after(1));
     let mut sink = sink(rt);
-    let mut store = Store::new(rt.alloc(), FaultAt::never());
-    let end = serve_alone(rt.alloc(), &mut feed, &mut sink, lab, 0, &mut store);
-    expect_same(&rt, end, SessionEnd::ReadFault);
-    expect_same(&rt, sink.taken(), b"TALLY 0 0 0 0\n".as_slice());
+    let replies = b"TALLY 0 0 0 0\n".as_slice();
+    ends_so(
+        rt,
+        lab,
+        &mut feed,
+        &mut sink,
+        replies,
+        SessionEnd::ReadFault,
+    );
     expect_same(&rt, sink.flushes(), 1);
 }
 
-fn write_fails(rt: &(impl Abort + AllocGlobal), lab: &mut Lab<Serial>, fault: FaultAt) {
+fn write_fails(
+    rt: &(impl Abort + AllocGlobal),
+    lab: &mut Lab<Serial>,
+    fault: FaultAt,
+    replies: &[u8],
+) {
     let mut feed = Feed::new(b"tally\ntally\n", ALL, FaultAt::never());
     let mut sink = Sink::new(rt.alloc(), ALL, ALL, fault);
-    let mut store = Store::new(rt.alloc(), FaultAt::never());
-    let end = serve_alone(rt.alloc(), &mut feed, &mut sink, lab, 0, &mut store);
-    expect_same(&rt, end, SessionEnd::WriteFault);
-    expect_same(&rt, sink.taken(), b"TALLY 0 0 0 0\n".as_slice());
+    ends_so(
+        rt,
+        lab,
+        &mut feed,
+        &mut sink,
+        replies,
+        SessionEnd::WriteFault,
+    );
+}
+
+fn calls_fail(rt: &(impl Abort + AllocGlobal), lab: &mut Lab<Serial>) {
+    read_fails(rt, lab);
+    let replies = b"TALLY 0 0 0 0\n".as_slice();
+    write_fails(rt, lab, FaultAt::after(1), replies);
+    write_fails(rt, lab, FaultAt::after(2), replies);
+    write_fails(rt, lab, FaultAt::nothing_after(2), replies);
 }
 
 #[test]
 fn failing_calls(rt: HostRuntime) {
     let mut lab = lab(&rt);
-    read_fails(&rt, &mut lab);
-    for fault in [
-        FaultAt::after(1),
-        FaultAt::after(2),
-        FaultAt::nothing_after(2),
-    ] {
-        write_fails(&rt, &mut lab, fault);
-    }
+    calls_fail(&rt, &mut lab);
 }
 
 // a byte a read: 2^24 reads are made, and another is needed
+fn reads_too_often(rt: &(impl Abort + AllocGlobal), lab: &mut Lab<Serial>) {
+    let mut feed = Feed::endless(b"tally\n", 1);
+    let mut sink = sink(rt);
+    expect_same(
+        &rt,
+        end_of(rt, lab, &mut feed, &mut sink),
+        SessionEnd::TooManyReads,
+    );
+    expect_same(
+        &rt,
+        (feed.reads(), sink.taken().len()),
+        (16_777_216, 39_146_828),
+    );
+}
+
 #[test]
 fn too_many_reads(rt: HostRuntime) {
     let mut lab = lab(&rt);
-    let mut feed = Feed::endless(b"tally\n", 1);
-    let mut sink = sink(&rt);
-    let mut store = Store::new(rt.alloc(), FaultAt::never());
-    let end = serve_alone(rt.alloc(), &mut feed, &mut sink, &mut lab, 5, &mut store);
-    expect_same(&rt, end, SessionEnd::TooManyReads);
-    expect_same(&rt, feed.reads(), 16_777_216);
-    expect_same(&rt, sink.taken().len(), 39_146_828);
+    reads_too_often(&rt, &mut lab);
 }
 
-fn small_lab(rt: &(impl Abort + AllocGlobal)) -> Result<Lab<Serial>, NoMemory> {
-    let size = Size::new(64, 64).expect(rt, "a size");
-    Lab::open(rt.alloc(), Gas::empty(rt.alloc(), size)?, 1024, Serial)
+fn cannot_write(rt: &(impl Abort + AllocGlobal), lab: &mut Lab<Serial>) {
+    write_fails(rt, lab, FaultAt::after(0), b"");
+    expect_that(&rt, lab.journal().is_empty());
 }
 
 // Whichever allocation is refused, that of the line reader too: if nothing can be written, the session ends so.
 #[test]
 fn refused_memory_to_a_session_that_cannot_write(rt: HostRuntime) {
-    if let Ok(mut lab) = small_lab(&rt) {
-        let mut feed = Feed::new(b"tally\n", ALL, FaultAt::never());
-        let mut sink = Sink::new(rt.alloc(), ALL, ALL, FaultAt::after(0));
-        let mut store = Store::new(rt.alloc(), FaultAt::never());
-        let end = serve_alone(rt.alloc(), &mut feed, &mut sink, &mut lab, 2, &mut store);
-        expect_same(&rt, end, SessionEnd::WriteFault);
-        expect_that(&rt, sink.taken().is_empty());
-        expect_that(&rt, lab.journal().is_empty());
+    if let Ok(mut lab) = opened(&rt) {
+        cannot_write(&rt, &mut lab);
     }
 }

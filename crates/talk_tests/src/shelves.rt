@@ -7,9 +7,9 @@ ghost use Rattle.gas_talk.specs.Lines.{Item};
 ghost use Rattle.test_types.specs.Stores.{kept_by};
 
 use crate::expected::expect_that;
-use gas_lab::{Gas, Lab, Serial};
+use crate::fixtures::lab;
+use gas_lab::{Lab, Serial};
 use gas_talk::serve_alone;
-use gas_terms::Size;
 use std::process::Abort;
 use test_types::faults::{FaultAt, Feed, Sink, Store};
 
@@ -31,15 +31,17 @@ fn is_one_particle(bytes: &[u8]) -> bool {
     bytes.len() == 1558 && bytes.starts_with(&head) && bytes.get(22) == Some(&0x80)
 }
 
-#[test]
-fn store_tells_what_a_session_saved(rt: HostRuntime) {
-    let size = Size::new(64, 64).expect(&rt, "a size");
-    let gas = Gas::empty(rt.alloc(), size).expect(&rt, "memory");
-    let mut lab = Lab::open(rt.alloc(), gas, 1024, Serial).expect(&rt, "memory");
+fn keeps_one_particle(rt: &(impl Abort + AllocGlobal), lab: &mut Lab<Serial>) {
     let mut store = Store::new(rt.alloc(), FaultAt::never());
-    speak(&rt, b"put 0 0 1 1\nsave\n", &mut lab, &mut store);
+    speak(rt, b"put 0 0 1 1\nsave\n", lab, &mut store);
     expect_that(&rt, store.kept().len() == 1);
     for bytes in store.kept() {
         expect_that(&rt, is_one_particle(bytes.as_slice()));
     }
+}
+
+#[test]
+fn store_tells_what_a_session_saved(rt: HostRuntime) {
+    let mut lab = lab(&rt);
+    keeps_one_particle(&rt, &mut lab);
 }

@@ -1,10 +1,11 @@
 //! Worked examples of snapshots. The bytes were written by hand from the format.
 
 use crate::expected::{expect_same, expect_that};
+use crate::fixtures::{empty, gas, has};
 use gas_ledger::Gas;
 use gas_plane::Plane;
 use gas_snapshot::{NoShelf, Shelf, ShelfFault, SnapFault, decode, encode, write_to};
-use gas_terms::{Rect, Size};
+use gas_terms::Rect;
 use std::process::Abort;
 use test_types::faults::{FaultAt, Sink};
 
@@ -24,11 +25,6 @@ const WITH_PORTS: [u8; 40] = [
     0x48, 0x50, 0x50, 0x47, 0x41, 0x53, 0x31, 0x0a, 0, 0x40, 0, 0x40, 0xff, 0xff, 0xff, 0xff, 0xff,
     0xff, 0xff, 0xff, 1, 1, 0, 1, 0, 1, 0, 1, 0, 1, 0, 10, 0, 10, 0, 1, 0, 1, 0, 2,
 ];
-
-fn empty(rt: &(impl Abort + AllocGlobal)) -> Gas {
-    let size = Size::new(64, 64).expect(rt, "a size");
-    Gas::empty(rt.alloc(), size).expect(rt, "memory")
-}
 
 // the first bytes, and zeros after them up to a length
 fn padded(rt: &(impl Abort + AllocGlobal), first: &[u8], len: usize) -> Vec<u8> {
@@ -58,66 +54,80 @@ fn front(bytes: &[u8], len: usize) -> &[u8] {
     &bytes[..len.min(bytes.len())]
 }
 
-fn has(cells: &Plane, x: u32, y: u32) -> bool {
-    let size = cells.size();
-    x < size.width() as u32 && y < size.height() as u32 && cells.get(x, y)
+fn read(rt: &(impl Abort + AllocGlobal), bytes: &[u8]) -> Gas {
+    decode(rt.alloc(), bytes).expect(rt, "a gas")
 }
 
-// what is wrong with version 1's empty gas when the bytes from a place on are others
-fn fault_of(rt: &(impl Abort + AllocGlobal), at: usize, change: &[u8]) -> Option<SnapFault> {
-    let mut bytes = padded(rt, &OLD, 1046);
-    set_all(&mut bytes, at, change);
-    decode(rt.alloc(), bytes.as_slice()).err()
-}
-
-// the gas of these bytes is written as those
-fn is_written_as(rt: &(impl Abort + AllocGlobal), bytes: &[u8], wanted: &[u8]) {
-    let gas = decode(rt.alloc(), bytes).expect(rt, "a gas");
-    let bytes = encode(rt.alloc(), &gas).expect(rt, "memory");
+fn is_written_as(rt: &(impl Abort + AllocGlobal), gas: &Gas, wanted: &[u8]) {
+    let bytes = encode(rt.alloc(), gas).expect(rt, "memory");
     expect_same(&rt, bytes.as_slice(), wanted);
 }
 
+// its tick, and how many drains and sources it has
+fn numbers_of(gas: &Gas) -> (i64, usize, usize) {
+    let ports = gas.ports();
+    (
+        gas.tick().get(),
+        ports.drains().len(),
+        ports.sources().len(),
+    )
+}
+
+fn fault(rt: &impl AllocGlobal, bytes: &[u8]) -> Option<SnapFault> {
+    decode(rt.alloc(), bytes).err()
+}
+
+// what is wrong with so many bytes when those from a place on are changed
+fn fault_in(
+    rt: &(impl Abort + AllocGlobal),
+    first: &[u8],
+    len: usize,
+    at: usize,
+    change: &[u8],
+) -> Option<SnapFault> {
+    let mut bytes = padded(rt, first, len);
+    set_all(&mut bytes, at, change);
+    fault(rt, bytes.as_slice())
+}
+
+// the gas of these bytes is that of version 2's
+fn is_read_as(rt: &(impl Abort + AllocGlobal), bytes: &[u8], wanted: &[u8]) -> (i64, usize, usize) {
+    let gas = read(rt, bytes);
+    is_written_as(rt, &gas, wanted);
+    numbers_of(&gas)
+}
+
 #[test]
-fn empty_snapshot_lengths(rt: HostRuntime) {
+fn empty_gas_is_written_and_read(rt: HostRuntime) {
     let wanted = padded(&rt, &NEW, 1558);
-    let bytes = encode(rt.alloc(), &empty(&rt)).expect(&rt, "memory");
-    expect_same(&rt, bytes.as_slice(), wanted.as_slice());
-    is_written_as(&rt, bytes.as_slice(), wanted.as_slice());
-    let long = padded(&rt, &NEW, 1559);
-    expect_same(
-        &rt,
-        decode(rt.alloc(), long.as_slice()).err(),
-        Some(SnapFault::Trailing),
-    );
-    expect_same(
-        &rt,
-        decode(rt.alloc(), front(long.as_slice(), 1557)).err(),
-        Some(SnapFault::Short),
-    );
+    let gas = gas(&rt);
+    is_written_as(&rt, &gas, wanted.as_slice());
+    let numbers = is_read_as(&rt, wanted.as_slice(), wanted.as_slice());
+    expect_same(&rt, numbers, (0, 0, 0));
 }
 
 #[test]
 fn short_snapshots(rt: HostRuntime) {
     let bytes = padded(&rt, &WITH_PORTS, 1064);
-    expect_that(&rt, decode(rt.alloc(), bytes.as_slice()).is_ok());
+    expect_same(&rt, fault(&rt, bytes.as_slice()), None);
     for len in 0..bytes.len() {
-        expect_same(
-            &rt,
-            decode(rt.alloc(), front(bytes.as_slice(), len)).err(),
-            Some(SnapFault::Short),
-        );
+        let found = fault(&rt, front(bytes.as_slice(), len));
+        expect_same(&rt, (len, found), (len, Some(SnapFault::Short)));
     }
 }
 
 #[test]
 fn old_snapshots_are_read(rt: HostRuntime) {
-    let bytes = padded(&rt, &OLD, 1046);
-    let wanted = padded(&rt, &NEW, 1558);
-    is_written_as(&rt, bytes.as_slice(), wanted.as_slice());
-    let bytes = padded(&rt, &WITH_PORTS, 1064);
-    let mut wanted = padded(&rt, &WITH_PORTS, 1576);
-    set(&mut wanted, 6, 0x32);
-    is_written_as(&rt, bytes.as_slice(), wanted.as_slice());
+    for (first, ports, numbers) in [
+        (OLD.as_slice(), 0, (0, 0, 0)),
+        (WITH_PORTS.as_slice(), 18, (-1, 1, 1)),
+    ] {
+        let bytes = padded(&rt, first, 1046 + ports);
+        let mut wanted = padded(&rt, first, 1558 + ports);
+        set(&mut wanted, 6, 0x32);
+        let found = is_read_as(&rt, bytes.as_slice(), wanted.as_slice());
+        expect_same(&rt, found, numbers);
+    }
 }
 
 #[test]
@@ -148,34 +158,24 @@ fn each_change_has_its_fault(rt: HostRuntime) {
             Some(SnapFault::Port),
         ),
     ] {
-        expect_same(&rt, (at, fault_of(&rt, at, change)), (at, fault));
+        let found = fault_in(&rt, &OLD, 1046, at, change);
+        expect_same(&rt, (at, found), (at, fault));
     }
 }
 
+// of either version
 #[test]
 fn each_length_has_its_fault(rt: HostRuntime) {
-    let bytes = padded(&rt, &OLD, 1047);
-    for (length, fault) in [
-        (1047, SnapFault::Trailing),
-        (1045, SnapFault::Short),
-        (5, SnapFault::Short),
+    for (version, length, fault) in [
+        (0x31, 1047, SnapFault::Trailing),
+        (0x31, 1045, SnapFault::Short),
+        (0x31, 5, SnapFault::Short),
+        (0x32, 1559, SnapFault::Trailing),
+        (0x32, 1557, SnapFault::Short),
     ] {
-        let found = decode(rt.alloc(), front(bytes.as_slice(), length)).err();
+        let found = fault_in(&rt, &OLD, length, 6, &[version]);
         expect_same(&rt, (length, found), (length, Some(fault)));
     }
-}
-
-// what is wrong with other bytes when those from a place on are changed
-fn fault_in(
-    rt: &(impl Abort + AllocGlobal),
-    first: &[u8],
-    len: usize,
-    at: usize,
-    change: &[u8],
-) -> Option<SnapFault> {
-    let mut bytes = padded(rt, first, len);
-    set_all(&mut bytes, at, change);
-    decode(rt.alloc(), bytes.as_slice()).err()
 }
 
 #[test]
@@ -198,30 +198,33 @@ fn sides_and_ticks_out_of_range(rt: HostRuntime) {
     );
 }
 
-fn with_an_obstacle(rt: &(impl Abort + AllocGlobal)) -> Vec<u8> {
-    let mut gas = empty(rt);
+fn writes_an_obstacle(rt: &(impl Abort + AllocGlobal), gas: &mut Gas, wanted: &[u8]) {
     let area = Rect::within(gas.size(), 1, 1, 1, 1).expect(rt, "a rectangle");
     gas.add_obstacles(area);
-    encode(rt.alloc(), &gas).expect(rt, "memory")
+    is_written_as(rt, gas, wanted);
+}
+
+fn has_an_obstacle(rt: &impl Abort, gas: &Gas) {
+    let (walls, obstacles) = (gas.walls(), gas.obstacles());
+    let found = (has(obstacles, 1, 1), has(walls, 1, 1), has(obstacles, 1, 0));
+    expect_same(&rt, found, (true, false, false));
 }
 
 fn reads_an_obstacle(rt: &(impl Abort + AllocGlobal), bytes: &[u8]) {
-    let again = decode(rt.alloc(), bytes).expect(rt, "a gas");
-    expect_that(&rt, has(again.obstacles(), 1, 1));
-    expect_that(&rt, !has(again.walls(), 1, 1));
-    expect_that(&rt, !has(again.obstacles(), 1, 0));
+    let gas = read(rt, bytes);
+    has_an_obstacle(rt, &gas);
 }
 
 #[test]
 fn obstacle_in_a_snapshot(rt: HostRuntime) {
-    let bytes = with_an_obstacle(&rt);
     let mut wanted = padded(&rt, &NEW, 1558);
     set(&mut wanted, 1054, 0x40);
-    expect_same(&rt, bytes.as_slice(), wanted.as_slice());
-    reads_an_obstacle(&rt, bytes.as_slice());
+    let mut gas = gas(&rt);
+    writes_an_obstacle(&rt, &mut gas, wanted.as_slice());
+    reads_an_obstacle(&rt, wanted.as_slice());
 }
 
-// a gas without particles is read, or memory is wanted
+// a gas without particles is read again, or memory is wanted
 fn reads_an_empty_gas(rt: &(impl Abort + AllocGlobal), bytes: &[u8]) {
     match decode(rt.alloc(), bytes) {
         Ok(again) => expect_that(&rt, !has(again.particles(), 0, 0)),
@@ -229,19 +232,19 @@ fn reads_an_empty_gas(rt: &(impl Abort + AllocGlobal), bytes: &[u8]) {
     }
 }
 
-fn encoded(rt: &(impl Abort + AllocGlobal)) -> Option<Vec<u8>> {
-    let size = Size::new(64, 64).expect(rt, "a size");
-    let gas = Gas::empty(rt.alloc(), size).ok()?;
-    encode(rt.alloc(), &gas).ok()
+fn writes_and_reads(rt: &(impl Abort + AllocGlobal), gas: &Gas) {
+    if let Ok(bytes) = encode(rt.alloc(), gas) {
+        reads_an_empty_gas(rt, bytes.as_slice());
+    }
 }
 
 // whichever allocation is refused
 #[test]
 fn refused_encode_and_decode(rt: HostRuntime) {
-    if let Some(bytes) = encoded(&rt) {
-        reads_an_empty_gas(&rt, bytes.as_slice());
+    if let Ok(gas) = empty(&rt) {
+        writes_and_reads(&rt, &gas);
     }
-    expect_same(&rt, decode(rt.alloc(), &OLD).err(), Some(SnapFault::Short));
+    expect_same(&rt, fault(&rt, &OLD), Some(SnapFault::Short));
 }
 
 #[test]
@@ -264,16 +267,20 @@ fn writes_front(rt: &impl Abort, gas: &Gas, mut sink: Sink, wanted: &[u8], left:
 }
 
 // a write beyond that fails, or takes none
-#[test]
-fn snapshot_to_a_short_writer(rt: HostRuntime) {
-    let gas = empty(&rt);
-    let wanted = padded(&rt, &NEW, 1558);
+fn writes_fronts(rt: &(impl Abort + AllocGlobal), gas: &Gas, wanted: &[u8]) {
     for left in 0..1560 {
         let failing = Sink::new(rt.alloc(), 100, left, FaultAt::never());
-        writes_front(&rt, &gas, failing, wanted.as_slice(), left);
+        writes_front(rt, gas, failing, wanted, left);
         let taking_none = Sink::new(rt.alloc(), 1, ALL, FaultAt::nothing_after(left as u64));
-        writes_front(&rt, &gas, taking_none, wanted.as_slice(), left);
+        writes_front(rt, gas, taking_none, wanted, left);
     }
+}
+
+#[test]
+fn snapshot_to_a_short_writer(rt: HostRuntime) {
+    let wanted = padded(&rt, &NEW, 1558);
+    let gas = gas(&rt);
+    writes_fronts(&rt, &gas, wanted.as_slice());
 }
 
 fn set_ports(bytes: &mut Vec<u8>) {
@@ -296,19 +303,21 @@ fn set_corners(bytes: &mut Vec<u8>) {
 }
 
 fn has_four_corners(rt: &impl Abort, cells: &Plane) {
-    expect_that(&rt, has(cells, 0, 0));
-    expect_that(&rt, has(cells, 127, 0));
-    expect_that(&rt, has(cells, 0, 63));
-    expect_that(&rt, has(cells, 127, 63));
-    expect_that(&rt, !has(cells, 1, 0));
-    expect_that(&rt, !has(cells, 126, 0));
-    expect_that(&rt, !has(cells, 7, 63));
+    for (x, y, held) in [
+        (0, 0, true),
+        (127, 0, true),
+        (0, 63, true),
+        (127, 63, true),
+        (1, 0, false),
+        (126, 0, false),
+        (7, 63, false),
+    ] {
+        expect_same(&rt, (x, y, has(cells, x, y)), (x, y, held));
+    }
 }
 
-fn reads_ports_and_corners(rt: &(impl Abort + AllocGlobal), bytes: &[u8]) {
-    let gas = decode(rt.alloc(), bytes).expect(rt, "a gas");
-    expect_same(&rt, gas.ports().drains().len(), 16);
-    expect_same(&rt, gas.ports().sources().len(), 16);
+fn has_ports_and_corners(rt: &impl Abort, gas: &Gas) {
+    expect_same(&rt, numbers_of(gas), (0, 16, 16));
     has_four_corners(rt, gas.particles());
     has_four_corners(rt, gas.walls());
     has_four_corners(rt, gas.obstacles());
@@ -321,6 +330,7 @@ fn sixteen_ports_and_four_corners(rt: HostRuntime) {
     set(&mut bytes, 9, 0x80);
     set_ports(&mut bytes);
     set_corners(&mut bytes);
-    reads_ports_and_corners(&rt, bytes.as_slice());
-    is_written_as(&rt, bytes.as_slice(), bytes.as_slice());
+    let gas = read(&rt, bytes.as_slice());
+    has_ports_and_corners(&rt, &gas);
+    is_written_as(&rt, &gas, bytes.as_slice());
 }
