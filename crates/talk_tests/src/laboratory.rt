@@ -143,19 +143,31 @@ fn change(number: u32, area: Rect) -> Command {
     }
 }
 
-// A change is taken as seat 3's, or memory is wanted and nothing changes.
+// The place of a change of seat 3 in the journal.
+fn taken(rt: &impl Abort, lab: &mut Lab<Serial>, change: Command) -> Result<u32, Refusal> {
+    match ask(rt, lab, 3, change) {
+        Ok(Answer::Taken(k)) => Ok(k),
+        Ok(_) => panic!(rt; "a reading"),
+        Err(refusal) => Err(refusal),
+    }
+}
+
+fn stays(rt: &impl Abort, lab: &Lab<Serial>, before: &Shown) {
+    expect_that(&rt, view_of(rt, lab) == *before);
+}
+
+// A change is taken, or memory is wanted and nothing changes.
 fn changes_or_not(rt: &impl Abort, lab: &mut Lab<Serial>, number: u32, area: Rect) {
     let before = view_of(rt, lab);
-    match ask(rt, lab, 3, change(number, area)) {
-        Ok(Answer::Taken(k)) => {
+    match taken(rt, lab, change(number, area)) {
+        Ok(k) => {
             expect_same(&rt, k as usize, before.entries);
             let entry = entry_at(rt, lab, k);
             expect_that(&rt, matches!(entry, Ok((3, _, _)) | Err(Refusal::Memory)));
         }
-        Ok(_) => panic!(rt; "a reading"),
         Err(refusal) => {
             expect_same(&rt, refusal, Refusal::Memory);
-            expect_that(&rt, view_of(rt, lab) == before);
+            stays(rt, lab, &before);
         }
     }
 }
@@ -211,10 +223,6 @@ fn numbers_of(rt: &impl Abort, gas: &Gas, area: Rect) -> (i64, [u64; 4]) {
 fn copied(rt: &impl Abort, lab: &Lab<Serial>, area: Rect) -> Option<(i64, [u64; 4])> {
     let gas = lab.copy_gas().ok()?;
     Some(numbers_of(rt, &gas, area))
-}
-
-fn stays(rt: &impl Abort, lab: &Lab<Serial>, before: &Shown) {
-    expect_that(&rt, view_of(rt, lab) == *before);
 }
 
 // A row is read, an entry is asked for and the gas is copied, and the laboratory stays as it was.

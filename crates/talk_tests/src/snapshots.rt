@@ -90,7 +90,7 @@ fn fault_in(
     fault(rt, bytes.as_slice())
 }
 
-// the gas of these bytes is that of version 2's
+// the numbers of the gas of these bytes, which is written as those
 fn is_read_as(rt: &(impl Abort + AllocGlobal), bytes: &[u8], wanted: &[u8]) -> (i64, usize, usize) {
     let gas = read(rt, bytes);
     is_written_as(rt, &gas, wanted);
