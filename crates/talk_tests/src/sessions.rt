@@ -144,12 +144,6 @@ fn answered_in_part<R: Abort + AllocGlobal, L: Ledger>(rt: &R, lab: &mut Lab<Ser
     has_two_puts(rt, lab);
 }
 
-#[test]
-fn writer_fails_within_a_reply(rt: HostRuntime) {
-    let mut lab = lab(&rt);
-    answered_in_part::<HostRuntime, Brand>(&rt, &mut lab, Blank::new(1));
-}
-
 // each reply is flushed
 fn read_fails(rt: &(impl Abort + AllocGlobal), lab: &mut Lab<Serial>) {
     let mut feed = Feed::new(b"tally\ntally\n", 6, FaultAt::after(1));
@@ -193,9 +187,10 @@ fn calls_fail(rt: &(impl Abort + AllocGlobal), lab: &mut Lab<Serial>) {
 }
 
 #[test]
-fn failing_calls(rt: HostRuntime) {
+fn failing_calls_end_a_session(rt: HostRuntime) {
     let mut lab = lab(&rt);
     calls_fail(&rt, &mut lab);
+    answered_in_part::<HostRuntime, Brand>(&rt, &mut lab, Blank::new(1));
 }
 
 // a byte a read: 2^24 reads are made, and another is needed
