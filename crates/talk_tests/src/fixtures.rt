@@ -33,24 +33,47 @@ pub fn has(cells: &Plane, x: u32, y: u32) -> bool {
     x < size.width() as u32 && y < size.height() as u32 && cells.get(x, y)
 }
 
-/// A command's place in its type, its rectangle, and its number or 0.
-pub fn parts_of(command: &Command) -> (u8, Option<Rect>, u32) {
+/// What a line asks for, by its first word.
+#[derive(Clone, Copy, Debug, PartialEq, Eq)]
+pub enum Word {
+    Put,
+    Erase,
+    Wall,
+    Block,
+    Unwall,
+    Row,
+    Source,
+    Drain,
+    Unport,
+    Step,
+    Back,
+    Probe,
+    Tally,
+    Ledger,
+    Read,
+    Entry,
+    Save,
+    Quit,
+}
+
+/// A command's word, its rectangle, and its number or 0.
+pub fn parts_of(command: &Command) -> (Word, Option<Rect>, u32) {
     match command {
-        Command::Put(area) => (0, Some(*area), 0),
-        Command::Erase(area) => (1, Some(*area), 0),
-        Command::Wall(area) => (2, Some(*area), 0),
-        Command::Block(area) => (3, Some(*area), 0),
-        Command::Unwall(area) => (4, Some(*area), 0),
-        Command::Row(y, _) => (5, None, u32::from(*y)),
-        Command::Source(area, period) => (6, Some(*area), u32::from(*period)),
-        Command::Drain(area) => (7, Some(*area), 0),
-        Command::Unport => (8, None, 0),
-        Command::Step(n) => (9, None, u32::from(*n)),
-        Command::Back(n) => (10, None, u32::from(*n)),
-        Command::Probe(area) => (11, Some(*area), 0),
-        Command::Tally => (12, None, 0),
-        Command::Ledger => (13, None, 0),
-        Command::Read(y) => (14, None, u32::from(*y)),
-        Command::Entry(k) => (15, None, *k),
+        Command::Put(area) => (Word::Put, Some(*area), 0),
+        Command::Erase(area) => (Word::Erase, Some(*area), 0),
+        Command::Wall(area) => (Word::Wall, Some(*area), 0),
+        Command::Block(area) => (Word::Block, Some(*area), 0),
+        Command::Unwall(area) => (Word::Unwall, Some(*area), 0),
+        Command::Row(y, _) => (Word::Row, None, u32::from(*y)),
+        Command::Source(area, period) => (Word::Source, Some(*area), u32::from(*period)),
+        Command::Drain(area) => (Word::Drain, Some(*area), 0),
+        Command::Unport => (Word::Unport, None, 0),
+        Command::Step(n) => (Word::Step, None, u32::from(*n)),
+        Command::Back(n) => (Word::Back, None, u32::from(*n)),
+        Command::Probe(area) => (Word::Probe, Some(*area), 0),
+        Command::Tally => (Word::Tally, None, 0),
+        Command::Ledger => (Word::Ledger, None, 0),
+        Command::Read(y) => (Word::Read, None, u32::from(*y)),
+        Command::Entry(k) => (Word::Entry, None, *k),
     }
 }

@@ -1,7 +1,7 @@
 //! A laboratory that is called directly, with allocations that fail one by one: a change is done whole or not at all.
 
 use crate::expected::{expect_same, expect_that};
-use crate::fixtures::{CAP, lab, opened, parts_of};
+use crate::fixtures::{CAP, Word, lab, opened, parts_of};
 use gas_lab::{Gas, Lab, Serial};
 use gas_ledger::Source;
 use gas_plane::Plane;
@@ -22,11 +22,11 @@ struct ShownGas {
     sources: [Option<Source>; 16],
 }
 
-// An entry: its seat and its command, by the command's place in its type, its rectangle, its number and its row.
+// An entry: its seat and its command, by the command's word, its rectangle, its number and its row.
 #[derive(Clone, Copy, PartialEq, Eq)]
 struct ShownEntry {
     seat: u16,
-    parts: (u8, Option<Rect>, u32),
+    parts: (Word, Option<Rect>, u32),
     row: [Option<u8>; 16],
 }
 
@@ -117,12 +117,12 @@ fn ask(
     lab.apply(seat, command)
 }
 
-// The seat, the command's place in its type and the number of entry k, whoever asks for it.
-fn entry_at(rt: &impl Abort, lab: &mut Lab<Serial>, k: u32) -> Result<(u16, u8, u32), Refusal> {
+// The seat, the command's word and the number of entry k, whoever asks for it.
+fn entry_at(rt: &impl Abort, lab: &mut Lab<Serial>, k: u32) -> Result<(u16, Word, u32), Refusal> {
     match ask(rt, lab, 7, Command::Entry(k)) {
         Ok(Answer::EntryIs(entry)) => {
-            let (kind, _, number) = parts_of(&entry.command);
-            Ok((entry.seat, kind, number))
+            let (word, _, number) = parts_of(&entry.command);
+            Ok((entry.seat, word, number))
         }
         Ok(_) => panic!(rt; "no entry"),
         Err(refusal) => Err(refusal),
@@ -208,7 +208,7 @@ fn is_an_empty_row(rt: &impl Abort, reply: &Result<Answer, Refusal>) {
 fn reads_the_entry(rt: &impl Abort, lab: &mut Lab<Serial>) {
     let none = lab.journal().is_empty();
     match entry_at(rt, lab, 0) {
-        Ok(entry) => expect_same(&rt, entry, (0, 5, 3)),
+        Ok(entry) => expect_same(&rt, entry, (0, Word::Row, 3)),
         Err(refusal) => expect_that(&rt, none || refusal == Refusal::Memory),
     }
 }

@@ -1,7 +1,7 @@
 //! Lines and their requests, or the first of their faults.
 
 use crate::expected::{expect_same, expect_that};
-use crate::fixtures::{parts_of, size};
+use crate::fixtures::{Word, parts_of, size};
 use gas_talk::{Request, read_command};
 use gas_terms::{Command, Rect, Refusal, Size};
 use std::process::Abort;
@@ -76,12 +76,12 @@ fn order_of_refusals(rt: HostRuntime) {
     }
 }
 
-// what a line asks for: its command's place in its type, its rectangle, and its number or 0
-fn asked(rt: &(impl Abort + AllocGlobal), line: &str, size: Size) -> (u8, Option<Rect>, u32) {
+// what a line asks for: its word, its rectangle, and its number or 0
+fn asked(rt: &(impl Abort + AllocGlobal), line: &str, size: Size) -> (Word, Option<Rect>, u32) {
     match read_command(rt.alloc(), line, size) {
         Ok(Request::Ask(command)) => parts_of(&command),
-        Ok(Request::Save) => (16, None, 0),
-        Ok(Request::Quit) => (17, None, 0),
+        Ok(Request::Save) => (Word::Save, None, 0),
+        Ok(Request::Quit) => (Word::Quit, None, 0),
         Err(refusal) => panic!(rt; "{line}: {refusal:?}"),
     }
 }
@@ -89,20 +89,25 @@ fn asked(rt: &(impl Abort + AllocGlobal), line: &str, size: Size) -> (u8, Option
 #[test]
 fn rectangles_are_read(rt: HostRuntime) {
     let size = size(&rt);
-    for (line, kind, (x, y, w, h), period) in [
-        ("put 1 2 3 4", 0, (1, 2, 3, 4), 0),
-        ("  put 0000000000  0 1   1  ", 0, (0, 0, 1, 1), 0),
-        ("erase 1 2 3 4", 1, (1, 2, 3, 4), 0),
-        ("wall 0 20 64 1", 2, (0, 20, 64, 1), 0),
-        ("block 1 1 1 1", 3, (1, 1, 1, 1), 0),
-        ("unwall 1 1 2 2", 4, (1, 1, 2, 2), 0),
-        ("drain 63 63 1 1", 7, (63, 63, 1, 1), 0),
-        ("probe 0 0 64 64", 11, (0, 0, 64, 64), 0),
-        ("source 10 11 1 2 65535", 6, (10, 11, 1, 2), 65535),
+    for (line, word, (x, y, w, h), period) in [
+        ("put 1 2 3 4", Word::Put, (1, 2, 3, 4), 0),
+        ("  put 0000000000  0 1   1  ", Word::Put, (0, 0, 1, 1), 0),
+        ("erase 1 2 3 4", Word::Erase, (1, 2, 3, 4), 0),
+        ("wall 0 20 64 1", Word::Wall, (0, 20, 64, 1), 0),
+        ("block 1 1 1 1", Word::Block, (1, 1, 1, 1), 0),
+        ("unwall 1 1 2 2", Word::Unwall, (1, 1, 2, 2), 0),
+        ("drain 63 63 1 1", Word::Drain, (63, 63, 1, 1), 0),
+        ("probe 0 0 64 64", Word::Probe, (0, 0, 64, 64), 0),
+        (
+            "source 10 11 1 2 65535",
+            Word::Source,
+            (10, 11, 1, 2),
+            65535,
+        ),
     ] {
         let area = Rect::within(size, x, y, w, h);
         expect_that(&rt, area.is_some());
-        let wanted = (kind, area, period);
+        let wanted = (word, area, period);
         expect_same(&rt, (line, asked(&rt, line, size)), (line, wanted));
     }
 }
@@ -110,22 +115,22 @@ fn rectangles_are_read(rt: HostRuntime) {
 #[test]
 fn other_requests_are_read(rt: HostRuntime) {
     let size = size(&rt);
-    for (line, kind, number) in [
-        ("unport", 8, 0),
-        ("step 4096", 9, 4096),
-        ("back 1", 10, 1),
-        ("back 0000000100", 10, 100),
-        ("tally", 12, 0),
-        ("ledger", 13, 0),
-        ("read 63", 14, 63),
-        ("entry 0", 15, 0),
-        ("entry 65536", 15, 65536),
-        ("entry 4294967295", 15, 4_294_967_295),
-        ("save", 16, 0),
-        ("quit", 17, 0),
-        (" quit ", 17, 0),
+    for (line, word, number) in [
+        ("unport", Word::Unport, 0),
+        ("step 4096", Word::Step, 4096),
+        ("back 1", Word::Back, 1),
+        ("back 0000000100", Word::Back, 100),
+        ("tally", Word::Tally, 0),
+        ("ledger", Word::Ledger, 0),
+        ("read 63", Word::Read, 63),
+        ("entry 0", Word::Entry, 0),
+        ("entry 65536", Word::Entry, 65536),
+        ("entry 4294967295", Word::Entry, 4_294_967_295),
+        ("save", Word::Save, 0),
+        ("quit", Word::Quit, 0),
+        (" quit ", Word::Quit, 0),
     ] {
-        let wanted = (kind, None, number);
+        let wanted = (word, None, number);
         expect_same(&rt, (line, asked(&rt, line, size)), (line, wanted));
     }
 }
