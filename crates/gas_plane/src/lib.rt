@@ -105,7 +105,7 @@ impl Plane {
         &self.tiles[i as usize]
     }
 
-    /// Tile i, or, if it is marked as bare, the empty tile that all planes share, which stays in the cache.
+    /// Tile i, or, if it has no cell, the empty tile that all planes share, which stays in the cache.
     #[inline]
     pub fn tile_or_bare(&self, i: u32) -> &Tile
         requires { i < tile_count self.now }
