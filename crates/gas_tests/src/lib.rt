@@ -21,6 +21,8 @@ mod ledgers;
 #[cfg(test)]
 mod locks;
 #[cfg(test)]
+mod parts;
+#[cfg(test)]
 mod phases;
 #[cfg(test)]
 mod planes;
