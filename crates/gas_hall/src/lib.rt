@@ -1,11 +1,12 @@
 //! A server: one session in a thread of its own for each seat of a laboratory. Sessions come from a `Lobby`, such as a
 //! listening socket (`TcpLobby`).
 //!
-//! The program calls `serve_lab`. `serve` and `serve_turn`, which serve a hall that the caller opened, and the names of
-//! `gas_seats` are there for callers of the library.
+//! The program calls `serve_lab`. `serve_turn`, which serves a hall that the caller opened, the module `mutex_hall` with
+//! `serve`, and the names of `gas_seats` are there for callers of the library.
 #![tactic(auto)]
 
 mod hosting;
+mod mutex_hall;
 mod serving;
 mod tcp;
 
@@ -14,5 +15,6 @@ pub use gas_seats::{
     TurnSeat,
 };
 pub use hosting::{Counts, serve_lab};
-pub use serving::{AcceptFault, Lobby, Served, serve, serve_turn};
+pub use mutex_hall::serve;
+pub use serving::{AcceptFault, Lobby, Served, serve_turn};
 pub use tcp::TcpLobby;

@@ -1,14 +1,14 @@
 //! Serves a hall: accepts a session for each seat, starts a thread for it, and joins all threads.
 
-ghost use Rattle.std.specs.Prelude.{◌≡◌, ℕ, ◌+◌, ◌≤◌, ⊤, List, [], All, Some, IfOk, IfErr, length, map, slice_get, vec_len, vec_capacity};
+ghost use Rattle.std.specs.Prelude.{◌≡◌, ℕ, ◌+◌, ◌≤◌, List, All, Some, IfOk, IfErr, length, map, slice_get, vec_len, vec_capacity};
 ghost use Rattle.std.specs.List.{sum_by};
 ghost use Rattle.gas_terms.specs.Laboratory.{most_entries, IsPrefix};
 ghost use Rattle.gas_terms.specs.declared.command.Entry.{Entry};
-ghost use Rattle.gas_seats.specs.Seats.{Seat, most_seats, numbers};
+ghost use Rattle.gas_seats.specs.Seats.{most_seats};
 ghost use Rattle.gas_seats.specs.TurnSeats.{SeatView, but_for_seen, entries_made, made_in_all};
 
 use gas_lab::Stepper;
-use gas_seats::{Hall, HallGate, HallName, HallSeat, TurnHall, TurnSeat};
+use gas_seats::{TurnHall, TurnSeat};
 use gas_snapshot::Shelf;
 use gas_talk::session::serve_door;
 use std::alloc::Global;
@@ -82,44 +82,6 @@ pub(crate) trait Seating<T, R> {
         requires here { has self.now (kept guest.seat) }
         ensures kept { kept result ≡ kept guest.seat }
         ensures seen { IsPrefix (seen guest.seat) (seen result) };
-}
-
-impl<N: HallName, S: Stepper, G: HallGate, R: Wait> Seating<HallSeat<N>, R> for Hall<N, S, G> {
-    ghost kept = { λ seat. record seat { entries = 0 } };
-
-    ghost has = { λ _ _. ⊤ };
-
-    ghost made = { λ seat. seat.entries };
-
-    ghost seen = { λ _. [] };
-
-    fn number_of(seat: &HallSeat<N>) -> u16 {
-        seat.number()
-    }
-
-    fn entries_of(seat: &HallSeat<N>) -> u32 {
-        seat.entries()
-    }
-
-    fn serve_guest<In: Read + Drop, Out: Write + Drop, K: Shelf + Drop>(
-        &self,
-        rt: &R,
-        alloc: Global,
-        guest: Guest<HallSeat<N>, In, Out, K>,
-    ) -> HallSeat<N>
-        ensures kept { record result { entries = 0 } ≡ record guest.seat { entries = 0 } }
-        ensures seen { IsPrefix [] [] }
-    {
-        let Guest {
-            seat,
-            mut reader,
-            mut writer,
-            mut shelf,
-        } = guest;
-        let mut door = self.door(rt, seat);
-        serve_door(alloc, &mut reader, &mut writer, &mut door, &mut shelf);
-        door.end()
-    }
 }
 
 impl<S: Stepper, R: Wait> Seating<TurnSeat<S>, R> for TurnHall<S> {
@@ -323,7 +285,7 @@ fn entries_of<T, R, H: Seating<T, R>>(seats: &[T]) -> u32
 }
 
 // Serves each seat once.
-fn serve_seats<
+pub(crate) fn serve_seats<
     T: Drop + Send,
     R: Threads + Wait + Sync,
     H: Seating<T, R> + Sync,
@@ -383,34 +345,8 @@ fn serve_seats<
 
 /// Serves each seat once: one accept for each, in order, and a thread of its own for each session that is accepted, with
 /// the shelf at the seat's place. It waits until all threads are done. A seat whose accept or thread failed is counted as
-/// failed and served no further.
-pub fn serve<
-    N: HallName + Send + Sync,
-    S: Stepper + Send,
-    G: HallGate + Sync,
-    L: Lobby,
-    K: Shelf + Drop + Send,
-    R: Threads + Wait + Sync,
->(
-    rt: &R,
-    alloc: Global,
-    lobby: &mut L,
-    hall: &Hall<N, S, G>,
-    seats: Vec<HallSeat<N>>,
-    shelves: Vec<K>,
-) -> Served<HallSeat<N>>
-    requires few { vec_len seats ≤ most_seats }
-    requires shelves { vec_len shelves ≡ vec_len seats }
-    ensures count { result.done + result.failed ≡ vec_len seats }
-    ensures all { vec_len result.seats ≡ vec_len seats }
-    ensures seats { numbers result.seats.items ≡ numbers seats.items }
-    ensures entries { result.entries ≡ sum_by (λ seat. seat.entries) result.seats.items }
-{
-    serve_seats(rt, alloc, lobby, hall, seats, shelves)
-}
-
-/// Serves each seat of a hall that takes turns, as `serve` does. Each seat comes back as it was, except for what it has seen,
-/// which begins with what it had seen.
+/// failed and served no further. Each seat comes back as it was, except for what it has seen, which begins with what it had
+/// seen.
 pub fn serve_turn<S: Stepper + Send, L: Lobby, K: Shelf + Drop + Send, R: Threads + Wait + Sync>(
     rt: &R,
     alloc: Global,

@@ -1,7 +1,7 @@
 //! Snapshots: `encode` and `decode` turn a gas into bytes and back, and a `Shelf` keeps the bytes, as in a file.
 //!
-//! The program uses all of it but `write_to`, which writes a snapshot without allocating and is there for callers of the
-//! library.
+//! The program uses all of it but the module `writer`: `write_to` writes a snapshot without allocating, and is there for
+//! callers of the library.
 #![tactic(auto)]
 
 mod cells;
@@ -10,6 +10,7 @@ mod fields;
 pub mod file_shelf;
 pub mod laws;
 mod page;
+mod put;
 mod reading;
 pub mod shelf;
 mod version;
@@ -18,8 +19,9 @@ mod writing;
 
 pub use fault::SnapFault;
 pub use file_shelf::FileShelf;
+pub use put::{WriteFault, put_all};
 pub use reading::decode;
 pub use shelf::{MaybeShelf, NoShelf, Shelf, ShelfFault};
 pub use version::Version;
-pub use writer::{WriteFault, put_all, write_to};
+pub use writer::write_to;
 pub use writing::encode;

@@ -1,4 +1,4 @@
-//! Writes a gas as bytes to a writer, without allocating.
+//! Writes a gas as bytes to a writer, without allocating. The program does not: this is for callers of the library.
 
 ghost use Rattle.std.specs.Prelude.{◌≡◌, length, IfOk, OnOk, OnErr};
 ghost use Rattle.std.specs.Io.KnownBytes.{Appends};
@@ -7,45 +7,11 @@ ghost use Rattle.gas_snapshot.specs.Spelling.{rows, spelling};
 ghost use Rattle.gas_snapshot.specs.Written.{WritesFront};
 
 use crate::page::head_of;
+use crate::put::{WriteFault, put_all};
 use gas_ledger::Gas;
 use gas_plane::Plane;
 use gas_terms::MOST_ROW_BYTES;
-use std::error::Error;
-use std::fmt;
 use std::io::Write;
-
-/// The writer failed, or took no bytes.
-#[derive(Clone, Copy, Debug, PartialEq, Eq)]
-pub struct WriteFault;
-
-impl fmt::Display for WriteFault {
-    ghost use Rattle.std.specs.Prelude.{codes, Some};
-
-    ghost output = { λ _. Some (codes "the snapshot was not written whole") };
-
-    fn fmt<W: fmt::Write>(&self, f: &mut fmt::Formatter<W>) -> fmt::Result {
-        write!(f, "the snapshot was not written whole")
-    }
-}
-
-impl Error for WriteFault {}
-
-/// Writes all of these bytes. If that fails, a prefix of them is written.
-pub fn put_all<W: Write>(writer: &mut W, bytes: &[u8]) -> Result<(), WriteFault>
-    ensures ok { OnOk result (Appends (W.contents writer.old) (W.contents writer.new) bytes.now) }
-    ensures err { OnErr result
-        (WritesFront (W.contents writer.old) (W.contents writer.new) bytes.now) }
-{
-    let mut from = 0;
-    while from < bytes.len() {
-        match writer.write(&bytes[from..]) {
-            Ok(0) => return Err(WriteFault),
-            Ok(n) => from += n,
-            Err(_) => return Err(WriteFault),
-        }
-    }
-    Ok(())
-}
 
 fn write_rows<W: Write>(writer: &mut W, plane: &Plane) -> Result<(), WriteFault>
     ensures ok { OnOk result

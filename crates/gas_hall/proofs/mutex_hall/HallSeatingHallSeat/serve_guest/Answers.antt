@@ -1,7 +1,7 @@
 use Rattle.std.proofs.Common.{◌∙◌, ap}
 use Rattle.gas_talk.proofs.Sequential.{stays}
 use Rattle.gas_seats.specs.Seats.{Seat}
-use Rattle.gas_hall.proofs.serving.HallSeatingHallSeat.serve_guest.Goals as goal
+use Rattle.gas_hall.proofs.mutex_hall.HallSeatingHallSeat.serve_guest.Goals as goal
 
 abbrev but_for_entries : Seat → Seat
 but_for_entries s = record s { entries = 0 }

@@ -1,7 +1,7 @@
 use Rattle.std.proofs.Common.{refl}
 use Rattle.gas_seats.specs.Seats.{Seat}
 use Rattle.gas_hall.proofs.Turns.{same_through}
-use Rattle.gas_hall.proofs.serving.serve.Goals as goal
+use Rattle.gas_hall.proofs.mutex_hall.serve.Goals as goal
 
 pub returns-clause-seats : goal.returns-clause-seats
 returns-clause-seats g c =
