@@ -4,7 +4,7 @@ use Rattle.std.proofs.lemmas.Bool.{ne_eqb}
 use Rattle.bit_tile.specs.Tile.{has}
 use Rattle.bit_tile.specs.declared.Tile.{Tile}
 use Rattle.tile_border.specs.Ring.{IsBorderOf}
-use Rattle.tile_border.specs.declared.Border.{Border}
+use Rattle.tile_border.specs.declared.border.Border.{Border}
 use Rattle.block_rule.specs.Around.{around, is_outside}
 use Rattle.block_rule.specs.Rows.{ShowsTile, ShowsRound}
 

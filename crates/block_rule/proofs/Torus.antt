@@ -5,7 +5,7 @@ use Rattle.std.proofs.lemmas.Nat.{mod-mul-add}
 use Rattle.std.proofs.lemmas.Bool.{cases_eq, eq-eqb, ne_eqb}
 use Rattle.bit_tile.specs.Tile.{has, HasCells}
 use Rattle.bit_tile.specs.declared.Tile.{Tile}
-use Rattle.tile_border.specs.declared.Border.{Border}
+use Rattle.tile_border.specs.declared.border.Border.{Border}
 use Rattle.gas_terms.specs.Velocity.{has_parity}
 use Rattle.gas_terms.specs.Cells.{Cells, joined, cells_where, HasEvenSides, HasSidesOf}
 use Rattle.gas_terms.specs.Cells as plane

@@ -5,7 +5,7 @@ ghost use Rattle.std.specs.Prelude.{◌≡◌, ℕ, ◌+◌, ◌<◌, ◌≤◌,
 ghost use Rattle.bit_tile.specs.Tile.{HasCells};
 ghost use Rattle.bit_tile.specs.declared.Tile.{Tile as TileRows};
 ghost use Rattle.tile_border.specs.Ring.{IsBorderOf};
-ghost use Rattle.tile_border.specs.declared.Border.{Border as RingCells};
+ghost use Rattle.tile_border.specs.declared.border.Border.{Border as RingCells};
 ghost use Rattle.gas_terms.specs.Velocity.{parity};
 ghost use Rattle.gas_terms.specs.Cells.{Cells, joined};
 ghost use Rattle.gas_terms.specs.Cells as plane;

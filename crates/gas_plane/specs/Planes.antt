@@ -3,7 +3,7 @@ use Rattle.bit_tile.specs.Tile as tile
 use Rattle.bit_tile.specs.Bit.{bit}
 use Rattle.bit_tile.specs.declared.Tile.{Tile}
 use Rattle.tile_border.specs.Ring.{ring, IsOnRing}
-use Rattle.tile_border.specs.declared.Border.{Border}
+use Rattle.tile_border.specs.declared.border.Border.{Border}
 use Rattle.tile_border.specs.declared.Round.{Round}
 use Rattle.gas_plane.specs.declared.around.Position.{Position}
 use Rattle.gas_plane.specs.declared.around.TilePlaces.{TilePlaces}

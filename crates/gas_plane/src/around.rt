@@ -4,7 +4,7 @@ ghost use Rattle.std.specs.Prelude.{◌≡◌, ◌+◌, ◌*◌, ◌/◌, ◌<�
 ghost use Rattle.gas_terms.specs.Cells.{tile_count, tile_rectangle};
 ghost use Rattle.gas_plane.specs.Planes.{IsLattice, IsTileFrom, AreTilesRound, IsRingRound, ArePlacesRound, IsPosition};
 ghost use Rattle.tile_border.specs.Ring.{IsBorderOfRound};
-ghost use Rattle.tile_border.specs.declared.Border.{Border as RingCells};
+ghost use Rattle.tile_border.specs.declared.border.Border.{Border as RingCells};
 
 use crate::Plane;
 use crate::circle::{after, before};

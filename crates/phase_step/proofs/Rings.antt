@@ -4,7 +4,7 @@ use Rattle.std.proofs.lemmas.Bool.Decides.{nat_tests}
 use Rattle.bit_tile.specs.Tile as tile
 use Rattle.bit_tile.specs.declared.Tile.{Tile}
 use Rattle.tile_border.specs.Ring.{ring}
-use Rattle.tile_border.specs.declared.Border.{Border}
+use Rattle.tile_border.specs.declared.border.Border.{Border}
 use Rattle.gas_terms.specs.Cells.{Cells, has}
 use Rattle.gas_plane.specs.Planes.{IsTileFrom, IsRingRound}
 use Rattle.gas_plane.proofs.Places.{ring_cases}

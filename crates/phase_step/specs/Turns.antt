@@ -4,7 +4,7 @@ use Rattle.bit_tile.specs.declared.Tile.{Tile}
 use Rattle.gas_terms.specs.Cells.{Cells, has, joined, tile_rectangle}
 use Rattle.gas_terms.specs.Gas.{streamed}
 use Rattle.tile_border.specs.Ring.{IsBorderOfRound}
-use Rattle.tile_border.specs.declared.Border.{Border}
+use Rattle.tile_border.specs.declared.border.Border.{Border}
 use Rattle.gas_plane.specs.Planes.{IsTileFrom, IsRingRound}
 use Rattle.block_rule.specs.Windows.{IsTilePlace}
 use Rattle.block_rule.specs.declared.Window.{Window}

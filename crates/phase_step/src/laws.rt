@@ -3,7 +3,7 @@
 ghost use Rattle.std.specs.Prelude.{◌≡◌, ℕ, ℤ, ◌+◌, ◌≤◌, pos, ◌-ℤ◌};
 ghost use Rattle.std.specs.Fn.{iterate};
 ghost use Rattle.bit_tile.specs.declared.Tile.{Tile};
-ghost use Rattle.tile_border.specs.declared.Border.{Border};
+ghost use Rattle.tile_border.specs.declared.border.Border.{Border};
 ghost use Rattle.gas_terms.specs.Cells.{Cells, HasEvenSides, IsEvenTorus};
 ghost use Rattle.gas_terms.specs.Velocity.{parity};
 ghost use Rattle.gas_terms.specs.Gas.{Gas, streamed, solid, forward, back, HasNoPorts};

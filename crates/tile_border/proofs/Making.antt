@@ -10,7 +10,7 @@ use Rattle.bit_tile.specs.Bit.{bit}
 use Rattle.bit_tile.specs.Tile.{has}
 use Rattle.bit_tile.specs.declared.Tile.{Tile}
 use Rattle.tile_border.specs.Ring.{ring, IsBorderOf}
-use Rattle.tile_border.specs.declared.Border.{Border}
+use Rattle.tile_border.specs.declared.border.Border.{Border}
 
 -- the word whose bits below n are as the test says
 word_where : (ℕ → Bool) → ℕ → ℕ

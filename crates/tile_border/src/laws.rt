@@ -2,7 +2,7 @@
 
 ghost use Rattle.bit_tile.specs.declared.Tile.{Tile as TileRows};
 ghost use Rattle.tile_border.specs.Ring.{IsBorderOf};
-ghost use Rattle.tile_border.specs.declared.Border.{Border as RingCells};
+ghost use Rattle.tile_border.specs.declared.border.Border.{Border as RingCells};
 
 /// Any eight tiles have a border.
 pub fn tiles_have_a_border()

@@ -1,6 +1,6 @@
 use Rattle.std.proofs.Common.{subst}
 use Rattle.tile_border.specs.Ring.{IsBorderOfRound}
-use Rattle.tile_border.specs.declared.Border.{Border}
+use Rattle.tile_border.specs.declared.border.Border.{Border}
 use Rattle.gas_terms.specs.Cells.{tile_rectangle}
 use Rattle.gas_plane.specs.Planes.{IsRingRound}
 use Rattle.gas_plane.proofs.Plane.round.Goals as goal

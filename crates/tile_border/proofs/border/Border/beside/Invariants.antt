@@ -1,7 +1,7 @@
 use Rattle.std.proofs.Common.{◌≡◌, ℕ, ◌+◌, ◌<◌}
 use Rattle.bit_tile.specs.Tile.{has}
 use Rattle.tile_border.specs.Ring.{ring}
-use Rattle.tile_border.proofs.Border.beside.Given as goal
+use Rattle.tile_border.proofs.border.Border.beside.Given as goal
 
 abbrev pub invariant-loop-y : goal.invariant-loop-y
 invariant-loop-y l =

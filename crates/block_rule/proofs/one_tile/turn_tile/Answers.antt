@@ -2,7 +2,7 @@ use Rattle.std.proofs.Common.{◌≡◌, sym, arith}
 use Rattle.block_rule.specs.Around.{around}
 use Rattle.block_rule.proofs.Borders.{shows_tile}
 use Rattle.block_rule.proofs.Took.{took_together}
-use Rattle.block_rule.proofs.turn_tile.Goals as goal
+use Rattle.block_rule.proofs.one_tile.turn_tile.Goals as goal
 
 pub returns-then-parity-eq0-clause-cells : goal.returns-then-parity-eq0-clause-cells
 returns-then-parity-eq0-clause-cells c =

@@ -3,7 +3,7 @@ use Rattle.std.proofs.lemmas.Bool.{cases_eq, eq-eqb, ne_eqb}
 use Rattle.bit_tile.specs.Bit.{bit}
 use Rattle.bit_tile.specs.Tile.{has}
 use Rattle.bit_tile.proofs.Bits.{bit-shr, bit-shl_high}
-use Rattle.tile_border.proofs.Border.beside.Goals as goal
+use Rattle.tile_border.proofs.border.Border.beside.Goals as goal
 
 -- row y is written, and those before it stay
 row_more : (y : ℕ) (want was now : ℕ → Bool) (own : Bool) → own ≡ want y → ((k : ℕ) → k < y → want k ≡ was k) → ((k : ℕ) → k < y + 1 → now k ≡ (if k == y then own else was k)) → (k : ℕ) → k < y + 1 → want k ≡ now k

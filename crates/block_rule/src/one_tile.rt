@@ -1,0 +1,89 @@
+//! One block, and one tile with its border. The program does not use them: they are for callers of the library.
+
+ghost use Rattle.std.specs.Prelude.{◌≡◌, ℕ, ◌<◌, Bool, not, ◌&&◌};
+ghost use Rattle.bit_tile.specs.Tile.{has, HasCells};
+ghost use Rattle.gas_terms.specs.Velocity.{Velocity, opposite, outcome};
+ghost use Rattle.block_rule.specs.Block.{channels_of};
+ghost use Rattle.block_rule.specs.Around.{around, turned, either, is_walled_at, twice_momentum, taken, plus};
+ghost use Rattle.block_rule.specs.Lent.{IsSeenIn};
+ghost use Rattle.tile_border.specs.Ring.{IsBorderOf};
+ghost use Rattle.tile_border.specs.declared.border.Border.{Border as BorderValue};
+
+use crate::walled::{Counted, Places, walled_cells_even, walled_cells_odd};
+use crate::{Window, turn_tile_even, turn_tile_odd};
+use bit_tile::Tile;
+use gas_terms::Took;
+use tile_border::{Border, Neighbors};
+
+/// The cells of a block after the rule, in the order upper left, upper right, lower left, lower right.
+pub fn turn_block(cells: [bool; 4], walled: bool) -> [bool; 4]
+    ensures outcome { (v : Velocity) →
+        channels_of result (opposite v) ≡ outcome walled (channels_of cells) v }
+    ensures undone { (v : Velocity) →
+        channels_of cells (opposite v) ≡ outcome walled (channels_of result) v }
+{
+    let [a, b, c, d] = cells;
+    if walled {
+        cells
+    } else if a == d && b == c && a != b {
+        [b, a, a, b]
+    } else {
+        [d, c, b, a]
+    }
+}
+
+// a tile with neighbors that were made from its border
+fn window_of<'a>(tile: &'a Tile, near: &'a Neighbors) -> Window<'a>
+    ensures tile { result.tile.now ≡ tile.now }
+    ensures seen { (b : BorderValue) →
+        IsBorderOf b near.now.above near.now.below near.now.left near.now.right
+        near.now.above_left near.now.above_right near.now.below_left near.now.below_right →
+        IsSeenIn result (around tile.now b) }
+{
+    let round = near.round();
+    Window { tile, round }
+}
+
+/// The tile after the rule, and the momentum that walls and obstacles take of its own particles: twice that of the particles in
+/// walled blocks.
+pub fn turn_tile(
+    tile: &Tile,
+    border: &Border,
+    walls: &Tile,
+    wall_border: &Border,
+    obstacles: &Tile,
+    obstacle_border: &Border,
+    parity: u8,
+) -> (Tile, Took)
+    requires { parity < 2 }
+    ensures cells { HasCells result.0 (turned parity (around tile.now border.now)
+        (either (around walls.now wall_border.now) (around obstacles.now obstacle_border.now))) }
+    ensures took { result.1 ≡ taken parity tile.now
+        (around walls.now wall_border.now) (around obstacles.now obstacle_border.now) }
+    ensures together { plus result.1.walls result.1.obstacles ≡
+        twice_momentum parity (λ x y. has tile.now x y &&
+        is_walled_at parity (either (around walls.now wall_border.now)
+        (around obstacles.now obstacle_border.now)) x y) }
+{
+    if parity == 0 {
+        let walled = walled_cells_even(walls, obstacles);
+        let walls = Some(Places::anywhere(&walled.walls));
+        let obstacles = Some(Places::anywhere(&walled.obstacles));
+        let mut out = *tile;
+        let took = turn_tile_even(&mut out, walls, obstacles, Counted::BOTH);
+        (out, took)
+    } else {
+        let near = border.neighbors();
+        let near_walls = wall_border.neighbors();
+        let near_obstacles = obstacle_border.neighbors();
+        let particles = window_of(tile, &near);
+        let walls = window_of(walls, &near_walls);
+        let obstacles = window_of(obstacles, &near_obstacles);
+        let walled = walled_cells_odd(&walls, &obstacles);
+        let walls = Some(Places::anywhere(&walled.walls));
+        let obstacles = Some(Places::anywhere(&walled.obstacles));
+        let mut out = Tile::empty();
+        let took = turn_tile_odd(&particles, walls, obstacles, Counted::BOTH, &mut out);
+        (out, took)
+    }
+}
