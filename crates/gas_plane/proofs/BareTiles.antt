@@ -1,5 +1,5 @@
 -- Marks of tiles that have no cell.
-use Rattle.std.proofs.Common.{◌≡◌, ℕ, ◌+◌, ◌-◌, ◌*◌, ◌/◌, ◌%◌, ◌<◌, ◌≤◌, ◌&&◌, Bool, true, IsTrue, List, length, set, sym, ◌∙◌, ap, ap₂, subst, arith, inl, inr, get_or-set_other, get_or-set_same, length-set, mul_assoc}
+use Rattle.std.proofs.Common.{◌≡◌, ℕ, ◌+◌, ◌-◌, ◌*◌, ◌/◌, ◌%◌, ◌<◌, ◌≤◌, ◌&&◌, Bool, true, false, IsTrue, List, length, set, sym, ◌∙◌, ap, ap₂, subst, arith, inl, inr, get_or-set_other, get_or-set_same, length-set, mul_assoc}
 use Rattle.std.proofs.lemmas.List.{get_or_default}
 use Rattle.std.proofs.lemmas.Nat.{mod-mul-add, div-mul-add, div-add-mod'}
 use Rattle.std.proofs.Math.Nat.{mod-lt}
@@ -13,6 +13,10 @@ use Rattle.gas_plane.specs.declared.marks.Mark.TheVariants.{Lent}
 use Rattle.gas_plane.specs.Planes.{IsTileFrom, IsBare, IsBareRound, IsBareFarRound, AreThreeBare, HasNone, place_by}
 use Rattle.gas_plane.proofs.Places.{IsWholeTiles, ring_before, ring_after, ring_in, ring_cases, cell_below, stays}
 use Rattle.gas_plane.proofs.Tilings.{tiled, tile_is, tile_there, set_covers, nothing_there}
+
+-- nothing is both true and false
+pub not_both : (b : Bool) → IsTrue b → b ≡ false → ⊥
+not_both b h k = grind arith
 
 -- what is put in the place of tile i, with a mark of its own
 pub marked_set : (tiles : List Tile) (marks : List Mark) (i : ℕ) (t : Tile) (mark : Mark) (size : Extent) → IsMarked tiles marks size → i < length tiles → IsMarkOf t mark → IsMarked (set tiles i t) (set marks i mark) size

@@ -98,6 +98,19 @@ no_row true true c d e = e
 no_row true false c d e = refl
 no_row false b c d e = refl
 
+-- a rectangle has all 64 by 64 cells from a place on exactly if it spans their columns and rows
+pub all_inside : (r : Rectangle) (left top x y : ℕ) → (r.x ≤ left) × (left + 64 ≤ r.x + r.w) → (r.y ≤ top) × (top + 64 ≤ r.y + r.h) → x < 64 → y < 64 → is_inside r (left + x) (top + y) ≡ true
+all_inside r left top x y (a, b) (c, d) p q = grind (arith, nat_tests)
+
+bounds : (r : Rectangle) (x y : ℕ) → is_inside r x y ≡ true → ((r.x ≤ x) × (x < r.x + r.w)) × ((r.y ≤ y) × (y < r.y + r.h))
+bounds r x y h = ((grind (arith, nat_tests), grind (arith, nat_tests)), (grind (arith, nat_tests), grind (arith, nat_tests)))
+
+pub spans_all : (r : Rectangle) (left top : ℕ) → ((x y : ℕ) → x < 64 → y < 64 → is_inside r (left + x) (top + y) ≡ true) → ((r.x ≤ left) × (left + 64 ≤ r.x + r.w)) × ((r.y ≤ top) × (top + 64 ≤ r.y + r.h))
+spans_all r left top all =
+    let first = bounds r (left + 0) (top + 0) (all 0 0 (omega arith) (omega arith)) in
+    let last = bounds r (left + 63) (top + 63) (all 63 63 (omega arith) (omega arith)) in
+    ((omega (arith, first.0.0), omega (arith, last.0.1)), (omega (arith, first.1.0), omega (arith, last.1.1)))
+
 pub outside_columns : (r : Rectangle) (x y : ℕ) → (nat_le r.x x && nat_lt x (r.x + r.w)) ≡ false → is_inside r x y ≡ false
 outside_columns r x y e = no_column (nat_le r.x x && nat_lt x (r.x + r.w)) (nat_le r.y y) (nat_lt y (r.y + r.h)) e
 

@@ -143,10 +143,7 @@ impl Plane {
     #[inline]
     pub fn is_bare(&self, i: u32) -> bool
         requires { i < tile_count self.now }
-        ensures bare { let r = tile_rectangle self.now i in
-            IsTrue result → IsBare self.now r.x r.y }
-        ensures known { let r = tile_rectangle self.now i in
-            IsBare self.now r.x r.y → IsTrue result }
+        ensures { let r = tile_rectangle self.now i in IsTrue result ↔ IsBare self.now r.x r.y }
     {
         match self.marks[i as usize] {
             Mark::Bare => true,
@@ -174,12 +171,10 @@ impl Plane {
     #[inline]
     pub fn is_bare_round(&self, i: u32) -> bool
         requires { i < tile_count self.now }
-        ensures bare { let r = tile_rectangle self.now i in
-            IsTrue result → IsBareFarRound self.now r.x r.y }
+        ensures far { let r = tile_rectangle self.now i in
+            IsTrue result ↔ IsBareFarRound self.now r.x r.y }
         ensures ring { let r = tile_rectangle self.now i in
             IsTrue result → IsBareRound self.now r.x r.y }
-        ensures known { let r = tile_rectangle self.now i in
-            IsBareFarRound self.now r.x r.y → IsTrue result }
     {
         let across = self.across();
         let down = self.down();

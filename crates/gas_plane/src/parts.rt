@@ -1,6 +1,6 @@
 //! Which tiles a rectangle meets, and the part of it in each.
 
-ghost use Rattle.std.specs.Prelude.{◌≡◌, IsTrue, ℕ, ◌+◌, ◌/◌, ◌<◌, ◌≤◌, ◌^◌, ◌&&◌, nat_le, nat_lt, false, MatchOption, true};
+ghost use Rattle.std.specs.Prelude.{◌≡◌, ◌↔◌, IsTrue, ℕ, ◌+◌, ◌*◌, ◌/◌, ◌<◌, ◌≤◌, ◌^◌, ◌&&◌, nat_le, nat_lt, false, MatchOption, true};
 ghost use Rattle.gas_terms.specs.Cells.{is_inside};
 ghost use Rattle.bit_tile.specs.Tile.{HasCells};
 
@@ -16,6 +16,8 @@ pub fn tiles_met(start: u32, len: u32, n: u32) -> (u32, u32)
         (nat_le start x && nat_lt x (start + len)) ≡ false }
     ensures after { (x : ℕ) → x / 64 < n → result.1 ≤ x / 64 →
         (nat_le start x && nat_lt x (start + len)) ≡ false }
+    ensures met { (k : ℕ) → result.0 ≤ k → k < result.1 →
+        (64 * k < start + len) × (start < 64 * (k + 1)) }
 {
     let end = ((start + len + 63) / 64).min(n);
     ((start / 64).min(end), end)
@@ -37,15 +39,15 @@ pub fn part_of(area: Rect, left: u32, top: u32) -> Option<Tile>
 
 /// Whether the rectangle has all of the 64 by 64 cells from the place (left, top) on.
 pub fn is_covered(area: Rect, left: u32, top: u32) -> bool
-    ensures { IsTrue result →
-        (x y : ℕ) → x < 64 → y < 64 → is_inside area (left + x) (top + y) ≡ true }
+    ensures { IsTrue result ↔
+        ((x y : ℕ) → x < 64 → y < 64 → is_inside area (left + x) (top + y) ≡ true) }
 {
     spans(area.x(), area.w(), left) && spans(area.y(), area.h(), top)
 }
 
 // whether the `len` places from `start` on have all 64 from `from` on
 fn spans(start: u16, len: u16, from: u32) -> bool
-    ensures { IsTrue result → (start ≤ from) × (from + 64 ≤ start + len) }
+    ensures { IsTrue result ↔ (start ≤ from) × (from + 64 ≤ start + len) }
 {
     let start = u32::from(start);
     start <= from && 64 <= (start + u32::from(len)).saturating_sub(from)

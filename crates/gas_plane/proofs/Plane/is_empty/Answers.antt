@@ -17,7 +17,7 @@ returns-then-are_all_bare c = (
 )
 
 pub loop-i-preserved : goal.loop-i-preserved
-loop-i-preserved c = one_more_bare c.args.self.now c.loop-i.i c.loop-i.invariant (c.is_bare.ensures.bare (is_true c.is_bare.result c.if-not-is_bare.false))
+loop-i-preserved c = one_more_bare c.args.self.now c.loop-i.i c.loop-i.invariant (c.is_bare.ensures.0 (is_true c.is_bare.result c.if-not-is_bare.false))
 
 pub returns : goal.returns
 returns c =

@@ -21,7 +21,7 @@ loop-column-preserved c =
     elim c.if-is_covered.branch [
       | then-is_covered w ↦
           row_more_whole c.args.self.now c.loop-column.self c.if-is_covered.self c.args.area c.args.held c.args.row c.loop-column.column c.across-across.result is c.across-across.ensures.across
-          less c.loop-column.invariant (c.is_covered.ensures w.if-is_covered.true) (w.self-is ∙ w.paint_whole_tile.ensures)
+          less c.loop-column.invariant (c.is_covered.ensures.0 w.if-is_covered.true) (w.self-is ∙ w.paint_whole_tile.ensures)
       | else-is_covered+in-Some w ↦
           row_more c.args.self.now c.loop-column.self c.if-is_covered.self c.args.area c.args.held c.args.row c.loop-column.column c.across-across.result (tile.has w.in-Some.part) is c.across-across.ensures.across
           less c.loop-column.invariant w.in-Some.ensures (w.self-is ∙ w.paint_tile.ensures)

@@ -16,7 +16,7 @@ pub returns-then-is_covered-clause-counts : goal.returns-then-is_covered-clause-
 returns-then-is_covered-clause-counts c = λ a b p q.
     let t = c.args.tile.now in
     c.count_by_parity.ensures.counts a b p q
-    ∙ cells_same _ _ (λ x y in_row in_column. ap (λ v. v && x % 2 == a && y % 2 == b) (with_true (tile.has t x y) _ (c.is_covered.ensures c.if-is_covered.true x y in_row in_column)))
+    ∙ cells_same _ _ (λ x y in_row in_column. ap (λ v. v && x % 2 == a && y % 2 == b) (with_true (tile.has t x y) _ (c.is_covered.ensures.0 c.if-is_covered.true x y in_row in_column)))
 
 pub returns-in-Some-clause-counts : goal.returns-in-Some-clause-counts
 returns-in-Some-clause-counts c = λ a b p q.

@@ -11,8 +11,8 @@ returns-then-is_bare-2 c =
     let o = c.args.obstacles.now in
     let place = c.requires.place in
     none_in_tile 0 (omega arith) w o c.args.i place
-    (bare_inside c.args.i w w place.of_walls place.right place.bottom (c.is_bare.ensures.bare c.if-is_bare.true))
-    (bare_inside c.args.i o w place.of_obstacles place.right place.bottom (c.is_bare-then-is_bare.ensures.bare c.if-is_bare-2.true))
+    (bare_inside c.args.i w w place.of_walls place.right place.bottom (c.is_bare.ensures.0 c.if-is_bare.true))
+    (bare_inside c.args.i o w place.of_obstacles place.right place.bottom (c.is_bare-then-is_bare.ensures.0 c.if-is_bare-2.true))
 
 pub returns : goal.returns
 returns c =
