@@ -14,7 +14,6 @@ use Rattle.gas_terms.specs.Cells.{Cells, Extent, has, cells_where, extent, IsFul
 use Rattle.gas_terms.specs.Rows.{row_has, row_bytes, row_replaced}
 use Rattle.gas_terms.proofs.Cells.{has-cells_where, full-cells_where, same_cells, same_cells_where}
 use Rattle.gas_terms.proofs.Bytes.{length-row_bytes, row_has-row_bytes, row_bytes-row_replaced}
-use Rattle.gas_ledger.specs.Gases.{no_cells}
 use Rattle.gas_snapshot.proofs.FieldLaws.{both_true, IsBytes-take, IsBytes-drop}
 use Rattle.gas_snapshot.specs.Spelling.{rows}
 use Rattle.gas_snapshot.specs.Reading.{cells_in}

@@ -1,10 +1,8 @@
 -- A run with actions in two parts, and one whose action is still.
 use Rattle.std.proofs.Common.{◌≡◌, ℕ, zero, suc, ◌+◌, ◌*◌, ◌<◌, ◌≤◌, ◌^◌, true, Bool, pos, refl, sym, ap, ap₂, ◌∙◌, subst, arith}
-use Rattle.gas_terms.specs.Cells.{Cells, IsFull, joined, extent, is_size, tile_count}
-use Rattle.gas_terms.specs.Gas.{streamed, arrived, site_of}
-use Rattle.gas_terms.specs.Velocity.{velocity_at}
+use Rattle.gas_terms.specs.Cells.{Cells, joined, extent, is_size, tile_count}
+use Rattle.gas_terms.specs.Gas.{streamed}
 use Rattle.gas_terms.specs.Accounts.{taken, took_plus, moved_by, moved_plus}
-use Rattle.gas_terms.proofs.Cells.{full-cells_where}
 use Rattle.phase_step.specs.Runs.{parity_at, after, run_takes}
 use Rattle.phase_step.specs.declared.sums.flow.Flow.{Flow}
 use Rattle.phase_step.specs.Actions.{Leaves, acted, after_with, takes_with, moves_with, flow_with, flow_plus, FlowsFit}

@@ -1,4 +1,4 @@
-use Rattle.std.proofs.Common.{rules, ◌∙◌, [], ◌∷◌}
+use Rattle.std.proofs.Common.{◌∙◌, [], ◌∷◌}
 use Rattle.phase_step.specs.Exchanges.{leaves_of}
 use Rattle.phase_step.specs.declared.sums.change.Change.{Change}
 use Rattle.phase_step.proofs.ActedTiles.{still_acts, still_counts, moved_by_change}

@@ -1,4 +1,4 @@
-use Rattle.std.proofs.Common.{rules, refl, arith}
+use Rattle.std.proofs.Common.{refl, arith}
 use Rattle.block_rule.specs.Around.{around}
 use Rattle.block_rule.specs.declared.Window.{Window}
 use Rattle.phase_step.proofs.SitesInTiles.{found_in_tile, none_in_tile}

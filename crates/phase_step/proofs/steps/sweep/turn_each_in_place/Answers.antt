@@ -1,5 +1,4 @@
-use Rattle.std.proofs.Common.{rules, ◌≡◌, ℕ, ◌-◌, ◌∙◌, ap, sym, refl, pos, arith}
-use Rattle.std.proofs.lemmas.Grind.{common_steps}
+use Rattle.std.proofs.Common.{◌≡◌, ℕ, ◌-◌, ◌∙◌, ap, sym, refl, pos, arith}
 use Rattle.gas_terms.specs.Cells.{tile_count, tile_rectangle}
 use Rattle.gas_terms.proofs.Cells.{has-cells_where, full-cells_where, same_cells}
 use Rattle.gas_plane.proofs.PlaneCounts.{few_tiles}
