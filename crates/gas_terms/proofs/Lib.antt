@@ -44,3 +44,8 @@ pub mod Distance
 pub mod LightCone
 pub mod Clear
 pub mod Superposed
+pub mod Histories
+pub mod Pigeonhole
+pub mod Codes
+pub mod Recurrence
+pub mod Lines

@@ -94,7 +94,7 @@ upside_down_joined some others sides =
     ap (λ n. joined (upside_down some) (cells_where others.width others.height (λ x y. has others x (n - 1 - y)))) sides.high
     ∙ pulled_joined some others (λ x. x) (λ y. some.height - 1 - y) sides (λ x l. l) (λ y m. omega arith)
 
-transposed_joined : (some others : Cells) → HasSidesOf others some → joined (transposed some) (transposed others) ≡ transposed (joined some others)
+pub transposed_joined : (some others : Cells) → HasSidesOf others some → joined (transposed some) (transposed others) ≡ transposed (joined some others)
 transposed_joined some others sides =
     same_cells_where some.height some.width (λ x y. has (transposed some) x y || has (transposed others) x y) (λ x y. has (joined some others) y x)
     (λ x y l m.

@@ -170,9 +170,10 @@ pub fn step_turns_blocks()
         ≡ (has walls x y || has walls across down || has walls across y || has walls x down) }
 {}
 
-/// Without ports a whole step is a step of the particles alone.
+/// Without ports a whole step is a step of the particles alone, and so are many.
 pub fn ports_are_the_only_difference()
-    ensures { (g : Gas) → HasNoPorts g → step g ≡ forward g }
+    ensures one { (g : Gas) → HasNoPorts g → step g ≡ forward g }
+    ensures many { (n : ℕ) (g : Gas) → HasNoPorts g → iterate step n g ≡ iterate forward n g }
 {}
 
 /// Rows as bytes and rows as cells agree: what is written is read again, and only its row is replaced.

@@ -1,5 +1,5 @@
 //! The types that all crates share: sizes, rectangles, ticks, sums, rows, commands and refusals. `specs/` defines gas and
-//! laboratory; the modules `laws`, `account_laws`, `symmetry_laws` and `lab_laws` prove what follows.
+//! laboratory; the modules `laws`, `account_laws`, `symmetry_laws`, `history_laws` and `lab_laws` prove what follows.
 //!
 //! The program uses all types but `Vel`, and all calls but `vel`, `Rect::holds`, `Rect::fits` and `Command::fits`, which are
 //! there for callers of the library.
@@ -9,6 +9,7 @@ pub mod account_laws;
 pub mod accounts;
 pub mod answer;
 pub mod command;
+pub mod history_laws;
 pub mod lab_laws;
 pub mod laws;
 pub mod limits;
