@@ -270,3 +270,10 @@ named_blocks walled obstructed a b x y i of_walls of_obstacles =
     bit-or a b i
     ∙ (ap₂ (λ u v. u || v) of_walls of_obstacles
     ∙ (one_or_other (is_walled_at 0 walled x y) (is_walled_at 0 obstructed x y) ∙ sym (walled_either 0 walled obstructed x y)))
+
+-- the same at any parity
+pub either_named : (p : ℕ) (walled obstructed : ℕ → ℕ → Bool) (a b x y i : ℕ) → bit a i ≡ is_for_walls p walled obstructed x y → bit b i ≡ is_walled_at p obstructed x y → bit (bit_or a b) i ≡ is_walled_at p (either walled obstructed) x y
+either_named p walled obstructed a b x y i of_walls of_obstacles =
+    bit-or a b i
+    ∙ (ap₂ (λ u v. u || v) of_walls of_obstacles
+    ∙ (one_or_other (is_walled_at p walled x y) (is_walled_at p obstructed x y) ∙ sym (walled_either p walled obstructed x y)))

@@ -8,3 +8,4 @@ pub mod Sparing
 pub mod Torus
 pub mod TorusTook
 pub mod Borders
+pub mod NamedBlocks

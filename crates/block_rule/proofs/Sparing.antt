@@ -9,16 +9,16 @@ use Rattle.block_rule.specs.declared.blocks.Blocks.{Blocks}
 
 -- a word of a class of the places, by the test
 module _ (test : ℕ → ℕ → Bool) (places : Tile) (are : HasCells places test) where
-  at_even_even : (i j : ℕ) → i < 32 → j < 32 → bit (get_or places.even_even j 0) i ≡ test (2 * i + 0) (2 * j + 0)
+  pub at_even_even : (i j : ℕ) → i < 32 → j < 32 → bit (get_or places.even_even j 0) i ≡ test (2 * i + 0) (2 * j + 0)
   at_even_even i j h k = is_even_even places i j h k ∙ are (2 * i + 0) (2 * j + 0) (omega arith) (omega arith)
 
-  at_odd_even : (i j : ℕ) → i < 32 → j < 32 → bit (get_or places.odd_even j 0) i ≡ test (2 * i + 1) (2 * j + 0)
+  pub at_odd_even : (i j : ℕ) → i < 32 → j < 32 → bit (get_or places.odd_even j 0) i ≡ test (2 * i + 1) (2 * j + 0)
   at_odd_even i j h k = is_odd_even places i j h k ∙ are (2 * i + 1) (2 * j + 0) (omega arith) (omega arith)
 
-  at_even_odd : (i j : ℕ) → i < 32 → j < 32 → bit (get_or places.even_odd j 0) i ≡ test (2 * i + 0) (2 * j + 1)
+  pub at_even_odd : (i j : ℕ) → i < 32 → j < 32 → bit (get_or places.even_odd j 0) i ≡ test (2 * i + 0) (2 * j + 1)
   at_even_odd i j h k = is_even_odd places i j h k ∙ are (2 * i + 0) (2 * j + 1) (omega arith) (omega arith)
 
-  at_odd_odd : (i j : ℕ) → i < 32 → j < 32 → bit (get_or places.odd_odd j 0) i ≡ test (2 * i + 1) (2 * j + 1)
+  pub at_odd_odd : (i j : ℕ) → i < 32 → j < 32 → bit (get_or places.odd_odd j 0) i ≡ test (2 * i + 1) (2 * j + 1)
   at_odd_odd i j h k = is_odd_odd places i j h k ∙ are (2 * i + 1) (2 * j + 1) (omega arith) (omega arith)
 
 by_test : (a b x y z : Bool) → z ≡ (if a then x else y) → a ≡ b → z ≡ (if b then x else y)

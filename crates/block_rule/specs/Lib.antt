@@ -6,3 +6,4 @@ pub mod Cell
 pub mod Rows
 pub mod Lent
 pub mod Accounts
+pub mod NamedBlocks

@@ -6,6 +6,7 @@ use Rattle.tile_border.specs.declared.Round.{Round}
 use Rattle.block_rule.specs.declared.blocks.Blocks.{Blocks}
 use Rattle.block_rule.specs.declared.blocks.Beside.{Beside}
 use Rattle.block_rule.specs.declared.blocks.EightRows.{EightRows}
+use Rattle.block_rule.specs.declared.odd_rows.OddRow.{OddRow}
 
 -- the window has the tile's cells
 abbrev pub ShowsTile : (ℕ → ℕ → Bool) → Tile → Type 0
@@ -42,6 +43,10 @@ pub record ShowsRows (window : ℕ → ℕ → Bool) (y : ℕ) (own : Blocks) (l
   pub left_lower : window 0 (y + 1) ≡ bit left.lower 31
   pub right_upper : window 65 y ≡ bit right.upper 0
   pub right_lower : window 65 (y + 1) ≡ bit right.lower 0
+
+-- a row of odd blocks shows them
+abbrev pub ShowsOddRow : (ℕ → ℕ → Bool) → ℕ → OddRow → Type 0
+ShowsOddRow window y row = ShowsRows window y row.own row.left row.right
 
 -- what the rule makes of these rows
 pub record IsMadeOdd (cell : Bool → Bool → Bool → Bool → Bool) (window : ℕ → ℕ → Bool) (y : ℕ) (new : Blocks) : Type 0 where

@@ -1,7 +1,8 @@
 //! The block rule of the HPP gas: for one block of 2 by 2 cells, and for a tile, 32 blocks at once.
 //!
-//! The program calls `turn_tile_even` and `turn_tile_odd`, and `walled_cells_even` and `walled_cells_odd` for the cells that they
-//! take. The module `one_tile`, with `turn_block` and `turn_tile`, is there for callers of the library.
+//! The program calls `turn_even_named` and `turn_odd_named`, and `walled_cells_even`, `walled_cells_odd` and `odd_blocks` for what
+//! they take. `turn_tile_even` and `turn_tile_odd`, and the module `one_tile`, with `turn_block` and `turn_tile`, are there for
+//! callers of the library.
 #![tactic(auto)]
 
 ghost use Rattle.std.specs.Prelude.{◌≡◌, ℕ, Bool};
@@ -12,17 +13,23 @@ ghost use Rattle.block_rule.specs.Rows.{ShowsTile};
 ghost use Rattle.block_rule.specs.Lent.{IsSeenIn, IsLentOf};
 
 mod blocks;
+mod collide_odd;
 mod count;
 pub mod laws;
 mod made;
+mod named;
+mod odd_rows;
 mod one_tile;
 mod spare;
 mod walled;
 
 use bit_tile::Tile;
 use blocks::Collision;
+pub use collide_odd::OddBlocks;
+use collide_odd::{NoBlocks, collide_odd};
 use gas_terms::Took;
 use made::{collide_even, make_even, make_odd};
+pub use named::{Named, odd_blocks, turn_even_named, turn_odd_named};
 pub use one_tile::{turn_block, turn_tile};
 use tile_border::Round;
 pub use walled::{Counted, Places, WalledCells, walled_cells_even, walled_cells_odd};
@@ -85,6 +92,10 @@ pub fn turn_tile_odd(
         result ≡ counted_of counted (taken 1 particles.now.tile.now walled obstructed) }
 {
     let Window { tile, round } = particles;
-    make_odd(Collision, tile, round, walls, obstacles, out);
-    taken_of(tile, walls, obstacles, 1, counted)
+    let took = taken_of(tile, walls, obstacles, 1, counted);
+    match (walls, obstacles) {
+        (None, None) => collide_odd(NoBlocks, tile, round, out),
+        _ => make_odd(Collision, tile, round, walls, obstacles, out),
+    }
+    took
 }

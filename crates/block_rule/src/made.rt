@@ -5,9 +5,10 @@ ghost use Rattle.bit_tile.specs.Bit.{bit};
 ghost use Rattle.bit_tile.specs.Tile.{HasCells};
 ghost use Rattle.block_rule.specs.Cell.{made, spared, turned_at};
 ghost use Rattle.block_rule.specs.Lent.{IsLentOf};
-ghost use Rattle.block_rule.specs.Rows.{ShowsTile, ShowsAllRound, ShowsRows, ShowsInnerRows, IsMadeOdd, AreMadeOdd, odd_row, eight_row};
+ghost use Rattle.block_rule.specs.Rows.{ShowsTile, ShowsAllRound, ShowsOddRow, ShowsInnerRows, IsMadeOdd, AreMadeOdd, odd_row, eight_row};
 
-use crate::blocks::{Beside, Blocks, EightRows, Rule, collided, next, previous};
+use crate::blocks::{Blocks, EightRows, Rule, collided, next, previous};
+use crate::odd_rows::{OddRow, bottom_row, inner_row, top_row};
 use crate::spare::{spare_bottom, spare_eight, spare_top};
 use crate::walled::Places;
 use bit_tile::Tile;
@@ -57,10 +58,11 @@ pub fn collide_even(walled: &[u32; 32], tile: &mut Tile)
 // A row of blocks that begin at odd columns. The tile has the left corners of those that begin in it, and the right
 // corners of those that end in it.
 #[inline]
-fn made_odd<R: Rule>(rule: R, own: Blocks, left: Beside, right: Beside) -> Blocks
-    ensures { (window : ℕ → ℕ → Bool) (y : ℕ) → ShowsRows window y own left right →
+fn made_odd<R: Rule>(rule: R, row: OddRow) -> Blocks
+    ensures { (window : ℕ → ℕ → Bool) (y : ℕ) → ShowsOddRow window y row →
         IsMadeOdd (R.cell rule) window y result }
 {
+    let OddRow { own, left, right } = row;
     let begin = rule.made(Blocks {
         upper_left: own.upper_left,
         upper_right: next(own.upper_right, right.upper),
@@ -88,21 +90,7 @@ pub fn made_inner<R: Rule>(rule: R, tile: &Tile, left: &Tile, right: &Tile, j: u
     ensures { (window : ℕ → ℕ → Bool) → ShowsInnerRows window tile.now left.now right.now →
         IsMadeOdd (R.cell rule) window (2 * j + 2) result }
 {
-    let own = Blocks {
-        upper_left: tile.odd_odd[j],
-        upper_right: tile.even_odd[j],
-        lower_left: tile.odd_even[j + 1],
-        lower_right: tile.even_even[j + 1],
-    };
-    let left = Beside {
-        upper: left.odd_odd[j],
-        lower: left.odd_even[j + 1],
-    };
-    let right = Beside {
-        upper: right.even_odd[j],
-        lower: right.even_even[j + 1],
-    };
-    made_odd(rule, own, left, right)
+    made_odd(rule, inner_row(tile, left, right, j))
 }
 
 // The eight rows of odd blocks that begin in the tile's odd rows from `from` on, and end in the tile.
@@ -128,9 +116,9 @@ fn made_eight<R: Rule>(rule: R, tile: &Tile, left: &Tile, right: &Tile, from: us
     rows
 }
 
-// Writes them. All are made before the first is written, so that the compiler makes them as vectors, wherever `out` is.
+/// Writes them. All are made before the first is written, so that the compiler makes them as vectors, wherever `out` is.
 #[inline(always)]
-fn write_eight(rows: &EightRows, from: usize, out: &mut Tile)
+pub fn write_eight(rows: &EightRows, from: usize, out: &mut Tile)
     requires { from + 8 < 32 }
     ensures rows { (k : ℕ) → k < 8 → odd_row out.new (from + k) ≡ eight_row rows.now k }
     ensures upper_rest { (j : ℕ) → (j < from) ⊎ (from + 8 ≤ j) →
@@ -182,52 +170,6 @@ fn make_eight_odd<R: Rule>(rule: R, here: &Between<'_>, from: usize, out: &mut T
     write_eight(&rows, from, out);
 }
 
-/// The row of blocks at the tile's top, whose upper corners are in the tiles above.
-#[inline]
-pub fn made_top<R: Rule>(rule: R, tile: &Tile, near: &Round) -> Blocks
-    ensures { (window : ℕ → ℕ → Bool) → ShowsTile window tile.now → ShowsAllRound window near.now →
-        IsMadeOdd (R.cell rule) window 0 result }
-{
-    let own = Blocks {
-        upper_left: near.above.odd_odd[31],
-        upper_right: near.above.even_odd[31],
-        lower_left: tile.odd_even[0],
-        lower_right: tile.even_even[0],
-    };
-    let left = Beside {
-        upper: near.above_left.odd_odd[31],
-        lower: near.left.odd_even[0],
-    };
-    let right = Beside {
-        upper: near.above_right.even_odd[31],
-        lower: near.right.even_even[0],
-    };
-    made_odd(rule, own, left, right)
-}
-
-/// The row of blocks at its bottom, whose lower corners are in the tiles below.
-#[inline]
-pub fn made_bottom<R: Rule>(rule: R, tile: &Tile, near: &Round) -> Blocks
-    ensures { (window : ℕ → ℕ → Bool) → ShowsTile window tile.now → ShowsAllRound window near.now →
-        IsMadeOdd (R.cell rule) window 64 result }
-{
-    let own = Blocks {
-        upper_left: tile.odd_odd[31],
-        upper_right: tile.even_odd[31],
-        lower_left: near.below.odd_even[0],
-        lower_right: near.below.even_even[0],
-    };
-    let left = Beside {
-        upper: near.left.odd_odd[31],
-        lower: near.below_left.odd_even[0],
-    };
-    let right = Beside {
-        upper: near.right.even_odd[31],
-        lower: near.below_right.even_even[0],
-    };
-    made_odd(rule, own, left, right)
-}
-
 /// Odd parity: blocks begin at odd columns and rows, and those at the tile's edges reach into the tiles round it. The old cells
 /// of two sets stay; a set without a cell in the tile may be `None`.
 #[inline(always)]
@@ -247,7 +189,7 @@ pub fn make_odd<R: Rule>(
 {
     // the references are read once
     let near = *round;
-    let top = made_top(rule, tile, &near);
+    let top = made_odd(rule, top_row(tile, &near));
     let top = spare_top(spare_top(top, tile, walls), tile, obstacles);
     out.odd_even[0] = top.lower_left;
     out.even_even[0] = top.lower_right;
@@ -263,7 +205,7 @@ pub fn make_odd<R: Rule>(
     make_eight_odd(rule, &here, 8, out);
     make_eight_odd(rule, &here, 16, out);
     make_eight_odd(rule, &here, 23, out);
-    let bottom = made_bottom(rule, tile, &near);
+    let bottom = made_odd(rule, bottom_row(tile, &near));
     let bottom = spare_bottom(spare_bottom(bottom, tile, walls), tile, obstacles);
     out.odd_odd[31] = bottom.upper_left;
     out.even_odd[31] = bottom.upper_right;

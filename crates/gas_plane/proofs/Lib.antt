@@ -8,3 +8,4 @@ pub mod PlaneCounts
 pub mod BareTiles
 pub mod Painting
 pub mod Counting
+pub mod Rooms

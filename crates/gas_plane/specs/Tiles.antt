@@ -1,10 +1,15 @@
-use Rattle.std.specs.Prelude.{◌≡◌, ℕ, ◌+◌, ◌*◌, ◌/◌, ◌%◌, Bool, true, List, length, slice_index_or}
+use Rattle.std.specs.Prelude.{◌≡◌, ℕ, ◌+◌, ◌*◌, ◌/◌, ◌%◌, Bool, true, List, length, map, slice_index_or}
 use Rattle.bit_tile.specs.Tile as tile
 pub use Rattle.bit_tile.specs.Tile.{no_cells}
 use Rattle.bit_tile.specs.declared.Tile.{Tile}
 use Rattle.gas_plane.specs.Marks.{mark_at, IsMarkOf}
 use Rattle.gas_plane.specs.declared.marks.Mark.{Mark}
+use Rattle.gas_plane.specs.declared.room.Room.{Room}
 use Rattle.gas_terms.specs.Cells.{Extent, is_size}
+
+-- the tiles in these rooms
+abbrev pub tiles_of : List Room → List Tile
+tiles_of rooms = map (λ (r : Room). r.tile) rooms
 
 abbrev pub tile_at : List Tile → ℕ → Tile
 tile_at tiles i = slice_index_or tiles i no_cells

@@ -16,6 +16,7 @@ pub mod laws;
 mod marks;
 mod paint;
 mod parts;
+mod room;
 mod rows;
 mod totals;
 
@@ -26,6 +27,7 @@ pub use counts::sums;
 use gas_terms::{NoMemory, Size};
 use marks::{Mark, are_all_bare, mark_of};
 pub use parts::{is_covered, part_of, tiles_met};
+use room::{Room, copied, rooms};
 pub use rows::word_of;
 use std::alloc::Global;
 use std::marker::Model;
@@ -36,22 +38,22 @@ use std::marker::Model;
 pub struct Plane {
     size: Size,
     // row by row
-    tiles: Vec<Tile>,
+    tiles: Vec<Room>,
     marks: Vec<Mark>,
 }
 
 impl Model for Plane {
     ghost use Rattle.std.specs.Prelude.{◌/◌};
     ghost use Rattle.gas_terms.specs.Cells.{Cells, cells_where};
-    ghost use Rattle.gas_plane.specs.Tiles.{tiles_have, IsMarked};
+    ghost use Rattle.gas_plane.specs.Tiles.{tiles_have, tiles_of, IsMarked};
 
     ghost Value = { Cells };
 
     ghost view = { λ p.
         cells_where p.size.width p.size.height
-        (tiles_have p.tiles.items (p.size.width / 64)) };
+        (tiles_have (tiles_of p.tiles.items) (p.size.width / 64)) };
 
-    ghost invariant = { λ p. IsMarked p.tiles.items p.marks.items p.size };
+    ghost invariant = { λ p. IsMarked (tiles_of p.tiles.items) p.marks.items p.size };
 }
 
 impl Plane {
@@ -59,7 +61,7 @@ impl Plane {
     pub fn empty(alloc: Global, size: Size) -> Result<Plane, NoMemory>
         ensures { IfOk result (λ plane. plane ≡ cells_where size.width size.height (λ _ _. false)) }
     {
-        let tiles = vec![in alloc; Tile::empty(); size.tiles() as usize]?;
+        let tiles = rooms(alloc, Tile::empty(), size.tiles() as usize)?;
         let marks = vec![in alloc; Mark::Bare; size.tiles() as usize]?;
         Ok(Plane { size, tiles, marks })
     }
@@ -68,7 +70,7 @@ impl Plane {
     pub fn copy(&self, alloc: Global) -> Result<Plane, NoMemory>
         ensures { IfOk result (λ plane. plane ≡ self.now) }
     {
-        let tiles = Vec::from_slice(alloc, self.tiles.as_slice())?;
+        let tiles = copied(alloc, self.tiles.as_slice())?;
         let marks = Vec::from_slice(alloc, self.marks.as_slice())?;
         Ok(Plane {
             size: self.size,
@@ -102,7 +104,7 @@ impl Plane {
         requires { i < tile_count self.now }
         ensures { let r = tile_rectangle self.now i in IsTileFrom result.now self.now r.x r.y }
     {
-        &self.tiles[i as usize]
+        &self.tiles[i as usize].tile
     }
 
     /// Tile i, or, if it has no cell, the empty tile that all planes share, which stays in the cache.
@@ -123,7 +125,7 @@ impl Plane {
         requires { i < tile_count self.old }
         ensures { self.new ≡ with_tile self.old i tile }
     {
-        self.tiles[i as usize] = tile;
+        self.tiles[i as usize].tile = tile;
         self.marks[i as usize] = mark_of(&tile);
     }
 
@@ -136,7 +138,7 @@ impl Plane {
         ensures tile { let r = tile_rectangle self.old i in IsTileFrom result.now self.old r.x r.y }
     {
         self.marks[i as usize] = Mark::Lent;
-        &mut self.tiles[i as usize]
+        &mut self.tiles[i as usize].tile
     }
 
     /// Whether tile i has no cell.
@@ -229,6 +231,6 @@ impl Plane {
         ensures { IsTileFrom result.now self.now (column * 64) (row * 64) }
     {
         let across = self.size.width() as usize / 64;
-        &self.tiles[row as usize * across + column as usize]
+        &self.tiles[row as usize * across + column as usize].tile
     }
 }

@@ -1,6 +1,6 @@
 -- The cells of a tile at walled sites: by what the tile shows of the torus, and by what a plane of prepared sites has there.
 use Rattle.std.specs.Borrow.{Bor}
-use Rattle.std.proofs.Common.{◌≡◌, ℕ, inl, inr, List, get_or, ◌+◌, ◌-◌, ◌*◌, ◌/◌, ◌%◌, ◌<◌, Bool, Option, None, Some, refl, sym, ◌∙◌, ap, ap₂, subst, arith}
+use Rattle.std.proofs.Common.{◌≡◌, ℕ, inl, inr, List, [], get_or, ◌+◌, ◌-◌, ◌*◌, ◌/◌, ◌%◌, ◌<◌, Bool, Option, None, Some, refl, sym, ◌∙◌, ap, ap₂, subst, arith}
 use Rattle.std.proofs.lemmas.Bool.{cases_eq}
 use Rattle.bit_tile.specs.Bit.{bit}
 use Rattle.bit_tile.specs.Tile.{HasCells}
@@ -13,14 +13,16 @@ use Rattle.gas_terms.proofs.Cells.{has-cells_where}
 use Rattle.gas_plane.specs.Planes.{HasNone, IsLattice, IsTileFrom, with_tile, swept}
 use Rattle.gas_plane.proofs.Sweeps.{sweep_tile, sweep_is_whole}
 use Rattle.block_rule.specs.Around.{none, is_for_walls, is_walled_at}
-use Rattle.block_rule.specs.Lent.{HasNoCell, TellsRows, ArePlacesOf, IsLentOf, AreWalledCells}
-use Rattle.block_rule.specs.declared.walled.Places.{Places}
+use Rattle.block_rule.specs.Lent.{HasNoCell, TellsRows, ArePlacesOf, AreWalledCells}
+use Rattle.block_rule.specs.declared.named.Named.{Named}
+use Rattle.block_rule.specs.declared.collide_odd.OddBlocks.{OddBlocks}
+use Rattle.block_rule.specs.NamedBlocks.{AreEvenBlocksOf, AreOddBlocksOf, IsNamedOf}
 use Rattle.block_rule.specs.Windows.{IsView}
 use Rattle.block_rule.specs.declared.walled.WalledCells.{WalledCells}
 use Rattle.block_rule.proofs.TorusTook.{sites_take}
 use Rattle.phase_step.specs.Turns.{IsPlaceOf}
 use Rattle.phase_step.specs.WalledSites.{cells_at, in_tile, LiesIn, AreCellsAt, AreInTile, NoneInTile, IsFoundIn, AreLent, AllHaveSidesOf}
-use Rattle.phase_step.specs.CellsInRows.{CellsInRows}
+use Rattle.phase_step.specs.CellsInRows.{CellsInRows, even_at, odd_at, no_blocks}
 use Rattle.phase_step.specs.declared.steps.sites.WalledSites.{WalledSites}
 use Rattle.phase_step.specs.declared.steps.sites.Lent.{Lent}
 use Rattle.phase_step.proofs.TurnedTiles.{bare_view, bare_inside, bare_tile, bare_window}
@@ -63,14 +65,20 @@ none_odd walls obstacles i place no_walls no_obstacles =
     (bare_view 1 i walls walls (omega arith) refl (bare_window i walls walls place.of_walls place.right place.bottom no_walls))
     (bare_view 1 i obstacles walls (omega arith) place.of_obstacles.wide (bare_window i obstacles walls place.of_obstacles place.right place.bottom no_obstacles))
 
--- a word of theirs, and their cells
-pub word_tells : (p i word : ℕ) (torus cells : Cells) (test : Site → Bool) (words : List ℕ) (s : CellsInRows) → (let v : CellsInRows = record { cells = cells; rows = words } in v) ≡ s → AreCellsAt p torus test s → i < tile_count s.cells → word ≡ get_or words i 0
-    → TellsRows word (in_tile p torus i test)
-word_tells p i word torus cells test words s view are within e = λ x y h k none.
-    are.rows i within x y h k (ap (λ (s : CellsInRows). bit (get_or s.rows i 0) (y / 2)) (sym view) ∙ (ap (λ w. bit w (y / 2)) (sym e) ∙ none))
+-- a word of theirs, their cells, and the words of their blocks
+module _ (p : ℕ) (torus cells : Cells) (test : Site → Bool) (words : List ℕ) (even : List (List ℕ)) (odd : List OddBlocks) (s : CellsInRows) (view : (let v : CellsInRows = record { cells = cells; rows = words; even = even; odd = odd } in v) ≡ s) (are : AreCellsAt p torus test s) where
+  pub word_tells : (i word : ℕ) → i < tile_count s.cells → word ≡ get_or words i 0 → TellsRows word (in_tile p torus i test)
+  word_tells i word within e = λ x y h k none.
+      are.rows i within x y h k (ap (λ (s : CellsInRows). bit (get_or s.rows i 0) (y / 2)) (sym view) ∙ (ap (λ w. bit w (y / 2)) (sym e) ∙ none))
 
-pub cells_of : (p : ℕ) (torus cells : Cells) (test : Site → Bool) (words : List ℕ) (s : CellsInRows) → (let v : CellsInRows = record { cells = cells; rows = words } in v) ≡ s → AreCellsAt p torus test s → cells ≡ cells_at p torus test
-cells_of p torus cells test words s view are = ap (λ (s : CellsInRows). s.cells) view ∙ are.cells
+  pub cells_of : cells ≡ cells_at p torus test
+  cells_of = ap (λ (s : CellsInRows). s.cells) view ∙ are.cells
+
+  pub even_of : (i : ℕ) (there : List ℕ) → i < tile_count s.cells → there ≡ get_or even i [] → AreEvenBlocksOf there (in_tile p torus i test)
+  even_of i there within e = subst (λ words. AreEvenBlocksOf words (in_tile p torus i test)) (sym (e ∙ ap (λ (s : CellsInRows). even_at s i) view)) (are.even i within)
+
+  pub odd_of : (i : ℕ) (there : OddBlocks) → i < tile_count s.cells → there ≡ get_or odd i no_blocks → AreOddBlocksOf there (in_tile p torus i test)
+  odd_of i there within e = subst (λ (b : OddBlocks). AreOddBlocksOf b (in_tile p torus i test)) (sym (e ∙ ap (λ (s : CellsInRows). odd_at s i) view)) (are.odd i within)
 
 -- where a word tells of no row, a tile has no cell at such sites
 pub none_told : (p i word : ℕ) (torus : Cells) (test : Site → Bool) → word ≡ 0 → TellsRows word (in_tile p torus i test) → HasNoCell (in_tile p torus i test)
@@ -89,10 +97,17 @@ places_are p i rows torus set test t are lies from told =
     }
 
 -- what is lent by one test is lent by another that says the same
-lent_same : (lent : Option Places) (test other : ℕ → ℕ → Bool) → ((x y : ℕ) → x < 64 → y < 64 → other x y ≡ test x y) → IsLentOf lent test → IsLentOf lent other
-lent_same None test other same none = λ x y h k. same x y h k ∙ none x y h k
-lent_same (Some p) test other same are =
-    record { cells = λ x y h k. are.cells x y h k ∙ sym (same x y h k); rows = λ x y h k e. same x y h k ∙ are.rows x y h k e }
+named_same : (lent : Option Named) (test other : ℕ → ℕ → Bool) → ((x y : ℕ) → x < 64 → y < 64 → other x y ≡ test x y) → IsNamedOf lent test → IsNamedOf lent other
+named_same None test other same none = λ x y h k. same x y h k ∙ none x y h k
+named_same (Some n) test other same are =
+    record {
+      places = record { cells = λ x y h k. are.places.cells x y h k ∙ sym (same x y h k); rows = λ x y h k e. same x y h k ∙ are.places.rows x y h k e };
+      even = λ i j h k. are.even i j h k ∙ sym (same (2 * i) (2 * j) (omega arith) (omega arith));
+      odd = record {
+        begin = λ i k h below. are.odd.begin i k h below ∙ sym (same (2 * i + 1) (2 * k - 1) (omega arith) (omega arith));
+        end = λ i k h below. are.odd.end i k h below ∙ sym (same (2 * i + 0) (2 * k - 1) (omega arith) (omega arith));
+      };
+    }
 
 -- what is lent of the walls' torus is what the particles' tile needs
 module _ (p : ℕ) (two : p < 2) (old walls obstacles : Cells) (i : ℕ) (place : IsPlaceOf old walls obstacles i) (lent : Lent) (are : AreLent p walls obstacles i lent) where
@@ -105,17 +120,17 @@ module _ (p : ℕ) (two : p < 2) (old walls obstacles : Cells) (i : ℕ) (place 
   in_old_tile : (test : Site → Bool) (x y : ℕ) → in_tile p walls i test x y ≡ in_tile p old i test x y
   in_old_tile test x y = ap₂ (λ w h. test (site_of p w h (i % (w / 64) * 64 + x) (i / (w / 64) * 64 + y))) place.of_walls.wide place.of_walls.high
 
-  pub walls_lent : IsLentOf lent.walls (is_for_walls p (view_of walls left top) (view_of obstacles left top))
+  pub walls_lent : IsNamedOf lent.walls (is_for_walls p (view_of walls left top) (view_of obstacles left top))
   walls_lent =
-      lent_same lent.walls (in_tile p walls i (takes_for_walls walls obstacles)) (is_for_walls p (view_of walls left top) (view_of obstacles left top))
+      named_same lent.walls (in_tile p walls i (takes_for_walls walls obstacles)) (is_for_walls p (view_of walls left top) (view_of obstacles left top))
       (λ x y h k.
       (sites_take p two old walls obstacles left top (view_of walls left top) (view_of obstacles left top) place (record { cell = λ _ _ _ _. refl }) (record { cell = λ _ _ _ _. refl }) x y h k).0
       ∙ sym (in_old_tile (takes_for_walls walls obstacles) x y))
       are.of_walls
 
-  pub obstacles_lent : IsLentOf lent.obstacles (is_walled_at p (view_of obstacles left top))
+  pub obstacles_lent : IsNamedOf lent.obstacles (is_walled_at p (view_of obstacles left top))
   obstacles_lent =
-      lent_same lent.obstacles (in_tile p walls i (takes_for_obstacles walls obstacles)) (is_walled_at p (view_of obstacles left top))
+      named_same lent.obstacles (in_tile p walls i (takes_for_obstacles walls obstacles)) (is_walled_at p (view_of obstacles left top))
       (λ x y h k.
       (sites_take p two old walls obstacles left top (view_of walls left top) (view_of obstacles left top) place (record { cell = λ _ _ _ _. refl }) (record { cell = λ _ _ _ _. refl }) x y h k).1
       ∙ sym (in_old_tile (takes_for_obstacles walls obstacles) x y))
@@ -145,6 +160,28 @@ sites_end start now walls p i test is same all so_far =
     ∙ (ap (swept start here) all
     ∙ (sweep_is_whole start here is
     ∙ ap₂ (λ w h. cells_where w h here) same.wide same.high))
+
+-- the words of a tile's blocks are made tile by tile
+pub evens_next : (now next : CellsInRows) (p i : ℕ) (torus : Cells) (test : Site → Bool) (t : Tile) → HasCells t (in_tile p torus i test) → AreEvenBlocksOf (even_at next i) (in_tiles.has t) → ((k : ℕ) → (k ≡ i → ⊥) → even_at next k ≡ even_at now k)
+    → ((k : ℕ) → k < i → AreEvenBlocksOf (even_at now k) (in_tile p torus k test)) → (k : ℕ) → k < i + 1 → AreEvenBlocksOf (even_at next k) (in_tile p torus k test)
+evens_next now next p i torus test t made are rest before k below =
+    elim (cases_eq k i) [
+      | inl same ↦ subst (λ k. AreEvenBlocksOf (even_at next k) (in_tile p torus k test)) (sym same) (λ a b h v. are a b h v ∙ made (2 * a) (2 * b) (omega arith) (omega arith))
+      | inr other ↦ subst (λ words. AreEvenBlocksOf words (in_tile p torus k test)) (sym (rest k other)) (before k (omega arith))
+    ]
+
+pub odds_next : (now next : CellsInRows) (p i : ℕ) (torus : Cells) (test : Site → Bool) (t : Tile) → HasCells t (in_tile p torus i test) → AreOddBlocksOf (odd_at next i) (in_tiles.has t) → ((k : ℕ) → (k ≡ i → ⊥) → odd_at next k ≡ odd_at now k)
+    → ((k : ℕ) → k < i → AreOddBlocksOf (odd_at now k) (in_tile p torus k test)) → (k : ℕ) → k < i + 1 → AreOddBlocksOf (odd_at next k) (in_tile p torus k test)
+odds_next now next p i torus test t made are rest before k below =
+    elim (cases_eq k i) [
+      | inl same ↦
+          subst (λ k. AreOddBlocksOf (odd_at next k) (in_tile p torus k test)) (sym same)
+          (record {
+            begin = λ a b h v. are.begin a b h v ∙ made (2 * a + 1) (2 * b - 1) (omega arith) (omega arith);
+            end = λ a b h v. are.end a b h v ∙ made (2 * a + 0) (2 * b - 1) (omega arith) (omega arith);
+          })
+      | inr other ↦ subst (λ (b : OddBlocks). AreOddBlocksOf b (in_tile p torus k test)) (sym (rest k other)) (before k (omega arith))
+    ]
 
 -- their words are made tile by tile
 pub words_next : (rows next : List ℕ) (p i : ℕ) (torus : Cells) (test : Site → Bool) (t : Tile) → HasCells t (in_tile p torus i test) → TellsRows (get_or next i 0) (in_tiles.has t) → ((k : ℕ) → (k ≡ i → ⊥) → get_or next k 0 ≡ get_or rows k 0)

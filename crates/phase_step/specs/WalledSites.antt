@@ -3,9 +3,10 @@ use Rattle.std.specs.Prelude.{◌≡◌, ℕ, ◌+◌, ◌<◌, ◌≤◌, Bool,
 use Rattle.bit_tile.specs.Tile.{HasCells}
 use Rattle.gas_terms.specs.Cells.{Cells, Extent, HasSidesOf, cells_where, extent, tile_count, tile_rectangle}
 use Rattle.gas_terms.specs.Gas.{Site, site_of, takes_for_walls, takes_for_obstacles}
-use Rattle.block_rule.specs.Lent.{HasNoCell, TellsRows, IsLentOf}
+use Rattle.block_rule.specs.Lent.{HasNoCell, TellsRows}
+use Rattle.block_rule.specs.NamedBlocks.{AreEvenBlocksOf, AreOddBlocksOf, IsNamedOf}
 use Rattle.block_rule.specs.declared.walled.WalledCells.{WalledCells}
-use Rattle.phase_step.specs.CellsInRows.{CellsInRows}
+use Rattle.phase_step.specs.CellsInRows.{CellsInRows, even_at, odd_at}
 use Rattle.phase_step.specs.declared.steps.sites.SitesOfParity.{SitesOfParity}
 use Rattle.phase_step.specs.declared.steps.sites.WalledSites.{WalledSites}
 use Rattle.phase_step.specs.declared.steps.sites.Lent.{Lent}
@@ -18,10 +19,13 @@ cells_at p torus test = cells_where torus.width torus.height (λ x y. test (site
 abbrev pub in_tile : ℕ → Cells → ℕ → (Site → Bool) → ℕ → ℕ → Bool
 in_tile p torus i test x y = test (site_of p torus.width torus.height ((tile_rectangle torus i).x + x) ((tile_rectangle torus i).y + y))
 
--- the cells at the sites of parity p that pass the test, and for each tile a word that tells in which rows they lie
+-- the cells at the sites of parity p that pass the test, and for each tile a word that tells in which rows they lie, and the words
+-- that name the blocks that they fill
 pub record AreCellsAt (p : ℕ) (torus : Cells) (test : Site → Bool) (s : CellsInRows) : Type 0 where
   pub cells : s.cells ≡ cells_at p torus test
   pub rows : (i : ℕ) → i < tile_count s.cells → TellsRows (slice_index s.rows i) (in_tile p torus i test)
+  pub even : (i : ℕ) → i < tile_count s.cells → AreEvenBlocksOf (even_at s i) (in_tile p torus i test)
+  pub odd : (i : ℕ) → i < tile_count s.cells → AreOddBlocksOf (odd_at s i) (in_tile p torus i test)
 
 -- the cells at the sites of parity p that take for the walls, and at those that take for the obstacles
 pub record AreSitesOf (p : ℕ) (walls obstacles : Cells) (s : SitesOfParity) : Type 0 where
@@ -65,8 +69,8 @@ IsFoundIn p walls obstacles i found = MatchOption found (NoneInTile p walls obst
 
 -- what is lent of them
 pub record AreLent (p : ℕ) (walls obstacles : Cells) (i : ℕ) (lent : Lent) : Type 0 where
-  pub of_walls : IsLentOf lent.walls (in_tile p walls i (takes_for_walls walls obstacles))
-  pub of_obstacles : IsLentOf lent.obstacles (in_tile p walls i (takes_for_obstacles walls obstacles))
+  pub of_walls : IsNamedOf lent.walls (in_tile p walls i (takes_for_walls walls obstacles))
+  pub of_obstacles : IsNamedOf lent.obstacles (in_tile p walls i (takes_for_obstacles walls obstacles))
 
 -- the lattices are of this size
 pub record HasExtent (s : SitesOfParity) (size : Extent) : Type 0 where

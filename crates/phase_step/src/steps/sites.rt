@@ -6,11 +6,15 @@ ghost use Rattle.bit_tile.specs.Tile.{has};
 ghost use Rattle.gas_terms.specs.Cells.{Cells, extent, tile_count, tile_rectangle, HasSidesOf};
 ghost use Rattle.gas_terms.specs.Gas.{Site};
 ghost use Rattle.gas_plane.specs.Planes.{with_tile};
-ghost use Rattle.block_rule.specs.Lent.{TellsRows, IsLentOf};
+ghost use Rattle.block_rule.specs.Lent.{TellsRows};
+ghost use Rattle.block_rule.specs.NamedBlocks.{AreEvenBlocksOf, AreOddBlocksOf, IsNamedOf};
+ghost use Rattle.phase_step.specs.CellsInRows.{even_at, odd_at};
 ghost use Rattle.phase_step.specs.Turns.{IsPlaceOf, IsWindowFrom};
 ghost use Rattle.phase_step.specs.WalledSites.{in_tile, LiesIn, AreCellsAt, AreSitesOf, AreWalledSites, HaveSidesOf, AllHaveSidesOf, HasExtent, HaveExtent, IsFoundIn, AreInTile, AreLent};
 
-use block_rule::{Places, WalledCells, Window, walled_cells_even, walled_cells_odd};
+use block_rule::{
+    Named, OddBlocks, Places, WalledCells, Window, odd_blocks, walled_cells_even, walled_cells_odd,
+};
 use gas_plane::{Plane, Tile};
 use gas_terms::{NoMemory, Size};
 use std::alloc::Global;
@@ -19,11 +23,22 @@ use std::marker::Model;
 /// Runs of at least so many phases prepare them, which takes about as long as a few phases with walls.
 pub const LONG_RUN: u16 = 16;
 
-/// Cells of a lattice, and for each tile a word that tells in which rows they lie.
+// room for the words of a tile
+const NO_WORDS: [u32; 32] = [0; 32];
+
+const NO_BLOCKS: OddBlocks = OddBlocks {
+    begin: [0; 33],
+    end: [0; 33],
+};
+
+/// Cells of a lattice. For each tile there are a word that tells in which rows they lie, and words that name the blocks of even and of
+/// odd parity that they fill. A phase reads these words, one tile's after another's, and no cells but where it counts.
 #[derive(Drop)]
 pub struct Sites {
     cells: Plane,
     rows: Vec<u32>,
+    even: Vec<[u32; 32]>,
+    odd: Vec<OddBlocks>,
 }
 
 impl Model for Sites {
@@ -33,9 +48,11 @@ impl Model for Sites {
 
     ghost Value = { CellsInRows };
 
-    ghost view = { λ s. record { cells = s.cells; rows = s.rows.items } };
+    ghost view = { λ s.
+        record { cells = s.cells; rows = s.rows.items; even = s.even.items; odd = s.odd.items } };
 
-    ghost invariant = { λ s. length s.rows.items ≡ tile_count s.cells };
+    ghost invariant = { λ s. (length s.rows.items ≡ tile_count s.cells)
+        × (length s.even.items ≡ tile_count s.cells) × (length s.odd.items ≡ tile_count s.cells) };
 }
 
 impl Sites {
@@ -45,7 +62,14 @@ impl Sites {
     {
         let cells = Plane::empty(alloc, size)?;
         let rows = vec![in alloc; 0; size.tiles() as usize]?;
-        Ok(Sites { cells, rows })
+        let even = vec![in alloc; NO_WORDS; size.tiles() as usize]?;
+        let odd = vec![in alloc; NO_BLOCKS; size.tiles() as usize]?;
+        Ok(Sites {
+            cells,
+            rows,
+            even,
+            odd,
+        })
     }
 
     /// The cells.
@@ -57,17 +81,21 @@ impl Sites {
 
     // Those in tile i, if it has any.
     #[inline(always)]
-    fn in_tile(&self, i: u32) -> Option<Places<'_>>
+    fn in_tile(&self, i: u32) -> Option<Named<'_>>
         requires { i < tile_count self.now.cells }
         ensures { (p : ℕ) (torus : Cells) (test : Site → Bool) → AreCellsAt p torus test self.now →
-            LiesIn torus i → IsLentOf result (in_tile p torus i test) }
+            LiesIn torus i → IsNamedOf result (in_tile p torus i test) }
     {
         let rows = self.rows[i as usize];
         if rows == 0 {
             return None;
         }
         let cells = self.cells.tile(i);
-        Some(Places { cells, rows })
+        Some(Named {
+            places: Places { cells, rows },
+            even: &self.even[i as usize],
+            odd: &self.odd[i as usize],
+        })
     }
 
     // replaces those in tile i
@@ -75,11 +103,16 @@ impl Sites {
         requires { i < tile_count self.old.cells }
         ensures cells { self.new.cells ≡ with_tile self.old.cells i cells }
         ensures rows { TellsRows (slice_index self.new.rows i) (has cells) }
+        ensures even { AreEvenBlocksOf (even_at self.new i) (has cells) }
+        ensures odd { AreOddBlocksOf (odd_at self.new i) (has cells) }
         ensures rest { (k : ℕ) → (k ≡ i → ⊥) →
-            slice_index self.new.rows k ≡ slice_index self.old.rows k }
+            (slice_index self.new.rows k ≡ slice_index self.old.rows k)
+            × (even_at self.new k ≡ even_at self.old k) × (odd_at self.new k ≡ odd_at self.old k) }
     {
         self.cells.set_tile(i, cells);
         self.rows[i as usize] = cells.rows_with_cells();
+        self.even[i as usize] = cells.even_even;
+        self.odd[i as usize] = odd_blocks(&cells);
     }
 }
 
@@ -100,8 +133,8 @@ pub struct WalledSites {
 /// What is lent of the cells of a tile at such sites. A set without a cell in the tile is `None`.
 #[derive(Clone, Copy)]
 pub struct Lent<'a> {
-    pub walls: Option<Places<'a>>,
-    pub obstacles: Option<Places<'a>>,
+    pub walls: Option<Named<'a>>,
+    pub obstacles: Option<Named<'a>>,
 }
 
 impl SitesOfParity {

@@ -13,6 +13,17 @@ use gas_plane::Plane;
 use gas_terms::Took;
 use std::mem;
 
+// the accounts that long runs keep
+const ONLY_WALLS: Counted = Counted {
+    walls: true,
+    obstacles: false,
+};
+
+const ONLY_OBSTACLES: Counted = Counted {
+    walls: false,
+    obstacles: true,
+};
+
 /// Where a phase counts what is taken: of the particles in the tiles from `first` up to `end`, in the accounts that are kept.
 #[derive(Clone, Copy)]
 pub struct Own {
@@ -138,7 +149,8 @@ pub fn turn_in_place(
         none,
         sites,
     } = solids;
-    // one loop, compiled three times: without walls, with prepared sites, and with walls that each tile asks for
+    // one loop, compiled five times: without walls, with prepared sites for each account that a long run keeps and for both, and with
+    // walls that each tile asks for
     if none {
         let solids = Solids {
             walls,
@@ -157,6 +169,27 @@ pub fn turn_in_place(
                 none,
                 sites: Some(sites),
             };
+            let Own {
+                first,
+                end,
+                counted,
+            } = own;
+            if counted.walls && !counted.obstacles {
+                let own = Own {
+                    first,
+                    end,
+                    counted: ONLY_WALLS,
+                };
+                return turn_among(particles, solids, parity, own, spare);
+            }
+            if counted.obstacles && !counted.walls {
+                let own = Own {
+                    first,
+                    end,
+                    counted: ONLY_OBSTACLES,
+                };
+                return turn_among(particles, solids, parity, own, spare);
+            }
             turn_among(particles, solids, parity, own, spare)
         }
         None => {

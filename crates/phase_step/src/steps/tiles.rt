@@ -1,16 +1,21 @@
 //! The step of one tile of a plane.
 
-ghost use Rattle.std.specs.Prelude.{◌≡◌, ℕ, ◌/◌, ◌<◌, pos};
+ghost use Rattle.std.specs.Prelude.{◌≡◌, ℕ, ◌/◌, ◌<◌, Bool, pos};
+ghost use Rattle.bit_tile.specs.Tile.{HasCells};
 ghost use Rattle.gas_terms.specs.Cells.{Cells, tile_count, tile_rectangle, HasSidesOf};
 ghost use Rattle.gas_plane.specs.Planes.{IsLattice, IsTileFrom, IsPosition};
 ghost use Rattle.block_rule.specs.Windows.{taken_in};
 ghost use Rattle.block_rule.specs.Accounts.{counted_of};
+ghost use Rattle.block_rule.specs.NamedBlocks.{AreOddBlocksOf};
 ghost use Rattle.phase_step.specs.Turns.{IsTileAfter, IsPlaceOf};
 ghost use Rattle.phase_step.specs.WalledSites.{AreInTile, AreLent};
 
 use crate::steps::sites::{Lent, walled_cells};
 use crate::steps::solids::Solids;
-use block_rule::{Counted, Places, WalledCells, Window, turn_tile_even, turn_tile_odd};
+use block_rule::{
+    Counted, Named, OddBlocks, Places, WalledCells, Window, odd_blocks, turn_even_named,
+    turn_odd_named,
+};
 use gas_plane::{Plane, Position, Tile};
 use gas_terms::Took;
 
@@ -114,7 +119,11 @@ fn turn_even_unprepared(solids: Solids<'_>, i: u32, counted: Counted, tile: &mut
 {
     match walled_cells(0, solids.walls, solids.obstacles, i) {
         None => turn_even(solids, i, NOTHING_LENT, counted, tile),
-        Some(cells) => turn_even(solids, i, lent(&cells), counted, tile),
+        Some(cells) => {
+            let walls = odd_blocks(&cells.walls);
+            let obstacles = odd_blocks(&cells.obstacles);
+            turn_even(solids, i, lent(&cells, &walls, &obstacles), counted, tile)
+        }
     }
 }
 
@@ -129,7 +138,7 @@ fn turn_even(solids: Solids<'_>, i: u32, lent: Lent<'_>, counted: Counted, tile:
         IsPlaceOf old s.walls.now s.obstacles.now i → IsTileFrom tile.old old r.x r.y →
         result ≡ counted_of counted (taken_in (pos 0) old s.walls.now s.obstacles.now r) }
 {
-    turn_tile_even(tile, lent.walls, lent.obstacles, counted)
+    turn_even_named(tile, lent.walls, lent.obstacles, counted)
 }
 
 // Blocks begin at odd columns and rows: those at the tile's edges reach into the tiles round it.
@@ -179,7 +188,12 @@ fn turn_odd_unprepared(
 {
     match walled_cells(1, solids.walls, solids.obstacles, at.tile) {
         None => turn_odd_with(old, solids, at, NOTHING_LENT, counted, out),
-        Some(cells) => turn_odd_with(old, solids, at, lent(&cells), counted, out),
+        Some(cells) => {
+            let walls = odd_blocks(&cells.walls);
+            let obstacles = odd_blocks(&cells.obstacles);
+            let lent = lent(&cells, &walls, &obstacles);
+            turn_odd_with(old, solids, at, lent, counted, out)
+        }
     }
 }
 
@@ -206,17 +220,29 @@ fn turn_odd_with(
         tile: old.tile(at.tile),
         round: old.round_at(at),
     };
-    turn_tile_odd(&particles, lent.walls, lent.obstacles, counted, out)
+    turn_odd_named(&particles, lent.walls, lent.obstacles, counted, out)
 }
 
 // what was worked out for one tile
 #[inline(always)]
-fn lent(cells: &WalledCells) -> Lent<'_>
+fn lent<'a>(cells: &'a WalledCells, walls: &'a OddBlocks, obstacles: &'a OddBlocks) -> Lent<'a>
+    requires walls { (test : ℕ → ℕ → Bool) → HasCells cells.now.walls test →
+        AreOddBlocksOf walls.now test }
+    requires obstacles { (test : ℕ → ℕ → Bool) → HasCells cells.now.obstacles test →
+        AreOddBlocksOf obstacles.now test }
     ensures { (p : ℕ) (walls obstacles : Cells) (i : ℕ) → AreInTile p walls obstacles i cells.now →
         AreLent p walls obstacles i result }
 {
     Lent {
-        walls: Some(Places::anywhere(&cells.walls)),
-        obstacles: Some(Places::anywhere(&cells.obstacles)),
+        walls: Some(Named {
+            places: Places::anywhere(&cells.walls),
+            even: &cells.walls.even_even,
+            odd: walls,
+        }),
+        obstacles: Some(Named {
+            places: Places::anywhere(&cells.obstacles),
+            even: &cells.obstacles.even_even,
+            odd: obstacles,
+        }),
     }
 }

@@ -20,10 +20,10 @@ returns g c = λ window walled obstructed shows round of_walls of_obstacles.
     let inner = inner_shown window t shows n.above.now n.below.now n.left.now n.right.now n.above_left.now n.above_right.now n.below_left.now n.below_right.now round in
     let top_row = top_shown window t shows n.above.now n.below.now n.left.now n.right.now n.above_left.now n.above_right.now n.below_left.now n.below_right.now round in
     let bottom_row = bottom_shown window t shows n.above.now n.below.now n.left.now n.right.now n.above_left.now n.above_right.now n.below_left.now n.below_right.now round in
-    let at_top = spared_lower cell window walled obstructed (2 * 0 + 0) 0 (get_or t.odd_even 0 0) (get_or t.even_even 0 0) c.made_top-top.result.lower_left c.made_top-top.result.lower_right c.spare_top.result.lower_left c.spare_top.result.lower_right top.lower_left top.lower_right
-    (c.spare_top.ensures walled of_walls) (c.spare_top-top.ensures obstructed of_obstacles) top_row.lower_left top_row.lower_right (lower_of cell window 0 c.made_top-top.result (c.made_top-top.ensures window shows round)) in
-    let at_bottom = spared_upper cell window walled obstructed (2 * 31 + 1) 64 (get_or t.odd_odd 31 0) (get_or t.even_odd 31 0) c.made_bottom-bottom.result.upper_left c.made_bottom-bottom.result.upper_right c.spare_bottom.result.upper_left c.spare_bottom.result.upper_right bottom.upper_left bottom.upper_right
-    (c.spare_bottom.ensures walled of_walls) (c.spare_bottom-bottom.ensures obstructed of_obstacles) bottom_row.upper_left bottom_row.upper_right (upper_of cell window 64 c.made_bottom-bottom.result (c.made_bottom-bottom.ensures window shows round)) in
+    let at_top = spared_lower cell window walled obstructed (2 * 0 + 0) 0 (get_or t.odd_even 0 0) (get_or t.even_even 0 0) c.made_odd-top.result.lower_left c.made_odd-top.result.lower_right c.spare_top.result.lower_left c.spare_top.result.lower_right top.lower_left top.lower_right
+    (c.spare_top.ensures walled of_walls) (c.spare_top-top.ensures obstructed of_obstacles) top_row.lower_left top_row.lower_right (lower_of cell window 0 c.made_odd-top.result (c.made_odd-top.ensures window 0 (c.top_row.ensures window shows round))) in
+    let at_bottom = spared_upper cell window walled obstructed (2 * 31 + 1) 64 (get_or t.odd_odd 31 0) (get_or t.even_odd 31 0) c.made_odd-bottom.result.upper_left c.made_odd-bottom.result.upper_right c.spare_bottom.result.upper_left c.spare_bottom.result.upper_right bottom.upper_left bottom.upper_right
+    (c.spare_bottom.ensures walled of_walls) (c.spare_bottom-bottom.ensures obstructed of_obstacles) bottom_row.upper_left bottom_row.upper_right (upper_of cell window 64 c.made_odd-bottom.result (c.made_odd-bottom.ensures window 64 (c.bottom_row.ensures window shows round))) in
     let rows1 = c.make_eight_odd.ensures.rows window walled obstructed inner of_walls of_obstacles in
     let rows2 = c.make_eight_odd-2.ensures.rows window walled obstructed inner of_walls of_obstacles in
     let rows3 = c.make_eight_odd-3.ensures.rows window walled obstructed inner of_walls of_obstacles in

@@ -19,7 +19,7 @@ returns c =
           let r = tile_rectangle old c.args.i in
           let walled = view_of w r.x r.y in
           let obstructed = view_of o r.x r.y in
-          c.turn_tile_even.ensures.cells (around t any_border) walled obstructed (shows_tile t any_border)
+          c.turn_even_named.ensures.cells (around t any_border) walled obstructed (shows_tile t any_border)
           (walls_lent 0 (omega arith) old w o c.args.i place c.args.lent c.requires.lent) (obstacles_lent 0 (omega arith) old w o c.args.i place c.args.lent c.requires.lent) x y h k
           ∙ tiles_turned 0 old w o r.x r.y (around t any_border) walled obstructed (omega arith) place
           (inside_is_view t any_border old r.x r.y place.right place.bottom (tile_cells c.args.i old old t refl from)) (record { cell = λ _ _ _ _. refl }) (record { cell = λ _ _ _ _. refl }) x y h k;
@@ -27,7 +27,7 @@ returns c =
           let r = tile_rectangle old c.args.i in
           let walled = view_of w r.x r.y in
           let obstructed = view_of o r.x r.y in
-          c.turn_tile_even.ensures.took walled obstructed
+          c.turn_even_named.ensures.took walled obstructed
           (walls_lent 0 (omega arith) old w o c.args.i place c.args.lent c.requires.lent) (obstacles_lent 0 (omega arith) old w o c.args.i place c.args.lent c.requires.lent)
           ∙ ap (counted_of c.args.counted) (tiles_took (pos 0) t old w o r.x r.y walled obstructed place (tile_cells c.args.i old old t refl from) (record { cell = λ _ _ _ _. refl }) (record { cell = λ _ _ _ _. refl }));
     }

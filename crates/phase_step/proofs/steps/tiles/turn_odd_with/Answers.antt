@@ -27,9 +27,9 @@ returns c =
     let of_obstacles = obstacles_lent 1 (omega arith) old w o i place c.args.lent c.requires.lent in
     record {
       cells = λ x y h k.
-          c.turn_tile_odd.ensures.cells near walled obstructed (window_seen particles) of_walls of_obstacles x y h k
+          c.turn_odd_named.ensures.cells near walled obstructed (window_seen particles) of_walls of_obstacles x y h k
           ∙ tiles_turned 1 old w o r.x r.y near walled obstructed (omega arith) place view (record { cell = λ _ _ _ _. refl }) (record { cell = λ _ _ _ _. refl }) x y h k;
       took =
-          c.turn_tile_odd.ensures.took walled obstructed of_walls of_obstacles
+          c.turn_odd_named.ensures.took walled obstructed of_walls of_obstacles
           ∙ ap (counted_of c.args.counted) (tiles_took (pos 1) t old w o r.x r.y walled obstructed place (tile_cells i old old t refl c.tile.ensures) (record { cell = λ _ _ _ _. refl }) (record { cell = λ _ _ _ _. refl }));
     }

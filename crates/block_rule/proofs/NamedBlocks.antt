@@ -1,0 +1,203 @@
+-- The walled blocks of a tile at odd parity.
+use Rattle.std.proofs.Common.{◌≡◌, refl, ◌⊎◌, ℕ, ◌+◌, ◌-◌, ◌*◌, ◌%◌, ◌<◌, ◌≤◌, Bool, true, false, not, ◌&&◌, ◌||◌, length, get_or, set, sym, subst, ◌∙◌, ap, ap₂, arith, inl, inr, get_or-set_same, get_or-set_other, List, Option, Some, None, bit_or}
+use Rattle.std.proofs.lemmas.Bool.{cases_eq, eq-eqb, ne_eqb}
+use Rattle.bit_tile.specs.Bit.{bit}
+use Rattle.bit_tile.specs.Tile.{HasCells}
+use Rattle.bit_tile.specs.declared.Tile.{Tile}
+use Rattle.block_rule.specs.Around.{block_start, either, is_block_walled, is_for_walls, is_walled_at, turned}
+use Rattle.block_rule.specs.Cell.{made, turned_cell}
+use Rattle.bit_tile.proofs.Bits.{bit-zero}
+use Rattle.block_rule.specs.Lent.{HasNoCell}
+use Rattle.block_rule.proofs.Blank.{walled_either}
+use Rattle.block_rule.specs.NamedBlocks.{rule_among, AreMadeUpTo, NameBlocks, IsCollidedOdd, AreEvenBlocksOf, AreOddBlocksOf, AreNamedOf, IsNamedOf}
+use Rattle.block_rule.specs.declared.collide_odd.OddBlocks.{OddBlocks}
+use Rattle.block_rule.specs.declared.named.Named.{Named}
+use Rattle.block_rule.proofs.Holding.{either_named}
+use Rattle.block_rule.proofs.Sparing.{at_even_even, at_odd_even, at_even_odd, at_odd_odd}
+use Rattle.block_rule.specs.Rows.{AreMadeOdd, AreUpper, AreLower, ShowsInnerRows, odd_row, eight_row}
+use Rattle.block_rule.specs.declared.blocks.Blocks.{Blocks}
+use Rattle.block_rule.specs.declared.blocks.EightRows.{EightRows}
+use Rattle.block_rule.proofs.Around.{turned_by_cells}
+use Rattle.block_rule.proofs.Windows.{odd_cells, uppers_more, lowers_more, upper_end, upper_inner, lower_next}
+
+pub collided_by : (begin end first last : ℕ) (window : ℕ → ℕ → Bool) (y : ℕ) (new : Blocks) → begin ≡ first → end ≡ last → IsCollidedOdd begin end window y new → IsCollidedOdd first last window y new
+collided_by begin end first last window y new e f is = subst (λ n. IsCollidedOdd first n window y new) f (subst (λ n. IsCollidedOdd n end window y new) e is)
+
+-- where blocks of odd parity begin
+pub odd_start : (x : ℕ) → block_start 1 (2 * x + 1) ≡ 2 * x + 2
+odd_start x = let first : 2 * x + 1 + 1 ≡ 2 * x + 2 = omega arith in rw (eq-eqb ((2 * x + 1 + 1) % 2) 0 (omega arith)) first
+
+pub even_start : (x : ℕ) → block_start 1 (2 * x + 0) ≡ 2 * x
+even_start x = let first : 2 * x + 0 ≡ 2 * x = omega arith in rw (ne_eqb ((2 * x + 0 + 1) % 2) 0 (λ e. omega arith)) first
+
+-- row k of blocks is that of the tile's row 2 * k - 1, or of row 0
+pub row_start : (k : ℕ) → block_start 1 (2 * k - 1) ≡ 2 * k
+row_start k =
+    elim (cases_eq k 0) [
+      | inl e ↦ rw e refl
+      | inr some ↦
+          let row : 2 * (k - 1) + 1 ≡ 2 * k - 1 = omega arith in
+          let start : 2 * (k - 1) + 2 ≡ 2 * k = omega arith in
+          ap (block_start 1) (sym row) ∙ (odd_start (k - 1) ∙ start)
+    ]
+
+-- the words by the tile's cells
+pub named_by_cells : (begins ends : ℕ → ℕ) (solid : ℕ → ℕ → Bool) → ((i k : ℕ) → i < 32 → k < 33 → bit (begins k) i ≡ is_walled_at 1 solid (2 * i + 1) (2 * k - 1)) → ((i k : ℕ) → i < 32 → k < 33 → bit (ends k) i ≡ is_walled_at 1 solid (2 * i + 0) (2 * k - 1))
+    → NameBlocks begins ends solid
+named_by_cells begins ends solid at_odd at_even =
+    record {
+      begin = λ i k h below. at_odd i k h below ∙ ap₂ (is_block_walled solid) (odd_start i) (row_start k);
+      end = λ i k h below. at_even i k h below ∙ ap₂ (is_block_walled solid) (even_start i) (row_start k);
+    }
+
+neither : (w o : Bool) → (w && not o) ≡ false → o ≡ false → false ≡ (w || o)
+neither true true e f = sym f
+neither true false e f = sym e
+neither false true e f = sym f
+neither false false e f = refl
+
+-- where no block is walled
+pub none_named : (out : Tile) (window walled obstructed : ℕ → ℕ → Bool) → HasNoCell (is_for_walls 1 walled obstructed) → HasNoCell (is_walled_at 1 obstructed) → ((solid : ℕ → ℕ → Bool) → NameBlocks (λ _. 0) (λ _. 0) solid → HasCells out (turned 1 window solid))
+    → HasCells out (turned 1 window (either walled obstructed))
+none_named out window walled obstructed no_walls no_obstacles is =
+    let none : (x y : ℕ) → x < 64 → y < 64 → false ≡ is_walled_at 1 (either walled obstructed) x y = λ x y h k. neither (is_walled_at 1 walled x y) (is_walled_at 1 obstructed x y) (no_walls x y h k) (no_obstacles x y h k) ∙ sym (walled_either 1 walled obstructed x y) in
+    is (either walled obstructed)
+    (named_by_cells (λ _. 0) (λ _. 0) (either walled obstructed) (λ i k h below. bit-zero i ∙ none (2 * i + 1) (2 * k - 1) (omega arith) (omega arith)) (λ i k h below. bit-zero i ∙ none (2 * i + 0) (2 * k - 1) (omega arith) (omega arith)))
+
+as_named : (new first last own beside facing across : Bool) → new ≡ turned_cell first own beside facing across → first ≡ last → new ≡ turned_cell last own beside facing across
+as_named new first last own beside facing across is e = subst (λ w. new ≡ turned_cell w own beside facing across) e is
+
+module _ (begins ends : ℕ → ℕ) (solid : ℕ → ℕ → Bool) (are : NameBlocks begins ends solid) where
+  begin_at : (i k x y : ℕ) → i < 32 → k < 33 → block_start 1 x ≡ 2 * i + 2 → block_start 1 y ≡ 2 * k → bit (begins k) i ≡ is_walled_at 1 solid x y
+  begin_at i k x y h below e f = are.begin i k h below ∙ sym (ap₂ (is_block_walled solid) e f)
+
+  end_at : (i k x y : ℕ) → i < 32 → k < 33 → block_start 1 x ≡ 2 * i → block_start 1 y ≡ 2 * k → bit (ends k) i ≡ is_walled_at 1 solid x y
+  end_at i k x y h below e f = are.end i k h below ∙ sym (ap₂ (is_block_walled solid) e f)
+
+  -- the words of a row
+  pub upper_named : (window : ℕ → ℕ → Bool) (k row y ul ur : ℕ) → k < 33 → block_start 1 row ≡ 2 * k → AreUpper (λ i. turned_cell (bit (begins k) i)) (λ i. turned_cell (bit (ends k) i)) window y ul ur
+      → AreUpper (λ i. rule_among solid (2 * i + 1) row) (λ i. rule_among solid (2 * i + 0) row) window y ul ur
+  upper_named window k row y ul ur below e is =
+      record {
+        left = λ i h. as_named _ _ _ _ _ _ _ (is.left i h) (begin_at i k (2 * i + 1) row h below (odd_start i) e);
+        right = λ i h. as_named _ _ _ _ _ _ _ (is.right i h) (end_at i k (2 * i + 0) row h below (even_start i) e);
+      }
+
+  pub lower_named : (window : ℕ → ℕ → Bool) (k row y ll lr : ℕ) → k < 33 → block_start 1 row ≡ 2 * k → AreLower (λ i. turned_cell (bit (begins k) i)) (λ i. turned_cell (bit (ends k) i)) window y ll lr
+      → AreLower (λ i. rule_among solid (2 * i + 1) row) (λ i. rule_among solid (2 * i + 0) row) window y ll lr
+  lower_named window k row y ll lr below e is =
+      record {
+        left = λ i h. as_named _ _ _ _ _ _ _ (is.left i h) (begin_at i k (2 * i + 1) row h below (odd_start i) e);
+        right = λ i h. as_named _ _ _ _ _ _ _ (is.right i h) (end_at i k (2 * i + 0) row h below (even_start i) e);
+      }
+
+  pub row_named : (window : ℕ → ℕ → Bool) (j : ℕ) (new : Blocks) → j < 31 → IsCollidedOdd (begins (j + 1)) (ends (j + 1)) window (2 * j + 2) new → AreMadeOdd (rule_among solid) window j new
+  row_named window j new below is =
+      let first : block_start 1 (2 * j + 1) ≡ 2 * (j + 1) = odd_start j ∙ omega arith in
+      let next : block_start 1 (2 * (j + 1) + 0) ≡ 2 * (j + 1) = even_start (j + 1) in
+      record {
+        upper = upper_named window (j + 1) (2 * j + 1) (2 * j + 2) new.upper_left new.upper_right (omega arith) first is.upper;
+        lower = lower_named window (j + 1) (2 * (j + 1) + 0) (2 * j + 2) new.lower_left new.lower_right (omega arith) next is.lower;
+      }
+
+-- the tile's cells after these rules
+pub turned_of_rows : (window solid : ℕ → ℕ → Bool) (out : Tile) → HasCells out (λ x y. made (rule_among solid x y) 1 window x y) → HasCells out (turned 1 window solid)
+turned_of_rows window solid out is x y h k = is x y h k ∙ sym (turned_by_cells 1 window (is_walled_at 1 solid x y) x y)
+
+-- before the first
+pub none_made : (begins ends : ℕ → ℕ) (t left right out : Tile) → AreMadeUpTo 0 begins ends t left right out
+none_made begins ends t left right out window solid shown named j below inside = absurd (omega arith)
+
+-- eight rows more
+pub eight_made : (n from to : ℕ) (begins ends : ℕ → ℕ) (t left right old new : Tile) (rows : EightRows) → from ≤ n → from ≤ 23 → to ≤ 32 → (to ≡ from + 8) ⊎ (from ≡ 23)
+    → ((window : ℕ → ℕ → Bool) → ShowsInnerRows window t left right → (k : ℕ) → k < 8 → IsCollidedOdd (begins (from + k + 1)) (ends (from + k + 1)) window (2 * (from + k) + 2) (eight_row rows k))
+    → ((k : ℕ) → k < 8 → odd_row new (from + k) ≡ eight_row rows k)
+    → ((j : ℕ) → (j < from) ⊎ (from + 8 ≤ j) → (get_or new.odd_odd j 0 ≡ get_or old.odd_odd j 0) × (get_or new.even_odd j 0 ≡ get_or old.even_odd j 0))
+    → ((j : ℕ) → (j ≤ from) ⊎ (from + 8 < j) → (get_or new.odd_even j 0 ≡ get_or old.odd_even j 0) × (get_or new.even_even j 0 ≡ get_or old.even_even j 0))
+    → AreMadeUpTo n begins ends t left right old → AreMadeUpTo to begins ends t left right new
+eight_made n from to begins ends t left right old new rows low few small reach made written upper_rest lower_rest before window solid shown named j below inside =
+    let rule = rule_among solid in
+    let here : j < from + 8 = elim reach [ inl e ↦ omega arith | inr e ↦ omega arith ] in
+    let row : (m : ℕ) → from ≤ m → m < from + 8 → AreMadeOdd rule window m (odd_row new m) =
+    λ m h k.
+    let at : from + (m - from) ≡ m = omega arith in
+    let is = row_named begins ends solid named window (from + (m - from)) (eight_row rows (m - from)) (omega arith) (made window shown (m - from) (omega arith)) in
+    subst (λ x. AreMadeOdd rule window x (odd_row new x)) at (subst (AreMadeOdd rule window (from + (m - from))) (sym (written (m - from) (omega arith))) is)
+    in
+    record {
+      upper = uppers_more rule window old new from (from + 8) (λ m h. (before window solid shown named m (omega arith) (omega arith)).upper) row upper_rest j here;
+      lower = lowers_more rule window old new from (from + 8) (λ m h. (before window solid shown named m (omega arith) (omega arith)).lower) row lower_rest j here;
+    }
+
+-- a tile of whose rows all are made
+pub tile_made : (n : ℕ) (begins ends : ℕ → ℕ) (t left right out : Tile) (ul ur ll lr : ℕ) (window solid : ℕ → ℕ → Bool) → 31 ≤ n → 31 < length out.odd_odd → 31 < length out.even_odd → AreMadeUpTo n begins ends t left right out → ShowsInnerRows window t left right
+    → NameBlocks begins ends solid → get_or out.odd_even 0 0 ≡ ll → get_or out.even_even 0 0 ≡ lr
+    → AreLower (λ i. turned_cell (bit (begins 0) i)) (λ i. turned_cell (bit (ends 0) i)) window 0 ll lr → AreUpper (λ i. turned_cell (bit (begins 32) i)) (λ i. turned_cell (bit (ends 32) i)) window 64 ul ur
+    → HasCells (record { even_even = out.even_even; odd_even = out.odd_even; even_odd = set out.even_odd 31 ur; odd_odd = set out.odd_odd 31 ul }) (turned 1 window solid)
+tile_made n begins ends t left right out ul ur ll lr window solid all odd_long even_long made shown named odd_top even_top at_top at_bottom =
+    let rule = rule_among solid in
+    let top = lower_named begins ends solid named window 0 (2 * 0 + 0) 0 ll lr (omega arith) (even_start 0) at_top in
+    let last : block_start 1 (2 * 31 + 1) ≡ 2 * 32 = odd_start 31 in
+    let bottom = upper_named begins ends solid named window 32 (2 * 31 + 1) 64 ul ur (omega arith) last at_bottom in
+    turned_of_rows window solid _
+    (odd_cells rule window _
+    (λ j h.
+    elim (cases_eq j 31) [
+      | inl e ↦ upper_end rule window out.odd_odd out.even_odd ul ur j e odd_long even_long bottom
+      | inr ne ↦ upper_inner _ _ window (2 * j + 2) out.odd_odd out.even_odd ul ur j ne (made window solid shown named j (omega arith) (omega arith)).upper
+    ])
+    (λ j h.
+    elim (cases_eq j 0) [
+      | inl e ↦ rw (e, odd_top, even_top) top
+      | inr some ↦ lower_next rule window out _ _ j some refl refl (made window solid shown named (j - 1) (omega arith) (omega arith)).lower
+    ]))
+
+-- what is named of cells that pass a test
+pub named_places : (named : Option Named) (n : Named) (test : ℕ → ℕ → Bool) → named ≡ Some n → IsNamedOf named test → AreNamedOf n test
+named_places named n test e is = subst (λ named. IsNamedOf named test) e is
+
+pub nothing_named : (named : Option Named) (test : ℕ → ℕ → Bool) → named ≡ None → IsNamedOf named test → HasNoCell test
+nothing_named named test e is = subst (λ named. IsNamedOf named test) e is
+
+-- the words of cells for odd parity
+pub odd_blocks_are : (cells : Tile) (b : OddBlocks) (test : ℕ → ℕ → Bool) → get_or b.begin 0 0 ≡ get_or cells.odd_even 0 0 → get_or b.end 0 0 ≡ get_or cells.even_even 0 0 → ((j : ℕ) → j < 32 → get_or b.begin (j + 1) 0 ≡ get_or cells.odd_odd j 0)
+    → ((j : ℕ) → j < 32 → get_or b.end (j + 1) 0 ≡ get_or cells.even_odd j 0) → HasCells cells test → AreOddBlocksOf b test
+odd_blocks_are cells b test first_begin first_end begins ends are =
+    record {
+      begin = λ i k h below.
+          elim (cases_eq k 0) [
+            | inl e ↦ rw e (ap (λ w. bit w i) first_begin ∙ (at_odd_even test cells are i 0 h (omega arith) ∙ refl))
+            | inr some ↦
+                let next : k - 1 + 1 ≡ k = omega arith in
+                let row : 2 * (k - 1) + 1 ≡ 2 * k - 1 = omega arith in
+                ap (λ k. bit (get_or b.begin k 0) i) (sym next) ∙ (ap (λ w. bit w i) (begins (k - 1) (omega arith)) ∙ (at_odd_odd test cells are i (k - 1) h (omega arith) ∙ ap (test (2 * i + 1)) row))
+          ];
+      end = λ i k h below.
+          elim (cases_eq k 0) [
+            | inl e ↦ rw e (ap (λ w. bit w i) first_end ∙ (at_even_even test cells are i 0 h (omega arith) ∙ refl))
+            | inr some ↦
+                let next : k - 1 + 1 ≡ k = omega arith in
+                let row : 2 * (k - 1) + 1 ≡ 2 * k - 1 = omega arith in
+                ap (λ k. bit (get_or b.end k 0) i) (sym next) ∙ (ap (λ w. bit w i) (ends (k - 1) (omega arith)) ∙ (at_even_odd test cells are i (k - 1) h (omega arith) ∙ ap (test (2 * i + 0)) row))
+          ];
+    }
+
+-- one word more
+pub word_more : (words cells : List ℕ) (j word k : ℕ) → j + 1 < length words → word ≡ get_or cells j 0 → ((k : ℕ) → k < j → get_or words (k + 1) 0 ≡ get_or cells k 0) → k < j + 1 → get_or (set words (j + 1) word) (k + 1) 0 ≡ get_or cells k 0
+word_more words cells j word k long is before below =
+    elim (cases_eq k j) [
+      | inl same ↦ rw (same, get_or-set_same words (j + 1) word 0 long) is
+      | inr other ↦ get_or-set_other words (j + 1) (k + 1) word 0 (λ e. omega arith) ∙ before k (omega arith)
+    ]
+
+-- the blocks of walls and obstacles together
+pub both_named : (walls obstacles : OddBlocks) (walled obstructed : ℕ → ℕ → Bool) → AreOddBlocksOf walls (is_for_walls 1 walled obstructed) → AreOddBlocksOf obstacles (is_walled_at 1 obstructed)
+    → NameBlocks (λ k. bit_or (get_or walls.begin k 0) (get_or obstacles.begin k 0)) (λ k. bit_or (get_or walls.end k 0) (get_or obstacles.end k 0)) (either walled obstructed)
+both_named walls obstacles walled obstructed of_walls of_obstacles =
+    named_by_cells _ _ (either walled obstructed)
+    (λ i k h below. either_named 1 walled obstructed (get_or walls.begin k 0) (get_or obstacles.begin k 0) (2 * i + 1) (2 * k - 1) i (of_walls.begin i k h below) (of_obstacles.begin i k h below))
+    (λ i k h below. either_named 1 walled obstructed (get_or walls.end k 0) (get_or obstacles.end k 0) (2 * i + 0) (2 * k - 1) i (of_walls.end i k h below) (of_obstacles.end i k h below))
+
+-- the words of cells for even parity
+pub even_blocks_are : (cells : Tile) (test : ℕ → ℕ → Bool) → HasCells cells test → AreEvenBlocksOf cells.even_even test
+even_blocks_are cells test are i j h k = at_even_even test cells are i j h k ∙ ap₂ test (omega arith) (omega arith)

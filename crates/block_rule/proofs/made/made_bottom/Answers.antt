@@ -1,7 +1,0 @@
-use Rattle.block_rule.proofs.Windows.{bottom_shown}
-use Rattle.block_rule.proofs.made.made_bottom.Goals as goal
-
-pub returns : goal.returns
-returns g c = λ window shows round.
-    let n = c.args.near.now in
-    c.made_odd.ensures window 64 (bottom_shown window c.args.tile.now shows n.above.now n.below.now n.left.now n.right.now n.above_left.now n.above_right.now n.below_left.now n.below_right.now round)

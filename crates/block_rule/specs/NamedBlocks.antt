@@ -1,0 +1,53 @@
+use Rattle.std.specs.Prelude.{◌≡◌, ℕ, ◌+◌, ◌-◌, ◌*◌, ◌<◌, Bool, List, Option, MatchOption, slice_index}
+use Rattle.bit_tile.specs.Bit.{bit}
+use Rattle.bit_tile.specs.declared.Tile.{Tile}
+use Rattle.block_rule.specs.Around.{is_block_walled, is_walled_at}
+use Rattle.block_rule.specs.Cell.{turned_cell}
+use Rattle.block_rule.specs.Rows.{AreUpper, AreLower, ShowsInnerRows}
+use Rattle.block_rule.specs.Lent.{HasNoCell, ArePlacesOf}
+use Rattle.block_rule.specs.declared.blocks.Blocks.{Blocks}
+use Rattle.block_rule.specs.declared.collide_odd.OddBlocks.{OddBlocks}
+use Rattle.block_rule.specs.declared.named.Named.{Named}
+
+-- The words name the walled blocks of odd parity: word k of both is of row k of blocks, which begins at the window's row 2 * k. Bit
+-- i stands for the block that begins in the tile's odd column i, or that ends in its even column i.
+pub record NameBlocks (begins ends : ℕ → ℕ) (solid : ℕ → ℕ → Bool) : Type 0 where
+  pub begin : (i k : ℕ) → i < 32 → k < 33 → bit (begins k) i ≡ is_block_walled solid (2 * i + 2) (2 * k)
+  pub end : (i k : ℕ) → i < 32 → k < 33 → bit (ends k) i ≡ is_block_walled solid (2 * i) (2 * k)
+
+-- what the collision makes of a row of odd blocks, of which these words name the walled ones
+pub record IsCollidedOdd (begin end : ℕ) (window : ℕ → ℕ → Bool) (y : ℕ) (new : Blocks) : Type 0 where
+  pub upper : AreUpper (λ i. turned_cell (bit begin i)) (λ i. turned_cell (bit end i)) window y new.upper_left new.upper_right
+  pub lower : AreLower (λ i. turned_cell (bit begin i)) (λ i. turned_cell (bit end i)) window y new.lower_left new.lower_right
+
+-- the rule of a cell among walled blocks
+abbrev pub rule_among : (ℕ → ℕ → Bool) → ℕ → ℕ → Bool → Bool → Bool → Bool → Bool
+rule_among solid x y = turned_cell (is_walled_at 1 solid x y)
+
+-- the words of the tile's rows 2 * j + 1 and 2 * j + 2 are made, of the rows before n
+pub record AreWordsMade (window solid : ℕ → ℕ → Bool) (out : Tile) (j : ℕ) : Type 0 where
+  pub upper : AreUpper (λ i. rule_among solid (2 * i + 1) (2 * j + 1)) (λ i. rule_among solid (2 * i + 0) (2 * j + 1)) window (2 * j + 2) (slice_index out.odd_odd j) (slice_index out.even_odd j)
+  pub lower : AreLower (λ i. rule_among solid (2 * i + 1) (2 * (j + 1) + 0)) (λ i. rule_among solid (2 * i + 0) (2 * (j + 1) + 0)) window (2 * j + 2) (slice_index out.odd_even (j + 1)) (slice_index out.even_even (j + 1))
+
+abbrev pub AreMadeUpTo : ℕ → (ℕ → ℕ) → (ℕ → ℕ) → Tile → Tile → Tile → Tile → Type 0
+AreMadeUpTo n begins ends t left right out =
+    (window solid : ℕ → ℕ → Bool) → ShowsInnerRows window t left right → NameBlocks begins ends solid → (j : ℕ) → j < n → j < 31 → AreWordsMade window solid out j
+
+-- The words name the blocks of even parity, or of odd, that are filled by the cells that pass the test. A block of odd parity is
+-- named by the tile's cell in it: row k of blocks is that of row 2 * k - 1, or of row 0.
+abbrev pub AreEvenBlocksOf : List ℕ → (ℕ → ℕ → Bool) → Type 0
+AreEvenBlocksOf words test = (i j : ℕ) → i < 32 → j < 32 → bit (slice_index words j) i ≡ test (2 * i) (2 * j)
+
+pub record AreOddBlocksOf (b : OddBlocks) (test : ℕ → ℕ → Bool) : Type 0 where
+  pub begin : (i k : ℕ) → i < 32 → k < 33 → bit (slice_index b.begin k) i ≡ test (2 * i + 1) (2 * k - 1)
+  pub end : (i k : ℕ) → i < 32 → k < 33 → bit (slice_index b.end k) i ≡ test (2 * i + 0) (2 * k - 1)
+
+-- the cells that pass the test, with the words that name their blocks
+pub record AreNamedOf (n : Named) (test : ℕ → ℕ → Bool) : Type 0 where
+  pub places : ArePlacesOf n.places test
+  pub even : AreEvenBlocksOf n.even.now test
+  pub odd : AreOddBlocksOf n.odd.now test
+
+-- the same, or nothing where there are none
+abbrev pub IsNamedOf : Option Named → (ℕ → ℕ → Bool) → Type 0
+IsNamedOf named test = MatchOption named (HasNoCell test) (λ n. AreNamedOf n test)

@@ -1,0 +1,183 @@
+//! The collision at odd parity, among walled blocks or where there are none.
+
+ghost use Rattle.std.specs.Prelude.{◌≡◌, ℕ, ◌+◌, ◌*◌, ◌<◌, ◌≤◌, ◌⊎◌, Bool, slice_index};
+ghost use Rattle.std.specs.Int.Bits.{bit_or};
+ghost use Rattle.bit_tile.specs.Tile.{HasCells};
+ghost use Rattle.block_rule.specs.Around.{turned};
+ghost use Rattle.block_rule.specs.NamedBlocks.{NameBlocks, IsCollidedOdd, AreMadeUpTo};
+ghost use Rattle.block_rule.specs.Rows.{ShowsTile, ShowsAllRound, ShowsInnerRows, ShowsOddRow, eight_row};
+
+use crate::blocks::{Blocks, EightRows, collided, next, previous};
+use crate::made::write_eight;
+use crate::odd_rows::{OddRow, bottom_row, inner_row, top_row};
+use bit_tile::Tile;
+use tile_border::Round;
+
+/// Blocks of a tile at odd parity: words for the row of blocks at its top, those that begin in its odd rows 0 to 30, and the one at
+/// its bottom. Bit i of a word stands for the block that begins in odd column i, or that ends in even column i.
+#[derive(Clone, Copy)]
+pub struct OddBlocks {
+    pub begin: [u32; 33],
+    pub end: [u32; 33],
+}
+
+/// Such words, or what stands for them.
+pub trait Walled: Copy {
+    ghost begins: { Self → ℕ → ℕ };
+
+    ghost ends: { Self → ℕ → ℕ };
+
+    fn begin(self, k: usize) -> u32
+        requires { k < 33 }
+        ensures { result ≡ begins self k };
+
+    fn end(self, k: usize) -> u32
+        requires { k < 33 }
+        ensures { result ≡ ends self k };
+}
+
+/// No block is walled.
+#[derive(Clone, Copy)]
+pub struct NoBlocks;
+
+impl Walled for NoBlocks {
+    ghost begins = { λ _ _. 0 };
+
+    ghost ends = { λ _ _. 0 };
+
+    #[inline]
+    fn begin(self, _k: usize) -> u32 {
+        0
+    }
+
+    #[inline]
+    fn end(self, _k: usize) -> u32 {
+        0
+    }
+}
+
+/// The blocks of two sets are walled.
+#[derive(Clone, Copy)]
+pub struct OfBoth<'a> {
+    pub walls: &'a OddBlocks,
+    pub obstacles: &'a OddBlocks,
+}
+
+impl<'a> Walled for OfBoth<'a> {
+    ghost begins = { λ b k. bit_or (slice_index b.walls.now.begin k) (slice_index b.obstacles.now.begin k) };
+
+    ghost ends = { λ b k. bit_or (slice_index b.walls.now.end k) (slice_index b.obstacles.now.end k) };
+
+    #[inline]
+    fn begin(self, k: usize) -> u32 {
+        self.walls.begin[k] | self.obstacles.begin[k]
+    }
+
+    #[inline]
+    fn end(self, k: usize) -> u32 {
+        self.walls.end[k] | self.obstacles.end[k]
+    }
+}
+
+// A row of odd blocks. Bit i of `begin` and `end` is set if the block is walled that begins in odd column i, or that ends in even
+// column i.
+#[inline]
+fn collided_odd(row: OddRow, begin: u32, end: u32) -> Blocks
+    ensures { (window : ℕ → ℕ → Bool) (y : ℕ) → ShowsOddRow window y row →
+        IsCollidedOdd begin end window y result }
+{
+    let OddRow { own, left, right } = row;
+    let begin = collided(
+        Blocks {
+            upper_left: own.upper_left,
+            upper_right: next(own.upper_right, right.upper),
+            lower_left: own.lower_left,
+            lower_right: next(own.lower_right, right.lower),
+        },
+        begin,
+    );
+    let end = collided(
+        Blocks {
+            upper_left: previous(own.upper_left, left.upper),
+            upper_right: own.upper_right,
+            lower_left: previous(own.lower_left, left.lower),
+            lower_right: own.lower_right,
+        },
+        end,
+    );
+    Blocks {
+        upper_left: begin.upper_left,
+        upper_right: end.upper_right,
+        lower_left: begin.lower_left,
+        lower_right: end.lower_right,
+    }
+}
+
+// The eight rows of odd blocks that begin in the tile's odd rows from `from` on.
+#[inline]
+fn collided_eight<W: Walled>(
+    walled: W,
+    tile: &Tile,
+    left: &Tile,
+    right: &Tile,
+    from: usize,
+) -> EightRows
+    requires { from + 8 < 32 }
+    ensures { (window : ℕ → ℕ → Bool) → ShowsInnerRows window tile.now left.now right.now →
+        (k : ℕ) → k < 8 → IsCollidedOdd (W.begins walled (from + k + 1)) (W.ends walled (from + k + 1))
+        window (2 * (from + k) + 2) (eight_row result k) }
+{
+    let mut rows = EightRows {
+        upper_left: [0; 8],
+        upper_right: [0; 8],
+        lower_left: [0; 8],
+        lower_right: [0; 8],
+    };
+    for k in 0..8usize {
+        let j = from + k;
+        let row = inner_row(tile, left, right, j);
+        let made = collided_odd(row, walled.begin(j + 1), walled.end(j + 1));
+        rows.upper_left[k] = made.upper_left;
+        rows.upper_right[k] = made.upper_right;
+        rows.lower_left[k] = made.lower_left;
+        rows.lower_right[k] = made.lower_right;
+    }
+    rows
+}
+
+// The same rows, into the tile.
+#[inline(always)]
+fn collide_eight<W: Walled>(walled: W, tile: &Tile, near: &Round, from: usize, out: &mut Tile)
+    requires { from < 24 }
+    ensures made { (n to : ℕ) → from ≤ n → to ≤ 32 → (to ≡ from + 8) ⊎ (from ≡ 23) →
+        AreMadeUpTo n (W.begins walled) (W.ends walled) tile.now near.now.left.now near.now.right.now out.old →
+        AreMadeUpTo to (W.begins walled) (W.ends walled) tile.now near.now.left.now near.now.right.now out.new }
+    ensures top { (slice_index out.new.odd_even 0 ≡ slice_index out.old.odd_even 0) ×
+        (slice_index out.new.even_even 0 ≡ slice_index out.old.even_even 0) }
+{
+    let rows = collided_eight(walled, tile, near.left, near.right, from);
+    write_eight(&rows, from, out);
+}
+
+/// Puts the tile into `out` as it is after the blocks of odd parity have turned. One call for all rows of a tile is faster than
+/// this code in the place of the call.
+#[inline(never)]
+pub fn collide_odd<W: Walled>(walled: W, tile: &Tile, round: &Round, out: &mut Tile)
+    ensures { (window solid : ℕ → ℕ → Bool) → ShowsTile window tile.now →
+        ShowsAllRound window round.now → NameBlocks (W.begins walled) (W.ends walled) solid →
+        HasCells out.new (turned 1 window solid) }
+{
+    // the references are read once
+    let near = *round;
+    let top = collided_odd(top_row(tile, &near), walled.begin(0), walled.end(0));
+    out.odd_even[0] = top.lower_left;
+    out.even_even[0] = top.lower_right;
+    // four times eight rows: row 23 comes twice
+    collide_eight(walled, tile, &near, 0, out);
+    collide_eight(walled, tile, &near, 8, out);
+    collide_eight(walled, tile, &near, 16, out);
+    collide_eight(walled, tile, &near, 23, out);
+    let bottom = collided_odd(bottom_row(tile, &near), walled.begin(32), walled.end(32));
+    out.odd_odd[31] = bottom.upper_left;
+    out.even_odd[31] = bottom.upper_right;
+}

@@ -1,0 +1,53 @@
+-- Tiles in their rooms.
+use Rattle.std.proofs.Common.{◌≡◌, ℕ, zero, suc, ◌*◌, ◌/◌, ◌<◌, ◌∙◌, true, false, List, [], ◌∷◌, length, map, get_or, set, replicate, refl, sym, ap, ap₂, subst}
+use Rattle.std.proofs.Math.ListN.{get_or-map}
+use Rattle.std.proofs.lemmas.List.{map-set}
+use Rattle.bit_tile.specs.Tile.{HasCells}
+use Rattle.bit_tile.specs.declared.Tile.{Tile}
+use Rattle.gas_terms.specs.Cells.{Cells, Extent, is_size, tile_count}
+use Rattle.gas_plane.specs.Marks.{mark_at, IsMarkOf}
+use Rattle.gas_plane.specs.Planes.{with_tile}
+use Rattle.gas_plane.specs.Tiles.{no_cells, tile_at, tiles_of, Cover, IsMarked}
+use Rattle.gas_plane.specs.declared.marks.Mark.{Mark}
+use Rattle.gas_plane.specs.declared.marks.Mark.TheVariants.{Bare}
+use Rattle.std.proofs.lemmas.List.{length-replicate}
+use Rattle.gas_plane.specs.declared.room.Room.{Room}
+use Rattle.gas_plane.proofs.BareTiles.{marked_set, lent_is_mark}
+use Rattle.gas_plane.proofs.Tilings.{tiled, tiled_set}
+
+-- what is read of a room
+pub room_read : (rooms : List Room) (i : ℕ) (r : Room) → r ≡ get_or rooms i r → r.tile ≡ get_or (tiles_of rooms) i r.tile
+room_read rooms i r e = ap (λ (r : Room). r.tile) e ∙ sym (get_or-map (λ (r : Room). r.tile) rooms i r)
+
+-- what is put in one
+pub room_set : (rooms : List Room) (i : ℕ) (r : Room) → tiles_of (set rooms i r) ≡ set (tiles_of rooms) i r.tile
+room_set rooms i r = map-set (λ (r : Room). r.tile) rooms i r
+
+-- rooms that have one tile
+pub tiles_of_copies : (n : ℕ) (r : Room) → tiles_of (replicate n r) ≡ replicate n r.tile
+tiles_of_copies zero r = refl
+tiles_of_copies (suc n) r = ap (λ tiles. r.tile ∷ tiles) (tiles_of_copies n r)
+
+pub tiled_room : (rooms : List Room) (size : Extent) (cells : Cells) (i : ℕ) (r : Room) → i < tile_count cells → Cover (tiles_of rooms) size → tiled (tiles_of rooms) size ≡ cells → tiled (tiles_of (set rooms i r)) size ≡ with_tile cells i r.tile
+tiled_room rooms size cells i r within cover e = ap (λ tiles. tiled tiles size) (room_set rooms i r) ∙ tiled_set (tiles_of rooms) size cells i r.tile within cover e
+
+pub marked_room : (rooms : List Room) (marks : List Mark) (i : ℕ) (r : Room) (mark : Mark) (size : Extent) → IsMarked (tiles_of rooms) marks size → i < length (tiles_of rooms) → IsMarkOf r.tile mark → IsMarked (tiles_of (set rooms i r)) (set marks i mark) size
+marked_room rooms marks i r mark size was low is = subst (λ tiles. IsMarked tiles (set marks i mark) size) (sym (room_set rooms i r)) (marked_set (tiles_of rooms) marks i r.tile mark size was low is)
+
+-- rooms that are copied
+pub marked_as : (rooms others : List Room) (marks more : List Mark) (size : Extent) → others ≡ rooms → more ≡ marks → IsMarked (tiles_of rooms) marks size → IsMarked (tiles_of others) more size
+marked_as rooms others marks more size e f is = subst (λ r. IsMarked (tiles_of r) more size) (sym e) (subst (λ m. IsMarked (tiles_of rooms) m size) (sym f) is)
+
+-- rooms of tiles without cells
+each_marked : (t : Tile) → HasCells t (λ _ _. false) → (n i : ℕ) → IsMarkOf (tile_at (replicate n t) i) (mark_at (replicate n Bare) i)
+each_marked t none zero i = lent_is_mark no_cells
+each_marked t none (suc n) zero = record { bare = λ _. none; held = λ e. absurd (cc) }
+each_marked t none (suc n) (suc i) = each_marked t none n i
+
+pub empty_marked : (tiles : List Tile) (marks : List Mark) (n : ℕ) (t : Tile) (size : Extent) → tiles ≡ replicate n t → marks ≡ replicate n Bare → n ≡ size.width / 64 * (size.height / 64) → is_size size ≡ true → HasCells t (λ _ _. false) → IsMarked tiles marks size
+empty_marked tiles marks n t size e f enough sized none =
+    record {
+      cover = record { sized = sized; enough = ap length e ∙ (length-replicate n t ∙ enough) };
+      each = ap length f ∙ (length-replicate n Bare ∙ sym (ap length e ∙ length-replicate n t));
+      mark = λ i. subst (λ tiles. IsMarkOf (tile_at tiles i) (mark_at marks i)) (sym e) (subst (λ marks. IsMarkOf (tile_at (replicate n t) i) (mark_at marks i)) (sym f) (each_marked t none n i));
+    }
