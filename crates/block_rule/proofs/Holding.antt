@@ -1,5 +1,5 @@
 -- What is put back in walled blocks, and what it gives.
-use Rattle.std.proofs.Common.{◌≡◌, ℕ, zero, suc, inl, inr, ◌+◌, ◌-◌, ◌*◌, ◌/◌, ◌%◌, ◌^◌, ◌<◌, ◌≤◌, Bool, true, false, not, ◌&&◌, ◌||◌, if◌then◌else◌, List, get_or, refl, sym, subst, Option, Some, None, ◌∙◌, ap, ap₂, arith, bit_and, bit_or}
+use Rattle.std.proofs.Common.{◌≡◌, ℕ, zero, suc, inl, inr, ◌+◌, ◌-◌, ◌*◌, ◌/◌, ◌%◌, ◌^◌, ◌<◌, ◌≤◌, Bool, true, false, not, ◌&&◌, ◌||◌, if◌then◌else◌, List, get_or, refl, sym, ◌∙◌, ap, ap₂, arith, bit_and, bit_or}
 use Rattle.std.specs.Prelude.{pos, ◌-ℤ◌, ℤ}
 use Rattle.std.proofs.lemmas.Int.{ints}
 use mir.Val.{to_z, of_z}
@@ -12,7 +12,7 @@ use Rattle.bit_tile.specs.Sums.{sum_below, count_below}
 use Rattle.bit_tile.specs.Tile.{has, HasCells}
 use Rattle.bit_tile.specs.declared.Tile.{Tile}
 use Rattle.bit_tile.proofs.Bits.{bit-zero, bit-and, bit-or, bit-shr, bit_of_low}
-use Rattle.bit_tile.proofs.Words32.{bit-not, bit-ones}
+use Rattle.bit_tile.proofs.Words32.{bit-not}
 use Rattle.bit_tile.proofs.Sums.{sum_below-more, sum_below-same, count_below-same, count_below-none}
 use Rattle.bit_tile.proofs.Counts.{class_count, ones_of_two}
 use Rattle.bit_tile.proofs.Classes.{IsClass, is_even_even, is_odd_even, is_even_odd, is_odd_odd}
@@ -20,11 +20,10 @@ use Rattle.gas_terms.specs.declared.accounts.Pair.{Pair}
 use Rattle.block_rule.specs.Accounts.{if_counted, counted_of}
 use Rattle.block_rule.specs.declared.walled.Counted.{Counted}
 use Rattle.block_rule.specs.Around.{block_start, is_block_walled, turned, none, either, is_walled_at, is_for_walls, twice_momentum, taken}
-use Rattle.block_rule.specs.Cell.{turned_cell, turned_at, made, spared, unless}
+use Rattle.block_rule.specs.Cell.{turned_cell, turned_at, made}
 use Rattle.block_rule.specs.Classes.{class, AreCounts, TellsWords}
 use Rattle.block_rule.specs.Rows.{ShowsTile}
-use Rattle.block_rule.specs.Lent.{HasNoCell, TellsRows, ArePlacesOf, IsLentOf, AreWalledCells}
-use Rattle.block_rule.specs.declared.walled.Places.{Places}
+use Rattle.block_rule.specs.Lent.{HasNoCell, TellsRows}
 use Rattle.block_rule.specs.declared.count.Classes.{Classes}
 use Rattle.block_rule.proofs.Around.{turned_by_cells, walled_from, walled_by_cells}
 use Rattle.block_rule.proofs.Blank.{walled_either}
@@ -139,46 +138,8 @@ turned_of_both p tile free out window walls obstacles shows is_free is_out =
     (λ x y h k. is_free x y h k ∙ sym (turned_by_cells p window false x y))
     (λ x y h k. is_out x y h k ∙ ap (λ b. if b then has tile x y else has free x y) (sym (walled_either p walls obstacles x y)))
 
--- the same, where the rule spares the cells of two sets
-spared_cells : (w o own beside facing across : Bool) → unless o (unless (w && not o) (turned_cell false)) own beside facing across ≡ turned_cell (w || o) own beside facing across
-spared_cells true true own beside facing across = refl
-spared_cells true false own beside facing across = refl
-spared_cells false true own beside facing across = refl
-spared_cells false false own beside facing across = refl
-
-pub turned_among : (p : ℕ) (out : Tile) (window walls obstacles : ℕ → ℕ → Bool) → HasCells out (λ x y. made (spared (is_for_walls p walls obstacles) (is_walled_at p obstacles) (turned_cell false) x y) p window x y) → HasCells out (turned p window (either walls obstacles))
-turned_among p out window walls obstacles is x y h k =
-    is x y h k
-    ∙ (spared_cells (is_walled_at p walls x y) (is_walled_at p obstacles x y) _ _ _ _
-    ∙ (ap (λ b. turned_at p window b x y) (sym (walled_either p walls obstacles x y))
-    ∙ sym (turned_by_cells p window (is_walled_at p (either walls obstacles) x y) x y)))
-
 pub walled_places : (p : ℕ) (t : Tile) (window : ℕ → ℕ → Bool) → HasCells t (λ x y. walled_from p window x y) → HasCells t (is_walled_at p window)
 walled_places p t window is x y h k = is x y h k ∙ sym (walled_by_cells p window x y)
-
--- what is made of walls and obstacles: `cut` leaves the cells that only walls have
-pub walled_cells_are : (p : ℕ) (walls left others : Tile) (walled obstructed : ℕ → ℕ → Bool) → HasCells walls (λ x y. walled_from p walled x y) → HasCells others (λ x y. walled_from p obstructed x y)
-    → HasCells left (λ x y. has walls x y && not (has others x y)) → AreWalledCells p walled obstructed (record { walls = left; obstacles = others })
-walled_cells_are p walls left others walled obstructed is_walls is_others is_left =
-    record {
-      walls = λ x y h k. is_left x y h k ∙ ap₂ (λ a b. a && not b) (walled_places p walls walled is_walls x y h k) (walled_places p others obstructed is_others x y h k);
-      obstacles = walled_places p others obstructed is_others;
-    }
-
--- what is lent of the cells that pass a test
-pub lent_places : (lent : Option Places) (p : Places) (test : ℕ → ℕ → Bool) → lent ≡ Some p → IsLentOf lent test → ArePlacesOf p test
-lent_places lent p test e is = subst (λ lent. IsLentOf lent test) e is
-
-pub nothing_lent : (lent : Option Places) (test : ℕ → ℕ → Bool) → lent ≡ None → IsLentOf lent test → HasNoCell test
-nothing_lent lent test e is = subst (λ lent. IsLentOf lent test) e is
-
--- the rows of its cells are told
-pub tells_rows : (p : Places) (test : ℕ → ℕ → Bool) → ArePlacesOf p test → TellsRows p.rows (has p.cells.now)
-tells_rows p test are x y h k e = are.cells x y h k ∙ are.rows x y h k e
-
--- a word that tells of all rows
-pub tells_all : (test : ℕ → ℕ → Bool) → TellsRows (2 ^ 32 - 1) test
-tells_all test x y h k e = let all = bit-ones (y / 2) (omega arith) in cc
 
 -- a word that tells of a tile's rows tells of those of its classes
 module _ (t : Tile) (rows : ℕ) (told : TellsRows rows (has t)) where
@@ -248,7 +209,7 @@ block_begins x =
       | inr ne ↦ let second : x ≡ 2 * (x / 2) + 1 = omega (arith, ne) in rw (ne_eqb ((x + 0) % 2) 0 ne) second
     ]
 
-same_block : (x : ℕ) → block_start 0 (2 * (x / 2)) ≡ block_start 0 x
+pub same_block : (x : ℕ) → block_start 0 (2 * (x / 2)) ≡ block_start 0 x
 same_block x = block_begins (2 * (x / 2)) ∙ (let e : 2 * (2 * (x / 2) / 2) + 1 ≡ 2 * (x / 2) + 1 = omega arith in e ∙ sym (block_begins x))
 
 -- a tile of which the rule spares the blocks that these words name
@@ -258,22 +219,3 @@ turned_of_spared window solid words out named is x y h k =
     is x y h k
     ∙ (ap (λ b. turned_at 0 window b x y) (named (x / 2) (y / 2) (omega arith) (omega arith) ∙ ap₂ (is_block_walled solid) (same_block x) (same_block y))
     ∙ sym (turned_by_cells 0 window (is_walled_at 0 solid x y) x y))
-
-one_or_other : (w o : Bool) → ((w && not o) || o) ≡ (w || o)
-one_or_other true true = refl
-one_or_other true false = refl
-one_or_other false true = refl
-one_or_other false false = refl
-
-pub named_blocks : (walled obstructed : ℕ → ℕ → Bool) (a b x y i : ℕ) → bit a i ≡ is_for_walls 0 walled obstructed x y → bit b i ≡ is_walled_at 0 obstructed x y → bit (bit_or a b) i ≡ is_walled_at 0 (either walled obstructed) x y
-named_blocks walled obstructed a b x y i of_walls of_obstacles =
-    bit-or a b i
-    ∙ (ap₂ (λ u v. u || v) of_walls of_obstacles
-    ∙ (one_or_other (is_walled_at 0 walled x y) (is_walled_at 0 obstructed x y) ∙ sym (walled_either 0 walled obstructed x y)))
-
--- the same at any parity
-pub either_named : (p : ℕ) (walled obstructed : ℕ → ℕ → Bool) (a b x y i : ℕ) → bit a i ≡ is_for_walls p walled obstructed x y → bit b i ≡ is_walled_at p obstructed x y → bit (bit_or a b) i ≡ is_walled_at p (either walled obstructed) x y
-either_named p walled obstructed a b x y i of_walls of_obstacles =
-    bit-or a b i
-    ∙ (ap₂ (λ u v. u || v) of_walls of_obstacles
-    ∙ (one_or_other (is_walled_at p walled x y) (is_walled_at p obstructed x y) ∙ sym (walled_either p walled obstructed x y)))

@@ -9,3 +9,4 @@ pub mod Torus
 pub mod TorusTook
 pub mod Borders
 pub mod NamedBlocks
+pub mod BlockNames

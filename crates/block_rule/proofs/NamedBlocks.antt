@@ -1,19 +1,22 @@
 -- The walled blocks of a tile at odd parity.
-use Rattle.std.proofs.Common.{◌≡◌, refl, ◌⊎◌, ℕ, ◌+◌, ◌-◌, ◌*◌, ◌%◌, ◌<◌, ◌≤◌, Bool, true, false, not, ◌&&◌, ◌||◌, length, get_or, set, sym, subst, ◌∙◌, ap, ap₂, arith, inl, inr, get_or-set_same, get_or-set_other, List, Option, Some, None, bit_or}
+use Rattle.std.proofs.Common.{◌≡◌, refl, ◌⊎◌, ℕ, ◌+◌, ◌-◌, ◌*◌, ◌/◌, ◌%◌, ◌<◌, ◌≤◌, Bool, true, false, not, ◌&&◌, ◌||◌, length, get_or, set, sym, subst, ◌∙◌, ap, ap₂, arith, inl, inr, List, Option, Some, None, bit_or}
 use Rattle.std.proofs.lemmas.Bool.{cases_eq, eq-eqb, ne_eqb}
 use Rattle.bit_tile.specs.Bit.{bit}
-use Rattle.bit_tile.specs.Tile.{HasCells}
+use Rattle.bit_tile.specs.Tile.{has, HasCells}
 use Rattle.bit_tile.specs.declared.Tile.{Tile}
 use Rattle.block_rule.specs.Around.{block_start, either, is_block_walled, is_for_walls, is_walled_at, turned}
 use Rattle.block_rule.specs.Cell.{made, turned_cell}
-use Rattle.bit_tile.proofs.Bits.{bit-zero}
-use Rattle.block_rule.specs.Lent.{HasNoCell}
+use Rattle.bit_tile.proofs.Bits.{bit-zero, bit-or}
+use Rattle.bit_tile.proofs.Classes.{IsClass, by_class, is_even_even, is_odd_even, is_even_odd, is_odd_odd}
+use Rattle.block_rule.specs.Classes.{AreCounts, TellsWords, particles_among}
+use Rattle.block_rule.specs.Lent.{HasNoCell, TellsRows}
 use Rattle.block_rule.proofs.Blank.{walled_either}
-use Rattle.block_rule.specs.NamedBlocks.{rule_among, AreMadeUpTo, NameBlocks, IsCollidedOdd, AreEvenBlocksOf, AreOddBlocksOf, AreNamedOf, IsNamedOf}
+use Rattle.block_rule.specs.NamedBlocks.{rule_among, AreMadeUpTo, NameBlocks, IsCollidedOdd, AreEvenBlocksOf, AreOddBlocksOf}
 use Rattle.block_rule.specs.declared.collide_odd.OddBlocks.{OddBlocks}
-use Rattle.block_rule.specs.declared.named.Named.{Named}
-use Rattle.block_rule.proofs.Holding.{either_named}
-use Rattle.block_rule.proofs.Sparing.{at_even_even, at_odd_even, at_even_odd, at_odd_odd}
+use Rattle.block_rule.specs.TileBlocks.{NamesBlocks, AreLentBlocks}
+use Rattle.block_rule.specs.declared.blocks_in_tile.SetBlocks.{SetBlocks}
+use Rattle.block_rule.proofs.Holding.{same_block, class_among}
+use Rattle.block_rule.proofs.Sparing.{at_even_even}
 use Rattle.block_rule.specs.Rows.{AreMadeOdd, AreUpper, AreLower, ShowsInnerRows, odd_row, eight_row}
 use Rattle.block_rule.specs.declared.blocks.Blocks.{Blocks}
 use Rattle.block_rule.specs.declared.blocks.EightRows.{EightRows}
@@ -152,52 +155,120 @@ tile_made n begins ends t left right out ul ur ll lr window solid all odd_long e
       | inr some ↦ lower_next rule window out _ _ j some refl refl (made window solid shown named (j - 1) (omega arith) (omega arith)).lower
     ]))
 
--- what is named of cells that pass a test
-pub named_places : (named : Option Named) (n : Named) (test : ℕ → ℕ → Bool) → named ≡ Some n → IsNamedOf named test → AreNamedOf n test
-named_places named n test e is = subst (λ named. IsNamedOf named test) e is
+-- what is lent of the words of a set
+pub words_lent : (lent : Option SetBlocks) (s : SetBlocks) (test : ℕ → ℕ → ℕ → Bool) → lent ≡ Some s → AreLentBlocks lent test → NamesBlocks s.rows s.blocks.now test
+words_lent lent s test e is = subst (λ lent. AreLentBlocks lent test) e is
 
-pub nothing_named : (named : Option Named) (test : ℕ → ℕ → Bool) → named ≡ None → IsNamedOf named test → HasNoCell test
-nothing_named named test e is = subst (λ named. IsNamedOf named test) e is
+pub nothing_lent : (lent : Option SetBlocks) (test : ℕ → ℕ → ℕ → Bool) → lent ≡ None → AreLentBlocks lent test → (p : ℕ) → p < 2 → HasNoCell (test p)
+nothing_lent lent test e is = subst (λ lent. AreLentBlocks lent test) e is
 
--- the words of cells for odd parity
-pub odd_blocks_are : (cells : Tile) (b : OddBlocks) (test : ℕ → ℕ → Bool) → get_or b.begin 0 0 ≡ get_or cells.odd_even 0 0 → get_or b.end 0 0 ≡ get_or cells.even_even 0 0 → ((j : ℕ) → j < 32 → get_or b.begin (j + 1) 0 ≡ get_or cells.odd_odd j 0)
-    → ((j : ℕ) → j < 32 → get_or b.end (j + 1) 0 ≡ get_or cells.even_odd j 0) → HasCells cells test → AreOddBlocksOf b test
-odd_blocks_are cells b test first_begin first_end begins ends are =
+pub for_walls_none : (p : ℕ) (walled obstructed : ℕ → ℕ → Bool) → HasNoCell (is_walled_at p walled) → HasNoCell (is_for_walls p walled obstructed)
+for_walls_none p walled obstructed none x y h k = ap (λ w. w && not (is_walled_at p obstructed x y)) (none x y h k)
+
+pub for_walls_all : (p : ℕ) (walled obstructed : ℕ → ℕ → Bool) (x y : ℕ) → is_walled_at p obstructed x y ≡ false → is_walled_at p walled x y ≡ is_for_walls p walled obstructed x y
+for_walls_all p walled obstructed x y none = and_true (is_walled_at p walled x y) (is_walled_at p obstructed x y) none
+  where
+    and_true : (w o : Bool) → o ≡ false → w ≡ (w && not o)
+    and_true true o e = ap not (sym e)
+    and_true false o e = refl
+
+-- a word that tells of a set's rows tells of those of a part of it
+pub tells_cells : (rows : ℕ) (t : Tile) (all part : ℕ → ℕ → Bool) → TellsRows rows all → ((x y : ℕ) → x < 64 → y < 64 → all x y ≡ false → part x y ≡ false) → HasCells t part → TellsRows rows (has t)
+tells_cells rows t all part told within are x y h k e = are x y h k ∙ within x y h k (told x y h k e)
+
+-- the cells in blocks that words name
+even_begins : (i p : ℕ) → p < 2 → block_start 0 (2 * i) ≡ block_start 0 (2 * i + p)
+even_begins i p h = let half : (2 * i + p) / 2 ≡ i = omega arith in ap (λ i. block_start 0 (2 * i)) (sym half) ∙ same_block (2 * i + p)
+
+pub even_class : (words : List ℕ) (window : ℕ → ℕ → Bool) → AreEvenBlocksOf words (is_walled_at 0 window) → (p q : ℕ) → p < 2 → q < 2 → IsClass words p q (is_walled_at 0 window)
+even_class words window are p q p_two q_two i j h k = are i j h k ∙ ap₂ (is_block_walled window) (even_begins i p p_two) (even_begins j q q_two)
+
+-- the words of a class, of which rows are told
+pub tells_class : (rows : ℕ) (words : List ℕ) (p q : ℕ) (test : ℕ → ℕ → Bool) → p < 2 → q < 2 → TellsRows rows test → IsClass words p q test → TellsWords rows words
+tells_class rows words p q test p_two q_two told is i j h k e =
+    let row : (2 * j + q) / 2 ≡ j = omega arith in
+    is i j h k ∙ told (2 * i + p) (2 * j + q) (omega arith) (omega arith) (rw row e)
+
+pub counted_among : (t : Tile) (rows : ℕ) (ee oe eo oo : List ℕ) (test : ℕ → ℕ → Bool) (a b c d : ℕ) → TellsRows rows test → IsClass ee 0 0 test → IsClass oe 1 0 test → IsClass eo 0 1 test → IsClass oo 1 1 test
+    → (TellsWords rows ee → a ≡ particles_among t.even_even ee 32) → (TellsWords rows oe → b ≡ particles_among t.odd_even oe 32) → (TellsWords rows eo → c ≡ particles_among t.even_odd eo 32) → (TellsWords rows oo → d ≡ particles_among t.odd_odd oo 32)
+    → AreCounts (record { even_even = a; odd_even = b; even_odd = c; odd_odd = d }) (λ x y. has t x y && test x y)
+counted_among t rows ee oe eo oo test a b c d told is_ee is_oe is_eo is_oo count_ee count_oe count_eo count_oo =
+    let zero : 0 < 2 = omega arith in
+    let one : 1 < 2 = omega arith in
     record {
-      begin = λ i k h below.
-          elim (cases_eq k 0) [
-            | inl e ↦ rw e (ap (λ w. bit w i) first_begin ∙ (at_odd_even test cells are i 0 h (omega arith) ∙ refl))
-            | inr some ↦
-                let next : k - 1 + 1 ≡ k = omega arith in
-                let row : 2 * (k - 1) + 1 ≡ 2 * k - 1 = omega arith in
-                ap (λ k. bit (get_or b.begin k 0) i) (sym next) ∙ (ap (λ w. bit w i) (begins (k - 1) (omega arith)) ∙ (at_odd_odd test cells are i (k - 1) h (omega arith) ∙ ap (test (2 * i + 1)) row))
-          ];
-      end = λ i k h below.
-          elim (cases_eq k 0) [
-            | inl e ↦ rw e (ap (λ w. bit w i) first_end ∙ (at_even_even test cells are i 0 h (omega arith) ∙ refl))
-            | inr some ↦
-                let next : k - 1 + 1 ≡ k = omega arith in
-                let row : 2 * (k - 1) + 1 ≡ 2 * k - 1 = omega arith in
-                ap (λ k. bit (get_or b.end k 0) i) (sym next) ∙ (ap (λ w. bit w i) (ends (k - 1) (omega arith)) ∙ (at_even_odd test cells are i (k - 1) h (omega arith) ∙ ap (test (2 * i + 0)) row))
-          ];
+      even_even = class_among t.even_even ee 0 0 a (has t) test zero zero (is_even_even t) is_ee (count_ee (tells_class rows ee 0 0 test zero zero told is_ee));
+      odd_even = class_among t.odd_even oe 1 0 b (has t) test one zero (is_odd_even t) is_oe (count_oe (tells_class rows oe 1 0 test one zero told is_oe));
+      even_odd = class_among t.even_odd eo 0 1 c (has t) test zero one (is_even_odd t) is_eo (count_eo (tells_class rows eo 0 1 test zero one told is_eo));
+      odd_odd = class_among t.odd_odd oo 1 1 d (has t) test one one (is_odd_odd t) is_oo (count_oo (tells_class rows oo 1 1 test one one told is_oo));
     }
 
--- one word more
-pub word_more : (words cells : List ℕ) (j word k : ℕ) → j + 1 < length words → word ≡ get_or cells j 0 → ((k : ℕ) → k < j → get_or words (k + 1) 0 ≡ get_or cells k 0) → k < j + 1 → get_or (set words (j + 1) word) (k + 1) 0 ≡ get_or cells k 0
-word_more words cells j word k long is before below =
-    elim (cases_eq k j) [
-      | inl same ↦ rw (same, get_or-set_same words (j + 1) word 0 long) is
-      | inr other ↦ get_or-set_other words (j + 1) (k + 1) word 0 (λ e. omega arith) ∙ before k (omega arith)
-    ]
+-- the words of the classes at odd parity
+module _ (b : OddBlocks) (window : ℕ → ℕ → Bool) (are : AreOddBlocksOf b (is_walled_at 1 window)) where
+  next_row : (j : ℕ) → 2 * (j + 1) - 1 ≡ 2 * j + 1
+  next_row j = omega arith
+
+  pub end_first : (words : List ℕ) → ((j : ℕ) → j < 32 → get_or words j 0 ≡ get_or b.end j 0) → IsClass words 0 0 (is_walled_at 1 window)
+  end_first words same i j h k = ap (λ w. bit w i) (same j k) ∙ (are.end i j h (omega arith) ∙ ap (is_block_walled window (block_start 1 (2 * i + 0))) (row_start j ∙ sym (even_start j)))
+
+  pub begin_first : (words : List ℕ) → ((j : ℕ) → j < 32 → get_or words j 0 ≡ get_or b.begin j 0) → IsClass words 1 0 (is_walled_at 1 window)
+  begin_first words same i j h k = ap (λ w. bit w i) (same j k) ∙ (are.begin i j h (omega arith) ∙ ap (is_block_walled window (block_start 1 (2 * i + 1))) (row_start j ∙ sym (even_start j)))
+
+  pub end_last : (words : List ℕ) → ((j : ℕ) → j < 32 → get_or words j 0 ≡ get_or b.end (j + 1) 0) → IsClass words 0 1 (is_walled_at 1 window)
+  end_last words same i j h k = ap (λ w. bit w i) (same j k) ∙ (are.end i (j + 1) h (omega arith) ∙ ap (λ y. is_walled_at 1 window (2 * i + 0) y) (next_row j))
+
+  pub begin_last : (words : List ℕ) → ((j : ℕ) → j < 32 → get_or words j 0 ≡ get_or b.begin (j + 1) 0) → IsClass words 1 1 (is_walled_at 1 window)
+  begin_last words same i j h k = ap (λ w. bit w i) (same j k) ∙ (are.begin i (j + 1) h (omega arith) ∙ ap (λ y. is_walled_at 1 window (2 * i + 1) y) (next_row j))
+
+pub even_filled : (words : List ℕ) (window : ℕ → ℕ → Bool) → AreEvenBlocksOf words (is_walled_at 0 window) → HasCells (record { even_even = words; odd_even = words; even_odd = words; odd_odd = words }) (is_walled_at 0 window)
+even_filled words window are =
+    by_class _ (is_walled_at 0 window) (even_class words window are 0 0 (omega arith) (omega arith)) (even_class words window are 1 0 (omega arith) (omega arith)) (even_class words window are 0 1 (omega arith) (omega arith)) (even_class words window are 1 1 (omega arith) (omega arith))
+
+pub odd_filled : (b : OddBlocks) (even_even odd_even even_odd odd_odd : List ℕ) (window : ℕ → ℕ → Bool) → ((j : ℕ) → j < 32 → get_or even_even j 0 ≡ get_or b.end j 0) → ((j : ℕ) → j < 32 → get_or odd_even j 0 ≡ get_or b.begin j 0)
+    → ((j : ℕ) → j < 32 → get_or even_odd j 0 ≡ get_or b.end (j + 1) 0) → ((j : ℕ) → j < 32 → get_or odd_odd j 0 ≡ get_or b.begin (j + 1) 0)
+    → AreOddBlocksOf b (is_walled_at 1 window) → HasCells (record { even_even = even_even; odd_even = odd_even; even_odd = even_odd; odd_odd = odd_odd }) (is_walled_at 1 window)
+odd_filled b even_even odd_even even_odd odd_odd window ee oe eo oo are =
+    by_class _ (is_walled_at 1 window) (end_first b window are even_even ee) (begin_first b window are odd_even oe) (end_last b window are even_odd eo) (begin_last b window are odd_odd oo)
 
 -- the blocks of walls and obstacles together
-pub both_named : (walls obstacles : OddBlocks) (walled obstructed : ℕ → ℕ → Bool) → AreOddBlocksOf walls (is_for_walls 1 walled obstructed) → AreOddBlocksOf obstacles (is_walled_at 1 obstructed)
+either_named : (p : ℕ) (walled obstructed : ℕ → ℕ → Bool) (a b x y i : ℕ) → bit a i ≡ is_walled_at p walled x y → bit b i ≡ is_walled_at p obstructed x y → bit (bit_or a b) i ≡ is_walled_at p (either walled obstructed) x y
+either_named p walled obstructed a b x y i of_walls of_obstacles = bit-or a b i ∙ (ap₂ (λ u v. u || v) of_walls of_obstacles ∙ sym (walled_either p walled obstructed x y))
+
+pub both_named : (walls obstacles : OddBlocks) (walled obstructed : ℕ → ℕ → Bool) → AreOddBlocksOf walls (is_walled_at 1 walled) → AreOddBlocksOf obstacles (is_walled_at 1 obstructed)
     → NameBlocks (λ k. bit_or (get_or walls.begin k 0) (get_or obstacles.begin k 0)) (λ k. bit_or (get_or walls.end k 0) (get_or obstacles.end k 0)) (either walled obstructed)
 both_named walls obstacles walled obstructed of_walls of_obstacles =
     named_by_cells _ _ (either walled obstructed)
     (λ i k h below. either_named 1 walled obstructed (get_or walls.begin k 0) (get_or obstacles.begin k 0) (2 * i + 1) (2 * k - 1) i (of_walls.begin i k h below) (of_obstacles.begin i k h below))
     (λ i k h below. either_named 1 walled obstructed (get_or walls.end k 0) (get_or obstacles.end k 0) (2 * i + 0) (2 * k - 1) i (of_walls.end i k h below) (of_obstacles.end i k h below))
 
+pub both_even : (walls obstacles words : List ℕ) (walled obstructed : ℕ → ℕ → Bool) → ((j : ℕ) → j < 32 → get_or words j 0 ≡ bit_or (get_or walls j 0) (get_or obstacles j 0)) → AreEvenBlocksOf walls (is_walled_at 0 walled) → AreEvenBlocksOf obstacles (is_walled_at 0 obstructed)
+    → AreEvenBlocksOf words (is_walled_at 0 (either walled obstructed))
+both_even walls obstacles words walled obstructed are of_walls of_obstacles i j h k =
+    ap (λ w. bit w i) (are j k) ∙ either_named 0 walled obstructed (get_or walls j 0) (get_or obstacles j 0) (2 * i) (2 * j) i (of_walls i j h k) (of_obstacles i j h k)
+
 -- the words of cells for even parity
 pub even_blocks_are : (cells : Tile) (test : ℕ → ℕ → Bool) → HasCells cells test → AreEvenBlocksOf cells.even_even test
 even_blocks_are cells test are i j h k = at_even_even test cells are i j h k ∙ ap₂ test (omega arith) (omega arith)
+
+-- where one set has no blocks those of the other are all
+or_none : (a b : Bool) → b ≡ false → a ≡ (a || b)
+or_none true b e = refl
+or_none false b e = sym e
+
+or_first : (a b : Bool) → a ≡ false → b ≡ (a || b)
+or_first true b e = cc
+or_first false b e = refl
+
+pub first_alone : (p : ℕ) (walled obstructed : ℕ → ℕ → Bool) → HasNoCell (is_walled_at p obstructed) → (x y : ℕ) → x < 64 → y < 64 → is_walled_at p walled x y ≡ is_walled_at p (either walled obstructed) x y
+first_alone p walled obstructed none x y h k = or_none (is_walled_at p walled x y) (is_walled_at p obstructed x y) (none x y h k) ∙ sym (walled_either p walled obstructed x y)
+
+pub second_alone : (p : ℕ) (walled obstructed : ℕ → ℕ → Bool) → HasNoCell (is_walled_at p walled) → (x y : ℕ) → x < 64 → y < 64 → is_walled_at p obstructed x y ≡ is_walled_at p (either walled obstructed) x y
+second_alone p walled obstructed none x y h k = or_first (is_walled_at p walled x y) (is_walled_at p obstructed x y) (none x y h k) ∙ sym (walled_either p walled obstructed x y)
+
+pub even_alike : (words : List ℕ) (some other : ℕ → ℕ → Bool) → ((x y : ℕ) → x < 64 → y < 64 → some x y ≡ other x y) → AreEvenBlocksOf words some → AreEvenBlocksOf words other
+even_alike words some other same are i j h k = are i j h k ∙ same (2 * i) (2 * j) (omega arith) (omega arith)
+
+pub one_named : (b : OddBlocks) (some solid : ℕ → ℕ → Bool) → ((x y : ℕ) → x < 64 → y < 64 → some x y ≡ is_walled_at 1 solid x y) → AreOddBlocksOf b some → NameBlocks (λ k. get_or b.begin k 0) (λ k. get_or b.end k 0) solid
+one_named b some solid same are =
+    named_by_cells _ _ solid
+    (λ i k h below. are.begin i k h below ∙ same (2 * i + 1) (2 * k - 1) (omega arith) (omega arith))
+    (λ i k h below. are.end i k h below ∙ same (2 * i + 0) (2 * k - 1) (omega arith) (omega arith))

@@ -136,13 +136,6 @@ module _ (made : MadeCells) (walled : CellsWalled) (sums : SumsByParities) (tick
       ∙ sym (made_same (takes_for_obstacles walls obstacles) x y in_row in_column))
       ∙ momentum_same sums tick (stopped (parity tick) particles (takes_for_obstacles walls obstacles)) x0 y0 place.even_column place.even_row)
 
--- by the laws of gas_terms
-pub sites_take : (p : ℕ) → p < 2 → (particles walls obstacles : Cells) (x0 y0 : ℕ) (near_walls near_obstacles : ℕ → ℕ → Bool) → IsTilePlace particles walls obstacles x0 y0 → IsView p near_walls walls x0 y0 → IsView p near_obstacles obstacles x0 y0 → (x y : ℕ) → x < 64 → y < 64 →
-    (is_for_walls p near_walls near_obstacles x y ≡ takes_for_walls walls obstacles (site_of p particles.width particles.height (x0 + x) (y0 + y)))
-    × (is_walled_at p near_obstacles x y ≡ takes_for_obstacles walls obstacles (site_of p particles.width particles.height (x0 + x) (y0 + y)))
-sites_take p two particles walls obstacles x0 y0 near_walls near_obstacles place walls_view obstacles_view x y h k =
-    (walls_take has-cells_where cell_walled p two particles walls obstacles x0 y0 near_walls near_obstacles place walls_view obstacles_view x y h k, obstacles_take has-cells_where cell_walled p two particles walls obstacles x0 y0 near_walls near_obstacles place walls_view obstacles_view x y h k)
-
 pub tiles_took : (tick : ℤ) (tile : Tile) (particles walls obstacles : Cells) (x0 y0 : ℕ) (near_walls near_obstacles : ℕ → ℕ → Bool) → IsTilePlace particles walls obstacles x0 y0 →
     HasCells tile (λ x y. plane.has particles (x0 + x) (y0 + y)) → IsView (parity tick) near_walls walls x0 y0 → IsView (parity tick) near_obstacles obstacles x0 y0 →
     taken (parity tick) tile near_walls near_obstacles ≡ taken_in tick particles walls obstacles (square x0 y0)

@@ -6,8 +6,7 @@ use Rattle.bit_tile.specs.Tile.{HasCells}
 use Rattle.bit_tile.specs.declared.Tile.{Tile}
 use Rattle.bit_tile.proofs.Classes.{by_class, even_even_at, odd_even_at, even_odd_at, odd_odd_at}
 use Rattle.block_rule.specs.Cell.{made, partner, spared, unless}
-use Rattle.block_rule.specs.Rows.{ShowsTile, ShowsRound, IsMade, ShowsRows, IsMadeOdd, AreMadeOdd, AreUpper, AreLower, IsSpared, IsSparedRow, even_row, odd_row, beside_left, beside_right, eight_row}
-use Rattle.block_rule.specs.declared.blocks.Beside.{Beside}
+use Rattle.block_rule.specs.Rows.{ShowsTile, ShowsRound, IsMade, ShowsRows, AreMadeOdd, AreUpper, AreLower, IsSpared, even_row, odd_row, beside_left, beside_right, eight_row}
 use Rattle.block_rule.specs.declared.blocks.Blocks.{Blocks}
 use Rattle.block_rule.specs.declared.blocks.EightRows.{EightRows}
 
@@ -172,13 +171,6 @@ module _ (window : ℕ → ℕ → Bool) (t : Tile) (shows : ShowsTile window t)
         right_lower = round.below_right ∙ even_even_at dr 0 0;
       }
 
--- the words of a row after one rule
-pub upper_of : (cell : Bool → Bool → Bool → Bool → Bool) (window : ℕ → ℕ → Bool) (y : ℕ) (new : Blocks) → IsMadeOdd cell window y new → AreUpper (λ _. cell) (λ _. cell) window y new.upper_left new.upper_right
-upper_of cell window y new is = record { left = is.upper_left; right = is.upper_right }
-
-pub lower_of : (cell : Bool → Bool → Bool → Bool → Bool) (window : ℕ → ℕ → Bool) (y : ℕ) (new : Blocks) → IsMadeOdd cell window y new → AreLower (λ _. cell) (λ _. cell) window y new.lower_left new.lower_right
-lower_of cell window y new is = record { left = is.lower_left; right = is.lower_right }
-
 -- and where the old cells of two sets stay
 spared_cell : (w o kept old made own beside facing across : Bool) (cell : Bool → Bool → Bool → Bool → Bool) → old ≡ own → made ≡ cell own beside facing across → kept ≡ (if w then old else made) → (if o then old else kept) ≡ unless o (unless w cell) own beside facing across
 spared_cell w o kept old made own beside facing across cell e f g = rw (g, e, f) refl
@@ -200,16 +192,6 @@ module _ (cell : Bool → Bool → Bool → Bool → Bool) (window walled obstru
         left = λ i h. last.in_odd i h ∙ spared_cell (walled (2 * i + 1) r) (obstructed (2 * i + 1) r) _ _ _ _ _ _ _ cell (sym (shows_odd i h)) (are.left i h) (first.in_odd i h);
         right = λ i h. last.in_even i h ∙ spared_cell (walled (2 * i + 0) r) (obstructed (2 * i + 0) r) _ _ _ _ _ _ _ cell (sym (shows_even i h)) (are.right i h) (first.in_even i h);
       }
-
-pub spared_row : (cell : Bool → Bool → Bool → Bool → Bool) (window walled obstructed : ℕ → ℕ → Bool) (j : ℕ) (old new first last : Blocks) (left right : Beside) → ShowsRows window (2 * j + 2) old left right → IsMadeOdd cell window (2 * j + 2) new
-    → IsSparedRow walled j old new first → IsSparedRow obstructed j old first last → AreMadeOdd (spared walled obstructed cell) window j last
-spared_row cell window walled obstructed j old new first last left right shows is among_walls among_both =
-    record {
-      upper = spared_upper cell window walled obstructed (2 * j + 1) (2 * j + 2) old.upper_left old.upper_right new.upper_left new.upper_right first.upper_left first.upper_right last.upper_left last.upper_right among_walls.upper among_both.upper
-          shows.upper_left shows.upper_right (upper_of cell window (2 * j + 2) new is);
-      lower = spared_lower cell window walled obstructed (2 * (j + 1) + 0) (2 * j + 2) old.lower_left old.lower_right new.lower_left new.lower_right first.lower_left first.lower_right last.lower_left last.lower_right among_walls.lower among_both.lower
-          shows.lower_left shows.lower_right (lower_of cell window (2 * j + 2) new is);
-    }
 
 -- the odd blocks' cells
 pub odd_cells : (rule : ℕ → ℕ → Bool → Bool → Bool → Bool → Bool) (window : ℕ → ℕ → Bool) (out : Tile) → ((j : ℕ) → j < 32 → AreUpper (λ i. rule (2 * i + 1) (2 * j + 1)) (λ i. rule (2 * i + 0) (2 * j + 1)) window (2 * j + 2) (get_or out.odd_odd j 0) (get_or out.even_odd j 0))

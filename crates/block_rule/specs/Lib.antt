@@ -7,3 +7,4 @@ pub mod Rows
 pub mod Lent
 pub mod Accounts
 pub mod NamedBlocks
+pub mod TileBlocks

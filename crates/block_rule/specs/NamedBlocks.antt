@@ -1,13 +1,11 @@
-use Rattle.std.specs.Prelude.{◌≡◌, ℕ, ◌+◌, ◌-◌, ◌*◌, ◌<◌, Bool, List, Option, MatchOption, slice_index}
+use Rattle.std.specs.Prelude.{◌≡◌, ℕ, ◌+◌, ◌-◌, ◌*◌, ◌<◌, Bool, List, slice_index}
 use Rattle.bit_tile.specs.Bit.{bit}
 use Rattle.bit_tile.specs.declared.Tile.{Tile}
 use Rattle.block_rule.specs.Around.{is_block_walled, is_walled_at}
 use Rattle.block_rule.specs.Cell.{turned_cell}
 use Rattle.block_rule.specs.Rows.{AreUpper, AreLower, ShowsInnerRows}
-use Rattle.block_rule.specs.Lent.{HasNoCell, ArePlacesOf}
 use Rattle.block_rule.specs.declared.blocks.Blocks.{Blocks}
 use Rattle.block_rule.specs.declared.collide_odd.OddBlocks.{OddBlocks}
-use Rattle.block_rule.specs.declared.named.Named.{Named}
 
 -- The words name the walled blocks of odd parity: word k of both is of row k of blocks, which begins at the window's row 2 * k. Bit
 -- i stands for the block that begins in the tile's odd column i, or that ends in its even column i.
@@ -41,13 +39,3 @@ AreEvenBlocksOf words test = (i j : ℕ) → i < 32 → j < 32 → bit (slice_in
 pub record AreOddBlocksOf (b : OddBlocks) (test : ℕ → ℕ → Bool) : Type 0 where
   pub begin : (i k : ℕ) → i < 32 → k < 33 → bit (slice_index b.begin k) i ≡ test (2 * i + 1) (2 * k - 1)
   pub end : (i k : ℕ) → i < 32 → k < 33 → bit (slice_index b.end k) i ≡ test (2 * i + 0) (2 * k - 1)
-
--- the cells that pass the test, with the words that name their blocks
-pub record AreNamedOf (n : Named) (test : ℕ → ℕ → Bool) : Type 0 where
-  pub places : ArePlacesOf n.places test
-  pub even : AreEvenBlocksOf n.even.now test
-  pub odd : AreOddBlocksOf n.odd.now test
-
--- the same, or nothing where there are none
-abbrev pub IsNamedOf : Option Named → (ℕ → ℕ → Bool) → Type 0
-IsNamedOf named test = MatchOption named (HasNoCell test) (λ n. AreNamedOf n test)

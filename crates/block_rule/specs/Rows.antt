@@ -95,31 +95,10 @@ abbrev pub ShowsInnerRows : (ℕ → ℕ → Bool) → Tile → Tile → Tile �
 ShowsInnerRows window t left right =
     (j : ℕ) → j < 31 → ShowsRows window (2 * j + 2) (odd_row t j) (beside_left left j) (beside_right right j)
 
--- of new words, those that are not in these places, and of old ones the others
-pub record AreKept (old places new after : Blocks) : Type 0 where
-  pub upper_left : (i : ℕ) → i < 32 → bit after.upper_left i ≡ (if bit places.upper_left i then bit old.upper_left i else bit new.upper_left i)
-  pub upper_right : (i : ℕ) → i < 32 → bit after.upper_right i ≡ (if bit places.upper_right i then bit old.upper_right i else bit new.upper_right i)
-  pub lower_left : (i : ℕ) → i < 32 → bit after.lower_left i ≡ (if bit places.lower_left i then bit old.lower_left i else bit new.lower_left i)
-  pub lower_right : (i : ℕ) → i < 32 → bit after.lower_right i ≡ (if bit places.lower_right i then bit old.lower_right i else bit new.lower_right i)
-
 -- two words of a row of a tile's cells, in which the old cells stay that pass the test: those of odd and of even columns of row y
 pub record IsSpared (test : ℕ → ℕ → Bool) (y old_odd old_even new_odd new_even odd even : ℕ) : Type 0 where
   pub in_odd : (i : ℕ) → i < 32 → bit odd i ≡ (if test (2 * i + 1) y then bit old_odd i else bit new_odd i)
   pub in_even : (i : ℕ) → i < 32 → bit even i ≡ (if test (2 * i + 0) y then bit old_even i else bit new_even i)
-
--- the row of odd blocks that begins in the tile's odd row j; the row at its top, whose lower cells are in the tile; and the row
--- at its bottom
-pub record IsSparedRow (test : ℕ → ℕ → Bool) (j : ℕ) (old new after : Blocks) : Type 0 where
-  pub upper : IsSpared test (2 * j + 1) old.upper_left old.upper_right new.upper_left new.upper_right after.upper_left after.upper_right
-  pub lower : IsSpared test (2 * (j + 1) + 0) old.lower_left old.lower_right new.lower_left new.lower_right after.lower_left after.lower_right
-
-abbrev pub IsSparedTop : (ℕ → ℕ → Bool) → Tile → Blocks → Blocks → Type 0
-IsSparedTop test t new after =
-    IsSpared test (2 * 0 + 0) (slice_index t.odd_even 0) (slice_index t.even_even 0) new.lower_left new.lower_right after.lower_left after.lower_right
-
-abbrev pub IsSparedBottom : (ℕ → ℕ → Bool) → Tile → Blocks → Blocks → Type 0
-IsSparedBottom test t new after =
-    IsSpared test (2 * 31 + 1) (slice_index t.odd_odd 31) (slice_index t.even_odd 31) new.upper_left new.upper_right after.upper_left after.upper_right
 
 -- the upper and the lower words of a row of odd blocks after rules of their columns
 pub record AreUpper (left_rule right_rule : ℕ → Bool → Bool → Bool → Bool → Bool) (window : ℕ → ℕ → Bool) (y ul ur : ℕ) : Type 0 where

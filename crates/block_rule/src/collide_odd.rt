@@ -56,6 +56,28 @@ impl Walled for NoBlocks {
     }
 }
 
+/// The blocks of one set are walled.
+#[derive(Clone, Copy)]
+pub struct OfOne<'a> {
+    pub set: &'a OddBlocks,
+}
+
+impl<'a> Walled for OfOne<'a> {
+    ghost begins = { λ b k. slice_index b.set.now.begin k };
+
+    ghost ends = { λ b k. slice_index b.set.now.end k };
+
+    #[inline]
+    fn begin(self, k: usize) -> u32 {
+        self.set.begin[k]
+    }
+
+    #[inline]
+    fn end(self, k: usize) -> u32 {
+        self.set.end[k]
+    }
+}
+
 /// The blocks of two sets are walled.
 #[derive(Clone, Copy)]
 pub struct OfBoth<'a> {

@@ -29,9 +29,9 @@ fn count_rows(old: &[u32; 32], places: &[u32; 32], from: usize) -> u32
     n
 }
 
-// How many of a class's cells there are in these places, in the rows that the word tells of.
+/// How many of a class's cells there are in these places, in the rows that the word tells of.
 #[inline]
-fn count_class(cells: &[u32; 32], places: &[u32; 32], rows: u32) -> u32
+pub fn count_class(cells: &[u32; 32], places: &[u32; 32], rows: u32) -> u32
     ensures count { TellsWords rows places.now →
         result ≡ particles_among cells.now places.now 32 }
     ensures bound { result ≤ 1024 }

@@ -1,157 +1,319 @@
-//! Tiles whose walled blocks are named by words, so that a phase reads no cells of them.
+//! Tiles among walled blocks, which words name.
 
-ghost use Rattle.std.specs.Prelude.{◌≡◌, ℕ, ◌*◌, ◌<◌, Bool, slice_index};
-ghost use Rattle.bit_tile.specs.Bit.{bit};
-ghost use Rattle.bit_tile.specs.Tile.{HasCells};
-ghost use Rattle.block_rule.specs.Around.{turned, either, is_walled_at, is_for_walls, taken};
-ghost use Rattle.block_rule.specs.Accounts.{counted_of};
+ghost use Rattle.std.specs.Prelude.{◌≡◌, ℕ, ◌+◌, ◌*◌, ◌<◌, Bool, ◌&&◌, slice_index};
+ghost use Rattle.bit_tile.specs.Tile.{has, HasCells};
+ghost use Rattle.block_rule.specs.Around.{turned, either, is_walled_at, is_for_walls, twice_momentum, taken};
+ghost use Rattle.block_rule.specs.Accounts.{if_counted, counted_of};
 ghost use Rattle.block_rule.specs.Rows.{ShowsTile};
-ghost use Rattle.block_rule.specs.Lent.{IsSeenIn, IsLentOf};
-ghost use Rattle.block_rule.specs.NamedBlocks.{AreEvenBlocksOf, AreOddBlocksOf, IsNamedOf};
+ghost use Rattle.block_rule.specs.Lent.{IsSeenIn, TellsRows};
+ghost use Rattle.block_rule.specs.NamedBlocks.{AreEvenBlocksOf, AreOddBlocksOf};
+ghost use Rattle.block_rule.specs.TileBlocks.{NamesBlocks, AreLentBlocks, walled_by};
 
 use crate::Window;
 use crate::blocks::Collision;
-use crate::collide_odd::{NoBlocks, OddBlocks, OfBoth, collide_odd};
+use crate::blocks_in_tile::SetBlocks;
+use crate::collide_odd::{NoBlocks, OddBlocks, OfBoth, OfOne, collide_odd};
+use crate::count::{Classes, count_class, momentum, momentum_in};
 use crate::made::{collide_even, make_even};
-use crate::walled::{Counted, Places, taken_of};
+use crate::walled::{Counted, Places};
 use bit_tile::Tile;
-use gas_terms::Took;
+use gas_terms::{Pair, Took};
 
-static NO_BLOCKS: OddBlocks = OddBlocks {
-    begin: [0; 33],
-    end: [0; 33],
-};
-
-/// Cells of a tile that fill walled blocks, and words that name these blocks. Bit i of word j of `even` is the cell in even column
-/// i of even row j.
-#[derive(Clone, Copy)]
-pub struct Named<'a> {
-    pub places: Places<'a>,
-    pub even: &'a [u32; 32],
-    pub odd: &'a OddBlocks,
-}
-
-/// The words that name the blocks of odd parity that these cells fill.
-pub fn odd_blocks(cells: &Tile) -> OddBlocks
-    ensures { (test : ℕ → ℕ → Bool) → HasCells cells.now test → AreOddBlocksOf result test }
+// the first 32 of these words
+fn first_words(words: &[u32; 33]) -> [u32; 32]
+    ensures { (j : ℕ) → j < 32 → slice_index result j ≡ slice_index words.now j }
 {
-    let mut begin = [0; 33];
-    let mut end = [0; 33];
-    begin[0] = cells.odd_even[0];
-    end[0] = cells.even_even[0];
+    let mut first = [0; 32];
     for j in 0..32usize {
-        begin[j + 1] = cells.odd_odd[j];
-        end[j + 1] = cells.even_odd[j];
+        first[j] = words[j];
     }
-    OddBlocks { begin, end }
+    first
 }
 
-// the cells alone
-#[inline(always)]
-fn places_of(named: Option<Named<'_>>) -> Option<Places<'_>>
-    ensures { (test : ℕ → ℕ → Bool) → IsNamedOf named.entry test → IsLentOf result test }
+// and the last 32
+fn last_words(words: &[u32; 33]) -> [u32; 32]
+    ensures { (j : ℕ) → j < 32 → slice_index result j ≡ slice_index words.now (j + 1) }
 {
-    match named {
-        Some(named) => Some(named.places),
-        None => None,
+    let mut last = [0; 32];
+    for j in 0..32usize {
+        last[j] = words[j + 1];
     }
+    last
 }
 
-// the words for even parity
-#[inline(always)]
-fn even_words(named: Option<Named<'_>>) -> [u32; 32]
-    ensures { (test : ℕ → ℕ → Bool) → IsNamedOf named.entry test → (i j : ℕ) → i < 32 → j < 32 →
-        bit (slice_index result j) i ≡ test (2 * i) (2 * j) }
+// the tile's cells in the blocks of even parity
+fn even_cells(words: &[u32; 32]) -> Tile
+    ensures { (window : ℕ → ℕ → Bool) → AreEvenBlocksOf words.now (is_walled_at 0 window) →
+        HasCells result (is_walled_at 0 window) }
 {
-    match named {
-        Some(named) => *named.even,
-        None => [0; 32],
+    Tile {
+        even_even: *words,
+        odd_even: *words,
+        even_odd: *words,
+        odd_odd: *words,
     }
 }
 
-// the words of walls and obstacles together
-#[inline(always)]
-fn even_words_of_both(walls: Option<Named<'_>>, obstacles: Option<Named<'_>>) -> [u32; 32]
+/// And in those of odd parity.
+pub fn odd_cells(words: &OddBlocks) -> Tile
+    ensures { (window : ℕ → ℕ → Bool) → AreOddBlocksOf words.now (is_walled_at 1 window) →
+        HasCells result (is_walled_at 1 window) }
+{
+    Tile {
+        even_even: first_words(&words.end),
+        odd_even: first_words(&words.begin),
+        even_odd: last_words(&words.end),
+        odd_odd: last_words(&words.begin),
+    }
+}
+
+// the tile's cells in blocks of this parity
+fn cells_in(set: SetBlocks<'_>, parity: u8) -> Tile
+    requires { parity < 2 }
+    ensures { (window : ℕ → ℕ → Bool) → NamesBlocks set.entry.rows set.entry.blocks.now (walled_by window) →
+        HasCells result (is_walled_at parity window) }
+{
+    if parity == 0 {
+        even_cells(&set.blocks.even)
+    } else {
+        odd_cells(&set.blocks.odd)
+    }
+}
+
+// Twice the momentum of a tile's particles in blocks that words name, of even parity.
+fn momentum_even(tile: &Tile, rows: u32, words: &[u32; 32]) -> Pair
+    ensures { (window : ℕ → ℕ → Bool) → AreEvenBlocksOf words.now (is_walled_at 0 window) →
+        TellsRows rows (is_walled_at 0 window) →
+        result ≡ twice_momentum 0 (λ x y. has tile.now x y && is_walled_at 0 window x y) }
+{
+    let counts = Classes {
+        even_even: count_class(&tile.even_even, words, rows),
+        odd_even: count_class(&tile.odd_even, words, rows),
+        even_odd: count_class(&tile.even_odd, words, rows),
+        odd_odd: count_class(&tile.odd_odd, words, rows),
+    };
+    momentum(counts, 0)
+}
+
+// and of odd parity
+fn momentum_odd(tile: &Tile, rows: u32, words: &OddBlocks) -> Pair
+    ensures { (window : ℕ → ℕ → Bool) → AreOddBlocksOf words.now (is_walled_at 1 window) →
+        TellsRows rows (is_walled_at 1 window) →
+        result ≡ twice_momentum 1 (λ x y. has tile.now x y && is_walled_at 1 window x y) }
+{
+    let counts = Classes {
+        even_even: count_class(&tile.even_even, &first_words(&words.end), rows),
+        odd_even: count_class(&tile.odd_even, &first_words(&words.begin), rows),
+        even_odd: count_class(&tile.even_odd, &last_words(&words.end), rows),
+        odd_odd: count_class(&tile.odd_odd, &last_words(&words.begin), rows),
+    };
+    momentum(counts, 1)
+}
+
+// Twice the momentum of a tile's particles in blocks with an obstacle.
+#[inline(never)]
+fn momentum_by_obstacles(tile: &Tile, obstacles: SetBlocks<'_>, parity: u8) -> Pair
+    requires { parity < 2 }
+    ensures { (obstructed : ℕ → ℕ → Bool) →
+        NamesBlocks obstacles.entry.rows obstacles.entry.blocks.now (walled_by obstructed) →
+        result ≡ twice_momentum parity (λ x y. has tile.now x y && is_walled_at parity obstructed x y) }
+{
+    if parity == 0 {
+        momentum_even(tile, obstacles.rows, &obstacles.blocks.even)
+    } else {
+        momentum_odd(tile, obstacles.rows, &obstacles.blocks.odd)
+    }
+}
+
+// The same in blocks with a wall and no obstacle.
+#[inline(never)]
+fn momentum_by_walls(
+    tile: &Tile,
+    walls: SetBlocks<'_>,
+    obstacles: Option<SetBlocks<'_>>,
+    parity: u8,
+) -> Pair
+    requires { parity < 2 }
     ensures { (walled obstructed : ℕ → ℕ → Bool) →
-        IsNamedOf walls.entry (is_for_walls 0 walled obstructed) →
-        IsNamedOf obstacles.entry (is_walled_at 0 obstructed) →
-        (i j : ℕ) → i < 32 → j < 32 →
-        bit (slice_index result j) i ≡ is_walled_at 0 (either walled obstructed) (2 * i) (2 * j) }
+        NamesBlocks walls.entry.rows walls.entry.blocks.now (walled_by walled) →
+        AreLentBlocks obstacles.entry (walled_by obstructed) →
+        result ≡ twice_momentum parity (λ x y. has tile.now x y && is_for_walls parity walled obstructed x y) }
 {
-    let of_walls = even_words(walls);
-    let of_obstacles = even_words(obstacles);
+    let cells = without(cells_in(walls, parity), obstacles, parity);
+    let rows = walls.rows;
+    let cells = &cells;
+    momentum_in(tile, Places { cells, rows }, parity)
+}
+
+// These, if they are counted.
+#[inline(always)]
+fn taken_by_obstacles(
+    tile: &Tile,
+    obstacles: Option<SetBlocks<'_>>,
+    parity: u8,
+    counted: bool,
+) -> Pair
+    requires { parity < 2 }
+    ensures { (obstructed : ℕ → ℕ → Bool) → AreLentBlocks obstacles.entry (walled_by obstructed) →
+        result ≡ if_counted counted
+        (twice_momentum parity (λ x y. has tile.now x y && is_walled_at parity obstructed x y)) }
+{
+    if !counted {
+        return Pair::ZERO;
+    }
+    match obstacles {
+        Some(obstacles) => momentum_by_obstacles(tile, obstacles, parity),
+        None => Pair::ZERO,
+    }
+}
+
+#[inline(always)]
+fn taken_by_walls(
+    tile: &Tile,
+    walls: Option<SetBlocks<'_>>,
+    obstacles: Option<SetBlocks<'_>>,
+    parity: u8,
+    counted: bool,
+) -> Pair
+    requires { parity < 2 }
+    ensures { (walled obstructed : ℕ → ℕ → Bool) → AreLentBlocks walls.entry (walled_by walled) →
+        AreLentBlocks obstacles.entry (walled_by obstructed) →
+        result ≡ if_counted counted
+        (twice_momentum parity (λ x y. has tile.now x y && is_for_walls parity walled obstructed x y)) }
+{
+    if !counted {
+        return Pair::ZERO;
+    }
+    match walls {
+        Some(walls) => momentum_by_walls(tile, walls, obstacles, parity),
+        None => Pair::ZERO,
+    }
+}
+
+// the cells that are in no block with an obstacle
+fn without(cells: Tile, obstacles: Option<SetBlocks<'_>>, parity: u8) -> Tile
+    requires { parity < 2 }
+    ensures { (walled obstructed : ℕ → ℕ → Bool) → HasCells cells (is_walled_at parity walled) →
+        AreLentBlocks obstacles.entry (walled_by obstructed) →
+        HasCells result (is_for_walls parity walled obstructed) }
+{
+    match obstacles {
+        Some(obstacles) => {
+            let mut left = cells;
+            left.cut(&cells_in(obstacles, parity));
+            left
+        }
+        None => cells,
+    }
+}
+
+// What walls and obstacles take of a tile's particles, in the accounts that are kept.
+#[inline(always)]
+fn taken_among(
+    tile: &Tile,
+    walls: Option<SetBlocks<'_>>,
+    obstacles: Option<SetBlocks<'_>>,
+    parity: u8,
+    counted: Counted,
+) -> Took
+    requires { parity < 2 }
+    ensures { (walled obstructed : ℕ → ℕ → Bool) → AreLentBlocks walls.entry (walled_by walled) →
+        AreLentBlocks obstacles.entry (walled_by obstructed) →
+        result ≡ counted_of counted (taken parity tile.now walled obstructed) }
+{
+    Took {
+        walls: taken_by_walls(tile, walls, obstacles, parity, counted.walls),
+        obstacles: taken_by_obstacles(tile, obstacles, parity, counted.obstacles),
+    }
+}
+
+// The collision at even parity among the blocks of one set.
+#[inline(never)]
+fn collide_even_among(words: &[u32; 32], tile: &mut Tile)
+    ensures { (window solid : ℕ → ℕ → Bool) → ShowsTile window tile.old →
+        AreEvenBlocksOf words.now (is_walled_at 0 solid) → HasCells tile.new (turned 0 window solid) }
+{
+    collide_even(words, tile);
+}
+
+// and of two
+#[inline(never)]
+fn collide_even_of_both(walls: &[u32; 32], obstacles: &[u32; 32], tile: &mut Tile)
+    ensures { (window walled obstructed : ℕ → ℕ → Bool) → ShowsTile window tile.old →
+        AreEvenBlocksOf walls.now (is_walled_at 0 walled) →
+        AreEvenBlocksOf obstacles.now (is_walled_at 0 obstructed) →
+        HasCells tile.new (turned 0 window (either walled obstructed)) }
+{
     let mut words = [0; 32];
     for j in 0..32usize {
-        words[j] = of_walls[j] | of_obstacles[j];
+        words[j] = walls[j] | obstacles[j];
     }
-    words
+    collide_even(&words, tile);
 }
 
-// the words for odd parity
+/// Turns the blocks of a tile in place, at even parity, among the blocks that have a wall and those that have an obstacle. Returns
+/// the momentum that these take of the tile's own particles: twice that of the particles in them. An account that is not kept
+/// has 0.
 #[inline(always)]
-fn odd_words<'a>(named: Option<Named<'a>>) -> &'a OddBlocks
-    ensures { (test : ℕ → ℕ → Bool) → IsNamedOf named.entry test → AreOddBlocksOf result.now test }
-{
-    match named {
-        Some(named) => named.odd,
-        None => &NO_BLOCKS,
-    }
-}
-
-/// `turn_tile_even`, where words name the walled blocks.
-#[inline(always)]
-pub fn turn_even_named(
+pub fn turn_tile_even(
     tile: &mut Tile,
-    walls: Option<Named<'_>>,
-    obstacles: Option<Named<'_>>,
+    walls: Option<SetBlocks<'_>>,
+    obstacles: Option<SetBlocks<'_>>,
     counted: Counted,
 ) -> Took
     ensures cells { (window walled obstructed : ℕ → ℕ → Bool) → ShowsTile window tile.old →
-        IsNamedOf walls.entry (is_for_walls 0 walled obstructed) →
-        IsNamedOf obstacles.entry (is_walled_at 0 obstructed) →
+        AreLentBlocks walls.entry (walled_by walled) →
+        AreLentBlocks obstacles.entry (walled_by obstructed) →
         HasCells tile.new (turned 0 window (either walled obstructed)) }
-    ensures took { (walled obstructed : ℕ → ℕ → Bool) →
-        IsNamedOf walls.entry (is_for_walls 0 walled obstructed) →
-        IsNamedOf obstacles.entry (is_walled_at 0 obstructed) →
+    ensures took { (walled obstructed : ℕ → ℕ → Bool) → AreLentBlocks walls.entry (walled_by walled) →
+        AreLentBlocks obstacles.entry (walled_by obstructed) →
         result ≡ counted_of counted (taken 0 tile.old walled obstructed) }
 {
-    let took = taken_of(tile, places_of(walls), places_of(obstacles), 0, counted);
+    let took = taken_among(tile, walls, obstacles, 0, counted);
     match (walls, obstacles) {
         (None, None) => make_even(Collision, tile),
-        _ => {
-            let walled = even_words_of_both(walls, obstacles);
-            collide_even(&walled, tile);
+        (Some(walls), None) => collide_even_among(&walls.blocks.even, tile),
+        (None, Some(obstacles)) => collide_even_among(&obstacles.blocks.even, tile),
+        (Some(walls), Some(obstacles)) => {
+            collide_even_of_both(&walls.blocks.even, &obstacles.blocks.even, tile);
         }
     }
     took
 }
 
-/// `turn_tile_odd`, where words name the walled blocks.
+/// The same at odd parity, where blocks reach into the eight tiles round the tile.
 #[inline(always)]
-pub fn turn_odd_named(
+pub fn turn_tile_odd(
     particles: &Window,
-    walls: Option<Named<'_>>,
-    obstacles: Option<Named<'_>>,
+    walls: Option<SetBlocks<'_>>,
+    obstacles: Option<SetBlocks<'_>>,
     counted: Counted,
     out: &mut Tile,
 ) -> Took
     ensures cells { (window walled obstructed : ℕ → ℕ → Bool) → IsSeenIn particles.now window →
-        IsNamedOf walls.entry (is_for_walls 1 walled obstructed) →
-        IsNamedOf obstacles.entry (is_walled_at 1 obstructed) →
+        AreLentBlocks walls.entry (walled_by walled) →
+        AreLentBlocks obstacles.entry (walled_by obstructed) →
         HasCells out.new (turned 1 window (either walled obstructed)) }
-    ensures took { (walled obstructed : ℕ → ℕ → Bool) →
-        IsNamedOf walls.entry (is_for_walls 1 walled obstructed) →
-        IsNamedOf obstacles.entry (is_walled_at 1 obstructed) →
+    ensures took { (walled obstructed : ℕ → ℕ → Bool) → AreLentBlocks walls.entry (walled_by walled) →
+        AreLentBlocks obstacles.entry (walled_by obstructed) →
         result ≡ counted_of counted (taken 1 particles.now.tile.now walled obstructed) }
 {
     let Window { tile, round } = particles;
-    let took = taken_of(tile, places_of(walls), places_of(obstacles), 1, counted);
+    let took = taken_among(tile, walls, obstacles, 1, counted);
     match (walls, obstacles) {
         (None, None) => collide_odd(NoBlocks, tile, round, out),
-        _ => {
+        (Some(walls), None) => {
+            let set = &walls.blocks.odd;
+            collide_odd(OfOne { set }, tile, round, out);
+        }
+        (None, Some(obstacles)) => {
+            let set = &obstacles.blocks.odd;
+            collide_odd(OfOne { set }, tile, round, out);
+        }
+        (Some(walls), Some(obstacles)) => {
             let both = OfBoth {
-                walls: odd_words(walls),
-                obstacles: odd_words(obstacles),
+                walls: &walls.blocks.odd,
+                obstacles: &obstacles.blocks.odd,
             };
             collide_odd(both, tile, round, out);
         }

@@ -9,8 +9,10 @@ ghost use Rattle.block_rule.specs.Lent.{IsSeenIn};
 ghost use Rattle.tile_border.specs.Ring.{IsBorderOf};
 ghost use Rattle.tile_border.specs.declared.border.Border.{Border as BorderValue};
 
-use crate::walled::{Counted, Places, walled_cells_even, walled_cells_odd};
-use crate::{Window, turn_tile_even, turn_tile_odd};
+use crate::Window;
+use crate::blocks_in_tile::{SetBlocks, tile_blocks};
+use crate::named::{turn_tile_even, turn_tile_odd};
+use crate::walled::Counted;
 use bit_tile::Tile;
 use gas_terms::Took;
 use tile_border::{Border, Neighbors};
@@ -65,25 +67,32 @@ pub fn turn_tile(
         is_walled_at parity (either (around walls.now wall_border.now)
         (around obstacles.now obstacle_border.now)) x y) }
 {
+    let near_walls = wall_border.neighbors();
+    let (rows, blocks) = tile_blocks(&window_of(walls, &near_walls));
+    let walls = Some(SetBlocks {
+        rows,
+        blocks: &blocks,
+    });
+    let near_obstacles = obstacle_border.neighbors();
+    let (rows, blocks) = tile_blocks(&window_of(obstacles, &near_obstacles));
+    let obstacles = Some(SetBlocks {
+        rows,
+        blocks: &blocks,
+    });
     if parity == 0 {
-        let walled = walled_cells_even(walls, obstacles);
-        let walls = Some(Places::anywhere(&walled.walls));
-        let obstacles = Some(Places::anywhere(&walled.obstacles));
         let mut out = *tile;
         let took = turn_tile_even(&mut out, walls, obstacles, Counted::BOTH);
         (out, took)
     } else {
         let near = border.neighbors();
-        let near_walls = wall_border.neighbors();
-        let near_obstacles = obstacle_border.neighbors();
-        let particles = window_of(tile, &near);
-        let walls = window_of(walls, &near_walls);
-        let obstacles = window_of(obstacles, &near_obstacles);
-        let walled = walled_cells_odd(&walls, &obstacles);
-        let walls = Some(Places::anywhere(&walled.walls));
-        let obstacles = Some(Places::anywhere(&walled.obstacles));
         let mut out = Tile::empty();
-        let took = turn_tile_odd(&particles, walls, obstacles, Counted::BOTH, &mut out);
+        let took = turn_tile_odd(
+            &window_of(tile, &near),
+            walls,
+            obstacles,
+            Counted::BOTH,
+            &mut out,
+        );
         (out, took)
     }
 }

@@ -17,7 +17,7 @@ use crate::ports_from::PortsFrom;
 use crate::sums::probe;
 use gas_plane::Plane;
 use gas_terms::{Moved, NoMemory, Rect, Size, Sums, Tick, Took};
-use phase_step::{Flow, Run, Stepper, Still};
+use phase_step::{Flow, Run, Solids, Stepper, Still};
 use std::alloc::Global;
 use std::marker::Model;
 
@@ -26,8 +26,7 @@ use std::marker::Model;
 pub struct Gas {
     tick: Tick,
     particles: Plane,
-    walls: Plane,
-    obstacles: Plane,
+    solids: Solids,
     ports: Ports,
 }
 
@@ -38,24 +37,31 @@ impl Model for Gas {
 
     ghost use Rattle.gas_ledger.specs.Gases.{gas_of, FitTogether};
 
-    ghost view = { λ g. gas_of g.tick g.particles g.walls g.obstacles g.ports };
+    ghost view = { λ g. gas_of g.tick g.particles g.solids.walls g.solids.obstacles g.ports };
 
-    ghost invariant = { λ g. FitTogether g.particles g.walls g.obstacles g.ports };
+    ghost invariant = { λ g. FitTogether g.particles g.solids.walls g.solids.obstacles g.ports };
 }
 
 impl Gas {
-    /// A gas of these parts. The planes must have one size, and the ports must lie within it.
-    pub fn new(tick: Tick, particles: Plane, walls: Plane, obstacles: Plane, ports: Ports) -> Gas
+    /// A gas of these parts. The sets must have one size, and the ports must lie within it. Fails if memory runs out.
+    pub fn new(
+        alloc: Global,
+        tick: Tick,
+        particles: Plane,
+        walls: Plane,
+        obstacles: Plane,
+        ports: Ports,
+    ) -> Result<Gas, NoMemory>
         requires { FitTogether particles walls obstacles ports }
-        ensures { result ≡ gas_of tick particles walls obstacles ports }
+        ensures { IfOk result (λ gas. gas ≡ gas_of tick particles walls obstacles ports) }
     {
-        Gas {
+        let solids = Solids::of(alloc, walls, obstacles)?;
+        Ok(Gas {
             tick,
             particles,
-            walls,
-            obstacles,
+            solids,
             ports,
-        }
+        })
     }
 
     /// The empty gas of this size, at tick 0. Fails if memory runs out.
@@ -63,13 +69,11 @@ impl Gas {
         ensures { IfOk result (λ gas. gas ≡ empty_gas size) }
     {
         let particles = Plane::empty(alloc, size)?;
-        let walls = Plane::empty(alloc, size)?;
-        let obstacles = Plane::empty(alloc, size)?;
+        let solids = Solids::empty(alloc, size)?;
         Ok(Gas {
             tick: Tick::new(0).unwrap(),
             particles,
-            walls,
-            obstacles,
+            solids,
             ports: Ports::none(),
         })
     }
@@ -79,13 +83,11 @@ impl Gas {
         ensures { IfOk result (λ gas. gas ≡ self.now) }
     {
         let particles = self.particles.copy(alloc)?;
-        let walls = self.walls.copy(alloc)?;
-        let obstacles = self.obstacles.copy(alloc)?;
+        let solids = self.solids.copy(alloc)?;
         Ok(Gas {
             tick: self.tick,
             particles,
-            walls,
-            obstacles,
+            solids,
             ports: self.ports.copy(),
         })
     }
@@ -105,8 +107,8 @@ impl Gas {
         // The types of the parts keep it: the tick is in its range, walls and obstacles are lattices of the size, and the
         // ports are a port set.
         let _ = self.tick.get();
-        let _ = self.walls.size();
-        let _ = self.obstacles.size();
+        let _ = self.solids.walls.cells().size();
+        let _ = self.solids.obstacles.cells().size();
         let _ = self.ports.drains();
         self.particles.size()
     }
@@ -122,14 +124,14 @@ impl Gas {
     pub fn walls(&self) -> &Plane
         ensures { result.now ≡ self.now.walls }
     {
-        &self.walls
+        self.solids.walls.cells()
     }
 
     /// The cells with an obstacle.
     pub fn obstacles(&self) -> &Plane
         ensures { result.now ≡ self.now.obstacles }
     {
-        &self.obstacles
+        self.solids.obstacles.cells()
     }
 
     /// Its drains and sources.
@@ -184,22 +186,21 @@ impl Gas {
     pub fn add_walls(&mut self, area: Rect)
         ensures { self.new ≡ enact self.old (Wall area) }
     {
-        self.walls.fill(area);
+        self.solids.add_walls(area);
     }
 
     /// Makes each cell of the rectangle an obstacle.
     pub fn add_obstacles(&mut self, area: Rect)
         ensures { self.new ≡ enact self.old (Block area) }
     {
-        self.obstacles.fill(area);
+        self.solids.add_obstacles(area);
     }
 
     /// Removes walls and obstacles from the rectangle.
     pub fn remove_walls_and_obstacles(&mut self, area: Rect)
         ensures { self.new ≡ enact self.old (Unwall area) }
     {
-        self.walls.clear(area);
-        self.obstacles.clear(area);
+        self.solids.remove(area);
     }
 
     /// Adds a port at the end of its list. Fails if there are `MOST_PORTS` of the kind already. The port does not act yet.
@@ -235,13 +236,11 @@ impl Gas {
         let particles = &mut self.particles;
         let ports = &self.ports;
         let action = PortsFrom { ports, tick: first };
-        let walls = &self.walls;
-        let obstacles = &self.obstacles;
+        let solids = &self.solids;
         let action = &action;
         let parity = first.parity();
         let run = Run {
-            walls,
-            obstacles,
+            solids,
             parity,
             n,
             action,
@@ -261,12 +260,10 @@ impl Gas {
         let tick = &mut self.tick;
         *tick = tick.behind(n).unwrap();
         let particles = &mut self.particles;
-        let walls = &self.walls;
-        let obstacles = &self.obstacles;
+        let solids = &self.solids;
         let action = &Still;
         let run = Run {
-            walls,
-            obstacles,
+            solids,
             parity: first,
             n,
             action,

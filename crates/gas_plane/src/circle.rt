@@ -3,6 +3,7 @@
 ghost use Rattle.std.specs.Prelude.{◌≡◌, ◌+◌, ◌-◌, ◌%◌, ◌<◌};
 
 /// The place before place k, on a circle of n places.
+#[inline]
 pub fn before(k: u32, n: u32) -> u32
     requires { k < n }
     ensures place { result ≡ (k + n - 1) % n }
@@ -12,6 +13,7 @@ pub fn before(k: u32, n: u32) -> u32
 }
 
 /// The place after place k.
+#[inline]
 pub fn after(k: u32, n: u32) -> u32
     requires { k < n }
     ensures place { result ≡ (k + 1) % n }

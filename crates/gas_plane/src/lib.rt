@@ -22,7 +22,7 @@ mod totals;
 
 pub use around::Position;
 pub use bit_tile::Tile;
-use circle::{after, before};
+pub use circle::{after, before};
 pub use counts::sums;
 use gas_terms::{NoMemory, Size};
 use marks::{Mark, are_all_bare, mark_of};

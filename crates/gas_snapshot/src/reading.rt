@@ -62,7 +62,8 @@ fn gas_in(alloc: Global, bytes: &[u8]) -> Result<Gas, SnapFault>
     let particles = plane_of(alloc, size, first)?;
     let walls = plane_of(alloc, size, second)?;
     let obstacles = obstacles_of(alloc, head.version, size, third)?;
-    Ok(Gas::new(head.tick, particles, walls, obstacles, ports))
+    let gas = Gas::new(alloc, head.tick, particles, walls, obstacles, ports)?;
+    Ok(gas)
 }
 
 /// The gas whose snapshot the bytes are, in either version. Fails with the first fault from the left, or, in bytes without

@@ -2,6 +2,7 @@
 
 use crate::expected::{expect_same, expect_that};
 use crate::gases::{Part, run, sums, tick};
+use crate::lattices::solids;
 use gas_ledger::{Flow, Sums, tally};
 use gas_plane::{Plane, Tile};
 use gas_terms::{Moved, Pair, Rect, Size, Took};
@@ -103,9 +104,9 @@ fn act_thrice(rt: &(impl Abort + AllocGlobal), particles: &mut Plane, action: &L
     let size = particles.size();
     let mut spare = Plane::empty(rt.alloc(), size).expect(rt, "memory");
     let none = Plane::empty(rt.alloc(), size).expect(rt, "memory");
+    let solids = solids(rt, &none, &none);
     let run = Run {
-        walls: &none,
-        obstacles: &none,
+        solids: &solids,
         parity: 0,
         n: 3,
         action,

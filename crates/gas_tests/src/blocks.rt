@@ -2,7 +2,10 @@
 
 use crate::expected::{expect_same, expect_that};
 use bit_tile::Tile;
-use block_rule::{Counted, Places, Window, turn_block, turn_tile, turn_tile_even, turn_tile_odd};
+use block_rule::{
+    Counted, SetBlocks, TileBlocks, Window, tile_blocks, turn_block, turn_tile, turn_tile_even,
+    turn_tile_odd,
+};
 use gas_terms::{Pair, Took};
 use std::process::Abort;
 use tile_border::{Border, Neighbors};
@@ -89,6 +92,20 @@ fn window<'a>(tile: &'a Tile, near: &'a Neighbors) -> Window<'a> {
     Window { tile, round }
 }
 
+// the blocks that have a cell of a tile without neighbors
+fn blocks_of(cells: &Tile) -> (u32, TileBlocks) {
+    let near = no_border().neighbors();
+    tile_blocks(&window(cells, &near))
+}
+
+fn lent(named: &(u32, TileBlocks)) -> Option<SetBlocks<'_>> {
+    let (rows, blocks) = named;
+    Some(SetBlocks {
+        rows: *rows,
+        blocks,
+    })
+}
+
 // the tile with this border after the rule at an odd tick, without walls, of which nothing is taken
 fn turned_odd(rt: &impl Abort, old: &Tile, border: &Border) -> Tile {
     let near = border.neighbors();
@@ -113,8 +130,8 @@ fn particles_cross_their_blocks(rt: HostRuntime) {
     expect_that(&rt, has_just(&free, even));
     expect_same(&rt, took, Took::ZERO);
     let mut among_none = old;
-    let places = Some(Places::anywhere(&none));
-    let took = turn_tile_even(&mut among_none, places, places, Counted::BOTH);
+    let named = blocks_of(&none);
+    let took = turn_tile_even(&mut among_none, lent(&named), lent(&named), Counted::BOTH);
     expect_that(&rt, has_just(&among_none, even));
     expect_same(&rt, took, Took::ZERO);
 
@@ -128,15 +145,14 @@ fn particles_cross_their_blocks(rt: HostRuntime) {
 }
 
 #[test]
-fn particles_of_the_told_rows_stay(rt: HostRuntime) {
+fn particles_of_named_blocks_stay(rt: HostRuntime) {
     let walled = tile_of([(10, 10), (11, 10), (10, 11), (11, 11)].as_slice());
     let mut tile = tile_of([(0, 0), (10, 10)].as_slice());
-    // rows 10 and 11 are told by bit 5
-    let places = Places {
-        cells: &walled,
-        rows: 1 << 5,
-    };
-    let took = turn_tile_even(&mut tile, Some(places), None, Counted::BOTH);
+    let named = blocks_of(&walled);
+    // blocks at even places have them in rows 10 and 11, those at odd places in rows 9 to 12: a bit for each pair of rows
+    expect_same(&rt, named.0, 1 << 4 | 1 << 5 | 1 << 6);
+    expect_same(&rt, named.1.even[5], 1 << 5);
+    let took = turn_tile_even(&mut tile, lent(&named), None, Counted::BOTH);
     expect_that(&rt, has_just(&tile, [(1, 1), (10, 10)].as_slice()));
     let twice = Pair { x: 2, y: 2 };
     expect_same(
@@ -152,16 +168,16 @@ fn particles_of_the_told_rows_stay(rt: HostRuntime) {
 fn accounts_that_are_not_kept_are_zero(rt: HostRuntime) {
     let old = tile_of([(10, 10), (20, 21)].as_slice());
     let near = no_border().neighbors();
-    let even_walls = cells_at(0b1111, 10, 10);
-    let even_obstacles = cells_at(0b1111, 20, 20);
-    let odd_walls = cells_at(0b1111, 9, 9);
-    let odd_obstacles = cells_at(0b1111, 19, 21);
+    let even_walls = blocks_of(&cells_at(0b1111, 10, 10));
+    let even_obstacles = blocks_of(&cells_at(0b1111, 20, 20));
+    let odd_walls = blocks_of(&cells_at(0b1111, 9, 9));
+    let odd_obstacles = blocks_of(&cells_at(0b1111, 19, 21));
     for (walls, obstacles) in [(true, false), (false, true), (true, true), (false, false)] {
         let counted = Counted { walls, obstacles };
 
         let mut tile = old;
-        let walled = Some(Places::anywhere(&even_walls));
-        let obstructed = Some(Places::anywhere(&even_obstacles));
+        let walled = lent(&even_walls);
+        let obstructed = lent(&even_obstacles);
         let took = turn_tile_even(&mut tile, walled, obstructed, counted);
         expect_that(&rt, tile.has_same_cells(&old));
         let of_walls = if walls { pair(2, 2) } else { pair(0, 0) };
@@ -169,8 +185,8 @@ fn accounts_that_are_not_kept_are_zero(rt: HostRuntime) {
         expect_same(&rt, (took.walls, took.obstacles), (of_walls, of_obstacles));
 
         let mut tile = Tile::full();
-        let walled = Some(Places::anywhere(&odd_walls));
-        let obstructed = Some(Places::anywhere(&odd_obstacles));
+        let walled = lent(&odd_walls);
+        let obstructed = lent(&odd_obstacles);
         let particles = window(&old, &near);
         let took = turn_tile_odd(&particles, walled, obstructed, counted, &mut tile);
         expect_that(&rt, tile.has_same_cells(&old));

@@ -27,7 +27,8 @@ pub fn gas_at(rt: &(impl Abort + AllocGlobal), number: i64) -> Gas {
     let particles = Plane::empty(rt.alloc(), size).expect(rt, "memory");
     let walls = Plane::empty(rt.alloc(), size).expect(rt, "memory");
     let obstacles = Plane::empty(rt.alloc(), size).expect(rt, "memory");
-    Gas::new(tick(rt, number), particles, walls, obstacles, Ports::none())
+    let tick = tick(rt, number);
+    Gas::new(rt.alloc(), tick, particles, walls, obstacles, Ports::none()).expect(rt, "memory")
 }
 
 pub fn area(rt: &impl Abort, gas: &Gas, x: u32, y: u32, w: u32, h: u32) -> Rect

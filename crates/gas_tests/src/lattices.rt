@@ -1,11 +1,13 @@
 //! Lattices for tests, and whether they hold the same cells.
 
-ghost use Rattle.std.specs.Prelude.{◌≡◌};
+ghost use Rattle.std.specs.Prelude.{◌≡◌, IfOk};
 ghost use Rattle.gas_terms.specs.Cells.{HasSidesOf};
 
 use crate::expected::{expect_same, expect_that};
 use gas_plane::Plane;
-use gas_terms::{Rect, Size};
+use gas_terms::{NoMemory, Rect, Size};
+use phase_step::Solids;
+use std::alloc::Global;
 use std::process::Abort;
 
 /// A lattice with these cells.
@@ -43,6 +45,25 @@ pub fn expect_cells(rt: &impl Abort, plane: &Plane, cells: &[(u32, u32, bool)]) 
 /// Whether two planes hold the same cells.
 pub fn are_same(some: &Plane, others: &Plane, width: u32, height: u32) -> bool {
     (0..height).all(|y| (0..width).all(|x| holds(some, x, y) == holds(others, x, y)))
+}
+
+fn solids_of(alloc: Global, walls: &Plane, obstacles: &Plane) -> Result<Solids, NoMemory>
+    ensures { IfOk result (λ s. (s.walls ≡ walls.now) × (s.obstacles ≡ obstacles.now)) }
+{
+    let walls = walls.copy(alloc)?;
+    let obstacles = obstacles.copy(alloc)?;
+    Solids::of(alloc, walls, obstacles)
+}
+
+/// Walls and obstacles that have the cells of these planes.
+pub fn solids(rt: &(impl Abort + AllocGlobal), walls: &Plane, obstacles: &Plane) -> Solids
+    ensures { (result.walls ≡ walls.now) × (result.obstacles ≡ obstacles.now) }
+{
+    match solids_of(rt.alloc(), walls, obstacles) {
+        Ok(solids) => solids,
+        // an allocation that a test refuses is refused once
+        Err(_) => solids_of(rt.alloc(), walls, obstacles).expect(rt, "memory"),
+    }
 }
 
 /// Stops a test if the planes of a phase are not of one size.

@@ -4,11 +4,11 @@ ghost use Rattle.std.specs.Prelude.{◌≡◌, ◌<◌, true};
 ghost use Rattle.gas_terms.specs.Cells.{Extent, extent, lies_within, is_inside};
 
 use crate::expected::expect_that;
-use crate::lattices::{are_same, plane, scattered};
+use crate::lattices::{are_same, plane, scattered, solids};
 use crate::steppers::{step, team};
 use gas_plane::{Plane, Tile};
 use gas_terms::{Pair, Rect, Size, Took};
-use phase_step::{Serial, Solids, WalledSites, are_none, turn_tile_at};
+use phase_step::{Serial, Solid, turn_tile_at};
 use phase_team::NoGate;
 use std::process::Abort;
 use std::thread::Threads;
@@ -49,13 +49,7 @@ fn first_tile(
     expect_that(&rt, walls.size() == size);
     expect_that(&rt, obstacles.size() == size);
     expect_that(&rt, size.tiles() > 0);
-    let solids = Solids::new(walls, obstacles);
-    turn_tile_at(old, solids, 1, old.position(0), out)
-}
-
-// whether a plane of 128 by 128 has these cells and no others
-fn has_just(rt: &(impl Abort + AllocGlobal), some: &Plane, cells: &[(u32, u32)]) -> bool {
-    are_same(some, &plane(rt, 128, 128, cells), 128, 128)
+    turn_tile_at(old, walls, obstacles, 1, old.position(0), out)
 }
 
 #[test]
@@ -74,64 +68,59 @@ fn head_on_pair_across_tiles(rt: HostRuntime) {
 
 // At an odd tick a particle at (63, 63) goes to the right and down. A wall at (64, 64) holds it back.
 #[test]
-fn wall_that_was_cleared_is_none(rt: HostRuntime) {
+fn wall_that_was_cleared_holds_nothing_back(rt: HostRuntime) {
     let old = plane(&rt, 128, 128, &[(63, 63)]);
     let none = plane(&rt, 128, 128, &[]);
     let mut walls = plane(&rt, 128, 128, &[(64, 64)]);
     let mut out = plane(&rt, 128, 128, &[]);
-    expect_that(&rt, !are_none(&walls, &none));
-    expect_that(&rt, !are_none(&none, &walls));
     let took = phase(&rt, &old, &walls, &none, 1, &mut out);
     expect_that(&rt, are_same(&out, &old, 128, 128));
     expect_that(&rt, took.walls == Pair { x: 2, y: 2 });
     walls.clear(Rect::within(walls.size(), 64, 64, 1, 1).expect(&rt, "a cell"));
-    expect_that(&rt, are_none(&walls, &none));
     let took = phase(&rt, &old, &walls, &none, 1, &mut out);
     let want = plane(&rt, 128, 128, &[(64, 64)]);
     expect_that(&rt, are_same(&out, &want, 128, 128));
     expect_that(&rt, took.walls == Pair::ZERO);
 }
 
-// At even ticks the wall at (0, 0) is in the block of (0, 0) to (1, 1), at odd ones across the seam. The other wall shares a
-// block with the obstacle at even ticks, which is the obstacle's.
+// which blocks of a tile are named, by three words of it: for even parity, and for odd parity those that begin in it and end in it
+fn named(solid: &Solid, tile: u32, row: usize) -> (u32, u32, u32) {
+    if tile >= solid.cells().size().tiles() || row >= 32 {
+        return (0, 0, 0);
+    }
+    match solid.in_tile(tile) {
+        Some(set) => {
+            let blocks = set.blocks;
+            (blocks.even[row], blocks.odd.begin[row], blocks.odd.end[row])
+        }
+        None => (0, 0, 0),
+    }
+}
+
+// At even ticks the wall at (0, 0) is in the block of (0, 0) to (1, 1), at odd ones in that of (127, 127), across the seam. The one
+// at (21, 20) is in those of (20, 20) and of (21, 19). Bit i of a word is columns 2i and 2i + 1, or for blocks that begin at odd
+// columns 2i + 1 and 2i + 2.
 #[test]
-fn sites_of_walls_and_obstacles(rt: HostRuntime) {
-    let walls = plane(&rt, 128, 128, &[(0, 0), (21, 20)]);
-    let obstacles = plane(&rt, 128, 128, &[(20, 21)]);
-    let size = walls.size();
-    let mut sites = WalledSites::empty(rt.alloc(), size).expect(&rt, "memory");
-    expect_that(&rt, sites.fits(size));
-    expect_that(&rt, obstacles.size() == size);
-    sites.prepare(&walls, &obstacles);
-    let of_walls = [(0, 0), (1, 0), (0, 1), (1, 1)];
-    let of_obstacles = [(20, 20), (21, 20), (20, 21), (21, 21)];
-    expect_that(
-        &rt,
-        has_just(&rt, sites.even.walls.cells(), of_walls.as_slice()),
-    );
-    expect_that(
-        &rt,
-        has_just(&rt, sites.even.obstacles.cells(), of_obstacles.as_slice()),
-    );
-    let of_walls = [
-        (127, 127),
-        (0, 127),
-        (127, 0),
-        (0, 0),
-        (21, 19),
-        (22, 19),
-        (21, 20),
-        (22, 20),
-    ];
-    let of_obstacles = [(19, 21), (20, 21), (19, 22), (20, 22)];
-    expect_that(
-        &rt,
-        has_just(&rt, sites.odd.walls.cells(), of_walls.as_slice()),
-    );
-    expect_that(
-        &rt,
-        has_just(&rt, sites.odd.obstacles.cells(), of_obstacles.as_slice()),
-    );
+fn words_name_the_blocks_of_walls(rt: HostRuntime) {
+    let cells = plane(&rt, 128, 128, &[(0, 0), (21, 20)]);
+    let none = plane(&rt, 128, 128, &[]);
+    let mut walls = solids(&rt, &cells, &none).walls;
+    expect_that(&rt, named(&walls, 0, 0) == (1, 0, 1));
+    expect_that(&rt, named(&walls, 0, 10) == (1024, 1024, 2048));
+    expect_that(&rt, named(&walls, 0, 11) == (0, 0, 0));
+    expect_that(&rt, named(&walls, 1, 0) == (0, 2147483648, 0));
+    expect_that(&rt, named(&walls, 3, 0) == (0, 0, 0));
+    // without the first they are those of the second, and with it again as before
+    let size = cells.size();
+    let first = Rect::within(size, 0, 0, 1, 1).expect(&rt, "a cell");
+    expect_that(&rt, first.fits(size));
+    walls.clear(first);
+    expect_that(&rt, named(&walls, 0, 0) == (0, 0, 0));
+    expect_that(&rt, named(&walls, 0, 10) == (1024, 1024, 2048));
+    expect_that(&rt, named(&walls, 1, 0) == (0, 0, 0));
+    walls.fill(first);
+    expect_that(&rt, named(&walls, 0, 0) == (1, 0, 1));
+    expect_that(&rt, named(&walls, 1, 0) == (0, 2147483648, 0));
 }
 
 #[test]

@@ -1,7 +1,7 @@
 //! Runs by strips of teams, with values found by hand and by the second implementation, and beside those of one thread.
 
 use crate::expected::expect_that;
-use crate::lattices::{are_same, fit, holds, plane, scattered};
+use crate::lattices::{are_same, fit, holds, plane, scattered, solids};
 use crate::steppers::{add_taken, step, team};
 use gas_plane::Plane;
 use gas_terms::{Moved, Pair, Rect, Size, Sums, Took};
@@ -21,7 +21,7 @@ struct Ground<'a> {
 
 // a run as a laboratory makes it
 fn act_along<S: Stepper, A: Action>(
-    rt: &impl Abort,
+    rt: &(impl Abort + AllocGlobal),
     stepper: &mut S,
     ground: Ground<'_>,
     action: &A,
@@ -30,9 +30,9 @@ fn act_along<S: Stepper, A: Action>(
 ) -> Flow {
     expect_that(&rt, ground.parity < 2);
     fit(rt, particles, ground.walls, ground.obstacles, spare);
+    let solids = solids(rt, ground.walls, ground.obstacles);
     let run = Run {
-        walls: ground.walls,
-        obstacles: ground.obstacles,
+        solids: &solids,
         parity: ground.parity,
         n: ground.n,
         action,

@@ -7,11 +7,10 @@ use Rattle.bit_tile.specs.declared.Tile.{Tile}
 use Rattle.gas_terms.specs.Cells.{Cells, Extent, HasSidesOf, HasEvenSides, IsFull, cells_where, has, joined, extent, is_size, tile_count, tile_rectangle}
 use Rattle.gas_terms.specs.Gas.{streamed, arrived, site_of}
 use Rattle.gas_terms.specs.Velocity.{velocity_at}
-use Rattle.gas_plane.specs.Planes.{IsLattice, IsTileFrom, with_tile, swept}
-use Rattle.gas_plane.proofs.Sweeps.{left_of, top_of, sweep_reads}
+use Rattle.gas_plane.specs.Planes.{IsLattice, with_tile, swept}
 use Rattle.gas_plane.proofs.Places.{IsWholeTiles, wide, high, cell_below}
 use Rattle.block_rule.specs.Windows.{IsTilePlace}
-use Rattle.phase_step.specs.Turns.{IsTileAfter, IsPlaceOf}
+use Rattle.phase_step.specs.Turns.{IsTileAfter}
 
 even_tiles : (n : ℕ) → IsWholeTiles n → n % 2 ≡ 0
 even_tiles n is = omega (arith, is.tiles)
@@ -67,13 +66,6 @@ phase_next p particles walls obstacles start now next i t is same so_far after p
     ∙ (ap (λ (now : Cells). with_tile now i t) so_far
     ∙ law start (phased p particles walls obstacles) i t is
     (subst (λ w. HasCells t (λ x y. phased p particles walls obstacles (i % (w / 64) * 64 + x) (i / (w / 64) * 64 + y))) (sym same.wide) after))
-
--- a tile that was not turned yet is the one of the start
-pub as_at_start : (P : Cells → Type 0) (start now walls obstacles : Cells) (i : ℕ) (t : Tile) → IsLattice start → i < tile_count start → HasSidesOf walls start → HasSidesOf obstacles start → now ≡ swept start (phased 0 start walls obstacles) i
-    → IsTileFrom t now (left_of now i) (top_of now i) → ((old : Cells) → IsPlaceOf old walls obstacles i → IsTileFrom t old (left_of old i) (top_of old i) → P old) → P start
-as_at_start P start now walls obstacles i t is within of_walls of_obstacles so_far from law =
-    law start (place_is start walls obstacles i is.sized within of_walls of_obstacles)
-    (record { cell = sweep_reads start (phased 0 start walls obstacles) i t is within (subst (λ (now : Cells). IsTileFrom t now (left_of now i) (top_of now i)) so_far from) })
 
 -- a set is made of its own cells
 remade : (width height : ℕ) (test : ℕ → ℕ → Bool) → ((width height : ℕ) (test : ℕ → ℕ → Bool) (x y : ℕ) → x < width → y < height → has (cells_where width height test) x y ≡ test x y) → ((width height : ℕ) (test : ℕ → ℕ → Bool) → IsFull (cells_where width height test))

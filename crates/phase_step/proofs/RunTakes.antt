@@ -165,17 +165,6 @@ counted_within k c t is = record {
     kept_y true p h = h
     kept_y false p h = omega arith
 
--- a strip's own tiles one after another
-pub own_more : (p : ℕ) (c w o : Cells) (kept : Counted) (across end i : ℕ) (took here : Took) → across ≤ i → i < end → took ≡ counted_of kept (tiles_take p c w o across (i - across - (i - end))) → here ≡ counted_of kept (taken_in (pos p) c w o (tile_rectangle c i))
-    → took_plus took here ≡ counted_of kept (tiles_take p c w o across (i + 1 - across - (i + 1 - end)))
-own_more p c w o kept across end i took here low high so_far e =
-    let n = i - across - (i - end) in
-    let place : i ≡ across + n = omega arith in
-    let next : suc n ≡ i + 1 - across - (i + 1 - end) = omega arith in
-    ap₂ took_plus so_far (e ∙ ap (λ i. counted_of kept (taken_in (pos p) c w o (tile_rectangle c i))) place)
-    ∙ (counted_plus kept (tiles_take p c w o across n) (taken_in (pos p) c w o (tile_rectangle c (across + n)))
-    ∙ ap (λ m. counted_of kept (tiles_take p c w o across m)) next)
-
 -- a tile that is not one of them
 pub own_other : (first end i : ℕ) → first ≤ end → (i < first) ⊎ (end ≤ i) → i + 1 - first - (i + 1 - end) ≡ i - first - (i - end)
 own_other first end i order (inl before) = omega arith

@@ -1,12 +1,12 @@
 -- What a plane's tiles show of the torus.
-use Rattle.std.proofs.Common.{◌≡◌, [], ℕ, ◌+◌, ◌*◌, ◌/◌, ◌%◌, ◌<◌, ◌≤◌, ◌-◌, ◌∙◌, ap, ap₂, subst, sym, arith}
+use Rattle.std.proofs.Common.{◌≡◌, [], ℕ, ◌+◌, ◌*◌, ◌/◌, ◌%◌, ◌<◌, ◌≤◌, ◌-◌, ◌∙◌, ap, subst, sym, arith}
 use Rattle.std.proofs.lemmas.Nat.{mod-mul-add}
 use Rattle.std.proofs.Math.Nat.{mod-lt}
 use Rattle.bit_tile.specs.Tile.{HasCells}
 use Rattle.bit_tile.specs.declared.Tile.{Tile}
 use Rattle.tile_border.specs.declared.border.Border.{Border}
 use Rattle.gas_terms.specs.Cells.{Cells, HasSidesOf, has, tile_rectangle}
-use Rattle.gas_plane.specs.Planes.{IsTileFrom, IsRingRound, IsBare, IsBareRound, HasNone}
+use Rattle.gas_plane.specs.Planes.{IsTileFrom, IsRingRound, IsBareRound, HasNone}
 use Rattle.block_rule.specs.Around.{around, none}
 use Rattle.tile_border.specs.Ring.{IsBorderOfRound}
 use Rattle.block_rule.specs.Windows.{IsView, IsWindow}
@@ -15,7 +15,7 @@ use Rattle.block_rule.specs.declared.Window.{Window}
 use Rattle.tile_border.specs.declared.Round.{Round}
 use Rattle.tile_border.proofs.Making.{border_of_tiles}
 use Rattle.block_rule.proofs.Borders.{shows_tile, shows_round}
-use Rattle.block_rule.proofs.Torus.{window_is_view, inside_is_view}
+use Rattle.block_rule.proofs.Torus.{window_is_view}
 use Rattle.phase_step.specs.Turns.{IsWindowFrom}
 use Rattle.phase_step.proofs.Rings.{window_is}
 
@@ -30,20 +30,6 @@ inside n x i fits low high =
     let f : x + i + n - 1 ≡ 1 * n + (x + (i - 1)) = omega arith in
     ap (λ m. m % n) f ∙ mod-mul-add 1 n (x + (i - 1)) (omega arith)
 
--- at even parity the tile itself is enough
-pub bare_inside : (i : ℕ) (cells others : Cells) → HasSidesOf cells others → (tile_rectangle others i).x + 64 ≤ others.width → (tile_rectangle others i).y + 64 ≤ others.height
-    → IsBare cells (tile_rectangle cells i).x (tile_rectangle cells i).y → IsView 0 none cells (tile_rectangle others i).x (tile_rectangle others i).y
-bare_inside i cells others of right bottom bare =
-    let x0 : ℕ = i % (others.width / 64) * 64 in
-    let y0 : ℕ = i / (others.width / 64) * 64 in
-    let here : IsBare cells x0 y0 = subst (λ w. IsBare cells (i % (w / 64) * 64) (i / (w / 64) * 64)) of.wide bare in
-    record {
-      cell = λ u v (left, right_of) (up, down).
-          sym
-          (ap₂ (has cells) (inside cells.width x0 u (subst (λ w. x0 + 64 ≤ w) (sym of.wide) right) left right_of) (inside cells.height y0 v (subst (λ h. y0 + 64 ≤ h) (sym of.high) bottom) up down)
-          ∙ here.cell (u - 1) (v - 1) (omega arith) (omega arith));
-    }
-
 pub tile_cells : (i : ℕ) (cells others : Cells) (t : Tile) → cells.width ≡ others.width → IsTileFrom t cells (tile_rectangle cells i).x (tile_rectangle cells i).y → HasCells t (λ x y. has cells ((tile_rectangle others i).x + x) ((tile_rectangle others i).y + y))
 tile_cells i cells others t wide from =
     let here : IsTileFrom t cells (i % (others.width / 64) * 64) (i / (others.width / 64) * 64) = subst (λ w. IsTileFrom t cells (i % (w / 64) * 64) (i / (w / 64) * 64)) wide from in
@@ -55,12 +41,6 @@ tile_window i cells others t b wide high right bottom from round =
     let tile : IsTileFrom t cells (i % (others.width / 64) * 64) (i / (others.width / 64) * 64) = subst (λ w. IsTileFrom t cells (i % (w / 64) * 64) (i / (w / 64) * 64)) wide from in
     let ring : IsRingRound b cells (i % (others.width / 64) * 64) (i / (others.width / 64) * 64) = subst (λ w. IsRingRound b cells (i % (w / 64) * 64) (i / (w / 64) * 64)) wide round in
     window_is t b cells (i % (others.width / 64) * 64) (i / (others.width / 64) * 64) tile ring (subst (λ w. (tile_rectangle others i).x + 64 ≤ w) (sym wide) right) (subst (λ h. (tile_rectangle others i).y + 64 ≤ h) (sym high) bottom)
-
--- what a tile shows to blocks that lie in it
-pub wall_view : (i : ℕ) (cells others : Cells) (t : Tile) (b : Border) → HasSidesOf cells others → (tile_rectangle others i).x + 64 ≤ others.width → (tile_rectangle others i).y + 64 ≤ others.height → IsTileFrom t cells (tile_rectangle cells i).x (tile_rectangle cells i).y
-    → IsView 0 (around t b) cells (tile_rectangle others i).x (tile_rectangle others i).y
-wall_view i cells others t b of right bottom from =
-    inside_is_view t b cells (tile_rectangle others i).x (tile_rectangle others i).y (subst (λ w. (tile_rectangle others i).x + 64 ≤ w) (sym of.wide) right) (subst (λ h. (tile_rectangle others i).y + 64 ≤ h) (sym of.high) bottom) (tile_cells i cells others t of.wide from)
 
 -- at even parity any border will do
 pub any_border : Border
@@ -82,14 +62,6 @@ window_seen w =
     let b = (border_near w.round).0 in
     let r = w.round in
     record { tile = shows_tile w.tile.now b; round = shows_round w.tile.now b r.above.now r.below.now r.left.now r.right.now r.above_left.now r.above_right.now r.below_left.now r.below_right.now (border_near w.round).1 }
-
--- where a set has no cell, nothing need be lent of it
-pub bare_tile : (i : ℕ) (cells others : Cells) → HasSidesOf cells others → (tile_rectangle others i).x + 64 ≤ others.width → (tile_rectangle others i).y + 64 ≤ others.height
-    → HasNone cells → IsBare cells (tile_rectangle cells i).x (tile_rectangle cells i).y
-bare_tile i cells others of right bottom none =
-    let r : i % (cells.width / 64) * 64 + 64 ≤ cells.width = subst (λ w. i % (w / 64) * 64 + 64 ≤ w) (sym of.wide) right in
-    let b : i / (cells.width / 64) * 64 + 64 ≤ cells.height = subst (λ h. i / (cells.width / 64) * 64 + 64 ≤ h) (sym of.high) (subst (λ w. i / (w / 64) * 64 + 64 ≤ others.height) (sym of.wide) bottom) in
-    record { cell = λ x y p q. none.cell _ _ (omega (arith, r)) (omega (arith, b)) }
 
 pub bare_window : (i : ℕ) (cells others : Cells) → HasSidesOf cells others → (tile_rectangle others i).x + 64 ≤ others.width → (tile_rectangle others i).y + 64 ≤ others.height
     → HasNone cells → IsBareRound cells (tile_rectangle cells i).x (tile_rectangle cells i).y

@@ -1,44 +1,11 @@
 //! Long runs: one of the two accounts is counted, and the other is the momentum that is missing in the end.
 
-ghost use Rattle.std.specs.Prelude.{◌≡◌, ◌^◌, ◌<◌, ◌≤◌, not, nat_abs, ◌+ℤ◌, ◌-ℤ◌};
-ghost use Rattle.gas_terms.specs.Cells.{joined, HasSidesOf};
-ghost use Rattle.phase_step.specs.Actions.{after_with, flow_with};
+ghost use Rattle.std.specs.Prelude.{◌≡◌, ◌^◌, ◌≤◌, not, nat_abs, ◌+ℤ◌, ◌-ℤ◌};
 ghost use Rattle.phase_step.specs.Balance.{flow_counted, left_of, missing, AreFew};
 
-use crate::{Action, Counted, Flow, Phases, Solids, act_after, all_of, parity_at, turn_in_place};
+use crate::{Counted, Flow};
 use gas_plane::Plane;
 use gas_terms::{Moved, Pair, Sums, Took};
-
-/// `Stepper::run_with` on the calling thread, except that an account that is not kept has 0.
-pub fn run_counting<A: Action>(
-    particles: &mut Plane,
-    solids: Solids<'_>,
-    run: Phases<'_, A>,
-    counted: Counted,
-    spare: &mut Plane,
-) -> Flow
-    requires parity { run.parity < 2 }
-    requires walls { HasSidesOf solids.walls.now particles.old }
-    requires obstacles { HasSidesOf solids.obstacles.now particles.old }
-    requires spare { HasSidesOf spare.old particles.old }
-    ensures particles { let r = run.entry in let s = solids.entry in particles.new ≡
-        after_with r.parity (joined s.walls.now s.obstacles.now) (A.leaves r.action.now)
-        particles.old r.n }
-    ensures spare { HasSidesOf spare.new particles.old }
-    ensures flow { let r = run.entry in let s = solids.entry in result ≡ flow_counted counted
-        (flow_with r.parity s.walls.now s.obstacles.now (A.leaves r.action.now)
-        particles.old r.n) }
-{
-    let mut flow = Flow::ZERO;
-    for k in 0..run.n {
-        let now = parity_at(run.parity, k);
-        let own = all_of(particles, counted);
-        let took = turn_in_place(particles, solids, now, own, spare);
-        let moved = act_after(particles, run.action, k, 1 - now);
-        flow = flow.plus(Flow { took, moved });
-    }
-    flow
-}
 
 // One component of what is missing of the momentum in the end.
 fn missing_in(before: i64, injected: i64, drained: i64, took: i64, after: i64) -> i64

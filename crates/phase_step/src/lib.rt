@@ -6,46 +6,33 @@
 #![tactic(auto)]
 
 ghost use Rattle.std.specs.Prelude.{◌≡◌, ◌<◌};
-ghost use Rattle.gas_terms.specs.Cells.{joined, tile_count, HasSidesOf};
+ghost use Rattle.gas_terms.specs.Cells.{joined, HasSidesOf};
 ghost use Rattle.gas_terms.specs.Gas.{streamed};
 ghost use Rattle.gas_terms.specs.Accounts.{taken};
-ghost use Rattle.gas_plane.specs.Planes.{IsLattice};
 ghost use Rattle.phase_step.specs.Runs.{parity_at};
-ghost use Rattle.phase_step.specs.Actions.{after_with, flow_with};
+ghost use Rattle.phase_step.specs.WholeRuns.{dynamics, every, CanRun, HasRunWhole};
 
 mod balance;
 mod exchanges;
 pub mod laws;
+mod parts;
 mod steps;
 mod sums;
 
-pub use balance::{completed, one_account, run_counting};
+pub use balance::{completed, one_account};
 pub use block_rule::Counted;
-pub use exchanges::{
-    Action, Exchange, Few, Later, Listed, Still, act_after, act_on, any_area, change_of,
-};
+pub use exchanges::{Action, Exchange, Few, Later, Listed, Still, act_on, any_area, change_of};
 use gas_plane::Plane;
 use gas_terms::Took;
-use std::mem;
+pub use parts::{Part, run_part, run_whole};
 use steps::turn_each;
-pub use steps::{
-    LONG_RUN, Own, Sites, SitesOfParity, Solids, WalledSites, are_none, turn_in_place, turn_tile_at,
-};
+pub use steps::{Lent, Solid, Solids, turn_tile_at};
 pub use sums::{Change, Flow};
 
 /// A run of n phases in which particles meet these walls and obstacles, from the given parity on, with an action after each.
 #[derive(Drop)]
 pub struct Run<'a, A: Action> {
-    pub walls: &'a Plane,
-    pub obstacles: &'a Plane,
-    pub parity: u8,
-    pub n: u16,
-    pub action: &'a A,
-}
-
-/// The phases of a run, without its walls and obstacles.
-#[derive(Drop)]
-pub struct Phases<'a, A: Action> {
+    pub solids: &'a Solids,
     pub parity: u8,
     pub n: u16,
     pub action: &'a A,
@@ -71,29 +58,6 @@ pub trait Stepper: Drop {
         ensures out { out.new ≡ streamed parity old.now (joined walls.now obstacles.now) }
         ensures took { result ≡ taken parity old.now walls.now obstacles.now };
 
-    /// The same phase in place. `spare` may be overwritten.
-    fn phase_in_place(
-        &mut self,
-        particles: &mut Plane,
-        solids: Solids<'_>,
-        parity: u8,
-        spare: &mut Plane,
-    ) -> Took
-        requires parity { parity < 2 }
-        requires walls { HasSidesOf solids.walls.now particles.old }
-        requires obstacles { HasSidesOf solids.obstacles.now particles.old }
-        requires spare { HasSidesOf spare.old particles.old }
-        ensures particles { let s = solids.entry in
-            particles.new ≡ streamed parity particles.old (joined s.walls.now s.obstacles.now) }
-        ensures spare { HasSidesOf spare.new particles.old }
-        ensures took { let s = solids.entry in
-            result ≡ taken parity particles.old s.walls.now s.obstacles.now }
-    {
-        let took = self.phase(particles, solids.walls, solids.obstacles, parity, spare);
-        mem::swap(particles, spare);
-        took
-    }
-
     /// A run of n phases of alternating parities, with the action after each. `particles` become those after the run. Returns
     /// what walls and obstacles took in all of it, and what the action brought in and took out. `spare` is overwritten.
     fn run_with<A: Action>(
@@ -102,56 +66,11 @@ pub trait Stepper: Drop {
         run: Run<'_, A>,
         spare: &mut Plane,
     ) -> Flow
-        requires parity { run.parity < 2 }
-        requires walls { HasSidesOf run.walls.now particles.old }
-        requires obstacles { HasSidesOf run.obstacles.now particles.old }
-        requires spare { HasSidesOf spare.old particles.old }
-        ensures particles { let r = run.entry in particles.new ≡
-            after_with r.parity (joined r.walls.now r.obstacles.now) (A.leaves r.action.now)
-            particles.old r.n }
-        ensures spare { HasSidesOf spare.new particles.old }
-        ensures flow { let r = run.entry in result ≡
-            flow_with r.parity r.walls.now r.obstacles.now (A.leaves r.action.now)
-            particles.old r.n }
-    {
-        let solids = Solids::new(run.walls, run.obstacles);
-        let phases = Phases {
-            parity: run.parity,
-            n: run.n,
-            action: run.action,
-        };
-        self.run_among(particles, solids, phases, spare)
-    }
-
-    /// The same run, among walls and obstacles whose sites may be prepared.
-    fn run_among<A: Action>(
-        &mut self,
-        particles: &mut Plane,
-        solids: Solids<'_>,
-        run: Phases<'_, A>,
-        spare: &mut Plane,
-    ) -> Flow
-        requires parity { run.parity < 2 }
-        requires walls { HasSidesOf solids.walls.now particles.old }
-        requires obstacles { HasSidesOf solids.obstacles.now particles.old }
-        requires spare { HasSidesOf spare.old particles.old }
-        ensures particles { let r = run.entry in let s = solids.entry in particles.new ≡
-            after_with r.parity (joined s.walls.now s.obstacles.now) (A.leaves r.action.now)
-            particles.old r.n }
-        ensures spare { HasSidesOf spare.new particles.old }
-        ensures flow { let r = run.entry in let s = solids.entry in result ≡
-            flow_with r.parity s.walls.now s.obstacles.now (A.leaves r.action.now)
-            particles.old r.n }
-    {
-        let mut flow = Flow::ZERO;
-        for k in 0..run.n {
-            let now = parity_at(run.parity, k);
-            let took = self.phase_in_place(particles, solids, now, spare);
-            let moved = act_after(particles, run.action, k, 1 - now);
-            flow = flow.plus(Flow { took, moved });
-        }
-        flow
-    }
+        requires { let r = run in
+            CanRun (dynamics r.parity r.solids.now (A.leaves r.action.now)) particles.old spare.old }
+        ensures { let r = run.entry in
+            HasRunWhole every (dynamics r.parity r.solids.now (A.leaves r.action.now)) r.n
+            particles.old particles.new spare.new result };
 }
 
 /// The parity of phase k of a run whose first phase has the given one.
@@ -176,31 +95,15 @@ impl Stepper for Serial {
         parity: u8,
         out: &mut Plane,
     ) -> Took {
-        let solids = Solids::new(walls, obstacles);
-        turn_each(old, solids, parity, all_of(old, Counted::BOTH), out)
+        turn_each(old, walls, obstacles, parity, out)
     }
 
-    fn phase_in_place(
+    fn run_with<A: Action>(
         &mut self,
         particles: &mut Plane,
-        solids: Solids<'_>,
-        parity: u8,
+        run: Run<'_, A>,
         spare: &mut Plane,
-    ) -> Took {
-        let own = all_of(particles, Counted::BOTH);
-        turn_in_place(particles, solids, parity, own, spare)
-    }
-}
-
-// all tiles of a plane
-fn all_of(plane: &Plane, counted: Counted) -> Own
-    ensures own { (result.first ≡ 0) × (result.end ≡ tile_count plane.now) }
-    ensures counted { result.counted ≡ counted }
-    ensures lattice { IsLattice plane.now }
-{
-    Own {
-        first: 0,
-        end: plane.size().tiles(),
-        counted,
+    ) -> Flow {
+        run_whole(particles, run, Counted::BOTH, spare)
     }
 }

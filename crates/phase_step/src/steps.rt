@@ -1,11 +1,13 @@
-//! Steps on one thread: what the particles meet, and the phase of a tile and of a plane.
+//! Steps on one thread: what the particles meet, and a phase over planes.
 
-mod sites;
+mod ground;
+mod solid;
 mod solids;
 mod sweep;
 mod tiles;
 
-pub use sites::{LONG_RUN, Sites, SitesOfParity, WalledSites};
-pub use solids::{Solids, are_none};
-pub use sweep::{Own, turn_each, turn_in_place};
+pub use ground::Ground;
+pub use solid::Solid;
+pub use solids::{Lent, Solids};
+pub use sweep::turn_each;
 pub use tiles::turn_tile_at;

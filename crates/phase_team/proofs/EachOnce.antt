@@ -16,7 +16,7 @@ use Rattle.phase_step.proofs.TakenSums.{pair_same, took_same}
 use Rattle.claim_desk.specs.Draws.{times, once_below}
 use Rattle.claim_desk.proofs.Laws.{times-append}
 use Rattle.phase_team.specs.Work.{flows_of}
-use Rattle.phase_team.proofs.ActionBounds.{AreWithin, IsMovedWithin, moved_within_plus, within_none, moved_fits}
+use Rattle.phase_step.proofs.ActionBounds.{AreWithin, IsMovedWithin, moved_within_plus, within_none, moved_fits}
 use Rattle.phase_team.proofs.NumberSums.{times-cons, one_below, none_past, upto}
 
 -- flows add up in any order

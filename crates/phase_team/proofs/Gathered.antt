@@ -25,12 +25,12 @@ use Rattle.phase_step.proofs.Balances.{flows_counted}
 use Rattle.phase_step.proofs.RunTakes.{counted_none, counted_within}
 use Rattle.phase_team.specs.Work.{result_of, flow_of, tiles_give, RowsArePut, IsDone}
 use Rattle.phase_team.proofs.EachOnce.{IsFlowWithin, flow_less}
-use Rattle.phase_team.specs.ActionStrips.{tiles_flow}
+use Rattle.phase_step.specs.TileRuns.{tiles_flow}
 use Rattle.phase_team.specs.declared.runs.course.Course.{Course}
 use Rattle.phase_team.specs.declared.runs.strip.Strip.{Strip}
-use Rattle.phase_team.proofs.Windows.{row_turns}
-use Rattle.phase_team.proofs.ActionSums.{takes_split_with, moves_split_with, takes_within_with, takes_all_with, moves_all_with}
-use Rattle.phase_team.proofs.ActionBounds.{moves_within_with}
+use Rattle.phase_step.proofs.RowPlaces.{row_turns}
+use Rattle.phase_step.proofs.ActionSums.{takes_split_with, moves_split_with, takes_within_with, takes_all_with, moves_all_with}
+use Rattle.phase_step.proofs.ActionBounds.{moves_within_with}
 
 -- The strip's tile of row of tiles 1 + r is that of row `first` + r after the course, wherever that is put.
 tile_right : (course : Course) (s : Strip) (start : Cells) (i : ℕ) (t : Tile) → IsLattice start → HasSidesOf start course.cells.now → IsDone course s
@@ -62,8 +62,8 @@ tile_right course s start i t is same done within from x y xl yl =
     ap (λ h. (shift_of c first + ((1 + r) * 64 + j)) % h) (sym down.tiles) ∙ (row_turns (first + d - 1) (1 + r) d j down.some jl ∙ ap (λ n. n * 64 + j) turn) in
     from.cell x y xl yl
     ∙ (ap₂ (λ m n. has s.cells (m * 64 + x) (n * 64 + y)) (ap (λ w. (a + i) % (w / 64)) done.of_course.wide ∙ x_here) (ap (λ w. (a + i) / (w / 64)) done.of_course.wide ∙ y_here)
-    ∙ (done.own.row (column * 64 + x) ((1 + r) * 64 + y) (subst (λ w. column * 64 + x < w) (sym (sides_with course.parity (joined course.walls.now course.obstacles.now) (listed course.turns.now) c course.phases).wide) (cell_below c.width column x across column_less xl)) (omega arith) (omega arith)
-    ∙ (ap (λ h. has (result_of course) (column * 64 + x) ((shift_of c first + ((1 + r) * 64 + y)) % h)) (sides_with course.parity (joined course.walls.now course.obstacles.now) (listed course.turns.now) c course.phases).high
+    ∙ (done.own.row (column * 64 + x) ((1 + r) * 64 + y) (subst (λ w. column * 64 + x < w) (sym (sides_with course.parity (joined course.solids.now.walls course.solids.now.obstacles) (listed course.turns.now) c course.phases).wide) (cell_below c.width column x across column_less xl)) (omega arith) (omega arith)
+    ∙ (ap (λ h. has (result_of course) (column * 64 + x) ((shift_of c first + ((1 + r) * 64 + y)) % h)) (sides_with course.parity (joined course.solids.now.walls course.solids.now.obstacles) (listed course.turns.now) c course.phases).high
     ∙ (ap (has (result_of course) (column * 64 + x)) (place y yl)
     ∙ sym (ap₂ (λ m n. has (result_of course) (m * 64 + x) (n * 64 + y)) (ap (λ w. (first * a + i) % (w / 64)) same.wide ∙ x_there) (ap (λ w. (first * a + i) / (w / 64)) same.wide ∙ y_there))))))
 
@@ -118,8 +118,8 @@ pub all_put : (course : Course) (now : Cells) → IsLattice now → IsFull cours
     → ((x y : ℕ) → x < course.cells.now.width → y < course.cells.now.height → has now x y ≡ has (result_of course) x y) → now ≡ result_of course
 all_put course now is full same each =
     let target = result_of course in
-    let sides = sides_with course.parity (joined course.walls.now course.obstacles.now) (listed course.turns.now) course.cells.now course.phases in
-    same_cells now target is.full (full_with course.parity (joined course.walls.now course.obstacles.now) (listed course.turns.now) course.cells.now course.phases full)
+    let sides = sides_with course.parity (joined course.solids.now.walls course.solids.now.obstacles) (listed course.turns.now) course.cells.now course.phases in
+    same_cells now target is.full (full_with course.parity (joined course.solids.now.walls course.solids.now.obstacles) (listed course.turns.now) course.cells.now course.phases full)
     (same.wide ∙ sym sides.wide) (same.high ∙ sym sides.high)
     (λ x y xl yl. each x y (subst (λ w. x < w) same.wide xl) (subst (λ h. y < h) same.high yl))
 
@@ -133,15 +133,15 @@ none_flows p w o leaves c first (suc k) =
 pub none_give : (course : Course) (a : ℕ) → no_flow ≡ tiles_give course 0 (0 * a)
 none_give course a =
     same_flow no_flow (flow_counted course.counted no_flow) (counted_none course.counted) refl
-    ∙ (ap (flow_counted course.counted) (none_flows course.parity course.walls.now course.obstacles.now (listed course.turns.now) course.cells.now 0 course.phases) ∙ ap (tiles_give course 0) (let e : 0 ≡ 0 * a = omega arith in e))
+    ∙ (ap (flow_counted course.counted) (none_flows course.parity course.solids.now.walls course.solids.now.obstacles (listed course.turns.now) course.cells.now 0 course.phases) ∙ ap (tiles_give course 0) (let e : 0 ≡ 0 * a = omega arith in e))
 
 -- one strip more
 pub flows_split : (course : Course) (a b : ℕ) → tiles_give course 0 (a + b) ≡ flow_plus (tiles_give course 0 a) (tiles_give course (0 + a) b)
 flows_split course a b =
-    let some = tiles_flow course.parity course.walls.now course.obstacles.now (listed course.turns.now) course.cells.now in
+    let some = tiles_flow course.parity course.solids.now.walls course.solids.now.obstacles (listed course.turns.now) course.cells.now in
     ap (flow_counted course.counted)
-    (same_flow (some 0 (a + b) course.phases) (flow_plus (some 0 a course.phases) (some (0 + a) b course.phases)) (takes_split_with course.parity course.walls.now course.obstacles.now (listed course.turns.now) course.cells.now 0 a b course.phases)
-    (moves_split_with course.parity (joined course.walls.now course.obstacles.now) (listed course.turns.now) course.cells.now 0 a b course.phases))
+    (same_flow (some 0 (a + b) course.phases) (flow_plus (some 0 a course.phases) (some (0 + a) b course.phases)) (takes_split_with course.parity course.solids.now.walls course.solids.now.obstacles (listed course.turns.now) course.cells.now 0 a b course.phases)
+    (moves_split_with course.parity (joined course.solids.now.walls course.solids.now.obstacles) (listed course.turns.now) course.cells.now 0 a b course.phases))
     ∙ sym (flows_counted course.counted (some 0 a course.phases) (some (0 + a) b course.phases))
 
 few_cells : (rows a k : ℕ) → rows ≤ 128 → a ≤ 64 → k ≤ 64 → 16384 * (rows * a) * k ≤ 2 ^ 33
@@ -157,8 +157,8 @@ pub rows_within : (course : Course) (first rows : ℕ) → rows ≤ 128 → is_s
 rows_within course first rows few sized =
     let a = course.cells.now.width / 64 in
     let p = course.parity in
-    let w = course.walls.now in
-    let o = course.obstacles.now in
+    let w = course.solids.now.walls in
+    let o = course.solids.now.obstacles in
     let c = course.cells.now in
     let k = course.phases in
     let leaves = listed course.turns.now in
@@ -171,8 +171,8 @@ all_flow course n flow sized e so_far =
     so_far
     ∙ (ap (tiles_give course 0) e
     ∙ ap (flow_counted course.counted)
-    (same_flow (tiles_flow course.parity course.walls.now course.obstacles.now (listed course.turns.now) course.cells.now 0 (tile_count course.cells.now) course.phases) _ (takes_all_with course.parity course.walls.now course.obstacles.now (listed course.turns.now) course.cells.now course.phases sized)
-    (moves_all_with course.parity (joined course.walls.now course.obstacles.now) (listed course.turns.now) course.cells.now course.phases sized)))
+    (same_flow (tiles_flow course.parity course.solids.now.walls course.solids.now.obstacles (listed course.turns.now) course.cells.now 0 (tile_count course.cells.now) course.phases) _ (takes_all_with course.parity course.solids.now.walls course.solids.now.obstacles (listed course.turns.now) course.cells.now course.phases sized)
+    (moves_all_with course.parity (joined course.solids.now.walls course.solids.now.obstacles) (listed course.turns.now) course.cells.now course.phases sized)))
 
 pub unload_within : (first rows a d i : ℕ) → first + rows ≤ d → i < rows * a → first * a + i < a * d
 unload_within first rows a d i inside within =

@@ -1,7 +1,7 @@
 -- A strip's planes are filled with a window of the lattice.
-use Rattle.std.proofs.Common.{◌≡◌, ℕ, ◌+◌, ◌-◌, ◌*◌, ◌/◌, ◌%◌, ◌<◌, Bool, true, sym, ap, ap₂, ◌∙◌, subst, arith}
+use Rattle.std.proofs.Common.{◌≡◌, ℕ, ◌+◌, ◌-◌, ◌*◌, ◌/◌, ◌%◌, ◌<◌, Bool, true, sym, ap, ap₂, ◌∙◌, subst}
 use Rattle.std.proofs.Math.Nat.{mod-lt}
-use Rattle.std.proofs.lemmas.Nat.{mul-add-lt, mod-mul-add, div-mul-add, div-add-mod'}
+use Rattle.std.proofs.lemmas.Nat.{mod-mul-add, div-mul-add}
 use Rattle.bit_tile.specs.Tile as tile
 use Rattle.bit_tile.specs.Tile.{HasCells}
 use Rattle.bit_tile.specs.declared.Tile.{Tile}
@@ -9,17 +9,8 @@ use Rattle.gas_terms.specs.Cells.{Cells, has, extent, is_size, tile_count, tile_
 use Rattle.gas_plane.specs.Planes.{IsLattice, IsTileFrom, with_tile}
 use Rattle.gas_plane.proofs.Places.{wide, high}
 use Rattle.gas_plane.proofs.Sweeps.{swept, left_of, top_of, sweep_tile, sweep_past, sweep_reads}
+use Rattle.phase_step.proofs.RowPlaces.{row_turns}
 use Rattle.phase_team.specs.Strips.{shift_of}
-
--- a row of the torus by its row of tiles
-pub row_turns : (a k d y : ℕ) → 0 < d → y < 64 → (a * 64 + (k * 64 + y)) % (d * 64) ≡ (a + k) % d * 64 + y
-row_turns a k d y some p =
-    let q = (a + k) / d in
-    let r = (a + k) % d in
-    let whole : q * d + r ≡ a + k = div-add-mod' (a + k) d in
-    let less : r < d = mod-lt (a + k) some in
-    let e : a * 64 + (k * 64 + y) ≡ q * (d * 64) + (r * 64 + y) = let f : q * (d * 64) ≡ 64 * (q * d) = omega arith in omega arith in
-    ap (λ n. n % (d * 64)) e ∙ mod-mul-add q (d * 64) (r * 64 + y) (omega arith)
 
 -- the test that a cell of the window passes
 abbrev pub seen : Cells → ℕ → ℕ → ℕ → Bool

@@ -4,4 +4,3 @@ pub mod Teamwork
 pub mod Strips
 pub mod Worth
 pub mod Work
-pub mod ActionStrips

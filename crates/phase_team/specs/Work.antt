@@ -1,16 +1,16 @@
 -- What the workers have to do, and have done.
 use Rattle.std.specs.Prelude.{◌≡◌, ℕ, ◌+◌, ◌*◌, ◌/◌, ◌<◌, ◌≤◌, Bool, true, false, nat_lt, min, if◌then◌else◌, List, [], ◌∷◌, All, map, length}
-use Rattle.gas_terms.specs.Cells.{Cells, Extent, extent, has, joined, HasSidesOf}
+use Rattle.gas_terms.specs.Cells.{Cells, Extent, extent, has, HasSidesOf}
 use Rattle.claim_desk.specs.Desk.{fresh}
 use Rattle.claim_desk.specs.Draws.{times}
 use Rattle.gas_plane.specs.Planes.{IsLattice}
-use Rattle.phase_step.specs.Actions.{Leaves, after_with, flow_with, no_flow, flow_plus}
+use Rattle.phase_step.specs.Actions.{Leaves, no_flow, flow_plus}
+use Rattle.phase_step.specs.TileRuns.{tiles_flow}
+use Rattle.phase_step.specs.WholeRuns.{Dynamics, dynamics, after_all, flow_all}
 use Rattle.phase_step.specs.Balance.{flow_counted}
 use Rattle.phase_step.specs.Exchanges.{Areas, listed}
-use Rattle.phase_step.specs.WalledSites.{AllHaveSidesOf}
 use Rattle.phase_step.specs.declared.sums.flow.Flow.{Flow}
 use Rattle.phase_team.specs.Strips.{IsStrip, shift_of}
-use Rattle.phase_team.specs.ActionStrips.{tiles_flow}
 use Rattle.phase_team.specs.declared.runs.course.Course.{Course}
 use Rattle.phase_team.specs.declared.runs.course.Parts.{Parts}
 use Rattle.phase_team.specs.declared.runs.course.Stretch.{Stretch}
@@ -22,28 +22,27 @@ use Rattle.phase_team.specs.declared.runs.hand.Room.{Room}
 abbrev pub Lists : List Areas → (ℕ → Leaves) → ℕ → Type 0
 Lists turns leaves n = (k : ℕ) → k < n → (x y : ℕ) (held : Bool) → listed turns k x y held ≡ leaves k x y held
 
+-- how the particles of a course go on
+abbrev pub dynamics_of : Course → Dynamics
+dynamics_of course = dynamics course.parity course.solids.now (listed course.turns.now)
+
 -- the particles after a course, and what it comes to in the accounts that are kept
 abbrev pub result_of : Course → Cells
-result_of course =
-    after_with course.parity (joined course.walls.now course.obstacles.now) (listed course.turns.now) course.cells.now course.phases
+result_of course = after_all (dynamics_of course) course.cells.now course.phases
 
 abbrev pub flow_of : Course → Flow
-flow_of course =
-    flow_counted course.counted (flow_with course.parity course.walls.now course.obstacles.now (listed course.turns.now) course.cells.now course.phases)
+flow_of course = flow_counted course.counted (flow_all (dynamics_of course) course.cells.now course.phases)
 
 -- what it comes to in n tiles from tile `first` on
 abbrev pub tiles_give : Course → ℕ → ℕ → Flow
 tiles_give course first n =
-    flow_counted course.counted (tiles_flow course.parity course.walls.now course.obstacles.now (listed course.turns.now) course.cells.now first n course.phases)
+    let d = dynamics_of course in flow_counted course.counted (tiles_flow d.parity d.walls d.obstacles d.leaves course.cells.now first n course.phases)
 
 -- the strip has its own rows in a lattice of this size, and one row of tiles more above and below
 pub record IsOf (size : Extent) (s : Strip) : Type 0 where
   pub wide : s.cells.width ≡ size.width
   pub high : s.cells.height ≡ (s.rows + 2) * 64
   pub spare : HasSidesOf s.spare s.cells
-  pub walls : HasSidesOf s.walls s.cells
-  pub obstacles : HasSidesOf s.obstacles s.cells
-  pub sites : AllHaveSidesOf s.sites s.cells
   pub inside : s.first + s.rows ≤ size.height / 64
   pub some : 0 < s.rows
 

@@ -8,7 +8,6 @@
 //! `Team::with_least_run` with its `LeastRun`, are there for callers of the library.
 #![tactic(auto)]
 
-pub mod laws;
 mod phase;
 mod runs;
 mod team;

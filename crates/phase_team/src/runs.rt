@@ -2,10 +2,9 @@
 
 ghost use Rattle.std.specs.Prelude.{◌≡◌, ◌+◌, ◌*◌, ◌/◌, ◌<◌, ◌≤◌, [], All, IfSome, map, length, vec_len};
 ghost use Rattle.std.specs.Vec.{vec_capacity};
-ghost use Rattle.gas_terms.specs.Cells.{Cells, extent, joined, HasSidesOf};
+ghost use Rattle.gas_terms.specs.Cells.{Cells, extent, HasSidesOf};
 ghost use Rattle.gas_plane.specs.Planes.{IsLattice};
-ghost use Rattle.phase_step.specs.Actions.{after_with, flow_with};
-ghost use Rattle.phase_step.specs.Balance.{flow_counted};
+ghost use Rattle.phase_step.specs.WholeRuns.{dynamics, CanRun, HasRunWhole};
 ghost use Rattle.phase_team.specs.Limits.{most_workers, most_phases, most_rows};
 ghost use Rattle.phase_team.specs.Work.{result_of, flow_of, Lists, IsRoomFor, IsDone, IsPart, HasMade};
 ghost use Rattle.phase_team.specs.Work.{IsOut, StaysPut, RowsArePut, StripsArePut, strips_give, HasPut};
@@ -21,9 +20,7 @@ use course::{Course, Parts, Stretch};
 use gas_plane::Plane;
 use gas_terms::Size;
 use hand::{Hand, Room, make_all, room_of, seated};
-use phase_step::{
-    Action, Counted, Exchange, Flow, Later, Phases, Run, Solids, parity_at, run_counting,
-};
+use phase_step::{Action, Counted, Exchange, Flow, Later, Run, parity_at, run_whole};
 use std::alloc::Global;
 use std::mem;
 use std::thread::Threads;
@@ -256,34 +253,6 @@ fn list<A: Action>(action: &A, n: u16, turns: &mut Vec<Exchange>) -> Option<()>
     Some(())
 }
 
-/// A run on the calling thread without prepared sites. An account that is not kept has 0.
-pub fn run_unprepared<A: Action>(
-    particles: &mut Plane,
-    run: Run<'_, A>,
-    counted: Counted,
-    spare: &mut Plane,
-) -> Flow
-    requires parity { run.parity < 2 }
-    requires walls { HasSidesOf run.walls.now particles.old }
-    requires obstacles { HasSidesOf run.obstacles.now particles.old }
-    requires spare { HasSidesOf spare.old particles.old }
-    ensures particles { let r = run.entry in particles.new ≡
-        after_with r.parity (joined r.walls.now r.obstacles.now) (A.leaves r.action.now)
-        particles.old r.n }
-    ensures spare { HasSidesOf spare.new particles.old }
-    ensures flow { let r = run.entry in result ≡ flow_counted counted
-        (flow_with r.parity r.walls.now r.obstacles.now (A.leaves r.action.now)
-        particles.old r.n) }
-{
-    let solids = Solids::new(run.walls, run.obstacles);
-    let phases = Phases {
-        parity: run.parity,
-        n: run.n,
-        action: run.action,
-    };
-    run_counting(particles, solids, phases, counted, spare)
-}
-
 // Up to 64 phases by the strips. The calling thread makes them if memory runs out or some strip was not made.
 fn stretch<R: Threads, A: Action>(
     rt: &R,
@@ -294,29 +263,22 @@ fn stretch<R: Threads, A: Action>(
     spare: &mut Plane,
 ) -> Flow
     requires size { strips.old.size ≡ extent particles.old }
-    requires parity { run.parity < 2 }
     requires few { run.n ≤ most_phases }
-    requires walls { HasSidesOf run.walls.now particles.old }
-    requires obstacles { HasSidesOf run.obstacles.now particles.old }
-    requires spare { HasSidesOf spare.old particles.old }
+    requires can { let r = run in
+        CanRun (dynamics r.parity r.solids.now (A.leaves r.action.now)) particles.old spare.old }
     ensures size { strips.new.size ≡ strips.old.size }
-    ensures particles { let r = run.entry in particles.new ≡
-        after_with r.parity (joined r.walls.now r.obstacles.now) (A.leaves r.action.now)
-        particles.old r.n }
-    ensures spare { HasSidesOf spare.new particles.old }
-    ensures flow { let r = run.entry in result ≡ flow_counted counted
-        (flow_with r.parity r.walls.now r.obstacles.now (A.leaves r.action.now)
-        particles.old r.n) }
+    ensures run { let r = run.entry in
+        HasRunWhole counted (dynamics r.parity r.solids.now (A.leaves r.action.now)) r.n
+        particles.old particles.new spare.new result }
 {
     // both are lattices
     let _ = (particles.size(), spare.size());
     if list(run.action, run.n, &mut strips.turns).is_none() {
-        return run_unprepared(particles, run, counted, spare);
+        return run_whole(particles, run, counted, spare);
     }
     let course = Course {
         cells: &*particles,
-        walls: run.walls,
-        obstacles: run.obstacles,
+        solids: run.solids,
         turns: strips.turns.as_slice(),
         parity: run.parity,
         phases: run.n,
@@ -334,7 +296,7 @@ fn stretch<R: Threads, A: Action>(
             mem::swap(particles, spare);
             flow
         }
-        None => run_unprepared(particles, run, counted, spare),
+        None => run_whole(particles, run, counted, spare),
     }
 }
 
@@ -350,17 +312,11 @@ pub fn run_by<R: Threads, A: Action>(
 ) -> Flow
     requires size { strips.old.size ≡ extent particles.old }
     requires lattice { IsLattice particles.old }
-    requires parity { run.parity < 2 }
-    requires walls { HasSidesOf run.walls.now particles.old }
-    requires obstacles { HasSidesOf run.obstacles.now particles.old }
-    requires spare { HasSidesOf spare.old particles.old }
-    ensures particles { let r = run.entry in particles.new ≡
-        after_with r.parity (joined r.walls.now r.obstacles.now) (A.leaves r.action.now)
-        particles.old r.n }
-    ensures spare { HasSidesOf spare.new particles.old }
-    ensures flow { let r = run.entry in result ≡ flow_counted counted
-        (flow_with r.parity r.walls.now r.obstacles.now (A.leaves r.action.now)
-        particles.old r.n) }
+    requires can { let r = run in
+        CanRun (dynamics r.parity r.solids.now (A.leaves r.action.now)) particles.old spare.old }
+    ensures { let r = run.entry in
+        HasRunWhole counted (dynamics r.parity r.solids.now (A.leaves r.action.now)) r.n
+        particles.old particles.new spare.new result }
 {
     let mut flow = Flow::ZERO;
     let mut done = 0;
@@ -371,8 +327,7 @@ pub fn run_by<R: Threads, A: Action>(
             by: done,
         };
         let part = Run {
-            walls: run.walls,
-            obstacles: run.obstacles,
+            solids: run.solids,
             parity: parity_at(run.parity, done),
             n: next,
             action: &later,

@@ -4,23 +4,23 @@ ghost use Rattle.std.specs.Prelude.{◌≡◌, ◌<◌, ◌≤◌, IfSome, IfNon
 ghost use Rattle.gas_terms.specs.Cells.{joined, HasSidesOf};
 ghost use Rattle.gas_terms.specs.Gas.{streamed};
 ghost use Rattle.gas_terms.specs.Accounts.{taken};
-ghost use Rattle.phase_step.specs.Actions.{after_with, flow_with};
-ghost use Rattle.phase_step.specs.Balance.{flow_counted};
-ghost use Rattle.phase_step.specs.WalledSites.{HaveExtent};
+ghost use Rattle.phase_step.specs.WholeRuns.{dynamics, CanRun, HasRunWhole};
 ghost use Rattle.phase_team.specs.Limits.{most_workers};
 ghost use Rattle.phase_team.specs.Teamwork.{IsRoom, cells_after, taken_in_all};
 
 use crate::phase::{Crew, Gate, NoGate, Shift, Task, Turned, crew_of, hand_in, work_together};
-use crate::runs::{LeastRun, Strips, USUAL, is_worth_strips, run_by, run_unprepared, strips_for};
+use crate::runs::{LeastRun, Strips, USUAL, is_worth_strips, run_by, strips_for};
 use gas_plane::Plane;
-use gas_terms::{Size, Took};
+use gas_terms::Took;
 use phase_step::{
-    Action, Counted, Flow, LONG_RUN, Phases, Run, Serial, Solids, Stepper, WalledSites, are_none,
-    completed, one_account, parity_at, run_counting,
+    Action, Counted, Flow, Run, Serial, Stepper, completed, one_account, parity_at, run_whole,
 };
 use std::alloc::Global;
 use std::marker::Model;
 use std::thread::Threads;
+
+/// From so many phases on, two sums of the particles cost less than a second account.
+const LONG_RUN: u16 = 16;
 
 /// How many workers a team has at most.
 pub const MOST_WORKERS: u32 = 16;
@@ -37,7 +37,6 @@ pub struct Team<R: Threads + Drop, G: Gate + Drop> {
     gate: G,
     rooms: Vec<Vec<Turned>>,
     strips: Option<Strips>,
-    sites: Option<WalledSites>,
     least: LeastRun,
 }
 
@@ -74,7 +73,6 @@ impl<R: Threads + Drop, G: Gate + Drop> Team<R, G> {
             gate,
             rooms: Vec::new(alloc),
             strips: None,
-            sites: None,
             least,
         }
     }
@@ -103,7 +101,6 @@ impl<R: Threads + Drop, G: Gate + Drop> Team<R, G> {
             old,
             walls,
             obstacles,
-            none: are_none(walls, obstacles),
             parity,
         };
         match self.turn_together(workers, task, out) {
@@ -169,10 +166,11 @@ impl<R: Threads + Drop> Stepper for Team<R, NoGate> {
         run: Run<'_, A>,
         spare: &mut Plane,
     ) -> Flow {
-        if run.n < LONG_RUN || are_none(run.walls, run.obstacles) {
+        let walls = run.solids.walls.cells();
+        if run.n < LONG_RUN || walls.is_empty() && run.solids.obstacles.cells().is_empty() {
             return self.run_by_worth(particles, run, Counted::BOTH, spare);
         }
-        let counted = one_account(run.walls);
+        let counted = one_account(walls);
         let end = parity_at(run.parity, run.n);
         let before = particles.total(run.parity);
         let flow = self.run_by_worth(particles, run, counted, spare);
@@ -190,86 +188,27 @@ impl<R: Threads + Drop> Team<R, NoGate> {
         counted: Counted,
         spare: &mut Plane,
     ) -> Flow
-        requires parity { run.parity < 2 }
-        requires walls { HasSidesOf run.walls.now particles.old }
-        requires obstacles { HasSidesOf run.obstacles.now particles.old }
-        requires spare { HasSidesOf spare.old particles.old }
-        ensures particles { let r = run.entry in particles.new ≡
-            after_with r.parity (joined r.walls.now r.obstacles.now) (A.leaves r.action.now)
-            particles.old r.n }
-        ensures spare { HasSidesOf spare.new particles.old }
-        ensures flow { let r = run.entry in result ≡ flow_counted counted
-            (flow_with r.parity r.walls.now r.obstacles.now (A.leaves r.action.now)
-            particles.old r.n) }
+        requires { let r = run in
+            CanRun (dynamics r.parity r.solids.now (A.leaves r.action.now)) particles.old spare.old }
+        ensures { let r = run.entry in
+            HasRunWhole counted (dynamics r.parity r.solids.now (A.leaves r.action.now)) r.n
+            particles.old particles.new spare.new result }
     {
         let size = particles.size();
         let (alloc, workers) = (self.alloc, self.workers);
         let Team {
             rt,
             strips: kept,
-            sites,
             ..
         } = self;
         if !is_worth_strips(self.least, size, workers, run.n) {
-            return run_alone(sites, alloc, particles, run, counted, spare);
+            return run_whole(particles, run, counted, spare);
         }
         let Some(mut strips) = strips_for(kept, alloc, size, workers) else {
-            return run_alone(sites, alloc, particles, run, counted, spare);
+            return run_whole(particles, run, counted, spare);
         };
         let flow = run_by(rt, &mut strips, particles, run, counted, spare);
         *kept = Some(strips);
         flow
     }
-}
-
-// A run on the calling thread. A long one prepares the cells at walled sites first, if there is memory for them. An account that
-// is not kept has 0.
-fn run_alone<A: Action>(
-    kept: &mut Option<WalledSites>,
-    alloc: Global,
-    particles: &mut Plane,
-    run: Run<'_, A>,
-    counted: Counted,
-    spare: &mut Plane,
-) -> Flow
-    requires parity { run.parity < 2 }
-    requires walls { HasSidesOf run.walls.now particles.old }
-    requires obstacles { HasSidesOf run.obstacles.now particles.old }
-    requires spare { HasSidesOf spare.old particles.old }
-    ensures particles { let r = run.entry in particles.new ≡
-        after_with r.parity (joined r.walls.now r.obstacles.now) (A.leaves r.action.now)
-        particles.old r.n }
-    ensures spare { HasSidesOf spare.new particles.old }
-    ensures flow { let r = run.entry in result ≡ flow_counted counted
-        (flow_with r.parity r.walls.now r.obstacles.now (A.leaves r.action.now)
-        particles.old r.n) }
-{
-    if run.n < LONG_RUN || are_none(run.walls, run.obstacles) {
-        return run_unprepared(particles, run, counted, spare);
-    }
-    let Some(mut sites) = sites_for(kept, alloc, particles.size()) else {
-        return run_unprepared(particles, run, counted, spare);
-    };
-    sites.prepare(run.walls, run.obstacles);
-    let solids = Solids::prepared(run.walls, run.obstacles, &sites);
-    let phases = Phases {
-        parity: run.parity,
-        n: run.n,
-        action: run.action,
-    };
-    let flow = run_counting(particles, solids, phases, counted, spare);
-    *kept = Some(sites);
-    flow
-}
-
-// those of the last run if they are for lattices of this size, or else new ones
-fn sites_for(kept: &mut Option<WalledSites>, alloc: Global, size: Size) -> Option<WalledSites>
-    ensures { IfSome result (λ sites. HaveExtent sites size) }
-{
-    if let Some(sites) = kept.take() {
-        if sites.fits(size) {
-            return Some(sites);
-        }
-    }
-    WalledSites::empty(alloc, size).ok()
 }

@@ -34,22 +34,6 @@ pub trait Action: Drop {
     }
 }
 
-/// What an action does to every cell after phase k, at a tick of this parity. Returns what came in and what went out.
-pub fn act_after<A: Action>(plane: &mut Plane, action: &A, k: u16, parity: u8) -> Moved
-    requires { parity < 2 }
-    ensures lattice { IsLattice plane.old }
-    ensures cells { plane.new ≡ acted (A.leaves action.now k) plane.old }
-    ensures moved { (tick : ℤ) → of_tick tick ≡ parity →
-        result ≡ moved_by tick plane.old plane.new }
-{
-    // an exchange made for nothing would cost as much as a step of some tiles
-    if !action.acts() {
-        let _ = plane.size();
-        return Change::ZERO.moved(parity);
-    }
-    act_on(plane, &action.after_phase(k), parity)
-}
-
 /// Acts on every cell, at a tick of this parity. Returns what came in and what went out.
 pub fn act_on(plane: &mut Plane, exchange: &Exchange, parity: u8) -> Moved
     requires { parity < 2 }

@@ -1,59 +1,101 @@
-//! Walls and obstacles, and whether there are any.
+//! Walls and obstacles, with their blocks.
 
-ghost use Rattle.std.specs.Prelude.{◌↔◌, ◌≡◌, IsTrue};
-ghost use Rattle.std.specs.Option.{ForSome};
-ghost use Rattle.gas_plane.specs.Planes.{HasNone};
-ghost use Rattle.phase_step.specs.WalledSites.{AreWalledSites};
+ghost use Rattle.std.specs.Prelude.{◌≡◌, ◌<◌, false, IfOk, IsTrue};
+ghost use Rattle.gas_terms.specs.Cells.{cells_where, filled, cleared, tile_count};
+ghost use Rattle.phase_step.specs.SolidBlocks.{AreLent, HasNoBlocks};
 
-use crate::steps::sites::WalledSites;
+use crate::steps::solid::Solid;
+use block_rule::SetBlocks;
 use gas_plane::Plane;
+use gas_terms::{NoMemory, Rect, Size};
+use std::alloc::Global;
 
-/// Walls and obstacles. If it is known that neither has a cell, no tile asks for them. If the cells at walled sites are prepared,
-/// no tile works them out.
+/// Walls and obstacles. They know their blocks, so that no phase works these out.
+#[derive(Drop)]
+pub struct Solids {
+    pub walls: Solid,
+    pub obstacles: Solid,
+}
+
+/// What is lent of the blocks of a tile that have a wall, and of those that have an obstacle.
 #[derive(Clone, Copy)]
-pub struct Solids<'a> {
-    pub walls: &'a Plane,
-    pub obstacles: &'a Plane,
-    pub none: bool,
-    pub sites: Option<&'a WalledSites>,
-    pub ghost known: { IsTrue none → HasNone walls.now × HasNone obstacles.now },
-    pub ghost prepared: { ForSome sites (λ s. AreWalledSites walls.now obstacles.now s.now) },
+pub struct Lent<'a> {
+    pub walls: Option<SetBlocks<'a>>,
+    pub obstacles: Option<SetBlocks<'a>>,
 }
 
-impl<'a> Solids<'a> {
-    /// Walls and obstacles for one phase: nothing is prepared.
-    pub fn new(walls: &'a Plane, obstacles: &'a Plane) -> Solids<'a>
-        ensures walls { result.walls.now ≡ walls.now }
-        ensures obstacles { result.obstacles.now ≡ obstacles.now }
+impl Solids {
+    /// None, on a lattice of this size. Fails if memory runs out.
+    pub fn empty(alloc: Global, size: Size) -> Result<Solids, NoMemory>
+        ensures { IfOk result (λ solids.
+            (solids.walls ≡ cells_where size.width size.height (λ _ _. false))
+            × (solids.obstacles ≡ cells_where size.width size.height (λ _ _. false))) }
     {
-        Solids {
-            walls,
-            obstacles,
-            none: are_none(walls, obstacles),
-            sites: None,
-        }
+        let walls = Solid::empty(alloc, size)?;
+        let obstacles = Solid::empty(alloc, size)?;
+        Ok(Solids { walls, obstacles })
     }
 
-    /// Walls and obstacles with the cells at their walled sites.
-    pub fn prepared(walls: &'a Plane, obstacles: &'a Plane, sites: &'a WalledSites) -> Solids<'a>
-        requires { AreWalledSites walls.now obstacles.now sites.now }
-        ensures walls { result.walls.now ≡ walls.now }
-        ensures obstacles { result.obstacles.now ≡ obstacles.now }
+    /// These walls and obstacles. Fails if memory runs out.
+    pub fn of(alloc: Global, walls: Plane, obstacles: Plane) -> Result<Solids, NoMemory>
+        ensures { IfOk result (λ solids. (solids.walls ≡ walls) × (solids.obstacles ≡ obstacles)) }
     {
-        let none = are_none(walls, obstacles);
-        let sites = Some(sites);
-        Solids {
-            walls,
-            obstacles,
-            none,
-            sites,
+        let walls = Solid::of(alloc, walls)?;
+        let obstacles = Solid::of(alloc, obstacles)?;
+        Ok(Solids { walls, obstacles })
+    }
+
+    /// A clone. Fails if memory runs out.
+    pub fn copy(&self, alloc: Global) -> Result<Solids, NoMemory>
+        ensures { IfOk result (λ solids. solids ≡ self.now) }
+    {
+        let walls = self.walls.copy(alloc)?;
+        let obstacles = self.obstacles.copy(alloc)?;
+        Ok(Solids { walls, obstacles })
+    }
+
+    /// Makes each cell of the rectangle a wall.
+    pub fn add_walls(&mut self, area: Rect)
+        ensures walls { self.new.walls ≡ filled self.old.walls area }
+        ensures obstacles { self.new.obstacles ≡ self.old.obstacles }
+    {
+        self.walls.fill(area);
+    }
+
+    /// Makes each cell of the rectangle an obstacle.
+    pub fn add_obstacles(&mut self, area: Rect)
+        ensures walls { self.new.walls ≡ self.old.walls }
+        ensures obstacles { self.new.obstacles ≡ filled self.old.obstacles area }
+    {
+        self.obstacles.fill(area);
+    }
+
+    /// Removes walls and obstacles from the rectangle.
+    pub fn remove(&mut self, area: Rect)
+        ensures walls { self.new.walls ≡ cleared self.old.walls area }
+        ensures obstacles { self.new.obstacles ≡ cleared self.old.obstacles area }
+    {
+        self.walls.clear(area);
+        self.obstacles.clear(area);
+    }
+
+    /// Whether there is no wall and no obstacle.
+    pub fn have_no_blocks(&self) -> bool
+        ensures { IsTrue result → HasNoBlocks self.now.walls × HasNoBlocks self.now.obstacles }
+    {
+        self.walls.has_no_blocks() && self.obstacles.has_no_blocks()
+    }
+
+    /// The walled blocks of tile i.
+    #[inline(always)]
+    pub fn in_tile(&self, i: u32) -> Lent<'_>
+        requires walls { i < tile_count self.now.walls }
+        requires obstacles { i < tile_count self.now.obstacles }
+        ensures { AreLent self.now.walls self.now.obstacles i result }
+    {
+        Lent {
+            walls: self.walls.in_tile(i),
+            obstacles: self.obstacles.in_tile(i),
         }
     }
-}
-
-/// Whether neither walls nor obstacles have a cell.
-pub fn are_none(walls: &Plane, obstacles: &Plane) -> bool
-    ensures { IsTrue result ↔ (HasNone walls.now × HasNone obstacles.now) }
-{
-    walls.is_empty() && obstacles.is_empty()
 }

@@ -1,21 +1,19 @@
 //! The inputs of a single phase: planes, parity, and the desk at which its tiles are drawn.
 
-ghost use Rattle.std.specs.Prelude.{◌≡◌, ◌<◌, IsTrue};
+ghost use Rattle.std.specs.Prelude.{◌≡◌, ◌<◌};
 ghost use Rattle.gas_terms.specs.Cells.{tile_count, HasSidesOf};
-ghost use Rattle.gas_plane.specs.Planes.{IsLattice, HasNone};
+ghost use Rattle.gas_plane.specs.Planes.{IsLattice};
 
 use claim_desk::Desk;
 use gas_plane::Plane;
 
-/// The planes of a phase, whether it is known that walls and obstacles have no cell, and its parity.
+/// The planes of a phase, and its parity.
 #[derive(Clone, Copy)]
 pub struct Task<'a> {
     pub old: &'a Plane,
     pub walls: &'a Plane,
     pub obstacles: &'a Plane,
-    pub none: bool,
     pub parity: u8,
-    pub ghost known: { IsTrue none → HasNone walls.now × HasNone obstacles.now },
     pub ghost parity_is: { parity < 2 },
     pub ghost lattice: { IsLattice old.now },
     pub ghost of_walls: { HasSidesOf walls.now old.now },

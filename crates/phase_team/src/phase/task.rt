@@ -7,7 +7,7 @@ ghost use Rattle.phase_team.specs.Teamwork.{IsMade, take_of};
 use crate::phase::shift::Task;
 use gas_plane::Tile;
 use gas_terms::Took;
-use phase_step::{Solids, turn_tile_at};
+use phase_step::turn_tile_at;
 
 impl Task<'_> {
     /// Puts tile i into `out` as it is after the phase, and returns what walls and obstacles take of its particles.
@@ -16,12 +16,7 @@ impl Task<'_> {
         ensures cells { IsMade self.entry i out.new }
         ensures took { result ≡ take_of self.entry i }
     {
-        let solids = Solids {
-            walls: self.walls,
-            obstacles: self.obstacles,
-            none: self.none,
-            sites: None,
-        };
-        turn_tile_at(self.old, solids, self.parity, self.old.position(i), out)
+        let at = self.old.position(i);
+        turn_tile_at(self.old, self.walls, self.obstacles, self.parity, at, out)
     }
 }

@@ -1,4 +1,4 @@
-//! The inputs of a stretch of a run: planes, parity, desk, and the division into strips.
+//! The inputs of a stretch of a run: particles, what they meet, desk, and the division into strips.
 
 ghost use Rattle.std.specs.Prelude.{◌≡◌, ◌+◌, ◌*◌, ◌/◌, ◌<◌, ◌≤◌};
 ghost use Rattle.gas_terms.specs.Cells.{HasSidesOf};
@@ -7,15 +7,14 @@ ghost use Rattle.phase_team.specs.Limits.{most_phases, most_rows};
 
 use claim_desk::Desk;
 use gas_plane::Plane;
-use phase_step::{Counted, Exchange};
+use phase_step::{Counted, Exchange, Solids};
 
-/// Particles, walls and obstacles, what acts after each phase, the parity of the first phase, how many phases there are, which
-/// is no more than a strip can make alone, and which accounts are kept.
+/// Particles, what they meet, what acts after each phase, the parity of the first phase, how many phases there are, which is no
+/// more than a strip can make alone, and which accounts are kept.
 #[derive(Clone, Copy)]
 pub struct Course<'a> {
     pub cells: &'a Plane,
-    pub walls: &'a Plane,
-    pub obstacles: &'a Plane,
+    pub solids: &'a Solids,
     pub turns: &'a [Exchange],
     pub parity: u8,
     pub phases: u16,
@@ -23,8 +22,8 @@ pub struct Course<'a> {
     pub ghost parity_is: { parity < 2 },
     pub ghost few: { phases ≤ most_phases },
     pub ghost lattice: { IsLattice cells.now },
-    pub ghost of_walls: { HasSidesOf walls.now cells.now },
-    pub ghost of_obstacles: { HasSidesOf obstacles.now cells.now },
+    pub ghost of_walls: { HasSidesOf solids.now.walls cells.now },
+    pub ghost of_obstacles: { HasSidesOf solids.now.obstacles cells.now },
 }
 
 /// How the rows of tiles of a lattice are divided into strips: how many strips there are, and how many rows each has. The first

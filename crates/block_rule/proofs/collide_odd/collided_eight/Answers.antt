@@ -1,4 +1,4 @@
-use Rattle.std.proofs.Common.{◌≡◌, ◌+◌, ◌*◌, ap₂, subst, sym, arith, length-set}
+use Rattle.std.proofs.Common.{◌+◌, ◌*◌, arith, length-set}
 use Rattle.block_rule.specs.NamedBlocks.{IsCollidedOdd}
 use Rattle.block_rule.proofs.Windows.{eight_more}
 use Rattle.block_rule.proofs.NamedBlocks.{collided_by}

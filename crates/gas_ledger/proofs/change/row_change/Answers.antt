@@ -1,10 +1,9 @@
 use Rattle.std.proofs.Common.{◌+◌, ◌*◌, ◌-◌, ◌≤◌, arith, take, drop}
-use Rattle.bit_tile.proofs.Bits.{get_or-replicate_zero}
 use Rattle.gas_terms.specs.Cells.{Cells, without, extent}
 use Rattle.gas_terms.specs.Rows.{row_replaced}
 use Rattle.gas_plane.proofs.Places.{wide}
 use Rattle.gas_plane.proofs.RowSweeps.{chunk_at}
-use Rattle.gas_ledger.proofs.Strips.{IsWordOf, strip_starts, strip_ends, counts_wider, word_without, word_of_row}
+use Rattle.gas_ledger.proofs.Strips.{IsWordOf, counts_wider, word_without, word_of_row}
 use Rattle.gas_ledger.proofs.change.row_change.Goals as goal
 
 pub loop-column-preserved : goal.loop-column-preserved

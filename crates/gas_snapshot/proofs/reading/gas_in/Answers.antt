@@ -38,6 +38,12 @@ returns-in_err-obstacles c =
     let p = err_from_is_err_and c.from_residual-in_err-obstacles.result c.from_residual-in_err-obstacles.ensures.1 in
     rw (p.1, p.2) (is_read c.args.bytes.now h c.in-Ok.read.1.now (c.layers.result * (c.height.result * (c.width.result / 8))) c.in-Ok.ensures (needed_is h.version h.size c.layers.result c.height.result c.width.result c.layers.ensures c.height.ensures c.width.ensures) c.if-cells-needed.false c.if-cells-needed-2.false)
 
+pub returns-in_err-gas : goal.returns-in_err-gas
+returns-in_err-gas c =
+    let h = head_with c.in-Ok.read.0 c.read_head.new.ports in
+    let p = err_from_is_err_and c.from_residual-in_err-gas.result c.from_residual-in_err-gas.ensures.1 in
+    rw (p.1, p.2) (is_read c.args.bytes.now h c.in-Ok.read.1.now (c.layers.result * (c.height.result * (c.width.result / 8))) c.in-Ok.ensures (needed_is h.version h.size c.layers.result c.height.result c.width.result c.layers.ensures c.height.ensures c.width.ensures) c.if-cells-needed.false c.if-cells-needed-2.false)
+
 pub new-requires : goal.new-requires
 new-requires c =
     let h = head_with c.in-Ok.read.0 c.read_head.new.ports in
@@ -54,4 +60,4 @@ returns c =
     let pieces : ArePieces h.size c.in-Ok.read.1.now c.split_at.result.0.now c.split_at.result.1.now c.split_at-2.result.0.now c.split_at-2.result.1.now n =
     record { len = ap (λ (i : ℕ). i * (c.width.result / 8)) c.height.ensures ∙ ap (λ (i : ℕ). h.size.height * (i / 8)) c.width.ensures; first_is = c.split_at.ensures.front; after_is = c.split_at.ensures.back; second_is = c.split_at-2.ensures.front; third_is = c.split_at-2.ensures.back } in
     read_whole c.args.bytes.now h c.in-Ok.read.1.now (c.layers.result * (c.height.result * (c.width.result / 8))) c.in-Ok.ensures (needed_is h.version h.size c.layers.result c.height.result c.width.result c.layers.ensures c.height.ensures c.width.ensures) c.if-cells-needed.false c.if-cells-needed-2.false
-    ∙ ap (λ (g : Gas). ok g) (sym (c.new.ensures ∙ gas_read h c.in-Ok.read.1.now c.split_at.result.0.now c.split_at.result.1.now c.split_at-2.result.0.now c.split_at-2.result.1.now n c.in_ok-particles.particles c.in_ok-walls.walls c.in_ok-obstacles.obstacles pieces c.in_ok-particles.ensures c.in_ok-walls.ensures c.in_ok-obstacles.ensures))
+    ∙ ap (λ (g : Gas). ok g) (sym (c.in_ok-gas.ensures ∙ gas_read h c.in-Ok.read.1.now c.split_at.result.0.now c.split_at.result.1.now c.split_at-2.result.0.now c.split_at-2.result.1.now n c.in_ok-particles.particles c.in_ok-walls.walls c.in_ok-obstacles.obstacles pieces c.in_ok-particles.ensures c.in_ok-walls.ensures c.in_ok-obstacles.ensures))

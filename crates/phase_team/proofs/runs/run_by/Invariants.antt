@@ -8,9 +8,9 @@ abbrev pub invariant-loop-done : goal.invariant-loop-done
 invariant-loop-done g l = record {
   crew : l.strips.size ≡ l.initial.strips.size;
   few : l.done ≤ l.run.n;
-  cells : l.particles ≡ after_with l.run.parity (joined l.run.walls.now l.run.obstacles.now) (g.A.Action.leaves l.run.action.now) l.initial.particles l.done;
+  cells : l.particles ≡ after_with l.run.parity (joined l.run.solids.now.walls l.run.solids.now.obstacles) (g.A.Action.leaves l.run.action.now) l.initial.particles l.done;
   spare : HasSidesOf l.spare l.initial.particles;
-  flow : l.flow ≡ flow_counted l.counted (flow_with l.run.parity l.run.walls.now l.run.obstacles.now (g.A.Action.leaves l.run.action.now) l.initial.particles l.done);
+  flow : l.flow ≡ flow_counted l.counted (flow_with l.run.parity l.run.solids.now.walls l.run.solids.now.obstacles (g.A.Action.leaves l.run.action.now) l.initial.particles l.done);
 }
 
 abbrev pub decreases-loop-done : goal.decreases-loop-done

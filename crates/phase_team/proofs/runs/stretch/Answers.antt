@@ -6,22 +6,18 @@ use Rattle.phase_step.proofs.ActionParts.{after_same, flow_same}
 use Rattle.phase_team.specs.Work.{Lists, IsRoomFor}
 use Rattle.phase_team.proofs.runs.stretch.Goals as goal
 
-pub returns-in-Some-clause-particles : goal.returns-in-Some-clause-particles
-returns-in-Some-clause-particles g c =
+pub returns-in-Some-clause-run : goal.returns-in-Some-clause-run
+returns-in-Some-clause-run g c =
     let run = c.args.run in
+    let solids = run.solids.now in
     let leaves = g.A.Action.leaves run.action.now in
     let all : Lists c.list.new.turns.items leaves run.n = search rules in
     let same : Lists c.as_slice.result.now leaves run.n = subst (λ (turns : List Areas). Lists turns leaves run.n) (sym c.as_slice.ensures.value) all in
-    c.swap.ensures.x_after
-    ∙ (c.in-Some.ensures.out ∙ after_same run.parity (joined run.walls.now run.obstacles.now) (listed c.as_slice.result.now) leaves c.args.particles.now run.n same)
-
-pub returns-in-Some-clause-flow : goal.returns-in-Some-clause-flow
-returns-in-Some-clause-flow g c =
-    let run = c.args.run in
-    let leaves = g.A.Action.leaves run.action.now in
-    let all : Lists c.list.new.turns.items leaves run.n = search rules in
-    let same : Lists c.as_slice.result.now leaves run.n = subst (λ (turns : List Areas). Lists turns leaves run.n) (sym c.as_slice.ensures.value) all in
-    c.in-Some.ensures.flow ∙ ap (flow_counted c.args.counted) (flow_same run.parity run.walls.now run.obstacles.now (listed c.as_slice.result.now) leaves c.args.particles.now run.n same)
+    record {
+      particles = c.swap.ensures.x_after ∙ (c.in-Some.ensures.out ∙ after_same run.parity (joined solids.walls solids.obstacles) (listed c.as_slice.result.now) leaves c.args.particles.now run.n same);
+      spare = search rules;
+      flow = c.in-Some.ensures.flow ∙ ap (flow_counted c.args.counted) (flow_same run.parity solids.walls solids.obstacles (listed c.as_slice.result.now) leaves c.args.particles.now run.n same);
+    }
 
 pub make_strips-requires-clause-rooms : goal.make_strips-requires-clause-rooms
 make_strips-requires-clause-rooms g c =
@@ -37,6 +33,3 @@ invariant_of-strips-2 g c =
       all = strips.all;
       ready = subst (λ (size : Extent). All (IsRoomFor size strips.parts) c.make_strips.new.rooms.items) (sym c.requires.size) c.make_strips.ensures.rooms;
     }
-
-pub returns-in-None-clause-particles : goal.returns-in-None-clause-particles
-returns-in-None-clause-particles g c = search rules

@@ -1,4 +1,4 @@
-use Rattle.std.proofs.Common.{rules, ◌∙◌, sym}
+use Rattle.std.proofs.Common.{◌∙◌, sym}
 use Rattle.phase_step.proofs.RunSteps.{back_run}
 use Rattle.gas_ledger.specs.Books.{books_of}
 use Rattle.gas_ledger.proofs.Stepping.{ran_back_to, given_fits}

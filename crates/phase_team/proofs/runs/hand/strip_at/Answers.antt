@@ -42,9 +42,6 @@ returns-clause-strip c =
         wide = has.strip.wide;
         high = has.strip.high;
         spare = has.strip.spare;
-        walls = has.strip.walls;
-        obstacles = has.strip.obstacles;
-        sites = has.strip.sites;
         inside = omega (arith, first, has.height, inside);
         some = has.strip.some;
       };

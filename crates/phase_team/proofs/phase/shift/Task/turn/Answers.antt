@@ -8,6 +8,6 @@ pub returns : goal.returns
 returns c =
     let t = c.args.self in
     record {
-      cells = subst (λ i. IsTileAfter t.parity t.old.now t.walls.now t.obstacles.now i c.turn_tile_at.new.out) c.position.ensures.tile c.turn_tile_at.ensures.cells;
-      took = subst (λ i. c.turn_tile_at.result ≡ taken_in (pos t.parity) t.old.now t.walls.now t.obstacles.now (tile_rectangle t.old.now i)) c.position.ensures.tile c.turn_tile_at.ensures.took;
+      cells = subst (λ i. IsTileAfter t.parity t.old.now t.walls.now t.obstacles.now i c.turn_tile_at.new.out) c.position-at.ensures.tile c.turn_tile_at.ensures.cells;
+      took = subst (λ i. c.turn_tile_at.result ≡ taken_in (pos t.parity) t.old.now t.walls.now t.obstacles.now (tile_rectangle t.old.now i)) c.position-at.ensures.tile c.turn_tile_at.ensures.took;
     }

@@ -1,0 +1,57 @@
+-- Which rows of a lattice are seen round a tile of a part.
+use Rattle.std.proofs.Common.{◌≡◌, ℕ, zero, suc, ◌+◌, ◌-◌, ◌*◌, ◌/◌, ◌%◌, ◌<◌, ◌≤◌, refl, sym, ap, ◌∙◌, arith}
+use Rattle.std.proofs.Math.Nat.{mod-lt, add-mod_right, mod-add-mod, add-mod-mod}
+use Rattle.std.proofs.lemmas.Nat.{mod-mul-add, div-add-mod'}
+
+-- a row of the torus by its row of tiles
+pub row_turns : (a k d y : ℕ) → 0 < d → y < 64 → (a * 64 + (k * 64 + y)) % (d * 64) ≡ (a + k) % d * 64 + y
+row_turns a k d y some p =
+    let q = (a + k) / d in
+    let r = (a + k) % d in
+    let whole : q * d + r ≡ a + k = div-add-mod' (a + k) d in
+    let less : r < d = mod-lt (a + k) some in
+    let e : a * 64 + (k * 64 + y) ≡ q * (d * 64) + (r * 64 + y) = let f : q * (d * 64) ≡ 64 * (q * d) = omega arith in omega arith in
+    ap (λ n. n % (d * 64)) e ∙ mod-mul-add q (d * 64) (r * 64 + y) (omega arith)
+
+-- row v of a window at row `top` of m rows that begin at row `shift`: as a row of the torus, and as one of the part
+there : (shift m top v : ℕ) → 0 < m → ((shift + top) % m + v + m - 1) % m ≡ (shift + (top + v + m - 1)) % m
+there shift m top v some =
+    ap (λ k. k % m) (let e : (shift + top) % m + v + m - 1 ≡ (shift + top) % m + (v + m - 1) = omega arith in e)
+    ∙ (mod-add-mod (shift + top) m (v + m - 1)
+    ∙ ap (λ k. k % m) (let e : shift + top + (v + m - 1) ≡ shift + (top + v + m - 1) = omega arith in e))
+
+-- a row that the part has
+open_row : (h top v : ℕ) → 1 ≤ top + v → top + v ≤ h → (top + v + h - 1) % h ≡ top + v - 1
+open_row h top v low high =
+    let e : top + v + h - 1 ≡ 1 * h + (top + v - 1) = omega arith in ap (λ k. k % h) e ∙ mod-mul-add 1 h (top + v - 1) (omega arith)
+
+-- row v round a tile that begins at row `top` of the part: the part's, which it still has after k phases, is the lattice's
+pub record IsRowSeen (margin k shift m h top v : ℕ) : Type 0 where
+  pub low : margin * k ≤ (top + v + h - 1) % h
+  pub high : (top + v + h - 1) % h + margin * k < h
+  pub same : (shift + (top + v + h - 1) % h) % m ≡ ((shift + top) % m + v + m - 1) % m
+
+pub row_seen : (margin k shift m h top y v : ℕ) → margin ≤ 1 → 0 < m → (margin ≡ 0 → h ≡ m) → margin * (k + 1) ≤ top + y → top + y + margin * (k + 1) < h → y ≤ v → v ≤ y + 2
+    → IsRowSeen margin k shift m h top v
+row_seen zero k shift m h top y v small some closed low high from to =
+    let e : h ≡ m = closed refl in
+    let within : (top + v + h - 1) % h < h = mod-lt (top + v + h - 1) (omega arith) in
+    record {
+      low = omega arith;
+      high = omega arith;
+      same = ap (λ n. (shift + (top + v + n - 1) % n) % m) e ∙ (add-mod-mod shift (top + v + m - 1) m ∙ sym (there shift m top v some));
+    }
+row_seen (suc zero) k shift m h top y v small some closed low high from to =
+    let first : 1 ≤ top + v = omega arith in
+    let last : top + v ≤ h = omega arith in
+    let e = open_row h top v first last in
+    record {
+      low = omega (arith, e);
+      high = omega (arith, e);
+      same =
+          ap (λ n. (shift + n) % m) e
+          ∙ (sym (add-mod_right (shift + (top + v - 1)) m)
+          ∙ (ap (λ n. n % m) (let f : shift + (top + v - 1) + m ≡ shift + (top + v + m - 1) = omega arith in f)
+          ∙ sym (there shift m top v some)));
+    }
+row_seen (suc (suc n)) k shift m h top y v small some closed low high from to = absurd (omega arith)

@@ -1,0 +1,190 @@
+-- A run of a part, phase by phase.
+use Rattle.std.proofs.Common.{◌≡◌, ℕ, zero, suc, ◌+◌, ◌-◌, ◌*◌, ◌/◌, ◌%◌, ◌<◌, ◌≤◌, true, pos, refl, sym, ap, ap₂, ◌∙◌, subst, arith, add-one, mul-le-mul}
+use Rattle.gas_terms.specs.Cells.{Cells, HasSidesOf, has, joined, extent, is_size, IsFull}
+use Rattle.gas_terms.specs.Gas.{streamed}
+use Rattle.gas_terms.proofs.Cells.{same_cells, full-cells_where}
+use Rattle.gas_plane.proofs.Places.{wide, high}
+use Rattle.block_rule.specs.Accounts.{counted_of}
+use Rattle.block_rule.specs.declared.walled.Counted.{Counted}
+use Rattle.std.proofs.lemmas.Nat.{mod-mul-add}
+use Rattle.phase_step.specs.Runs.{parity_at, tiles_take}
+use Rattle.phase_step.specs.Actions.{acted, after_with, flow_plus, flow_with, FlowsFit}
+use Rattle.phase_step.specs.Balance.{flow_counted}
+use Rattle.phase_step.specs.TileRuns.{tiles_move, tiles_flow}
+use Rattle.phase_step.specs.Parts.{own_rows, own_flow, own_take, own_moves, IsPartOf, HasRun}
+use Rattle.phase_step.specs.WholeRuns.{Dynamics, after_all}
+use Rattle.phase_step.specs.declared.parts.Part.{Part}
+use Rattle.phase_step.specs.declared.sums.flow.Flow.{Flow}
+use Rattle.phase_step.proofs.ActionRuns.{same_flow, sides_with}
+use Rattle.phase_step.proofs.ActionSums.{takes_all_with, moves_all_with}
+use Rattle.phase_step.proofs.Balances.{flows_counted, counted_fit}
+use Rattle.phase_step.proofs.RunTakes.{counted_none}
+use Rattle.phase_step.proofs.OwnPhases.{IsOwnPhase, own_flow_next, own_flow_fits}
+
+-- how many tiles are its own
+pub own_few : (part : Part) (walls obstacles cells lattice : Cells) (k : ℕ) → IsPartOf part walls obstacles cells lattice k → own_rows part cells * (lattice.width / 64) ≤ 4096
+own_few part walls obstacles cells lattice k is =
+    let across = (wide (extent lattice) is.sized).few in
+    let down = (high (extent lattice) is.sized).few in
+    let e = is.placed.down in
+    let inside = is.placed.inside in
+    let rows : own_rows part cells ≤ 64 = omega (arith, down, e, inside) in
+    let most : own_rows part cells * (lattice.width / 64) ≤ 64 * 64 = mul-le-mul rows across in
+    most
+
+-- a phase and the action after it: the part that was, that comes and that is next, and what is told of it
+pub record IsPartPhase (part : Part) (counted : Counted) (d : Dynamics) (q k : ℕ) (lattice old now come next : Cells) (flow here : Flow) : Type 0 where
+  pub small : d.parity < 2
+  pub parity : q ≡ parity_at d.parity k
+  pub now_sides : HasSidesOf now old
+  pub come_sides : HasSidesOf come old
+  pub so_far : HasRun part counted d k old lattice now flow
+  pub action : IsPartOf part d.walls d.obstacles next (acted (d.leaves k) (streamed q (after_all d lattice k) (joined d.walls d.obstacles))) (k + 1)
+  pub took : here.took ≡ counted_of counted (own_take part q now (after_all d lattice k) d.walls d.obstacles)
+  pub moved : let there = streamed q (after_all d lattice k) (joined d.walls d.obstacles) in here.moved ≡ own_moves part (1 - q) come there (acted (d.leaves k) there)
+
+module _ (part : Part) (counted : Counted) (d : Dynamics) (q k : ℕ) (lattice old now come next : Cells) (flow here : Flow) (is : IsPartPhase part counted d q k lattice old now come next flow here) where
+  next_is : acted (d.leaves k) (streamed q (after_with d.parity (joined d.walls d.obstacles) d.leaves lattice k) (joined d.walls d.obstacles)) ≡ after_with d.parity (joined d.walls d.obstacles) d.leaves lattice (k + 1)
+  next_is =
+      ap (λ q. acted (d.leaves k) (streamed q (after_with d.parity (joined d.walls d.obstacles) d.leaves lattice k) (joined d.walls d.obstacles))) is.parity
+      ∙ ap (after_with d.parity (joined d.walls d.obstacles) d.leaves lattice) (sym (add-one k))
+
+  across_is : (after_with d.parity (joined d.walls d.obstacles) d.leaves lattice k).width / 64 ≡ lattice.width / 64
+  across_is = ap (λ n. n / 64) (sides_with d.parity (joined d.walls d.obstacles) d.leaves lattice k).wide
+
+  rows_are : (cells : Cells) → HasSidesOf cells old → own_rows part cells ≡ own_rows part old
+  rows_are cells sides = ap (λ h. h / 64 - 2 * part.margin) sides.high
+
+  -- what is taken in the accounts that are kept
+  here_is : here ≡ flow_counted counted (record { took = own_take part q now (after_with d.parity (joined d.walls d.obstacles) d.leaves lattice k) d.walls d.obstacles; moved = here.moved })
+  here_is = same_flow here (flow_counted counted (record { took = own_take part q now (after_with d.parity (joined d.walls d.obstacles) d.leaves lattice k) d.walls d.obstacles; moved = here.moved })) is.took refl
+
+  tick_is : 1 - q ≡ parity_at d.parity (suc k)
+  tick_is = let e = is.parity in let s = is.small in omega (arith, e, s)
+
+  own_is : (let there = after_with d.parity (joined d.walls d.obstacles) d.leaves lattice k in let come_there = streamed q there (joined d.walls d.obstacles) in
+      IsOwnPhase d.parity d.walls d.obstacles d.leaves lattice (part.first * (lattice.width / 64)) (own_rows part old * (lattice.width / 64)) k there come_there (acted (d.leaves k) come_there)
+      (record { took = own_take part q now there d.walls d.obstacles; moved = here.moved }))
+  own_is =
+      let there = after_with d.parity (joined d.walls d.obstacles) d.leaves lattice k in
+      let come_there = streamed q there (joined d.walls d.obstacles) in
+      record {
+        at = refl;
+        phase = ap (λ q. streamed q there (joined d.walls d.obstacles)) is.parity;
+        took =
+            ap (λ q. own_take part q now there d.walls d.obstacles) is.parity
+            ∙ ap₂ (λ a n. tiles_take (parity_at d.parity k) there d.walls d.obstacles (part.first * a) (n * a)) across_is (rows_are now is.now_sides);
+        action = refl;
+        moved =
+            is.moved
+            ∙ (ap (λ t. own_moves part t come come_there (acted (d.leaves k) come_there)) tick_is
+            ∙ ap₂ (λ a n. tiles_move (pos (parity_at d.parity (suc k))) come_there (acted (d.leaves k) come_there) (part.first * a) (n * a)) across_is (rows_are come is.come_sides));
+      }
+
+  pub run_next : HasRun part counted d (k + 1) old lattice next (flow_plus flow here)
+  run_next =
+      let there = after_with d.parity (joined d.walls d.obstacles) d.leaves lattice k in
+      let come_there = streamed q there (joined d.walls d.obstacles) in
+      let every : Flow = record { took = own_take part q now there d.walls d.obstacles; moved = here.moved } in
+      record {
+        is = subst (λ (c : Cells). IsPartOf part d.walls d.obstacles next c (k + 1)) next_is is.action;
+        flow =
+            ap₂ flow_plus is.so_far.flow here_is
+            ∙ (flows_counted counted (own_flow part d old lattice k) every
+            ∙ ap (flow_counted counted) (own_flow_next d.parity d.walls d.obstacles d.leaves lattice (part.first * (lattice.width / 64)) (own_rows part old * (lattice.width / 64)) k there come_there (acted (d.leaves k) come_there) (own_flow part d old lattice k) every own_is refl));
+      }
+
+  pub run_fits : k ≤ 65536 → own_rows part old * (lattice.width / 64) ≤ 4096 → FlowsFit flow here
+  run_fits short few =
+      let there = after_with d.parity (joined d.walls d.obstacles) d.leaves lattice k in
+      let come_there = streamed q there (joined d.walls d.obstacles) in
+      let every : Flow = record { took = own_take part q now there d.walls d.obstacles; moved = here.moved } in
+      let fits = own_flow_fits d.parity d.walls d.obstacles d.leaves lattice (part.first * (lattice.width / 64)) (own_rows part old * (lattice.width / 64)) k there come_there (acted (d.leaves k) come_there) (own_flow part d old lattice k) every own_is refl few short in
+      subst (λ (f : Flow). FlowsFit f here) (sym is.so_far.flow) (subst (FlowsFit (flow_counted counted (own_flow part d old lattice k))) (sym here_is) (counted_fit counted (own_flow part d old lattice k) every fits))
+
+-- no phase yet
+pub run_begins : (part : Part) (counted : Counted) (d : Dynamics) (old lattice : Cells) → IsPartOf part d.walls d.obstacles old lattice 0
+    → HasRun part counted d 0 old lattice old (record { took = record { walls = record { x = pos 0; y = pos 0 }; obstacles = record { x = pos 0; y = pos 0 } }; moved = record { injected = record { count = pos 0; px = pos 0; py = pos 0 }; drained = record { count = pos 0; px = pos 0; py = pos 0 } } })
+run_begins part counted d old lattice is = record { is = is; flow = same_flow _ _ (counted_none counted) refl }
+
+pub sides_on : (a b c : Cells) → HasSidesOf a b → HasSidesOf b c → HasSidesOf a c
+sides_on a b c p q = record { wide = p.wide ∙ q.wide; high = p.high ∙ q.high }
+
+-- so many phases as a margin has rows spoil none of the part's own, nor do fewer
+pub still_unspoilt : (margin k n : ℕ) → margin * n ≤ 64 → k ≤ n → margin * k ≤ 64
+still_unspoilt margin k n most less = let h : margin * k ≤ margin * n = mul-le-mul (let e : margin ≤ margin = omega arith in e) less in omega (arith, h, most)
+
+-- The whole lattice is a part of itself, whose rows are all.
+whole_row : (down h y : ℕ) → h ≡ down * 64 → y < h → ((0 + down - 0) * 64 + y) % (down * 64) ≡ y
+whole_row down h y e less =
+    let f : (0 + down - 0) * 64 + y ≡ 1 * (down * 64) + y = omega arith in
+    ap (λ n. n % (down * 64)) f ∙ mod-mul-add 1 (down * 64) y (omega (arith, e, less))
+
+pub whole_is : (down : ℕ) (walls obstacles cells : Cells) → is_size (extent cells) ≡ true → IsFull cells → HasSidesOf walls cells → HasSidesOf obstacles cells → down ≡ cells.height / 64
+    → IsPartOf (record { first = 0; down = down; margin = 0 }) walls obstacles cells cells 0
+whole_is down walls obstacles cells sized full of_walls of_obstacles e =
+    let tiles = (high (extent cells) sized).tiles in
+    let some = (high (extent cells) sized).some in
+    let f : cells.height ≡ down * 64 = omega (arith, e, tiles) in
+    record {
+      sized = sized;
+      full = full;
+      of_walls = of_walls;
+      of_obstacles = of_obstacles;
+      placed = record { wide = refl; down = f; some = omega (arith, some); inside = omega (arith, e); margin = omega arith; all = λ _. refl };
+      rows = record { row = λ x y l _ h. let less : y < cells.height = omega (arith, h) in ap (has cells x) (sym (whole_row down cells.height y f less)) };
+    }
+
+pub full_after : (d : Dynamics) (cells : Cells) (n : ℕ) → IsFull cells → IsFull (after_all d cells n)
+full_after d cells zero full = full
+full_after d cells (suc k) full =
+    let come = streamed (parity_at d.parity k) (after_all d cells k) (joined d.walls d.obstacles) in full-cells_where come.width come.height (λ x y. d.leaves k x y (has come x y))
+
+-- the torus is closed: what a run makes of the whole lattice is the lattice after it
+pub whole_after : (down n : ℕ) (counted : Counted) (d : Dynamics) (cells new : Cells) (answer : Flow) → IsFull cells → IsFull new → HasRun (record { first = 0; down = down; margin = 0 }) counted d n cells cells new answer → new ≡ after_all d cells n
+whole_after down n counted d cells new answer full full_new run =
+    let placed = run.is.placed in
+    same_cells new (after_all d cells n) full_new (full_after d cells n full) placed.wide (placed.all refl)
+    (λ x y l h.
+    run.is.rows.row x y (subst (λ w. x < w) placed.wide l) (omega arith) (omega (arith, h))
+    ∙ ap (has (after_all d cells n) x) (whole_row down new.height y (placed.all refl ∙ placed.down) h))
+
+pub whole_flow : (down n : ℕ) (counted : Counted) (d : Dynamics) (cells new : Cells) (answer : Flow) → is_size (extent cells) ≡ true → HasRun (record { first = 0; down = down; margin = 0 }) counted d n cells cells new answer
+    → answer ≡ flow_counted counted (flow_with d.parity d.walls d.obstacles d.leaves cells n)
+whole_flow down n counted d cells new answer sized run =
+    let a = cells.width / 64 in
+    let first : 0 * a ≡ 0 = omega arith in
+    let rows : cells.height / 64 - 2 * 0 ≡ cells.height / 64 = omega arith in
+    let turned : cells.height / 64 * a ≡ a * (cells.height / 64) = omega arith in
+    let count = ap (λ n. n * a) rows ∙ turned in
+    run.flow
+    ∙ ap (flow_counted counted)
+    (ap₂ (λ f m. tiles_flow d.parity d.walls d.obstacles d.leaves cells f m n) first count
+    ∙ same_flow _ _ (takes_all_with d.parity d.walls d.obstacles d.leaves cells n sized) (moves_all_with d.parity (joined d.walls d.obstacles) d.leaves cells n sized))
+
+-- A strip is a part with a margin.
+pub strip_is : (first down rows : ℕ) (walls obstacles strip lattice : Cells) → is_size (extent lattice) ≡ true → IsFull lattice → HasSidesOf walls lattice → HasSidesOf obstacles lattice → lattice.height ≡ down * 64 → strip.width ≡ lattice.width → strip.height ≡ (rows + 2) * 64 → 0 < rows → first + rows ≤ down
+    → ((x y : ℕ) → x < lattice.width → y < strip.height → has strip x y ≡ has lattice x (((first + down - 1) * 64 + y) % (down * 64)))
+    → IsPartOf (record { first = first; down = down; margin = 1 }) walls obstacles strip lattice 0
+strip_is first down rows walls obstacles strip lattice sized full of_walls of_obstacles high_is wide_is strip_high some within row =
+    record {
+      sized = sized;
+      full = full;
+      of_walls = of_walls;
+      of_obstacles = of_obstacles;
+      placed = record { wide = wide_is; down = high_is; some = omega (arith, strip_high, some); inside = omega (arith, strip_high, within); margin = omega arith; all = λ e. absurd (omega arith) };
+      rows = record { row = λ x y l _ h. row x y l (omega (arith, h)) };
+    }
+
+-- what a strip has after a run: its own rows, and the flow of its own tiles
+pub strip_done : (first down rows n : ℕ) (counted : Counted) (d : Dynamics) (strip lattice new : Cells) (answer : Flow) → n ≤ 64 → new.height ≡ (rows + 2) * 64 → HasRun (record { first = first; down = down; margin = 1 }) counted d n strip lattice new answer
+    → (x y : ℕ) → x < lattice.width → 64 ≤ y → y < 64 + rows * 64 → has new x y ≡ has (after_all d lattice n) x (((first + down - 1) * 64 + y) % (down * 64))
+strip_done first down rows n counted d strip lattice new answer few high_is run x y l low high =
+    let same = (sides_with d.parity (joined d.walls d.obstacles) d.leaves lattice n).wide in
+    run.is.rows.row x y (subst (λ w. x < w) (sym same) l) (omega (arith, few, low)) (omega (arith, few, high, high_is))
+
+pub strip_flow : (first down rows n : ℕ) (counted : Counted) (d : Dynamics) (strip lattice new : Cells) (answer : Flow) → strip.height ≡ (rows + 2) * 64 → HasRun (record { first = first; down = down; margin = 1 }) counted d n strip lattice new answer
+    → answer ≡ flow_counted counted (tiles_flow d.parity d.walls d.obstacles d.leaves lattice (first * (lattice.width / 64)) (rows * (lattice.width / 64)) n)
+strip_flow first down rows n counted d strip lattice new answer high_is run =
+    let e : strip.height / 64 - 2 * 1 ≡ rows = omega (arith, high_is) in
+    run.flow ∙ ap (λ r. flow_counted counted (tiles_flow d.parity d.walls d.obstacles d.leaves lattice (first * (lattice.width / 64)) (r * (lattice.width / 64)) n)) e

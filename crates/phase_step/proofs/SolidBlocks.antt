@@ -1,0 +1,313 @@
+-- The blocks with a cell of a set: by what its tiles show, and after the set has changed in a rectangle.
+use Rattle.std.proofs.Common.{◌≡◌, ℕ, ◌+◌, ◌-◌, ◌*◌, ◌/◌, ◌%◌, ◌<◌, ◌≤◌, Bool, true, false, ◌&&◌, ◌||◌, not, nat_le, nat_lt, if◌then◌else◌, List, Option, Some, None, get_or, set, length, replicate, inl, inr, refl, sym, ◌∙◌, ap, ap₂, subst, arith, get_or-set_same, get_or-set_other}
+use Rattle.std.proofs.lemmas.Bool.{cases_eq, cases_lt}
+use Rattle.std.proofs.lemmas.Bool.Decides.{nat_tests}
+use Rattle.std.proofs.lemmas.Nat.{mod-mul-add, div-mul-add}
+use Rattle.std.proofs.Math.Nat.{mod-lt, add-mod_right, mul_comm, mul-le-mul_right}
+use Rattle.std.proofs.lemmas.List.{get_or-replicate, length-replicate}
+use Rattle.gas_terms.specs.Velocity.{has_parity}
+use Rattle.gas_terms.specs.Cells.{Cells, Rectangle, HasSidesOf, has, cells_where, filled, cleared, extent, is_size, is_inside, tile_count, tile_rectangle}
+use Rattle.gas_terms.proofs.Blocks.{cell_walled}
+use Rattle.gas_terms.proofs.Cells.{has-cells_where, full-cells_where}
+use Rattle.bit_tile.specs.Bit.{bit}
+use Rattle.bit_tile.proofs.Bits.{bit-zero, get_or-replicate_zero}
+use Rattle.gas_plane.specs.Planes.{IsLattice, HasNone}
+use Rattle.gas_plane.proofs.Painting.{outside_columns, outside_rows}
+use Rattle.gas_plane.proofs.Places.{wide, high}
+use Rattle.block_rule.specs.Around.{block_start, is_walled_at}
+use Rattle.block_rule.specs.Windows.{IsView, IsTilePlace}
+use Rattle.block_rule.specs.TileBlocks.{NamesBlocks}
+use Rattle.block_rule.specs.declared.blocks_in_tile.TileBlocks.{TileBlocks}
+use Rattle.block_rule.specs.Around.{around, none as none_there}
+use Rattle.block_rule.specs.Lent.{IsSeenIn}
+use Rattle.block_rule.specs.declared.Window.{Window}
+use Rattle.block_rule.proofs.Torus.{walled_same, window_is_view}
+use Rattle.phase_step.specs.Turns.{IsWindowFrom}
+use Rattle.phase_step.proofs.TurnedTiles.{bare_view, bare_window, border_near, tile_window, window_seen}
+use Rattle.phase_step.specs.SolidBlocks.{no_words, blocks_at, is_walled_in, HaveAllTiles, AreBlocksOf, DifferIn, AreRenewedUpTo}
+use Rattle.phase_step.proofs.PhaseSweeps.{place_is, sized_as, tiles_as}
+use Rattle.block_rule.specs.TileBlocks.{AreLentBlocks, walled_by}
+use Rattle.block_rule.specs.declared.blocks_in_tile.SetBlocks.{SetBlocks}
+use Rattle.gas_terms.specs.Gas.{site_of, is_walled}
+use Rattle.phase_step.specs.Turns.{IsPlaceOf}
+
+-- what the torus has round a place
+abbrev pub view_of : Cells → ℕ → ℕ → ℕ → ℕ → Bool
+view_of cells x0 y0 i j = has cells ((x0 + i + cells.width - 1) % cells.width) ((y0 + j + cells.height - 1) % cells.height)
+
+-- what is named by one test is named by another that says the same
+pub names_same : (told : ℕ) (b : TileBlocks) (test other : ℕ → ℕ → ℕ → Bool) → ((p x y : ℕ) → p < 2 → x < 64 → y < 64 → test p x y ≡ other p x y) → NamesBlocks told b test → NamesBlocks told b other
+names_same told b test other same are =
+    record {
+      even = λ i j h k. are.even i j h k ∙ same 0 (2 * i) (2 * j) (omega arith) (omega arith) (omega arith);
+      odd = record {
+        begin = λ i k h below. are.odd.begin i k h below ∙ same 1 (2 * i + 1) (2 * k - 1) (omega arith) (omega arith) (omega arith);
+        end = λ i k h below. are.odd.end i k h below ∙ same 1 (2 * i + 0) (2 * k - 1) (omega arith) (omega arith) (omega arith);
+      };
+      rows = λ p two x y h k e. sym (same p x y two h k) ∙ are.rows p two x y h k e;
+    }
+
+-- the place of a tile
+module _ (set : Cells) (i : ℕ) (sized : is_size (extent set) ≡ true) (within : i < tile_count set) where
+  place : IsTilePlace set set set (tile_rectangle set i).x (tile_rectangle set i).y
+  place = place_is set set set i sized within (record { wide = refl; high = refl }) (record { wide = refl; high = refl })
+
+  -- a tile's blocks are the torus's sites
+  pub walled_here : (p : ℕ) → p < 2 → (window : ℕ → ℕ → Bool) → IsView p window set (tile_rectangle set i).x (tile_rectangle set i).y → (x y : ℕ) → x < 64 → y < 64 → is_walled_at p window x y ≡ is_walled_in set i p x y
+  walled_here p two window view x y h k =
+      walled_same cell_walled p window set set.width set.height (tile_rectangle set i).x (tile_rectangle set i).y x y two refl refl view place.even_column place.even_row h k (omega (arith, place.right)) (omega (arith, place.bottom))
+
+-- words that are made of a tile's window
+pub named_here : (set : Cells) (i told : ℕ) (b : TileBlocks) (w : Window) → is_size (extent set) ≡ true → i < tile_count set → IsWindowFrom w set (tile_rectangle set i).x (tile_rectangle set i).y → ((window : ℕ → ℕ → Bool) → IsSeenIn w window → NamesBlocks told b (λ p. is_walled_at p window)) → NamesBlocks told b (is_walled_in set i)
+named_here set i told b w sized within from named =
+    let place = place set i sized within in
+    let ring = border_near w.round in
+    let near = around w.tile.now ring.0 in
+    names_same told b (λ p. is_walled_at p near) (is_walled_in set i)
+    (λ p x y two h k. walled_here set i sized within p two near
+    (window_is_view p near set (tile_rectangle set i).x (tile_rectangle set i).y two (tile_window i set set w.tile.now ring.0 refl refl place.right place.bottom from.tile (from.round ring.0 ring.1))) x y h k)
+    (named near (window_seen w))
+
+-- on the torus of another set
+pub named_on : (set old : Cells) (i told : ℕ) (b : TileBlocks) (w : Window) → HasSidesOf set old → is_size (extent old) ≡ true → i < tile_count old → IsWindowFrom w set (tile_rectangle set i).x (tile_rectangle set i).y → ((window : ℕ → ℕ → Bool) → IsSeenIn w window → NamesBlocks told b (walled_by window))
+    → NamesBlocks told b (is_walled_in set i)
+named_on set old i told b w sides sized within from named =
+    let back : HasSidesOf old set = record { wide = sym sides.wide; high = sym sides.high } in
+    named_here set i told b w (sized_as old set back sized) (omega (arith, within, tiles_as set old sides)) from named
+
+start_within : (forward : Bool) (x : ℕ) → x < 64 → (if forward then x + 1 else x) ≤ 64
+start_within true x h = omega arith
+start_within false x h = omega arith
+
+-- a tile's blocks depend on the tile and the ring round it
+pub walled_alike : (p : ℕ) (some others : ℕ → ℕ → Bool) (x y : ℕ) → x < 64 → y < 64 → ((u v : ℕ) → u ≤ 65 → v ≤ 65 → some u v ≡ others u v) → is_walled_at p some x y ≡ is_walled_at p others x y
+walled_alike p some others x y h k same =
+    let i : ℕ = block_start p x in
+    let j : ℕ = block_start p y in
+    let a : i ≤ 64 = start_within (has_parity p x) x h in
+    let b : j ≤ 64 = start_within (has_parity p y) y k in
+    ap₂ (λ u v. u || v)
+    (ap₂ (λ u v. u || v) (ap₂ (λ u v. u || v) (same i j (omega arith) (omega arith)) (same (i + 1) j (omega arith) (omega arith))) (same i (j + 1) (omega arith) (omega arith)))
+    (same (i + 1) (j + 1) (omega arith) (omega arith))
+
+-- a place in the ring round tile i, or in the tile
+abbrev pub column_of : Cells → ℕ → ℕ → ℕ
+column_of set i u = ((tile_rectangle set i).x + u + set.width - 1) % set.width
+
+abbrev pub row_of : Cells → ℕ → ℕ → ℕ
+row_of set i v = ((tile_rectangle set i).y + v + set.height - 1) % set.height
+
+-- so they stay if the set changes elsewhere
+module _ (area : Rectangle) (before now : Cells) (differ : DifferIn area before now) (sized : is_size (extent now) ≡ true) (i : ℕ) (within : i < tile_count now) (far : (u v : ℕ) → u ≤ 65 → v ≤ 65 → is_inside area (column_of now i u) (row_of now i v) ≡ false) where
+  views_same : (u v : ℕ) → u ≤ 65 → v ≤ 65 → view_of before (tile_rectangle before i).x (tile_rectangle before i).y u v ≡ view_of now (tile_rectangle now i).x (tile_rectangle now i).y u v
+  views_same u v h k =
+      ap₂ (λ w h. has before ((i % (w / 64) * 64 + u + w - 1) % w) ((i / (w / 64) * 64 + v + h - 1) % h)) differ.sides.wide differ.sides.high
+      ∙ differ.outside (column_of now i u) (row_of now i v) (mod-lt _ (omega (arith, (wide (extent now) sized).some))) (mod-lt _ (omega (arith, (high (extent now) sized).some))) (far u v h k)
+
+  pub stay : (p x y : ℕ) → p < 2 → x < 64 → y < 64 → is_walled_in before i p x y ≡ is_walled_in now i p x y
+  stay p x y two h k =
+      let back : HasSidesOf now before = record { wide = sym differ.sides.wide; high = sym differ.sides.high } in
+      let there : i < tile_count before = subst (λ n. i < n) (tiles_as now before back) within in
+      sym (walled_here before i (sized_as now before back sized) there p two (view_of before (tile_rectangle before i).x (tile_rectangle before i).y) (record { cell = λ _ _ _ _. refl }) x y h k)
+      ∙ (walled_alike p (view_of before (tile_rectangle before i).x (tile_rectangle before i).y) (view_of now (tile_rectangle now i).x (tile_rectangle now i).y) x y h k views_same
+      ∙ walled_here now i sized within p two (view_of now (tile_rectangle now i).x (tile_rectangle now i).y) (record { cell = λ _ _ _ _. refl }) x y h k)
+
+-- the words are renewed tile by tile
+pub renewed_next : (i word : ℕ) (b : TileBlocks) (before now : Cells) (told : List ℕ) (words : List TileBlocks) → i < tile_count now → HaveAllTiles now told words → NamesBlocks word b (is_walled_in now i) → AreRenewedUpTo i before now told words → AreRenewedUpTo (i + 1) before now (set told i word) (set words i b)
+renewed_next i word b before now told words within all are so_far =
+    record {
+      done = λ k below inside.
+          elim (cases_eq k i) [
+            | inl same ↦
+                subst (λ k. NamesBlocks (get_or (set told i word) k 0) (blocks_at (set words i b) k) (is_walled_in now k)) (sym same)
+                (subst (λ n. NamesBlocks n (blocks_at (set words i b) i) (is_walled_in now i)) (sym (get_or-set_same told i word 0 (omega (arith, all.rows))))
+                (subst (λ (c : TileBlocks). NamesBlocks word c (is_walled_in now i)) (sym (get_or-set_same words i b no_words (omega (arith, all.blocks)))) are))
+            | inr other ↦ kept k other (is_walled_in now k) (so_far.done k (omega arith) inside)
+          ];
+      rest = λ k above inside. kept k (λ e. omega arith) (is_walled_in before k) (so_far.rest k (omega arith) inside);
+    }
+  where
+    kept : (k : ℕ) → (k ≡ i → ⊥) → (test : ℕ → ℕ → ℕ → Bool) → NamesBlocks (get_or told k 0) (blocks_at words k) test → NamesBlocks (get_or (set told i word) k 0) (blocks_at (set words i b) k) test
+    kept k other test is =
+        subst (λ n. NamesBlocks n (blocks_at (set words i b) k) test) (sym (get_or-set_other told i k word 0 other))
+        (subst (λ (c : TileBlocks). NamesBlocks (get_or told k 0) c test) (sym (get_or-set_other words i k b no_words other)) is)
+
+-- tiles that the change does not reach stay
+pub renewed_past : (n m : ℕ) (before now : Cells) (told : List ℕ) (words : List TileBlocks) → n ≤ m → ((i : ℕ) → n ≤ i → i < m → i < tile_count now → (p x y : ℕ) → p < 2 → x < 64 → y < 64 → is_walled_in before i p x y ≡ is_walled_in now i p x y)
+    → AreRenewedUpTo n before now told words → AreRenewedUpTo m before now told words
+renewed_past n m before now told words up same so_far =
+    record {
+      done = λ i below inside.
+          elim (cases_lt i n) [
+            | inl less ↦ so_far.done i less inside
+            | inr more ↦ names_same (get_or told i 0) (blocks_at words i) (is_walled_in before i) (is_walled_in now i) (same i more below inside) (so_far.rest i more inside)
+          ];
+      rest = λ i above inside. so_far.rest i (omega arith) inside;
+    }
+
+-- the first and the last
+pub renewed_starts : (before now : Cells) (told : List ℕ) (words : List TileBlocks) → HasSidesOf before now → AreBlocksOf before told words → AreRenewedUpTo 0 before now told words
+renewed_starts before now told words sides are =
+    record {
+      done = λ i below inside. absurd (omega arith);
+      rest = λ i above inside. are.each i (omega (arith, tiles_as before now sides));
+    }
+
+pub renewed_ends : (n : ℕ) (before now : Cells) (told : List ℕ) (words : List TileBlocks) → tile_count now ≤ n → HaveAllTiles now told words → AreRenewedUpTo n before now told words → AreBlocksOf now told words
+renewed_ends n before now told words all have so_far =
+    record { all = have; each = λ i inside. so_far.done i (omega arith) inside }
+
+-- one axis: the places that a tile's blocks reach
+pub place_first : (from size : ℕ) → (from + 0 + size - 1) % size ≡ (from + size - 1) % size
+place_first from size = ap (λ n. n % size) (omega arith)
+
+pub place_inside : (from size u : ℕ) → from + 64 ≤ size → 1 ≤ u → u ≤ 64 → (from + u + size - 1) % size ≡ from + u - 1
+place_inside from size u fits low high =
+    let e : from + u + size - 1 ≡ 1 * size + (from + u - 1) = omega arith in
+    ap (λ n. n % size) e ∙ mod-mul-add 1 size (from + u - 1) (omega arith)
+
+pub place_last : (from size : ℕ) → (from + 65 + size - 1) % size ≡ (from + 63 + 1) % size
+place_last from size =
+    let e : from + 65 + size - 1 ≡ from + 63 + 1 + size = omega arith in
+    ap (λ n. n % size) e ∙ add-mod_right (from + 63 + 1) size
+
+outside_of : (start end a from : ℕ) → (nat_lt start (from + 64) && nat_lt from end) ≡ false → from ≤ a → a < from + 64 → (nat_le start a && nat_lt a end) ≡ false
+outside_of start end a from none low high = grind (arith, nat_tests)
+
+pub any_of_three : (a b c : Bool) → (a || b || c) ≡ false → (a ≡ false) × (b ≡ false) × (c ≡ false)
+any_of_three a b c e = grind arith
+
+pub not_near : (start end from size before after : ℕ) → from + 64 ≤ size → (nat_lt start (from + 64) && nat_lt from end) ≡ false → before ≡ (from + size - 1) % size → after ≡ (from + 63 + 1) % size → (nat_le start before && nat_lt before end) ≡ false → (nat_le start after && nat_lt after end) ≡ false
+    → (u : ℕ) → u ≤ 65 → (nat_le start ((from + u + size - 1) % size) && nat_lt ((from + u + size - 1) % size) end) ≡ false
+not_near start end from size before after fits none is_before is_after no_before no_after u small =
+    elim (cases_eq u 0) [
+      | inl first ↦ rw first (ap (λ n. nat_le start n && nat_lt n end) (place_first from size ∙ sym is_before) ∙ no_before)
+      | inr some ↦ elim (cases_eq u 65) [
+        | inl last ↦ rw last (ap (λ n. nat_le start n && nat_lt n end) (place_last from size ∙ sym is_after) ∙ no_after)
+        | inr other ↦ ap (λ n. nat_le start n && nat_lt n end) (place_inside from size u fits (omega arith) (omega arith)) ∙ outside_of start end (from + u - 1) from none (omega arith) (omega arith)
+      ]
+    ]
+
+-- a tile in a column of tiles, or in a row of tiles, that the rectangle does not reach
+column_is : (across row column i : ℕ) → column < across → row * across + column ≤ i → i < row * across + (column + 1) → i % across ≡ column
+column_is across row column i less low high =
+    let e : i ≡ row * across + column = omega arith in
+    ap (λ i. i % across) e ∙ mod-mul-add row across column less
+
+row_is : (across row i : ℕ) → row * across ≤ i → i < (row + 1) * across → i / across ≡ row
+row_is across row i low high =
+    let next : (row + 1) * across ≡ row * across + across = add-mul row across in
+    let e : i ≡ row * across + (i - row * across) = omega arith in
+    ap (λ i. i / across) e ∙ div-mul-add row across (i - row * across) (omega (arith, next))
+  where
+    add-mul : (m n : ℕ) → (m + 1) * n ≡ m * n + n
+    add-mul m n = omega arith
+
+module _ (area : Rectangle) (before now : Cells) (told : List ℕ) (words : List TileBlocks) (sized : is_size (extent now) ≡ true) (differ : DifferIn area before now) where
+  pub far_column : (row column start len size : ℕ) → column < now.width / 64 → start ≡ area.x → len ≡ area.w → size ≡ now.width → ((u : ℕ) → u ≤ 65 → (nat_le start ((column * 64 + u + size - 1) % size) && nat_lt ((column * 64 + u + size - 1) % size) (start + len)) ≡ false)
+      → AreRenewedUpTo (row * (now.width / 64) + column) before now told words → AreRenewedUpTo (row * (now.width / 64) + (column + 1)) before now told words
+  far_column row column start len size less is_start is_len is_size far =
+      renewed_past _ _ before now told words (omega arith)
+      (λ i low high within. stay area before now differ sized i within
+      (λ u v h k. outside_columns area (column_of now i u) (row_of now i v) (rw (column_is (now.width / 64) row column i less low high, ← is_size, ← is_start, ← is_len) (far u h))))
+
+  pub far_row : (row start len size : ℕ) → start ≡ area.y → len ≡ area.h → size ≡ now.height → ((u : ℕ) → u ≤ 65 → (nat_le start ((row * 64 + u + size - 1) % size) && nat_lt ((row * 64 + u + size - 1) % size) (start + len)) ≡ false)
+      → AreRenewedUpTo (row * (now.width / 64)) before now told words → AreRenewedUpTo ((row + 1) * (now.width / 64)) before now told words
+  far_row row start len size is_start is_len is_size far =
+      renewed_past _ _ before now told words (omega arith)
+      (λ i low high within. stay area before now differ sized i within
+      (λ u v h k. outside_rows area (column_of now i u) (row_of now i v) (rw (row_is (now.width / 64) row i low high, ← is_size, ← is_start, ← is_len) (far v k))))
+
+-- the words of a tile are read
+pub none_named : (told : ℕ) (b : TileBlocks) (test : ℕ → ℕ → ℕ → Bool) → told ≡ 0 → NamesBlocks told b test → (p : ℕ) → p < 2 → (x y : ℕ) → x < 64 → y < 64 → test p x y ≡ false
+none_named told b test e are p two x y h k = are.rows p two x y h k (rw e (bit-zero (y / 2)))
+
+pub words_read : (inside seen : Cells) (told : List ℕ) (words : List TileBlocks) (i word : ℕ) (b : TileBlocks) → inside ≡ seen → AreBlocksOf inside told words → i < tile_count seen → (i < length told → word ≡ get_or told i 0) → (i < length words → b ≡ blocks_at words i) → NamesBlocks word b (is_walled_in seen i)
+words_read inside seen told words i word b e are within told_there words_there =
+    let in_set : i < tile_count inside = omega (arith, ap tile_count e) in
+    subst (λ (s : Cells). NamesBlocks word b (is_walled_in s i)) e
+    (subst (λ n. NamesBlocks n b (is_walled_in inside i)) (sym (told_there (omega (arith, are.all.rows))))
+    (subst (λ (c : TileBlocks). NamesBlocks (get_or told i 0) c (is_walled_in inside i)) (sym (words_there (omega (arith, are.all.blocks)))) (are.each i in_set)))
+
+pub all_rows : (set : Cells) (row : ℕ) → set.height / 64 ≤ row → tile_count set ≤ row * (set.width / 64)
+all_rows set row down = omega (arith, mul_comm (set.width / 64) (set.height / 64), mul-le-mul_right (set.width / 64) down)
+
+-- without cells no block is named
+abbrev pub zero_words : TileBlocks
+zero_words = record { even = replicate 32 0; odd = record { begin = replicate 33 0; end = replicate 33 0 } }
+
+pub none_walled : (set : Cells) → IsLattice set → HasNone set → (i : ℕ) → i < tile_count set → (p : ℕ) → p < 2 → (x y : ℕ) → x < 64 → y < 64 → is_walled_in set i p x y ≡ false
+none_walled set lattice none i within p two x y h k =
+    let place = place set i lattice.sized within in
+    sym (walled_here set i lattice.sized within p two none_there (bare_view p i set set two refl (bare_window i set set (record { wide = refl; high = refl }) place.right place.bottom none)) x y h k)
+
+module _ (set : Cells) (lattice : IsLattice set) (none : HasNone set) (n : ℕ) (told : List ℕ) (words : List TileBlocks) (count : n ≡ tile_count set) (of_told : told ≡ replicate n 0) (of_words : words ≡ replicate n zero_words) where
+  zeros_name : (test : ℕ → ℕ → ℕ → Bool) → ((p x y : ℕ) → p < 2 → x < 64 → y < 64 → test p x y ≡ false) → NamesBlocks 0 zero_words test
+  zeros_name test none =
+      record {
+        even = λ i j h k. ap (λ w. bit w i) (get_or-replicate_zero 32 j) ∙ (bit-zero i ∙ sym (none 0 (2 * i) (2 * j) (omega arith) (omega arith) (omega arith)));
+        odd = record {
+          begin = λ i k h below. ap (λ w. bit w i) (get_or-replicate_zero 33 k) ∙ (bit-zero i ∙ sym (none 1 (2 * i + 1) (2 * k - 1) (omega arith) (omega arith) (omega arith)));
+          end = λ i k h below. ap (λ w. bit w i) (get_or-replicate_zero 33 k) ∙ (bit-zero i ∙ sym (none 1 (2 * i + 0) (2 * k - 1) (omega arith) (omega arith) (omega arith)));
+        };
+        rows = λ p two x y h k e. none p x y two h k;
+      }
+
+  pub no_blocks_named : AreBlocksOf set told words
+  no_blocks_named =
+      record {
+        all = record { rows = ap length of_told ∙ (length-replicate n 0 ∙ count); blocks = ap length of_words ∙ (length-replicate n zero_words ∙ count) };
+        each = λ i within.
+            let inside : i < n = omega (arith, count) in
+            subst (λ t. NamesBlocks t (blocks_at words i) (is_walled_in set i)) (sym (ap (λ l. get_or l i 0) of_told ∙ get_or-replicate n i 0 0 inside))
+            (subst (λ (b : TileBlocks). NamesBlocks 0 b (is_walled_in set i)) (sym (ap (λ l. blocks_at l i) of_words ∙ get_or-replicate n i zero_words no_words inside))
+            (zeros_name (is_walled_in set i) (λ p x y two h k. none_walled set lattice none i within p two x y h k)));
+      }
+
+pub has_none : (set : Cells) (width height : ℕ) → set ≡ cells_where width height (λ _ _. false) → HasNone set
+has_none set width height e = subst HasNone (sym e) (record { cell = λ x y h k. has-cells_where width height (λ _ _. false) x y h k })
+
+-- an edit changes its rectangle alone
+or_not : (a b : Bool) → b ≡ false → a ≡ (a || b)
+or_not true b e = refl
+or_not false b e = sym e
+
+and_not : (a b : Bool) → b ≡ false → a ≡ (a && not b)
+and_not true b e = ap not (sym e)
+and_not false b e = refl
+
+pub filled_differs : (area : Rectangle) (before now : Cells) → now ≡ filled before area → DifferIn area before now
+filled_differs area before now e =
+    subst (DifferIn area before) (sym e)
+    (record {
+      sides = record { wide = refl; high = refl };
+      outside = λ x y h k out. or_not (has before x y) (is_inside area x y) out ∙ sym (has-cells_where before.width before.height (λ x y. has before x y || is_inside area x y) x y h k);
+    })
+
+pub cleared_differs : (area : Rectangle) (before now : Cells) → now ≡ cleared before area → DifferIn area before now
+cleared_differs area before now e =
+    subst (DifferIn area before) (sym e)
+    (record {
+      sides = record { wide = refl; high = refl };
+      outside = λ x y h k out. and_not (has before x y) (is_inside area x y) out ∙ sym (has-cells_where before.width before.height (λ x y. has before x y && not (is_inside area x y)) x y h k);
+    })
+
+-- all words are made anew, from those of no cells on
+abbrev pub nothing_of : Cells → Cells
+nothing_of set = cells_where set.width set.height (λ _ _. false)
+
+pub zeros_are : (set : Cells) (n : ℕ) (told : List ℕ) (words : List TileBlocks) → IsLattice set → n ≡ tile_count set → told ≡ replicate n 0 → words ≡ replicate n zero_words → AreBlocksOf (nothing_of set) told words
+zeros_are set n told words lattice count of_told of_words =
+    no_blocks_named (nothing_of set) (record { sized = lattice.sized; full = full-cells_where set.width set.height (λ _ _. false) }) (has_none (nothing_of set) set.width set.height refl) n told words count of_told of_words
+
+-- what is lent of walls or obstacles is what the particles' tile needs
+lent_same : (lent : Option SetBlocks) (test other : ℕ → ℕ → ℕ → Bool) → ((p x y : ℕ) → p < 2 → x < 64 → y < 64 → test p x y ≡ other p x y) → AreLentBlocks lent test → AreLentBlocks lent other
+lent_same None test other same none = λ p two x y h k. sym (same p x y two h k) ∙ none p two x y h k
+lent_same (Some s) test other same are = names_same s.rows s.blocks.now test other same are
+
+pub lent_in_view : (old walls obstacles set : Cells) (i : ℕ) (lent : Option SetBlocks) → IsPlaceOf old walls obstacles i → HasSidesOf set old → AreLentBlocks lent (is_walled_in set i) → AreLentBlocks lent (walled_by (view_of set (tile_rectangle old i).x (tile_rectangle old i).y))
+lent_in_view old walls obstacles set i lent place sides =
+    lent_same lent (is_walled_in set i) (walled_by (view_of set (tile_rectangle old i).x (tile_rectangle old i).y))
+    (λ p x y two h k.
+    ap₂ (λ m n. is_walled set (site_of p m n (i % (m / 64) * 64 + x) (i / (m / 64) * 64 + y))) sides.wide sides.high
+    ∙ sym (walled_same cell_walled p (view_of set (tile_rectangle old i).x (tile_rectangle old i).y) set old.width old.height (tile_rectangle old i).x (tile_rectangle old i).y x y two sides.wide sides.high (record { cell = λ _ _ _ _. refl }) place.even_column place.even_row h k (omega (arith, place.right)) (omega (arith, place.bottom))))

@@ -1,0 +1,13 @@
+use Rattle.gas_terms.specs.Cells.{Cells, HasSidesOf}
+use Rattle.phase_step.specs.Parts.{IsPartOf, HasRun}
+use Rattle.phase_step.specs.WholeRuns.{dynamics}
+use Rattle.phase_step.proofs.parts.run_part.Given as goal
+
+abbrev pub invariant-loop-k : goal.invariant-loop-k
+invariant-loop-k g l =
+    let d = dynamics l.run.parity l.run.solids.now (g.A.Action.leaves l.run.action.now) in
+    record {
+      sides : HasSidesOf l.particles l.initial.particles;
+      spare : HasSidesOf l.spare l.initial.particles;
+      run : (lattice : Cells) → IsPartOf l.part l.run.solids.now.walls l.run.solids.now.obstacles l.initial.particles lattice 0 → HasRun l.part l.counted d l.k l.initial.particles lattice l.particles l.flow;
+    }

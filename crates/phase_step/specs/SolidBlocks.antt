@@ -1,0 +1,50 @@
+-- The blocks with a cell of a set, tile by tile.
+use Rattle.std.specs.Prelude.{◌≡◌, ℕ, ◌+◌, ◌<◌, ◌≤◌, Bool, false, List, [], length, slice_index, slice_index_or}
+use Rattle.gas_terms.specs.Cells.{Cells, Rectangle, HasSidesOf, has, is_inside, tile_count, tile_rectangle}
+use Rattle.gas_terms.specs.Gas.{site_of, is_walled}
+use Rattle.block_rule.specs.Lent.{HasNoCell}
+use Rattle.block_rule.specs.TileBlocks.{NamesBlocks, AreLentBlocks}
+use Rattle.block_rule.specs.declared.blocks_in_tile.TileBlocks.{TileBlocks}
+use Rattle.phase_step.specs.declared.steps.solids.Lent.{Lent}
+
+-- the words of tile i
+abbrev pub no_words : TileBlocks
+no_words = record { even = []; odd = record { begin = []; end = [] } }
+
+abbrev pub blocks_at : List TileBlocks → ℕ → TileBlocks
+blocks_at blocks i = slice_index_or blocks i no_words
+
+-- whether tile i's cell (x, y) is at a site of parity p that has a cell of the set
+abbrev pub is_walled_in : Cells → ℕ → ℕ → ℕ → ℕ → Bool
+is_walled_in set i p x y = is_walled set (site_of p set.width set.height ((tile_rectangle set i).x + x) ((tile_rectangle set i).y + y))
+
+-- each tile has its words
+pub record HaveAllTiles (set : Cells) (told : List ℕ) (words : List TileBlocks) : Type 0 where
+  pub rows : length told ≡ tile_count set
+  pub blocks : length words ≡ tile_count set
+
+-- and they name the blocks that have a cell of the set
+pub record AreBlocksOf (set : Cells) (told : List ℕ) (words : List TileBlocks) : Type 0 where
+  pub all : HaveAllTiles set told words
+  pub each : (i : ℕ) → i < tile_count set → NamesBlocks (slice_index told i) (blocks_at words i) (is_walled_in set i)
+
+-- what is lent of the blocks of tile i that have a wall, and of those that have an obstacle
+pub record AreLent (walls obstacles : Cells) (i : ℕ) (lent : Lent) : Type 0 where
+  pub of_walls : AreLentBlocks lent.walls (is_walled_in walls i)
+  pub of_obstacles : AreLentBlocks lent.obstacles (is_walled_in obstacles i)
+
+-- no site has a cell of the set
+abbrev pub HasNoBlocks : Cells → Type 0
+HasNoBlocks set = (i : ℕ) → i < tile_count set → (p : ℕ) → p < 2 → HasNoCell (is_walled_in set i p)
+
+-- Below: what helps proofs.
+
+-- the sets differ in a rectangle alone
+pub record DifferIn (area : Rectangle) (before now : Cells) : Type 0 where
+  pub sides : HasSidesOf before now
+  pub outside : (x y : ℕ) → x < now.width → y < now.height → is_inside area x y ≡ false → has before x y ≡ has now x y
+
+-- the words of the tiles below n are those of the set as it is now, and the others those of the set as it was before
+pub record AreRenewedUpTo (n : ℕ) (before now : Cells) (told : List ℕ) (words : List TileBlocks) : Type 0 where
+  pub done : (i : ℕ) → i < n → i < tile_count now → NamesBlocks (slice_index told i) (blocks_at words i) (is_walled_in now i)
+  pub rest : (i : ℕ) → n ≤ i → i < tile_count now → NamesBlocks (slice_index told i) (blocks_at words i) (is_walled_in before i)

@@ -1,0 +1,399 @@
+//! Parts of a lattice: some of its rows of tiles, one after another round its torus. A run of a part is told by the rows that it
+//! has of the lattice: a strip's run and that of the whole lattice are one.
+
+ghost use Rattle.std.specs.Prelude.{◌≡◌, ℕ, ◌+◌, ◌-◌, ◌*◌, ◌/◌, ◌%◌, ◌<◌, ◌≤◌, ◌⊎◌, IsTrue, false, pos};
+ghost use Rattle.gas_terms.specs.Cells.{Cells, joined, tile_count, tile_rectangle, HasSidesOf};
+ghost use Rattle.gas_plane.specs.Planes.{IsLattice, IsTileFrom, IsPosition};
+ghost use Rattle.block_rule.specs.Windows.{taken_in};
+ghost use Rattle.phase_step.specs.SolidBlocks.{AreLent};
+ghost use Rattle.gas_terms.specs.Gas.{streamed};
+ghost use Rattle.block_rule.specs.Accounts.{counted_of};
+ghost use Rattle.phase_step.specs.Actions.{acted};
+ghost use Rattle.phase_step.specs.Exchanges.{leaves_of};
+ghost use Rattle.phase_step.specs.Parts.{own_take, own_moves, own_rows, tile_in, IsTileOf, IsUnspoilt, IsPartOf, IsReady, IsHeld, IsOfSome, HasRun};
+ghost use Rattle.phase_step.specs.WholeRuns.{dynamics, CanRun, HasRunWhole};
+
+use crate::exchanges::{Action, Exchange, change_of};
+use crate::steps::{Ground, Lent};
+use crate::sums::Flow;
+use crate::{Run, parity_at};
+use block_rule::{Counted, Window, turn_tile_even, turn_tile_odd};
+use gas_plane::{Plane, Position, Tile};
+use gas_terms::{Moved, Took};
+use std::mem;
+
+/// Where the rows of some particles stand in a lattice of `down` rows of tiles. Their own rows of tiles are the lattice's from row
+/// `first` on. Above and below these there are `margin` rows of tiles more, which so many phases may spoil as they have rows of
+/// cells: one for a strip, and none for the whole lattice, whose last row meets its first.
+#[derive(Clone, Copy)]
+pub struct Part {
+    pub first: u32,
+    pub down: u32,
+    pub margin: u32,
+}
+
+// Where a phase counts what is taken: of the particles in the tiles from `first` up to `end`, in the accounts that are kept.
+#[derive(Clone, Copy)]
+struct Own {
+    first: u32,
+    end: u32,
+    counted: Counted,
+}
+
+impl Own {
+    // Whether tile i is one of them.
+    #[inline(always)]
+    fn has(self, i: u32) -> bool
+        ensures own { IsTrue result → (self.first ≤ i) × (i < self.end) }
+        ensures other { result ≡ false → (i < self.first) ⊎ (self.end ≤ i) }
+    {
+        self.first <= i && i < self.end
+    }
+}
+
+// A tile of a part at even parity, in place, among the walled blocks of the lattice's tile that it is.
+#[inline(always)]
+fn turn_even_in_part(lent: Lent<'_>, counted: Counted, tile: &mut Tile) -> Took
+    ensures cells { (part : Part) (walls obstacles cells lattice : Cells) (i k : ℕ) →
+        IsLattice cells → i < tile_count cells → IsPartOf part walls obstacles cells lattice k →
+        AreLent walls obstacles (tile_in part (lattice.width / 64) i) lent.entry →
+        IsTileFrom tile.old cells (tile_rectangle cells i).x (tile_rectangle cells i).y →
+        IsTileOf part 0 cells lattice walls obstacles (k + 1) i tile.new }
+    ensures took { (part : Part) (walls obstacles cells lattice : Cells) (i k : ℕ) →
+        IsLattice cells → i < tile_count cells → IsPartOf part walls obstacles cells lattice k →
+        AreLent walls obstacles (tile_in part (lattice.width / 64) i) lent.entry →
+        IsTileFrom tile.old cells (tile_rectangle cells i).x (tile_rectangle cells i).y →
+        IsUnspoilt part cells i k → result ≡ counted_of counted (taken_in (pos 0) lattice walls obstacles
+        (tile_rectangle lattice (tile_in part (lattice.width / 64) i))) }
+{
+    turn_tile_even(tile, lent.walls, lent.obstacles, counted)
+}
+
+// The same at odd parity: its blocks reach into the part's tiles round it.
+#[inline(always)]
+fn turn_odd_in_part(
+    old: &Plane,
+    at: Position,
+    lent: Lent<'_>,
+    counted: Counted,
+    out: &mut Tile,
+) -> Took
+    requires lattice { IsLattice old.now }
+    requires tile { at.tile < tile_count old.now }
+    requires position { IsPosition (old.now.width / 64) at }
+    ensures cells { (part : Part) (walls obstacles lattice : Cells) (k : ℕ) →
+        IsPartOf part walls obstacles old.now lattice k →
+        AreLent walls obstacles (tile_in part (lattice.width / 64) at.tile) lent.entry →
+        IsTileOf part 1 old.now lattice walls obstacles (k + 1) at.tile out.new }
+    ensures took { (part : Part) (walls obstacles lattice : Cells) (k : ℕ) →
+        IsPartOf part walls obstacles old.now lattice k →
+        AreLent walls obstacles (tile_in part (lattice.width / 64) at.tile) lent.entry →
+        IsUnspoilt part old.now at.tile k → result ≡ counted_of counted (taken_in (pos 1) lattice walls obstacles
+        (tile_rectangle lattice (tile_in part (lattice.width / 64) at.tile))) }
+{
+    let particles = Window {
+        tile: old.tile(at.tile),
+        round: old.round_at(at),
+    };
+    turn_tile_odd(&particles, lent.walls, lent.obstacles, counted, out)
+}
+
+// the tile of the lattice that tile i of a part is
+fn tile_there(part: Part, across: u32, i: u32) -> u32
+    requires part { (part.first < part.down) × (part.down ≤ 64) × (part.margin ≤ 1) }
+    requires across { (0 < across) × (across ≤ 64) }
+    requires i { i < 4096 }
+    ensures { result ≡ tile_in part across i }
+{
+    (part.first + part.down - part.margin + i / across) % part.down * across + i % across
+}
+
+// the one after it, round the lattice's torus
+#[inline(always)]
+fn next_there(there: u32, tiles: u32) -> u32
+    requires { (there < tiles) × (tiles ≤ 4096) }
+    ensures { result ≡ (there + 1) % tiles }
+{
+    if there + 1 == tiles { 0 } else { there + 1 }
+}
+
+// a part's own tiles
+fn own_of(part: Part, cells: &Plane, counted: Counted) -> Own
+    requires { (part.margin ≤ 1) × (2 * part.margin < cells.now.height / 64) }
+    ensures first { result.first ≡ part.margin * (cells.now.width / 64) }
+    ensures order { (result.first ≤ result.end) × (result.end ≤ tile_count cells.now) }
+    ensures count { result.end - result.first ≡ own_rows part cells.now * (cells.now.width / 64) }
+    ensures counted { result.counted ≡ counted }
+{
+    let margin = part.margin * cells.across();
+    Own {
+        first: margin,
+        end: cells.size().tiles() - margin,
+        counted,
+    }
+}
+
+// The phase of parity 1 of a part. Returns what is taken in its own tiles.
+#[inline(always)]
+fn turn_odd_part(
+    old: &Plane,
+    ground: Ground<'_>,
+    part: Part,
+    counted: Counted,
+    out: &mut Plane,
+) -> Took
+    requires held { IsHeld part ground.solids.now.walls ground.solids.now.obstacles old.now }
+    requires out { HasSidesOf out.old old.now }
+    ensures sides { HasSidesOf out.new old.now }
+    ensures rows { (lattice : Cells) (k : ℕ) → let s = ground.entry.solids.now in
+        IsPartOf part s.walls s.obstacles old.now lattice k →
+        IsPartOf part s.walls s.obstacles out.new
+        (streamed 1 lattice (joined s.walls s.obstacles)) (k + 1) }
+    ensures took { (lattice : Cells) (k : ℕ) → let s = ground.entry.solids.now in
+        IsPartOf part s.walls s.obstacles old.now lattice k → part.margin * k ≤ 64 →
+        result ≡ counted_of counted (own_take part 1 old.now lattice s.walls s.obstacles) }
+{
+    let across = old.across();
+    let own = own_of(part, old, counted);
+    let tiles = part.down * across;
+    let mut took = Took::ZERO;
+    let mut at = old.position(0);
+    let mut there = tile_there(part, across, 0);
+    for i in 0..out.size().tiles() {
+        let lent = ground.in_tile(there);
+        let here = turn_odd_in_part(old, at, lent, counted, out.tile_mut(i));
+        if own.has(i) {
+            took = took.plus(here);
+        }
+        at = at.next(across);
+        there = next_there(there, tiles);
+    }
+    took
+}
+
+// The phase of parity 0 of a part, in place.
+#[inline(always)]
+fn turn_even_part(particles: &mut Plane, ground: Ground<'_>, part: Part, counted: Counted) -> Took
+    requires held { IsHeld part ground.solids.now.walls ground.solids.now.obstacles particles.old }
+    ensures sides { HasSidesOf particles.new particles.old }
+    ensures rows { (lattice : Cells) (k : ℕ) → let s = ground.entry.solids.now in
+        IsPartOf part s.walls s.obstacles particles.old lattice k →
+        IsPartOf part s.walls s.obstacles particles.new
+        (streamed 0 lattice (joined s.walls s.obstacles)) (k + 1) }
+    ensures took { (lattice : Cells) (k : ℕ) → let s = ground.entry.solids.now in
+        IsPartOf part s.walls s.obstacles particles.old lattice k → part.margin * k ≤ 64 →
+        result ≡ counted_of counted (own_take part 0 particles.old lattice s.walls s.obstacles) }
+{
+    let across = particles.across();
+    let own = own_of(part, particles, counted);
+    let tiles = part.down * across;
+    let mut took = Took::ZERO;
+    let mut there = tile_there(part, across, 0);
+    for i in 0..particles.size().tiles() {
+        let lent = ground.in_tile(there);
+        let here = turn_even_in_part(lent, counted, particles.tile_mut(i));
+        if own.has(i) {
+            took = took.plus(here);
+        }
+        there = next_there(there, tiles);
+    }
+    took
+}
+
+// The same, compiled for none and for some.
+fn turn_odd(old: &Plane, ground: Ground<'_>, part: Part, counted: Counted, out: &mut Plane) -> Took
+    requires held { IsHeld part ground.solids.now.walls ground.solids.now.obstacles old.now }
+    requires out { HasSidesOf out.old old.now }
+    ensures sides { HasSidesOf out.new old.now }
+    ensures rows { (lattice : Cells) (k : ℕ) → let s = ground.entry.solids.now in
+        IsPartOf part s.walls s.obstacles old.now lattice k →
+        IsPartOf part s.walls s.obstacles out.new
+        (streamed 1 lattice (joined s.walls s.obstacles)) (k + 1) }
+    ensures took { (lattice : Cells) (k : ℕ) → let s = ground.entry.solids.now in
+        IsPartOf part s.walls s.obstacles old.now lattice k → part.margin * k ≤ 64 →
+        result ≡ counted_of counted (own_take part 1 old.now lattice s.walls s.obstacles) }
+{
+    let Ground { solids, clear } = ground;
+    if clear {
+        let none = Ground {
+            solids,
+            clear: true,
+        };
+        turn_odd_part(old, none, part, counted, out)
+    } else {
+        let some = Ground {
+            solids,
+            clear: false,
+        };
+        turn_odd_part(old, some, part, counted, out)
+    }
+}
+
+fn turn_even(particles: &mut Plane, ground: Ground<'_>, part: Part, counted: Counted) -> Took
+    requires held { IsHeld part ground.solids.now.walls ground.solids.now.obstacles particles.old }
+    ensures sides { HasSidesOf particles.new particles.old }
+    ensures rows { (lattice : Cells) (k : ℕ) → let s = ground.entry.solids.now in
+        IsPartOf part s.walls s.obstacles particles.old lattice k →
+        IsPartOf part s.walls s.obstacles particles.new
+        (streamed 0 lattice (joined s.walls s.obstacles)) (k + 1) }
+    ensures took { (lattice : Cells) (k : ℕ) → let s = ground.entry.solids.now in
+        IsPartOf part s.walls s.obstacles particles.old lattice k → part.margin * k ≤ 64 →
+        result ≡ counted_of counted (own_take part 0 particles.old lattice s.walls s.obstacles) }
+{
+    let Ground { solids, clear } = ground;
+    if clear {
+        let none = Ground {
+            solids,
+            clear: true,
+        };
+        turn_even_part(particles, none, part, counted)
+    } else {
+        let some = Ground {
+            solids,
+            clear: false,
+        };
+        turn_even_part(particles, some, part, counted)
+    }
+}
+
+// A phase of a part in place. Returns what is taken in its own tiles.
+fn turn_part(
+    particles: &mut Plane,
+    ground: Ground<'_>,
+    part: Part,
+    parity: u8,
+    counted: Counted,
+    spare: &mut Plane,
+) -> Took
+    requires parity { parity < 2 }
+    requires held { IsHeld part ground.solids.now.walls ground.solids.now.obstacles particles.old }
+    requires spare { HasSidesOf spare.old particles.old }
+    ensures sides { HasSidesOf particles.new particles.old × HasSidesOf spare.new particles.old }
+    ensures rows { (lattice : Cells) (k : ℕ) → let s = ground.entry.solids.now in
+        IsPartOf part s.walls s.obstacles particles.old lattice k →
+        IsPartOf part s.walls s.obstacles particles.new
+        (streamed parity lattice (joined s.walls s.obstacles)) (k + 1) }
+    ensures took { (lattice : Cells) (k : ℕ) → let s = ground.entry.solids.now in
+        IsPartOf part s.walls s.obstacles particles.old lattice k → part.margin * k ≤ 64 →
+        result ≡ counted_of counted (own_take part parity particles.old lattice s.walls s.obstacles) }
+{
+    if parity == 0 {
+        turn_even(particles, ground, part, counted)
+    } else {
+        let took = turn_odd(particles, ground, part, counted, spare);
+        mem::swap(particles, spare);
+        took
+    }
+}
+
+// Acts on a part as on the lattice, at a tick of this parity. Returns what comes in and goes out in its own tiles.
+fn act_on_part(particles: &mut Plane, exchange: &Exchange, part: Part, parity: u8) -> Moved
+    requires parity { parity < 2 }
+    requires held { IsOfSome part particles.old }
+    ensures sides { HasSidesOf particles.new particles.old }
+    ensures rows { (walls obstacles lattice : Cells) (k : ℕ) →
+        IsPartOf part walls obstacles particles.old lattice k →
+        IsPartOf part walls obstacles particles.new (acted (leaves_of exchange.now) lattice) k }
+    ensures moved { (walls obstacles lattice : Cells) (k : ℕ) →
+        IsPartOf part walls obstacles particles.old lattice k → part.margin * k ≤ 64 →
+        result ≡ own_moves part parity particles.old lattice (acted (leaves_of exchange.now) lattice) }
+{
+    let across = particles.across();
+    let own = own_of(part, particles, Counted::BOTH);
+    let mut moved = Moved::ZERO;
+    if exchange.is_still() {
+        return moved;
+    }
+    let tiles = part.down * across;
+    let mut next = tile_there(part, across, 0);
+    for i in 0..particles.size().tiles() {
+        let old = particles.tile(i);
+        let there = next;
+        next = next_there(there, tiles);
+        let Some(new) = exchange.on_tile(there % across * 64, there / across * 64, old) else {
+            continue;
+        };
+        let here = change_of(old, &new).moved(parity);
+        particles.set_tile(i, new);
+        if own.has(i) {
+            moved = moved.plus(here);
+        }
+    }
+    moved
+}
+
+// What the action does to a part after phase k, at a tick of this parity. Returns what comes in and goes out in its own tiles.
+fn act_after<A: Action>(particles: &mut Plane, action: &A, k: u16, part: Part, parity: u8) -> Moved
+    requires parity { parity < 2 }
+    requires held { IsOfSome part particles.old }
+    ensures sides { HasSidesOf particles.new particles.old }
+    ensures rows { (walls obstacles lattice : Cells) (m : ℕ) →
+        IsPartOf part walls obstacles particles.old lattice m →
+        IsPartOf part walls obstacles particles.new (acted (A.leaves action.now k) lattice) m }
+    ensures moved { (walls obstacles lattice : Cells) (m : ℕ) →
+        IsPartOf part walls obstacles particles.old lattice m → part.margin * m ≤ 64 →
+        result ≡ own_moves part parity particles.old lattice (acted (A.leaves action.now k) lattice) }
+{
+    // an exchange made for nothing would cost as much as a step of some tiles
+    if !action.acts() {
+        return Moved::ZERO;
+    }
+    act_on_part(particles, &action.after_phase(k), part, parity)
+}
+
+/// A run on a part of a lattice, in place. Returns what it comes to in the part's own tiles; an account that is not kept has 0.
+/// `spare` is overwritten.
+pub fn run_part<A: Action>(
+    particles: &mut Plane,
+    part: Part,
+    run: Run<'_, A>,
+    counted: Counted,
+    spare: &mut Plane,
+) -> Flow
+    requires parity { run.parity < 2 }
+    requires part { let s = run.solids.now in IsReady part s.walls s.obstacles particles.old 0 }
+    requires few { part.margin * run.n ≤ 64 }
+    requires spare { HasSidesOf spare.old particles.old }
+    ensures run { (lattice : Cells) → let r = run.entry in let s = r.solids.now in
+        IsPartOf part s.walls s.obstacles particles.old lattice 0 →
+        HasRun part counted (dynamics r.parity s (A.leaves r.action.now)) r.n
+        particles.old lattice particles.new result }
+    ensures sides { HasSidesOf particles.new particles.old × HasSidesOf spare.new particles.old }
+{
+    let ground = Ground {
+        solids: run.solids,
+        clear: run.solids.have_no_blocks(),
+    };
+    let mut flow = Flow::ZERO;
+    for k in 0..run.n {
+        let now = parity_at(run.parity, k);
+        let took = turn_part(particles, ground, part, now, counted, spare);
+        let moved = act_after(particles, run.action, k, part, 1 - now);
+        flow = flow.plus(Flow { took, moved });
+    }
+    flow
+}
+
+/// A run on the whole lattice, on the calling thread. An account that is not kept has 0.
+pub fn run_whole<A: Action>(
+    particles: &mut Plane,
+    run: Run<'_, A>,
+    counted: Counted,
+    spare: &mut Plane,
+) -> Flow
+    requires { let r = run in
+        CanRun (dynamics r.parity r.solids.now (A.leaves r.action.now)) particles.old spare.old }
+    ensures { let r = run.entry in
+        HasRunWhole counted (dynamics r.parity r.solids.now (A.leaves r.action.now)) r.n
+        particles.old particles.new spare.new result }
+{
+    let part = Part {
+        first: 0,
+        down: particles.size().height() as u32 / 64,
+        margin: 0,
+    };
+    let flow = run_part(particles, part, run, counted, spare);
+    // what is made is a lattice too
+    let _ = particles.size();
+    flow
+}

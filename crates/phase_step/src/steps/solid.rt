@@ -1,0 +1,224 @@
+//! A set of cells that particles do not pass, with its blocks: walls, or obstacles.
+
+ghost use Rattle.std.specs.Prelude.{◌≡◌, ℕ, ◌+◌, ◌*◌, ◌/◌, ◌-◌, ◌%◌, ◌<◌, ◌≤◌, ◌^◌, ◌&&◌, nat_le, nat_lt, IfOk, IsTrue, false};
+ghost use Rattle.gas_terms.specs.Cells.{Cells, cells_where, filled, cleared, tile_count, tile_rectangle};
+ghost use Rattle.gas_plane.specs.Planes.{IsLattice};
+ghost use Rattle.block_rule.specs.TileBlocks.{AreLentBlocks};
+ghost use Rattle.phase_step.specs.Turns.{IsWindowFrom};
+ghost use Rattle.phase_step.specs.SolidBlocks.{is_walled_in, HasNoBlocks, HaveAllTiles, AreBlocksOf, DifferIn, AreRenewedUpTo};
+
+use block_rule::{SetBlocks, TileBlocks, Window, tile_blocks};
+use gas_plane::{Plane, after, before};
+use gas_terms::{NoMemory, Rect, Size};
+use std::alloc::Global;
+use std::marker::Model;
+
+/// A set of cells. For each tile and both parities there are words that name the blocks which have a cell of it, and a word that
+/// tells in which rows these lie. Contracts see the cells. Only `empty`, `of` and `copy` allocate.
+#[derive(Drop)]
+pub struct Solid {
+    cells: Plane,
+    rows: Vec<u32>,
+    blocks: Vec<TileBlocks>,
+}
+
+impl Model for Solid {
+    ghost use Rattle.gas_terms.specs.Cells.{Cells};
+    ghost use Rattle.phase_step.specs.SolidBlocks.{AreBlocksOf};
+
+    ghost Value = { Cells };
+
+    ghost view = { λ s. s.cells };
+
+    ghost invariant = { λ s. AreBlocksOf s.cells s.rows.items s.blocks.items };
+}
+
+impl Solid {
+    /// No cells, on a lattice of this size. Fails if memory runs out.
+    pub fn empty(alloc: Global, size: Size) -> Result<Solid, NoMemory>
+        ensures { IfOk result (λ solid. solid ≡ cells_where size.width size.height (λ _ _. false)) }
+    {
+        let cells = Plane::empty(alloc, size)?;
+        let tiles = cells.size().tiles() as usize;
+        let rows = vec![in alloc; 0; tiles]?;
+        let blocks = vec![in alloc; TileBlocks::NONE; tiles]?;
+        Ok(Solid {
+            cells,
+            rows,
+            blocks,
+        })
+    }
+
+    /// These cells. Fails if memory runs out.
+    pub fn of(alloc: Global, cells: Plane) -> Result<Solid, NoMemory>
+        ensures { IfOk result (λ solid. solid ≡ cells) }
+    {
+        let tiles = cells.size().tiles();
+        let mut rows = vec![in alloc; 0; tiles as usize]?;
+        let mut blocks = vec![in alloc; TileBlocks::NONE; tiles as usize]?;
+        for i in 0..tiles {
+            renew_tile(&cells, i, &mut rows, &mut blocks);
+        }
+        Ok(Solid {
+            cells,
+            rows,
+            blocks,
+        })
+    }
+
+    /// A clone. Fails if memory runs out.
+    pub fn copy(&self, alloc: Global) -> Result<Solid, NoMemory>
+        ensures { IfOk result (λ solid. solid ≡ self.now) }
+    {
+        let cells = self.cells.copy(alloc)?;
+        let rows = Vec::from_slice(alloc, self.rows.as_slice())?;
+        let blocks = Vec::from_slice(alloc, self.blocks.as_slice())?;
+        Ok(Solid {
+            cells,
+            rows,
+            blocks,
+        })
+    }
+
+    /// The cells.
+    pub fn cells(&self) -> &Plane
+        ensures { result.now ≡ self.now }
+    {
+        &self.cells
+    }
+
+    /// Whether it has no cell, and so no block.
+    pub fn has_no_blocks(&self) -> bool
+        ensures { IsTrue result → HasNoBlocks self.now }
+    {
+        // it is a lattice
+        let _ = self.cells.size();
+        self.cells.is_empty()
+    }
+
+    /// The blocks of tile i that have a cell of the set, if there are any.
+    #[inline(always)]
+    pub fn in_tile(&self, i: u32) -> Option<SetBlocks<'_>>
+        requires { i < tile_count self.now }
+        ensures { AreLentBlocks result (is_walled_in self.now i) }
+    {
+        let rows = self.rows[i as usize];
+        if rows == 0 {
+            return None;
+        }
+        Some(SetBlocks {
+            rows,
+            blocks: &self.blocks[i as usize],
+        })
+    }
+
+    /// Adds the cells of the rectangle.
+    pub fn fill(&mut self, area: Rect)
+        ensures { self.new ≡ filled self.old area }
+    {
+        self.cells.fill(area);
+        renew(&self.cells, area, &mut self.rows, &mut self.blocks);
+    }
+
+    /// Removes the cells of the rectangle.
+    pub fn clear(&mut self, area: Rect)
+        ensures { self.new ≡ cleared self.old area }
+    {
+        self.cells.clear(area);
+        renew(&self.cells, area, &mut self.rows, &mut self.blocks);
+    }
+}
+
+// Whether `len` cells from `start` on have one of those that the blocks of a tile reach, along one axis of a torus of this size: its
+// own 64 from `from` on, the one before them and the one after them.
+#[inline]
+fn is_near(start: u32, len: u32, from: u32, size: u32) -> bool
+    requires start { start + len < 2 ^ 31 }
+    requires from { from + 64 ≤ size }
+    requires size { size < 2 ^ 31 }
+    ensures { result ≡ false → (u : ℕ) → u ≤ 65 →
+        (nat_le start ((from + u + size - 1) % size) && nat_lt ((from + u + size - 1) % size) (start + len))
+        ≡ false }
+{
+    let end = start + len;
+    let here = meet(start, end, from, from + 64);
+    let left = is_among(before(from, size), start, end);
+    let right = is_among(after(from + 63, size), start, end);
+    here | left | right
+}
+
+// whether the numbers from `start` up to `end` and those from `from` up to `to` begin before the others end
+#[inline]
+fn meet(start: u32, end: u32, from: u32, to: u32) -> bool
+    ensures { result ≡ (nat_lt start to && nat_lt from end) }
+{
+    start < to && from < end
+}
+
+// whether k is one of the numbers from `start` up to `end`
+#[inline]
+fn is_among(k: u32, start: u32, end: u32) -> bool
+    ensures { result ≡ (nat_le start k && nat_lt k end) }
+{
+    start <= k && k < end
+}
+
+// The words of tile i are made anew.
+fn renew_tile(set: &Plane, i: u32, rows: &mut Vec<u32>, blocks: &mut Vec<TileBlocks>)
+    requires lattice { IsLattice set.now }
+    requires tile { i < tile_count set.now }
+    requires all { HaveAllTiles set.now rows.old.items blocks.old.items }
+    ensures all { HaveAllTiles set.now rows.new.items blocks.new.items }
+    ensures words { (before : Cells) → AreRenewedUpTo i before set.now rows.old.items blocks.old.items →
+        AreRenewedUpTo (i + 1) before set.now rows.new.items blocks.new.items }
+{
+    let window = window_in(set, i);
+    let (told, named) = tile_blocks(&window);
+    rows[i as usize] = told;
+    blocks[i as usize] = named;
+}
+
+// The words of those tiles of a row whose blocks reach the rectangle.
+fn renew_row(set: &Plane, area: Rect, row: u32, rows: &mut Vec<u32>, blocks: &mut Vec<TileBlocks>)
+    requires row { row < set.now.height / 64 }
+    requires all { HaveAllTiles set.now rows.old.items blocks.old.items }
+    ensures all { HaveAllTiles set.now rows.new.items blocks.new.items }
+    ensures words { (before : Cells) → DifferIn area before set.now →
+        AreRenewedUpTo (row * (set.now.width / 64)) before set.now rows.old.items blocks.old.items →
+        AreRenewedUpTo ((row + 1) * (set.now.width / 64)) before set.now rows.new.items blocks.new.items }
+{
+    let across = set.across();
+    let width = set.size().width() as u32;
+    let x = area.x() as u32;
+    let w = area.w() as u32;
+    for column in 0..across {
+        if is_near(x, w, column * 64, width) {
+            renew_tile(set, row * across + column, rows, blocks);
+        }
+    }
+}
+
+// If the words were those of a set that differs in the rectangle alone, they become those of this set.
+fn renew(set: &Plane, area: Rect, rows: &mut Vec<u32>, blocks: &mut Vec<TileBlocks>)
+    requires { HaveAllTiles set.now rows.old.items blocks.old.items }
+    ensures { (before : Cells) → DifferIn area before set.now →
+        AreBlocksOf before rows.old.items blocks.old.items → AreBlocksOf set.now rows.new.items blocks.new.items }
+{
+    let height = set.size().height() as u32;
+    for row in 0..height / 64 {
+        if is_near(area.y() as u32, area.h() as u32, row * 64, height) {
+            renew_row(set, area, row, rows, blocks);
+        }
+    }
+}
+
+/// A set's tile with those round it.
+pub fn window_in(set: &Plane, i: u32) -> Window<'_>
+    requires { i < tile_count set.now }
+    ensures { let r = tile_rectangle set.now i in IsWindowFrom result set.now r.x r.y }
+{
+    Window {
+        tile: set.tile(i),
+        round: set.round(i),
+    }
+}
