@@ -13,8 +13,6 @@ use Rattle.gas_terms.proofs.Bounds.{ledger_fits}
 use Rattle.gas_terms.proofs.Bookings.{book_all-sides, book_all-torus}
 use Rattle.gas_terms.proofs.LabBounds.{next_accounts_fit}
 use Rattle.gas_terms.proofs.Laboratories.{all_booked, opening_sound, accepted_sound, has_room}
-use Rattle.gas_terms.specs.Symmetry.{IsOnOneTorus}
-use Rattle.gas_ledger.specs.Gases.{IsSoundGas}
 use Rattle.gas_ledger.specs.Books.{TickHolds, Affords}
 use Rattle.gas_ledger.proofs.Stepping.{torus_of, book_tick}
 use Rattle.gas_plane.specs.Planes.{IsLattice}

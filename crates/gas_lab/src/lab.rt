@@ -1,7 +1,7 @@
 //! The laboratory: what a command changes, when it is refused, and what always holds.
 
 ghost use Rattle.std.specs.Prelude.{◌≡◌, ◌≤◌, ◌<◌, true, false, IfOk, IfErr, length};
-ghost use Rattle.gas_terms.specs.Cells.{extent};
+ghost use Rattle.gas_terms.specs.Cells.{extent, IsEvenTorus};
 ghost use Rattle.gas_terms.specs.Rows.{row_bytes};
 ghost use Rattle.gas_terms.specs.Commands.{fits};
 ghost use Rattle.gas_terms.specs.Laboratory.{most_entries, opening, answer as answer_of, cause, lacks_entry, has_all_ports, bars_way_back, leaves_ticks, lacks_room, Applies, IsAcceptable, IsSound};
@@ -137,8 +137,9 @@ impl<S: Stepper> Lab<S> {
     pub fn invariant(&self)
         ensures sound { IsSound self.now }
         ensures cap { self.now.cap ≤ most_entries }
-        // So the laws of symmetry hold for the gas of every laboratory.
+        // So the laws of symmetry and of histories hold for the gas of every laboratory.
         ensures torus { IsOnOneTorus self.now.gas }
+        ensures full { IsEvenTorus self.now.gas.particles }
     {
         // a read of a field shows the prover what the type keeps, and a gas's size what the gas keeps
         let _cap = self.cap;
