@@ -1,16 +1,17 @@
 #!/usr/bin/env python3
-"""The laboratory once more, in Python and straight from its rules: sites and channels, a set of cells, no tiles.
+"""The laboratory once more: a second implementation, in Python and straight from the rules of the gas.
 
-It reads a script of commands on standard input and writes the replies. The outputs beside the scripts in examples/ come
-from here, so they are not the program's own. It knows no refusals: its scripts are in order.
+It works with sites and channels in a set of cells, and knows nothing of tiles, words or the program. It reads a script of
+commands on standard input and writes the replies, with the options of `gaslab run`. The outputs beside the scripts in examples/
+come from here, so they are not the program's own. It knows no refusals, so its scripts are in order, and it is slow: some
+thousand particles a millisecond.
 
-    tools/channel_gas.py [width height] < examples/4_tunnel.txt
+    tools/channel_gas.py < examples/4_tunnel.txt
+    tools/channel_gas.py --width 256 --height 256 < examples/5_sound.txt
 
-Scripts that are named are sessions on one gas, one after the other, of the seats 0, 1, ..:
+Scripts that are named are sessions on one gas, one after another, of the seats 0, 1, ..:
 
     tools/channel_gas.py examples/8_first.txt examples/8_second.txt examples/8_third.txt
-
---save and --load are the program's. With --without-collisions particles pass through one another.
 """
 import argparse
 import struct
@@ -228,19 +229,20 @@ def change(gas, books, word, numbers, rest):
 
 
 def main():
-    options = argparse.ArgumentParser(description="The laboratory once more, in Python and straight from its rules.")
-    options.add_argument("--load", metavar="PATH")
-    options.add_argument("--save", metavar="PATH")
-    options.add_argument("--without-collisions", action="store_true")
-    options.add_argument("words", nargs="*", metavar="width height | script")
+    options = argparse.ArgumentParser(description=__doc__, formatter_class=argparse.RawDescriptionHelpFormatter)
+    options.add_argument("--width", type=int, default=64, help="columns, a multiple of 64 (64); not used with --load")
+    options.add_argument("--height", type=int, default=64, help="rows, a multiple of 64 (64); not used with --load")
+    options.add_argument("--load", metavar="PATH", help="begin with the gas of this snapshot")
+    options.add_argument("--save", metavar="PATH", help="where the command save writes a snapshot")
+    options.add_argument("--without-collisions", action="store_true", help="let particles pass through one another")
+    options.add_argument("scripts", nargs="*", metavar="SCRIPT", help="sessions, in place of standard input")
     asked = options.parse_args()
-    sizes = [int(word) for word in asked.words if word.isdecimal()] or (64, 64)
-    scripts = [open(word) for word in asked.words if not word.isdecimal()] or [sys.stdin]
+    scripts = [open(path) for path in asked.scripts] or [sys.stdin]
     if asked.load:
         with open(asked.load, "rb") as file:
             gas = from_snapshot(file.read())
     else:
-        gas = Gas(*sizes)
+        gas = Gas(asked.width, asked.height)
     gas.collides = not asked.without_collisions
     laboratory = gas, Books(gas.sums(gas.particles)), []
     for seat, script in enumerate(scripts):
