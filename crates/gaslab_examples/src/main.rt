@@ -20,7 +20,7 @@ use std::{fs, io, thread};
 use test_types::faults::{FaultAt, Store};
 
 // what is run alone, on a new lattice of that width and height
-const LESSONS: [(&str, u32, u32); 20] = [
+const LESSONS: [(&str, u32, u32); 26] = [
     ("1_one_particle", 64, 64),
     ("2_head_on", 64, 64),
     ("2_blocks", 64, 64),
@@ -36,6 +36,12 @@ const LESSONS: [(&str, u32, u32); 20] = [
     ("9_translation", 64, 64),
     ("9_reversed", 64, 64),
     ("9_light_cone", 128, 128),
+    ("10_lines", 64, 64),
+    ("10_wall", 64, 64),
+    ("10_returns", 64, 64),
+    ("11_forget", 64, 64),
+    ("11_spoiled", 64, 64),
+    ("11_lines", 64, 64),
     ("scenes/hole", 64, 64),
     ("scenes/piston", 64, 64),
     ("scenes/porous", 64, 64),
