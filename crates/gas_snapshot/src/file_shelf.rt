@@ -11,7 +11,8 @@ use std::rt::Files;
 use std::{fs, io};
 
 /// Keeps the last snapshot in a file. A snapshot is first written to the draft `PATH.SEAT.tmp`, which is renamed to the path
-/// once it is whole. A put that fails leaves the old file.
+/// once it is whole. The draft is a new file with the old file's mode: what was at its path is removed, and never followed. A
+/// put that fails leaves the old file, and removes the draft.
 #[derive(Drop)]
 pub struct FileShelf<R: Files> {
     files: R,
@@ -36,11 +37,25 @@ impl<R: Files + Drop> FileShelf<R> {
     }
 }
 
-fn replace<R: Files>(files: &R, draft: &str, path: &str, bytes: &[u8]) -> io::Result<()> {
-    let mut file = fs::create(files, draft)?;
+// Writes the whole draft, with the mode of the old file if there is one.
+fn fill<R: Files>(files: &R, file: &mut R::File, path: &str, bytes: &[u8]) -> io::Result<()> {
+    if let Ok(old) = fs::metadata(files, path) {
+        file.set_permissions(old.permissions())?;
+    }
     file.write_all(bytes)?;
-    file.sync_all()?;
-    fs::rename(files, draft, path)
+    file.sync_all()
+}
+
+fn replace<R: Files>(files: &R, draft: &str, path: &str, bytes: &[u8]) -> io::Result<()> {
+    // a draft that was left here; if it can't be removed, the next call fails
+    fs::remove_file(files, draft).ok();
+    let mut file = File::create_new(files, draft)?;
+    let filled = fill(files, &mut file, path, bytes);
+    let done = filled.and_then(|()| fs::rename(files, draft, path));
+    if done.is_err() {
+        fs::remove_file(files, draft).ok();
+    }
+    done
 }
 
 impl<R: Files> Shelf for FileShelf<R> {

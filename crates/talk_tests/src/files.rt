@@ -2,6 +2,9 @@
 
 use crate::expected::{expect_same, expect_that};
 use gas_snapshot::{FileShelf, Shelf};
+use std::fs::Permissions;
+use std::os::unix::fs as unix_fs;
+use std::os::unix::fs::PermissionsExt;
 use std::process::Abort;
 use std::rt::Files;
 use std::{fs, process};
@@ -58,6 +61,37 @@ fn takes_the_place_of_the_last<K: Shelf>(
     holds_the_snapshot(rt, path);
 }
 
+// What a link at the draft's place names is left as it was. The file keeps its mode.
+fn follows_no_draft<K: Shelf>(
+    rt: &(impl Abort + AllocGlobal + Files),
+    shelf: &mut K,
+    path: &str,
+    target: &str,
+) {
+    fs::write(rt, target, b"a text").expect(rt, "a file");
+    unix_fs::symlink(rt, target, draft_of(rt, path).as_str()).expect(rt, "a link");
+    fs::set_permissions(rt, path, Permissions::from_mode(0o600)).expect(rt, "a mode");
+    puts(rt, shelf, snapshot().as_slice(), true, 0);
+    has_no_draft(rt, path);
+    holds_the_snapshot(rt, path);
+    let read = fs::read(rt, target).expect(rt, "a file");
+    expect_same(&rt, read.as_slice(), b"a text".as_slice());
+    let told = fs::symlink_metadata(rt, path).expect(rt, "a file");
+    expect_same(&rt, told.permissions().mode() & 0o777, 0o600);
+}
+
+// A put whose draft can't be renamed, since its path is a folder, leaves no draft.
+fn removes_a_failed_draft<K: Shelf>(
+    rt: &(impl Abort + AllocGlobal + Files),
+    shelf: &mut K,
+    path: &str,
+) {
+    fs::remove_file(rt, path).expect(rt, "a file");
+    fs::create_dir_all(rt, path).expect(rt, "a new folder");
+    puts(rt, shelf, snapshot().as_slice(), false, 2);
+    has_no_draft(rt, path);
+}
+
 // A folder where the draft would be: the put fails, is counted, and leaves the file that was there.
 fn fails_and_leaves_the_file<K: Shelf>(
     rt: &(impl Abort + AllocGlobal + Files),
@@ -67,6 +101,7 @@ fn fails_and_leaves_the_file<K: Shelf>(
     fs::create_dir_all(rt, draft_of(rt, path).as_str()).expect(rt, "a new folder");
     puts(rt, shelf, [1, 2, 3].as_slice(), false, 1);
     holds_the_snapshot(rt, path);
+    fs::remove_dir_all(rt, draft_of(rt, path).as_str()).expect(rt, "no folder");
 }
 
 #[test]
@@ -76,10 +111,13 @@ fn file_shelf_keeps_the_last_put_that_succeeds(rt: HostRuntime) {
     let path = path_in(&rt, folder.as_str());
     let mut shelf = FileShelf::new(rt.alloc(), rt, path.as_str(), 7).expect(&rt, "memory");
     takes_the_place_of_the_last(&rt, &mut shelf, path.as_str());
+    let target = format!(in rt.alloc(); "{folder}/target").expect(&rt, "memory");
+    follows_no_draft(&rt, &mut shelf, path.as_str(), target.as_str());
     fails_and_leaves_the_file(&rt, &mut shelf, path.as_str());
+    removes_a_failed_draft(&rt, &mut shelf, path.as_str());
     fs::remove_dir_all(&rt, folder.as_str()).expect(&rt, "no folder");
     // if the folder is gone, the put fails and is counted
-    puts(&rt, &mut shelf, snapshot().as_slice(), false, 2);
+    puts(&rt, &mut shelf, snapshot().as_slice(), false, 3);
 }
 
 #[test]
