@@ -1,9 +1,11 @@
 -- How many reads gave the input so far, and how many are left.
-use Rattle.std.proofs.Common.{◌≡◌, ◌≢◌, ℕ, ◌+◌, ◌*◌, ◌<◌, ◌≤◌, nat_lt, true, false, List, [], ◌++◌, length, refl, arith, length-append}
+use Rattle.std.proofs.Common.{◌≡◌, ◌≢◌, ℕ, ◌+◌, ◌*◌, ◌<◌, ◌≤◌, nat_lt, true, false, List, [], ◌++◌, length, None, refl, sym, append-nil, arith, length-append}
 use Rattle.std.proofs.lemmas.Bool.Decides.{nat_tests}
 use Rattle.gas_talk.specs.declared.end.SessionEnd.{SessionEnd}
 use Rattle.gas_talk.specs.declared.end.SessionEnd.TheVariants.{Quit, InputEnd, ReadFault, WriteFault, BadLine, Memory, TooManyReads}
-use Rattle.gas_talk.specs.Ends.{read_limit, most_reads, empty_reads, AreReads}
+use Rattle.gas_terms.specs.Cells.{Extent}
+use Rattle.gas_talk.specs.Lines.{lines}
+use Rattle.gas_talk.specs.Ends.{ending, read_limit, most_reads, empty_reads, AreReads, StopsAtEnd}
 
 -- each of them gave a byte at least
 pub record Counts (count left : ℕ) (input : List ℕ) : Type 0 where
@@ -66,3 +68,30 @@ after_all count left input c none =
       short = omega (arith, c.short);
       all = λ end. omega (arith, c.whole, none_left);
     }
+
+-- no read was made yet
+pub stops_at_start : (size : Extent) → ending size (lines []) ≡ None → StopsAtEnd size 0 []
+stops_at_start size none = record { before = []; last = []; parts = refl; earlier = omega arith; short = omega arith; unended = none }
+
+-- one more read, where no line ended the session before it
+pub stops_at_read : (size : Extent) (count left n : ℕ) (input more : List ℕ) → Counts count left input → ending size (lines input) ≡ None → length more ≡ n → n ≤ read_limit
+    → StopsAtEnd size (count + 1) (input ++ more)
+stops_at_read size count left n input more c none len few = record {
+  before = input;
+  last = more;
+  parts = refl;
+  earlier = omega (arith, c.some);
+  short = omega (arith, len, few);
+  unended = none;
+}
+
+-- one more read that failed
+pub stops_at_fault : (size : Extent) (count left : ℕ) (input : List ℕ) → Counts count left input → ending size (lines input) ≡ None → StopsAtEnd size (count + 1) input
+stops_at_fault size count left input c none = record {
+  before = input;
+  last = [];
+  parts = sym (append-nil input);
+  earlier = omega (arith, c.some);
+  short = omega arith;
+  unended = none;
+}

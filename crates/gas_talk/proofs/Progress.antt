@@ -86,7 +86,7 @@ module _ {D : Type 0} (size_of : D → Extent) (asks : D → Command → Result 
       ap (until_end (size_of old.door)) (all_items input old reader now p ∙ ap (λ xs. items_of_turns p.turns ++ xs) e)
       ∙ until_end-append (size_of old.door) (items_of_turns p.turns) items p.unended
 
-  ending_is : (input : List ℕ) (old : Place D) (reader : LineReader) (now : Place D) (p : Progress size_of asks copies input old reader now) (items : List Item) → lines p.unread ≡ items → ending (size_of old.door) (lines input) ≡ ending (size_of old.door) items
+  pub ending_is : (input : List ℕ) (old : Place D) (reader : LineReader) (now : Place D) (p : Progress size_of asks copies input old reader now) (items : List Item) → lines p.unread ≡ items → ending (size_of old.door) (lines input) ≡ ending (size_of old.door) items
   ending_is input old reader now p items e =
       ap (ending (size_of old.door)) (all_items input old reader now p ∙ ap (λ xs. items_of_turns p.turns ++ xs) e)
       ∙ ending-append (size_of old.door) (items_of_turns p.turns) items p.unended

@@ -21,7 +21,7 @@ use Rattle.gas_talk.specs.declared.end.SessionEnd.{SessionEnd}
 use Rattle.gas_text.specs.Requests.{request_of, Reads, IsRow}
 use Rattle.gas_talk.specs.Lines.{Item, text, bad, lines}
 use Rattle.gas_talk.specs.Talk.{Put, no_put, Turn, Saves, Answers, Replies, Takes}
-use Rattle.gas_talk.specs.Ends.{until_end, failed_puts, failures_after, shelved_by, EndsAs, Place, IsSession}
+use Rattle.gas_talk.specs.Ends.{until_end, failed_puts, failures_after, shelved_by, EndsAs, StopsAtEnd, Place, IsSession}
 use Rattle.gas_lab.specs.Copying.{Copies}
 use Rattle.gas_talk.specs.LabTalk.{Outcome, plain, memory, shelf, wants_memory, told, answered, saved, requested, taken_at, talk, IsTalk}
 
@@ -169,4 +169,5 @@ module _ {D : Type 0} (size_of : D → Extent) (asks : D → Command → Result 
           whole = s.whole;
           count = reads;
           counted = s.counted;
+          stops = subst (λ n. StopsAtEnd n reads s.input) (sizes old.door) s.stops;
         }

@@ -122,6 +122,17 @@ pub record AreReads (reads : ℕ) (input : List ℕ) (end : SessionEnd) : Type 0
   pub short : length input + read_limit * empty_reads end ≤ read_limit * reads
   pub all : end ≡ TooManyReads → reads ≡ most_reads
 
+-- Nothing is read past an end: no line of the input ends the session, the last read left out. Each read before it gave at
+-- least one byte.
+pub record StopsAtEnd (size : Extent) (reads : ℕ) (input : List ℕ) : Type 0 where
+  pub before : List ℕ
+  -- what the last read gave
+  pub last : List ℕ
+  pub parts : input ≡ before ++ last
+  pub earlier : reads ≤ length before + 1
+  pub short : length last ≤ read_limit
+  pub unended : ending size (lines before) ≡ None
+
 -- what a session asks, writes to and puts on
 pub record Place (D : Type 0) : Type 0 where
   pub door : D
@@ -165,6 +176,7 @@ module _ {D : Type 0} (size_of : D → Extent) (asks : D → Command → Result 
     pub serves : Serves input old end new
     pub whole : end ≡ InputEnd → IsAtEnd unread_new
     pub counted : AreReads reads input end
+    pub stops : StopsAtEnd (size_of old.door) reads input
 
   -- This holds between the door before a session and the door after it, for every session.
   abbrev pub EachSession : (D → D → Type 0) → Type 0

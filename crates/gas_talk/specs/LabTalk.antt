@@ -22,7 +22,7 @@ use Rattle.gas_talk.specs.declared.end.SessionEnd.TheVariants.{InputEnd}
 use Rattle.gas_text.specs.Requests.{request_of}
 use Rattle.gas_talk.specs.Lines.{Item, text, bad, lines}
 use Rattle.gas_talk.specs.Talk.{no_put, put_taken, put_failed, Turn, reply_to, snapshot}
-use Rattle.gas_talk.specs.Ends.{until_end, EndsAs, AreReads, Place, shelved_by, failed_puts, failures_after}
+use Rattle.gas_talk.specs.Ends.{until_end, EndsAs, AreReads, StopsAtEnd, Place, shelved_by, failed_puts, failures_after}
 
 -- whether an item finds what it needs: memory may be refused, or the shelf may fail
 pub data Outcome : Type 0 where
@@ -91,6 +91,7 @@ pub record IsTalk (seat : ℕ) (unread_old unread_new : Option (List ℕ)) (old 
   -- how many reads were made
   pub count : ℕ
   pub counted : AreReads count input end
+  pub stops : StopsAtEnd (extent old.door.start.particles) count input
 
 -- A door of a seat whose calls are those of a laboratory that nobody else uses.
 pub record IsAlone {D : Type 0} (size_of : D → Extent) (asks : D → Command → Result Answer Refusal → D → Type 0) (copies : D → Result Copied NoMemory → D → Type 0) (lab_of : D → Laboratory) (seat_of : D → ℕ) : Type 0 where

@@ -2,21 +2,23 @@ use Rattle.std.proofs.Common.{◌≡◌, [], ◌+◌, ◌++◌, ◌∙◌, sym, 
 use Rattle.std.proofs.KnownBytes.{Consumes-nil, Consumes-trans, Consumes-kept}
 use Rattle.std.proofs.lemmas.List.{nil_from_length}
 use Rattle.gas_talk.specs.declared.end.SessionEnd.TheVariants.{InputEnd, ReadFault, TooManyReads}
-use Rattle.gas_talk.proofs.Counting.{none_yet, one_more, after_read, after_nothing, after_all}
-use Rattle.gas_talk.proofs.Progress.{Progress_start, Progress_read, Serves_last_memory, last_at_no_other, Serves_all, session_by}
+use Rattle.gas_talk.proofs.Counting.{none_yet, one_more, after_read, after_nothing, after_all, stops_at_start, stops_at_read, stops_at_fault}
+use Rattle.gas_talk.proofs.Progress.{ending_is, Progress_start, Progress_read, Serves_last_memory, last_at_no_other, Serves_all, session_by}
 use Rattle.gas_talk.proofs.session.session.Goals as goal
 
 pub loop-reads-init : goal.loop-reads-init
-loop-reads-init g c = (
-  [],
-  rw c.new-reads.ensures.bytes (Consumes-nil _),
-  Progress_start g.D.Door.size_of g.D.Door.asks g.D.Door.copies _ c.new-lines.result c.new-lines.ensures,
-  0,
-  none_yet _ c.new-reads.ensures.left,
-  refl,
-  omega (arith, c.new-reads.ensures.count),
-  refl,
-)
+loop-reads-init g c =
+    let start = Progress_start g.D.Door.size_of g.D.Door.asks g.D.Door.copies _ c.new-lines.result c.new-lines.ensures in (
+      [],
+      rw c.new-reads.ensures.bytes (Consumes-nil _),
+      start,
+      0,
+      none_yet _ c.new-reads.ensures.left,
+      refl,
+      omega (arith, c.new-reads.ensures.count),
+      refl,
+      stops_at_start _ (ending_is g.D.Door.size_of g.D.Door.asks g.D.Door.copies [] _ c.new-lines.result _ start.0 [] start.1),
+    )
 
 pub returns-in-Ok-eq0 : goal.returns-in-Ok-eq0
 returns-in-Ok-eq0 g c =
@@ -31,6 +33,8 @@ returns-in-Ok-eq0 g c =
       serves = rw (nothing, append-nil) (Serves_all g.D.Door.size_of g.D.Door.asks g.D.Door.copies c.loop-reads.invariant.0 _ c.loop-reads.lines _ c.loop-reads.invariant.2.0 InputEnd c.loop-reads.invariant.2.1 (λ h. h));
       whole = λ _. c.in-Ok-eq0.ensures.end c.in-Ok-eq0.field-0-test;
       counted = rw (nothing, append-nil) (after_nothing _ _ _ InputEnd c.loop-reads.invariant.4 (sym c.any_left.ensures ∙ c.loop-reads-test.true) (λ wrong. cc) refl);
+      stops = stops_at_read _ _ _ _ c.loop-reads.invariant.0 given.0 c.loop-reads.invariant.4
+          (ending_is g.D.Door.size_of g.D.Door.asks g.D.Door.copies c.loop-reads.invariant.0 _ c.loop-reads.lines _ c.loop-reads.invariant.2.0 [] c.loop-reads.invariant.2.1) given.1 c.in-Ok-eq0.ensures.short;
     })
 
 pub returns-in-Err-Reader : goal.returns-in-Err-Reader
@@ -44,6 +48,8 @@ returns-in-Err-Reader g c =
       serves = Serves_all g.D.Door.size_of g.D.Door.asks g.D.Door.copies c.loop-reads.invariant.0 _ c.loop-reads.lines _ c.loop-reads.invariant.2.0 ReadFault c.loop-reads.invariant.2.1 (λ h. h);
       whole = λ wrong. cc;
       counted = after_nothing _ _ _ ReadFault c.loop-reads.invariant.4 (sym c.any_left.ensures ∙ c.loop-reads-test.true) (λ wrong. cc) refl;
+      stops = stops_at_fault _ _ _ c.loop-reads.invariant.0 c.loop-reads.invariant.4
+          (ending_is g.D.Door.size_of g.D.Door.asks g.D.Door.copies c.loop-reads.invariant.0 _ c.loop-reads.lines _ c.loop-reads.invariant.2.0 [] c.loop-reads.invariant.2.1);
     })
 
 pub returns-in-Err-NoMemory : goal.returns-in-Err-NoMemory
@@ -59,6 +65,7 @@ returns-in-Err-NoMemory g c =
       whole = λ wrong. absurd (last_at_no_other _ _ _ InputEnd (λ wrong. cc) (λ wrong. cc) sent.4 wrong);
       counted = after_read _ _ _ _ c.loop-reads.invariant.4 (last_at_no_other _ _ _ TooManyReads (λ wrong. cc) (λ wrong. cc) sent.4)
           (last_at_no_other _ _ _ InputEnd (λ wrong. cc) (λ wrong. cc) sent.4) (last_at_no_other _ _ _ ReadFault (λ wrong. cc) (λ wrong. cc) sent.4);
+      stops = c.loop-reads.invariant.8;
     })
 
 pub returns-in-Some : goal.returns-in-Some
@@ -73,6 +80,8 @@ returns-in-Some g c =
       serves = c.in-Some.ensures.answered _ _ (Progress_read g.D.Door.size_of g.D.Door.asks g.D.Door.copies c.loop-reads.invariant.0 _ c.loop-reads.lines _ given.0 c.read_more.new.self c.loop-reads.invariant.2.0 given.3);
       whole = λ wrong. absurd (c.in-Some.ensures.end wrong);
       counted = after_read _ _ _ _ (one_more _ _ _ _ _ given.0 c.loop-reads.invariant.4 c.in-Ok.ensures.left given.1 c.in-Ok.ensures.short (omega (arith, c.in-Ok.field-0-test))) c.in-Some.ensures.in_time c.in-Some.ensures.end c.in-Some.ensures.no_fault;
+      stops = stops_at_read _ _ _ _ c.loop-reads.invariant.0 given.0 c.loop-reads.invariant.4
+          (ending_is g.D.Door.size_of g.D.Door.asks g.D.Door.copies c.loop-reads.invariant.0 _ c.loop-reads.lines _ c.loop-reads.invariant.2.0 [] c.loop-reads.invariant.2.1) given.1 c.in-Ok.ensures.short;
     })
 
 pub loop-reads-preserved : goal.loop-reads-preserved
@@ -86,6 +95,8 @@ loop-reads-preserved g c =
       c.in-Ok.ensures.same ∙ c.loop-reads.invariant.5,
       omega (arith, c.in-Ok.ensures.count, c.loop-reads.invariant.6),
       c.in-Ok.ensures.same_count ∙ c.loop-reads.invariant.7,
+      stops_at_read _ _ _ _ c.loop-reads.invariant.0 given.0 c.loop-reads.invariant.4
+          (ending_is g.D.Door.size_of g.D.Door.asks g.D.Door.copies c.loop-reads.invariant.0 _ c.loop-reads.lines _ c.loop-reads.invariant.2.0 [] c.loop-reads.invariant.2.1) given.1 c.in-Ok.ensures.short,
     )
 
 pub returns : goal.returns
@@ -99,4 +110,5 @@ returns g c =
       serves = Serves_all g.D.Door.size_of g.D.Door.asks g.D.Door.copies c.loop-reads.invariant.0 _ c.loop-reads.lines _ c.loop-reads.invariant.2.0 TooManyReads c.loop-reads.invariant.2.1 (λ h. h);
       whole = λ wrong. cc;
       counted = after_all _ _ _ c.loop-reads.invariant.4 (sym c.any_left.ensures ∙ c.loop-reads-test.false);
+      stops = c.loop-reads.invariant.8;
     })

@@ -1,6 +1,6 @@
 use Rattle.std.proofs.Common.{◌≡◌, ℕ, ◌+◌, List, None}
 use Rattle.std.specs.Io.KnownBytes.{Consumes}
-use Rattle.gas_talk.specs.Ends.{place}
+use Rattle.gas_talk.specs.Ends.{place, StopsAtEnd}
 use Rattle.gas_talk.specs.Private.{AnswersLines}
 use Rattle.gas_talk.proofs.Counting.{Counts}
 use Rattle.gas_talk.proofs.session.session.Given as goal
@@ -15,6 +15,7 @@ invariant-loop-reads g l =
     (place g.W.Write.contents g.K.Shelf.failures g.K.Shelf.shelved l.door l.writer l.shelf)
     × (count : ℕ) × Counts count l.reads.left input × (l.reads.reader.ghost_name ≡ l.initial.reads.reader.ghost_name)
     × (l.reads.count.now ≡ l.fn.count + count) × (l.reads.count.ghost_name ≡ l.initial.reads.count.ghost_name)
+    × StopsAtEnd (g.D.Door.size_of l.fn.door) count input
 
 abbrev pub decreases-loop-reads : goal.decreases-loop-reads
 decreases-loop-reads g l = l.reads.left
