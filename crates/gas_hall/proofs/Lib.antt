@@ -1,2 +1,3 @@
+pub mod Busy
 pub mod Turns
 pub mod Totals

@@ -1,13 +1,19 @@
 -- What seats made in all, each with a number of its own, is no more than a journal has that begins with what each has seen.
-use Rattle.std.proofs.Common.{◌≡◌, ℕ, zero, suc, ◌+◌, ◌<◌, ◌≤◌, cond, eqb, nat_lt, List, [], ◌∷◌, ◌++◌, All, length, length-append, Some, slice_get, refl, sym, ap, subst, ◌∙◌, arith}
+use Rattle.std.proofs.Common.{◌≡◌, ℕ, zero, suc, ◌+◌, ◌<◌, ◌≤◌, cond, eqb, nat_lt, List, [], ◌∷◌, ◌++◌, All, length, length-append, Result, Some, slice_get, refl, sym, ap, subst, ◌∙◌, inl, inr, arith}
+use Rattle.std.proofs.lemmas.List.{map-append}
 use Rattle.std.specs.List.{sum_by}
 use Rattle.std.specs.Prelude.{map}
-use Rattle.std.proofs.lemmas.List.Elements.{All-cons, filter-append}
+use Rattle.std.proofs.lemmas.List.Elements.{All-nil, All-cons, filter-append}
 use Rattle.std.proofs.lemmas.List.Sums.{sum_by-cons}
 use Rattle.gas_terms.specs.declared.command.Entry.{Entry}
-use Rattle.gas_terms.specs.Laboratory.{Laboratory, IsPrefix}
+use Rattle.gas_terms.specs.declared.command.Command.TheVariants.{Ledger}
+use Rattle.gas_terms.specs.declared.answer.Answer.{Answer}
+use Rattle.gas_terms.specs.declared.refusal.Refusal.{Refusal}
+use Rattle.gas_terms.specs.Gas.{Gas}
+use Rattle.gas_terms.specs.Laboratory.{Laboratory, IsPrefix, Applies}
+use Rattle.gas_lab.specs.Labs.{entry_of}
 use Rattle.atomic_table.specs.Seated.{TableId}
-use Rattle.gas_seats.specs.TurnSeats.{SeatView, but_for_seen, entries_made, opening_seat}
+use Rattle.gas_seats.specs.TurnSeats.{SeatView, but_for_seen, entries_made, opening_seat, AsksInTurn}
 use Rattle.gas_terms.specs.Laboratory.{made_by}
 use Rattle.gas_seats.proofs.Numbered.{all_of_rule}
 use Rattle.gas_seats.proofs.Prefixes.{goes_on}
@@ -66,28 +72,87 @@ item_same f (z ∷ xs) (y ∷ ys) same (suc i) x is =
     let found = item_same f xs ys rest i x is in
     (found.0, omega (arith, found.1), found.2, found.3)
 
--- What all of a list have, the item has that stands before its end.
-pub at_end_of : {X : Type 0} (P : X → Type 0) (all front left rest : List X) (x : X) → front ≡ left ++ x ∷ [] → all ≡ front ++ rest → All P all → P x
-at_end_of P all front left rest x is split have = middle left (subst (All P) (split ∙ ap (λ l. l ++ rest) is) have) where
-  middle : (xs : List _) → All P ((xs ++ x ∷ []) ++ rest) → P x
-  middle [] h = h 0 x (omega arith)
-  middle (z ∷ xs) h = middle xs (λ k d lt. h (suc k) d (omega (arith, lt)))
+-- What all of a list have, the item at its end has, and those before it.
+pub last_has : {X : Type 0} (P : X → Type 0) (all left : List X) (x : X) → all ≡ left ++ x ∷ [] → All P all → P x
+last_has P all left x is have = at_end left (subst (All P) is have) where
+  at_end : (xs : List _) → All P (xs ++ x ∷ []) → P x
+  at_end [] h = h 0 x (omega arith)
+  at_end (z ∷ xs) h = at_end xs (λ k d lt. h (suc k) d (omega (arith, lt)))
 
--- What the seats have seen that a door met, and one more whose note it takes in.
-pub one_more_seen : (seat : SeatView) (seats : List SeatView) (seen now : List Entry) → IsPrefix seat.seen now → IsPrefix seen now
-    → All (λ s. IsPrefix s.seen seen) seats → All (λ s. IsPrefix s.seen now) (seat ∷ seats)
-one_more_seen seat seats seen now here more all =
-    All-cons (λ (s : SeatView). IsPrefix s.seen now) seat seats here (λ k d lt. goes_on _ seen now (all k d lt) more)
+-- What all of a list have, and one more at its end.
+pub end_has : {X : Type 0} (P : X → Type 0) (all left : List X) (x : X) → all ≡ left ++ x ∷ [] → All P left → P x → All P all
+end_has P all left x is have here = subst (All P) (sym is) (longer left have) where
+  longer : (xs : List _) → All P xs → All P (xs ++ x ∷ [])
+  longer [] h = All-cons P x [] here (All-nil P)
+  longer (z ∷ xs) h = All-cons P z (xs ++ x ∷ []) (h 0 z (omega arith)) (longer xs (λ k d lt. h (suc k) d (omega (arith, lt))))
 
--- The seats are all met, and what the door has seen begins a journal: then it has room for what they made.
-pub all_met : (seats left met : List SeatView) (seen journal : List Entry) (total : ℕ) → left ≡ [] → seats ≡ left ++ met
-    → ((i : ℕ) (x : SeatView) → slice_get seats i ≡ Some x → x.number ≡ i) → All (λ s. IsPrefix s.seen seen) met → IsPrefix seen journal
-    → total ≡ sum_by entries_made met → total ≤ length journal
-all_met seats left met seen journal total none split numbers all begins is =
-    let same : seats ≡ met = split ∙ ap (λ l. l ++ met) none in
-    let fit = all_fit met journal (subst (λ l. (i : ℕ) (x : SeatView) → slice_get l i ≡ Some x → x.number ≡ i) same numbers)
-    (λ k d lt. goes_on _ seen journal (all k d lt) begins) in
-    omega (arith, fit, is)
+-- What a seat has seen begins with no less after another command.
+pub all_begin : (seats : List SeatView) (seen now : List Entry) → IsPrefix seen now → All (λ s. IsPrefix s.seen seen) seats → All (λ s. IsPrefix s.seen now) seats
+all_begin seats seen now more all k d lt = goes_on _ seen now (all k d lt) more
+
+-- lists that are the same under f but for the items at their ends, which are too
+pub same_at_end : {X Y : Type 0} (f : X → Y) (before after left : List X) (x y : X) → before ≡ left ++ x ∷ [] → after ≡ left ++ y ∷ [] → f y ≡ f x → map f after ≡ map f before
+same_at_end f before after left x y is more same =
+    ap (map f) more ∙ map-append f left (y ∷ []) ∙ ap (λ z. map f left ++ z ∷ []) same ∙ sym (map-append f left (x ∷ [])) ∙ ap (map f) (sym is)
+
+-- what is the same under f is under what f does not change
+pub numbers_stay : (before after : List SeatView) → map but_for_seen after ≡ map but_for_seen before
+    → ((i : ℕ) (x : SeatView) → slice_get before i ≡ Some x → x.number ≡ i) → (i : ℕ) (x : SeatView) → slice_get after i ≡ Some x → x.number ≡ i
+numbers_stay before after same numbers i x is =
+    let found = item_same but_for_seen after before same i x is in
+    ap (λ (s : SeatView). s.number) found.3 ∙ numbers i found.0 found.2
+
+-- A seat that asks for the ledger sees the journal that it finds, and made no entry.
+ledger_leaves : (lab next : Laboratory) (number : ℕ) (reply : Result Answer Refusal) → Applies lab (entry_of number Ledger) reply next → next ≡ lab
+ledger_leaves lab next number reply (inl h) = h.1
+ledger_leaves lab next number reply (inr h) = h.3
+
+pub made_at_ledger : (old : SeatView) (reply : Result Answer Refusal) (new : SeatView) → AsksInTurn old Ledger reply new → entries_made new ≡ entries_made old
+made_at_ledger old reply new h =
+    let same = ledger_leaves h.0 h.1 old.number reply h.4 in
+    let seen : new.seen ≡ h.0.journal = ap (λ (s : SeatView). s.seen) h.5 ∙ ap (λ (l : Laboratory). l.journal) same in
+    let number : new.number ≡ old.number = ap (λ (s : SeatView). s.number) h.5 in
+    ap (λ n. length (made_by n new.seen)) number ∙ ap (λ l. length (made_by old.number l)) seen ∙ ap length h.2.own
+
+-- The seats have seen no more than the last of them, which asked for the ledger: the journal has room for what they made.
+pub room_for_all : (old : SeatView) (reply : Result Answer Refusal) (new : SeatView) → AsksInTurn old Ledger reply new
+    → (seats : List SeatView) → ((i : ℕ) (x : SeatView) → slice_get seats i ≡ Some x → x.number ≡ i) → All (λ s. IsPrefix s.seen new.seen) seats
+    → (opened : Gas × ℕ) → old.opened ≡ Some opened → sum_by entries_made seats ≤ opened.1
+room_for_all old reply new h seats numbers all opened knows =
+    let fit = all_fit seats new.seen numbers all in
+    let seen : new.seen ≡ h.1.journal = ap (λ (s : SeatView). s.seen) h.5 in
+    let long = ap length seen in
+    let room = h.3.admitted.room in
+    let cap : h.1.cap ≡ h.0.cap = ap (λ (l : Laboratory). l.cap) (ledger_leaves h.0 h.1 old.number reply h.4) in
+    let both : Some opened ≡ Some (h.0.start, h.0.cap) = sym knows ∙ h.2.opened in
+    let known : opened ≡ (h.0.start, h.0.cap) = cc both in
+    let caps : opened.1 ≡ h.0.cap = ap (λ (k : Gas × ℕ). k.1) known in
+    omega (arith, fit, long, room, cap, caps)
+
+-- What the seats opened with stays.
+pub opened_stays : (lab : Laboratory) (before after : List SeatView) → map but_for_seen after ≡ map but_for_seen before
+    → All (λ s. s.opened ≡ Some (lab.start, lab.cap)) before → All (λ s. s.opened ≡ Some (lab.start, lab.cap)) after
+opened_stays lab before after same all =
+    all_same (λ (s : SeatView). s.opened) (Some (lab.start, lab.cap)) after before (same_through (λ (s : SeatView). s.opened) but_for_seen (λ s. refl) after before same) all
+
+-- No seat has made an entry when a hall opens.
+pub none_made : (hall : TableId) (lab : Laboratory) (count : ℕ) (before : List SeatView) → length before ≡ count
+    → ((i : ℕ) → i < count → slice_get before i ≡ Some (opening_seat hall lab i)) → All (λ s. entries_made s ≡ 0) before
+none_made hall lab count before long opened =
+    all_of_rule (λ (s : SeatView). entries_made s ≡ 0) (opening_seat hall lab) before (λ i. refl) (λ i below. opened i (omega (arith, below, long)))
+
+-- the sum is that of the same counts
+pub same_sum : (before after : List SeatView) → map entries_made after ≡ map entries_made before → sum_by entries_made after ≡ sum_by entries_made before
+same_sum [] [] same = refl
+same_sum [] (y ∷ after) same = absurd (cc same)
+same_sum (x ∷ before) [] same = absurd (cc same)
+same_sum (x ∷ before) (y ∷ after) same =
+    let first : entries_made y ≡ entries_made x = cc same in
+    let rest : map entries_made after ≡ map entries_made before = cc same in
+    let others = same_sum before after rest in
+    let here = sum_by-cons entries_made x before in
+    let there = sum_by-cons entries_made y after in
+    omega (arith, first, others, here, there)
 
 -- Seats that were served bear the numbers that they opened with.
 pub numbers_kept : (hall : TableId) (lab : Laboratory) (count : ℕ) (now before : List SeatView) → map but_for_seen now ≡ map but_for_seen before

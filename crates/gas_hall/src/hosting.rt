@@ -1,90 +1,99 @@
-//! Serves a laboratory: opens a hall over it, serves the hall, and counts the entries of all seats.
+//! Serves a laboratory: opens a hall over it and serves the hall.
 
-ghost use Rattle.std.specs.Prelude.{◌≡◌, ℕ, ◌+◌, ◌<◌, ◌≤◌, [], All, IfSome, Some, slice_get, vec_len};
+ghost use Rattle.std.specs.Prelude.{◌≡◌, ℕ, ◌+◌, ◌<◌, ◌≤◌, [], All, IfSome, Some, map, slice_get, vec_len, vec_capacity};
 ghost use Rattle.gas_terms.specs.Gas.{Gas};
+ghost use Rattle.gas_terms.specs.Laboratory.{IsPrefix};
 ghost use Rattle.gas_seats.specs.Seats.{most_seats};
-ghost use Rattle.gas_seats.specs.TurnSeats.{SeatView, made_in_all};
+ghost use Rattle.gas_seats.specs.TurnSeats.{SeatView, but_for_seen, entries_made, made_in_all};
+ghost use Rattle.gas_hall.specs.Busy.{busy_seats};
 
-use crate::serving::{Lobby, Served, serve_turn};
+use crate::serving::{Lobby, TurnServed, serve_turn};
 use gas_lab::{Door, Lab, Stepper};
-use gas_seats::{TurnHall, TurnNote, TurnSeat};
+use gas_seats::{TurnDoor, TurnHall, TurnSeat};
 use gas_snapshot::Shelf;
 use gas_terms::Command;
 use std::alloc::Global;
 use std::sync::Wait;
 use std::thread::Threads;
 
-/// How many seats were served and how many were not, and the entries that all of them made.
-#[derive(Clone, Copy, Debug, PartialEq, Eq)]
-pub struct Counts {
-    pub done: u32,
-    pub failed: u32,
-    pub entries: u32,
-}
-
-fn note_of<S: Stepper, R>(rt: &R, hall: &TurnHall<S>, seat: TurnSeat<S>) -> TurnNote<S>
-    requires here { seat.hall ≡ hall.now }
-    ensures hall { result.hall ≡ hall.now }
-    ensures seen { result.seen ≡ seat.seen }
+// Lets the door meet a note of each seat.
+fn meet_each<S: Stepper, R>(
+    rt: &R,
+    hall: &TurnHall<S>,
+    door: &mut TurnDoor<'_, S, R>,
+    seats: &mut Vec<TurnSeat<S>>,
+)
+    requires here { All (λ seat. seat.hall ≡ hall.now) seats.old.items }
+    requires door { door.old.seat.hall ≡ hall.now }
+    ensures seats { seats.new.items ≡ seats.old.items }
+    ensures capacity { vec_capacity seats.new ≡ vec_capacity seats.old }
+    ensures met { All (λ seat. IsPrefix seat.seen door.new.seat.seen) seats.old.items }
+    ensures more { IsPrefix door.old.seat.seen door.new.seat.seen }
+    ensures door { but_for_seen door.new.seat ≡ but_for_seen door.old.seat }
+    ensures made { entries_made door.new.seat ≡ entries_made door.old.seat }
 {
-    hall.door(rt, seat).note()
+    let Some(seat) = seats.pop() else {
+        return;
+    };
+    let mut other = hall.door(rt, seat);
+    door.meet(other.note());
+    let seat = other.end();
+    meet_each(rt, hall, door, seats);
+    seats.push_reserved(seat);
 }
 
-// The entries that all seats made, once they are back. The last of them meets a note of each other one, so that the journal
-// that it then finds at its turn begins with what each has seen.
-fn made_by_all<S: Stepper, R: Wait>(rt: &R, hall: &TurnHall<S>, seats: Vec<TurnSeat<S>>) -> u32
-    requires some { 0 < vec_len seats }
-    requires few { vec_len seats ≤ most_seats }
-    requires here { All (λ seat. seat.hall ≡ hall.now) seats.items }
+// Shows that the journal has room for all that the seats made, once they are back. The last of them meets a note of each other
+// one, so that the journal that it then finds at its turn begins with what each has seen.
+fn meet_all<S: Stepper, R: Wait>(rt: &R, hall: &TurnHall<S>, seats: &mut Vec<TurnSeat<S>>)
+    requires some { 0 < vec_len seats.old }
+    requires here { All (λ seat. seat.hall ≡ hall.now) seats.old.items }
     requires numbers { (i : ℕ) (seat : SeatView)
-        → slice_get seats.items i ≡ Some seat → seat.number ≡ i }
-    ensures entries { result ≡ made_in_all seats.items }
+        → slice_get seats.old.items i ≡ Some seat → seat.number ≡ i }
+    ensures all { vec_len seats.new ≡ vec_len seats.old }
+    ensures seats { map but_for_seen seats.new.items ≡ map but_for_seen seats.old.items }
+    ensures made { map entries_made seats.new.items ≡ map entries_made seats.old.items }
     ensures room { (opened : Gas × ℕ)
-        → All (λ seat. seat.opened ≡ Some opened) seats.items → result ≤ opened.1 }
+        → All (λ seat. seat.opened ≡ Some opened) seats.old.items
+        → made_in_all seats.new.items ≤ opened.1 }
 {
-    let mut seats = seats;
     let Some(last) = seats.pop() else {
         unreachable!()
     };
-    let mut made = last.entries();
     let mut door = hall.door(rt, last);
-    while let Some(seat) = seats.pop() {
-        made += seat.entries();
-        door.meet(note_of(rt, hall, seat));
-    }
+    meet_each(rt, hall, &mut door, seats);
     // a turn of its own finds a journal that has room for all that they made; this command takes constant time
     let _ = door.ask(Command::Ledger);
-    made
+    seats.push_reserved(door.end());
 }
 
 /// Serves a laboratory: opens a hall whose seats take turns, a seat for each shelf, and serves each seat once, as `serve_turn`
-/// does. `None` if memory runs out for the hall; then nothing was accepted. No seat is left to compare the entries with, so the
-/// contract says of them only that the journal had room for as many.
+/// does. The seats have the numbers 0, 1, .. and come back with what they have seen of the journal, which had room for all
+/// that they made. `None` if memory runs out for the hall; then nothing was accepted.
 pub fn serve_lab<S: Stepper + Send, L: Lobby, K: Shelf + Drop + Send, R: Threads + Wait + Sync>(
     rt: &R,
     alloc: Global,
     lab: Lab<S>,
     lobby: &mut L,
     shelves: Vec<K>,
-) -> Option<Counts>
+) -> Option<TurnServed<S>>
     requires shelves { (0 < vec_len shelves) × (vec_len shelves ≤ most_seats) }
     requires lab { lab.journal ≡ [] }
-    ensures seats { IfSome result (λ counts. counts.done + counts.failed ≡ vec_len shelves) }
-    ensures entries { IfSome result (λ counts. counts.entries ≤ lab.cap) }
+    ensures count { IfSome result (λ served. served.done + served.failed ≡ vec_len shelves) }
+    ensures busy { IfSome result (λ served. busy_seats served.seats.items ≤ served.done) }
+    ensures all { IfSome result (λ served. vec_len served.seats ≡ vec_len shelves) }
+    ensures numbers { IfSome result (λ served. (i : ℕ) (seat : SeatView)
+        → slice_get served.seats.items i ≡ Some seat → seat.number ≡ i) }
+    ensures opened { IfSome result (λ served.
+        All (λ seat. seat.opened ≡ Some (lab.start, lab.cap)) served.seats.items) }
+    ensures entries { IfSome result (λ served.
+        served.entries ≡ made_in_all served.seats.items) }
+    ensures room { IfSome result (λ served. served.entries ≤ lab.cap) }
 {
     let count = shelves.len() as u16;
     let Ok((hall, seats)) = TurnHall::open(alloc, lab, count) else {
         return None;
     };
-    let Served {
-        done,
-        failed,
-        entries: _,
-        seats,
-    } = serve_turn(rt, alloc, lobby, &hall, seats, shelves);
-    Some(Counts {
-        done,
-        failed,
-        entries: made_by_all(rt, &hall, seats),
-    })
+    let mut served = serve_turn(rt, alloc, lobby, &hall, seats, shelves);
+    meet_all(rt, &hall, &mut served.seats);
+    Some(served)
 }

@@ -14,7 +14,7 @@ pub use gas_seats::{
     Hall, HallDoor, HallGate, HallName, HallSeat, Held, NoHallGate, TurnDoor, TurnHall, TurnNote,
     TurnSeat,
 };
-pub use hosting::{Counts, serve_lab};
+pub use hosting::serve_lab;
 pub use mutex_hall::serve;
-pub use serving::{AcceptFault, Lobby, Served, serve_turn};
+pub use serving::{AcceptFault, Lobby, Served, TurnServed, serve_turn};
 pub use tcp::TcpLobby;

@@ -4,6 +4,7 @@ ghost use Rattle.std.specs.Prelude.{◌≡◌, ◌+◌, ◌≤◌, ⊤, [], vec_
 ghost use Rattle.std.specs.List.{sum_by};
 ghost use Rattle.gas_terms.specs.Laboratory.{IsPrefix};
 ghost use Rattle.gas_seats.specs.Seats.{Seat, most_seats, numbers};
+ghost use Rattle.gas_hall.specs.Busy.{busy};
 
 use crate::serving::{Guest, Lobby, Seating, Served, serve_seats};
 use gas_lab::Stepper;
@@ -72,6 +73,7 @@ pub fn serve<
     requires few { vec_len seats ≤ most_seats }
     requires shelves { vec_len shelves ≡ vec_len seats }
     ensures count { result.done + result.failed ≡ vec_len seats }
+    ensures busy { busy (λ seat. seat.entries) seats.items result.seats.items ≤ result.done }
     ensures all { vec_len result.seats ≡ vec_len seats }
     ensures seats { numbers result.seats.items ≡ numbers seats.items }
     ensures entries { result.entries ≡ sum_by (λ seat. seat.entries) result.seats.items }

@@ -6,6 +6,7 @@ ghost use Rattle.gas_terms.specs.Laboratory.{most_entries, IsPrefix};
 ghost use Rattle.gas_terms.specs.declared.command.Entry.{Entry};
 ghost use Rattle.gas_seats.specs.Seats.{most_seats};
 ghost use Rattle.gas_seats.specs.TurnSeats.{SeatView, but_for_seen, entries_made, made_in_all};
+ghost use Rattle.gas_hall.specs.Busy.{busy};
 
 use gas_lab::Stepper;
 use gas_seats::{TurnHall, TurnSeat};
@@ -246,6 +247,7 @@ where
     requires shelves { vec_len shelves.old ≡ vec_len seats.old }
     requires here { All (λ seat. H.has house.now.hall.now (H.kept seat)) seats.old.items }
     ensures done { result ≤ vec_len seats.old }
+    ensures busy { busy H.made seats.old.items seats.new.items ≤ result }
     ensures all { vec_len seats.new ≡ vec_len seats.old }
     ensures seats { map H.kept seats.new.items ≡ map H.kept seats.old.items }
     ensures seen { (i : ℕ) (old new : T) → slice_get seats.old.items i ≡ Some old
@@ -258,6 +260,7 @@ where
     let Some(shelf) = shelves.pop() else {
         unreachable!()
     };
+    let made = H::entries_of(&seat);
     let seated = start(house, scope, lobby, seat, shelf);
     let done = serve_rest(house, scope, lobby, seats, shelves);
     match seated {
@@ -266,8 +269,10 @@ where
             done + 1
         }
         Err(seat) => {
+            // no session ran, so this holds; the prover can't know that
+            let is_idle = H::entries_of(&seat) == made;
             seats.push_reserved(seat);
-            done
+            if is_idle { done } else { done + 1 }
         }
     }
 }
@@ -296,6 +301,7 @@ pub(crate) fn serve_seats<
     requires shelves { vec_len shelves ≡ vec_len seats }
     requires here { All (λ seat. H.has hall.now (H.kept seat)) seats.items }
     ensures count { result.done + result.failed ≡ vec_len seats }
+    ensures busy { busy H.made seats.items result.seats.items ≤ result.done }
     ensures all { vec_len result.seats ≡ vec_len seats }
     ensures seats { map H.kept result.seats.items ≡ map H.kept seats.items }
     ensures seen { (i : ℕ) (old new : T) → slice_get seats.items i ≡ Some old
@@ -317,6 +323,7 @@ pub(crate) fn serve_seats<
             requires shelves { vec_len shelves ≡ vec_len seats }
             requires here { All (λ seat. H.has hall.now (H.kept seat)) seats.items }
             ensures done { result.0 ≤ vec_len seats }
+            ensures busy { busy H.made seats.items result.1.items ≤ result.0 }
             ensures all { vec_len result.1 ≡ vec_len seats }
             ensures seats { map H.kept result.1.items ≡ map H.kept seats.items }
             ensures seen { (i : ℕ) (old new : T) → slice_get seats.items i ≡ Some old
@@ -343,10 +350,13 @@ pub(crate) fn serve_seats<
     }
 }
 
+/// What `serve_turn` returns.
+pub type TurnServed<S> = Served<TurnSeat<S>>;
+
 /// Serves each seat once: one accept for each, in order, and a thread of its own for each session that is accepted, with
 /// the shelf at the seat's place. It waits until all threads are done. A seat whose accept or thread failed is counted as
-/// failed and served no further. Each seat comes back as it was, except for what it has seen, which begins with what it had
-/// seen.
+/// failed and served no further; each seat that made entries is counted as served. Each seat comes back as it was, except for
+/// what it has seen, which begins with what it had seen.
 pub fn serve_turn<S: Stepper + Send, L: Lobby, K: Shelf + Drop + Send, R: Threads + Wait + Sync>(
     rt: &R,
     alloc: Global,
@@ -354,11 +364,12 @@ pub fn serve_turn<S: Stepper + Send, L: Lobby, K: Shelf + Drop + Send, R: Thread
     hall: &TurnHall<S>,
     seats: Vec<TurnSeat<S>>,
     shelves: Vec<K>,
-) -> Served<TurnSeat<S>>
+) -> TurnServed<S>
     requires few { vec_len seats ≤ most_seats }
     requires shelves { vec_len shelves ≡ vec_len seats }
     requires here { All (λ seat. seat.hall ≡ hall.now) seats.items }
     ensures count { result.done + result.failed ≡ vec_len seats }
+    ensures busy { busy entries_made seats.items result.seats.items ≤ result.done }
     ensures all { vec_len result.seats ≡ vec_len seats }
     ensures seats { map but_for_seen result.seats.items ≡ map but_for_seen seats.items }
     ensures seen { (i : ℕ) (old new : SeatView) → slice_get seats.items i ≡ Some old

@@ -1,7 +1,10 @@
 -- What a run of the program as a server is.
-use Rattle.std.specs.Prelude.{◌≡◌, ℕ, ◌+◌, ◌≤◌, ◌⊎◌, List, [], ◌∷◌, ◌++◌, Option, codes}
+use Rattle.std.specs.Prelude.{◌≡◌, ℕ, ◌+◌, ◌≤◌, ◌⊎◌, List, [], ◌∷◌, ◌++◌, length, All, Option, Some, slice_get, codes}
 use Rattle.std.specs.Fmt.{decimal}
 use Rattle.std.specs.Io.KnownBytes.{Appends}
+use Rattle.gas_terms.specs.Gas.{Gas}
+use Rattle.gas_seats.specs.TurnSeats.{SeatView, made_in_all}
+use Rattle.gas_hall.specs.Busy.{busy_seats}
 use Rattle.gas_text.specs.Texts.{parted}
 use Rattle.gas_run.specs.declared.setup.Setup.{Setup}
 
@@ -12,13 +15,27 @@ served_text done failed entries = parted (codes "SERVED" ∷ decimal done ∷ de
 abbrev pub served_line : ℕ → ℕ → ℕ → List ℕ
 served_line done failed entries = served_text done failed entries ++ 10 ∷ []
 
--- Each seat was served or was not, the journal had room for as many entries as are told, and the line was written whole.
-abbrev pub IsTold : Setup → ℕ → Option (List ℕ) → Option (List ℕ) → Type 0
-IsTold setup seats old new =
-    (done : ℕ) × (failed : ℕ) × (entries : ℕ)
-    × (done + failed ≡ seats) × (entries ≤ setup.cap) × Appends old new (served_line done failed entries)
+-- These are so many seats with the numbers 0, 1, .. on a laboratory that opened with this gas and capacity.
+pub record AreSeats (start : Gas) (cap count : ℕ) (seats : List SeatView) : Type 0 where
+  pub all : length seats ≡ count
+  pub numbers : (i : ℕ) (seat : SeatView) → slice_get seats i ≡ Some seat → seat.number ≡ i
+  pub opened : All (λ seat. seat.opened ≡ Some (start, cap)) seats
+
+-- What is told: each seat was served or was not, and those that made entries were. The entries are those that the seats made
+-- in all, for which the journal had room. The line was written whole.
+pub record IsTold (setup : Setup) (start : Gas) (count : ℕ) (old new : Option (List ℕ)) : Type 0 where
+  pub done : ℕ
+  pub failed : ℕ
+  pub entries : ℕ
+  pub seats : List SeatView
+  pub each : done + failed ≡ count
+  pub busy : busy_seats seats ≤ done
+  pub back : AreSeats start setup.cap count seats
+  pub sum : entries ≡ made_in_all seats
+  pub room : entries ≤ setup.cap
+  pub written : Appends old new (served_line done failed entries)
 
 -- What was served was told; or memory was refused for the opening, and nothing was written; or, with status 1, writing failed.
-abbrev pub Serves : Setup → ℕ → Option (List ℕ) → ℕ → Option (List ℕ) → Type 0
-Serves setup seats old status new =
-    ((status ≡ 0) × IsTold setup seats old new) ⊎ ((status ≡ 4) × (new ≡ old)) ⊎ (status ≡ 1)
+abbrev pub Serves : Setup → Gas → ℕ → Option (List ℕ) → ℕ → Option (List ℕ) → Type 0
+Serves setup start count old status new =
+    ((status ≡ 0) × IsTold setup start count old new) ⊎ ((status ≡ 4) × (new ≡ old)) ⊎ (status ≡ 1)

@@ -4,7 +4,7 @@ use crate::expected::{expect_same, expect_that};
 use crate::files::{Files, file_holds, file_of, new_folder};
 use crate::script::{LARGE, Room, SMALL, opened_by_strips, setup_of};
 use crate::snapshots::snapshot;
-use gas_hall::{Counts, serve_lab};
+use gas_hall::serve_lab;
 use gas_ledger::Gas;
 use gas_snapshot::{MaybeShelf, NoShelf, Shelf, decode};
 use gaslab::serve_on;
@@ -17,8 +17,8 @@ use std::{fs, process};
 use test_types::pages::Page;
 use test_types::stage::{Speakers, Speech, Stage, Text, interleaved};
 
-// no shelf for each of so many sessions
-fn no_shelves<R: HasFiles + AllocGlobal + Drop>(rt: &R, count: usize) -> Option<Vec<Files<R>>> {
+/// No shelf for each of so many sessions.
+pub fn no_shelves<R: HasFiles + AllocGlobal + Drop>(rt: &R, count: usize) -> Option<Vec<Files<R>>> {
     let mut shelves = Vec::with_capacity(rt.alloc(), 4).ok()?;
     for _ in 0..count {
         shelves.push(MaybeShelf::Nothing(NoShelf::new())).ok()?;
@@ -45,8 +45,8 @@ fn status_of<
     serve_on(rt, rt.alloc(), setup, start, &mut lobby, shelves, said)
 }
 
-// The server's sessions are served, and what they write and the server says is this.
-fn serves<
+/// The server's sessions are served, and what they write and the server says is this.
+pub fn serves<
     R: Abort + Threads + Wait + Sync + Clock + Copy + Drop + Send + AllocGlobal,
     K: Shelf + Drop + Send,
 >(
@@ -121,11 +121,18 @@ fn served_line_that_fails(rt: HostRuntime) {
 fn counts_by_strips<
     R: Abort + Threads + Wait + Sync + Clock + Copy + Drop + Send + AllocGlobal,
     K: Shelf + Drop + Send,
->(rt: &R, room: Room, shelves: Vec<K>, stage: &Stage, speeches: &[Option<Speech<'_>>]) -> Counts {
+>(
+    rt: &R,
+    room: Room,
+    shelves: Vec<K>,
+    stage: &Stage,
+    speeches: &[Option<Speech<'_>>],
+) -> (u32, u32, u32) {
     expect_that(rt, shelves.len() == 2);
     let mut lobby = Speakers::new(*rt, stage, speeches);
     let lab = opened_by_strips(rt, setup_of(rt, room), None).expect(rt, "memory");
-    serve_lab(rt, rt.alloc(), lab, &mut lobby, shelves).expect(rt, "memory")
+    let served = serve_lab(rt, rt.alloc(), lab, &mut lobby, shelves).expect(rt, "memory");
+    (served.done, served.failed, served.entries)
 }
 
 /// One session steps and undoes a channel with three workers in its turns, and another asks all the while for a row that
@@ -147,14 +154,9 @@ fn workers_under_the_lock(rt: HostRuntime) {
         by_strips: true,
         ..LARGE
     };
-    let wanted = Counts {
-        done: 2,
-        failed: 0,
-        entries: 6,
-    };
     let shelves = no_shelves(&rt, 2).expect(&rt, "memory");
     let counts = counts_by_strips(&rt, room, shelves, &stage, &speeches);
-    expect_same(&rt, counts, wanted);
+    expect_same(&rt, counts, (2, 0, 6));
     expect_that(
         &rt,
         stage.shows(
