@@ -17,4 +17,4 @@ pub use gas_seats::{
 pub use hosting::serve_lab;
 pub use mutex_hall::serve;
 pub use serving::{AcceptFault, Lobby, Served, TurnServed, serve_turn};
-pub use tcp::TcpLobby;
+pub use tcp::{TcpLobby, TcpReplies};

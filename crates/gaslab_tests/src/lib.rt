@@ -28,4 +28,6 @@ mod serving;
 #[cfg(test)]
 mod snapshots;
 #[cfg(test)]
+mod socket;
+#[cfg(test)]
 mod workers;
