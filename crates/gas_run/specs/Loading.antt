@@ -17,16 +17,12 @@ abbrev pub IsRead : Option (List ℕ) → Option (List ℕ) → List ℕ → Typ
 IsRead unread_old unread_new bytes =
     Consumes unread_old unread_new bytes × (length bytes ≤ most) × (IsAtEnd unread_new ⊎ (length bytes ≡ most))
 
--- a read failed, or memory was refused for what was read
-abbrev pub IsReadFault : LoadFault → Type 0
-IsReadFault fault = (fault ≡ Read) ⊎ (fault ≡ Snap Memory)
-
 abbrev pub loaded : Result Gas SnapFault → Result Gas LoadFault
 loaded (Ok gas) = Ok gas
 loaded (Err fault) = Err (Snap fault)
 
--- What was read is decoded, unless a read failed or memory was refused.
-abbrev pub Loads : Option (List ℕ) → Option (List ℕ) → Result Gas LoadFault → Type 0
-Loads unread_old unread_new result =
-    (result ≡ Err Read) ⊎ (result ≡ Err (Snap Memory))
-    ⊎ ((bytes : List ℕ) × (decoded : Result Gas SnapFault) × IsRead unread_old unread_new bytes × Gives decoded (reading bytes) × (result ≡ loaded decoded))
+-- A read failed; or memory ran out before the first read; or what was read is decoded, for which memory may run out too.
+abbrev pub Loads : {R : Type 0} → (R → Option (List ℕ)) → R → R → Result Gas LoadFault → Type 0
+Loads remaining old new result =
+    (result ≡ Err Read) ⊎ ((result ≡ Err (Snap Memory)) × (new ≡ old))
+    ⊎ ((bytes : List ℕ) × (decoded : Result Gas SnapFault) × IsRead (remaining old) (remaining new) bytes × Gives decoded (reading bytes) × (result ≡ loaded decoded))

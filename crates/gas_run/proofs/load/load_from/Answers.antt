@@ -1,8 +1,5 @@
 use Rattle.std.proofs.Common.{rules}
 use Rattle.gas_run.proofs.load.load_from.Goals as goal
 
-pub returns-in-Ok : goal.returns-in-Ok
-returns-in-Ok g c = search rules
-
 pub returns : goal.returns
 returns g c = search rules
