@@ -27,20 +27,6 @@ fn load(rt: &(impl Files + AllocGlobal), path: &str) -> Result<Gas, LoadFault> {
     load_from(rt.alloc(), &mut file)
 }
 
-// what is wrong with the file
-fn cause_of(fault: LoadFault) -> &'static str {
-    match fault {
-        LoadFault::Read => "it can't be opened or read",
-        LoadFault::Snap(SnapFault::Short) => "it ends too early",
-        LoadFault::Snap(SnapFault::Magic) => "it is not a snapshot",
-        LoadFault::Snap(SnapFault::Size) => "its width or height is out of range",
-        LoadFault::Snap(SnapFault::Tick) => "its tick is out of range",
-        LoadFault::Snap(SnapFault::Port) => "one of its sources or drains is wrong",
-        LoadFault::Snap(SnapFault::Trailing) => "it goes on after the snapshot's end",
-        LoadFault::Snap(SnapFault::Memory) => "memory ran out",
-    }
-}
-
 // The gas to start from, or else what the program exits with.
 fn start_of(
     rt: &(impl Eprint + Files + AllocGlobal),
@@ -54,8 +40,7 @@ fn start_of(
         Err(LoadFault::Snap(SnapFault::Memory)) => Err(Status::NoMemory),
         Err(fault) => {
             // the status tells of the fault, whether or not this can be written
-            let cause = cause_of(fault);
-            drop(eprintln!(rt; "gaslab: can't load {path}: {cause} ({fault})"));
+            drop(eprintln!(rt; "load: {fault}"));
             Err(Status::NotLoaded)
         }
     }
