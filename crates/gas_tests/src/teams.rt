@@ -29,11 +29,14 @@ fn phase<R: Threads + Drop, G: Gate + Drop>(
     team.phase(old, walls, obstacles, parity, out)
 }
 
-// Holds the first call until another has begun, for at most ten seconds and what the sleeps take longer.
+// Holds the first call until another has begun, for at most ten seconds and what the sleeps take longer. Counts the calls of
+// each of two workers.
 #[derive(Drop)]
 struct TwoAtOnce<C: Clock> {
     clock: C,
     calls: AtomicU64,
+    of_first: AtomicU64,
+    of_second: AtomicU64,
     met_limit: AtomicBool,
 }
 
@@ -42,6 +45,8 @@ impl<C: Clock> TwoAtOnce<C> {
         TwoAtOnce {
             clock,
             calls: AtomicU64::new(0),
+            of_first: AtomicU64::new(0),
+            of_second: AtomicU64::new(0),
             met_limit: AtomicBool::new(false),
         }
     }
@@ -58,7 +63,12 @@ impl<C: Clock> TwoAtOnce<C> {
 }
 
 impl<C: Clock + Sync> Gate for &TwoAtOnce<C> {
-    fn at_tile(&self, _worker: u8, _tile: u32) {
+    fn at_tile(&self, worker: u8, _tile: u32) {
+        match worker {
+            0 => self.of_first.fetch_add(1, Ordering::SeqCst),
+            1 => self.of_second.fetch_add(1, Ordering::SeqCst),
+            _ => 0,
+        };
         if self.calls.fetch_add(1, Ordering::SeqCst) == 0 {
             self.hold();
         }
@@ -75,8 +85,12 @@ fn two_workers_at_once(rt: HostRuntime) {
     let mut team = team(&rt, rt, rt.alloc(), 2, &gate);
     phase(&rt, &mut team, &old, &none, &none, 1, &mut out);
     expect_that(&rt, !gate.met_limit.load(Ordering::SeqCst));
-    // each of the four tiles was drawn
+    // each of the four tiles was drawn, and each worker called by its own number
     expect_same(&rt, gate.calls.load(Ordering::SeqCst), 4);
+    let first = gate.of_first.load(Ordering::SeqCst);
+    let second = gate.of_second.load(Ordering::SeqCst);
+    expect_that(&rt, 0 < first && 0 < second);
+    expect_same(&rt, first.wrapping_add(second), 4);
     expect_that(&rt, are_same(&out, &want, 128, 128));
 }
 

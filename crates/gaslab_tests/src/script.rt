@@ -207,7 +207,7 @@ pub fn gives_on(rt: &(impl Abort + AllocGlobal + Threads), room: Room, script: &
     gives_with(rt, room, None, &mut store, script, output);
 }
 
-/// The same on one thread, and by strips of two, three and seven workers.
+/// The same on one thread, and by two, three and seven workers: as the program runs it, and all by strips.
 pub fn gives_by_teams(
     rt: &(impl Abort + AllocGlobal + Threads),
     room: Room,
@@ -216,12 +216,13 @@ pub fn gives_by_teams(
 ) {
     gives_on(rt, room, script, output);
     for workers in [2, 3, 7] {
-        let by_team = Room {
-            workers,
+        let as_program = Room { workers, ..room };
+        gives_on(rt, as_program, script, output);
+        let by_strips = Room {
             by_strips: true,
-            ..room
+            ..as_program
         };
-        gives_on(rt, by_team, script, output);
+        gives_on(rt, by_strips, script, output);
     }
 }
 

@@ -17,8 +17,8 @@ use std::{fs, process};
 use test_types::pages::Page;
 use test_types::stage::{Speakers, Speech, Stage, Text, interleaved};
 
-/// No shelf for each of so many sessions.
-pub fn no_shelves<R: HasFiles + AllocGlobal + Drop>(rt: &R, count: usize) -> Option<Vec<Files<R>>> {
+// no shelf for each of so many sessions
+fn no_shelves<R: HasFiles + AllocGlobal + Drop>(rt: &R, count: usize) -> Option<Vec<Files<R>>> {
     let mut shelves = Vec::with_capacity(rt.alloc(), 4).ok()?;
     for _ in 0..count {
         shelves.push(MaybeShelf::Nothing(NoShelf::new())).ok()?;

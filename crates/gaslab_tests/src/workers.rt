@@ -3,13 +3,18 @@
 use crate::expected::{expect_same, expect_that};
 use crate::failing::are_same;
 use crate::script::{ALL, Room, SMALL, gives_on, status_on};
+use crate::serving::serves;
+use gas_snapshot::NoShelf;
 use std::io::Write;
 use std::process::Abort;
 use std::rt::Files;
+use std::sync::Wait;
 use std::sync::atomic::{AtomicBool, Ordering};
 use std::thread::Threads;
+use std::time::Clock;
 use std::{fs, thread};
 use test_types::faults::{FaultAt, Feed, Sink, Store};
+use test_types::stage::Speech;
 
 // the next of a sequence of words that look random
 fn next(state: &mut u64) -> u64 {
@@ -148,15 +153,36 @@ fn most_until(rt: &(impl Files + AllocGlobal), is_over: &AtomicBool) -> u32 {
     most
 }
 
-// two workers make 512 steps, and then the flag is set
+// More steps than one look takes, by two workers.
+const LONG_STEPS: Room = Room {
+    width: 4096,
+    height: 2048,
+    workers: 2,
+    ..SMALL
+};
+
+// a run of them, and then the flag is set
 fn step_by_two(rt: &(impl Abort + AllocGlobal + Threads), is_over: &AtomicBool) {
-    let room = Room {
-        width: 4096,
-        height: 2048,
-        workers: 2,
-        ..SMALL
-    };
-    gives_on(rt, room, "step 512", "OK 0");
+    gives_on(rt, LONG_STEPS, "step 512", "OK 0");
+    is_over.store(true, Ordering::SeqCst);
+}
+
+// the same for a server
+fn serve_by_two<R: Abort + Threads + Wait + Sync + Clock + Copy + Drop + Send + AllocGlobal>(
+    rt: &R,
+    is_over: &AtomicBool,
+) {
+    let mut shelves = Vec::new(rt.alloc());
+    shelves.push(NoShelf::new()).expect(rt, "memory");
+    serves(
+        rt,
+        LONG_STEPS,
+        None,
+        shelves,
+        &[Some(Speech::of(b"step 512\nquit\n"))],
+        [b"OK 0\nBYE\n", b""],
+        b"SERVED 1 0 1\n",
+    );
     is_over.store(true, Ordering::SeqCst);
 }
 
@@ -176,4 +202,21 @@ fn workers_are_threads(rt: HostRuntime) {
         most = most.max(seen);
     }
     expect_that(&rt, most >= 3);
+}
+
+/// The same for a server, whose session has a thread too: by one worker there would be three, never more.
+#[test]
+fn server_workers_are_threads(rt: HostRuntime) {
+    let mut most = 0;
+    for _ in 0..10u32 {
+        settle(&rt);
+        let is_over = AtomicBool::new(false);
+        let (seen, ()) = thread::join(
+            &rt,
+            || most_until(&rt, &is_over),
+            || serve_by_two(&rt, &is_over),
+        );
+        most = most.max(seen);
+    }
+    expect_that(&rt, most >= 4);
 }

