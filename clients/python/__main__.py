@@ -1,6 +1,8 @@
-"""`python3 clients/python WORD ..` is `python3 -m gaslab WORD ..`, without a path to set."""
+"""`python3 clients/python WORD ..` is `gaslab-client WORD ..`, without an installation."""
 import sys
 
-from gaslab.__main__ import main
-
+try:
+    from gaslab.__main__ import main
+except ImportError as fault:
+    sys.exit(f"gaslab: {fault}")
 sys.exit(main())

@@ -5,25 +5,27 @@ measures what it finds. It proves nothing: what is proved is the program that it
 
     >>> from gaslab import Lab, picture                         # doctest: +SKIP
     >>> with Lab.run() as lab:                                  # doctest: +SKIP
-    ...     lab.play("examples/4_tunnel.txt")
-    ...     picture(lab, "tunnel.png", scale=8)
+    ...     replies = lab.play("examples/4_tunnel.txt")
+    ...     image = picture(lab, "tunnel.png", mean=4)
 """
 from __future__ import annotations
 
-from .errors import (GaslabError, Gone, LIMITS, Moving, REFUSALS, Refused, Silent, Strange,
-                     Unreachable)
-from .lab import Lab
-from .measure import every, profile, random_gas
-from .pictures import film, picture, picture_bytes, text_picture
-from .replies import (Bye, Entry, Ledger, Ok, Probe, Reply, Row, Saved, Tally, named, parse_reply)
-from .snapshot import (Drain, MagicFault, PortFault, ShortFault, SizeFault, Snapshot,
-                       SnapshotFault, Source, TickFault, TrailingFault)
-from .table import Table
+from .protocol import (Bye, Entry, GaslabError, Gone, LIMITS, Ledger, MissingLibrary, Moving, Ok,
+                       Probe, REFUSALS, Refused, Reply, Row, Saved, Silent, Strange, Tally,
+                       Unreachable, named, parse_reply)
+from .snapshot import (Drain, MagicFault, PortFault, ShortFault, SizeFault, Snapshot, SnapshotFault,
+                       Source, TickFault, TrailingFault)
+from .lab import Lab, place, shoot, trace, truth_table
+from .measure import Fields, chart, csv_text, every, profile, random_gas, velocity
+from .pictures import film, palette, picture, picture_bytes, text_picture
+
+__version__ = "1.0.0"
 
 __all__ = [
-    "Bye", "Drain", "Entry", "GaslabError", "Gone", "LIMITS", "Lab", "Ledger", "MagicFault",
-    "Moving", "Ok", "PortFault", "Probe", "REFUSALS", "Refused", "Reply", "Row", "Saved",
-    "ShortFault", "Silent", "SizeFault", "Snapshot", "SnapshotFault", "Source", "Strange", "Table",
-    "Tally", "TickFault", "TrailingFault", "Unreachable", "every", "film", "named", "parse_reply",
-    "picture", "picture_bytes", "profile", "random_gas", "text_picture",
+    "Bye", "Drain", "Entry", "Fields", "GaslabError", "Gone", "LIMITS", "Lab", "Ledger",
+    "MagicFault", "MissingLibrary", "Moving", "Ok", "PortFault", "Probe", "REFUSALS", "Refused",
+    "Reply", "Row", "Saved", "ShortFault", "Silent", "SizeFault", "Snapshot", "SnapshotFault",
+    "Source", "Strange", "Tally", "TickFault", "TrailingFault", "Unreachable", "chart", "csv_text",
+    "every", "film", "named", "palette", "parse_reply", "picture", "picture_bytes", "place",
+    "profile", "random_gas", "shoot", "text_picture", "trace", "truth_table", "velocity",
 ]

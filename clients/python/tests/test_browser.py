@@ -14,7 +14,7 @@ from .test_watch import MARKUP, Hall, page_of
 class InABrowser(unittest.TestCase):
     def test_the_page(self):
         """A known gas, steps, what others type, and the server's end."""
-        hall = Hall(["0 wall 0 9 64 1", "4 block 8 8 2 2", f"3 {MARKUP}"])
+        hall = Hall(["0 wall 0 9 64 1", "4 block 8 8 2 2", "3 put 0 3 1 1"])
         with page_of(hall) as (page, _), Browser(page.address) as browser:
             browser.wait("document.body?.dataset.look", "1")
             wall = {(x, 9): palette.CELLS[palette.WALL] for x in range(64)}
@@ -27,7 +27,7 @@ class InABrowser(unittest.TestCase):
             self.assertRegex(browser.value(text("took")),
                              r"^The last look took [0-9.]+ ms. It reads at most 64 rows at once; ")
             cells = '[...document.querySelectorAll("#entries td")].map((it) => it.textContent)'
-            self.assertEqual(browser.value(cells), ["2", "3", MARKUP, "1", "4", "block 8 8 2 2",
+            self.assertEqual(browser.value(cells), ["2", "3", "put 0 3 1 1", "1", "4", "block 8 8 2 2",
                                                     "0", "0", "wall 0 9 64 1"])
             self.assertEqual(browser.value('document.querySelectorAll("#entries *").length'), 12)
             self.assertEqual(browser.value('document.querySelectorAll("img, b").length'), 0)
@@ -42,6 +42,13 @@ class InABrowser(unittest.TestCase):
             self.assertEqual(browser.canvas(), (64, 64, {**wall, **block, (3, 3): blue}))
             self.assertEqual(browser.errors, [])
 
+    def test_what_others_send_is_text(self):
+        with page_of(Hall([f"3 {MARKUP}"])) as (page, _), Browser(page.address) as browser:
+            browser.wait("document.body?.dataset.status", "ended")
+            self.assertIn(MARKUP, browser.value(text("message")))
+            self.assertEqual(browser.value('document.querySelectorAll("img, b").length'), 0)
+            self.assertEqual(browser.errors, [])
+
     def test_complaints_are_noticed(self):
         """So that a console without errors says something."""
         with page_of(Hall()) as (page, _), Browser(page.address) as browser:
@@ -54,7 +61,7 @@ class InABrowser(unittest.TestCase):
         room = tempfile.mkdtemp()
         self.addCleanup(shutil.rmtree, room)
         path = os.environ.get("GASLAB_SCREENSHOT") or os.path.join(room, "page.png")
-        with page_of(Hall(["0 wall 0 9 64 1", f"3 {MARKUP}"])) as (page, _):
+        with page_of(Hall(["0 wall 0 9 64 1", "3 put 0 3 1 1"])) as (page, _):
             with Browser(page.address) as browser:
                 browser.wait("document.body?.dataset.look", "1")
                 browser.screenshot(path)

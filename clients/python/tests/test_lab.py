@@ -8,9 +8,10 @@ import unittest
 from pathlib import Path
 from unittest import mock
 
+import numpy
+
 from gaslab import (Bye, Drain, Entry, Gone, Lab, Ledger, Moving, Ok, Probe, REFUSALS, Refused, Row,
-                    Saved, Silent, Source, Strange, Tally, Unreachable)
-from gaslab.cells import pack_row
+                    Saved, Silent, Snapshot, Source, Strange, Tally, Unreachable)
 
 from .fake import Fake, typical
 
@@ -24,6 +25,11 @@ def joined(fake, **options):
 
 def run(**options):
     return Lab.run(program=STAND_IN, **options)
+
+
+def probed(line):
+    """The answer of a gas of 64 by 64 to a probe of one cell."""
+    return b"PROBE 0 0 0\n" if max(map(int, line.split(" ")[1:])) < 64 else b"ERR 5 rect\n"
 
 
 def by_table(table):
@@ -57,6 +63,8 @@ class EachCommand(unittest.TestCase):
         words = {"put", "erase", "wall", "block", "unwall", "row", "source", "drain", "back"}
 
         def answer(line):
+            if line.startswith("probe") and line != "probe 1 2 3 4":
+                return probed(line)
             return b"OK 0\n" if line.split(" ")[0] in words else typical(line)
         with Fake(answer, **options) as fake, joined(fake) as lab:
             self.assertEqual(fake.lines, ["tally"])
@@ -148,7 +156,7 @@ class Sending(unittest.TestCase):
         def answer(line):
             time.sleep(0.3 if line == "step 7" else 0)
             return typical(line)
-        with Fake(answer) as fake, mock.patch("gaslab.lab._LAST_WAIT", 0.05):
+        with Fake(answer) as fake, mock.patch("gaslab.lab.session._LAST_WAIT", 0.05):
             with joined(fake) as lab:
                 lab.send(["step 7", "step 7"])
             self.assertEqual(fake.lines, ["tally", "step 7", "step 7", "quit"])
@@ -184,11 +192,50 @@ class Sending(unittest.TestCase):
         with tempfile.TemporaryDirectory() as room, Fake(by_table({"x": b"ERR 2 word\n"})) as fake:
             path = os.path.join(room, "script")
             with joined(fake) as lab:
-                Path(path).write_text("step 7\n\nunport\n")
-                self.assertEqual(lab.play(path), [Ok(65535), Ok(3)])
-                Path(path).write_text("x\nunport\n")
-                self.assertRaises(Refused, lab.play, path)
-                self.assertEqual(fake.lines, ["tally", "step 7", "unport", "x", "unport"])
+                Path(path).write_text("# first\n\nstep 7  # seven\n \nrepeat 2 { unport }\n")
+                self.assertEqual(lab.play(path), [Ok(65535), Ok(3), Ok(3)])
+                Path(path).write_text("step 7\n\nx\nunport\n")
+                with self.assertRaisesRegex(Refused, "^line 3: ERR 2 word: .*; asked: x$"):
+                    lab.play(path)
+                self.assertEqual(fake.lines,
+                                 ["tally", "step 7", "unport", "unport", "step 7", "x"])
+
+    def test_play_knows_sizes(self):
+        with tempfile.TemporaryDirectory() as room, run(width=128) as lab:
+            path = Path(room, "script")
+            path.write_text("# wide\nsize 128 64\nput 127 0 1 1\n")
+            self.assertEqual(lab.play(path), [Ok(0)])
+            path.write_text("size 64 64\nput 0 0 1 1\n")
+            with self.assertRaisesRegex(ValueError, "for 64 by 64 cells, and this gas has 128 by"):
+                lab.play(path)
+            path.write_bytes(b"put 0 0 1 1\n\xff\n")
+            with self.assertRaisesRegex(ValueError, "line 2 is not UTF-8"):
+                lab.play(path)
+
+    def test_do_raises_at_the_first_refusal(self):
+        with run() as lab:
+            with self.assertRaisesRegex(Refused, "^line 3: ERR 6 steps") as caught:
+                lab.do(["put 0 0 1 1", "tally", "step 0", "put 1 0 1 1", "step 0"])
+            self.assertEqual((caught.exception.place, caught.exception.line), (3, "step 0"))
+            self.assertEqual([entry.command for entry in lab.journal()], ["put 0 0 1 1"])
+            self.assertEqual(lab.do("step 1\ntally\n"), [Ok(1), Tally(1, 1, 1, 1)])
+            self.assertEqual(lab.do([]), [])
+
+    def test_lines_are_cut_at_newlines_alone(self):
+        """Not at the other signs at which Python's splitlines cuts."""
+        for sign in "\v\f\r\x1c\x85\u2028":
+            with Fake(lambda line: typical(line) if line in ("tally", "quit") else b"OK 0\n"
+                      ) as fake, joined(fake) as lab:
+                self.assertEqual(list(lab.send(f"put{sign}1\nput 2\n")), [Ok(0), Ok(0)])
+                self.assertEqual(fake.lines, ["tally", f"put{sign}1", "put 2"])
+
+    def test_a_journal_has_room_for_all_rows_of_a_large_gas(self):
+        with tempfile.TemporaryDirectory() as room:
+            program = Path(room, "program")
+            program.write_text('#!/bin/sh\necho "$@" >&2\nexit 2\n')
+            program.chmod(0o755)
+            with self.assertRaisesRegex(Gone, "--cap 65536$|--cap 65536;"):
+                Lab.run(program=program)
 
 
 class OtherSides(unittest.TestCase):
@@ -197,7 +244,6 @@ class OtherSides(unittest.TestCase):
             port = fake.port
         with self.assertRaisesRegex(Unreachable, f"no server at 127.0.0.1:{port}"):
             Lab.join("127.0.0.1", port)
-        self.assertRaises(Unreachable, Lab.join, "127.0.0.1", 99999999999)
 
     def test_a_full_server(self):
         with Fake(lambda line: b"") as fake:
@@ -234,18 +280,35 @@ class OtherSides(unittest.TestCase):
             self.assertLess(time.monotonic() - began, 10)
 
     def test_no_program(self):
-        with self.assertRaisesRegex(Unreachable, "./gaslab --build makes it"):
-            Lab.run(program="/no/such/program")
+        for path in ("/no/such/program", "/", __file__):
+            with self.assertRaisesRegex(Unreachable, "./gaslab --build makes the program"):
+                Lab.run(program=path)
 
-    def test_a_program_that_is_not_built(self):
-        with tempfile.TemporaryDirectory() as room, mock.patch.dict(os.environ):
-            os.environ.pop("GASLAB_PROGRAM", None)
-            with mock.patch("gaslab.doors._BUILT", Path(room, "nothing")):
-                with self.assertRaisesRegex(Unreachable, "not built: ./gaslab --build makes it"):
-                    Lab.run()
-            os.environ["GASLAB_PROGRAM"] = str(STAND_IN)
-            with Lab.run() as lab:
-                self.assertEqual(lab.tally(), Tally(0, 0, 0, 0))
+    def test_a_port_that_there_is_not(self):
+        for port in (-1, 65536, 99999, 10 ** 20, "7878"):
+            with self.assertRaisesRegex(ValueError, "a port is 0 to 65,535, and not"):
+                Lab.join("127.0.0.1", port)
+
+    def test_a_drip_is_no_reply(self):
+        """The timeout is for a reply, however its bytes come."""
+        def drip(line):
+            time.sleep(0.1)
+            return b"T"
+        with Fake(drip) as fake:
+            began = time.monotonic()
+            with self.assertRaisesRegex(Silent, "no answer for 0.5 seconds"):
+                joined(fake, timeout=0.5)
+            self.assertLess(time.monotonic() - began, 2)
+
+    def test_wrong_options_have_the_rule(self):
+        for options, rule in (({"width": 100}, "sides are multiples of 64 from 64 to 4,096"),
+                              ({"height": 4160}, "sides are multiples of 64"),
+                              ({"width": "64"}, "sides are multiples of 64"),
+                              ({"workers": 17}, "workers is 1 to 16"), ({"cap": 0}, "cap is 1 to"),
+                              ({"timeout": 0}, "timeout is"), ({"timeout": float("nan")}, "seconds")
+                              ):
+            with self.assertRaisesRegex(ValueError, rule):
+                run(**options)
 
     def test_nothing_that_a_program_started_is_left(self):
         with tempfile.TemporaryDirectory() as room:
@@ -300,10 +363,10 @@ class Looking(unittest.TestCase):
             self.assertEqual((gas.width, gas.height, gas.tick), (64, 64, 1))
             self.assertEqual(gas.drains, (Drain(1, 2, 3, 4),))
             self.assertEqual(gas.sources, (Source(5, 6, 7, 8, 9),))
-            top = pack_row(x != 4 for x in range(64))
-            self.assertEqual(gas.wall_bytes, 2 * top + bytes(62 * 8))
-            three = pack_row(x == 3 for x in range(64))
-            self.assertEqual(gas.obstacle_bytes, bytes(8) + 2 * three + bytes(61 * 8))
+            found = [{(x, y) for y, x in numpy.argwhere(cells).tolist()}
+                     for cells in (gas.walls, gas.obstacles)]
+            self.assertEqual(found, [{(x, y) for x in range(64) for y in (0, 1) if x != 4},
+                                     {(3, 1), (3, 2)}])
             lab.unport()
             self.assertEqual((lab.look().drains, lab.look().sources), ((), ()))
 
@@ -400,9 +463,114 @@ class Looking(unittest.TestCase):
         self.assertRegex(repr(lab), r"^<Lab closed .*stand_in.py>$")
 
 
+    def test_probes_that_name_no_size(self):
+        def all_refused(line):
+            return b"ERR 5 rect\n"
+
+        def a_hole(line):
+            return b"ERR 5 rect\n" if line == "probe 63 0 1 1" else b"PROBE 0 0 0\n"
+
+        def none_but_changes(line):
+            return b"OK 1\n"
+        for answer in (all_refused, a_hole, none_but_changes):
+            with Fake(lambda line: answer(line) if line.startswith("probe") else typical(line)
+                      ) as fake, joined(fake) as lab:
+                with self.assertRaisesRegex(Strange, "its probes name no width and height"):
+                    lab.look()
+
+    def looked(self, rows, entries=()):
+        """A look at a server of 64 by 64 that gives such rows and entries."""
+        def answer(line):
+            word, *numbers = line.split(" ")
+            if word == "read":
+                return rows
+            if word == "entry":
+                is_there = int(numbers[0]) < len(entries)
+                return f"ENTRY 0 {entries[int(numbers[0])]}\n".encode() if is_there \
+                    else b"ERR 9 entry\n"
+            return probed(line) if word == "probe" else typical(line)
+        with Fake(answer) as fake, joined(fake) as lab:
+            return lab.look()
+
+    def test_rows_of_another_width_are_strange(self):
+        row = b"ROW " + 16 * b"0" + b"\n"
+        self.assertEqual(self.looked(row).count, 0)
+        for other in (b"ROW " + 32 * b"0" + b"\n", b"OK 1\n", b"ERR 5 rect\n"):
+            with self.assertRaisesRegex(Strange, "no answer to 'read 0': "):
+                self.looked(other)
+
+    def test_entries_that_the_lattice_forbids_are_strange(self):
+        row = b"ROW " + 16 * b"0" + b"\n"
+        self.assertEqual(len(self.looked(row, ["drain 0 0 1 1"] * 16).drains), 16)
+        for entries, line in ((["put 0 0 1 1", "wall 0 90 1 1"], "wall 0 90 1 1"),
+                              (["wall 0 0 65 1"], "wall 0 0 65 1"),
+                              (["row 64 " + 16 * "0"], "row 64"), (["row 0 " + 32 * "0"], "row 0"),
+                              (["drain 0 0 1 1"] * 17, "drain 0 0 1 1"),
+                              (["source 0 0 1 1 1"] * 17, "source 0 0 1 1 1")):
+            with self.assertRaisesRegex(Strange, line):
+                self.looked(row, entries)
+
+    def test_a_start_of_another_size(self):
+        with Fake(lambda line: probed(line) if line.startswith("probe") else typical(line)
+                  ) as fake, joined(fake, start=Snapshot(128, 64)) as lab:
+            with self.assertRaisesRegex(ValueError, "start has 128 by 64 cells, and this gas 64"):
+                lab.look()
+
+
+class Setting(unittest.TestCase):
+    def setUp(self):
+        draw = numpy.random.RandomState(2)
+        self.sets = draw.random_sample((3, 64, 64)) < 0.2
+        y, x = numpy.ogrid[:64, :64]
+        self.disc = (x - 30) ** 2 + (y - 30) ** 2 <= 100
+
+    def test_a_whole_gas(self):
+        particles, walls, obstacles = self.sets
+        with run() as lab:
+            lab.wall(0, 0, 64, 3)
+            lab.block(5, 5, 20, 20)
+            lab.put(0, 0, 64, 64)
+            lab.set(particles=particles, walls=walls, obstacles=obstacles)
+            gas = lab.look()
+        for found, wanted in ((gas.particles, particles), (gas.walls, walls),
+                              (gas.obstacles, obstacles)):
+            self.assertTrue((found == wanted).all())
+
+    def test_what_is_not_given_stays(self):
+        particles, walls, obstacles = self.sets
+        with run() as lab:
+            lab.set(*self.sets)
+            for name, cells in (("walls", self.disc), ("obstacles", self.disc),
+                                ("particles", self.disc)):
+                lab.set(**{name: cells})
+            gas = lab.look()
+            self.assertTrue((gas.walls == self.disc).all() and (gas.particles == self.disc).all()
+                            and (gas.obstacles == self.disc).all())
+            lab.set(walls=walls)
+            self.assertTrue((lab.look().obstacles == self.disc).all())
+
+    def test_few_commands(self):
+        with run() as lab:
+            widths = {int(row.sum()) for row in self.disc if row.any()}
+            self.assertLessEqual(lab.set(obstacles=self.disc), len(widths))
+            self.assertEqual(lab.set(obstacles=self.disc), 0)
+            self.assertEqual(lab.set(particles=self.disc), 21)
+            self.assertEqual(lab.set(particles=self.disc), 0)
+            self.assertEqual(lab.set(obstacles=numpy.zeros((64, 64))), 1)
+
+    def test_wrong_shapes(self):
+        with run(width=128) as lab:
+            for wish in ({"particles": numpy.zeros((64, 64))}, {"walls": numpy.zeros((128, 64))}):
+                with self.assertRaisesRegex(ValueError, r"shape \(height, width\), here \(64, 128\)"):
+                    lab.set(**wish)
+            with self.assertRaisesRegex(ValueError, "a row has 128 cells, not 3"):
+                lab.row(0, [1, 0, 1])
+            self.assertEqual(lab.journal(), [])
+
+
 class Lessons(unittest.TestCase):
     def test_replies_are_those_beside_the_scripts(self):
-        from gaslab.replies import reply_text
+        from gaslab.protocol import reply_text
         for name in ("1_one_particle", "2_head_on", "2_blocks", "3_gate", "4_tunnel"):
             script = ROOT / "examples" / f"{name}.txt"
             with run() as lab:

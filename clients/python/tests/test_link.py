@@ -5,8 +5,8 @@ import threading
 import time
 import unittest
 
-from gaslab.errors import REFUSALS, Gone, Silent, Strange
-from gaslab.link import Lines, Link
+from gaslab.protocol.errors import REFUSALS, Gone, Silent, Strange
+from gaslab.protocol.link import Lines, Link
 
 from .test_replies import EACH
 
@@ -82,16 +82,29 @@ class OtherSides(unittest.TestCase):
             pair.other.sendall(b"2 0 0\n")
             self.assertEqual(pair.link.next_line(), "PROBE 12 0 0")
 
-    def test_slow_but_not_silent(self):
-        with Pair(1.0) as pair:
-            def drip():
-                for byte in b"TALLY 0 0\n":
-                    time.sleep(0.15)
-                    pair.other.sendall(bytes([byte]))
-            thread = threading.Thread(target=drip)
-            thread.start()
-            self.assertEqual(pair.link.next_line(), "TALLY 0 0")
-            thread.join()
+    def test_the_timeout_is_for_a_reply_and_not_for_a_byte(self):
+        for pause, is_in_time in ((0.02, True), (0.3, False)):
+            with Pair(1.0) as pair:
+                def drip():
+                    for byte in b"TALLY 0 0\n":
+                        time.sleep(pause)
+                        pair.other.sendall(bytes([byte]))
+                thread = threading.Thread(target=drip)
+                thread.start()
+                began = time.monotonic()
+                if is_in_time:
+                    self.assertEqual(pair.link.next_line(), "TALLY 0 0")
+                else:
+                    self.assertRaisesRegex(Silent, "in the middle", pair.link.next_line)
+                    self.assertLess(time.monotonic() - began, 1.6)
+                thread.join()
+
+    def test_the_time_of_refilling_is_not_counted(self):
+        with Pair(0.2) as pair:
+            def refill():
+                time.sleep(0.5)
+                pair.other.sendall(b"BYE\n")
+            self.assertEqual(pair.link.next_line(refill), "BYE")
 
     def test_hangs_up(self):
         with Pair(5, lambda is_silent: f"why {is_silent}") as pair:

@@ -1,18 +1,28 @@
 import csv
-import importlib.util
 import io
 import os
 import random
+import sys
 import tempfile
 import unittest
 import xml.etree.ElementTree
 from pathlib import Path
+from unittest import mock
 
-from gaslab import Refused, Snapshot, Table, profile, random_gas
-from gaslab.chart import chart_text
+import numpy
 
+from gaslab import (Refused, Snapshot, chart, csv_text, every, profile, random_gas, velocity)
+from gaslab.measure.measuring import sums_of
+from gaslab.measure.tables import columns_of, table_of
+from gaslab.snapshot.cells import array_of
+
+from .seen import read
 from .test_lab import ROOT, run
 from .test_pictures import plane
+
+
+def rows_of(table):
+    return list(zip(*(table[name].tolist() for name in columns_of(table))))
 
 
 class Every(unittest.TestCase):
@@ -22,32 +32,47 @@ class Every(unittest.TestCase):
         with run() as lab:
             list(lab.send(line for line in script.splitlines()[:6]))
             table = lab.every(100, times=3, ledger=True, probes={"front": (20, 28, 8, 8)})
-        self.assertEqual(table["tick"], [100, 200, 300])
-        self.assertEqual(table["obstacles_x"], [448, 1048, 1648])
-        self.assertEqual(table["walls_x"], [40, 40, 40])
-        self.assertEqual(table["d_obstacles_x"], [448, 600, 600])
+        for name, numbers in (("tick", [100, 200, 300]), ("obstacles_x", [448, 1048, 1648]),
+                              ("walls_x", [40, 40, 40]), ("d_obstacles_x", [448, 600, 600])):
+            self.assertEqual(table[name].tolist(), numbers)
         self.assertEqual((table["d_injected"][2], table["d_drained"][2]), (2300, 2300))
         self.assertEqual((table["d_injected_x"][2], table["d_drained_x"][2]), (300, -300))
         self.assertEqual((table["front_count"][2], table["front_px"][2]), (38, 26))
-        self.assertEqual(len(table.columns), 1 + 2 * (3 + 13 + 3))
+        self.assertEqual(len(columns_of(table)), 1 + 2 * (3 + 13 + 3))
 
     def test_differences_add_up(self):
         with run() as lab:
             lab.put(3, 3, 9, 9)
             lab.wall(20, 0, 1, 64)
             table = lab.every(-5, times=4)
-        self.assertEqual(table["tick"], [-5, -10, -15, -20])
-        for name in table.columns[1:]:
+        self.assertEqual(table["tick"].tolist(), [-5, -10, -15, -20])
+        for name in columns_of(table)[1:]:
             if not name.startswith("d_"):
-                steps = table["d_" + name]
-                self.assertEqual([b - a for a, b in zip(table[name], table[name][1:])], steps[1:])
-        self.assertEqual(table["d_count"], [0] * 4)
+                self.assertEqual(numpy.diff(table[name]).tolist(), table["d_" + name].tolist()[1:])
+        self.assertEqual(table["d_count"].tolist(), [0] * 4)
 
     def test_without_ledger(self):
         with run() as lab:
             table = lab.every(1, times=2, ledger=False)
-        self.assertEqual(table.columns, ("tick", "count", "px", "py", "d_count", "d_px", "d_py"))
-        self.assertEqual(table.rows, [(1,) + 6 * (0,), (2,) + 6 * (0,)])
+        self.assertEqual(columns_of(table), ["tick", "count", "px", "py", "d_count", "d_px", "d_py"])
+        self.assertEqual(rows_of(table), [(1,) + 6 * (0,), (2,) + 6 * (0,)])
+
+    def test_chosen_columns(self):
+        with run() as lab:
+            lab.put(0, 0, 1, 1)
+            table = lab.every(2, 3, columns=["d_count", "tick", "a_count"],
+                              probes={"a": (4, 4, 1, 1)})
+            self.assertEqual(columns_of(table), ["d_count", "tick", "a_count"])
+            self.assertEqual(rows_of(table), [(0, 2, 0), (0, 4, 1), (0, 6, 0)])
+            with self.assertRaisesRegex(ValueError, "no column drag: there are tick, count, px"):
+                lab.every(2, 3, columns=["tick", "drag"])
+            self.assertEqual(lab.tally().tick, 6)
+
+    def test_progress(self):
+        told = []
+        with run() as lab:
+            every(lab, 1, 2, progress=lambda *both: told.append(both))
+        self.assertEqual(told, [(1, 2), (2, 2)])
 
     def test_a_wrong_probe_is_refused(self):
         with run() as lab:
@@ -56,55 +81,111 @@ class Every(unittest.TestCase):
 
 
 class Tables(unittest.TestCase):
-    TABLE = Table(("tick", "a,b"), [(1, -2), (3, 0.5)])
+    TABLE = {"tick": [1, 3], "a,b": [-2.0, 0.5]}
 
-    def test_csv(self):
-        text = 'tick,"a,b"\n1,-2\n3,0.5\n'
-        self.assertEqual(self.TABLE.csv(), text)
-        self.assertEqual(list(csv.reader(io.StringIO(text))),
-                         [["tick", "a,b"], ["1", "-2"], ["3", "0.5"]])
-        with tempfile.TemporaryDirectory() as room:
-            path = os.path.join(room, "it.csv")
-            self.TABLE.csv(path)
-            self.assertEqual(Path(path).read_bytes(), text.encode())
+    def both(self):
+        """The table as a frame of pandas, if that is installed, and as numpy records."""
+        yield table_of(self.TABLE)
+        with mock.patch.dict(sys.modules, {"pandas": None}):
+            yield table_of(self.TABLE)
+
+    def test_kinds(self):
+        kinds = [type(table).__name__ for table in self.both()]
+        self.assertEqual(kinds[1], "recarray")
+        try:
+            import pandas
+        except ImportError:
+            self.assertEqual(kinds[0], "recarray")
+        else:
+            self.assertEqual(kinds[0], pandas.DataFrame.__name__)
 
     def test_columns(self):
-        self.assertEqual((self.TABLE["a,b"], len(self.TABLE)), ([-2, 0.5], 2))
-        self.assertRaisesRegex(KeyError, "there are tick", self.TABLE.__getitem__, "no")
-        self.assertRaises(ValueError, Table, ("a",), [(1, 2)])
+        for table in self.both():
+            self.assertEqual((table["a,b"].tolist(), len(table)), ([-2, 0.5], 2))
 
-    def test_html_is_no_markup_of_others(self):
-        self.assertEqual(Table(("<b>",), [(1,)])._repr_html_(),
-                         "<table><tr><th>&lt;b&gt;</th></tr><tr><td>1</td></tr></table>")
-
-    @unittest.skipUnless(importlib.util.find_spec("pandas"), "pandas is not installed")
-    def test_frame(self):
-        frame = self.TABLE.frame()
-        self.assertEqual((list(frame.columns), frame.shape), (["tick", "a,b"], (2, 2)))
-        self.assertEqual(list(frame["tick"]), [1, 3])
+    def test_csv(self):
+        text = 'tick,"a,b"\n1,-2.0\n3,0.5\n'
+        for table in self.both():
+            self.assertEqual(csv_text(table), text)
+            with tempfile.TemporaryDirectory() as room:
+                path = os.path.join(room, "it.csv")
+                csv_text(table, path)
+                self.assertEqual(Path(path).read_bytes(), text.encode())
+        self.assertEqual(list(csv.reader(io.StringIO(text))),
+                         [["tick", "a,b"], ["1", "-2.0"], ["3", "0.5"]])
 
 
 class Charts(unittest.TestCase):
-    def test_places(self):
-        text = chart_text("t<", [0, 50, 100], {"a&b": [0, 5, 10], "c": [10, 10, 10]})
-        root = xml.etree.ElementTree.fromstring(text)
-        lines = [it.get("points") for it in root if it.tag.endswith("polyline")]
-        self.assertEqual(lines, ["70.0,315.0 345.0,177.5 620.0,40.0",
-                                 "70.0,40.0 345.0,40.0 620.0,40.0"])
-        texts = [it.text for it in root if it.tag.endswith("text")]
-        self.assertEqual(texts[0], "t<")
-        self.assertIn("a&b", texts)
-        self.assertLessEqual({"0", "20", "100", "10"}, set(texts))
+    def setUp(self):
+        room = tempfile.TemporaryDirectory()
+        self.addCleanup(room.cleanup)
+        self.room = Path(room.name)
+        self.table = table_of({"t<": [0, 50, 100], "a&b": [0, 5, 10], "c": [10, 10, 10]})
 
-    def test_one_number(self):
-        xml.etree.ElementTree.fromstring(chart_text("t", [5], {"a": [0]}))
-        self.assertRaises(ValueError, chart_text, "t", [], {"a": []})
+    def texts(self, *y):
+        path = self.room / "it.svg"
+        chart(self.table, path, "t<", *y)
+        root = xml.etree.ElementTree.parse(path).getroot()
+        return [it.text for it in root.iter() if it.tag.endswith("}text")], root
 
-    def test_ranges(self):
-        for values in ([-3, 4], [-700, -600], [0, 1], [0, 9], [0, 99], [1e6, 2e6], [0.1, 0.2]):
-            root = xml.etree.ElementTree.fromstring(chart_text("t", [0, 1], {"a": values}))
-            marks = [it for it in root if it.get("text-anchor") == "end"]
-            self.assertTrue(5 <= len(marks) <= 11, (values, len(marks)))
+    def test_both_axes_have_titles(self):
+        found, _ = self.texts("a&b")
+        self.assertIn("t<", found)
+        self.assertIn("a&b", found)
+        self.assertLessEqual({"0", "100", "10"}, set(found))
+
+    def test_several_lines_have_a_legend(self):
+        found, root = self.texts(["a&b", "c"])
+        self.assertEqual([found.count("a&b"), found.count("c")], [1, 1])
+        marks = [it for it in root.iter() if it.tag.endswith("}use")]
+        self.assertGreaterEqual(len(marks), 6)
+
+    def test_the_same_table_gives_the_same_file(self):
+        files = []
+        for name in ("one.svg", "two.svg"):
+            chart(self.table, self.room / name, "t<", "c")
+            files.append((self.room / name).read_bytes())
+        self.assertEqual(*files)
+
+    def test_a_png(self):
+        chart(self.table, self.room / "it.png", "t<", "c")
+        seen = read(self.room / "it.png")
+        self.assertEqual((seen.format, seen.width > 400), ("PNG", True))
+
+    def test_wrong_wishes_write_nothing(self):
+        for path, y, what in (("it.jpg", "c", "ends in .svg"), ("it.svg", "d", "no column d: there"),
+                              ("it.svg", [], "at least one line")):
+            with self.assertRaisesRegex(ValueError, what):
+                chart(self.table, self.room / path, "t<", y)
+        with self.assertRaisesRegex(ValueError, "at least one line with one number"):
+            chart(table_of({"t": [], "a": []}), self.room / "it.svg", "t", "a")
+        self.assertEqual(os.listdir(self.room), [])
+
+
+class Fields(unittest.TestCase):
+    def test_against_the_cells(self):
+        """Each cell's velocity, by the rule for its parity, summed in squares."""
+        draw = random.Random(7)
+        for tick in (0, -3, 8):
+            cells = {(x, y) for x in range(128) for y in range(64) if draw.random() < 0.4}
+            gas = Snapshot(128, 64, tick, particle_bytes=plane(cells, 128))
+            found = velocity(gas, mean=16)
+            wanted = numpy.zeros((3, 4, 8))
+            for x, y in cells:
+                right, down = (1 if (place + tick) % 2 == 0 else -1 for place in (x, y))
+                wanted[:, y // 16, x // 16] += (1, right, down)
+            for field, numbers in zip(found, wanted):
+                self.assertEqual(field.shape, (4, 8))
+                self.assertTrue(numpy.allclose(field, numbers / 256))
+            self.assertEqual(sums_of(gas), (tick, *wanted.sum(axis=(1, 2)).astype(int)))
+
+    def test_of_a_laboratory(self):
+        with run() as lab:
+            lab.put(0, 0, 8, 8)
+            found = lab.velocity(mean=8)
+            self.assertEqual((found.density[0, 0], found.density.sum()), (1, 1))
+            self.assertEqual((found.px.any(), found.py.any()), (False, False))
+            self.assertRaisesRegex(ValueError, "mean is from 1 to 64", lab.velocity, 7)
 
 
 class Profiles(unittest.TestCase):
@@ -125,13 +206,13 @@ class Profiles(unittest.TestCase):
             for bins in (None, 1, 8, 7, length):
                 found = profile(self.gas, along, bins)
                 expected = self.expected(axis, bins or length, length, breadth)
-                for row, wanted in zip(found.rows, expected):
+                for row, wanted in zip(rows_of(found), expected):
                     self.assertEqual(row[:3] + row[4:], wanted[:3] + wanted[4:])
                     self.assertAlmostEqual(row[3], wanted[3])
                 self.assertEqual(len(found), bins or length)
 
     def test_bare_truth_values(self):
-        self.assertEqual(profile(self.gas.particles, tick=-3).rows, profile(self.gas).rows)
+        self.assertEqual(rows_of(profile(self.gas.particles, tick=-3)), rows_of(profile(self.gas)))
 
     def test_wrong_wishes(self):
         for wish in ({"along": "z"}, {"bins": 0}, {"bins": 129}):
@@ -175,6 +256,12 @@ class RandomGases(unittest.TestCase):
         self.assertEqual(set(line.split(" ")[2] for line in random_gas(64, 64, 1)), {16 * "f"})
 
     def test_wrong_wishes(self):
-        for density, drift in ((1.1, 0), (-0.1, 0), (0.6, 0.7), (0.2, (0, 1.5)), (0, 2)):
-            with self.assertRaises(ValueError, msg=(density, drift)):
-                list(random_gas(64, 64, density, drift))
+        nan = float("nan")
+        for density, drift, rule in ((1.1, 0, "a density is from 0 to 1"), (-0.1, 0, "a density"),
+                                     (0.6, 0.7, "a density"), (0.2, (0, 1.5), "a drift is"),
+                                     (0, 2, "a drift"), (nan, 0, "a density"), (0.1, nan, "a dri")):
+            with self.assertRaisesRegex(ValueError, rule):
+                random_gas(64, 64, density, drift)
+        for size in ((100, 64), (64, 4160), (0, 64)):
+            with self.assertRaisesRegex(ValueError, "sides are multiples of 64 from 64 to 4,096"):
+                random_gas(*size, 0.5)

@@ -2,50 +2,28 @@ import os
 import tempfile
 import unittest
 
-from gaslab import Drain, Snapshot, Source, film, palette, picture, picture_bytes, text_picture
-from gaslab.cells import find_numpy, pack_row
-from gaslab.png import film_chunks, png_bytes
+import numpy
 
-from . import unpng
+from gaslab import Drain, Snapshot, Source, film, palette, picture, picture_bytes, text_picture
+from gaslab.pictures.drawing import plain_png
+
+from .seen import read
 from .test_lab import run
 
 
 def plane(cells, width=64, height=64):
-    return b"".join(pack_row((x, y) in cells for x in range(width)) for y in range(height))
+    found = numpy.zeros((height, width), bool)
+    for x, y in cells:
+        found[y, x] = True
+    return numpy.packbits(found, axis=1).tobytes()
 
 
 def colour(index):
     return palette.CELLS[index]
 
 
-class Encoding(unittest.TestCase):
-    def test_both_depths_and_scales(self):
-        for colours in (2, 16, 17, 256):
-            shades = [(n, 0, 255 - n) for n in range(colours)]
-            for width, height, scale in ((1, 1, 1), (3, 2, 1), (5, 4, 3), (64, 1, 2)):
-                rows = [bytes((x * 7 + y * 3) % colours for x in range(width))
-                        for y in range(height)]
-                found = unpng.read(png_bytes(width, height, shades, rows, scale))
-                self.assertEqual((found.width, found.height), (width * scale, height * scale))
-                self.assertEqual(found.depth, 4 if colours <= 16 else 8)
-                self.assertEqual(found.palette, shades)
-                self.assertEqual(found.frames[0], [[rows[y // scale][x // scale]
-                                                    for x in range(width * scale)]
-                                                   for y in range(height * scale)])
-
-    def test_films(self):
-        shades = [(0, 0, 0), (9, 9, 9)]
-        frames = [[bytes([n % 2, 1])] * 2 for n in range(5)]
-        data = b"".join(film_chunks(2, 2, shades, 2, 5, 40, frames))
-        found = unpng.read(data)
-        self.assertEqual((found.width, found.height, found.loops), (4, 4, 0))
-        self.assertEqual(found.delays, [0.04] * 5)
-        for n, frame in enumerate(found.frames):
-            self.assertEqual(frame, [[n % 2, n % 2, 1, 1]] * 4)
-
-    def test_a_film_of_too_few_frames(self):
-        with self.assertRaisesRegex(ValueError, "1 frames and not 2"):
-            list(film_chunks(1, 1, [(0, 0, 0)], 1, 2, 40, [[b"\0"]]))
+def shade(count, cells):
+    return palette.DENSITIES[palette.density_index(count, cells)]
 
 
 class Cells(unittest.TestCase):
@@ -55,7 +33,7 @@ class Cells(unittest.TestCase):
                    plane({(2, 0), (5, 0), (7, 0)}), plane({(3, 0), (6, 0), (7, 0)}))
 
     def test_each_kind(self):
-        found = unpng.read(picture_bytes(self.GAS))
+        found = read(picture_bytes(self.GAS, scale=1))
         kinds = {(0, 0): palette.PARTICLE, (2, 0): palette.WALL, (3, 0): palette.OBSTACLE,
                  (4, 0): palette.EMPTY, (5, 0): palette.HIT, (6, 0): palette.HIT,
                  (7, 0): palette.OBSTACLE, (10, 0): palette.PARTICLE, (11, 0): palette.DRAIN,
@@ -64,73 +42,104 @@ class Cells(unittest.TestCase):
                  (22, 0): palette.SOURCE, (23, 0): palette.EMPTY, (20, 1): palette.EMPTY,
                  (9, 0): palette.EMPTY, (63, 63): palette.PARTICLE, (62, 63): palette.EMPTY}
         for (x, y), kind in kinds.items():
-            self.assertEqual(found.frames[0][y][x], kind, (x, y))
-            self.assertEqual(found.pixel(x, y), colour(kind))
+            self.assertEqual(found.pixel(x, y), colour(kind), (x, y))
 
     def test_particles_are_the_rows(self):
         cells = {(x, y) for x in range(128) for y in range(64) if (x * x + 3 * y) % 7 == 0}
-        found = unpng.read(picture_bytes(Snapshot(128, 64, particle_bytes=plane(cells, 128))))
-        self.assertEqual({(x, y) for x in range(128) for y in range(64) if found.frames[0][y][x]},
-                         cells)
+        gas = Snapshot(128, 64, particle_bytes=plane(cells, 128))
+        found = read(picture_bytes(gas, scale=1))
+        self.assertEqual(found.cells(colour(palette.PARTICLE)), cells)
 
     def test_scale(self):
-        found = unpng.read(picture_bytes(self.GAS, scale=3))
-        small = unpng.read(picture_bytes(self.GAS))
-        self.assertEqual((found.width, found.height), (192, 192))
-        self.assertEqual(found.frames[0], [[small.frames[0][y // 3][x // 3] for x in range(192)]
-                                           for y in range(192)])
+        large, small = (read(picture_bytes(self.GAS, scale=scale)) for scale in (3, 1))
+        self.assertEqual((large.width, large.height), (192, 192))
+        for y in range(192):
+            for x in range(192):
+                self.assertEqual(large.pixel(x, y), small.pixel(x // 3, y // 3))
+
+    def test_the_scale_that_is_chosen(self):
+        """The longer side has some 600 pixels, if the gas has no more cells."""
+        for width, height, mean, pixels in ((64, 64, None, 576), (64, 128, None, 640),
+                                            (256, 64, None, 512), (192, 192, None, 576),
+                                            (1024, 64, None, 1024), (1024, 64, 16, 576)):
+            image = picture(Snapshot(width, height), mean=mean)
+            self.assertEqual(max(image.width, image.height - (36 if mean else 0)), pixels)
 
     def test_velocities(self):
         for tick in (-1, 0, 1, 4):
             full = Snapshot(64, 64, tick, particle_bytes=b"\xff" * 512)
-            found = unpng.read(picture_bytes(full, colour="velocity"))
+            found = read(picture_bytes(full, scale=1, colour="velocity"))
             for y in range(64):
                 for x in range(64):
                     right, down = (x + tick) % 2 == 0, (y + tick) % 2 == 0
                     kind = ((palette.LEFT_UP, palette.LEFT_DOWN),
                             (palette.RIGHT_UP, palette.RIGHT_DOWN))[right][down]
-                    self.assertEqual(found.frames[0][y][x], kind)
+                    self.assertEqual(found.pixel(x, y), colour(kind))
 
     def test_arrays(self):
         bare = Snapshot(64, 64, particle_bytes=self.GAS.particle_bytes)
         found = picture_bytes(bare.particles)
         self.assertEqual(found, picture_bytes(bare))
         self.assertEqual(picture_bytes([list(row) for row in bare.particles]), found)
-        numpy = find_numpy()
-        if numpy is not None:
-            array = numpy.array([list(row) for row in bare.particles])
-            self.assertEqual(picture_bytes(array), found)
 
     def test_a_notebook(self):
         self.assertEqual(self.GAS._repr_png_(), picture_bytes(self.GAS))
+        self.assertEqual(picture(self.GAS)._repr_png_()[:4], b"\x89PNG")
+        with run() as lab:
+            self.assertEqual(read(picture(lab)._repr_png_()).width, 576)
 
     def test_wrong_wishes(self):
         for wish in ({"scale": 0}, {"scale": 65}, {"colour": "red"}, {"mean": 0}, {"mean": 3},
                      {"mean": 128}, {"mean": 8, "colour": "velocity"}):
             with self.assertRaises(ValueError, msg=wish):
                 picture_bytes(self.GAS, **wish)
+        with self.assertRaisesRegex(ValueError, "at most 16,384 pixels a side"):
+            picture(Snapshot(4096, 64), scale=5)
+
+
+class Files(unittest.TestCase):
+    GAS = Cells.GAS
+
+    def setUp(self):
+        room = tempfile.TemporaryDirectory()
+        self.addCleanup(room.cleanup)
+        self.room = room.name
+
+    def path(self, name):
+        return os.path.join(self.room, name)
+
+    def test_the_ending_says_which_kind(self):
+        for name, kind in (("it.png", "PNG"), ("it.GIF", "GIF")):
+            picture(self.GAS, self.path(name), scale=1)
+            seen = read(self.path(name))
+            self.assertEqual((seen.format, seen.width), (kind, 64))
+            self.assertEqual(seen.pixel(3, 0), colour(palette.OBSTACLE))
+        for name in ("it.jpg", "it", "it.png.svg", "it.apng"):
+            with self.assertRaisesRegex(ValueError, "a picture's path ends in .png or .gif"):
+                picture(self.GAS, self.path(name))
+        self.assertEqual(sorted(os.listdir(self.room)), ["it.GIF", "it.png"])
 
     def test_a_wrong_wish_leaves_the_file(self):
-        with tempfile.TemporaryDirectory() as room:
-            path = os.path.join(room, "it.png")
-            picture(self.GAS, path)
-            self.assertRaises(ValueError, picture, self.GAS, path, scale=0)
-            with open(path, "rb") as file:
-                self.assertEqual(file.read(), picture_bytes(self.GAS))
+        path = self.path("it.png")
+        picture(self.GAS, path)
+        self.assertRaises(ValueError, picture, self.GAS, path, scale=0)
+        with open(path, "rb") as file:
+            self.assertEqual(file.read(), picture_bytes(self.GAS))
 
 
 class Densities(unittest.TestCase):
     def test_counts(self):
         cells = {(x, y) for y in range(64) for x in range(64) if x % 8 < y // 8}
+        gas = Snapshot(64, 64, particle_bytes=plane(cells))
         for mean in (8, 16):
-            gas = Snapshot(64, 64, particle_bytes=plane(cells))
-            found = unpng.read(picture_bytes(gas, mean=mean))
-            self.assertEqual((found.width, found.height), (64 // mean, 64 // mean))
-            for row in range(64 // mean):
-                count = sum((x, y) in cells for x in range(mean)
-                            for y in range(row * mean, row * mean + mean))
-                index = palette.density_index(count, mean * mean)
-                self.assertEqual(found.frames[0][row], [index] * (64 // mean))
+            for found, scale in ((read(picture_bytes(gas, scale=2, mean=mean)), 2),
+                                 (read(plain_png(gas, mean)), 1)):
+                for row in range(64 // mean):
+                    count = sum((x, y) in cells for x in range(mean)
+                                for y in range(row * mean, row * mean + mean))
+                    for column in range(64 // mean):
+                        self.assertEqual(found.pixel(scale * column, scale * row),
+                                         shade(count, mean * mean))
 
     def test_ends_of_the_ramp(self):
         self.assertEqual(palette.DENSITIES[palette.density_index(0, 64)], (255, 255, 255))
@@ -141,34 +150,118 @@ class Densities(unittest.TestCase):
         self.assertEqual(light, sorted(light, reverse=True))
 
     def test_squares_that_are_solid(self):
+        """Where a square is one pixel, one that is half solid has the solid's colour."""
         half = {(x, y) for x in range(8) for y in range(4)}
         less = {(x + 8, y) for x in range(8) for y in range(4)} - {(8, 0)}
         gas = Snapshot(64, 64, wall_bytes=plane(half | less),
                        obstacle_bytes=plane({(x + 16, y) for x in range(8) for y in range(8)}))
-        row = unpng.read(picture_bytes(gas, mean=8)).frames[0][0]
-        empty = palette.density_index(0, 64)
-        self.assertEqual(row, [palette.WALL, empty, palette.OBSTACLE] + 5 * [empty])
+        found = read(plain_png(gas, 8))
+        self.assertEqual((found.width, found.height), (8, 8))
+        row = [found.pixel(x, 0) for x in range(8)]
+        self.assertEqual(row, [colour(palette.WALL), (255, 255, 255), colour(palette.OBSTACLE)]
+                         + 5 * [(255, 255, 255)])
+
+    def test_outlines(self):
+        """Lines of two pixels along the edge of each shape, cell by cell, in squares of any size.
+
+        At scale 32 and mean 4 a cell has 8 by 8 pixels.
+        """
+        gas = Snapshot(64, 64, 0, (Drain(60, 18, 4, 28),), (Source(4, 18, 2, 28, 1),),
+                       wall_bytes=plane({(x, y) for x in range(64) for y in (9, 10)}),
+                       obstacle_bytes=plane({(x, y) for x in range(30, 33) for y in range(30, 33)}))
+        found = read(picture_bytes(gas, scale=32, mean=4))
+        marks = palette.DENSITIES
+        for x, y, w, h, line, inside in ((30, 30, 3, 3, palette.OBSTACLE, palette.OBSTACLE_INSIDE),
+                                         (0, 9, 64, 2, palette.WALL, palette.WALL_INSIDE),
+                                         (4, 18, 2, 28, palette.SOURCE, palette.EMPTY),
+                                         (60, 18, 4, 28, palette.DRAIN, palette.EMPTY)):
+            left, top, right, bottom = (8 * place for place in (x, y, x + w, y + h))
+            area = {(a, b) for a in range(left, right) for b in range(top, bottom)}
+            inner = {(a, b) for a in range(left + 2, right - 2) for b in range(top + 2, bottom - 2)}
+            self.assertEqual(found.cells(marks[line]) & area, area - inner)
+            self.assertEqual({found.pixel(a, b) for a, b in inner}, {marks[inside]})
+            if line != palette.WALL:
+                self.assertEqual(found.cells(marks[line]), area - inner)
+
+    def test_a_shape_smaller_than_a_pixel_is_seen(self):
+        gas = Snapshot(1024, 64, obstacle_bytes=plane({(501, 33)}, 1024))
+        found = read(picture_bytes(gas, scale=1, mean=8))
+        self.assertEqual(found.cells(palette.DENSITIES[palette.OBSTACLE]), {(62, 4)})
+
+    def test_the_bar(self):
+        """Below the picture, from white at its left to the darkest shade at its right."""
+        found = read(picture_bytes(Snapshot(64, 64), scale=32, mean=4))
+        self.assertEqual((found.width, found.height), (512, 512 + 36))
+        bar = [found.pixel(x, 512 + 12) for x in range(1, 511)]
+        self.assertEqual((bar[0], bar[-1]), (shade(0, 1), shade(1, 1)))
+        light = [sum(pixel) for pixel in bar]
+        self.assertEqual(light, sorted(light, reverse=True))
+        words = found.frames[0][512 + 20:] != 255
+        for left, right in ((0, 20), (200, 320), (490, 512)):
+            self.assertTrue(words[:, left:right].any())
+        self.assertFalse(words[:, 20:200].any())
 
 
 class Films(unittest.TestCase):
-    def test_frames_are_those_ticks(self):
+    def filmed(self, name, **options):
         with tempfile.TemporaryDirectory() as room, run() as lab:
-            path = os.path.join(room, "film.png")
             lab.wall(0, 0, 64, 1)
             lab.put(10, 10, 1, 1)
-            film(lab, path, steps=2, frames=4, milliseconds=50)
-            with open(path, "rb") as file:
-                found = unpng.read(file.read())
-            self.assertEqual(lab.tally().tick, 6)
-        self.assertEqual((len(found.frames), found.delays), (4, [0.05] * 4))
-        for n, frame in enumerate(found.frames):
-            self.assertEqual(frame[0], [palette.WALL] * 64)
-            self.assertEqual([(x, y) for y in range(1, 64) for x in range(64) if frame[y][x]],
-                             [(10 + 2 * n, 10 + 2 * n)])
+            film(lab, os.path.join(room, name), **options)
+            self.assertEqual(os.listdir(room), [name])
+            return read(os.path.join(room, name)), lab.tally().tick
 
-    def test_no_frames(self):
+    def test_frames_are_those_ticks(self):
+        for name, kind in (("film.png", "PNG"), ("film.apng", "PNG"), ("film.gif", "GIF")):
+            found, tick = self.filmed(name, steps=2, frames=4, scale=1, milliseconds=50)
+            self.assertEqual((tick, found.format, len(found.frames)), (6, kind, 4))
+            self.assertEqual(found.delays, [50] * 4)
+            for n in range(4):
+                self.assertEqual(found.cells(colour(palette.WALL), n),
+                                 {(x, 0) for x in range(64)})
+                self.assertEqual(found.cells(colour(palette.PARTICLE), n),
+                                 {(10 + 2 * n, 10 + 2 * n)})
+
+    def test_densities(self):
+        found, _ = self.filmed("film.gif", steps=8, frames=2, scale=8, mean=8)
+        one = palette.density_index(1, 64)
+        for n in range(2):
+            seen = {(x // 8, y // 8) for x, y in found.cells(palette.DENSITIES[one], n) if y < 64}
+            self.assertEqual(seen, {(1 + n, 1 + n)})
+
+    def test_a_film_that_stands_still_lasts_as_long(self):
+        with tempfile.TemporaryDirectory() as room, run() as lab:
+            for name in ("it.png", "it.gif"):
+                film(lab, os.path.join(room, name), 1, 5, milliseconds=40)
+                self.assertEqual(sum(read(os.path.join(room, name)).delays), 200)
+
+    def test_other_endings_are_refused_before_a_step(self):
         with run() as lab:
-            self.assertRaises(ValueError, film, lab, "/no/file", steps=1, frames=0)
+            for path in ("film", "film.mp4", "film.jpg"):
+                with self.assertRaisesRegex(ValueError, "film's path ends in .png or .apng or .gif"):
+                    film(lab, path, steps=1, frames=2)
+            for wish in ({"frames": 0}, {"frames": 2, "milliseconds": 0},
+                         {"frames": 2, "milliseconds": 65536}, {"frames": 2, "scale": 0}):
+                self.assertRaises(ValueError, film, lab, "/no/folder/it.gif", steps=1, **wish)
+            self.assertEqual(lab.tally().tick, 0)
+
+    def test_a_film_that_fails_leaves_the_old_one(self):
+        with tempfile.TemporaryDirectory() as room, run() as lab:
+            path = os.path.join(room, "film.gif")
+            film(lab, path, steps=1, frames=2)
+            with open(path, "rb") as file:
+                old = file.read()
+            advance, steps = lab.advance, []
+
+            def failing(n):
+                steps.append(n)
+                advance(n if len(steps) < 3 else 1.5)
+            lab.advance = failing
+            self.assertRaises(TypeError, film, lab, path, steps=1, frames=9)
+            self.assertEqual(len(steps), 3)
+            with open(path, "rb") as file:
+                self.assertEqual(file.read(), old)
+            self.assertEqual(os.listdir(room), ["film.gif"])
 
 
 class Texts(unittest.TestCase):
@@ -184,6 +277,17 @@ class Texts(unittest.TestCase):
         self.assertEqual(line, f"\x1b[38;2;{blue};48;2;{white}m▀\x1b[38;2;{white};48;2;{blue}m▀"
                          f"\x1b[38;2;{blue};48;2;{blue}m▀\x1b[38;2;{white};48;2;{white}m"
                          + 61 * "▀" + "\x1b[0m")
+
+    def test_a_low_terminal(self):
+        for rows, height in ((32, 32), (31, 16), (16, 16), (15, 8), (1, 1)):
+            lines = text_picture(self.GAS, 200, coloured=False, rows=rows).split("\n")
+            self.assertEqual((len(lines), len(lines[0])), (height, 2 * height))
+
+    def test_densities(self):
+        full = Snapshot(64, 64, particle_bytes=plane({(x, y) for x in range(8) for y in range(8)}))
+        lines = text_picture(full, 200, coloured=False, mean=8).split("\n")
+        self.assertEqual(lines, ["▀" + 7 * " ", *3 * [8 * " "]])
+        self.assertRaises(ValueError, text_picture, full, mean=7)
 
     def test_a_narrow_terminal(self):
         for columns, width in ((64, 64), (63, 32), (20, 16), (1, 1), (0, 1)):

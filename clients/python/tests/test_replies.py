@@ -2,7 +2,7 @@ import unittest
 
 from gaslab import (Bye, Entry, LIMITS, Ledger, Ok, Probe, REFUSALS, Refused, Row, Saved, Strange,
                     Tally, named, parse_reply)
-from gaslab.replies import reply_text
+from gaslab.protocol import reply_text
 
 EACH = [
     ("OK 0", Ok(0), "OK index 0"),
@@ -29,6 +29,18 @@ STRANGE = [
     "ROW 0000000000000000 ", "ENTRY 0", "ENTRY 0 ", "ENTRY x put", "ENTRY -1 put 0 0 1 1",
     "ENTRY 00 put", "ENTRY 100 put", "SAVED 1", "BYE 1", "BYE ", "ERR", "ERR 1", "ERR 1 word",
     "ERR 0 line", "ERR 16 line", "ERR x line", "ERR 5 rect ", "HTTP/1.1 400 Bad Request",
+    # numbers that no laboratory gives
+    "OK 65536", "OK -1", "PROBE -1 0 0", "PROBE 16777217 0 0", "PROBE 1 99999999 0",
+    "TALLY 1099511627777 0 0 0", "TALLY 1" + 40 * "0" + " 0 0 0", "SAVED 1 1557",
+    "SAVED 65537 1558", "SAVED 1 6291767", "LEDGER " + 12 * "0 " + str(2 ** 63), "OK " + 2000 * "1",
+    # rows and entries of no lattice
+    "ROW " + 65 * 16 * "0", "ENTRY 64 unport", "ENTRY 0 wall 0 0", "ENTRY 0 wall 0 0 0 1",
+    "ENTRY 0 wall 0 0 9999999999 1", "ENTRY 0 wall 0 0 400000000000 1", "ENTRY 0 wall 0 -5 1 1",
+    "ENTRY 0 wall 4096 0 1 1", "ENTRY 0 wall 0 4095 1 2", "ENTRY 0 drain -5 -5 3 3",
+    "ENTRY 0 put 00 0 1 1", "ENTRY 0 put 0 0 1 1 ", "ENTRY 0 put  0 0 1 1", "ENTRY 0 unport 1",
+    "ENTRY 0 tally", "ENTRY 0 step 0", "ENTRY 0 step 4097", "ENTRY 0 source 0 0 1 1 0",
+    "ENTRY 0 source 0 0 1 1 65536", "ENTRY 0 row 0 0", "ENTRY 0 row 4096 " + 16 * "0",
+    "ENTRY 0 row 0 " + 16 * "F", "ENTRY 0 \x1b]0;owned\x07", "ENTRY 0 put 0 0 1 1\x1b[2J",
 ]
 
 
@@ -56,8 +68,8 @@ class EachReply(unittest.TestCase):
                 "8000000000000001": [0, 63], "0000000ff0000000": list(range(28, 36))}
         for digits, cells in rows.items():
             row = Row(digits).cells
-            self.assertEqual((len(row), [x for x in range(64) if row[x]]), (64, cells))
-            self.assertEqual(set(row) | {0, 1}, {0, 1})
+            self.assertEqual((row.shape, [x for x in range(64) if row[x]]), ((64,), cells))
+            self.assertEqual(row.dtype, bool)
 
 
 class EachRefusal(unittest.TestCase):
@@ -65,11 +77,24 @@ class EachRefusal(unittest.TestCase):
         for number, word in REFUSALS.items():
             found = parse_reply(f"ERR {number} {word}", "step 5000")
             self.assertIsInstance(found, Refused)
+            limit = "step takes n" if word == "count" else LIMITS[number]
             self.assertEqual((found.number, found.word, found.line, found.limit),
-                             (number, word, "step 5000", LIMITS[number]))
+                             (number, word, "step 5000", limit))
             self.assertEqual(reply_text(found), f"ERR {number} {word}")
-            self.assertEqual(named(found), f"ERR {number} {word}: {LIMITS[number]}")
+            self.assertEqual(named(found), f"ERR {number} {word}: {limit}")
             self.assertIn("step 5000", str(found))
+
+    def test_a_wrong_count_names_the_words(self):
+        for line, limit in (("put 10 10", "put takes x y w h"), ("jump", LIMITS[3]),
+                            ("unport 1", "unport takes no other word")):
+            self.assertEqual(Refused(3, "count", line).limit, limit)
+
+    def test_its_place_is_told(self):
+        self.assertEqual(str(Refused(6, "steps", "step 0", 7)),
+                         "line 7: ERR 6 steps: one command makes 1 to 4,096 steps; asked: step 0")
+
+    def test_what_steers_a_terminal_is_escaped(self):
+        self.assertIn(r"asked: put \x1b[2J\x07", str(Refused(4, "number", "put \x1b[2J\x07")))
 
     def test_all_fifteen_are_there(self):
         self.assertEqual(list(REFUSALS), list(range(1, 16)))
@@ -87,6 +112,12 @@ class AnythingElse(unittest.TestCase):
         for text in STRANGE:
             with self.assertRaises(Strange, msg=text):
                 parse_reply(text, "tally")
+
+    def test_entries_that_are_changes_are_none(self):
+        """So that the list above says something: their neighbours are read."""
+        for change in ("wall 0 0 4096 1", "wall 4095 4095 1 1", "source 0 0 1 1 65535",
+                       "step 4096", "back 1", "row 4095 " + 1024 * "f", "unport"):
+            self.assertEqual(parse_reply(f"ENTRY 63 {change}", ""), Entry(63, change))
 
     def test_is_shown(self):
         with self.assertRaisesRegex(Strange, r"'HTTP/1.1 400 Bad Request'; asked: tally"):

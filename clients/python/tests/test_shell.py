@@ -1,6 +1,9 @@
 import contextlib
 import io
 import os
+import pty
+import select
+import signal
 import subprocess
 import sys
 import tempfile
@@ -10,11 +13,12 @@ from unittest import mock
 
 from gaslab import LIMITS, Lab, REFUSALS, Snapshot
 from gaslab.__main__ import WORDS, main
-from gaslab.script import ScriptFault, commands, is_open
-from gaslab.shell import COMMANDS, Shell, help_text
+from gaslab.cli.shell import Shell, help_text, prompted
+from gaslab.protocol.commands import COMMANDS
+from gaslab.protocol.scripts import is_open, parse_script
 
-from . import unpng
 from .fake import Fake, typical
+from .seen import read
 from .test_lab import ROOT, STAND_IN, run
 
 PROGRAM = ["--program", str(STAND_IN)]
@@ -43,18 +47,35 @@ class Scripts(unittest.TestCase):
             "repeat 0 { quit }": [], "repeat 2 { }": [],
         }
         for text, wanted in scripts.items():
-            self.assertEqual(list(commands(text)), wanted, text)
+            found = [command for _, command in parse_script(text).commands()]
+            self.assertEqual(found, wanted, text)
+
+    def test_lines_are_told(self):
+        text = "# one\nput 0 0 1 1\n\nrepeat 2 {\n step 1; tally\n}\n"
+        self.assertEqual(list(parse_script(text).commands()),
+                         [(2, "put 0 0 1 1"), *2 * [(5, "step 1"), (5, "tally")]])
+        self.assertEqual(list(parse_script("put\v1\x85\u2028\n").commands()), [(1, "put 1")])
+
+    def test_sizes(self):
+        self.assertEqual(parse_script("# x\n size  128 64 \nput 0 0 1 1"),
+                         ((128, 64), [(3, "put 0 0 1 1")]))
+        self.assertIs(parse_script("put 0 0 1 1").size, None)
+        for text in ("size 100 64", "size 64", "size 64 64 64", "size 064 64", "size x 64", "size",
+                     "put 0 0 1 1\nsize 64 64", "size 64 64\nsize 64 64",
+                     "repeat 1 { size 64 64 }"):
+            with self.assertRaisesRegex(ValueError, "^line [12]: size ", msg=text):
+                parse_script(text)
 
     def test_faults(self):
         for text in ("}", "{", "{ step 1 }", "repeat 2", "repeat { step 1 }", "repeat x { step 1 }",
                      "repeat -1 { }", "repeat 2 { step 1", "repeat 2 step 1 { }", "repeat 1 2 { }",
                      "step 1 }", "repeat 1 {" * 22 + "}" * 22):
-            with self.assertRaises(ScriptFault, msg=text):
-                list(commands(text))
+            with self.assertRaisesRegex(ValueError, "^line 1: ", msg=text):
+                parse_script(text)
 
     def test_many_repeats_take_no_memory(self):
-        found = commands("repeat 1000000 { repeat 1000000 { step 1 } }")
-        self.assertEqual([next(found) for _ in range(3)], ["step 1"] * 3)
+        found = parse_script("repeat 1000000 { repeat 1000000 { step 1 } }").commands()
+        self.assertEqual([next(found) for _ in range(3)], [(1, "step 1")] * 3)
 
     def test_open_braces(self):
         for text, wanted in (("repeat 2 {", True), ("repeat 2 { }", False), ("# {", False),
@@ -121,9 +142,53 @@ class Shells(unittest.TestCase):
     def test_picture(self):
         with tempfile.TemporaryDirectory() as room:
             path = os.path.join(room, "it.png")
-            out, _ = self.done(f"picture {path}")
-            self.assertEqual(out, f"wrote {path}\n")
-            self.assertEqual(unpng.read(Path(path).read_bytes()).width, 256)
+            out, _ = self.done(f"picture {path}", "picture it.jpg")
+            self.assertEqual(out, f"wrote {path}\n"
+                             "a picture's path ends in .png or .gif: not it.jpg\n")
+            self.assertEqual(read(path).width, 576)
+
+    def test_words_of_a_command(self):
+        out, _ = self.done("put 10 10", "jump")
+        self.assertEqual(out, "ERR 3 count: put takes x y w h\n"
+                         "ERR 2 word: the first word of a line names a command\n")
+
+    def test_shoot_and_trace(self):
+        out, _ = self.done("names off; shoot 2 2 1 1; trace 1", "shoot 3 2 1 1", "shoot 1")
+        self.assertEqual(out, "OK 0\ntick,x,y,vx,vy\n0,2,2,1,1\n1,3,3,1,1\n"
+                         "at tick 1 a particle in (3, 2) flies with (1, -1); one with (1, 1) can "
+                         "start in (3, 3)\n" + help_text("shoot") + "\n")
+
+    def played(self, text):
+        with tempfile.TemporaryDirectory() as room:
+            path = os.path.join(room, "script")
+            Path(path).write_bytes(text)
+            return self.done("names off", f"play {path}", "tally")
+
+    def test_play(self):
+        out, shell = self.played(b"# one\nsize 64 64\n\nput 0 0 1 1  # two\nstep 1\ntally\n")
+        self.assertEqual((out, shell.refusals), ("OK 0\nOK 1\nTALLY 1 1 1 1\nTALLY 1 1 1 1\n", 0))
+
+    def test_play_stops_at_the_first_refusal_and_names_its_line(self):
+        out, shell = self.played(b"put 0 0 1 1\n\n# x\nput 64 0 1 1\nstep 1\n")
+        self.assertEqual(out.splitlines()[0::2], ["OK 0", "TALLY 0 1 1 1"])
+        self.assertRegex(out.splitlines()[1], "^line 4: ERR 5 rect: .*; asked: put 64 0 1 1$")
+        self.assertEqual(shell.refusals, 1)
+
+    def test_play_of_what_is_no_script(self):
+        for text, what in ((b"size 128 64\n", "the script is for 128 by 64 cells, and this gas has "
+                            "64 by 64"), (b"put 0 0 1 1\n\xff", "line 2 is not UTF-8"),
+                           (b"repeat 2 {\n", "line 1: the { of"),
+                           (b"\x1b]0owned\x07\n", r"asked: \\x1b\]0owned\\x07")):
+            out, shell = self.played(text)
+            self.assertRegex(out, what)
+            self.assertEqual((out.splitlines()[-1], shell.has_ended), ("TALLY 0 0 0 0", False))
+
+    def test_a_script_that_plays_itself(self):
+        with tempfile.TemporaryDirectory() as room:
+            path = os.path.join(room, "script")
+            Path(path).write_text(f"play {path}\n")
+            out, shell = self.done(f"play {path}", "tally")
+        self.assertEqual((len(out.splitlines()), shell.has_ended), (2, False))
 
     def test_faults_leave_the_shell(self):
         out, shell = self.done("repeat 2 {", "draw red", "picture /no/such/file", "run x",
@@ -147,6 +212,84 @@ class Shells(unittest.TestCase):
         self.assertTrue(shell.has_ended)
 
 
+class Interrupts(unittest.TestCase):
+    """Ctrl-C ends the line or the run, and not the shell. The program is not interrupted."""
+
+    def interrupted(self, text, when, times=1):
+        """What is said if Ctrl-C comes after the text `when` was written."""
+        class Out(io.StringIO):
+            def write(self, text):
+                super().write(text)
+                for _ in range(times if when in text else 0):
+                    signal.raise_signal(signal.SIGINT)
+        out = Out()
+        with run() as lab:
+            shell = Shell(lab, out, coloured=False)
+            with shell.stoppable():
+                shell.do(text)
+            shell.do("tally")
+            self.assertIs(signal.getsignal(signal.SIGINT), signal.default_int_handler)
+            return out.getvalue(), shell
+
+    def test_a_run(self):
+        out, shell = self.interrupted("run 100000", "128 of")
+        self.assertEqual(out, "\r64 of 100000 steps\r128 of 100000 steps\nstopped\n"
+                         "TALLY tick 128, count 0, px 0, py 0\n")
+        self.assertFalse(shell.has_ended)
+
+    def test_a_line(self):
+        out, _ = self.interrupted("repeat 1000 { put 0 0 1 1; step 1 }", "OK index 4")
+        self.assertEqual(out.splitlines()[-3:], ["OK index 4", "stopped",
+                                                 "TALLY tick 2, count 3, px 1, py 1"])
+
+    def test_twice_ends_the_shell(self):
+        with self.assertRaises(KeyboardInterrupt):
+            self.interrupted("run 1000", "128 of", times=2)
+
+    def test_at_the_prompt(self):
+        typed = iter(["put 0 0 1 1", KeyboardInterrupt, "repeat 2 {", KeyboardInterrupt, "tally",
+                      EOFError])
+
+        def answer(prompt):
+            it = next(typed)
+            if isinstance(it, str):
+                return it
+            raise it
+        with mock.patch("builtins.input", answer), contextlib.redirect_stderr(io.StringIO()):
+            self.assertEqual(list(prompted(None)), ["put 0 0 1 1", "tally"])
+
+    def test_in_a_terminal(self):
+        """A shell in a terminal of its own: Ctrl-C in a long run, then another command."""
+        words = [sys.executable, str(ROOT / "clients" / "python"), "shell", *PROGRAM]
+        child, terminal = pty.fork()
+        if child == 0:
+            os.environ.update(HOME="/nonexistent", TERM="dumb")
+            os.execv(words[0], words)
+        said = b""
+
+        def until(what):
+            nonlocal said
+            while what not in said:
+                self.assertTrue(select.select([terminal], [], [], 30)[0], said)
+                said += os.read(terminal, 4096)
+            said = said.partition(what)[2]
+        until(b"gas> ")
+        os.write(terminal, b"run 1000000\n")
+        until(b"128 of 1000000 steps")
+        os.write(terminal, b"\x03")
+        until(b"stopped")
+        until(b"gas> ")
+        os.write(terminal, b"step\x03")
+        until(b"gas> ")
+        os.write(terminal, b"unport\n")
+        until(b"OK index")
+        os.write(terminal, b"quit\n")
+        until(b"BYE")
+        status = os.waitpid(child, 0)[1]
+        os.close(terminal)
+        self.assertEqual(os.waitstatus_to_exitcode(status), 0)
+
+
 class Words(unittest.TestCase):
     def setUp(self):
         room = tempfile.TemporaryDirectory()
@@ -162,8 +305,11 @@ class Words(unittest.TestCase):
         for word in WORDS:
             status, out, _ = said(word, "--help")
             self.assertEqual(status, 0)
-            self.assertIn(f"example:\n  {WORDS[word][3]}", out)
-            self.assertIn(f"python3 clients/python {word}", WORDS[word][3])
+            self.assertIn(f"PROGRAM {word}", WORDS[word][3])
+            example = WORDS[word][3].replace("PROGRAM", "python3 clients/python")
+            self.assertIn(f"example:\n  {example}", out)
+            with mock.patch("sys.argv", ["/usr/bin/gaslab-client"]):
+                self.assertIn(f"gaslab-client {word}", said(word, "--help")[1])
         self.assertEqual(set(WORDS), {"shell", "draw", "film", "table", "profile", "random", "show",
                                       "journal", "rows", "watch"})
 
@@ -180,37 +326,51 @@ class Words(unittest.TestCase):
     def test_draw_a_script(self):
         script, png = self.path("script", "put 1 2 1 1\n\nquit\n"), self.path("it.png")
         self.assertEqual(said("draw", script, "-o", png, "--scale", 2, *PROGRAM), (0, "", ""))
-        found = unpng.read(png.read_bytes())
-        self.assertEqual({(x, y) for y in range(128) for x in range(128) if found.frames[0][y][x]},
-                         {(2, 4), (3, 4), (2, 5), (3, 5)})
+        self.assertEqual(read(png).cells((0, 114, 178)), {(2, 4), (3, 4), (2, 5), (3, 5)})
+
+    def test_a_script_names_the_size(self):
+        script, png = self.path("script", "size 128 64 # wide\nput 1 2 1 1\n"), self.path("it.png")
+        self.assertEqual(said("draw", script, "-o", png, "--scale", 1, *PROGRAM), (0, "", ""))
+        self.assertEqual((read(png).width, read(png).height), (128, 64))
+        status, _, errors = said("draw", script, "-o", png, "--width", 64, *PROGRAM)
+        self.assertEqual((status, errors), (1, "gaslab draw: the script is for 128 by 64 cells, and "
+                                            "this gas has 64 by 64\n"))
 
     def test_draw_a_snapshot(self):
         gas = Snapshot(64, 64, particle_bytes=b"\xff" * 512)
         self.path("day.gas").write_bytes(gas.to_bytes())
         png = self.path("it.png")
         self.assertEqual(said("draw", self.path("day.gas"), "-o", png, "--mean", 16)[0], 0)
-        self.assertEqual(unpng.read(png.read_bytes()).frames[0], [[255] * 16] * 16)
+        self.assertEqual(read(png).pixel(99, 99), (0, 30, 70))
         status, out, _ = said("draw", self.path("day.gas"))
         self.assertEqual((status, out), (0, 32 * (64 * "█" + "\n")))
+        status, out, _ = said("draw", self.path("day.gas"), "--mean", 8)
+        self.assertEqual((status, out), (0, 4 * (8 * "█" + "\n")))
 
     def test_film(self):
-        script, png = self.path("script", "put 1 2 1 1\n"), self.path("it.png")
-        status = said("film", script, "-o", png, "--frames", 3, "--steps", 4, "--scale", 1,
-                      *PROGRAM)
-        self.assertEqual(status, (0, "", ""))
-        frames = unpng.read(png.read_bytes()).frames
-        self.assertEqual([[(x, y) for y in range(64) for x in range(64) if frame[y][x]]
-                          for frame in frames], [[(1, 2)], [(61, 6)], [(57, 10)]])
+        script = self.path("script", "put 1 2 1 1\n")
+        for name in ("it.png", "it.gif"):
+            status = said("film", script, "-o", self.path(name), "--frames", 3, "--steps", 4,
+                          "--scale", 1, *PROGRAM)
+            self.assertEqual(status, (0, "", ""))
+            found = read(self.path(name))
+            self.assertEqual([found.cells((0, 114, 178), n) for n in range(len(found.frames))],
+                             [{(1, 2)}, {(61, 6)}, {(57, 10)}])
+        self.assertEqual(said("film", script, "-o", self.path("it.mp4"), *PROGRAM)[0], 1)
 
     def test_table(self):
         script, svg = self.path("script", "put 1 2 1 1\n"), self.path("it.svg")
-        status, out, _ = said("table", script, "--steps", 2, "--times", 2, "--no-ledger", "--probe",
-                              "a=0,0,4,5", "--chart", svg, "--column", "a_count", *PROGRAM)
+        words = ["table", script, "--steps", 2, "--times", 2, "--no-ledger", "--probe",
+                 "a=0,0,4,5", *PROGRAM]
+        status, out, _ = said(*words, "--chart", svg, "--column", "a_count")
         self.assertEqual((status, out.splitlines()), (0, [
             "tick,count,px,py,a_count,a_px,a_py,d_count,d_px,d_py,d_a_count,d_a_px,d_a_py",
             "2,1,-1,1,0,0,0,0,0,0,-1,1,-1", "4,1,-1,1,0,0,0,0,0,0,0,0,0"]))
-        self.assertIn("<polyline", svg.read_text())
-        self.assertEqual(said("table", script, "--probe", "a=1,2", *PROGRAM)[0], 1)
+        self.assertIn("a_count", svg.read_text())
+        self.assertEqual(said(*words, "--columns", "tick,d_a_px")[1], "tick,d_a_px\n2,1\n4,0\n")
+        status, out, errors = said(*words, "--columns", "drag")
+        self.assertEqual((status, out), (1, ""))
+        self.assertIn("gaslab table: no column drag: there are tick, count", errors)
 
     def test_profile(self):
         script = self.path("script", "put 0 0 64 32\n")
@@ -267,22 +427,78 @@ class Words(unittest.TestCase):
         self.assertEqual(said("rows", typed=typed)[1],
                          f"OK 0\n{row}\nROW\nROW xy\nERR 6 steps\n")
 
+    def test_rows_of_any_bytes(self):
+        words = [sys.executable, str(ROOT / "clients" / "python"), "rows"]
+        done = subprocess.run(words, input=b"\x1b[2J\xff\r" + 5000 * b"x" + b"\nBYE\n",
+                              stdout=subprocess.PIPE, stderr=subprocess.PIPE)
+        self.assertEqual((done.returncode, done.stderr), (0, b""))
+        self.assertTrue(done.stdout.startswith(rb"\x1b[2J"), done.stdout[:40])
+        self.assertTrue(done.stdout.endswith(b"x\nBYE\n"))
+        self.assertNotIn(b"\x1b", done.stdout)
+
     def test_rows_of_lesson_2(self):
         out = said("rows", typed=(ROOT / "examples" / "2_blocks.out").read_text())[1]
         for line in ("....#....#..##......#...#...##.......#...#..##......#....#..##..",
                      ".....#..#...##.......#..#...##.......#..#...##.......#..#...##.."):
             self.assertIn(line + "\n", out)
 
-    def test_wrong_addresses(self):
-        for address in ("x", ":5", "127.0.0.1:x"):
-            self.assertEqual(said("draw", "--join", address)[0], 1)
+    def test_wrong_options_are_said_in_a_line(self):
+        endless = 5000 * "1"
+        for words in (("draw", "--join", "x"), ("draw", "--join", ":5"),
+                      ("draw", "--join", "127.0.0.1:x"), ("draw", "--join", "127.0.0.1:65536"),
+                      ("draw", "--scale", "0"), ("draw", "--width", "100"), ("draw", "--mean", "0"),
+                      ("draw", "--cap", "0"), ("draw", "--workers", endless),
+                      ("draw", "--timeout", "nan"), ("draw", "--timeout", "-1"),
+                      ("draw", "--timeout", "inf"), ("film", "-o", "x.gif", "--frames", "0"),
+                      ("film", "-o", "x.gif", "--milliseconds", "70000"),
+                      ("table", "--times", "0"), ("table", "--probe", "a=1,2"),
+                      ("table", "--probe", "a=1,2,3,x"), ("profile", "--bins", endless),
+                      ("random", "--seed", "-1"), ("random", "--width", endless),
+                      ("watch", "127.0.0.1", "99999"), ("watch", "127.0.0.1", "-1"),
+                      ("watch", "127.0.0.1", "1", "--page-port", "99999"),
+                      ("watch", "127.0.0.1", "1", "--seconds", "nan"),
+                      ("watch", "127.0.0.1", "1", "--colour", "red"),
+                      ("journal", "127.0.0.1", "x")):
+            status, out, errors = said(*words)
+            self.assertEqual((status, out), (2, ""), words)
+            self.assertRegex(errors.splitlines()[-1], "^python3 clients/python [a-z]+: error: ")
+            self.assertLess(len(errors.splitlines()[-1]), 200)
+
+    def test_files_of_any_kind_are_said_in_a_line(self):
+        damaged = self.path("damaged.gas")
+        damaged.write_bytes(b"HPPGAS2\n\xff")
+        script = self.path("script", "put 0 0 1 1\n")
+        for words in (("draw", self.path("nothing")), ("draw", self.room), ("draw", damaged),
+                      ("draw", "/dev/zero"), ("draw", "/dev/null", "--load", script),
+                      ("show", "/dev/zero"), ("show", self.room), ("show", script),
+                      ("draw", script, "-o", "/no/such/folder/it.png"),
+                      ("draw", script, "-o", self.room / "it.jpg"),
+                      ("draw", script, "--program", "/no/program"),
+                      ("draw", script, "--program", "/bin/false"),
+                      ("random", "--density", "nan"), ("random", "--drift", "2"),
+                      ("watch", "127.0.0.1", "1"), ("watch", "no.such.host.example", "1"),
+                      ("watch", "127.0.0.1", "1", "--load", script),
+                      ("journal", "a" * 70 + ".example", "1"), ("journal", "\udc80", "1")):
+            status, out, errors = said(*words, *(PROGRAM if "--program" not in words and words[0]
+                                                 == "draw" else ()))
+            self.assertEqual((status, out), (1, ""), words)
+            self.assertRegex(errors, f"^gaslab {words[0]}: [^\n]+\n$")
 
     def test_a_refused_script(self):
         status, _, errors = said("draw", self.path("script", "step 0\n"), *PROGRAM)
         self.assertEqual(status, 1)
-        self.assertIn("ERR 6 steps: one command makes 1 to 4,096 steps; asked: step 0", errors)
+        self.assertEqual(errors, "gaslab draw: line 1: ERR 6 steps: one command makes 1 to 4,096 "
+                         "steps; asked: step 0\n")
 
     def test_as_a_module(self):
         done = subprocess.run([sys.executable, "-m", "gaslab", "random", "--seed", "1"],
                               cwd=ROOT / "clients" / "python", stdout=subprocess.PIPE, text=True)
         self.assertEqual((done.returncode, len(done.stdout.splitlines())), (0, 64))
+
+    def test_a_reader_that_leaves(self):
+        words = [sys.executable, "-m", "gaslab", "random", "--width", "4096", "--height", "4096"]
+        with subprocess.Popen(words, cwd=ROOT / "clients" / "python", stdout=subprocess.PIPE,
+                              stderr=subprocess.PIPE) as client:
+            client.stdout.readline()
+            client.stdout.close()
+            self.assertEqual((client.stderr.read(), client.wait()), (b"", 1))

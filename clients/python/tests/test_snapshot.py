@@ -1,13 +1,17 @@
 import os
+import random
 import struct
 import tempfile
 import unittest
 from pathlib import Path
 
+import numpy
+
 from gaslab import (Drain, MagicFault, PortFault, ShortFault, SizeFault, Snapshot, SnapshotFault,
                     Source, TickFault, TrailingFault)
-from gaslab.cells import array_of, column_counts, find_numpy, pack_array, rows_of
-from gaslab.scene import rectangles_of
+from gaslab.snapshot.cells import array_of, as_cells, plane_of
+from gaslab.snapshot.files import draft
+from gaslab.snapshot.rectangles import cover
 
 from .stand_in import channel_gas
 
@@ -156,6 +160,9 @@ class EachDamage(unittest.TestCase):
         self.assertEqual({kind.name for kind in SnapshotFault.__subclasses__()},
                          {"Short", "Magic", "Size", "Tick", "Port", "Trailing"})
 
+    def test_a_file_without_end_is_not_read_whole(self):
+        self.assertRaises(MagicFault, Snapshot.read, "/dev/zero")
+
     def test_a_file_that_is_not_there(self):
         with tempfile.TemporaryDirectory() as room:
             self.assertRaises(FileNotFoundError, Snapshot.read, os.path.join(room, "no"))
@@ -164,50 +171,133 @@ class EachDamage(unittest.TestCase):
 class Arrays(unittest.TestCase):
     def test_a_plane_and_back(self):
         plane = bytes(range(256)) * 2
-        self.assertEqual(pack_array(array_of(plane, 64)), (64, 64, plane))
+        self.assertEqual(plane_of(array_of(plane, 64)), plane)
 
     def test_lists_of_truth_values(self):
         cells = [[x == y for x in range(64)] for y in range(64)]
-        width, height, plane = pack_array(cells)
-        self.assertEqual((width, height), (64, 64))
-        self.assertEqual([y for y, row in enumerate(rows_of(plane, 64))
-                          if row == (1 << 63 - y).to_bytes(8, "big")], list(range(64)))
+        self.assertEqual(plane_of(as_cells(cells)),
+                         b"".join((1 << 63 - y).to_bytes(8, "big") for y in range(64)))
 
-    def test_rows_of_several_widths(self):
-        for cells in ([[0] * 64, [0] * 65], [[0] * 63], [[]], []):
-            self.assertRaises(ValueError, pack_array, cells)
+    def test_wrong_shapes_have_the_rule(self):
+        rule = "multiples of 64 from 64 to 4,096"
+        for cells, what in (([[0] * 64, [0] * 65], "rows of several widths"), ([[0] * 63], rule),
+                            ([[]], rule), ([], "shape"), ([0] * 64, "shape"),
+                            (numpy.zeros((64, 4160)), rule)):
+            with self.assertRaisesRegex(ValueError, what):
+                as_cells(cells)
 
     def test_shape(self):
         found = Snapshot(128, 64).particles
-        self.assertEqual((len(found), len(found[0])), (64, 128))
-        numpy = find_numpy()
-        if numpy is not None:
-            self.assertEqual((found.dtype, found.shape), (numpy.dtype(bool), (64, 128)))
-        else:
-            self.assertEqual(found, [bytes(128)] * 64)
-
-    def test_column_counts_of_many_rows(self):
-        rows = [b"\xf0" + bytes(7)] * 1000 + [bytes(7) + b"\1"]
-        self.assertEqual(column_counts(rows, 64), [1000] * 4 + [0] * 59 + [1])
+        self.assertEqual((found.dtype, found.shape), (numpy.dtype(bool), (64, 128)))
 
     def test_wrong_lengths(self):
         self.assertRaises(ValueError, Snapshot, 64, 64, particle_bytes=bytes(511))
+        self.assertRaisesRegex(ValueError, "multiples of 64", Snapshot, 100, 64)
+
+    def test_from_arrays(self):
+        """What is written is read again, by the second implementation too."""
+        draw = numpy.random.RandomState(5)
+        particles, walls, obstacles = draw.random_sample((3, 64, 128)) < 0.3
+        gas = Snapshot.from_arrays(particles, walls, obstacles, -7, [(1, 2, 3, 4)],
+                                   [(5, 6, 7, 8, 9)])
+        with tempfile.TemporaryDirectory() as room:
+            path = os.path.join(room, "it.gas")
+            gas.write(path)
+            self.assertEqual(os.listdir(room), ["it.gas"])
+            self.assertEqual(Snapshot.read(path), gas)
+            it = channel_gas.from_snapshot(Path(path).read_bytes())
+        self.assertEqual((it.width, it.height, it.tick), (128, 64, -7))
+        for cells, array in ((it.particles, particles), (it.walls, walls),
+                             (it.obstacles, obstacles)):
+            self.assertEqual(cells, {(x, y) for y, x in numpy.argwhere(array).tolist()})
+        self.assertEqual((gas.drains, gas.sources), ((Drain(1, 2, 3, 4),),
+                                                     (Source(5, 6, 7, 8, 9),)))
+
+    def test_from_arrays_that_are_no_gas(self):
+        one, other = numpy.zeros((64, 64), bool), numpy.zeros((64, 128), bool)
+        self.assertRaisesRegex(ValueError, "one shape", Snapshot.from_arrays, one, other)
+        self.assertRaisesRegex(ValueError, "none is given", Snapshot.from_arrays)
+        self.assertRaises(PortFault, Snapshot.from_arrays, one, drains=[(60, 0, 5, 1)])
+        for wish in ({"tick": 2 ** 41}, {"tick": 2 ** 70}, {"drains": [(-1, 0, 1, 1)]},
+                     {"drains": [(0, 0, 1, 1)] * 300}):
+            self.assertRaises(ValueError, Snapshot.from_arrays, one, **wish)
+
+
+class Drafts(unittest.TestCase):
+    def setUp(self):
+        room = tempfile.TemporaryDirectory()
+        self.addCleanup(room.cleanup)
+        self.path = Path(room.name, "it")
+
+    def test_the_old_file_stays_until_the_new_one_is_whole(self):
+        self.path.write_bytes(b"old")
+        with draft(self.path) as file:
+            file.write(b"new")
+            file.flush()
+            self.assertEqual(self.path.read_bytes(), b"old")
+        self.assertEqual(self.path.read_bytes(), b"new")
+        with self.assertRaises(KeyError), draft(self.path) as file:
+            file.write(b"half")
+            raise KeyError
+        self.assertEqual(self.path.read_bytes(), b"new")
+        self.assertEqual(os.listdir(self.path.parent), ["it"])
+
+    def test_a_link_stays_a_link(self):
+        link = self.path.with_name("link")
+        link.symlink_to(self.path)
+        with draft(link) as file:
+            file.write(b"new")
+        self.assertTrue(link.is_symlink())
+        self.assertEqual(self.path.read_bytes(), b"new")
+
+    def test_a_device_stays_a_device(self):
+        with draft("/dev/null") as file:
+            file.write(b"new")
+        self.assertTrue(Path("/dev/null").is_char_device())
+
+
+def runs(cells):
+    """How many rectangles it takes if each is a run of a row, with the same runs below it."""
+    found, above = 0, set()
+    for row in cells:
+        edges = numpy.flatnonzero(numpy.diff(row, prepend=False, append=False)).tolist()
+        now = set(zip(edges[::2], edges[1::2]))
+        found += len(now - above)
+        above = now
+    return found
 
 
 class Rectangles(unittest.TestCase):
     def cells(self, rectangles):
-        return [(x + i, y + j) for x, y, w, h in rectangles for j in range(h) for i in range(w)]
+        found = numpy.zeros((64, 64), bool)
+        for x, y, w, h in rectangles:
+            self.assertTrue(w and h and x + w <= 64 and y + h <= 64)
+            found[y:y + h, x:x + w] = True
+        return found
 
-    def test_each_cell_once(self):
-        for plane in (bytes(512), b"\xff" * 512, bytes(range(256)) * 2,
-                      b"\x0f\xf0" * 256, b"\xff" * 8 + bytes(496) + b"\xff" * 8):
-            found = self.cells(rectangles_of(plane, 64))
-            truth = array_of(plane, 64)
-            self.assertEqual(len(found), len(set(found)))
-            self.assertEqual(set(found), {(x, y) for y in range(64) for x in range(64)
-                                          if truth[y][x]})
+    def test_cover_what_is_needed_and_no_more_than_is_allowed(self):
+        draw = random.Random(3)
+        planes = [bytes(512), b"\xff" * 512, bytes(range(256)) * 2, b"\x0f\xf0" * 256,
+                  b"\xff" * 8 + bytes(496) + b"\xff" * 8, draw.randbytes(512)]
+        for plane in planes:
+            needed = array_of(plane, 64)
+            self.assertTrue((self.cells(cover(needed, needed)) == needed).all())
+            allowed = array_of(draw.randbytes(512), 64)
+            found = self.cells(cover(needed, allowed))
+            self.assertTrue((found >= needed).all() and (found <= (needed | allowed)).all())
+
+    def test_as_few_as_it_takes(self):
+        y, x = numpy.ogrid[:64, :64]
+        cross = (abs(x - 30) < 4) & (abs(y - 30) < 20) | (abs(x - 30) < 20) & (abs(y - 30) < 4)
+        disc = (x - 30) ** 2 + (y - 30) ** 2 <= 100
+        ring = disc & ((x - 30) ** 2 + (y - 30) ** 2 > 81)
+        widths = {int(row.sum()) for row in disc if row.any()}
+        for cells, most in ((x + y >= 0, 1), ((y == 5) & (x > 3), 1), (cross, 2),
+                            (disc, len(widths)), (ring, runs(ring)), (x + y < 0, 0)):
+            found = cover(cells, cells)
+            self.assertLessEqual(len(found), most)
+            self.assertTrue((self.cells(found) == cells).all())
 
     def test_one_for_one(self):
-        self.assertEqual(rectangles_of(b"\xff" * 512, 64), [(0, 0, 64, 64)])
-        self.assertEqual(rectangles_of(bytes(8) + (b"\x0f" + bytes(7)) * 2 + bytes(488), 64),
-                         [(4, 1, 4, 2)])
+        cells = array_of(bytes(8) + (b"\x0f" + bytes(7)) * 2 + bytes(488), 64)
+        self.assertEqual(cover(cells, cells), [(4, 1, 4, 2)])

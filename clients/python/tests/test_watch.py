@@ -1,25 +1,30 @@
 import base64
 import contextlib
+import io
 import json
 import re
+import socket
+import struct
 import threading
 import time
 import unittest
 import urllib.error
 import urllib.request
 from pathlib import Path
+from unittest import mock
 
 import gaslab.page
 from gaslab import Lab
 from gaslab.page import Page
-from gaslab.watch import looks, printable
+from gaslab.cli.watch import looks
 
-from . import unpng
 from .fake import Fake
+from .seen import read
 from .test_shell import said
 
 FILES = Path(gaslab.page.__file__).parent
 MARKUP = "<img src=x onerror=alert(1)><b>put</b>"
+BLUE, GREY, WHITE = (0, 114, 178), (70, 70, 70), (255, 255, 255)
 
 
 class Hall:
@@ -102,7 +107,12 @@ class Terminal(unittest.TestCase):
             self.assertEqual(list(found), ["the server has ended"])
 
     def test_control_signs_of_others(self):
-        self.assertEqual(printable("put\x1b[2J\x07\u202e0"), "put?[2J??0")
+        """Of an entry that no laboratory gives, only the escapes are shown."""
+        for word in (["watch"], ["journal"]):
+            with Fake(Hall(["0 put\x1b[2J\x07\u202e0"]).answer) as fake:
+                status, out, errors = said(*word, "127.0.0.1", fake.port)
+            self.assertEqual((status, out), (1, ""))
+            self.assertIn(r"no reply of a laboratory: 'ENTRY 0 put\x1b[2J\x07\u202e0'", errors)
 
     def test_the_word(self):
         hall = Hall()
@@ -110,6 +120,25 @@ class Terminal(unittest.TestCase):
             status, out, _ = said("watch", "127.0.0.1", fake.port, "--times", 1)
         self.assertEqual(status, 0)
         self.assertIn("tick 0, 1 particles", out)
+
+    def test_means_and_colours(self):
+        hall = Hall()
+        with Fake(hall.answer) as fake:
+            words = ("watch", "127.0.0.1", fake.port, "--times", 1)
+            self.assertEqual(len(said(*words, "--mean", 16)[1].splitlines()), 2 + 2)
+            self.assertEqual(said(*words, "--colour", "velocity")[0], 0)
+        with Fake(hall.answer) as fake, Lab.join("127.0.0.1", fake.port) as lab, \
+                mock.patch("gaslab.cli.watch.is_coloured", lambda: True):
+            # the particle in the cell (0, 3) flies to the right and upwards
+            self.assertIn("86;180;233", next(looks(lab, 0, 1, colour="velocity")))
+            self.assertNotIn("86;180;233", next(looks(lab, 0, 1)))
+
+    def test_a_terminal_of_24_lines(self):
+        with Fake(Hall(["0 unport"] * 9).answer) as fake, \
+                Lab.join("127.0.0.1", fake.port) as lab, \
+                mock.patch("sys.stdout.isatty", lambda: True), \
+                mock.patch.dict("os.environ", {"LINES": "24", "COLUMNS": "80"}):
+            self.assertLess(len(next(looks(lab, 0, 1)).splitlines()), 24)
 
 
 class Pages(unittest.TestCase):
@@ -122,11 +151,11 @@ class Pages(unittest.TestCase):
                                             {"k": 0, "seat": 0, "command": "wall 0 9 64 1"}])
         self.assertEqual((state["burst"], state["status"], state["message"]), (64, "live", ""))
         self.assertLessEqual(0, state["longest"])
-        found = unpng.read(base64.b64decode(state["png"]))
+        found = read(base64.b64decode(state["png"]))
         self.assertEqual((found.width, found.height), (64, 64))
-        marks = {(x, y): found.frames[0][y][x] for y in range(64) for x in range(64)
-                 if found.frames[0][y][x]}
-        self.assertEqual(marks, {(0, 3): 1, **{(x, 9): 2 for x in range(64)}})
+        self.assertEqual(found.cells(BLUE), {(0, 3)})
+        self.assertEqual(found.cells(GREY), {(x, 9) for x in range(64)})
+        self.assertEqual(len(found.cells(WHITE)), 64 * 64 - 65)
 
     def test_follows_steps(self):
         hall = Hall()
@@ -137,8 +166,7 @@ class Pages(unittest.TestCase):
                 state = state_when(page, lambda state: state.get("tick") == tick, look)
                 self.assertGreater(state["look"], look)
                 look = state["look"]
-                frame = unpng.read(base64.b64decode(state["png"])).frames[0]
-                self.assertEqual(frame[3].index(1), tick)
+                self.assertEqual(read(base64.b64decode(state["png"])).cells(BLUE), {(tick, 3)})
 
     def test_a_step_right_behind_a_look_is_seen(self):
         hall, asked = Hall(), []
@@ -237,7 +265,7 @@ class Pages(unittest.TestCase):
 
     def test_wrong_numbers(self):
         with page_of(Hall()) as (page, _):
-            for since in ("x", "-1", "", "1e9", "²"):
+            for since in ("x", "-1", "", "1e9", "²", 5000 * "1", "&since=2"):
                 asked = f"{page.address}state?since={urllib.request.quote(since)}"
                 self.assertIn("look", json.loads(get(asked)[1]))
 
@@ -246,8 +274,29 @@ class Pages(unittest.TestCase):
             text = (FILES / name).read_text()
             self.assertEqual(re.findall(r"https?:|\bsrc=\"//|url\(|@import", text), [])
 
-    def test_entries_are_sent_as_they_are(self):
+    def test_what_others_send_is_no_markup(self):
+        """An entry that is no change ends the looks, and is shown as text."""
         with page_of(Hall([f"3 {MARKUP}"])) as (page, _):
-            state = state_when(page, lambda state: state["look"] > 0)
-        self.assertEqual(state["entries"], [{"k": 0, "seat": 3, "command": MARKUP}])
+            state = state_when(page, lambda state: state["status"] == "ended")
+        self.assertIn(f"no reply of a laboratory: 'ENTRY 3 {MARKUP}'", state["message"])
         self.assertNotIn("innerHTML", (FILES / "page.js").read_text())
+
+    def test_browsers_that_send_anything(self):
+        """None of them makes the page say a traceback, and it goes on."""
+        requests = (b"GET http://[/ HTTP/1.1\r\nHost: HERE\r\n\r\n", b"GET\r\n\r\n", b"\xff\0" * 999,
+                    b"GET /state?since=" + 5000 * b"1" + b" HTTP/1.1\r\nHost: HERE\r\n\r\n",
+                    b"POST / HTTP/1.1\r\nHost: HERE\r\n\r\n", b"GET / HTTP/1.1\r\nHost: HERE\r\n",
+                    b"GET " + 70000 * b"x" + b" HTTP/1.1\r\n\r\n", b"GET / HTTP/9\r\n\r\n", b"")
+        errors = io.StringIO()
+        with page_of(Hall()) as (page, _), contextlib.redirect_stderr(errors):
+            port = int(page.address.rpartition(":")[2][:-1])
+            for request in requests:
+                for linger in (0, 1):
+                    with socket.create_connection(("127.0.0.1", port)) as browser:
+                        browser.setsockopt(socket.SOL_SOCKET, socket.SO_LINGER,
+                                           struct.pack("ii", 1 - linger, 0))
+                        browser.sendall(request.replace(b"HERE", b"127.0.0.1:%d" % port))
+                        time.sleep(0.02)
+            time.sleep(0.2)
+            self.assertEqual(get(page.address)[1], (FILES / "page.html").read_bytes())
+        self.assertEqual(errors.getvalue(), "")

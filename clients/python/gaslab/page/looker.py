@@ -6,11 +6,11 @@ import threading
 import time
 from typing import Any, Optional
 
-from ..errors import GaslabError, Gone, Moving, Silent
-from ..lab import Lab
-from ..measure import sums_of
-from ..pictures import picture_bytes
-from ..snapshot import Snapshot
+from ..lab.lab import Lab
+from ..measure.measuring import sums_of
+from ..pictures.drawing import plain_png
+from ..protocol.errors import GaslabError, Gone, Moving, Silent, printable
+from ..snapshot.files import Snapshot
 
 __all__ = ["Looker"]
 
@@ -28,8 +28,10 @@ class Looker:
     page has asked for a few seconds, and while the journal does not grow, no row is read.
     """
 
-    def __init__(self, lab: Lab, seconds: float) -> None:
+    def __init__(self, lab: Lab, seconds: float, mean: Optional[int] = None,
+                 colour: str = "kind") -> None:
         self.lab = lab
+        self.mean, self.colour = mean, colour
         self.seconds = seconds
         self.has_stopped = threading.Event()
         self._lock = threading.Lock()
@@ -66,8 +68,9 @@ class Looker:
         except Gone:
             self._tell("ended", "The server has ended: this is the last look.")
             self.has_stopped.wait()
-        except (GaslabError, OSError) as fault:
-            self._tell("ended", f"The server cannot be read: this is the last look. {fault}")
+        except (GaslabError, OSError, ValueError, MemoryError) as fault:
+            self._tell("ended", "The server cannot be read: this is the last look. "
+                       + printable(str(fault)))
             self.has_stopped.wait()
 
     def _tell(self, status: str, message: str) -> None:
@@ -82,7 +85,8 @@ class Looker:
         gas = self.lab.look(tries=5, burst=_BURST)
         took = time.monotonic() - began
         entries = self.lab.known
-        png = picture_bytes(gas, mean=_mean_of(gas))
+        mean = self.mean or (_mean_of(gas) if self.colour == "kind" else None)
+        png = plain_png(gas, mean, self.colour)
         state = {"status": "live", "message": "", "width": gas.width, "height": gas.height,
                  "milliseconds": round(1000 * took, 1), "burst": _BURST,
                  "longest": round(1000 * max(self.lab.bursts, default=took), 1),

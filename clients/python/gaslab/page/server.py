@@ -8,7 +8,7 @@ from pathlib import Path
 from typing import Any, Optional
 from urllib.parse import parse_qs, urlsplit
 
-from ..lab import Lab
+from ..lab.lab import Lab
 from .looker import Looker
 
 __all__ = ["Page"]
@@ -28,15 +28,20 @@ class _Server(ThreadingHTTPServer):
         self.looker = looker
         super().__init__(("127.0.0.1", port), _Handler)
 
+    def handle_error(self, request: Any, client_address: Any) -> None:
+        """Says nothing: a browser may break off at any place."""
+
 
 class Page:
     """The page of a laboratory, for browsers on this machine, until it is closed.
 
-    `seconds` is the shortest time between two looks at the gas.
+    `seconds` is the shortest time between two looks at the gas. `mean` and `colour` are those of
+    pictures.
     """
 
-    def __init__(self, lab: Lab, port: int = 0, seconds: float = 0.25) -> None:
-        self.looker = Looker(lab, seconds)
+    def __init__(self, lab: Lab, port: int = 0, seconds: float = 0.25, mean: Optional[int] = None,
+                 colour: str = "kind") -> None:
+        self.looker = Looker(lab, seconds, mean, colour)
         self._server = _Server(port, self.looker)
         self._thread = threading.Thread(target=self._server.serve_forever, args=(0.05,))
         self._thread.start()
@@ -65,6 +70,7 @@ class _Handler(BaseHTTPRequestHandler):
 
     server: _Server
     server_version = "gaslab"
+    timeout = 60  # seconds that a browser may be silent
     sys_version = ""
 
     def do_GET(self) -> None:
@@ -92,9 +98,12 @@ class _Handler(BaseHTTPRequestHandler):
         return self.headers.get("Host") in (f"127.0.0.1:{port}", f"localhost:{port}")
 
     def _found(self) -> Optional[tuple[str, bytes]]:
-        asked = urlsplit(self.path)
+        try:
+            asked = urlsplit(self.path)
+        except ValueError:
+            return None
         if asked.path == "/state":
-            since = parse_qs(asked.query).get("since", ["0"])[0]
+            since = parse_qs(asked.query[:100]).get("since", ["0"])[0]
             number = int(since) if since.isascii() and since.isdecimal() else 0
             return "application/json", json.dumps(self.server.looker.state(number)).encode()
         if asked.path in _FILES:

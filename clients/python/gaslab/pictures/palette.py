@@ -5,10 +5,16 @@ people with each of the three common kinds of colour blindness do.
 """
 from __future__ import annotations
 
-from .png import Colour
+from typing import Any
 
-__all__ = ["CELLS", "DENSITIES", "DRAIN", "EMPTY", "HIT", "LEFT_DOWN", "LEFT_UP", "OBSTACLE",
-           "PARTICLE", "RIGHT_DOWN", "RIGHT_UP", "SOURCE", "WALL", "density_index"]
+import numpy
+
+__all__ = ["CELLS", "Colour", "DENSITIES", "DRAIN", "EMPTY", "HIT", "LEFT_DOWN", "LEFT_UP",
+           "OBSTACLE", "OBSTACLE_INSIDE", "PARTICLE", "RIGHT_DOWN", "RIGHT_UP", "SOURCE", "WALL",
+           "WALL_INSIDE", "density_index"]
+
+Colour = tuple[int, int, int]
+"""Red, green and blue, each from 0 to 255."""
 
 EMPTY, PARTICLE, WALL, OBSTACLE, SOURCE, DRAIN, HIT = range(7)
 RIGHT_DOWN, LEFT_DOWN, RIGHT_UP, LEFT_UP = range(7, 11)
@@ -30,6 +36,10 @@ CELLS: tuple[Colour, ...] = (
 
 _FIRST = 7
 _RAMP = ((255, 255, 255), (86, 180, 233), (0, 114, 178), (0, 30, 70))
+WALL_INSIDE, OBSTACLE_INSIDE = PARTICLE, HIT
+"""In `DENSITIES`: the tints inside the outlines of walls and obstacles."""
+_MARKS = {**dict(enumerate(CELLS[:_FIRST])), WALL_INSIDE: (205, 205, 205),
+          OBSTACLE_INSIDE: (250, 205, 170), SOURCE: (0, 158, 115), DRAIN: (204, 90, 160)}
 
 
 def _ramp_colour(share: float) -> Colour:
@@ -40,11 +50,11 @@ def _ramp_colour(share: float) -> Colour:
     return red, green, blue
 
 
-DENSITIES: tuple[Colour, ...] = CELLS[:_FIRST] + tuple(
-    _ramp_colour(step / (255 - _FIRST)) for step in range(256 - _FIRST))
-"""The palette of density pictures: the marks of `CELLS`, then from empty (white) to full (dark)."""
+DENSITIES: tuple[Colour, ...] = (*_MARKS.values(), *(
+    _ramp_colour(step / (255 - _FIRST)) for step in range(256 - _FIRST)))
+"""The palette of density pictures: marks, darker for ports, then from empty (white) to full."""
 
 
-def density_index(count: int, cells: int) -> int:
-    """The index in `DENSITIES` for `count` particles in `cells` cells."""
-    return _FIRST + round(count * (255 - _FIRST) / cells)
+def density_index(count: Any, cells: int) -> Any:
+    """The indices in `DENSITIES` for `count` particles in `cells` cells, a number or an array."""
+    return (_FIRST + numpy.rint(count * (255 - _FIRST) / cells)).astype(numpy.uint8)

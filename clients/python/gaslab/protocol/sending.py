@@ -3,15 +3,22 @@ from __future__ import annotations
 
 from collections import deque
 from collections.abc import Iterable, Iterator
+from typing import Union
 
 from .errors import Gone, Refused
 from .link import Link
 from .replies import Bye, Reply, parse_reply
 
-__all__ = ["Replies", "check_line"]
+__all__ = ["Replies", "check_line", "lines_of"]
 
 _WINDOW = 65536  # bytes that wait to be written
 _MOST_ASKED = 16384  # lines that wait for their replies
+
+
+def lines_of(text: str) -> list[str]:
+    """The lines of a text, which is cut at newlines and nowhere else."""
+    lines = text.split("\n")
+    return lines if lines[-1] else lines[:-1]
 
 
 def check_line(line: str) -> str:
@@ -29,9 +36,9 @@ class Replies(Iterator[Reply]):
     between, the rest is sent first, and its replies are kept here.
     """
 
-    def __init__(self, link: Link, lines: Iterable[str]) -> None:
+    def __init__(self, link: Link, lines: Union[str, Iterable[str]]) -> None:
         self._link = link
-        self._lines = iter(lines)
+        self._lines = iter(lines_of(lines) if isinstance(lines, str) else lines)
         self._asked: deque[str] = deque()
         self._kept: deque[Reply] = deque()
         self._is_filling = False

@@ -4,19 +4,26 @@ from __future__ import annotations
 import argparse
 import os
 import sys
+from collections.abc import Iterator
+from contextlib import nullcontext
 
-from .errors import Strange
-from .lab import Lab
-from .measure import every, profile, random_gas
-from .options import gas_of, lab_of
-from .pictures import film, picture, text_picture
-from .replies import Row, parse_reply, show_cells
-from .scene import rectangles_of
+import numpy
+
+from ..lab.lab import Lab
+from ..measure import chart, csv_text, every, profile, random_gas
+from ..pictures import film, picture, text_picture
+from ..protocol.errors import Strange, printable
+from ..protocol.replies import Row, parse_reply, show_cells
+from ..protocol.scripts import read_text
+from ..snapshot.files import Snapshot
+from ..snapshot.rectangles import cover
+from .options import gas_of, lab_of, whole
 from .shell import Shell, columns, prompted
-from .snapshot import Snapshot
 
-__all__ = ["draw", "film_word", "journal", "profile_word", "random_word", "rows", "shell", "show",
-           "table"]
+__all__ = ["draw", "film_word", "is_coloured", "journal", "profile_word", "random_word", "rows",
+           "shell", "show", "table"]
+
+_PIECE = 4096  # bytes of a line that are read at once
 
 
 def shell(asked: argparse.Namespace) -> int:
@@ -27,8 +34,9 @@ def shell(asked: argparse.Namespace) -> int:
         if is_typed:
             print("help lists the commands, quit ends. This client proves nothing.")
         history = os.path.expanduser("~/.gaslab_history")
-        for text in prompted(history) if is_typed else [sys.stdin.read()]:
-            it.do(text)
+        for text in prompted(history) if is_typed else [read_text("-")]:
+            with it.stoppable() if is_typed else nullcontext():
+                it.do(text)
             if it.has_ended:
                 break
     return 0 if is_typed or not it.refusals else 1
@@ -40,45 +48,49 @@ def is_coloured() -> bool:
 
 
 def draw(asked: argparse.Namespace) -> int:
-    """A picture, as a PNG file or here."""
+    """A picture, as a file or here."""
     with gas_of(asked) as gas:
         if asked.output:
-            picture(gas, asked.output, asked.scale or 4, asked.mean, asked.colour)
+            picture(gas, asked.output, asked.scale, asked.mean, asked.colour)
         else:
-            print(text_picture(gas, columns(sys.stdout), is_coloured(), asked.colour))
+            print(text_picture(gas, columns(sys.stdout), is_coloured(), asked.colour, asked.mean))
     return 0
 
 
 def film_word(asked: argparse.Namespace) -> int:
     """A film."""
     with lab_of(asked) as lab:
-        film(lab, asked.output, asked.steps, asked.frames, asked.scale or 2, asked.mean,
-             asked.colour, asked.milliseconds)
+        film(lab, asked.output, asked.steps, asked.frames, asked.scale, asked.mean, asked.colour,
+             asked.milliseconds)
     return 0
+
+
+def probe(text: str) -> tuple[str, tuple[int, int, int, int]]:
+    """The type of the option --probe."""
+    name, _, area = text.partition("=")
+    numbers = [whole(0, 4096)(number) for number in area.split(",")]
+    if not name or len(numbers) != 4:
+        raise argparse.ArgumentTypeError(f"NAME=x,y,w,h: not {text[:40]!r}")
+    x, y, w, h = numbers
+    return name, (x, y, w, h)
 
 
 def table(asked: argparse.Namespace) -> int:
     """Measurements over time."""
-    probes = {}
-    for text in asked.probe:
-        name, _, area = text.partition("=")
-        numbers = [int(number) for number in area.split(",")]
-        if not name or len(numbers) != 4:
-            raise ValueError(f"--probe takes NAME=x,y,w,h, and not {text}")
-        x, y, w, h = numbers
-        probes[name] = (x, y, w, h)
+    wanted = asked.columns.split(",") if asked.columns else None
+    drawn = asked.column or ["d_obstacles_x"]
     with lab_of(asked) as lab:
-        found = every(lab, asked.steps, asked.times, not asked.no_ledger, probes)
-    print(found.csv(), end="")
+        found = every(lab, asked.steps, asked.times, not asked.no_ledger, dict(asked.probe), wanted)
+    print(csv_text(found), end="")
     if asked.chart:
-        found.chart(asked.chart, "tick", asked.column or ["d_obstacles_x"])
+        chart(found, asked.chart, "tick", drawn)
     return 0
 
 
 def profile_word(asked: argparse.Namespace) -> int:
     """Measurements over space."""
     with gas_of(asked) as gas:
-        print(profile(gas, asked.along, asked.bins).csv(), end="")
+        print(csv_text(profile(gas, asked.along, asked.bins)), end="")
     return 0
 
 
@@ -95,21 +107,17 @@ def show(asked: argparse.Namespace) -> int:
     gas = Snapshot.read(asked.file)
     if not asked.script:
         print(f"# {gas.width} by {gas.height} cells, version {gas.version}, tick {gas.tick}")
-        print(f"# {gas.count} particles, {_cells(gas.wall_bytes)} wall cells, "
-              f"{_cells(gas.obstacle_bytes)} obstacle cells")
+        print(f"# {gas.count} particles, {numpy.count_nonzero(gas.walls)} wall cells, "
+              f"{numpy.count_nonzero(gas.obstacles)} obstacle cells")
         print(f"# {len(gas.sources)} sources, {len(gas.drains)} drains")
-    for word, plane in (("wall", gas.wall_bytes), ("block", gas.obstacle_bytes)):
-        for area in rectangles_of(plane, gas.width):
+    for word, cells in (("wall", gas.walls), ("block", gas.obstacles)):
+        for area in cover(cells, cells):
             print(word, *area)
     for source in gas.sources:
         print("source", *source)
     for drain in gas.drains:
         print("drain", *drain)
     return 0
-
-
-def _cells(plane: bytes) -> int:
-    return bin(int.from_bytes(plane, "big")).count("1")
 
 
 def journal(asked: argparse.Namespace) -> int:
@@ -123,9 +131,16 @@ def journal(asked: argparse.Namespace) -> int:
 
 def rows(asked: argparse.Namespace) -> int:
     """Replies from standard input, with the rows drawn."""
-    for line in sys.stdin:
-        print(_drawn_row(line.rstrip("\n")), flush=True)
+    for line in _typed_lines():
+        print(_drawn_row(line), flush=True)
     return 0
+
+
+def _typed_lines() -> Iterator[str]:
+    """The lines of standard input as they come, in pieces if they are very long."""
+    stream = getattr(sys.stdin, "buffer", sys.stdin)
+    for line in iter(lambda: stream.readline(_PIECE), type(stream.readline(0))()):
+        yield (line if isinstance(line, str) else line.decode(errors="replace")).rstrip("\n")
 
 
 def _drawn_row(line: str) -> str:
@@ -133,5 +148,5 @@ def _drawn_row(line: str) -> str:
     try:
         reply = parse_reply(line, "read")
     except Strange:
-        return line
+        return printable(line)
     return show_cells(reply.cells) if isinstance(reply, Row) else line

@@ -14,6 +14,7 @@ __all__ = ["LINE_LIMIT", "Lines", "Link"]
 LINE_LIMIT = 2048
 """The most bytes that a line or a reply has, its newline not counted."""
 _CHUNK = 65536
+_LONGEST = 1e6  # seconds that a system waits at once
 
 
 class Lines:
@@ -34,9 +35,9 @@ class Lines:
 class Link:
     """Two descriptors, both made non-blocking: `source` is read and `sink` is written.
 
-    `timeout` is in seconds: how long the other side may stay silent while a reply is due. `why`
-    returns what else is known when it stays silent (True) or hangs up (False), or an empty text.
-    `has_read` is called after each read.
+    `timeout` is in seconds: how long a whole reply may take. `why` returns what else is known when
+    none came (True) or when the other side hung up (False), or an empty text. `has_read` is called
+    after each read.
     """
 
     def __init__(self, source: int, sink: int, timeout: float, why: Callable[[bool], str],
@@ -46,6 +47,10 @@ class Link:
         self._lines = Lines()
         self._unsent = bytearray()
         self._at_end = False
+        self._reading, self._both = select.poll(), select.poll()
+        self._reading.register(source, select.POLLIN)
+        self._both.register(source, select.POLLIN)
+        self._both.register(sink, select.POLLOUT | (select.POLLIN if sink == source else 0))
         os.set_blocking(source, False)
         os.set_blocking(sink, False)
 
@@ -66,54 +71,57 @@ class Link:
     def next_line(self, refill: Callable[[], None] = lambda: None) -> str:
         """The next line that arrives. `refill` is called on the way, to queue more lines.
 
-        Raises `Gone` if the other side ends first, and `Silent` after the timeout.
+        Raises `Gone` if the other side ends first, and `Silent` if the line is not whole after the
+        timeout. The time that `refill` takes is not counted.
         """
         deadline = time.monotonic() + self.timeout
         while not self._lines.whole:
             if self._at_end:
                 raise Gone("the other side left without an answer" + self._because(False))
+            began = time.monotonic()
             refill()
-            if self._pump(deadline):
-                deadline = time.monotonic() + self.timeout
+            deadline += time.monotonic() - began
+            self._pump(deadline)
         line = self._lines.whole.popleft()
         try:
             return line.decode()
         except UnicodeDecodeError:
             raise Strange(f"no reply of a laboratory: {line[:80]!r}") from None
 
-    def _pump(self, deadline: float) -> bool:
-        """Waits until something can be read or written, and does it. True if bytes moved."""
-        sinks = [self._sink] if self._unsent else []
-        left = max(0.0, deadline - time.monotonic())
-        readable, writable, _ = select.select([self._source], sinks, [], left)
-        if not readable and not writable:
+    def _pump(self, deadline: float) -> None:
+        """Waits until something can be read or written, and does it."""
+        left = deadline - time.monotonic()
+        poll = self._both if self._unsent else self._reading
+        ready = dict(poll.poll(1000 * max(0.0, min(left, _LONGEST))))
+        can_read = ready.get(self._source, 0) & ~select.POLLOUT
+        if not ready or left < 0 and not can_read:
             raise Silent(f"no answer for {self.timeout:g} seconds" + self._because(True))
-        moved = self._write() if writable else 0
-        return (self._read() if readable else 0) + moved > 0
+        if self._unsent and ready.get(self._sink, 0) & ~select.POLLIN:
+            self._write()
+        if can_read:
+            self._read()
 
-    def _read(self) -> int:
+    def _read(self) -> None:
         try:
             data = os.read(self._source, _CHUNK)
         except BlockingIOError:
-            return 0
+            return
         except OSError as fault:
             self._at_end = True
             raise Gone(f"the connection broke: {fault}" + self._because(False)) from fault
         self._at_end = not data
         self._has_read()
         self._lines.feed(data)
-        return len(data)
 
-    def _write(self) -> int:
+    def _write(self) -> None:
         """Writes some of what is queued. What a closed side no longer reads is dropped."""
         try:
             count = os.write(self._sink, self._unsent[:_CHUNK])
         except BlockingIOError:
-            return 0
+            return
         except OSError:
             count = len(self._unsent)
         del self._unsent[:count]
-        return count
 
     def _because(self, is_silent: bool) -> str:
         why = self._why(is_silent)

@@ -2,10 +2,13 @@
 from __future__ import annotations
 
 import re
+from collections.abc import Iterable
 from typing import Any, NamedTuple, Union
 
-from .cells import spread_row
-from .errors import REFUSALS, Refused, Strange
+import numpy
+
+from .commands import MOST_ENTRIES, MOST_SEATS, SIDES, parse_change
+from .errors import REFUSALS, Refused, Strange, printable
 
 __all__ = ["Bye", "Entry", "Ledger", "Ok", "Probe", "Reply", "Row", "Saved", "Tally", "named",
            "parse_reply", "reply_text", "show_cells"]
@@ -58,9 +61,9 @@ class Row(NamedTuple):
     hex: str
 
     @property
-    def cells(self) -> bytes:
-        """The row as one byte for each cell, 0 or 1."""
-        return spread_row(bytes.fromhex(self.hex))
+    def cells(self) -> Any:
+        """The row as an array of truth values, of shape (width,)."""
+        return numpy.unpackbits(numpy.frombuffer(bytes.fromhex(self.hex), numpy.uint8)).astype(bool)
 
 
 class Entry(NamedTuple):
@@ -83,50 +86,65 @@ class Bye(NamedTuple):
 
 Reply = Union[Ok, Probe, Tally, Ledger, Row, Entry, Saved, Bye, Refused]
 
-_NUMBERS: dict[str, Any] = {"OK": Ok, "PROBE": Probe, "TALLY": Tally, "LEDGER": Ledger,
-                            "SAVED": Saved, "BYE": Bye}
-_WORDS = {kind: word for word, kind in _NUMBERS.items()}
-_NUMBER = re.compile(r"0|-?[1-9][0-9]*", re.ASCII)
-_ROW = re.compile(r"(?:[0-9a-f]{16})+")
-_ENTRY = re.compile(r"(0|[1-9][0-9]?) (\S.*)", re.ASCII)
+_MOST_CELLS = SIDES[-1] ** 2
+_COUNT, _MOMENTUM = (0, _MOST_CELLS), (-_MOST_CELLS, _MOST_CELLS)
+_ACCOUNT = (1 - 2 ** 63, 2 ** 63 - 1)
+_NUMBERS: dict[str, tuple[Any, tuple[tuple[int, int], ...]]] = {
+    "OK": (Ok, ((0, MOST_ENTRIES - 1),)), "PROBE": (Probe, (_COUNT, _MOMENTUM, _MOMENTUM)),
+    "TALLY": (Tally, ((-2 ** 40, 2 ** 40), _COUNT, _MOMENTUM, _MOMENTUM)),
+    "LEDGER": (Ledger, 13 * (_ACCOUNT,)), "SAVED": (Saved, ((0, MOST_ENTRIES), (1558, 6291766))),
+    "BYE": (Bye, ())}
+_WORDS = {Row: "ROW", Entry: "ENTRY", **{kind: word for word, (kind, _) in _NUMBERS.items()}}
+_NUMBER = re.compile(r"0|-?[1-9][0-9]{0,18}", re.ASCII)
+_ROW = re.compile(r"(?:[0-9a-f]{16}){1,64}")
+_ENTRY = re.compile(r"(0|[1-9][0-9]?) (.*)", re.ASCII)
 
 
 def parse_reply(text: str, asked: str) -> Reply:
     """The reply that a line spells, without its newline. `asked` is the line that was sent.
 
-    A refusal is returned as a `Refused` and not raised. Raises `Strange` for any other text.
+    A refusal is returned as a `Refused` and not raised. Raises `Strange` for any other text: also
+    if a number is one that no laboratory gives, or if an entry is no change.
     """
     word, _, rest = text.partition(" ")
     reply: Reply | None = None
     if word in _NUMBERS:
-        reply = _numbers(_NUMBERS[word], text.split(" ")[1:])
+        reply = _numbers(*_NUMBERS[word], text.split(" ")[1:])
     elif word == "ROW" and _ROW.fullmatch(rest):
         reply = Row(rest)
     elif word == "ENTRY":
-        match = _ENTRY.fullmatch(rest)
-        reply = Entry(int(match[1]), match[2]) if match else None
+        reply = _entry(rest)
     elif word == "ERR":
         number, _, name = rest.partition(" ")
         known = _NUMBER.fullmatch(number) and REFUSALS.get(int(number)) == name
         reply = Refused(int(number), name, asked) if known else None
     if reply is None:
-        raise Strange(f"no reply of a laboratory: {text[:80]!r}; asked: {asked[:60]}")
+        raise Strange(f"no reply of a laboratory: {text[:80]!r}; asked: {printable(asked[:60])}")
     return reply
 
 
-def _numbers(kind: Any, words: list[str]) -> Reply | None:
-    if len(words) != len(kind._fields) or not all(map(_NUMBER.fullmatch, words)):
+def _numbers(kind: Any, ranges: tuple[tuple[int, int], ...], words: list[str]) -> Reply | None:
+    if len(words) != len(ranges) or not all(map(_NUMBER.fullmatch, words)):
         return None
-    reply: Reply = kind(*map(int, words))
+    numbers = [int(word) for word in words]
+    if not all(least <= number <= most for number, (least, most) in zip(numbers, ranges)):
+        return None
+    reply: Reply = kind(*numbers)
     return reply
+
+
+def _entry(rest: str) -> Entry | None:
+    match = _ENTRY.fullmatch(rest)
+    if match is None or int(match[1]) >= MOST_SEATS or parse_change(match[2]) is None:
+        return None
+    return Entry(int(match[1]), match[2])
 
 
 def reply_text(reply: Reply) -> str:
     """The line that spells a reply, as the laboratory writes it."""
     if isinstance(reply, Refused):
         return f"ERR {reply.number} {reply.word}"
-    word = {Row: "ROW", Entry: "ENTRY"}.get(type(reply)) or _WORDS[type(reply)]
-    return " ".join((word, *map(str, reply)))
+    return " ".join((_WORDS[type(reply)], *map(str, reply)))
 
 
 def named(reply: Reply) -> str:
@@ -139,14 +157,10 @@ def named(reply: Reply) -> str:
         return f"ERR {reply.number} {reply.word}: {reply.limit}"
     if isinstance(reply, Row):
         return "ROW " + show_cells(reply.cells)
-    word = "ENTRY" if isinstance(reply, Entry) else _WORDS[type(reply)]
     fields = ", ".join(f"{name} {value}" for name, value in zip(reply._fields, reply))
-    return f"{word} {fields}".rstrip()
+    return f"{_WORDS[type(reply)]} {fields}".rstrip()
 
 
-def show_cells(cells: bytes) -> str:
+def show_cells(cells: Iterable[object]) -> str:
     """Cells as text: `#` for a particle, `.` for an empty cell."""
-    return cells.translate(_MARKS).decode("ascii")
-
-
-_MARKS = bytes([ord("."), ord("#")]) + b"#" * 254
+    return "".join("#" if cell else "." for cell in cells)

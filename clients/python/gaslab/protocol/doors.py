@@ -2,6 +2,7 @@
 from __future__ import annotations
 
 import os
+import shutil
 import signal
 import socket
 import subprocess
@@ -9,13 +10,19 @@ import tempfile
 from pathlib import Path
 from typing import Any, Optional, Protocol, Union
 
-from .errors import Unreachable
+from .errors import Unreachable, printable
 from .link import Link
-from .snapshot import PathLike
 
-__all__ = ["Door", "Program", "Server", "default_program"]
+__all__ = ["Door", "PathLike", "Program", "Server", "find_program"]
+
+PathLike = Union[str, "os.PathLike[str]"]
 
 _PATIENCE = 5.0  # seconds that a program gets to end
+_LONGEST_SUM = 60.0  # seconds that the script gets to compare its sources
+_ROOT = Path(__file__).resolve().parents[4]
+
+# Waits for the program and then removes its folder, also if the client was killed meanwhile.
+_KEEPER = 'room=$1; shift; "$@"; status=$?; rm -rf -- "$room"; exit "$status"'
 
 
 class Door(Protocol):
@@ -27,47 +34,72 @@ class Door(Protocol):
         """Hangs up, without waiting for what is under way unless `polite`."""
 
 
-_ROOT = Path(__file__).resolve().parents[3]
-_BUILT = _ROOT / "crates" / "gaslab_program" / "out" / "gaslab_program"
+def find_program(program: Optional[PathLike] = None) -> Path:
+    """The program to start: `program`, or what GASLAB_PROGRAM names, or a script `gaslab`.
 
-
-def default_program() -> Path:
-    """What GASLAB_PROGRAM names, or the script `gaslab` of the repository that this is in.
-
-    Raises `Unreachable` if that has not been built.
+    The script is the one of the repository that this package is in, or else the one on the PATH.
+    Raises `Unreachable` if there is none, or if a repository's program is not built from its
+    sources as they are.
     """
-    named = os.environ.get("GASLAB_PROGRAM")
-    if named:
-        return Path(named)
-    if not _BUILT.exists():
-        raise Unreachable("the program is not built: ./gaslab --build makes it")
-    return _ROOT / "gaslab"
+    named = program if program is not None else os.environ.get("GASLAB_PROGRAM")
+    own = _ROOT / "gaslab"
+    if named is None and not own.is_file():
+        named = shutil.which("gaslab")
+        if named is None:
+            raise Unreachable("no program to start: set GASLAB_PROGRAM to gaslab's program, or "
+                              "give program= (--program); a clone makes it by ./gaslab --build")
+    path = Path(named or own).absolute()
+    if not os.access(path, os.X_OK) or path.is_dir():
+        raise Unreachable(f"no program to start: {path} can't be run; ./gaslab --build makes the "
+                          "program")
+    if (path.resolve().parent / "crates" / "gaslab_program").is_dir():
+        _check_built(path)
+    return path
+
+
+def _check_built(script: Path) -> None:
+    """Raises `Unreachable` unless the script says that its program is built from its sources."""
+    try:
+        status = subprocess.run([script, "--is-built"], stdin=subprocess.DEVNULL,
+                                stdout=subprocess.DEVNULL, stderr=subprocess.DEVNULL,
+                                timeout=_LONGEST_SUM).returncode
+    except subprocess.TimeoutExpired:
+        status = -1
+    known = {0: "", 1: "was built from other sources", 2: "is not built"}
+    what = known.get(status, "does not say whether it is built")
+    if what:
+        raise Unreachable(f"the program {what}: run ./gaslab --build in {script.parent}, or name "
+                          "another program by GASLAB_PROGRAM or program= (--program)")
 
 
 class Program:
-    """The program, started for one session on its standard streams."""
+    """The program, started for one session on its standard streams.
 
-    def __init__(self, program: Optional[PathLike], options: dict[str, Any],
-                 save: Union[PathLike, bool, None], timeout: float) -> None:
-        self.path = Path(program) if program is not None else default_program()
-        self._room = tempfile.TemporaryDirectory(prefix="gaslab-")
-        self._said = open(os.path.join(self._room.name, "said"), "w+b")
+    With `save=True` it saves to a file of the client's own, `shelf`, that goes away with it.
+    """
+
+    def __init__(self, path: Path, options: dict[str, Any], save: Union[PathLike, bool, None],
+                 timeout: float) -> None:
+        self.path = path
         self.shelf: Optional[str] = None
+        self._room: Optional[str] = None
+        keeper: list[str] = []
         if save is True:
-            self.shelf = os.path.join(self._room.name, "shelf")
-            save = self.shelf
-        words = [str(self.path), "run"]
+            self._room = tempfile.mkdtemp(prefix="gaslab-")
+            self.shelf = save = os.path.join(self._room, "shelf")
+            keeper = ["/bin/sh", "-c", _KEEPER, "gaslab", self._room]
+        words = [*keeper, str(path), "run"]
         for name, value in (*options.items(), ("save", save)):
             if value is not None and value is not False:
                 words += [f"--{name}", os.fspath(value) if name in ("load", "save") else str(value)]
+        self._said = tempfile.TemporaryFile()
         try:
             self._process = subprocess.Popen(words, stdin=subprocess.PIPE, stdout=subprocess.PIPE,
                                              stderr=self._said, bufsize=0,
                                              start_new_session=True)
         except OSError as fault:
-            self._said.close()
-            self._room.cleanup()
-            raise Unreachable(f"no program to start: {fault}; ./gaslab --build makes it") from fault
+            self._clean()
+            raise Unreachable(f"no program to start: {fault}") from fault
         assert self._process.stdin and self._process.stdout
         self.link = Link(self._process.stdout.fileno(), self._process.stdin.fileno(), timeout,
                          self._why)
@@ -85,8 +117,13 @@ class Program:
         self._said.seek(0)
         said = self._said.read().decode(errors="replace").strip()
         if said:
-            parts.append(f"it said: {said[-400:]}")
+            parts.append(f"it said: {printable(said[-400:])}")
         return "; ".join(parts)
+
+    def _clean(self) -> None:
+        self._said.close()
+        if self._room:
+            shutil.rmtree(self._room, ignore_errors=True)
 
     def close(self, polite: bool = True) -> None:
         """Ends the program's input, and the program if it does not end by itself."""
@@ -100,8 +137,7 @@ class Program:
         except subprocess.TimeoutExpired:
             os.killpg(self._process.pid, signal.SIGKILL)  # it and what it has started
             self._process.wait()
-        self._said.close()
-        self._room.cleanup()
+        self._clean()
 
 
 class Server:
@@ -111,8 +147,8 @@ class Server:
         self.address = f"{host}:{port}"
         try:
             self._socket = socket.create_connection((host, port), timeout)
-        except (OSError, OverflowError) as fault:
-            raise Unreachable(f"no server at {self.address}: {fault}") from fault
+        except (OSError, UnicodeError) as fault:
+            raise Unreachable(f"no server at {printable(self.address)}: {fault}") from fault
         self._socket.setsockopt(socket.IPPROTO_TCP, socket.TCP_NODELAY, 1)
         number = self._socket.fileno()
         self.link = Link(number, number, timeout, self._why, self._acknowledge)

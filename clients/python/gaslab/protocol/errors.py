@@ -1,8 +1,13 @@
 """What can go wrong. Each kind has a class of its own, and all are a `GaslabError`."""
 from __future__ import annotations
 
-__all__ = ["GaslabError", "Gone", "LIMITS", "Moving", "REFUSALS", "Refused", "Silent", "Strange",
-           "Unreachable"]
+import importlib
+from typing import Any, Optional
+
+from .commands import takes
+
+__all__ = ["GaslabError", "Gone", "LIMITS", "MissingLibrary", "Moving", "REFUSALS", "Refused",
+           "Silent", "Strange", "Unreachable", "library", "printable"]
 
 REFUSALS: dict[int, str] = {
     1: "line", 2: "word", 3: "count", 4: "number", 5: "rect", 6: "steps", 7: "period", 8: "row",
@@ -29,6 +34,9 @@ LIMITS: dict[int, str] = {
 }
 """The limit that each refusal stands for, in words."""
 
+_PACKAGES = {"numpy": "numpy", "PIL": "Pillow", "matplotlib": "matplotlib", "aiohttp": "aiohttp",
+             "pandas": "pandas"}
+
 
 class GaslabError(Exception):
     """Anything that this package raises by itself, but for wrong arguments."""
@@ -38,16 +46,19 @@ class Refused(GaslabError):
     """The laboratory refused a line and is as it was before.
 
     `number` and `word` are those of the reply, `line` is what was asked, and `limit` says in words
-    which limit the line broke.
+    which limit the line broke. `place` is the line's number in its list or its file, from 1, if it
+    came from one.
     """
 
-    def __init__(self, number: int, word: str, line: str) -> None:
+    def __init__(self, number: int, word: str, line: str, place: Optional[int] = None) -> None:
         self.number = number
         self.word = word
         self.line = line
-        self.limit = LIMITS[number]
+        self.place = place
+        self.limit = number == 3 and takes(line.split(" ")[0]) or LIMITS[number]
         shown = line if len(line) <= 60 else line[:57] + "..."
-        super().__init__(f"ERR {number} {word}: {self.limit}; asked: {shown}")
+        where = "" if place is None else f"line {place}: "
+        super().__init__(f"{where}ERR {number} {word}: {self.limit}; asked: {printable(shown)}")
 
     def __eq__(self, other: object) -> bool:
         return isinstance(other, Refused) and self._parts() == other._parts()
@@ -55,8 +66,8 @@ class Refused(GaslabError):
     def __hash__(self) -> int:
         return hash(self._parts())
 
-    def __reduce__(self) -> tuple[type, tuple[int, str, str]]:
-        return Refused, self._parts()
+    def __reduce__(self) -> tuple[type, tuple[Any, ...]]:
+        return Refused, (*self._parts(), self.place)
 
     def _parts(self) -> tuple[int, str, str]:
         return self.number, self.word, self.line
@@ -80,3 +91,24 @@ class Strange(GaslabError):
 
 class Moving(GaslabError):
     """The gas was changed during each attempt to read it whole."""
+
+
+class MissingLibrary(GaslabError, ImportError):
+    """A library is not installed. The message says how to install it."""
+
+
+def library(name: str) -> Any:
+    """A module of another package, such as "PIL.Image". Raises `MissingLibrary` without it."""
+    try:
+        return importlib.import_module(name)
+    except ImportError as fault:
+        package = _PACKAGES[name.partition(".")[0]]
+        debian = "pil" if package == "Pillow" else package
+        raise MissingLibrary(f"{package} is not installed for this Python: apt-get install "
+                             f"python3-{debian}, or pip install {package}") from fault
+
+
+def printable(text: str) -> str:
+    """The text with escapes for signs that steer a terminal or can't be printed."""
+    return "".join(sign if sign.isprintable() else
+                   sign.encode("unicode_escape").decode("ascii") for sign in text)

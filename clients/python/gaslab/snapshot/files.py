@@ -3,17 +3,21 @@ from __future__ import annotations
 
 import os
 import struct
+from collections.abc import Iterable, Iterator
+from contextlib import contextmanager
 from dataclasses import dataclass, field
-from typing import Any, NamedTuple, Union
+from typing import Any, BinaryIO, NamedTuple
 
-from .cells import array_of
-from .errors import GaslabError
+from ..protocol.commands import MOST_PORTS, SIDES
+from ..protocol.doors import PathLike
+from ..protocol.errors import GaslabError
+from .cells import array_of, as_cells, check_sides, plane_of
 
 __all__ = ["Drain", "MagicFault", "PortFault", "ShortFault", "SizeFault", "Snapshot",
-           "SnapshotFault", "Source", "TickFault", "TrailingFault"]
+           "SnapshotFault", "Source", "TickFault", "TrailingFault", "draft"]
 
 TICK_LIMIT = 2 ** 40
-MOST_PORTS = 16
+_LONGEST = 6291766  # bytes
 _MAGICS = {b"HPPGAS1\n": 1, b"HPPGAS2\n": 2}
 _LARGEST_SIDE = {1: 2048, 2: 4096}
 
@@ -82,9 +86,6 @@ class Source(NamedTuple):
     period: int
 
 
-PathLike = Union[str, "os.PathLike[str]"]
-
-
 @dataclass(frozen=True)
 class Snapshot:
     """A gas at one tick.
@@ -105,6 +106,7 @@ class Snapshot:
     version: int = 2
 
     def __post_init__(self) -> None:
+        check_sides(self.width, self.height)
         size = self.width * self.height // 8
         for name in ("particle_bytes", "wall_bytes", "obstacle_bytes"):
             plane = getattr(self, name) or bytes(size)
@@ -113,10 +115,41 @@ class Snapshot:
             object.__setattr__(self, name, plane)
 
     @classmethod
+    def from_arrays(cls, particles: Any = None, walls: Any = None, obstacles: Any = None,
+                    tick: int = 0, drains: Iterable[Iterable[int]] = (),
+                    sources: Iterable[Iterable[int]] = ()) -> Snapshot:
+        """The gas of these arrays of truth values, each of shape (height, width).
+
+        At least one is given; the others are empty. A drain is (x, y, w, h) in cells, and a source
+        has its period in ticks behind. Raises `ValueError` if they are no gas.
+        """
+        given = {name: as_cells(cells, name) for name, cells in
+                 (("particles", particles), ("walls", walls), ("obstacles", obstacles))
+                 if cells is not None}
+        shapes = {cells.shape for cells in given.values()}
+        if len(shapes) != 1:
+            raise ValueError("particles, walls and obstacles have one shape: "
+                             + (" and ".join(map(str, sorted(shapes))) or "none is given"))
+        (height, width), = shapes
+        gas = cls(width, height, tick, tuple(Drain(*port) for port in drains),
+                  tuple(Source(*port) for port in sources),
+                  *(plane_of(given[name]) if name in given else b""
+                    for name in ("particles", "walls", "obstacles")))
+        try:
+            return cls.from_bytes(gas.to_bytes())
+        except struct.error as fault:
+            raise ValueError(f"a tick or a port is out of range: {fault}") from None
+
+    @classmethod
     def read(cls, path: PathLike) -> Snapshot:
         """The snapshot in a file. Raises a `SnapshotFault`, or `OSError` from the file."""
         with open(path, "rb") as file:
-            return cls.from_bytes(file.read())
+            return cls.from_bytes(file.read(_LONGEST + 1))
+
+    def write(self, path: PathLike) -> None:
+        """Writes the snapshot to a file, which is replaced whole."""
+        with draft(path) as file:
+            file.write(self.to_bytes())
 
     @classmethod
     def from_bytes(cls, data: bytes) -> Snapshot:
@@ -150,16 +183,11 @@ class Snapshot:
     @property
     def count(self) -> int:
         """How many particles there are."""
-        return count_bits(self.particle_bytes)
+        return int(self.particles.sum())
 
     def _repr_png_(self) -> bytes:
-        from .pictures import picture_bytes
+        from ..pictures import picture_bytes
         return picture_bytes(self)
-
-
-def count_bits(plane: bytes) -> int:
-    """How many cells a packed plane has."""
-    return bin(int.from_bytes(plane, "big")).count("1")
 
 
 class _Reader:
@@ -184,7 +212,7 @@ class _Reader:
             raise MagicFault(f"a snapshot does not begin with {self.data[:8]!r}")
         width, height = struct.unpack(">HH", self.take(4, "the size"))
         for side in (width, height):
-            if side % 64 or not 64 <= side <= _LARGEST_SIDE[version]:
+            if side not in SIDES or side > _LARGEST_SIDE[version]:
                 raise SizeFault(f"{width} by {height} in version {version}")
         tick, = struct.unpack(">q", self.take(8, "the tick"))
         if abs(tick) > TICK_LIMIT:
@@ -194,7 +222,7 @@ class _Reader:
         particles, walls = (self.take(size, f"the plane of {it}") for it in ("particles", "walls"))
         obstacles = self.take(size, "the plane of obstacles") if version == 2 else b""
         if self.at < len(self.data):
-            raise TrailingFault(f"{len(self.data) - self.at} bytes after the last field")
+            raise TrailingFault("bytes after the last field")
         return Snapshot(width, height, tick, drains, sources, particles, walls, obstacles, version)
 
     def ports(self, width: int, height: int) -> tuple[tuple[Drain, ...], tuple[Source, ...]]:
@@ -212,3 +240,26 @@ class _Reader:
         if not is_inside or 0 in port[4:]:
             raise PortFault(f"{port} in a lattice of {width} by {height}")
         return port
+
+
+@contextmanager
+def draft(path: PathLike) -> Iterator[BinaryIO]:
+    """A new file beside `path` that takes its place in the end, or goes away after a fault.
+
+    What is no file, such as /dev/stdout, is written to at once.
+    """
+    place = os.path.realpath(path)
+    if os.path.exists(place) and not os.path.isfile(place):
+        with open(place, "wb") as file:
+            yield file
+        return
+    folder, name = os.path.split(place)
+    beside = os.path.join(folder, f".{name}.{os.getpid()}.tmp")
+    file = open(beside, "xb")
+    try:
+        with file:
+            yield file
+        os.replace(beside, place)
+    except BaseException:
+        os.unlink(beside)
+        raise

@@ -1,0 +1,107 @@
+"""The laboratory as an object: a program that is started, or a server that is joined."""
+from __future__ import annotations
+
+import math
+from collections.abc import Mapping, Sequence
+from typing import TYPE_CHECKING, Any, Optional, Union
+
+from ..protocol.commands import MOST_ENTRIES
+from ..protocol.doors import PathLike, Program, Server, find_program
+from ..protocol.replies import Ok
+from ..snapshot.cells import check_sides
+from ..snapshot.files import Snapshot
+from .looking import Looks
+
+if TYPE_CHECKING:
+    from ..measure import Fields
+
+__all__ = ["Lab"]
+
+
+class Lab(Looks):
+    """A running laboratory. Make one by `Lab.run` or `Lab.join`, best in a `with` statement.
+
+    Each command of the laboratory is a method of its name. A refusal raises `Refused`, and the
+    laboratory is then as it was. A `Lab` is for one thread at a time.
+    """
+
+    @classmethod
+    def run(cls, width: int = 64, height: int = 64, workers: int = 1, cap: int = MOST_ENTRIES,
+            load: Optional[PathLike] = None, save: Union[PathLike, bool, None] = None,
+            program: Optional[PathLike] = None, timeout: float = 60.0) -> Lab:
+        """Starts the built program for one session.
+
+        It is `program`, or else what the variable GASLAB_PROGRAM of the environment names, or else
+        the script `gaslab` of this repository, or the one on the PATH. Width and height are in
+        cells, multiples of 64 from 64 to 4,096. `workers` are threads, 1 to 16. `cap` is how many
+        changes the journal has room for, 1 to 65,536. `load` is a snapshot to start from, which has
+        the size. `save` is a path for `save`, or True for a file of the client's own that goes away
+        with the laboratory; the whole gas is then read by snapshot. `timeout` is how many seconds a
+        reply may take. Raises `ValueError` for other values, and `Unreachable` if there is no
+        built program.
+        """
+        start = Snapshot.read(load) if load is not None else None
+        size = (start.width, start.height) if start else (width, height)
+        check_sides(*size)
+        _check("workers", workers, 1, 16)
+        _check("cap", cap, 1, MOST_ENTRIES)
+        options = dict(width=size[0], height=size[1], workers=workers, cap=cap, load=load)
+        door = Program(find_program(program), options, save, _checked(timeout))
+        lab = cls(door, start, door.shelf)
+        lab._size = size
+        lab._greet()
+        return lab
+
+    @classmethod
+    def join(cls, host: str, port: int, timeout: float = 60.0, start: Optional[Snapshot] = None,
+             shelf: Optional[PathLike] = None) -> Lab:
+        """Joins a server, as one more seat. Raises `Silent` if it is full.
+
+        `port` is 0 to 65,535. `start` is the snapshot that the server was started from, if there
+        was one: its walls are not in the journal. `shelf` is the path of the server's `--save`, if
+        it is on this machine; the whole gas is then read by snapshot, which writes that file again
+        at each look.
+        """
+        _check("a port", port, 0, 65535)
+        lab = cls(Server(host, port, _checked(timeout)), start, shelf)
+        lab._greet()
+        return lab
+
+    def __enter__(self) -> Lab:
+        return self
+
+    def _repr_png_(self) -> bytes:
+        return self.look()._repr_png_()
+
+    def every(self, steps: int, times: int, ledger: bool = True,
+              probes: Optional[Mapping[str, tuple[int, int, int, int]]] = None,
+              columns: Optional[Sequence[str]] = None) -> Any:
+        """Measures `times` times, each time after `steps` more steps: see `gaslab.every`."""
+        from ..measure import every
+        return every(self, steps, times, ledger, probes, columns)
+
+    def velocity(self, mean: int = 8) -> Fields:
+        """Density and both momentum densities in squares of cells: see `gaslab.velocity`."""
+        from ..measure import velocity
+        return velocity(self, mean)
+
+    def shoot(self, x: int, y: int, vx: int, vy: int) -> Ok:
+        """Puts a particle into the cell (x, y) that flies with (vx, vy): see `gaslab.shoot`."""
+        from .gates import shoot
+        return shoot(self, x, y, vx, vy)
+
+    def trace(self, steps: int) -> Any:
+        """Makes steps, and tells where few particles are at each tick: see `gaslab.trace`."""
+        from .gates import trace
+        return trace(self, steps)
+
+
+def _check(name: str, number: int, least: int, most: int) -> None:
+    if not isinstance(number, int) or not least <= number <= most:
+        raise ValueError(f"{name} is {least:,} to {most:,}, and not {number}")
+
+
+def _checked(timeout: float) -> float:
+    if not 0 < timeout < math.inf:
+        raise ValueError(f"timeout is a number of seconds above 0, and not {timeout}")
+    return timeout

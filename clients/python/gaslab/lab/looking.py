@@ -1,0 +1,175 @@
+"""Looks at the whole gas, and whole gases that are put there."""
+from __future__ import annotations
+
+import time
+from collections.abc import Iterator
+from typing import Any, Optional
+
+import numpy
+
+from ..protocol.commands import MOST_ENTRIES, SIDES
+from ..protocol.doors import Door, PathLike
+from ..protocol.errors import Moving, Refused, Strange
+from ..protocol.replies import Entry, Probe, Row
+from ..snapshot.cells import as_cells, plane_of
+from ..snapshot.files import Snapshot
+from ..snapshot.rectangles import cover
+from ..snapshot.scene import Scene
+from .commands import Commands
+from .session import mismatch
+
+__all__ = ["Looks"]
+
+_TRIES = 20
+_AHEAD = 512
+_BURST = 256
+
+
+class Looks(Commands):
+    """The whole gas at one tick: read from the laboratory, and put there from arrays."""
+
+    def __init__(self, door: Door, start: Optional[Snapshot] = None,
+                 shelf: Optional[PathLike] = None) -> None:
+        super().__init__(door)
+        self._start = start
+        self._shelf = shelf
+        self._scene: Optional[Scene] = None
+        self._enacted = 0
+        self.bursts: list[float] = []
+        self._entries: list[Entry] = []
+
+    @property
+    def size(self) -> tuple[int, int]:
+        """Width and height in cells. Of a server, single cells along two edges tell them."""
+        if self._size is None:
+            lines = [f"probe {side - 1} 0 1 1" for side in SIDES]
+            lines += [f"probe 0 {side - 1} 1 1" for side in SIDES]
+            inside = [isinstance(reply, Probe) for reply in self.send(lines)]
+            half = len(SIDES)
+            width, height = sum(inside[:half]), sum(inside[half:])
+            wanted = [k < side for side in (width, height) for k in range(half)]
+            if inside != wanted or not width or not height:
+                raise Strange("no gas of a laboratory: its probes name no width and height")
+            self._size = 64 * width, 64 * height
+        return self._size
+
+    def journal(self) -> list[Entry]:
+        """All entries of the journal so far. Those that are known are not asked for again."""
+        ahead, is_whole = 1, False
+        while not is_whole:
+            first = len(self._entries)
+            lines = [f"entry {k}" for k in range(first, first + ahead)]
+            for line, reply in zip(lines, self.send(lines)):
+                if isinstance(reply, Entry) and not is_whole:
+                    self._entries.append(reply)
+                elif isinstance(reply, Refused) and reply.number == 9:
+                    is_whole = True
+                elif not isinstance(reply, Entry):
+                    raise reply if isinstance(reply, Refused) else mismatch(line, reply)
+            if len(self._entries) > MOST_ENTRIES:
+                raise Strange(f"the journal has more than {MOST_ENTRIES} entries")
+            ahead = min(2 * ahead, _AHEAD)
+        return list(self._entries)
+
+    @property
+    def known(self) -> list[Entry]:
+        """The entries that were read so far. After `look` they are those that made this gas."""
+        return list(self._entries)
+
+    def particles(self) -> Any:
+        """The particles at one tick, an array of bool of shape (height, width)."""
+        return self.look().particles
+
+    def look(self, tries: int = _TRIES, burst: int = _BURST) -> Snapshot:
+        """The whole gas at one tick: particles, walls, obstacles and ports.
+
+        With a shelf it is a snapshot. Without, the rows are read, `burst` of them at once. If the
+        journal has grown meanwhile, the gas was changed, and all rows are read again. Raises
+        `Moving` after so many `tries`. Walls and ports then come from the journal and the start.
+        `bursts` then has the seconds that each burst of the last look took.
+        """
+        if self._shelf is not None:
+            self.save()
+            return Snapshot.read(self._shelf)
+        for _ in range(tries):
+            found = self._look_once(burst)
+            if found is not None:
+                return found
+        raise Moving(f"the gas was changed during each of {tries} looks: others step it without a "
+                     "pause; a server on this machine that saves can be looked at by shelf=")
+
+    def _look_once(self, burst: int) -> Optional[Snapshot]:
+        """The gas, or None if it was changed meanwhile."""
+        scene = self.scene()
+        tally = self.tally()
+        plane = bytearray()
+        self.bursts = []
+        for first in range(0, scene.height, burst):
+            began = time.monotonic()
+            for digits in self._rows(range(first, min(first + burst, scene.height))):
+                plane += bytes.fromhex(digits)
+            self.bursts.append(time.monotonic() - began)
+        known = len(self._entries)
+        if len(self.journal()) > known:
+            return None
+        return scene.snapshot(tally.tick, bytes(plane))
+
+    def _rows(self, rows: range) -> Iterator[str]:
+        """The digits of these rows."""
+        lines = [f"read {y}" for y in rows]
+        for line, row in zip(lines, self.send(lines)):
+            if not isinstance(row, Row) or 4 * len(row.hex) != self.size[0]:
+                raise mismatch(line, row)
+            yield row.hex
+
+    def scene(self) -> Scene:
+        """Walls, obstacles and ports, from the start and the journal."""
+        if self._scene is None:
+            if self._start and (self._start.width, self._start.height) != self.size:
+                raise ValueError("the start has {} by {} cells, and this gas {} by {}".format(
+                    self._start.width, self._start.height, *self.size))
+            self._scene = Scene.of(self._start) if self._start else Scene(*self.size)
+        for entry in self.journal()[self._enacted:]:
+            self._scene.enact(entry.command)
+            self._enacted += 1
+        return self._scene
+
+    def set(self, particles: Any = None, walls: Any = None, obstacles: Any = None) -> int:
+        """Makes the gas hold exactly these cells, arrays of truth values of shape (height, width).
+
+        What is not given stays. Particles are set by one `row` for each row that differs, walls
+        and obstacles by few rectangles. Returns the number of changes. Raises `ValueError` for
+        arrays of another shape.
+        """
+        given = {name: self._fitting(cells, name) for name, cells in
+                 (("particles", particles), ("walls", walls), ("obstacles", obstacles))
+                 if cells is not None}
+        lines = []
+        if "walls" in given or "obstacles" in given:
+            scene = self.scene()
+            lines += _edits(scene, given.get("walls", scene.walls),
+                            given.get("obstacles", scene.obstacles))
+        if "particles" in given:
+            new = [plane_of(row).hex() for row in given["particles"]]
+            old = list(self._rows(range(self.size[1])))
+            lines += [f"row {y} {new[y]}" for y in range(len(new)) if new[y] != old[y]]
+        return len(self.do(lines))
+
+    def _fitting(self, cells: Any, name: str) -> Any:
+        found, (width, height) = as_cells(cells, name), self.size
+        if found.shape != (height, width):
+            raise ValueError(f"{name} has shape (height, width), here {(height, width)}, and not "
+                             f"{found.shape}")
+        return found
+
+
+def _edits(scene: Scene, walls: Any, obstacles: Any) -> Iterator[str]:
+    """The commands that make these the walls and obstacles of a scene."""
+    gone = scene.walls & ~walls | scene.obstacles & ~obstacles
+    left = numpy.ones(gone.shape, bool)
+    for x, y, w, h in cover(gone, ~(walls | obstacles)):
+        left[y:y + h, x:x + w] = False
+        yield f"unwall {x} {y} {w} {h}"
+    for word, old, new in (("wall", scene.walls, walls), ("block", scene.obstacles, obstacles)):
+        for x, y, w, h in cover(new & ~(old & left), new):
+            yield f"{word} {x} {y} {w} {h}"

@@ -1,0 +1,120 @@
+"""Measuring: tables over time, profiles over space, and fields of density and momentum."""
+from __future__ import annotations
+
+from collections.abc import Callable, Mapping, Sequence
+from typing import Any, NamedTuple, Optional
+
+import numpy
+
+from ..lab.lab import Lab
+from ..pictures.drawing import Gas, as_snapshot
+from ..pictures.pixels import check_looks, counts_of
+from ..protocol.replies import Ledger, Tally
+from ..snapshot.files import Snapshot
+from ..snapshot.rectangles import Rectangle
+from .tables import table_of
+
+__all__ = ["Fields", "every", "profile", "sums_of", "velocity"]
+
+
+def every(lab: Lab, steps: int, times: int, ledger: bool = True,
+          probes: Optional[Mapping[str, Rectangle]] = None,
+          columns: Optional[Sequence[str]] = None,
+          progress: Callable[[int, int], None] = lambda done, times: None) -> Any:
+    """Measures `times` times, each time after `steps` more steps (backwards if negative).
+
+    The columns are the tick; the count and the momentum `px`, `py` of the whole gas; with `ledger`
+    its thirteen accounts; and for each of `probes`, a name with a rectangle (x, y, w, h), its
+    `name_count`, `name_px` and `name_py`. Then comes the difference of each of these to the row
+    before, or for the first row to the start, as `d_` and the name. So `d_obstacles_x` is the drag
+    times `steps`, and `d_injected` and `d_drained` are the flux in and out. `columns` names those
+    that are wanted, in their order. Raises `ValueError` for an unknown one, before the first step.
+
+    The table is a DataFrame if pandas is installed, and else an array of numpy records.
+    """
+    areas = dict(probes or {})
+    names = ["tick", "count", "px", "py", *(Ledger._fields if ledger else ())]
+    names += [f"{name}_{part}" for name in areas for part in ("count", "px", "py")]
+    names += ["d_" + name for name in names[1:]]
+    unknown = sorted(set(columns or ()) - set(names))
+    if unknown:
+        raise ValueError(f"no column {unknown[0]}: there are {', '.join(names)}")
+    before = _measured(lab, ledger, areas)
+    rows = []
+    for done in range(times):
+        lab.advance(steps)
+        now = _measured(lab, ledger, areas)
+        rows.append([*now, *(a - b for a, b in zip(now[1:], before[1:]))])
+        before = now
+        progress(done + 1, times)
+    found = {name: [row[place] for row in rows] for place, name in enumerate(names)}
+    return table_of({name: found[name] for name in columns or names})
+
+
+def _measured(lab: Lab, ledger: bool, areas: Mapping[str, Rectangle]) -> list[int]:
+    numbers = list(lab.tally())
+    if ledger:
+        numbers += lab.ledger()
+    for area in areas.values():
+        numbers += lab.probe(*area)
+    return numbers
+
+
+class Fields(NamedTuple):
+    """Arrays of shape (height / mean, width / mean), each number for a square of cells.
+
+    `density` is in particles a cell; `px`, to the right, and `py`, downwards, are the momentum a
+    cell. px / density is the mean velocity to the right, in columns a tick.
+    """
+
+    density: Any
+    px: Any
+    py: Any
+
+
+def velocity(gas: Gas, mean: int = 8, tick: int = 0) -> Fields:
+    """Density and both momentum densities in squares of `mean` by `mean` cells.
+
+    Wall cells count as cells. `tick` is for bare truth values. Raises `ValueError` unless `mean` is
+    1 to 64 and divides both sides.
+    """
+    found = as_snapshot(gas, tick)
+    check_looks(found, mean, "kind")
+    return Fields(*(counts_of(part, mean) / mean ** 2 for part in _parts(found)))
+
+
+def _parts(gas: Snapshot) -> tuple[Any, Any, Any]:
+    """The particles, and their momentum to the right and downwards, as numbers for each cell."""
+    cells = gas.particles.astype(numpy.int8)
+    right, down = (1 - 2 * ((numpy.arange(side) + gas.tick) % 2).astype(numpy.int8)
+                   for side in (gas.width, gas.height))
+    return cells, cells * right, cells * down[:, None]
+
+
+def sums_of(gas: Snapshot) -> Tally:
+    """The tick of a gas and its sums, as `tally` gives them."""
+    return Tally(gas.tick, *(int(part.sum(dtype=int)) for part in _parts(gas)))
+
+
+def profile(gas: Gas, along: str = "x", bins: Optional[int] = None, tick: int = 0) -> Any:
+    """How particles and momentum are spread along `x` (columns) or `y` (rows).
+
+    The table has `bins` rows, or one for each column or row of cells: the first cell `from`, the
+    cell after the last `to`, the `count` of particles, their share of the cells as `density`, and
+    their momentum `px` and `py`. `tick` is for bare truth values.
+    """
+    if along not in ("x", "y"):
+        raise ValueError(f"along is 'x' or 'y', and not {along!r}")
+    found = as_snapshot(gas, tick)
+    length, breadth = found.width, found.height
+    if along == "y":
+        length, breadth = breadth, length
+    number = length if bins is None else bins
+    if not 1 <= number <= length:
+        raise ValueError(f"bins is from 1 to {length}, and not {number}")
+    edges = numpy.arange(number + 1) * length // number
+    count, px, py = (numpy.add.reduceat(part.sum(axis=0 if along == "x" else 1, dtype=int),
+                                        edges[:-1]) for part in _parts(found))
+    density = count / (edges[1:] - edges[:-1]) / breadth
+    return table_of({"from": edges[:-1], "to": edges[1:], "count": count, "density": density,
+                     "px": px, "py": py})

@@ -1,0 +1,76 @@
+"""Tables of numbers: frames of pandas, or records of numpy, as CSV and as charts."""
+from __future__ import annotations
+
+import csv
+import io
+import os
+from collections.abc import Mapping, Sequence
+from typing import Any, Optional, Union
+
+import numpy
+
+from ..protocol.doors import PathLike
+from ..protocol.errors import library
+from ..snapshot.files import draft
+
+__all__ = ["chart", "columns_of", "csv_text", "table_of"]
+
+_CHARTS = ("svg", "png", "pdf")
+
+
+def table_of(columns: Mapping[str, Sequence[Union[int, float]]]) -> Any:
+    """A table of these columns, which are of one length: `table["tick"]` is a column.
+
+    It is a DataFrame if pandas is installed, and else an array of numpy records.
+    """
+    try:
+        import pandas
+    except ImportError:
+        return numpy.rec.fromarrays([numpy.array(column) for column in columns.values()],
+                                    names=list(columns))
+    return pandas.DataFrame(dict(columns))
+
+
+def columns_of(table: Any) -> list[str]:
+    """The names of a table's columns, in order."""
+    return list(table.columns if hasattr(table, "columns") else table.dtype.names)
+
+
+def csv_text(table: Any, path: Optional[PathLike] = None) -> str:
+    """A table as CSV with a line of names, also written to `path` if it is given."""
+    names, text = columns_of(table), io.StringIO()
+    writer = csv.writer(text, lineterminator="\n")
+    writer.writerow(names)
+    writer.writerows(zip(*(table[name].tolist() for name in names)))
+    if path is not None:
+        with draft(path) as file:
+            file.write(text.getvalue().encode())
+    return text.getvalue()
+
+
+def chart(table: Any, path: PathLike, x: str, y: Union[str, Sequence[str]]) -> None:
+    """Writes a chart of the columns `y` over the column `x`, a line with a mark for each number.
+
+    The path ends in .svg, .png or .pdf. Raises `ValueError` for another ending, an unknown column,
+    or a table without rows.
+    """
+    names = [y] if isinstance(y, str) else list(y)
+    ending = os.path.splitext(os.fspath(path))[1][1:].lower()
+    if ending not in _CHARTS:
+        raise ValueError(f"a chart's path ends in .svg, .png or .pdf: not {path}")
+    for name in (x, *names):
+        if name not in columns_of(table):
+            raise ValueError(f"no column {name}: there are {', '.join(columns_of(table))}")
+    if not len(table) or not names:
+        raise ValueError("a chart has at least one line with one number")
+    with library("matplotlib").rc_context({"svg.hashsalt": "gaslab", "svg.fonttype": "none"}):
+        figure = library("matplotlib.figure").Figure(figsize=(6.4, 3.6), layout="constrained")
+        axes = figure.add_subplot(xlabel=x, ylabel=names[0] if len(names) == 1 else "")
+        for name in names:
+            axes.plot(table[x], table[name], marker="o", markersize=4, label=name)
+        axes.axhline(0, color="black", linewidth=0.8)
+        axes.grid(alpha=0.3)
+        if len(names) > 1:
+            axes.legend()
+        with draft(path) as file:
+            figure.savefig(file, format=ending, metadata={"Date": None} if ending == "svg" else {})

@@ -1,0 +1,67 @@
+"""A gas as text for a terminal, two pixels in each character."""
+from __future__ import annotations
+
+from collections.abc import Iterator, Sequence
+from typing import Any, Optional
+
+import numpy
+
+from . import palette
+from .drawing import Gas, as_snapshot
+from .pixels import cell_pixels, check_looks, density_pixels
+
+__all__ = ["text_picture"]
+
+_MEANS = (1, 2, 4, 8, 16, 32, 64)
+
+
+def text_picture(gas: Gas, columns: int = 80, coloured: bool = True, colour: str = "kind",
+                 mean: Optional[int] = None, rows: Optional[int] = None) -> str:
+    """The gas as text, two pixels in each character.
+
+    With `mean` a pixel is the density of a square of so many cells. Without it each cell is a
+    pixel, unless the text would be wider than `columns` characters or higher than `rows`: then it
+    is the density of the smallest squares that fit. Without `coloured` there are four characters
+    only: both pixels dark, the upper, the lower, or none.
+    """
+    found = as_snapshot(gas)
+    check_looks(found, mean, colour)
+    square = mean or next((it for it in _MEANS if found.width <= it * columns
+                           and (rows is None or found.height <= 2 * it * rows)), _MEANS[-1])
+    if mean is None and square == 1:
+        colours, pixels = palette.CELLS, cell_pixels(found, colour)
+    else:
+        colours, pixels = palette.DENSITIES, density_pixels(found, square)
+    if len(pixels) % 2:
+        pixels = numpy.vstack((pixels, numpy.full_like(pixels[:1], palette.EMPTY)))
+    write = _coloured if coloured else _plain
+    return "\n".join(write(_pairs(colours, pair)) for pair in zip(pixels[::2], pixels[1::2]))
+
+
+Pair = tuple[palette.Colour, palette.Colour]
+
+
+def _pairs(colours: Sequence[palette.Colour], rows: Any) -> Iterator[Pair]:
+    """The colours of the upper and the lower pixel of each character."""
+    upper, lower = rows
+    return zip((colours[index] for index in upper), (colours[index] for index in lower))
+
+
+def _coloured(pairs: Iterator[Pair]) -> str:
+    """Half blocks: the upper pixel is the character's colour, the lower one its background."""
+    parts, last = [], None
+    for pair in pairs:
+        if pair != last:
+            upper, lower = (";".join(map(str, part)) for part in pair)
+            parts.append(f"\x1b[38;2;{upper};48;2;{lower}m")
+            last = pair
+        parts.append("▀")
+    return "".join(parts) + "\x1b[0m"
+
+
+def _plain(pairs: Iterator[Pair]) -> str:
+    return "".join(" ▄▀█"[2 * _is_dark(upper) + _is_dark(lower)] for upper, lower in pairs)
+
+
+def _is_dark(colour: palette.Colour) -> bool:
+    return sum(colour) < 480

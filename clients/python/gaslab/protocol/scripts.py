@@ -1,0 +1,128 @@
+"""Scripts as people write them: several commands a line, `#` comments, `repeat`, and a size.
+
+    size 128 64                      # width and height, before the commands
+    repeat 30 { step 100; ledger }   # thirty times two commands
+
+A laboratory knows none of these. What comes out of `Script.commands` is one command after another.
+"""
+from __future__ import annotations
+
+import sys
+from collections.abc import Iterator
+from typing import Any, NamedTuple, Optional
+
+from .commands import SIDES
+from .doors import PathLike
+from .sending import lines_of
+
+__all__ = ["Script", "is_open", "parse_script", "read_script", "read_text"]
+
+_LONGEST = 2 ** 27  # bytes; the longest journal as a script has less
+_DEEPEST = 20
+
+Tokens = list[tuple[int, str]]
+
+
+class Script(NamedTuple):
+    """The size that a script names, if it does, and its parts.
+
+    A part is a line number with a command, or with a count and the parts that are repeated.
+    """
+
+    size: Optional[tuple[int, int]]
+    parts: list[Any]
+
+    def commands(self) -> Iterator[tuple[int, str]]:
+        """The commands with their line numbers from 1, with each `repeat` carried out."""
+        return _unrolled(self.parts)
+
+
+def read_script(path: PathLike) -> Script:
+    """The script in a file; "-" is standard input. Raises `ValueError` if it is none."""
+    return parse_script(read_text(path))
+
+
+def parse_script(text: str) -> Script:
+    """The script that a text is. Raises `ValueError`, with the line, if it is none."""
+    tokens = _tokens(text)[::-1]
+    size = _size(*tokens.pop()) if tokens and tokens[-1][1].split(" ")[0] == "size" else None
+    parts = _parts(tokens, 0)
+    if tokens:
+        raise ValueError(f"line {tokens[-1][0]}: there is a }} without its {{")
+    return Script(size, parts)
+
+
+def is_open(text: str) -> bool:
+    """Whether a brace is still open, so that more lines belong to the text."""
+    words = [word for _, word in _tokens(text)]
+    return words.count("{") > words.count("}")
+
+
+def _tokens(text: str) -> Tokens:
+    """Commands and braces, each with its line."""
+    found = []
+    for place, line in enumerate(lines_of(text), 1):
+        line = line.partition("#")[0].replace("{", ";{;").replace("}", ";};")
+        found += [(place, " ".join(part.split())) for part in line.split(";")]
+    return [(place, word) for place, word in found if word]
+
+
+def _size(place: int, command: str) -> tuple[int, int]:
+    sides = [int(word) for word in command.split(" ")[1:] if word in map(str, SIDES)]
+    if len(sides) != 2 or len(command.split(" ")) != 3:
+        raise ValueError(f"line {place}: size takes width and height, multiples of 64 from 64 to "
+                         "4,096")
+    return sides[0], sides[1]
+
+
+def _parts(tokens: Tokens, depth: int) -> list[Any]:
+    parts: list[Any] = []
+    while tokens and tokens[-1][1] != "}":
+        place, command = tokens.pop()
+        word, *rest = command.split(" ")
+        if word == "size":
+            raise ValueError(f"line {place}: size comes once, before the commands")
+        if command == "{" or depth > _DEEPEST:
+            raise ValueError(f"line {place}: a {{ comes after `repeat N`, {_DEEPEST} deep at most")
+        parts.append((place, *_repeat(place, rest, tokens, depth)) if word == "repeat"
+                     else (place, command))
+    return parts
+
+
+def _repeat(place: int, words: list[str], tokens: Tokens, depth: int) -> tuple[int, list[Any]]:
+    """How often, and what."""
+    number = "".join(words)
+    if len(words) != 1 or not number.isascii() or not number.isdecimal() or len(number) > 10:
+        raise ValueError(f"line {place}: repeat takes a number, as in repeat 30 {{ step 100 }}")
+    if not tokens or tokens.pop()[1] != "{":
+        raise ValueError(f"line {place}: a {{ is missing after `repeat {number}`")
+    parts = _parts(tokens, depth + 1)
+    if not tokens:
+        raise ValueError(f"line {place}: the {{ of `repeat {number}` is not closed")
+    tokens.pop()
+    return int(number), parts
+
+
+def _unrolled(parts: list[Any]) -> Iterator[tuple[int, str]]:
+    for place, what, *inner in parts:
+        if inner:
+            for _ in range(what):
+                yield from _unrolled(inner[0])
+        else:
+            yield place, what
+
+
+def read_text(path: PathLike) -> str:
+    """The text of a file; "-" is standard input. Raises `ValueError` if it is no text."""
+    if path == "-":
+        data = getattr(sys.stdin, "buffer", sys.stdin).read(_LONGEST + 1)
+    else:
+        with open(path, "rb") as file:
+            data = file.read(_LONGEST + 1)
+    if len(data) > _LONGEST:
+        raise ValueError(f"{path}: a script has at most {_LONGEST:,} bytes")
+    try:
+        return data if isinstance(data, str) else data.decode()
+    except UnicodeDecodeError as fault:
+        place = data.count(b"\n", 0, fault.start) + 1
+        raise ValueError(f"{path}: line {place} is not UTF-8") from None

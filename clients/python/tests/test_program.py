@@ -1,0 +1,134 @@
+"""The program that is started: which it is, whether it is built, and what is left of it."""
+import os
+import signal
+import subprocess
+import sys
+import tempfile
+import time
+import unittest
+from pathlib import Path
+from unittest import mock
+
+from gaslab import Lab, Tally, Unreachable
+
+from .test_lab import STAND_IN
+
+CLIENT = Path(__file__).resolve().parents[1]
+
+
+class WhichProgram(unittest.TestCase):
+    def setUp(self):
+        room = tempfile.TemporaryDirectory()
+        self.addCleanup(room.cleanup)
+        self.room = Path(room.name)
+        environment = mock.patch.dict(os.environ)
+        environment.start()
+        self.addCleanup(environment.stop)
+        os.environ.pop("GASLAB_PROGRAM", None)
+
+    def script(self, status, folder="crates/gaslab_program"):
+        """A script `gaslab` as in a repository, which says this status and else is the stand-in."""
+        (self.room / folder).mkdir(parents=True, exist_ok=True)
+        script = self.room / "gaslab"
+        script.write_text(f'#!/bin/sh\nif [ "$1" = --is-built ]; then echo so; exit {status}; fi\n'
+                          f'exec {sys.executable} {STAND_IN} "$@"\n')
+        script.chmod(0o755)
+        return script
+
+    def own(self):
+        return mock.patch("gaslab.protocol.doors._ROOT", self.room)
+
+    def test_the_one_of_the_repository(self):
+        self.script(0)
+        with self.own(), Lab.run() as lab:
+            self.assertEqual(lab.tally(), Tally(0, 0, 0, 0))
+
+    def test_a_missing_or_stale_build_is_said_at_once(self):
+        for status, what in ((1, "was built from other sources"), (2, "is not built"),
+                             (3, "does not say whether it is built")):
+            script = self.script(status)
+            for options in ({}, {"program": script}):
+                began = time.monotonic()
+                with self.own(), self.assertRaises(Unreachable) as caught:
+                    Lab.run(**options)
+                self.assertLess(time.monotonic() - began, 2)
+                self.assertEqual(str(caught.exception),
+                                 f"the program {what}: run ./gaslab --build in {self.room}, or name "
+                                 "another program by GASLAB_PROGRAM or program= (--program)")
+
+    def test_a_named_one_needs_no_build(self):
+        self.script(2)
+        with self.own(), Lab.run(program=STAND_IN) as lab:
+            self.assertEqual(lab.tally(), Tally(0, 0, 0, 0))
+        os.environ["GASLAB_PROGRAM"] = str(STAND_IN)
+        with self.own(), Lab.run() as lab:
+            self.assertEqual(lab.tally(), Tally(0, 0, 0, 0))
+
+    def test_an_installed_one_is_found_on_the_path(self):
+        self.script(1, folder="share")
+        os.environ["PATH"] = f"{self.room}:{os.environ['PATH']}"
+        with mock.patch("gaslab.protocol.doors._ROOT", self.room / "nothing"), Lab.run() as lab:
+            self.assertEqual(lab.tally(), Tally(0, 0, 0, 0))
+
+    def test_none_at_all(self):
+        os.environ["PATH"] = str(self.room)
+        with mock.patch("gaslab.protocol.doors._ROOT", self.room):
+            self.assertRaisesRegex(Unreachable, "set GASLAB_PROGRAM", Lab.run)
+
+
+ENDLESS = """
+import sys
+sys.path.insert(0, {client!r})
+from gaslab import Lab
+lab = Lab.run(save=True, program={program!r})
+print(lab._door.shelf, lab._door._process.pid, flush=True)
+lab.put(0, 0, 1, 1), lab.save()
+print("saved", flush=True)
+sys.stdin.read()
+"""
+
+
+class WhatIsLeft(unittest.TestCase):
+    """The child and its files are gone after the client was killed, by any signal."""
+
+    def setUp(self):
+        room = tempfile.TemporaryDirectory()
+        self.addCleanup(room.cleanup)
+        self.environment = {**os.environ, "TMPDIR": room.name}
+        self.room = room.name
+
+    def wait_for_nothing(self, is_alive):
+        deadline = time.monotonic() + 20
+        while os.listdir(self.room) or is_alive():
+            self.assertLess(time.monotonic(), deadline, (os.listdir(self.room), is_alive()))
+            time.sleep(0.05)
+
+    def test_of_a_laboratory(self):
+        text = ENDLESS.format(client=str(CLIENT), program=str(STAND_IN))
+        for number in (signal.SIGTERM, signal.SIGHUP, signal.SIGKILL):
+            with subprocess.Popen([sys.executable, "-c", text], env=self.environment, text=True,
+                                  stdin=subprocess.PIPE, stdout=subprocess.PIPE) as client:
+                shelf, child = client.stdout.readline().split()
+                self.assertEqual(client.stdout.readline(), "saved\n")
+                self.assertTrue(os.path.exists(shelf))
+                client.send_signal(number)
+                self.assertEqual(client.wait(20), -number)
+                self.wait_for_nothing(lambda: Path("/proc", child).exists())
+
+    def test_of_the_command_line(self):
+        """The stand-in is in a long sleep, so only a signal ends it."""
+        program = Path(self.room, "program")
+        for number in (signal.SIGTERM, signal.SIGHUP):
+            program.write_text("#!/bin/sh\nread line; echo $$ >&2; echo TALLY 0 0 0 0\nsleep 99\n")
+            program.chmod(0o755)
+            words = [sys.executable, str(CLIENT), "table", "--program", str(program)]
+            with subprocess.Popen(words, env=self.environment, stdout=subprocess.PIPE,
+                                  stderr=subprocess.PIPE, text=True) as client:
+                time.sleep(1)
+                children = Path(f"/proc/{client.pid}/task/{client.pid}/children").read_text().split()
+                self.assertEqual(len(children), 1)
+                client.send_signal(number)
+                out, errors = client.communicate(timeout=20)
+                self.assertEqual((client.returncode, out, errors), (128 + number, "", ""))
+                program.unlink()
+                self.wait_for_nothing(lambda: Path("/proc", children[0]).exists())
