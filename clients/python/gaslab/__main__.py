@@ -1,6 +1,4 @@
 """The command line: `gaslab-client WORD ..`, or `python3 clients/python WORD ..`."""
-from __future__ import annotations
-
 import argparse
 import os
 import signal
@@ -8,127 +6,62 @@ import sys
 from collections.abc import Callable, Sequence
 from typing import Any, Optional
 
-from .cli import watch, words
-from .cli.options import add_address, add_looks, add_size, add_sources, whole
+from .cli import options, words
 from .protocol.errors import GaslabError, printable
 
-__all__ = ["main"]
+SOURCES, LOOKS = options.GROUPS
 
-Run = Callable[[argparse.Namespace], int]
-Fill = Callable[[argparse.ArgumentParser], None]
-
-_MOST = 10 ** 9
-
-
-def _fill_draw(parser: argparse.ArgumentParser) -> None:
-    parser.add_argument("-o", "--output", metavar="PATH",
-                        help="a file that ends in .png or .gif; without it, drawn here")
-    add_sources(parser)
-    add_looks(parser)
-
-
-def _fill_film(parser: argparse.ArgumentParser) -> None:
-    parser.add_argument("-o", "--output", metavar="PATH", required=True,
-                        help="a file that ends in .png, .apng or .gif")
-    parser.add_argument("--steps", type=whole(-_MOST, _MOST), default=1,
-                        help="steps between two frames (1)")
-    parser.add_argument("--frames", type=whole(1, _MOST), default=50, help="how many frames (50)")
-    parser.add_argument("--milliseconds", type=whole(1, 65535), default=100,
-                        help="for each frame (100)")
-    add_sources(parser)
-    add_looks(parser)
-
-
-def _fill_table(parser: argparse.ArgumentParser) -> None:
-    parser.add_argument("--steps", type=whole(-_MOST, _MOST), default=100,
-                        help="steps before each row (100)")
-    parser.add_argument("--times", type=whole(1, _MOST), default=30, help="how many rows (30)")
-    parser.add_argument("--no-ledger", action="store_true", help="without the thirteen accounts")
-    parser.add_argument("--probe", action="append", default=[], metavar="NAME=x,y,w,h",
-                        type=words.probe, help="a rectangle to probe; may be given several times")
-    parser.add_argument("--columns", metavar="NAME,NAME,..", help="only these columns (all)")
-    parser.add_argument("--chart", metavar="PATH", help="also write a chart over the tick, a file "
-                        "that ends in .svg, .png or .pdf")
-    parser.add_argument("--column", action="append", metavar="NAME",
-                        help="a column of the chart (d_obstacles_x)")
-    add_sources(parser)
-
-
-def _fill_profile(parser: argparse.ArgumentParser) -> None:
-    parser.add_argument("--along", choices=("x", "y"), default="x", help="columns or rows (x)")
-    parser.add_argument("--bins", type=whole(1, 4096),
-                        help="how many rows the table has (one a column)")
-    add_sources(parser)
-
-
-def _fill_random(parser: argparse.ArgumentParser) -> None:
-    add_size(parser, 64)
-    parser.add_argument("--density", type=float, default=0.5, help="particles in a cell (0.5)")
-    parser.add_argument("--drift", type=float, default=0.0, help="mean velocity to the right (0)")
-    parser.add_argument("--drift-down", type=float, default=0.0, help="and downwards (0)")
-    parser.add_argument("--seed", type=whole(0, 2 ** 32 - 1),
-                        help="the same seed gives the same gas")
-
-
-def _fill_show(parser: argparse.ArgumentParser) -> None:
-    parser.add_argument("file", metavar="FILE", help="a snapshot, as the command save writes it")
-    parser.add_argument("--script", action="store_true",
-                        help="the commands alone, without comments, as ./gaslab run reads them")
-
-
-def _fill_nothing(parser: argparse.ArgumentParser) -> None:
-    pass
-
-
-WORDS: dict[str, tuple[Run, Fill, str, str]] = {
-    "shell": (words.shell, add_sources, "a prompt for commands, with pictures",
+WORDS: dict[str, tuple[Callable[..., Optional[int]], str, tuple[str, ...], str, str]] = {
+    "shell": (words.shell, "", (SOURCES,), "a prompt for commands, with pictures",
               "PROGRAM shell --width 128 --height 64"),
-    "draw": (words.draw, _fill_draw, "a picture of a gas, as a file or here",
+    "draw": (words.draw, "--output", (SOURCES, LOOKS), "a picture of a gas, as a file or here",
              "PROGRAM draw examples/4_tunnel.txt -o tunnel.png --mean 4"),
-    "film": (words.film_word, _fill_film, "a film of a gas, a GIF or an animated PNG",
+    "film": (words.film_word, "--output! --steps --frames --milliseconds", (SOURCES, LOOKS),
+             "a film of a gas, a GIF or an animated PNG",
              "PROGRAM film examples/4_tunnel.txt -o tunnel.gif --steps 2 --frames 50"),
-    "table": (words.table, _fill_table, "a table over time, as CSV",
+    "table": (words.table, "--steps --times --no-ledger --probe --columns --chart --column",
+              (SOURCES,), "a table over time, as CSV",
               "PROGRAM table examples/4_tunnel.txt --steps 100 --times 30 "
               "--probe front=20,28,8,8 --chart drag.svg"),
-    "profile": (words.profile_word, _fill_profile, "a table over columns or rows, as CSV",
+    "profile": (words.profile_word, "--along --bins", (SOURCES,),
+                "a table over columns or rows, as CSV",
                 "PROGRAM profile examples/4_tunnel.txt --along x --bins 8"),
-    "random": (words.random_word, _fill_random, "a random gas, as lines for ./gaslab run",
+    "random": (words.random_word, "--width --height --density --drift --drift-down --seed", (),
+               "a random gas, as lines for ./gaslab run",
                "PROGRAM random --density 0.3 --drift 0.2 --seed 1 | ./gaslab run"),
-    "show": (words.show, _fill_show, "what is in a snapshot, and its walls as a script",
-             "PROGRAM show day.gas"),
-    "journal": (words.journal, add_address, "the journal of a running server, as a script",
+    "show": (words.show, "snapshot --script", (),
+             "what is in a snapshot, and its walls as a script", "PROGRAM show day.gas"),
+    "journal": (words.journal, "host port --timeout", (),
+                "the journal of a running server, as a script",
                 "PROGRAM journal 127.0.0.1 7878 > journal.txt"),
-    "rows": (words.rows, _fill_nothing, "draws the rows among replies as dots and marks",
+    "rows": (words.rows, "", (), "draws the rows among replies as dots and marks",
              "./gaslab run < examples/2_blocks.txt | PROGRAM rows"),
-    "watch": (watch.run, watch.fill, "shows the gas of a server, here or as a page",
+    "watch": (words.watch, "host port --timeout --seconds --times --mean --colour --page "
+              "--page-port --load", (), "shows the gas of a server, here or as a page",
               "PROGRAM watch 127.0.0.1 7878 --page"),
 }
-"""Each word: what runs it, what its options are, what it is for, and an example."""
-
-
-def _program() -> str:
-    """How this program was called, for its help."""
-    name = os.path.basename(sys.argv[0])
-    return name if name == "gaslab-client" else "python3 clients/python"
+"""Each word: what runs it, its options, groups of options, what it is for, and an example."""
 
 
 def parser() -> argparse.ArgumentParser:
     """The parser of the command line."""
-    program = _program()
-    whole_line = argparse.ArgumentParser(
+    name = os.path.basename(sys.argv[0])
+    program = name if name == "gaslab-client" else "python3 clients/python"
+    whole = argparse.ArgumentParser(
         prog=program, description="A client for gaslab. It proves nothing: what is proved is the "
         "program that it talks to, GASLAB_PROGRAM or else ./gaslab of the repository.",
         epilog="WORD --help lists the options of a word, with an example for the top of the "
         "repository.")
-    words_of = whole_line.add_subparsers(dest="word", metavar="WORD", required=True)
-    for name, (run, fill, what, example) in WORDS.items():
-        part = words_of.add_parser(
-            name, help=what, description=what[0].upper() + what[1:] + ".",
-            epilog="example:\n  " + example.replace("PROGRAM", program),
-            formatter_class=argparse.RawDescriptionHelpFormatter)
-        fill(part)
+    parts = whole.add_subparsers(dest="word", metavar="WORD", required=True)
+    for word, (run, names, groups, what, example) in WORDS.items():
+        part = parts.add_parser(word, help=what, description=what[0].upper() + what[1:] + ".",
+                                epilog="example:\n  " + example.replace("PROGRAM", program),
+                                formatter_class=argparse.RawDescriptionHelpFormatter)
+        options.add(part, names)
+        for title in groups:
+            options.add(part.add_argument_group(title), options.GROUPS[title])
         part.set_defaults(run=run)
-    return whole_line
+    return whole
 
 
 def _leave(number: int, _: Any) -> None:
@@ -143,9 +76,9 @@ def main(arguments: Optional[Sequence[str]] = None) -> int:
         if signal.getsignal(number) == signal.SIG_DFL:
             signal.signal(number, _leave)
     try:
-        status: int = asked.run(asked)
+        status = asked.run(asked)
         sys.stdout.flush()
-        return status
+        return status or 0
     except BrokenPipeError:
         os.dup2(os.open(os.devnull, os.O_WRONLY), sys.stdout.fileno())
         return 1

@@ -7,6 +7,7 @@ import signal
 import subprocess
 import sys
 import tempfile
+import time
 import unittest
 from pathlib import Path
 from unittest import mock
@@ -279,6 +280,7 @@ class Interrupts(unittest.TestCase):
         os.write(terminal, b"\x03")
         until(b"stopped")
         until(b"gas> ")
+        time.sleep(0.5)  # until the prompt waits for a key
         os.write(terminal, b"step\x03")
         until(b"gas> ")
         os.write(terminal, b"unport\n")
@@ -305,8 +307,8 @@ class Words(unittest.TestCase):
         for word in WORDS:
             status, out, _ = said(word, "--help")
             self.assertEqual(status, 0)
-            self.assertIn(f"PROGRAM {word}", WORDS[word][3])
-            example = WORDS[word][3].replace("PROGRAM", "python3 clients/python")
+            self.assertIn(f"PROGRAM {word}", WORDS[word][4])
+            example = WORDS[word][4].replace("PROGRAM", "python3 clients/python")
             self.assertIn(f"example:\n  {example}", out)
             with mock.patch("sys.argv", ["/usr/bin/gaslab-client"]):
                 self.assertIn(f"gaslab-client {word}", said(word, "--help")[1])

@@ -1,12 +1,10 @@
-"""Options that several words of the command line share, and how they find their gas."""
-from __future__ import annotations
-
+"""The options of the command line, and how words find their gas by them."""
 import argparse
 import math
 from collections.abc import Callable, Iterator
 from contextlib import contextmanager
 from itertools import takewhile
-from typing import Optional, Union
+from typing import Any, Optional, Union
 
 from ..lab.lab import Lab
 from ..pictures.pixels import COLOURS
@@ -14,24 +12,19 @@ from ..protocol.commands import MOST_ENTRIES, SIDES
 from ..protocol.scripts import Script, read_script
 from ..snapshot.files import Snapshot
 
-__all__ = ["add_address", "add_looks", "add_mean", "add_size", "add_sources", "gas_of", "lab_of",
-           "port", "seconds", "whole"]
+_MOST = 10 ** 9
 
 
 def whole(least: int, most: int) -> Callable[[str], int]:
     """The type of an option that is a whole number in a range."""
     def number(text: str) -> int:
-        """The number, or the fault that argparse shows."""
-        if len(text) > 20 or not text.lstrip("-").isascii() or not text.lstrip("-").isdecimal() \
+        digits = text[1:] if text[:1] == "-" else text
+        if not digits.isascii() or not digits.isdecimal() or len(text) > 20 \
                 or not least <= int(text) <= most:
             raise argparse.ArgumentTypeError(f"a whole number from {least:,} to {most:,}: not "
                                              f"{text[:40]!r}")
         return int(text)
     return number
-
-
-port = whole(0, 65535)
-"""The type of a port."""
 
 
 def seconds(text: str) -> float:
@@ -45,72 +38,100 @@ def seconds(text: str) -> float:
     return number
 
 
-def _side(text: str) -> int:
-    if not text.isascii() or not text.isdecimal() or len(text) > 9 or int(text) not in SIDES:
+def side(text: str) -> int:
+    """The type of a width or a height."""
+    if text not in map(str, SIDES):
         raise argparse.ArgumentTypeError("sides are multiples of 64 from 64 to 4,096: not "
                                          f"{text[:40]!r}")
     return int(text)
 
 
-def _address(text: str) -> tuple[str, int]:
+def address(text: str) -> tuple[str, int]:
+    """The type of the option --join."""
     host, _, number = text.rpartition(":")
     if not host:
         raise argparse.ArgumentTypeError(f"HOST:PORT: not {text[:40]!r}")
-    return host.strip("[]"), port(number)
+    return host.strip("[]"), whole(0, 65535)(number)
 
 
-def add_size(parser: argparse._ActionsContainer, default: Optional[int] = None) -> None:
-    """Width and height."""
-    for name in ("width", "height"):
-        parser.add_argument(f"--{name}", type=_side, default=default,
-                            help="cells, a multiple of 64 (64)")
+def probe(text: str) -> tuple[str, tuple[int, ...]]:
+    """The type of the option --probe."""
+    name, _, area = text.partition("=")
+    numbers = tuple(whole(0, 4096)(number) for number in area.split(","))
+    if not name or len(numbers) != 4:
+        raise argparse.ArgumentTypeError(f"NAME=x,y,w,h: not {text[:40]!r}")
+    return name, numbers
 
 
-def add_sources(parser: argparse.ArgumentParser) -> None:
-    """Where the gas comes from: a script, a snapshot, or a server."""
-    group = parser.add_argument_group("where the gas comes from")
-    group.add_argument("file", nargs="?", metavar="FILE",
-                       help="a script that is run first, or a snapshot; - is standard input")
-    group.add_argument("--join", metavar="HOST:PORT", type=_address,
-                       help="a server that is joined, as a seat")
-    add_size(group)
-    group.add_argument("--workers", type=whole(1, 16), default=1,
-                       help="threads of the program (1)")
-    group.add_argument("--cap", type=whole(1, MOST_ENTRIES), default=MOST_ENTRIES,
-                       help="how many changes the journal has room for (65536)")
-    group.add_argument("--load", metavar="PATH",
-                       help="the snapshot to start from, or that the joined server started from")
-    group.add_argument("--save", metavar="PATH", help="the file that the command save writes")
-    group.add_argument("--program", metavar="PATH",
-                       help="another program than GASLAB_PROGRAM or ./gaslab")
-    group.add_argument("--timeout", type=seconds, default=60.0, help="seconds for a reply (60)")
+OPTIONS: dict[str, dict[str, Any]] = {
+    "host": dict(help="where the server runs, such as 127.0.0.1"),
+    "port": dict(type=whole(0, 65535), help="the number that it listens at"),
+    "file": dict(nargs="?", help="a script that is run first, or a snapshot; - is standard input"),
+    "snapshot": dict(help="a snapshot, as the command save writes it"),
+    "--script": dict(action="store_true",
+                     help="the commands alone, without comments, as ./gaslab run reads them"),
+    "--join": dict(metavar="HOST:PORT", type=address,
+                   help="a server that is joined, as a seat"),
+    "--width": dict(type=side, help="cells, a multiple of 64 (64, or the script's)"),
+    "--height": dict(type=side, help="cells, a multiple of 64 (64, or the script's)"),
+    "--workers": dict(type=whole(1, 16), default=1, help="threads of the program (1)"),
+    "--cap": dict(type=whole(1, MOST_ENTRIES), default=MOST_ENTRIES,
+                  help="how many changes the journal has room for (65536)"),
+    "--load": dict(metavar="PATH",
+                   help="the snapshot to start from, or that the joined server started from"),
+    "--save": dict(metavar="PATH", help="the file that the command save writes"),
+    "--program": dict(metavar="PATH", help="another program than GASLAB_PROGRAM or ./gaslab"),
+    "--timeout": dict(type=seconds, default=60.0, help="seconds for a reply (60)"),
+    "--scale": dict(type=whole(1, 64), help="pixels for each cell's side (some 600 in all)"),
+    "--mean": dict(type=whole(1, 64), metavar="N",
+                   help="show the density in squares of N by N cells"),
+    "--colour": dict(choices=COLOURS, default="kind",
+                     help="what the colour of a particle shows (kind)"),
+    "--output": dict(metavar="PATH", help="a file that ends in .png or .gif (drawn here)"),
+    "--output!": dict(metavar="PATH", required=True,
+                      help="a file that ends in .png, .apng or .gif"),
+    "--steps": dict(type=whole(-_MOST, _MOST), default=1,
+                    help="steps before each frame or row; backwards if negative (1)"),
+    "--frames": dict(type=whole(1, _MOST), default=50, help="how many frames (50)"),
+    "--milliseconds": dict(type=whole(1, 65535), default=100, help="for each frame (100)"),
+    "--times": dict(type=whole(1, _MOST), help="how many rows (30) or looks (without end)"),
+    "--no-ledger": dict(action="store_true", help="without the thirteen accounts"),
+    "--probe": dict(action="append", default=[], metavar="NAME=x,y,w,h", type=probe,
+                    help="a rectangle to probe; may be given several times"),
+    "--columns": dict(metavar="NAME,NAME,..", help="only these columns (all)"),
+    "--chart": dict(metavar="PATH", help="also write a chart over the tick: .svg, .png or .pdf"),
+    "--column": dict(action="append", metavar="NAME",
+                     help="a column of the chart (d_obstacles_x)"),
+    "--along": dict(choices=("x", "y"), default="x", help="columns or rows (x)"),
+    "--bins": dict(type=whole(1, 4096), help="how many rows the table has (one a column)"),
+    "--density": dict(type=float, default=0.5, help="particles in a cell (0.5)"),
+    "--drift": dict(type=float, default=0.0, help="mean velocity to the right (0)"),
+    "--drift-down": dict(type=float, default=0.0, help="and downwards (0)"),
+    "--seed": dict(type=whole(0, 2 ** 32 - 1), help="the same seed gives the same gas"),
+    "--seconds": dict(type=seconds, default=0.25, help="between two looks (0.25)"),
+    "--page": dict(action="store_true",
+                   help="a page on 127.0.0.1 instead, for a browser on this machine"),
+    "--page-port": dict(type=whole(0, 65535), default=0, help="the page's port (any)"),
+}
+"""Each argument and option, as argparse takes it."""
+
+GROUPS = {
+    "where the gas comes from": "file --join --width --height --workers --cap --load --save "
+                                "--program --timeout",
+    "how it looks": "--scale --mean --colour",
+}
+"""Options that belong together."""
 
 
-def add_mean(group: argparse._ActionsContainer) -> None:
-    """What a pixel shows."""
-    group.add_argument("--mean", type=whole(1, 64), metavar="N",
-                       help="show the density in squares of N by N cells")
-    group.add_argument("--colour", choices=COLOURS, default="kind",
-                       help="what the colour of a particle shows (kind)")
-
-
-def add_looks(parser: argparse.ArgumentParser) -> None:
-    """How a picture looks."""
-    group = parser.add_argument_group("how it looks")
-    group.add_argument("--scale", type=whole(1, 64), default=None,
-                       help="pixels for each cell's side (some 600 pixels in all)")
-    add_mean(group)
-
-
-def add_address(parser: argparse.ArgumentParser) -> None:
-    """A running server."""
-    parser.add_argument("host", metavar="HOST", help="where the server runs, such as 127.0.0.1")
-    parser.add_argument("port", metavar="PORT", type=port, help="the number that it listens at")
-    parser.add_argument("--timeout", type=seconds, default=60.0, help="seconds for a reply (60)")
+def add(parser: argparse._ActionsContainer, names: str) -> None:
+    """Adds options by their names in the table."""
+    for name in names.split():
+        flags = ["-o", "--output"] if name.startswith("--output") else [name]
+        metavar = {} if name.startswith("-") else {"metavar": name.upper()}
+        parser.add_argument(*flags, **metavar, **OPTIONS[name])
 
 
 def _is_snapshot(path: Optional[str]) -> bool:
-    """Whether a file begins as snapshots do."""
     if path is None or path == "-":
         return False
     with open(path, "rb") as file:
@@ -120,23 +141,22 @@ def _is_snapshot(path: Optional[str]) -> bool:
 @contextmanager
 def lab_of(asked: argparse.Namespace) -> Iterator[Lab]:
     """The laboratory that the options name, after the script."""
-    load, script = asked.load, None
+    load, script = asked.load, Script(None, [])
     if _is_snapshot(asked.file):
         load = asked.file
     elif asked.file:
-        script = read_script(asked.file)
-        parts = takewhile(lambda part: part[1] != "quit", script.parts)  # it would end all
-        script = Script(script.size, list(parts))
+        size, parts = read_script(asked.file)
+        # a line `quit` would end the session
+        script = Script(size, list(takewhile(lambda part: part[1] != "quit", parts)))
     if asked.join:
         start = Snapshot.read(load) if load else None
         lab = Lab.join(*asked.join, timeout=asked.timeout, start=start)
     else:
-        width, height = script.size if script and script.size else (64, 64)
+        width, height = script.size or (64, 64)
         lab = Lab.run(asked.width or width, asked.height or height, asked.workers, asked.cap, load,
                       asked.save, asked.program, asked.timeout)
     with lab:
-        if script:
-            lab.play(script)
+        lab.play(script)
         yield lab
 
 

@@ -1,9 +1,6 @@
 """The shell: a prompt for commands, with names in the replies and the limit beside each `ERR`."""
-from __future__ import annotations
-
 import inspect
 import os
-import shutil
 import signal
 import sys
 from collections.abc import Callable, Iterator
@@ -15,11 +12,10 @@ from ..lab.lab import Lab
 from ..measure.tables import csv_text
 from ..pictures import picture, text_picture
 from ..protocol.commands import COMMANDS
-from ..protocol.errors import (GaslabError, Gone, LIMITS, REFUSALS, Refused, Strange, printable)
+from ..protocol.errors import GaslabError, Gone, LIMITS, REFUSALS, Refused, Strange, printable
 from ..protocol.replies import Bye, Reply, named, reply_text
 from ..protocol.scripts import Script, is_open, parse_script, read_script
-
-__all__ = ["Shell", "columns", "help_text", "prompted"]
+from .terminal import columns
 
 WORDS = {
     "run": ("n", "makes n steps in commands of 64 and tells how far it is; -n goes back"),
@@ -155,7 +151,7 @@ class Shell:
         self._say(csv_text(trace(self.lab, int(steps))).rstrip("\n"))
 
     def _draw(self, colour: str = "kind") -> None:
-        self._say(text_picture(self.lab, columns(self.out), self.coloured, colour))
+        self._say(text_picture(self.lab, columns(), self.coloured, colour))
 
     def _picture(self, path: str) -> None:
         picture(self.lab, path)
@@ -170,11 +166,6 @@ class Shell:
         if not isinstance(what, str):
             what = named(what) if self.with_names else reply_text(what)
         print(what, file=self.out, flush=True)
-
-
-def columns(out: TextIO) -> int:
-    """How many characters a line of the terminal has, or 128 if there is no terminal."""
-    return shutil.get_terminal_size((128, 0)).columns if out.isatty() else 128
 
 
 def prompted(history: Optional[str]) -> Iterator[str]:

@@ -1,6 +1,4 @@
 """Looks at a gas again and again, and keeps the last look for the page."""
-from __future__ import annotations
-
 import base64
 import threading
 import time
@@ -11,8 +9,6 @@ from ..measure.measuring import sums_of
 from ..pictures.drawing import plain_png
 from ..protocol.errors import GaslabError, Gone, Moving, Silent, printable
 from ..snapshot.files import Snapshot
-
-__all__ = ["Looker"]
 
 _LAST = 8  # entries that are shown
 _BURST = 64  # rows that are read at once
@@ -28,11 +24,8 @@ class Looker:
     page has asked for a few seconds, and while the journal does not grow, no row is read.
     """
 
-    def __init__(self, lab: Lab, seconds: float, mean: Optional[int] = None,
-                 colour: str = "kind") -> None:
-        self.lab = lab
-        self.mean, self.colour = mean, colour
-        self.seconds = seconds
+    def __init__(self, lab: Lab, seconds: float, mean: Optional[int], colour: str) -> None:
+        self.lab, self.seconds, self.mean, self.colour = lab, seconds, mean, colour
         self.has_stopped = threading.Event()
         self._lock = threading.Lock()
         self._asked_at = time.monotonic()
@@ -59,53 +52,45 @@ class Looker:
             self.has_stopped.wait(max(self.seconds - took, _SHARE * took, 0.02))
 
     def _try_to_look(self) -> None:
+        status, message = "live", ""
         try:
             self._look()
         except Moving:
-            self._tell("moving", "Others change the gas all the time: this is an older look.")
+            status, message = "moving", "Others change the gas all the time: this is an older look."
         except Silent:
-            self._tell("silent", "The server does not answer: this is an older look.")
+            status, message = "silent", "The server does not answer: this is an older look."
         except Gone:
-            self._tell("ended", "The server has ended: this is the last look.")
-            self.has_stopped.wait()
+            status, message = "ended", "The server has ended: this is the last look."
         except (GaslabError, OSError, ValueError, MemoryError) as fault:
-            self._tell("ended", "The server cannot be read: this is the last look. "
+            status = "ended"
+            message = ("The server cannot be read: this is the last look. "
                        + printable(str(fault)))
-            self.has_stopped.wait()
-
-    def _tell(self, status: str, message: str) -> None:
         with self._lock:
             self._state.update(status=status, message=message)
+        if status == "ended":
+            self.has_stopped.wait()
 
     def _look(self) -> None:
         if len(self.lab.journal()) == self._entries:
-            self._tell("live", "")
             return
         began = time.monotonic()
         gas = self.lab.look(tries=5, burst=_BURST)
         took = time.monotonic() - began
         entries = self.lab.known
-        mean = self.mean or (_mean_of(gas) if self.colour == "kind" else None)
-        png = plain_png(gas, mean, self.colour)
-        state = {"status": "live", "message": "", "width": gas.width, "height": gas.height,
-                 "milliseconds": round(1000 * took, 1), "burst": _BURST,
-                 "longest": round(1000 * max(self.lab.bursts, default=took), 1),
-                 "entries": _last(entries), **sums_of(gas)._asdict()}
+        png = plain_png(gas, self._mean_of(gas), self.colour)
+        state = {"width": gas.width, "height": gas.height, "milliseconds": round(1000 * took, 1),
+                 "burst": _BURST, "longest": round(1000 * max(self.lab.bursts, default=took), 1),
+                 "entries": [{"k": k, **entries[k]._asdict()} for k in
+                             range(len(entries) - 1, max(-1, len(entries) - 1 - _LAST), -1)],
+                 **sums_of(gas)._asdict()}
         with self._lock:
-            self._state = {"look": self._state["look"] + 1, **state}
+            self._state.update(state, look=self._state["look"] + 1)
             self._png = png
         self._entries = len(entries)
 
-
-def _mean_of(gas: Snapshot) -> Optional[int]:
-    """Each cell is a pixel, unless there are too many: then squares of cells are."""
-    mean = 1
-    while max(gas.width, gas.height) // mean > _WIDEST:
-        mean *= 2
-    return mean if mean > 1 else None
-
-
-def _last(entries: list[Any]) -> list[dict[str, Any]]:
-    first = max(0, len(entries) - _LAST)
-    return [{"k": first + k, "seat": entry.seat, "command": entry.command}
-            for k, entry in enumerate(entries[first:])][::-1]
+    def _mean_of(self, gas: Snapshot) -> Optional[int]:
+        """Each cell is a pixel, unless there are too many: then squares of cells are."""
+        mean = 1
+        while self.colour == "kind" and max(gas.width, gas.height) // mean > _WIDEST:
+            mean *= 2
+        return self.mean or (mean if mean > 1 else None)

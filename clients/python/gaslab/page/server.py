@@ -1,6 +1,4 @@
-"""Serves the page and its state on 127.0.0.1."""
-from __future__ import annotations
-
+"""The page of `watch --page`: a small server on 127.0.0.1 that only reads the gas."""
 import json
 import threading
 from http.server import BaseHTTPRequestHandler, ThreadingHTTPServer
@@ -11,8 +9,6 @@ from urllib.parse import parse_qs, urlsplit
 from ..lab.lab import Lab
 from .looker import Looker
 
-__all__ = ["Page"]
-
 _FILES = {"/": ("page.html", "text/html"), "/page.js": ("page.js", "text/javascript"),
           "/page.css": ("page.css", "text/css")}
 _RULES = ("default-src 'none'; script-src 'self'; style-src 'self'; img-src data:; "
@@ -20,8 +16,6 @@ _RULES = ("default-src 'none'; script-src 'self'; style-src 'self'; img-src data
 
 
 class _Server(ThreadingHTTPServer):
-    """The server of one page."""
-
     daemon_threads = True
 
     def __init__(self, port: int, looker: Looker) -> None:
@@ -47,55 +41,42 @@ class Page:
         self._thread.start()
         self.address = f"http://127.0.0.1:{self._server.server_address[1]}/"
 
-    def __enter__(self) -> Page:
+    def __enter__(self) -> "Page":
         return self
 
     def __exit__(self, *_: object) -> None:
-        self.close()
-
-    def watch(self) -> None:
-        """Looks at the gas until the page is closed, in this thread."""
-        self.looker.keep_looking()
-
-    def close(self) -> None:
-        """Ends the page."""
         self.looker.has_stopped.set()
         self._server.shutdown()
         self._server.server_close()
         self._thread.join()
+
+    def watch(self) -> None:
+        """Looks at the gas until the page is closed, in this thread."""
+        self.looker.keep_looking()
 
 
 class _Handler(BaseHTTPRequestHandler):
     """Answers GET for the page's files and its state, and nothing else."""
 
     server: _Server
-    server_version = "gaslab"
+    server_version, sys_version = "gaslab", ""
     timeout = 60  # seconds that a browser may be silent
-    sys_version = ""
 
     def do_GET(self) -> None:
         """Answers a request for a file of the page or its state."""
-        found = self._found() if self._is_for_us() else None
+        port = self.server.server_address[1]
+        # pages of others, which have another name for this machine, can't read the gas
+        is_for_us = self.headers.get("Host") in (f"127.0.0.1:{port}", f"localhost:{port}")
+        found = self._found() if is_for_us else None
         kind, body = found or ("text/plain", b"there is nothing here\n")
-        try:
-            self._send(200 if found else 404, kind, body)
-        except ConnectionError:
-            self.close_connection = True  # the browser has left
-
-    def _send(self, status: int, kind: str, body: bytes) -> None:
-        self.send_response(status)
-        self.send_header("Content-Type", f"{kind}; charset=utf-8")
-        self.send_header("Content-Length", str(len(body)))
-        self.send_header("Content-Security-Policy", _RULES)
-        self.send_header("X-Content-Type-Options", "nosniff")
-        self.send_header("Cache-Control", "no-store")
+        self.send_response(200 if found else 404)
+        for name, value in (("Content-Type", f"{kind}; charset=utf-8"),
+                            ("Content-Length", str(len(body))), ("Cache-Control", "no-store"),
+                            ("Content-Security-Policy", _RULES),
+                            ("X-Content-Type-Options", "nosniff")):
+            self.send_header(name, value)
         self.end_headers()
         self.wfile.write(body)
-
-    def _is_for_us(self) -> bool:
-        """Whether the request names this machine: pages of others cannot read the gas."""
-        port = self.server.server_address[1]
-        return self.headers.get("Host") in (f"127.0.0.1:{port}", f"localhost:{port}")
 
     def _found(self) -> Optional[tuple[str, bytes]]:
         try:
