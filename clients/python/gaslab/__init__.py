@@ -8,14 +8,12 @@ measures what it finds. It proves nothing: what is proved is the program that it
     ...     replies = lab.play("examples/4_tunnel.txt")
     ...     image = picture(lab, "tunnel.png", mean=4)
 """
-from __future__ import annotations
-
 from .protocol import (Bye, Entry, GaslabError, Gone, LIMITS, Ledger, MissingLibrary, Moving, Ok,
                        Probe, REFUSALS, Refused, Reply, Row, Saved, Silent, Strange, Tally,
                        Unreachable, named, parse_reply)
 from .snapshot import (Drain, MagicFault, PortFault, ShortFault, SizeFault, Snapshot, SnapshotFault,
                        Source, TickFault, TrailingFault)
-from .lab import Lab, place, shoot, trace, truth_table
+from .lab import Lab, place, truth_table
 from .measure import Fields, chart, csv_text, every, profile, random_gas, velocity
 from .pictures import film, palette, picture, picture_bytes, text_picture
 
@@ -27,5 +25,5 @@ __all__ = [
     "Reply", "Row", "Saved", "ShortFault", "Silent", "SizeFault", "Snapshot", "SnapshotFault",
     "Source", "Strange", "Tally", "TickFault", "TrailingFault", "Unreachable", "chart", "csv_text",
     "every", "film", "named", "palette", "parse_reply", "picture", "picture_bytes", "place",
-    "profile", "random_gas", "shoot", "text_picture", "trace", "truth_table", "velocity",
+    "profile", "random_gas", "text_picture", "truth_table", "velocity",
 ]

@@ -1,7 +1,7 @@
 """What builders of gates use: shoot, trace, truth tables, and scripts that are moved."""
 import unittest
 
-from gaslab import Ok, Refused, place, shoot, trace, truth_table
+from gaslab import Ok, Refused, place, truth_table
 from gaslab.measure.tables import columns_of
 
 from .stand_in import channel_gas
@@ -26,7 +26,7 @@ class Shooting(unittest.TestCase):
                         x, y = (20 + ((v == 1) != (wait % 2 == 0)) for v in (vx, vy))
                         self.assertEqual(lab.shoot(x, y, vx, vy), Ok(wait))
                         lab.step(3)
-                        found = rows_of(trace(lab, 0))
+                        found = rows_of(lab.trace(0))
                         self.assertEqual(found, [(wait + 3, x + 3 * vx, y + 3 * vy, vx, vy)])
 
     def test_the_second_implementation_agrees(self):
@@ -34,9 +34,9 @@ class Shooting(unittest.TestCase):
         with run() as lab:
             for x, y in ((0, 0), (1, 0), (0, 1), (63, 63), (62, 63)):
                 vx, vy = gas.velocity((x, y), 0)
-                shoot(lab, x, y, vx, vy)
-                self.assertRaises(ValueError, shoot, lab, x, y, -vx, vy)
-                self.assertRaises(ValueError, shoot, lab, x, y, vx, -vy)
+                lab.shoot(x, y, vx, vy)
+                self.assertRaises(ValueError, lab.shoot, x, y, -vx, vy)
+                self.assertRaises(ValueError, lab.shoot, x, y, vx, -vy)
 
     def test_why_it_can_not(self):
         with run() as lab:
@@ -121,7 +121,7 @@ class TruthTables(unittest.TestCase):
             truth_table("tally\nstep 0", INPUTS, OUTPUTS, program=STAND_IN)
         for inputs, outputs, what in (
                 ({str(n): (n, 0) for n in range(11)}, {}, "at most 10 inputs"),
-                (INPUTS, {"A": (1, 1)}, "different names"),
+                (INPUTS, {"A": (1, 1)}, "outputs of other names"),
                 ({"A": (1, 2, 3)}, {}, r"a cell is \(x, y\) and a rectangle")):
             with self.assertRaisesRegex(ValueError, what):
                 truth_table("step 1", inputs, outputs, program=STAND_IN)

@@ -14,7 +14,6 @@ import numpy
 from gaslab import (Refused, Snapshot, chart, csv_text, every, profile, random_gas, velocity)
 from gaslab.measure.measuring import sums_of
 from gaslab.measure.tables import columns_of, table_of
-from gaslab.snapshot.cells import array_of
 
 from .seen import read
 from .test_lab import ROOT, run
@@ -81,13 +80,13 @@ class Every(unittest.TestCase):
 
 
 class Tables(unittest.TestCase):
-    TABLE = {"tick": [1, 3], "a,b": [-2.0, 0.5]}
+    TABLE = ("tick", "a,b"), [(1, -2.0), (3, 0.5)]
 
     def both(self):
         """The table as a frame of pandas, if that is installed, and as numpy records."""
-        yield table_of(self.TABLE)
+        yield table_of(*self.TABLE)
         with mock.patch.dict(sys.modules, {"pandas": None}):
-            yield table_of(self.TABLE)
+            yield table_of(*self.TABLE)
 
     def test_kinds(self):
         kinds = [type(table).__name__ for table in self.both()]
@@ -120,7 +119,7 @@ class Charts(unittest.TestCase):
         room = tempfile.TemporaryDirectory()
         self.addCleanup(room.cleanup)
         self.room = Path(room.name)
-        self.table = table_of({"t<": [0, 50, 100], "a&b": [0, 5, 10], "c": [10, 10, 10]})
+        self.table = table_of(("t<", "a&b", "c"), [(0, 0, 10), (50, 5, 10), (100, 10, 10)])
 
     def texts(self, *y):
         path = self.room / "it.svg"
@@ -158,7 +157,7 @@ class Charts(unittest.TestCase):
             with self.assertRaisesRegex(ValueError, what):
                 chart(self.table, self.room / path, "t<", y)
         with self.assertRaisesRegex(ValueError, "at least one line with one number"):
-            chart(table_of({"t": [], "a": []}), self.room / "it.svg", "t", "a")
+            chart(table_of(("t", "a"), []), self.room / "it.svg", "t", "a")
         self.assertEqual(os.listdir(self.room), [])
 
 

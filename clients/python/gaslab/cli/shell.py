@@ -7,7 +7,6 @@ from collections.abc import Callable, Iterator
 from contextlib import contextmanager
 from typing import Any, Optional, TextIO, Union
 
-from ..lab.gates import shoot, trace
 from ..lab.lab import Lab
 from ..measure.tables import csv_text
 from ..pictures import picture, text_picture
@@ -82,9 +81,7 @@ class Shell:
 
     def _carry_out(self, script: Script, stops: bool) -> None:
         """Does the commands. With `stops` it raises the first refusal, with its line."""
-        if script.size and script.size != self.lab.size:
-            raise ValueError("the script is for {} by {} cells, and this gas has {} by {}".format(
-                *script.size, *self.lab.size))
+        self.lab.check_size(script)
         for place, command in script.commands():
             reply = self._one(command)
             if stops and isinstance(reply, Refused):
@@ -145,10 +142,10 @@ class Shell:
         self._carry_out(read_script(path), stops=True)
 
     def _shoot(self, x: str, y: str, vx: str, vy: str) -> None:
-        self._say(shoot(self.lab, int(x), int(y), int(vx), int(vy)))
+        self._say(self.lab.shoot(int(x), int(y), int(vx), int(vy)))
 
     def _trace(self, steps: str) -> None:
-        self._say(csv_text(trace(self.lab, int(steps))).rstrip("\n"))
+        self._say(csv_text(self.lab.trace(int(steps))).rstrip("\n"))
 
     def _draw(self, colour: str = "kind") -> None:
         self._say(text_picture(self.lab, columns(), self.coloured, colour))

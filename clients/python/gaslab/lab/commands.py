@@ -1,6 +1,4 @@
 """The laboratory's commands as methods, one for each, made from the table of commands."""
-from __future__ import annotations
-
 import operator
 from collections.abc import Callable, Iterable
 from inspect import Parameter, Signature
@@ -13,8 +11,6 @@ from ..protocol.replies import Entry, Ledger, Ok, Probe, Row, Saved, Tally
 from ..protocol.sending import check_line
 from ..snapshot.cells import plane_of
 from .session import Session
-
-__all__ = ["Commands"]
 
 Kind = TypeVar("Kind")
 

@@ -1,81 +1,73 @@
 """For builders of gates: single particles, their ways, truth tables, and scripts that are moved."""
-from __future__ import annotations
-
 import itertools
 from collections.abc import Iterable, Mapping
-from typing import TYPE_CHECKING, Any, Union
+from typing import Any, Union
 
 import numpy
 
-from ..protocol.errors import Refused
+from ..protocol.commands import RECTANGLES, takes
 from ..protocol.replies import Ok
 from ..protocol.scripts import parse_script
-
-if TYPE_CHECKING:
-    from .lab import Lab
-
-__all__ = ["place", "shoot", "trace", "truth_table"]
+from .looking import Looks
 
 Area = tuple[int, ...]
 """A cell (x, y) or a rectangle (x, y, w, h)."""
 
 _MOST_TRACED = 64
 _MOST_INPUTS = 10
-_MOVED = ("put", "erase", "wall", "block", "unwall", "source", "drain", "probe")
-
-
-def shoot(lab: Lab, x: int, y: int, vx: int, vy: int) -> Ok:
-    """Puts a particle into the cell (x, y) that flies with (vx, vy), each 1 or -1.
-
-    A cell has one velocity at each tick. Raises `ValueError`, and says why, if it is another at the
-    present tick, or if the cell is outside, solid, or holds a particle already.
-    """
-    (width, height), tick = lab.size, lab.tally().tick
-    if {vx, vy} - {1, -1}:
-        raise ValueError(f"vx and vy are 1 or -1, and not {vx} and {vy}")
-    if not (0 <= x < width and 0 <= y < height):
-        raise ValueError(f"the cell ({x}, {y}) is outside the gas of {width} by {height} cells")
-    flies = _velocity(x + tick), _velocity(y + tick)
-    if flies != (vx, vy):
-        beside = tuple(place if found == asked else place + (1 if place + 1 < side else -1)
-                       for place, found, asked, side in
-                       zip((x, y), flies, (vx, vy), (width, height)))
-        raise ValueError(f"at tick {tick} a particle in ({x}, {y}) flies with {flies}; one with "
-                         f"{(vx, vy)} can start in {beside}")
-    scene = lab.scene()
-    if scene.walls[y, x] or scene.obstacles[y, x]:
-        raise ValueError(f"the cell ({x}, {y}) is a wall or an obstacle")
-    if lab.probe(x, y, 1, 1).count:
-        raise ValueError(f"the cell ({x}, {y}) holds a particle already")
-    return lab.put(x, y, 1, 1)
 
 
 def _velocity(place: int) -> int:
     return 1 if place % 2 == 0 else -1
 
 
-def trace(lab: Lab, steps: int) -> Any:
-    """Makes steps (backwards if negative), and tells where the particles are at each tick.
+class Gates(Looks):
+    """A laboratory for gates, which are made of few particles."""
 
-    The table has a row for each particle at each tick, the present one too: `tick`, `x`, `y` and
-    its velocity `vx`, `vy`. At each tick they are in the order of rows. Raises `ValueError` if
-    there are more than 64 particles.
-    """
-    from ..measure.tables import table_of
-    columns: dict[str, list[int]] = {name: [] for name in ("tick", "x", "y", "vx", "vy")}
-    for done in range(abs(steps) + 1):
-        if done:
-            lab.advance(1 if steps > 0 else -1)
-        count = lab.tally().count
-        if count > _MOST_TRACED:
-            raise ValueError(f"trace is for at most {_MOST_TRACED} particles, and there are "
-                             f"{count}")
-        gas = lab.look()
-        for y, x in numpy.argwhere(gas.particles).tolist():
-            numbers = gas.tick, x, y, _velocity(x + gas.tick), _velocity(y + gas.tick)
-            for column, number in zip(columns.values(), numbers):
-                column.append(number)
-    return table_of(columns)
+    def shoot(self, x: int, y: int, vx: int, vy: int) -> Ok:
+        """Puts a particle into the cell (x, y) that flies with (vx, vy), each 1 or -1.
+
+        A cell has one velocity at each tick. Raises `ValueError`, and says why, if it is another at
+        the present tick, or if the cell is outside, solid, or holds a particle already.
+        """
+        (width, height), tick = self.size, self.tally().tick
+        if {vx, vy} - {1, -1}:
+            raise ValueError(f"vx and vy are 1 or -1, and not {vx} and {vy}")
+        if not (0 <= x < width and 0 <= y < height):
+            raise ValueError(f"the cell ({x}, {y}) is outside the gas of {width} by {height} cells")
+        flies = _velocity(x + tick), _velocity(y + tick)
+        if flies != (vx, vy):
+            beside = tuple(place if found == asked else place + (1 if place + 1 < side else -1)
+                           for place, found, asked, side in
+                           zip((x, y), flies, (vx, vy), self.size))
+            raise ValueError(f"at tick {tick} a particle in ({x}, {y}) flies with {flies}; one "
+                             f"with {(vx, vy)} can start in {beside}")
+        scene = self.scene()
+        if scene.walls[y, x] or scene.obstacles[y, x]:
+            raise ValueError(f"the cell ({x}, {y}) is a wall or an obstacle")
+        if self.probe(x, y, 1, 1).count:
+            raise ValueError(f"the cell ({x}, {y}) holds a particle already")
+        return self.put(x, y, 1, 1)
+
+    def trace(self, steps: int) -> Any:
+        """Makes steps (backwards if negative), and tells where the particles are at each tick.
+
+        The table has a row for each particle at each tick, the present one too: `tick`, `x`, `y`
+        and its velocity `vx`, `vy`. At each tick they are in the order of rows. Raises `ValueError`
+        if there are more than 64 particles.
+        """
+        from ..measure.tables import table_of
+        rows = []
+        for done in range(abs(steps) + 1):
+            if done:
+                self.advance(1 if steps > 0 else -1)
+            tick, count, *_ = self.tally()
+            if count > _MOST_TRACED:
+                raise ValueError(f"trace is for at most {_MOST_TRACED} particles, and there are "
+                                 f"{count}")
+            for y, x in numpy.argwhere(self.particles()).tolist():
+                rows.append((tick, x, y, _velocity(x + tick), _velocity(y + tick)))
+        return table_of(("tick", "x", "y", "vx", "vy"), rows)
 
 
 def truth_table(script: Union[str, Iterable[str]], inputs: Mapping[str, Area],
@@ -90,31 +82,27 @@ def truth_table(script: Union[str, Iterable[str]], inputs: Mapping[str, Area],
     """
     from ..measure.tables import table_of
     from .lab import Lab
-    if len(inputs) > _MOST_INPUTS:
-        raise ValueError(f"a truth table has at most {_MOST_INPUTS} inputs")
-    if set(inputs) & set(outputs):
-        raise ValueError("an input and an output have different names")
-    found = parse_script(_text(script))
+    if len(inputs) > _MOST_INPUTS or set(inputs) & set(outputs):
+        raise ValueError(f"a truth table has at most {_MOST_INPUTS} inputs, and outputs of other "
+                         "names")
+    found, rows = parse_script(_text(script)), []
     if found.size:
         options["width"], options["height"] = found.size
-    columns: dict[str, list[int]] = {name: [] for name in (*inputs, *outputs)}
     for choice in itertools.product((0, 1), repeat=len(inputs)):
         with Lab.run(**options) as lab:
             for chosen, area in zip(choice, inputs.values()):
                 if chosen:
                     lab.put(*_rectangle(area))
             lab.play(found)
-            numbers = [lab.probe(*_rectangle(area)).count for area in outputs.values()]
-        for column, number in zip(columns.values(), (*choice, *numbers)):
-            column.append(number)
-    return table_of(columns)
+            counts = [lab.probe(*_rectangle(area)).count for area in outputs.values()]
+        rows.append((*choice, *counts))
+    return table_of((*inputs, *outputs), rows)
 
 
-def _rectangle(area: Area) -> tuple[int, int, int, int]:
+def _rectangle(area: Area) -> Area:
     if len(area) not in (2, 4):
         raise ValueError(f"a cell is (x, y) and a rectangle (x, y, w, h), and not {area}")
-    x, y, w, h = (*area, 1, 1)[:4]
-    return x, y, w, h
+    return (*area, 1, 1)[:4]
 
 
 def place(script: Union[str, Iterable[str]], dx: int, dy: int) -> list[str]:
@@ -127,20 +115,21 @@ def place(script: Union[str, Iterable[str]], dx: int, dy: int) -> list[str]:
     if dx % 2 or dy % 2:
         raise ValueError(f"an offset is even in both directions, and not ({dx}, {dy}): at an odd "
                          "one particles fly in other directions")
-    return [_placed(line, place, dx, dy) for place, line in parse_script(_text(script)).commands()]
+    return [_placed(line, number, dx, dy)
+            for number, line in parse_script(_text(script)).commands()]
 
 
-def _placed(line: str, place: int, dx: int, dy: int) -> str:
+def _placed(line: str, number: int, dx: int, dy: int) -> str:
     word, *rest = line.split()
     if word == "row":
-        raise ValueError(f"line {place}: row fills a whole row and can't be moved: use put")
-    moves = (dx, dy) if word in _MOVED else (dy,) if word == "read" else ()
-    if len(rest) < len(moves) or not all(it.isascii() and it.isdecimal()
-                                         for it in rest[:len(moves)]):
-        raise ValueError(f"line {place}: {Refused(3, 'count', line).limit}")
-    moved = [int(number) + offset for number, offset in zip(rest, moves)]
-    if any(number < 0 for number in moved):
-        raise ValueError(f"line {place}: {line} would leave the lattice")
+        raise ValueError(f"line {number}: row fills a whole row and can't be moved: use put")
+    moves = (dx, dy) if word in RECTANGLES else (dy,) if word == "read" else ()
+    old = rest[:len(moves)]
+    if len(old) < len(moves) or not all(it.isascii() and it.isdecimal() for it in old):
+        raise ValueError(f"line {number}: {takes(word)}")
+    moved = [int(coordinate) + offset for coordinate, offset in zip(old, moves)]
+    if any(coordinate < 0 for coordinate in moved):
+        raise ValueError(f"line {number}: {line} would leave the lattice")
     return " ".join((word, *map(str, moved), *rest[len(moves):]))
 
 

@@ -1,24 +1,16 @@
 """The laboratory as an object: a program that is started, or a server that is joined."""
-from __future__ import annotations
-
 import math
 from collections.abc import Mapping, Sequence
-from typing import TYPE_CHECKING, Any, Optional, Union
+from typing import Any, Optional, Union
 
 from ..protocol.commands import MOST_ENTRIES
 from ..protocol.doors import PathLike, Program, Server, find_program
-from ..protocol.replies import Ok
 from ..snapshot.cells import check_sides
 from ..snapshot.files import Snapshot
-from .looking import Looks
-
-if TYPE_CHECKING:
-    from ..measure import Fields
-
-__all__ = ["Lab"]
+from .gates import Gates
 
 
-class Lab(Looks):
+class Lab(Gates):
     """A running laboratory. Make one by `Lab.run` or `Lab.join`, best in a `with` statement.
 
     Each command of the laboratory is a method of its name. A refusal raises `Refused`, and the
@@ -28,7 +20,7 @@ class Lab(Looks):
     @classmethod
     def run(cls, width: int = 64, height: int = 64, workers: int = 1, cap: int = MOST_ENTRIES,
             load: Optional[PathLike] = None, save: Union[PathLike, bool, None] = None,
-            program: Optional[PathLike] = None, timeout: float = 60.0) -> Lab:
+            program: Optional[PathLike] = None, timeout: float = 60.0) -> "Lab":
         """Starts the built program for one session.
 
         It is `program`, or else what the variable GASLAB_PROGRAM of the environment names, or else
@@ -54,7 +46,7 @@ class Lab(Looks):
 
     @classmethod
     def join(cls, host: str, port: int, timeout: float = 60.0, start: Optional[Snapshot] = None,
-             shelf: Optional[PathLike] = None) -> Lab:
+             shelf: Optional[PathLike] = None) -> "Lab":
         """Joins a server, as one more seat. Raises `Silent` if it is full.
 
         `port` is 0 to 65,535. `start` is the snapshot that the server was started from, if there
@@ -67,7 +59,7 @@ class Lab(Looks):
         lab._greet()
         return lab
 
-    def __enter__(self) -> Lab:
+    def __enter__(self) -> "Lab":
         return self
 
     def _repr_png_(self) -> bytes:
@@ -80,20 +72,10 @@ class Lab(Looks):
         from ..measure import every
         return every(self, steps, times, ledger, probes, columns)
 
-    def velocity(self, mean: int = 8) -> Fields:
+    def velocity(self, mean: int = 8) -> Any:
         """Density and both momentum densities in squares of cells: see `gaslab.velocity`."""
         from ..measure import velocity
         return velocity(self, mean)
-
-    def shoot(self, x: int, y: int, vx: int, vy: int) -> Ok:
-        """Puts a particle into the cell (x, y) that flies with (vx, vy): see `gaslab.shoot`."""
-        from .gates import shoot
-        return shoot(self, x, y, vx, vy)
-
-    def trace(self, steps: int) -> Any:
-        """Makes steps, and tells where few particles are at each tick: see `gaslab.trace`."""
-        from .gates import trace
-        return trace(self, steps)
 
 
 def _check(name: str, number: int, least: int, most: int) -> None:

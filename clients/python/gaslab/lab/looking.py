@@ -1,6 +1,4 @@
 """Looks at the whole gas, and whole gases that are put there."""
-from __future__ import annotations
-
 import time
 from collections.abc import Iterator
 from typing import Any, Optional
@@ -17,8 +15,6 @@ from ..snapshot.rectangles import cover
 from ..snapshot.scene import Scene
 from .commands import Commands
 from .session import mismatch
-
-__all__ = ["Looks"]
 
 _TRIES = 20
 _AHEAD = 512

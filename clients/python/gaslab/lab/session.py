@@ -1,6 +1,4 @@
 """A session with a laboratory: lines out, replies in, one or many at a time."""
-from __future__ import annotations
-
 import operator
 from collections.abc import Iterable
 from typing import Optional, TypeVar, Union
@@ -10,8 +8,6 @@ from ..protocol.errors import GaslabError, Gone, Refused, Strange, printable
 from ..protocol.replies import Bye, Reply, Row, Tally
 from ..protocol.scripts import Script, read_script
 from ..protocol.sending import Replies, lines_of
-
-__all__ = ["Session", "mismatch"]
 
 _LAST_WAIT = 5.0  # seconds
 
@@ -73,11 +69,10 @@ class Session:
 
     def ask(self, line: str) -> Reply:
         """Sends one line and returns its reply. Raises `Refused` if it is refused."""
-        for reply in self.send([line]):
-            if isinstance(reply, Refused):
-                raise reply
-            return reply
-        raise AssertionError("a line has a reply or a fault")
+        reply, = self.send([line])
+        if isinstance(reply, Refused):
+            raise reply
+        return reply
 
     def do(self, lines: Union[str, Iterable[str]]) -> list[Reply]:
         """Sends lines one after the other, and returns their replies.
@@ -95,10 +90,14 @@ class Session:
         `ValueError` if that is not the size of this gas.
         """
         found = script if isinstance(script, Script) else read_script(script)
-        if found.size and found.size != self.size:
-            raise ValueError("the script is for {} by {} cells, and this gas has {} by {}".format(
-                *found.size, *self.size))
+        self.check_size(found)
         return self._do(found.commands())
+
+    def check_size(self, script: Script) -> None:
+        """Raises `ValueError` if a script names another size than this gas has."""
+        if script.size and script.size != self.size:
+            raise ValueError("the script is for {} by {} cells, and this gas has {} by {}".format(
+                *script.size, *self.size))
 
     def _do(self, numbered: Iterable[tuple[int, str]]) -> list[Reply]:
         replies = []
@@ -133,10 +132,15 @@ class Session:
 
     def _expect(self, kind: type[Kind], line: str) -> Kind:
         reply = self.ask(line)
-        is_row = isinstance(reply, Row) and self._size is not None
-        if not isinstance(reply, kind) or is_row and len(reply.hex) != self.size[0] // 4:
+        if not self._is_of(reply, kind):
             raise mismatch(line, reply)
-        return reply
+        return reply  # type: ignore[return-value]
+
+    def _is_of(self, reply: Reply, kind: type) -> bool:
+        """Whether a reply is of a kind, and a row as wide as the lattice."""
+        has_width = not isinstance(reply, Row) or self._size is None \
+            or 4 * len(reply.hex) == self._size[0]
+        return isinstance(reply, kind) and has_width
 
     @property
     def size(self) -> tuple[int, int]:

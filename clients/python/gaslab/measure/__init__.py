@@ -1,6 +1,4 @@
 """Measuring: tables, charts, profiles, fields, and random gases."""
-from __future__ import annotations
-
 from .measuring import Fields, every, profile, sums_of, velocity
 from .random_gas import random_gas
 from .tables import chart, csv_text, table_of

@@ -1,6 +1,4 @@
 """Measuring: tables over time, profiles over space, and fields of density and momentum."""
-from __future__ import annotations
-
 from collections.abc import Callable, Mapping, Sequence
 from typing import Any, NamedTuple, Optional
 
@@ -13,8 +11,6 @@ from ..protocol.replies import Ledger, Tally
 from ..snapshot.files import Snapshot
 from ..snapshot.rectangles import Rectangle
 from .tables import table_of
-
-__all__ = ["Fields", "every", "profile", "sums_of", "velocity"]
 
 
 def every(lab: Lab, steps: int, times: int, ledger: bool = True,
@@ -36,28 +32,23 @@ def every(lab: Lab, steps: int, times: int, ledger: bool = True,
     names = ["tick", "count", "px", "py", *(Ledger._fields if ledger else ())]
     names += [f"{name}_{part}" for name in areas for part in ("count", "px", "py")]
     names += ["d_" + name for name in names[1:]]
-    unknown = sorted(set(columns or ()) - set(names))
-    if unknown:
-        raise ValueError(f"no column {unknown[0]}: there are {', '.join(names)}")
-    before = _measured(lab, ledger, areas)
-    rows = []
+    for name in columns or ():
+        if name not in names:
+            raise ValueError(f"no column {name}: there are {', '.join(names)}")
+    before, rows = _measured(lab, ledger, areas), []
     for done in range(times):
         lab.advance(steps)
         now = _measured(lab, ledger, areas)
-        rows.append([*now, *(a - b for a, b in zip(now[1:], before[1:]))])
+        row = dict(zip(names, [*now, *(a - b for a, b in zip(now[1:], before[1:]))]))
+        rows.append([row[name] for name in columns or names])
         before = now
         progress(done + 1, times)
-    found = {name: [row[place] for row in rows] for place, name in enumerate(names)}
-    return table_of({name: found[name] for name in columns or names})
+    return table_of(columns or names, rows)
 
 
 def _measured(lab: Lab, ledger: bool, areas: Mapping[str, Rectangle]) -> list[int]:
-    numbers = list(lab.tally())
-    if ledger:
-        numbers += lab.ledger()
-    for area in areas.values():
-        numbers += lab.probe(*area)
-    return numbers
+    probes = [number for area in areas.values() for number in lab.probe(*area)]
+    return [*lab.tally(), *(lab.ledger() if ledger else ()), *probes]
 
 
 class Fields(NamedTuple):
@@ -66,7 +57,6 @@ class Fields(NamedTuple):
     `density` is in particles a cell; `px`, to the right, and `py`, downwards, are the momentum a
     cell. px / density is the mean velocity to the right, in columns a tick.
     """
-
     density: Any
     px: Any
     py: Any
@@ -106,9 +96,7 @@ def profile(gas: Gas, along: str = "x", bins: Optional[int] = None, tick: int = 
     if along not in ("x", "y"):
         raise ValueError(f"along is 'x' or 'y', and not {along!r}")
     found = as_snapshot(gas, tick)
-    length, breadth = found.width, found.height
-    if along == "y":
-        length, breadth = breadth, length
+    length, breadth = (found.width, found.height)[::1 if along == "x" else -1]
     number = length if bins is None else bins
     if not 1 <= number <= length:
         raise ValueError(f"bins is from 1 to {length}, and not {number}")
@@ -116,5 +104,5 @@ def profile(gas: Gas, along: str = "x", bins: Optional[int] = None, tick: int = 
     count, px, py = (numpy.add.reduceat(part.sum(axis=0 if along == "x" else 1, dtype=int),
                                         edges[:-1]) for part in _parts(found))
     density = count / (edges[1:] - edges[:-1]) / breadth
-    return table_of({"from": edges[:-1], "to": edges[1:], "count": count, "density": density,
-                     "px": px, "py": py})
+    return table_of(("from", "to", "count", "density", "px", "py"),
+                    zip(edges[:-1], edges[1:], count, density, px, py))

@@ -1,14 +1,10 @@
 """Random gases to measure."""
-from __future__ import annotations
-
 from collections.abc import Iterator
 from typing import Any, Optional, Union
 
 import numpy
 
 from ..snapshot.cells import check_sides, plane_of
-
-__all__ = ["random_gas"]
 
 
 def random_gas(width: int, height: int, density: float,

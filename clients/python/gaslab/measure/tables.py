@@ -1,10 +1,8 @@
 """Tables of numbers: frames of pandas, or records of numpy, as CSV and as charts."""
-from __future__ import annotations
-
 import csv
 import io
 import os
-from collections.abc import Mapping, Sequence
+from collections.abc import Iterable, Sequence
 from typing import Any, Optional, Union
 
 import numpy
@@ -13,22 +11,20 @@ from ..protocol.doors import PathLike
 from ..protocol.errors import library
 from ..snapshot.files import draft
 
-__all__ = ["chart", "columns_of", "csv_text", "table_of"]
-
 _CHARTS = ("svg", "png", "pdf")
 
 
-def table_of(columns: Mapping[str, Sequence[Union[int, float]]]) -> Any:
-    """A table of these columns, which are of one length: `table["tick"]` is a column.
+def table_of(names: Sequence[str], rows: Iterable[Sequence[Union[int, float]]]) -> Any:
+    """A table of these rows: `table["tick"]` is a column.
 
     It is a DataFrame if pandas is installed, and else an array of numpy records.
     """
+    columns = [numpy.array(column) for column in zip(*rows)] or [numpy.zeros(0, int) for _ in names]
     try:
         import pandas
     except ImportError:
-        return numpy.rec.fromarrays([numpy.array(column) for column in columns.values()],
-                                    names=list(columns))
-    return pandas.DataFrame(dict(columns))
+        return numpy.rec.fromarrays(columns, names=list(names))
+    return pandas.DataFrame(dict(zip(names, columns)))
 
 
 def columns_of(table: Any) -> list[str]:

@@ -1,6 +1,4 @@
 """Pictures of a gas: files, films, and text for a terminal."""
-from __future__ import annotations
-
 from . import palette
 from .drawing import as_snapshot, film, picture, picture_bytes
 from .text import text_picture

@@ -1,6 +1,4 @@
 """Pictures of a gas and films of a laboratory, by Pillow."""
-from __future__ import annotations
-
 import io
 import os
 from collections.abc import Sequence
@@ -15,9 +13,6 @@ from ..snapshot.cells import as_cells, plane_of
 from ..snapshot.files import Snapshot, draft
 from . import palette
 from .pixels import cell_pixels, check_looks, density_pixels, outlined, scaled
-
-__all__ = ["Gas", "as_snapshot", "film", "picture", "picture_bytes",
-           "plain_png"]
 
 Gas = Union[Lab, Snapshot, Sequence[Sequence[object]], Any]
 """What can be drawn: a laboratory, a snapshot, or truth values of shape (height, width)."""

@@ -3,15 +3,9 @@
 They are from the palette of Okabe and Ito, with greys and two light tints. The tests see them as
 people with each of the three common kinds of colour blindness do.
 """
-from __future__ import annotations
-
 from typing import Any
 
 import numpy
-
-__all__ = ["CELLS", "Colour", "DENSITIES", "DRAIN", "EMPTY", "HIT", "LEFT_DOWN", "LEFT_UP",
-           "OBSTACLE", "OBSTACLE_INSIDE", "PARTICLE", "RIGHT_DOWN", "RIGHT_UP", "SOURCE", "WALL",
-           "WALL_INSIDE", "density_index"]
 
 Colour = tuple[int, int, int]
 """Red, green and blue, each from 0 to 255."""

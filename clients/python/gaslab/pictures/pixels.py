@@ -1,15 +1,10 @@
 """Gases as arrays of indices into a palette, one for each pixel."""
-from __future__ import annotations
-
-from typing import Any
+from typing import Any, Optional
 
 import numpy
 
 from ..snapshot.files import Snapshot
 from . import palette
-
-__all__ = ["COLOURS", "cell_pixels", "check_looks", "counts_of", "density_pixels", "outlined",
-           "scaled"]
 
 COLOURS = ("kind", "velocity")
 """What the colour of a particle shows."""
@@ -18,7 +13,7 @@ _KINDS = numpy.array([[palette.LEFT_UP, palette.LEFT_DOWN],
                       [palette.RIGHT_UP, palette.RIGHT_DOWN]], numpy.uint8)
 
 
-def check_looks(gas: Snapshot, mean: int | None, colour: str) -> None:
+def check_looks(gas: Snapshot, mean: Optional[int], colour: str) -> None:
     """Raises `ValueError` unless a gas can be drawn in squares of so many cells and so coloured."""
     if colour not in COLOURS:
         raise ValueError(f"colour is one of {', '.join(COLOURS)}, and not {colour!r}")
@@ -90,7 +85,7 @@ def outlined(gas: Snapshot, pixels: Any) -> Any:
     return done
 
 
-def _draw(pixels: Any, cells: Any, inside: int | None, line: int) -> None:
+def _draw(pixels: Any, cells: Any, inside: Optional[int], line: int) -> None:
     """Draws a line, of up to two pixels, along the edge of a set of cells, and fills it."""
     if not cells.any():
         return

@@ -1,6 +1,4 @@
 """A gas as text for a terminal, two pixels in each character."""
-from __future__ import annotations
-
 from collections.abc import Iterator, Sequence
 from typing import Any, Optional
 
@@ -9,8 +7,6 @@ import numpy
 from . import palette
 from .drawing import Gas, as_snapshot
 from .pixels import cell_pixels, check_looks, density_pixels
-
-__all__ = ["text_picture"]
 
 _MEANS = (1, 2, 4, 8, 16, 32, 64)
 

@@ -2,8 +2,6 @@
 
 It needs the standard library and numpy only.
 """
-from __future__ import annotations
-
 from .commands import COMMANDS
 from .errors import (GaslabError, Gone, LIMITS, MissingLibrary, Moving, REFUSALS, Refused, Silent,
                      Strange, Unreachable, library)

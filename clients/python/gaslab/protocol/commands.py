@@ -1,11 +1,6 @@
 """The laboratory's commands: their words, what they do, and what a change in a journal may be."""
-from __future__ import annotations
-
 import re
 from typing import NamedTuple, Optional
-
-__all__ = ["CHANGES", "COMMANDS", "Change", "Command", "MOST_ENTRIES", "MOST_PORTS", "MOST_SEATS",
-           "MOST_STEPS", "SIDES", "parse_change", "takes"]
 
 SIDES = range(64, 4097, 64)
 """The widths and heights that a lattice may have, in cells."""
@@ -58,6 +53,9 @@ COMMANDS: dict[str, Command] = {
 CHANGES = ("put", "erase", "wall", "block", "unwall", "row", "source", "drain", "unport", "step",
            "back")
 """The commands that a journal has."""
+
+RECTANGLES = [name for name, command in COMMANDS.items() if command.words.startswith("x y w h")]
+"""The commands that begin with a rectangle."""
 
 _NUMBER = re.compile(r"0|[1-9][0-9]{0,9}", re.ASCII)
 _DIGITS = re.compile(r"[0-9a-f]+", re.ASCII)

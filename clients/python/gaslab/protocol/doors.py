@@ -1,6 +1,4 @@
 """The two ways to a laboratory: a program that is started, and a server that is joined."""
-from __future__ import annotations
-
 import os
 import shutil
 import signal
@@ -12,8 +10,6 @@ from typing import Any, Optional, Protocol, Union
 
 from .errors import Unreachable, printable
 from .link import Link
-
-__all__ = ["Door", "PathLike", "Program", "Server", "find_program"]
 
 PathLike = Union[str, "os.PathLike[str]"]
 

@@ -1,13 +1,8 @@
 """What can go wrong. Each kind has a class of its own, and all are a `GaslabError`."""
-from __future__ import annotations
-
 import importlib
 from typing import Any, Optional
 
 from .commands import takes
-
-__all__ = ["GaslabError", "Gone", "LIMITS", "MissingLibrary", "Moving", "REFUSALS", "Refused",
-           "Silent", "Strange", "Unreachable", "library", "printable"]
 
 REFUSALS: dict[int, str] = {
     1: "line", 2: "word", 3: "count", 4: "number", 5: "rect", 6: "steps", 7: "period", 8: "row",

@@ -1,6 +1,4 @@
 """Lines out and lines in, over a pipe or a socket, without a deadlock and with a timeout."""
-from __future__ import annotations
-
 import os
 import select
 import time
@@ -8,8 +6,6 @@ from collections import deque
 from collections.abc import Callable
 
 from .errors import Gone, Silent, Strange
-
-__all__ = ["LINE_LIMIT", "Lines", "Link"]
 
 LINE_LIMIT = 2048
 """The most bytes that a line or a reply has, its newline not counted."""

@@ -1,17 +1,12 @@
 """The replies of a laboratory as named tuples, and how a line is read as one."""
-from __future__ import annotations
-
 import re
 from collections.abc import Iterable
-from typing import Any, NamedTuple, Union
+from typing import Any, NamedTuple, Optional, Union
 
 import numpy
 
 from .commands import MOST_ENTRIES, MOST_SEATS, SIDES, parse_change
 from .errors import REFUSALS, Refused, Strange, printable
-
-__all__ = ["Bye", "Entry", "Ledger", "Ok", "Probe", "Reply", "Row", "Saved", "Tally", "named",
-           "parse_reply", "reply_text", "show_cells"]
 
 
 class Ok(NamedTuple):
@@ -107,7 +102,7 @@ def parse_reply(text: str, asked: str) -> Reply:
     if a number is one that no laboratory gives, or if an entry is no change.
     """
     word, _, rest = text.partition(" ")
-    reply: Reply | None = None
+    reply: Optional[Reply] = None
     if word in _NUMBERS:
         reply = _numbers(*_NUMBERS[word], text.split(" ")[1:])
     elif word == "ROW" and _ROW.fullmatch(rest):
@@ -123,7 +118,7 @@ def parse_reply(text: str, asked: str) -> Reply:
     return reply
 
 
-def _numbers(kind: Any, ranges: tuple[tuple[int, int], ...], words: list[str]) -> Reply | None:
+def _numbers(kind: Any, ranges: tuple[tuple[int, int], ...], words: list[str]) -> Optional[Reply]:
     if len(words) != len(ranges) or not all(map(_NUMBER.fullmatch, words)):
         return None
     numbers = [int(word) for word in words]
@@ -133,7 +128,7 @@ def _numbers(kind: Any, ranges: tuple[tuple[int, int], ...], words: list[str]) -
     return reply
 
 
-def _entry(rest: str) -> Entry | None:
+def _entry(rest: str) -> Optional[Entry]:
     match = _ENTRY.fullmatch(rest)
     if match is None or int(match[1]) >= MOST_SEATS or parse_change(match[2]) is None:
         return None

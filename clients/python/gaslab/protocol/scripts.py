@@ -5,8 +5,6 @@
 
 A laboratory knows none of these. What comes out of `Script.commands` is one command after another.
 """
-from __future__ import annotations
-
 import sys
 from collections.abc import Iterator
 from typing import Any, NamedTuple, Optional
@@ -14,8 +12,6 @@ from typing import Any, NamedTuple, Optional
 from .commands import SIDES
 from .doors import PathLike
 from .sending import lines_of
-
-__all__ = ["Script", "is_open", "parse_script", "read_script", "read_text"]
 
 _LONGEST = 2 ** 27  # bytes; the longest journal as a script has less
 _DEEPEST = 20

@@ -1,15 +1,11 @@
 """Many lines at once: they are sent while the replies are read, so neither side waits for good."""
-from __future__ import annotations
-
 from collections import deque
 from collections.abc import Iterable, Iterator
-from typing import Union
+from typing import Optional, Union
 
 from .errors import Gone, Refused
 from .link import Link
 from .replies import Bye, Reply, parse_reply
-
-__all__ = ["Replies", "check_line", "lines_of"]
 
 _WINDOW = 65536  # bytes that wait to be written
 _MOST_ASKED = 16384  # lines that wait for their replies
@@ -49,7 +45,7 @@ class Replies(Iterator[Reply]):
         self._fill()
         self._link.flush()
 
-    def __iter__(self) -> Replies:
+    def __iter__(self) -> "Replies":
         return self
 
     def __next__(self) -> Reply:
@@ -67,7 +63,7 @@ class Replies(Iterator[Reply]):
             self._kept.append(reply)
             reply = self._take()
 
-    def _take(self) -> Reply | None:
+    def _take(self) -> Optional[Reply]:
         if self.has_ended:
             return None
         self._fill()

@@ -1,6 +1,4 @@
 """Whole gases: snapshot files, sets of cells, and walls and ports from a journal."""
-from __future__ import annotations
-
 from .files import (Drain, MagicFault, PortFault, ShortFault, SizeFault, Snapshot, SnapshotFault,
                     Source, TickFault, TrailingFault)
 

@@ -4,15 +4,11 @@ A row of `width` cells is `width / 8` bytes; the left cell is the highest bit of
 plane is its rows from the top, one after the other. An array of cells is of truth values, of shape
 (height, width).
 """
-from __future__ import annotations
-
 from typing import Any
 
 import numpy
 
 from ..protocol.commands import SIDES
-
-__all__ = ["array_of", "as_cells", "check_sides", "plane_of"]
 
 
 def check_sides(width: object, height: object) -> None:

@@ -1,6 +1,4 @@
 """Snapshot files, read whole and checked as the laboratory checks them."""
-from __future__ import annotations
-
 import os
 import struct
 from collections.abc import Iterable, Iterator
@@ -12,9 +10,6 @@ from ..protocol.commands import MOST_PORTS, SIDES
 from ..protocol.doors import PathLike
 from ..protocol.errors import GaslabError
 from .cells import array_of, as_cells, check_sides, plane_of
-
-__all__ = ["Drain", "MagicFault", "PortFault", "ShortFault", "SizeFault", "Snapshot",
-           "SnapshotFault", "Source", "TickFault", "TrailingFault", "draft"]
 
 TICK_LIMIT = 2 ** 40
 _LONGEST = 6291766  # bytes
@@ -33,43 +28,36 @@ class SnapshotFault(GaslabError, ValueError):
 
 class ShortFault(SnapshotFault):
     """A field's bytes are not all there."""
-
     name = "Short"
 
 
 class MagicFault(SnapshotFault):
     """The first 8 bytes are those of neither version."""
-
     name = "Magic"
 
 
 class SizeFault(SnapshotFault):
     """A side is no multiple of 64, or too long."""
-
     name = "Size"
 
 
 class TickFault(SnapshotFault):
     """The tick is not from -2^40 to 2^40."""
-
     name = "Tick"
 
 
 class PortFault(SnapshotFault):
     """A count of ports is above 16, a rectangle is not inside, or a period is 0."""
-
     name = "Port"
 
 
 class TrailingFault(SnapshotFault):
     """There are bytes after the last field."""
-
     name = "Trailing"
 
 
 class Drain(NamedTuple):
     """A rectangle of cells that loses its particles at each tick."""
-
     x: int
     y: int
     w: int
@@ -78,7 +66,6 @@ class Drain(NamedTuple):
 
 class Source(NamedTuple):
     """A rectangle of cells that is filled at each tick that `period` divides."""
-
     x: int
     y: int
     w: int
@@ -117,51 +104,49 @@ class Snapshot:
     @classmethod
     def from_arrays(cls, particles: Any = None, walls: Any = None, obstacles: Any = None,
                     tick: int = 0, drains: Iterable[Iterable[int]] = (),
-                    sources: Iterable[Iterable[int]] = ()) -> Snapshot:
+                    sources: Iterable[Iterable[int]] = ()) -> "Snapshot":
         """The gas of these arrays of truth values, each of shape (height, width).
 
         At least one is given; the others are empty. A drain is (x, y, w, h) in cells, and a source
         has its period in ticks behind. Raises `ValueError` if they are no gas.
         """
+        names = ("particles", "walls", "obstacles")
         given = {name: as_cells(cells, name) for name, cells in
-                 (("particles", particles), ("walls", walls), ("obstacles", obstacles))
-                 if cells is not None}
+                 zip(names, (particles, walls, obstacles)) if cells is not None}
         shapes = {cells.shape for cells in given.values()}
         if len(shapes) != 1:
             raise ValueError("particles, walls and obstacles have one shape: "
                              + (" and ".join(map(str, sorted(shapes))) or "none is given"))
         (height, width), = shapes
-        gas = cls(width, height, tick, tuple(Drain(*port) for port in drains),
-                  tuple(Source(*port) for port in sources),
-                  *(plane_of(given[name]) if name in given else b""
-                    for name in ("particles", "walls", "obstacles")))
+        planes = (plane_of(given[name]) if name in given else b"" for name in names)
+        gas = cls(width, height, tick, tuple(Drain(*it) for it in drains),
+                  tuple(Source(*it) for it in sources), *planes)
         try:
             return cls.from_bytes(gas.to_bytes())
         except struct.error as fault:
             raise ValueError(f"a tick or a port is out of range: {fault}") from None
 
     @classmethod
-    def read(cls, path: PathLike) -> Snapshot:
+    def read(cls, path: PathLike) -> "Snapshot":
         """The snapshot in a file. Raises a `SnapshotFault`, or `OSError` from the file."""
         with open(path, "rb") as file:
             return cls.from_bytes(file.read(_LONGEST + 1))
+
+    @classmethod
+    def from_bytes(cls, data: bytes) -> "Snapshot":
+        """The snapshot that the bytes spell, or the first fault from the left."""
+        return _Reader(data).snapshot()
 
     def write(self, path: PathLike) -> None:
         """Writes the snapshot to a file, which is replaced whole."""
         with draft(path) as file:
             file.write(self.to_bytes())
 
-    @classmethod
-    def from_bytes(cls, data: bytes) -> Snapshot:
-        """The snapshot that the bytes spell, or the first fault from the left."""
-        return _Reader(data).snapshot()
-
     def to_bytes(self) -> bytes:
         """The snapshot in version 2 of the format."""
         head = struct.pack(">HHqBB", self.width, self.height, self.tick,
                            len(self.drains), len(self.sources))
-        ports = [struct.pack(">4H", *drain) for drain in self.drains]
-        ports += [struct.pack(">5H", *source) for source in self.sources]
+        ports = [struct.pack(f">{len(port)}H", *port) for port in (*self.drains, *self.sources)]
         planes = (self.particle_bytes, self.wall_bytes, self.obstacle_bytes)
         return b"".join((b"HPPGAS2\n", head, *ports, *planes))
 
@@ -194,11 +179,9 @@ class _Reader:
     """Takes the fields of a snapshot from the left."""
 
     def __init__(self, data: bytes) -> None:
-        self.data = data
-        self.at = 0
+        self.data, self.at = data, 0
 
     def take(self, size: int, what: str) -> bytes:
-        """The next bytes."""
         part = self.data[self.at:self.at + size]
         if len(part) < size:
             raise ShortFault(f"{what} needs {size} bytes, and {len(part)} are there")
@@ -206,35 +189,28 @@ class _Reader:
         return part
 
     def snapshot(self) -> Snapshot:
-        """All fields."""
         version = _MAGICS.get(self.take(8, "the magic"))
         if version is None:
             raise MagicFault(f"a snapshot does not begin with {self.data[:8]!r}")
         width, height = struct.unpack(">HH", self.take(4, "the size"))
-        for side in (width, height):
-            if side not in SIDES or side > _LARGEST_SIDE[version]:
-                raise SizeFault(f"{width} by {height} in version {version}")
+        if not all(side in SIDES and side <= _LARGEST_SIDE[version] for side in (width, height)):
+            raise SizeFault(f"{width} by {height} in version {version}")
         tick, = struct.unpack(">q", self.take(8, "the tick"))
         if abs(tick) > TICK_LIMIT:
             raise TickFault(f"{tick} is not from -2^40 to 2^40")
-        drains, sources = self.ports(width, height)
-        size = width * height // 8
-        particles, walls = (self.take(size, f"the plane of {it}") for it in ("particles", "walls"))
-        obstacles = self.take(size, "the plane of obstacles") if version == 2 else b""
-        if self.at < len(self.data):
-            raise TrailingFault("bytes after the last field")
-        return Snapshot(width, height, tick, drains, sources, particles, walls, obstacles, version)
-
-    def ports(self, width: int, height: int) -> tuple[tuple[Drain, ...], tuple[Source, ...]]:
-        """The counts of ports, the drains and the sources."""
         drains, sources = self.take(2, "the counts of ports")
         if drains > MOST_PORTS or sources > MOST_PORTS:
             raise PortFault(f"{drains} drains and {sources} sources: at most 16 of each")
-        return (tuple(self.port(Drain, ">4H", width, height) for _ in range(drains)),
-                tuple(self.port(Source, ">5H", width, height) for _ in range(sources)))
+        ports = [tuple(self.port(kind, width, height) for _ in range(count))
+                 for kind, count in ((Drain, drains), (Source, sources))]
+        names = ("particles", "walls", "obstacles")[:version + 1]
+        planes = [self.take(width * height // 8, f"the plane of {name}") for name in names]
+        if self.at < len(self.data):
+            raise TrailingFault("bytes after the last field")
+        return Snapshot(width, height, tick, *ports, *planes, version=version)
 
-    def port(self, kind: type, form: str, width: int, height: int) -> Any:
-        """A drain or a source."""
+    def port(self, kind: Any, width: int, height: int) -> Any:
+        form = f">{len(kind._fields)}H"
         port = kind(*struct.unpack(form, self.take(struct.calcsize(form), "a port")))
         is_inside = port.w and port.h and port.x + port.w <= width and port.y + port.h <= height
         if not is_inside or 0 in port[4:]:

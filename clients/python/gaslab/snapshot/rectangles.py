@@ -1,12 +1,8 @@
 """Few rectangles that cover a set of cells."""
-from __future__ import annotations
-
 from collections.abc import Iterator
 from typing import Any
 
 import numpy
-
-__all__ = ["Rectangle", "cover"]
 
 Rectangle = tuple[int, int, int, int]
 """x, y, w and h in cells: the left upper corner, width and height."""

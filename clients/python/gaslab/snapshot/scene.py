@@ -1,6 +1,4 @@
 """Walls, obstacles and ports, replayed from the journal, since no command reads them."""
-from __future__ import annotations
-
 from typing import Any
 
 import numpy
@@ -9,8 +7,6 @@ from ..protocol.commands import MOST_PORTS, parse_change
 from ..protocol.errors import Strange
 from .cells import plane_of
 from .files import Drain, Snapshot, Source
-
-__all__ = ["Scene"]
 
 
 class Scene:
@@ -27,7 +23,7 @@ class Scene:
         self.sources: list[Source] = []
 
     @classmethod
-    def of(cls, start: Snapshot) -> Scene:
+    def of(cls, start: Snapshot) -> "Scene":
         """The scene of a snapshot."""
         scene = cls(start.width, start.height)
         scene.walls, scene.obstacles = start.walls, start.obstacles
