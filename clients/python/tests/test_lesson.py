@@ -1,0 +1,51 @@
+"""The notebook lesson.ipynb, executed by nbconvert over the second implementation."""
+import importlib.util
+import json
+import os
+import subprocess
+import sys
+import tempfile
+import unittest
+from pathlib import Path
+
+from .test_lab import ROOT, STAND_IN
+
+CLIENT = ROOT / "clients" / "python"
+
+
+def executed(program, room):
+    """What the notebook's cells write, one after the other, and how many pictures they show."""
+    environment = {**os.environ, "GASLAB_PROGRAM": str(program), "PYTHONPATH": str(CLIENT),
+                   "HOME": room, "IPYTHONDIR": room, "JUPYTER_PLATFORM_DIRS": "1"}
+    done = subprocess.run([sys.executable, "-m", "nbconvert", "--to", "notebook", "--execute",
+                           "--ExecutePreprocessor.timeout=600", "--output-dir", room,
+                           str(CLIENT / "lesson.ipynb")], env=environment, cwd=room,
+                          stdout=subprocess.PIPE, stderr=subprocess.STDOUT, text=True)
+    assert done.returncode == 0, done.stdout
+    cells = json.loads(Path(room, "lesson.ipynb").read_text())["cells"]
+    outputs = [output for cell in cells for output in cell.get("outputs", [])]
+    text = "".join("".join(output.get("text", "")) for output in outputs)
+    return text, sum("image/png" in output.get("data", {}) for output in outputs)
+
+
+@unittest.skipUnless(importlib.util.find_spec("nbconvert") and importlib.util.find_spec("ipykernel"),
+                     "nbconvert or ipykernel is not installed")
+class Executed(unittest.TestCase):
+    def test_by_the_second_implementation(self):
+        with tempfile.TemporaryDirectory() as room:
+            text, pictures = executed(STAND_IN, room)
+        self.assertIn("drag at the end: 6.0\n", text)
+        self.assertRegex(text, "three times the speed gives ([4-9]|1[0-9]) times the drag\n")
+        self.assertIn("first and last entropy are equal: True\n", text)
+        self.assertIn("first and last gas are equal: True\n", text)
+        self.assertEqual(pictures, 6)
+
+
+class Kept(unittest.TestCase):
+    def test_it_is_kept_without_outputs(self):
+        cells = json.loads((CLIENT / "lesson.ipynb").read_text())["cells"]
+        self.assertTrue(all(not cell.get("outputs") for cell in cells))
+        titles = [line for cell in cells if cell["cell_type"] == "markdown"
+                  for line in cell["source"] if line.startswith("## ")]
+        self.assertEqual(titles, ["## The tunnel\n", "## Drag against speed\n", "## A pulse\n",
+                                  "## There and back\n"])
