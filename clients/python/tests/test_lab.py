@@ -372,11 +372,26 @@ class Looking(unittest.TestCase):
 
     def test_a_snapshot_is_the_same(self):
         lines = (ROOT / "examples" / "4_tunnel.txt").read_text().replace("step 100", "step 5")
-        with run() as plain, run(save=True) as kept:
-            for lab in (plain, kept):
-                list(lab.send(lines))
-            self.assertEqual(plain.look(), kept.look())
-            self.assertEqual(kept.bursts, [])
+        with tempfile.TemporaryDirectory() as room:
+            path = os.path.join(room, "gas")
+            with run(save=path) as lab:
+                lab.do(lines)
+                lab.save()
+                self.assertEqual(lab.look(), Snapshot.read(path))
+
+    def test_a_shelf(self):
+        """With one, a look is a snapshot and reads no row."""
+        with tempfile.TemporaryDirectory() as room:
+            path = os.path.join(room, "gas")
+            gas = Snapshot(64, 64, 5, particle_bytes=b"\1" + bytes(511))
+
+            def answer(line):
+                if line == "save":
+                    gas.write(path)
+                return typical(line)
+            with Fake(answer) as fake, joined(fake, shelf=path) as lab:
+                self.assertEqual((lab.look(), lab.bursts), (gas, []))
+                self.assertEqual(fake.lines, ["tally", "save"])
 
     def test_walls_of_a_start(self):
         with tempfile.TemporaryDirectory() as room:

@@ -8,7 +8,7 @@ import numpy
 
 from ..protocol.commands import COMMANDS, MOST_STEPS
 from ..protocol.replies import Entry, Ledger, Ok, Probe, Row, Saved, Tally
-from ..protocol.sending import check_line
+from ..protocol.link import check_line
 from ..snapshot.cells import plane_of
 from .session import Session
 

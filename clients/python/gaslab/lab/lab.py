@@ -1,7 +1,7 @@
 """The laboratory as an object: a program that is started, or a server that is joined."""
 import math
 from collections.abc import Mapping, Sequence
-from typing import Any, Optional, Union
+from typing import Any, Optional
 
 from ..protocol.commands import MOST_ENTRIES
 from ..protocol.doors import PathLike, Program, Server, find_program
@@ -19,7 +19,7 @@ class Lab(Gates):
 
     @classmethod
     def run(cls, width: int = 64, height: int = 64, workers: int = 1, cap: int = MOST_ENTRIES,
-            load: Optional[PathLike] = None, save: Union[PathLike, bool, None] = None,
+            load: Optional[PathLike] = None, save: Optional[PathLike] = None,
             program: Optional[PathLike] = None, timeout: float = 60.0) -> "Lab":
         """Starts the built program for one session.
 
@@ -27,19 +27,16 @@ class Lab(Gates):
         the script `gaslab` of this repository, or the one on the PATH. Width and height are in
         cells, multiples of 64 from 64 to 4,096. `workers` are threads, 1 to 16. `cap` is how many
         changes the journal has room for, 1 to 65,536. `load` is a snapshot to start from, which has
-        the size. `save` is a path for `save`, or True for a file of the client's own that goes away
-        with the laboratory; the whole gas is then read by snapshot. `timeout` is how many seconds a
-        reply may take. Raises `ValueError` for other values, and `Unreachable` if there is no
-        built program.
+        the size, and `save` the file that `save` writes. `timeout` is how many seconds a reply may
+        take. Raises `ValueError` for other values, and `Unreachable` if there is no built program.
         """
         start = Snapshot.read(load) if load is not None else None
         size = (start.width, start.height) if start else (width, height)
         check_sides(*size)
         _check("workers", workers, 1, 16)
         _check("cap", cap, 1, MOST_ENTRIES)
-        options = dict(width=size[0], height=size[1], workers=workers, cap=cap, load=load)
-        door = Program(find_program(program), options, save, _checked(timeout))
-        lab = cls(door, start, door.shelf)
+        options = dict(width=size[0], height=size[1], workers=workers, cap=cap, load=load, save=save)
+        lab = cls(Program(find_program(program), options, _checked(timeout)), start)
         lab._size = size
         lab._greet()
         return lab

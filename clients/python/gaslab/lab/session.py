@@ -7,7 +7,7 @@ from ..protocol.doors import Door, PathLike
 from ..protocol.errors import GaslabError, Gone, Refused, Strange, printable
 from ..protocol.replies import Bye, Reply, Row, Tally
 from ..protocol.scripts import Script, read_script
-from ..protocol.sending import Replies, lines_of
+from ..protocol.link import Replies, lines_of
 
 _LAST_WAIT = 5.0  # seconds
 

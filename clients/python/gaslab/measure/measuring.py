@@ -1,6 +1,6 @@
-"""Measuring: tables over time, profiles over space, and fields of density and momentum."""
-from collections.abc import Callable, Mapping, Sequence
-from typing import Any, NamedTuple, Optional
+"""Measuring: tables over time, profiles over space, fields, and random gases to measure."""
+from collections.abc import Callable, Iterator, Mapping, Sequence
+from typing import Any, NamedTuple, Optional, Union
 
 import numpy
 
@@ -8,6 +8,7 @@ from ..lab.lab import Lab
 from ..pictures.drawing import Gas, as_snapshot
 from ..pictures.pixels import check_looks, counts_of
 from ..protocol.replies import Ledger, Tally
+from ..snapshot.cells import check_sides, plane_of
 from ..snapshot.files import Snapshot
 from ..snapshot.rectangles import Rectangle
 from .tables import table_of
@@ -106,3 +107,33 @@ def profile(gas: Gas, along: str = "x", bins: Optional[int] = None, tick: int = 
     density = count / (edges[1:] - edges[:-1]) / breadth
     return table_of(("from", "to", "count", "density", "px", "py"),
                     zip(edges[:-1], edges[1:], count, density, px, py))
+
+
+def random_gas(width: int, height: int, density: float,
+               drift: Union[float, tuple[float, float]] = 0.0, seed: Optional[int] = None,
+               tick: int = 0) -> Iterator[str]:
+    """The lines `row y HEX` of a random gas, one for each of the `height` rows.
+
+    Each cell holds a particle with probability `density`, independently of the others.
+    `drift` is the mean velocity to the right, or a pair with that downwards, in columns and rows a
+    step. A cell whose particle would move with (vx, vy) at `tick` is filled with probability
+    density * (1 + drift_x * vx) * (1 + drift_y * vy). The same `seed`, 0 to 4,294,967,295, gives
+    the same gas. Raises `ValueError` for a size that no lattice has, or if a probability would not
+    be from 0 to 1.
+    """
+    check_sides(width, height)
+    drift_x, drift_y = drift if isinstance(drift, tuple) else (drift, 0.0)
+    if not max(abs(drift_x), abs(drift_y)) <= 1:
+        raise ValueError("a drift is from -1 to 1")
+    if not (density >= 0 and density * (1 + abs(drift_x)) * (1 + abs(drift_y)) <= 1):
+        raise ValueError("a density is from 0 to 1, and so is density * (1 + |drift_x|) * "
+                         f"(1 + |drift_y|): not {density}")
+    draw = numpy.random.RandomState(seed)  # its numbers stay the same in each version of numpy
+    right, down = (1 - 2 * ((numpy.arange(side) + tick) % 2) for side in (width, height))
+    return _rows(draw, density * (1 + drift_y * down), 1 + drift_x * right)
+
+
+def _rows(draw: Any, down: Any, across: Any) -> Iterator[str]:
+    for y, share in enumerate(down):
+        cells = draw.random_sample(across.size) < share * across
+        yield f"row {y} {plane_of(cells).hex()}"

@@ -6,7 +6,7 @@ import socket
 import subprocess
 import tempfile
 from pathlib import Path
-from typing import Any, Optional, Protocol, Union
+from typing import Any, Optional, Union
 
 from .errors import Unreachable, printable
 from .link import Link
@@ -16,18 +16,7 @@ PathLike = Union[str, "os.PathLike[str]"]
 _PATIENCE = 5.0  # seconds that a program gets to end
 _LONGEST_SUM = 60.0  # seconds that the script gets to compare its sources
 _ROOT = Path(__file__).resolve().parents[4]
-
-# Waits for the program and then removes its folder, also if the client was killed meanwhile.
-_KEEPER = 'room=$1; shift; "$@"; status=$?; rm -rf -- "$room"; exit "$status"'
-
-
-class Door(Protocol):
-    """A way to a laboratory: a link, and how it is closed."""
-
-    link: Link
-
-    def close(self, polite: bool = True) -> None:
-        """Hangs up, without waiting for what is under way unless `polite`."""
+_BUILT = {0: "", 1: "was built from other sources", 2: "is not built"}
 
 
 def find_program(program: Optional[PathLike] = None) -> Path:
@@ -37,14 +26,13 @@ def find_program(program: Optional[PathLike] = None) -> Path:
     Raises `Unreachable` if there is none, or if a repository's program is not built from its
     sources as they are.
     """
-    named = program if program is not None else os.environ.get("GASLAB_PROGRAM")
     own = _ROOT / "gaslab"
-    if named is None and not own.is_file():
-        named = shutil.which("gaslab")
-        if named is None:
-            raise Unreachable("no program to start: set GASLAB_PROGRAM to gaslab's program, or "
-                              "give program= (--program); a clone makes it by ./gaslab --build")
-    path = Path(named or own).absolute()
+    named = program if program is not None else os.environ.get("GASLAB_PROGRAM") or (
+        own if own.is_file() else shutil.which("gaslab"))
+    if named is None:
+        raise Unreachable("no program to start: set GASLAB_PROGRAM to gaslab's program, or give "
+                          "program= (--program); a clone makes it by ./gaslab --build")
+    path = Path(named).absolute()
     if not os.access(path, os.X_OK) or path.is_dir():
         raise Unreachable(f"no program to start: {path} can't be run; ./gaslab --build makes the "
                           "program")
@@ -54,47 +42,33 @@ def find_program(program: Optional[PathLike] = None) -> Path:
 
 
 def _check_built(script: Path) -> None:
-    """Raises `Unreachable` unless the script says that its program is built from its sources."""
     try:
         status = subprocess.run([script, "--is-built"], stdin=subprocess.DEVNULL,
                                 stdout=subprocess.DEVNULL, stderr=subprocess.DEVNULL,
                                 timeout=_LONGEST_SUM).returncode
     except subprocess.TimeoutExpired:
         status = -1
-    known = {0: "", 1: "was built from other sources", 2: "is not built"}
-    what = known.get(status, "does not say whether it is built")
+    what = _BUILT.get(status, "does not say whether it is built")
     if what:
         raise Unreachable(f"the program {what}: run ./gaslab --build in {script.parent}, or name "
                           "another program by GASLAB_PROGRAM or program= (--program)")
 
 
 class Program:
-    """The program, started for one session on its standard streams.
+    """The program, started for one session on its standard streams."""
 
-    With `save=True` it saves to a file of the client's own, `shelf`, that goes away with it.
-    """
-
-    def __init__(self, path: Path, options: dict[str, Any], save: Union[PathLike, bool, None],
-                 timeout: float) -> None:
+    def __init__(self, path: Path, options: dict[str, Any], timeout: float) -> None:
         self.path = path
-        self.shelf: Optional[str] = None
-        self._room: Optional[str] = None
-        keeper: list[str] = []
-        if save is True:
-            self._room = tempfile.mkdtemp(prefix="gaslab-")
-            self.shelf = save = os.path.join(self._room, "shelf")
-            keeper = ["/bin/sh", "-c", _KEEPER, "gaslab", self._room]
-        words = [*keeper, str(path), "run"]
-        for name, value in (*options.items(), ("save", save)):
-            if value is not None and value is not False:
+        words = [str(path), "run"]
+        for name, value in options.items():
+            if value is not None:
                 words += [f"--{name}", os.fspath(value) if name in ("load", "save") else str(value)]
-        self._said = tempfile.TemporaryFile()
+        self._said = tempfile.TemporaryFile()  # it has no name, so nothing of it can be left
         try:
             self._process = subprocess.Popen(words, stdin=subprocess.PIPE, stdout=subprocess.PIPE,
-                                             stderr=self._said, bufsize=0,
-                                             start_new_session=True)
+                                             stderr=self._said, bufsize=0, start_new_session=True)
         except OSError as fault:
-            self._clean()
+            self._said.close()
             raise Unreachable(f"no program to start: {fault}") from fault
         assert self._process.stdin and self._process.stdout
         self.link = Link(self._process.stdout.fileno(), self._process.stdin.fileno(), timeout,
@@ -116,11 +90,6 @@ class Program:
             parts.append(f"it said: {printable(said[-400:])}")
         return "; ".join(parts)
 
-    def _clean(self) -> None:
-        self._said.close()
-        if self._room:
-            shutil.rmtree(self._room, ignore_errors=True)
-
     def close(self, polite: bool = True) -> None:
         """Ends the program's input, and the program if it does not end by itself."""
         if self._said.closed:
@@ -133,7 +102,7 @@ class Program:
         except subprocess.TimeoutExpired:
             os.killpg(self._process.pid, signal.SIGKILL)  # it and what it has started
             self._process.wait()
-        self._clean()
+        self._said.close()
 
 
 class Server:
@@ -169,3 +138,7 @@ class Server:
     def close(self, polite: bool = True) -> None:
         """Closes the socket."""
         self._socket.close()
+
+
+Door = Union[Program, Server]
+"""A way to a laboratory: a link, and how it is closed."""

@@ -11,13 +11,11 @@ from .errors import REFUSALS, Refused, Strange, printable
 
 class Ok(NamedTuple):
     """A change was made. `index` is its place in the journal, from 0."""
-
     index: int  # type: ignore[assignment]
 
 
 class Probe(NamedTuple):
     """Sums in a rectangle: particles, and their momentum to the right and downwards."""
-
     count: int  # type: ignore[assignment]
     px: int
     py: int
@@ -25,34 +23,21 @@ class Probe(NamedTuple):
 
 class Tally(NamedTuple):
     """The tick, and the sums of the whole gas."""
-
     tick: int
     count: int  # type: ignore[assignment]
     px: int
     py: int
 
 
-class Ledger(NamedTuple):
-    """The accounts: counts of particles, then momentum to the right (x), then downwards (y)."""
-
-    start: int
-    injected: int
-    drained: int
-    start_x: int
-    injected_x: int
-    drained_x: int
-    walls_x: int
-    obstacles_x: int
-    start_y: int
-    injected_y: int
-    drained_y: int
-    walls_y: int
-    obstacles_y: int
+Ledger = NamedTuple("Ledger", [(name, int) for name in (
+    "start", "injected", "drained", "start_x", "injected_x", "drained_x", "walls_x", "obstacles_x",
+    "start_y", "injected_y", "drained_y", "walls_y", "obstacles_y")])
+Ledger.__doc__ = ("The accounts: counts of particles, then momentum to the right (x), then "
+                  "downwards (y).")
 
 
 class Row(NamedTuple):
     """The particles of a row in hexadecimal digits, four cells in each, from the left."""
-
     hex: str
 
     @property
@@ -63,14 +48,12 @@ class Row(NamedTuple):
 
 class Entry(NamedTuple):
     """An entry of the journal: who made the change, and its command."""
-
     seat: int
     command: str
 
 
 class Saved(NamedTuple):
     """A snapshot was written: the journal's length at that moment, and the file's in bytes."""
-
     entries: int
     length: int
 

@@ -11,7 +11,7 @@ from typing import Any, NamedTuple, Optional
 
 from .commands import SIDES
 from .doors import PathLike
-from .sending import lines_of
+from .link import lines_of
 
 _LONGEST = 2 ** 27  # bytes; the longest journal as a script has less
 _DEEPEST = 20
