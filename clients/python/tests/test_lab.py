@@ -576,7 +576,7 @@ class Setting(unittest.TestCase):
     def test_wrong_shapes(self):
         with run(width=128) as lab:
             for wish in ({"particles": numpy.zeros((64, 64))}, {"walls": numpy.zeros((128, 64))}):
-                with self.assertRaisesRegex(ValueError, r"shape \(height, width\), here \(64, 128\)"):
+                with self.assertRaisesRegex(ValueError, r"has shape \(height, width\), here \(64, 128\)"):
                     lab.set(**wish)
             with self.assertRaisesRegex(ValueError, "a row has 128 cells, not 3"):
                 lab.row(0, [1, 0, 1])

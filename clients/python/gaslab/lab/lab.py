@@ -35,8 +35,8 @@ class Lab(Gates):
         check_sides(*size)
         _check("workers", workers, 1, 16)
         _check("cap", cap, 1, MOST_ENTRIES)
-        options = dict(width=size[0], height=size[1], workers=workers, cap=cap, load=load, save=save)
-        lab = cls(Program(find_program(program), options, _checked(timeout)), start)
+        asked = dict(width=size[0], height=size[1], workers=workers, cap=cap, load=load, save=save)
+        lab = cls(Program(find_program(program), asked, _checked(timeout)), start)
         lab._size = size
         lab._greet()
         return lab

@@ -16,9 +16,7 @@ from ..snapshot.scene import Scene
 from .commands import Commands
 from .session import mismatch
 
-_TRIES = 20
-_AHEAD = 512
-_BURST = 256
+_AHEAD = 512  # entries that are asked for at once
 
 
 class Looks(Commands):
@@ -27,8 +25,7 @@ class Looks(Commands):
     def __init__(self, door: Door, start: Optional[Snapshot] = None,
                  shelf: Optional[PathLike] = None) -> None:
         super().__init__(door)
-        self._start = start
-        self._shelf = shelf
+        self._start, self._shelf = start, shelf
         self._scene: Optional[Scene] = None
         self._enacted = 0
         self.bursts: list[float] = []
@@ -43,8 +40,8 @@ class Looks(Commands):
             inside = [isinstance(reply, Probe) for reply in self.send(lines)]
             half = len(SIDES)
             width, height = sum(inside[:half]), sum(inside[half:])
-            wanted = [k < side for side in (width, height) for k in range(half)]
-            if inside != wanted or not width or not height:
+            if inside != [k < side for side in (width, height) for k in range(half)] \
+                    or not width or not height:
                 raise Strange("no gas of a laboratory: its probes name no width and height")
             self._size = 64 * width, 64 * height
         return self._size
@@ -61,7 +58,7 @@ class Looks(Commands):
                 elif isinstance(reply, Refused) and reply.number == 9:
                     is_whole = True
                 elif not isinstance(reply, Entry):
-                    raise reply if isinstance(reply, Refused) else mismatch(line, reply)
+                    raise mismatch(line, reply)
             if len(self._entries) > MOST_ENTRIES:
                 raise Strange(f"the journal has more than {MOST_ENTRIES} entries")
             ahead = min(2 * ahead, _AHEAD)
@@ -76,7 +73,7 @@ class Looks(Commands):
         """The particles at one tick, an array of bool of shape (height, width)."""
         return self.look().particles
 
-    def look(self, tries: int = _TRIES, burst: int = _BURST) -> Snapshot:
+    def look(self, tries: int = 20, burst: int = 256) -> Snapshot:
         """The whole gas at one tick: particles, walls, obstacles and ports.
 
         With a shelf it is a snapshot. Without, the rows are read, `burst` of them at once. If the
@@ -88,43 +85,34 @@ class Looks(Commands):
             self.save()
             return Snapshot.read(self._shelf)
         for _ in range(tries):
-            found = self._look_once(burst)
-            if found is not None:
-                return found
+            scene, tally, rows = self.scene(), self.tally(), []
+            self.bursts = []
+            for first in range(0, self.size[1], burst):
+                began = time.monotonic()
+                rows += self._rows(range(first, min(first + burst, self.size[1])))
+                self.bursts.append(time.monotonic() - began)
+            known = len(self._entries)
+            if len(self.journal()) == known:
+                return scene.snapshot(tally.tick, bytes.fromhex("".join(rows)))
         raise Moving(f"the gas was changed during each of {tries} looks: others step it without a "
                      "pause; a server on this machine that saves can be looked at by shelf=")
-
-    def _look_once(self, burst: int) -> Optional[Snapshot]:
-        """The gas, or None if it was changed meanwhile."""
-        scene = self.scene()
-        tally = self.tally()
-        plane = bytearray()
-        self.bursts = []
-        for first in range(0, scene.height, burst):
-            began = time.monotonic()
-            for digits in self._rows(range(first, min(first + burst, scene.height))):
-                plane += bytes.fromhex(digits)
-            self.bursts.append(time.monotonic() - began)
-        known = len(self._entries)
-        if len(self.journal()) > known:
-            return None
-        return scene.snapshot(tally.tick, bytes(plane))
 
     def _rows(self, rows: range) -> Iterator[str]:
         """The digits of these rows."""
         lines = [f"read {y}" for y in rows]
         for line, row in zip(lines, self.send(lines)):
-            if not isinstance(row, Row) or 4 * len(row.hex) != self.size[0]:
+            if not self._is_of(row, Row):
                 raise mismatch(line, row)
-            yield row.hex
+            yield row.hex  # type: ignore[union-attr]
 
     def scene(self) -> Scene:
         """Walls, obstacles and ports, from the start and the journal."""
         if self._scene is None:
-            if self._start and (self._start.width, self._start.height) != self.size:
+            start = self._start or Snapshot(*self.size)
+            if (start.width, start.height) != self.size:
                 raise ValueError("the start has {} by {} cells, and this gas {} by {}".format(
-                    self._start.width, self._start.height, *self.size))
-            self._scene = Scene.of(self._start) if self._start else Scene(*self.size)
+                    start.width, start.height, *self.size))
+            self._scene = Scene(start)
         for entry in self.journal()[self._enacted:]:
             self._scene.enact(entry.command)
             self._enacted += 1
@@ -137,26 +125,20 @@ class Looks(Commands):
         and obstacles by few rectangles. Returns the number of changes. Raises `ValueError` for
         arrays of another shape.
         """
-        given = {name: self._fitting(cells, name) for name, cells in
-                 (("particles", particles), ("walls", walls), ("obstacles", obstacles))
-                 if cells is not None}
-        lines = []
-        if "walls" in given or "obstacles" in given:
-            scene = self.scene()
-            lines += _edits(scene, given.get("walls", scene.walls),
-                            given.get("obstacles", scene.obstacles))
-        if "particles" in given:
-            new = [plane_of(row).hex() for row in given["particles"]]
-            old = list(self._rows(range(self.size[1])))
+        lines: list[str] = []
+        scene, shape = self.scene(), self.size[::-1]
+        given = [as_cells(old if new is None else new) for new, old in (
+            (particles, scene.walls), (walls, scene.walls), (obstacles, scene.obstacles))]
+        for cells in given:
+            if cells.shape != shape:
+                raise ValueError(f"an array has shape (height, width), here {shape}, and not "
+                                 f"{cells.shape}")
+        lines += _edits(scene, *given[1:])
+        if particles is not None:
+            new = [plane_of(row).hex() for row in given[0]]
+            old = list(self._rows(range(shape[0])))
             lines += [f"row {y} {new[y]}" for y in range(len(new)) if new[y] != old[y]]
         return len(self.do(lines))
-
-    def _fitting(self, cells: Any, name: str) -> Any:
-        found, (width, height) = as_cells(cells, name), self.size
-        if found.shape != (height, width):
-            raise ValueError(f"{name} has shape (height, width), here {(height, width)}, and not "
-                             f"{found.shape}")
-        return found
 
 
 def _edits(scene: Scene, walls: Any, obstacles: Any) -> Iterator[str]:

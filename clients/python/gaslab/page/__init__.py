@@ -1,2 +1,4 @@
 """The page of `watch --page`."""
-from .server import Page as Page
+from .server import Page
+
+__all__ = ["Page"]

@@ -22,6 +22,9 @@ _LAST = 8  # entries that are shown
 _BURST = 64  # rows that are read at once
 _WIDEST = 1024  # pixels
 _IDLE = 3.0  # seconds after which nobody looks at the page
+_FAULTS = ((Moving, "moving", "Others change the gas all the time: this is an older look."),
+           (Silent, "silent", "The server does not answer: this is an older look."),
+           (Gone, "ended", "The server has ended: this is the last look."))
 _SHARE = 4  # a look is followed by a pause at least so many times as long
 
 
@@ -63,16 +66,10 @@ class Looker:
         status, message = "live", ""
         try:
             self._look()
-        except Moving:
-            status, message = "moving", "Others change the gas all the time: this is an older look."
-        except Silent:
-            status, message = "silent", "The server does not answer: this is an older look."
-        except Gone:
-            status, message = "ended", "The server has ended: this is the last look."
         except (GaslabError, OSError, ValueError, MemoryError) as fault:
-            status = "ended"
-            message = ("The server cannot be read: this is the last look. "
-                       + printable(str(fault)))
+            status, message = next((it for kind, *it in _FAULTS if isinstance(fault, kind)),
+                                   ("ended", "The server cannot be read: this is the last look. "
+                                    + printable(str(fault))))
         with self._lock:
             self._state.update(status=status, message=message)
         if status == "ended":

@@ -58,16 +58,17 @@ def picture(gas: Gas, path: Optional[PathLike] = None, scale: Optional[int] = No
 def picture_bytes(gas: Gas, scale: Optional[int] = None, mean: Optional[int] = None,
                   colour: str = "kind", tick: int = 0) -> bytes:
     """The PNG file of `picture` as bytes."""
-    data = io.BytesIO()
-    picture(gas, None, scale, mean, colour, tick).save(data, "PNG")
-    return data.getvalue()
+    return _png(picture(gas, None, scale, mean, colour, tick))
 
 
 def plain_png(gas: Snapshot, mean: Optional[int] = None, colour: str = "kind") -> bytes:
     """A PNG file with a pixel for each cell, or for each square of `mean` by `mean` cells."""
     check_looks(gas, mean, colour)
-    image = _image(cell_pixels(gas, colour), palette.CELLS) if mean is None \
-        else _image(density_pixels(gas, mean), palette.DENSITIES)
+    return _png(_image(cell_pixels(gas, colour), palette.CELLS) if mean is None
+                else _image(density_pixels(gas, mean), palette.DENSITIES))
+
+
+def _png(image: Any) -> bytes:
     data = io.BytesIO()
     image.save(data, "PNG")
     return data.getvalue()
@@ -80,8 +81,8 @@ def film(lab: Lab, path: PathLike, steps: int, frames: int, scale: Optional[int]
     It is a GIF if the path ends in .gif, and an animated PNG if it ends in .png or .apng. The first
     frame is the gas as it is. The laboratory ends at the last one, `steps * (frames - 1)` ticks
     later. Each frame is shown for `milliseconds`, 1 to 65,535; a GIF rounds them to ten. Frames
-    stay in memory until the film is whole and the file is replaced. The other words are those of `picture`. Raises `ValueError`
-    for other values or another ending, before the first step.
+    stay in memory until the film is whole and the file is replaced. The other words are those of
+    `picture`. Raises `ValueError` for other values or another ending, before the first step.
     """
     kind = _kind(path, _FILMS, "a film")
     if frames < 1 or not 1 <= milliseconds <= 65535:

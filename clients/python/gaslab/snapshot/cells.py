@@ -13,10 +13,8 @@ from ..protocol.commands import SIDES
 
 def check_sides(width: object, height: object) -> None:
     """Raises `ValueError` unless a lattice may be so wide and so high."""
-    for side in (width, height):
-        if side not in SIDES:
-            raise ValueError("sides are multiples of 64 from 64 to 4,096: not "
-                             f"{width} by {height}")
+    if width not in SIDES or height not in SIDES:
+        raise ValueError(f"sides are multiples of 64 from 64 to 4,096: not {width} by {height}")
 
 
 def as_cells(cells: Any, what: str = "the array") -> Any:

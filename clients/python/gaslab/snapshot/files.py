@@ -13,14 +13,15 @@ from .cells import array_of, as_cells, check_sides, plane_of
 
 TICK_LIMIT = 2 ** 40
 _LONGEST = 6291766  # bytes
-_MAGICS = {b"HPPGAS1\n": 1, b"HPPGAS2\n": 2}
-_LARGEST_SIDE = {1: 2048, 2: 4096}
+_LARGEST_SIDE = {b"HPPGAS1\n": 2048, b"HPPGAS2\n": 4096}
 
 
 class SnapshotFault(GaslabError, ValueError):
     """The bytes are no snapshot. `name` is the fault's name in docs/FORMATS.md."""
-
     name = ""
+
+    def __init_subclass__(cls) -> None:
+        cls.name = cls.__name__[:-len("Fault")]
 
     def __init__(self, what: str) -> None:
         super().__init__(f"{self.name}: {what}")
@@ -28,49 +29,38 @@ class SnapshotFault(GaslabError, ValueError):
 
 class ShortFault(SnapshotFault):
     """A field's bytes are not all there."""
-    name = "Short"
 
 
 class MagicFault(SnapshotFault):
     """The first 8 bytes are those of neither version."""
-    name = "Magic"
 
 
 class SizeFault(SnapshotFault):
     """A side is no multiple of 64, or too long."""
-    name = "Size"
 
 
 class TickFault(SnapshotFault):
     """The tick is not from -2^40 to 2^40."""
-    name = "Tick"
 
 
 class PortFault(SnapshotFault):
     """A count of ports is above 16, a rectangle is not inside, or a period is 0."""
-    name = "Port"
 
 
 class TrailingFault(SnapshotFault):
     """There are bytes after the last field."""
-    name = "Trailing"
 
 
-class Drain(NamedTuple):
-    """A rectangle of cells that loses its particles at each tick."""
-    x: int
-    y: int
-    w: int
-    h: int
+Drain = NamedTuple("Drain", [(name, int) for name in ("x", "y", "w", "h")])
+Drain.__doc__ = "A rectangle of cells that loses its particles at each tick."
+Source = NamedTuple("Source", [(name, int) for name in ("x", "y", "w", "h", "period")])
+Source.__doc__ = "A rectangle of cells that is filled at each tick that `period` divides."
 
 
-class Source(NamedTuple):
-    """A rectangle of cells that is filled at each tick that `period` divides."""
-    x: int
-    y: int
-    w: int
-    h: int
-    period: int
+def _cells_of(name: str, what: str) -> Any:
+    """A property: a packed plane as an array."""
+    return property(lambda gas: array_of(getattr(gas, name), gas.width),
+                    doc=f"Truth values of shape (height, width): where {what} are.")
 
 
 @dataclass(frozen=True)
@@ -150,20 +140,9 @@ class Snapshot:
         planes = (self.particle_bytes, self.wall_bytes, self.obstacle_bytes)
         return b"".join((b"HPPGAS2\n", head, *ports, *planes))
 
-    @property
-    def particles(self) -> Any:
-        """Truth values of shape (height, width): where particles are."""
-        return array_of(self.particle_bytes, self.width)
-
-    @property
-    def walls(self) -> Any:
-        """Truth values of shape (height, width): where walls are."""
-        return array_of(self.wall_bytes, self.width)
-
-    @property
-    def obstacles(self) -> Any:
-        """Truth values of shape (height, width): where obstacles are."""
-        return array_of(self.obstacle_bytes, self.width)
+    particles = _cells_of("particle_bytes", "particles")
+    walls = _cells_of("wall_bytes", "walls")
+    obstacles = _cells_of("obstacle_bytes", "obstacles")
 
     @property
     def count(self) -> int:
@@ -181,37 +160,38 @@ class _Reader:
     def __init__(self, data: bytes) -> None:
         self.data, self.at = data, 0
 
-    def take(self, size: int, what: str) -> bytes:
+    def take(self, form: str, what: str) -> Any:
+        size = struct.calcsize(form)
         part = self.data[self.at:self.at + size]
         if len(part) < size:
             raise ShortFault(f"{what} needs {size} bytes, and {len(part)} are there")
         self.at += size
-        return part
+        return struct.unpack(form, part)
 
     def snapshot(self) -> Snapshot:
-        version = _MAGICS.get(self.take(8, "the magic"))
-        if version is None:
-            raise MagicFault(f"a snapshot does not begin with {self.data[:8]!r}")
-        width, height = struct.unpack(">HH", self.take(4, "the size"))
-        if not all(side in SIDES and side <= _LARGEST_SIDE[version] for side in (width, height)):
-            raise SizeFault(f"{width} by {height} in version {version}")
-        tick, = struct.unpack(">q", self.take(8, "the tick"))
+        magic, = self.take("8s", "the magic")
+        if magic not in _LARGEST_SIDE:
+            raise MagicFault(f"a snapshot does not begin with {magic!r}")
+        width, height = self.take(">HH", "the size")
+        if not all(side in SIDES and side <= _LARGEST_SIDE[magic] for side in (width, height)):
+            raise SizeFault(f"{width} by {height} in a snapshot that begins with {magic!r}")
+        tick, = self.take(">q", "the tick")
         if abs(tick) > TICK_LIMIT:
             raise TickFault(f"{tick} is not from -2^40 to 2^40")
-        drains, sources = self.take(2, "the counts of ports")
+        drains, sources = self.take("BB", "the counts of ports")
         if drains > MOST_PORTS or sources > MOST_PORTS:
             raise PortFault(f"{drains} drains and {sources} sources: at most 16 of each")
         ports = [tuple(self.port(kind, width, height) for _ in range(count))
                  for kind, count in ((Drain, drains), (Source, sources))]
+        version = int(magic[6:7])
         names = ("particles", "walls", "obstacles")[:version + 1]
-        planes = [self.take(width * height // 8, f"the plane of {name}") for name in names]
+        planes = [self.take(f"{width * height // 8}s", f"the plane of {it}")[0] for it in names]
         if self.at < len(self.data):
             raise TrailingFault("bytes after the last field")
         return Snapshot(width, height, tick, *ports, *planes, version=version)
 
     def port(self, kind: Any, width: int, height: int) -> Any:
-        form = f">{len(kind._fields)}H"
-        port = kind(*struct.unpack(form, self.take(struct.calcsize(form), "a port")))
+        port = kind(*self.take(f">{len(kind._fields)}H", "a port"))
         is_inside = port.w and port.h and port.x + port.w <= width and port.y + port.h <= height
         if not is_inside or 0 in port[4:]:
             raise PortFault(f"{port} in a lattice of {width} by {height}")
@@ -225,17 +205,16 @@ def draft(path: PathLike) -> Iterator[BinaryIO]:
     What is no file, such as /dev/stdout, is written to at once.
     """
     place = os.path.realpath(path)
-    if os.path.exists(place) and not os.path.isfile(place):
-        with open(place, "wb") as file:
-            yield file
-        return
+    is_file = os.path.isfile(place) or not os.path.exists(place)
     folder, name = os.path.split(place)
-    beside = os.path.join(folder, f".{name}.{os.getpid()}.tmp")
-    file = open(beside, "xb")
+    beside = os.path.join(folder, f".{name}.{os.getpid()}.tmp") if is_file else place
+    file = open(beside, "xb" if is_file else "wb")
     try:
         with file:
             yield file
-        os.replace(beside, place)
+        if is_file:
+            os.replace(beside, place)
     except BaseException:
-        os.unlink(beside)
+        if is_file:
+            os.unlink(beside)
         raise
