@@ -8,14 +8,19 @@ measures what it finds. It proves nothing: what is proved is the program that it
     ...     replies = lab.play("examples/4_tunnel.txt")
     ...     image = picture(lab, "tunnel.png", mean=4)
 """
-from .protocol import (Bye, Entry, GaslabError, Gone, LIMITS, Ledger, MissingLibrary, Moving, Ok,
-                       Probe, REFUSALS, Refused, Reply, Row, Saved, Silent, Strange, Tally,
-                       Unreachable, named, parse_reply)
-from .snapshot import (Drain, MagicFault, PortFault, ShortFault, SizeFault, Snapshot, SnapshotFault,
-                       Source, TickFault, TrailingFault)
-from .lab import Lab, place, truth_table
-from .measure import Fields, chart, csv_text, every, profile, random_gas, velocity
-from .pictures import film, palette, picture, picture_bytes, text_picture
+from .protocol.errors import (GaslabError, Gone, LIMITS, MissingLibrary, Moving, REFUSALS, Refused, Silent,
+                              Strange, Unreachable)
+from .protocol.replies import (Bye, Entry, Ledger, Ok, Probe, Reply, Row, Saved, Tally, named, parse_reply,
+                               reply_text)
+from .snapshot.files import (Drain, MagicFault, PortFault, ShortFault, SizeFault, Snapshot, SnapshotFault, Source,
+                             TickFault, TrailingFault)
+from .lab.gates import place, truth_table
+from .lab.lab import Lab
+from .measure.measuring import Fields, every, profile, random_gas, velocity
+from .measure.tables import chart, csv_text
+from .pictures import palette
+from .pictures.drawing import film, picture, picture_bytes
+from .pictures.text import text_picture
 
 __version__ = "1.0.0"
 
@@ -25,5 +30,5 @@ __all__ = [
     "Reply", "Row", "Saved", "ShortFault", "Silent", "SizeFault", "Snapshot", "SnapshotFault",
     "Source", "Strange", "Tally", "TickFault", "TrailingFault", "Unreachable", "chart", "csv_text",
     "every", "film", "named", "palette", "parse_reply", "picture", "picture_bytes", "place",
-    "profile", "random_gas", "text_picture", "truth_table", "velocity",
+    "profile", "random_gas", "reply_text", "text_picture", "truth_table", "velocity",
 ]

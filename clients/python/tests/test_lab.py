@@ -585,7 +585,7 @@ class Setting(unittest.TestCase):
 
 class Lessons(unittest.TestCase):
     def test_replies_are_those_beside_the_scripts(self):
-        from gaslab.protocol import reply_text
+        from gaslab import reply_text
         for name in ("1_one_particle", "2_head_on", "2_blocks", "3_gate", "4_tunnel"):
             script = ROOT / "examples" / f"{name}.txt"
             with run() as lab:

@@ -2,7 +2,7 @@ import unittest
 
 from gaslab import (Bye, Entry, LIMITS, Ledger, Ok, Probe, REFUSALS, Refused, Row, Saved, Strange,
                     Tally, named, parse_reply)
-from gaslab.protocol import reply_text
+from gaslab import reply_text
 
 EACH = [
     ("OK 0", Ok(0), "OK index 0"),

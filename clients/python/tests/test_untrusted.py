@@ -9,7 +9,7 @@ import unittest
 from unittest import mock
 
 from gaslab import GaslabError, Gone, Lab, REFUSALS, Silent, Strange, named
-from gaslab.protocol import reply_text
+from gaslab import reply_text
 
 from .fake import REPLIES
 from .test_shell import said

@@ -13,9 +13,9 @@ import urllib.request
 from pathlib import Path
 from unittest import mock
 
-import gaslab.page
+import gaslab.page.server
 from gaslab import Lab
-from gaslab.page import Page
+from gaslab.page.server import Page
 from gaslab.cli.terminal import looks
 
 from .fake import Fake

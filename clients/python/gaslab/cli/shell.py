@@ -1,52 +1,44 @@
 """The shell: a prompt for commands, with names in the replies and the limit beside each `ERR`."""
 import inspect
-import os
 import signal
 import sys
 from collections.abc import Callable, Iterator
-from contextlib import contextmanager
+from contextlib import contextmanager, suppress
 from typing import Any, Optional, TextIO, Union
 
 from ..lab.lab import Lab
 from ..measure.tables import csv_text
-from ..pictures import picture, text_picture
+from ..pictures.drawing import picture
+from ..pictures.text import text_picture
 from ..protocol.commands import COMMANDS
 from ..protocol.errors import GaslabError, Gone, LIMITS, REFUSALS, Refused, Strange, printable
 from ..protocol.replies import Bye, Reply, named, reply_text
 from ..protocol.scripts import Script, is_open, parse_script, read_script
 from .terminal import columns
 
-WORDS = {
-    "run": ("n", "makes n steps in commands of 64 and tells how far it is; -n goes back"),
-    "play": ("FILE", "does the commands of a script, up to the first ERR"),
-    "shoot": ("x y vx vy", "puts a particle that flies with (vx, vy), each 1 or -1"),
-    "trace": ("n", "makes n steps, and tells where the particles are at each tick"),
-    "draw": ("[velocity]", "draws the gas here; the colours may be those of velocities"),
-    "picture": ("PATH", "writes a PNG or GIF file"),
-    "names": ("on|off", "replies with names, or as they come"),
-    "repeat": ("N { .. }", "as in: repeat 30 { step 100; ledger }"),
-    "help": ("[word]", "tells about a word, or which words there are"),
-}
-"""The words of the shell itself."""
-
-_PIECE = 64
+_PIECE = 64  # steps of a command of `run`
 
 
 def help_text(word: str = "") -> str:
     """What the shell says about a word, or about all."""
-    if word in COMMANDS:
-        words, what, numbers = COMMANDS[word]
+    own = {name: (_takes(Shell.WORDS[name]), Shell.WORDS[name].__doc__, ()) for name in Shell.WORDS}
+    own["repeat"] = ("N { .. }", "as in: repeat 30 { step 100; ledger }", ())
+    if word:
+        if word not in {**COMMANDS, **own}:
+            return f"there is no word {word}: help lists them"
+        words, what, numbers = {**COMMANDS, **own}[word]
         limits = [f"  ERR {number} {REFUSALS[number]}: {LIMITS[number]}" for number in numbers]
         return "\n".join((f"{word} {words}".rstrip(), f"  {what}", *limits))
-    if word in WORDS:
-        words, what = WORDS[word]
-        return f"{word} {words}\n  {what}"
-    if word:
-        return f"there is no word {word}: help lists them"
-    lines = [f"  {name + ' ' + words:<24} {what}" for name, (words, what, _) in COMMANDS.items()]
-    lines += ["of the shell, with ; between commands and # before a comment; Ctrl-C ends a run:"]
-    lines += [f"  {name + ' ' + words:<24} {what}" for name, (words, what) in WORDS.items()]
-    return "\n".join(["the laboratory's commands:", *lines])
+    lines = [[f"  {name + ' ' + words:<24} {what}" for name, (words, what, _) in table.items()]
+             for table in (COMMANDS, own)]
+    return "\n".join(["the laboratory's commands:", *lines[0], "of the shell, with ; between "
+                      "commands and # before a comment; Ctrl-C ends a run:", *lines[1]])
+
+
+def _takes(word: Callable[..., None]) -> str:
+    """The words that a word of the shell takes, in brackets if they may be left out."""
+    return " ".join(name if it.default is it.empty else f"[{name}]" for name, it in
+                    list(inspect.signature(word).parameters.items())[1:])
 
 
 class _Stopped(GaslabError):
@@ -56,18 +48,14 @@ class _Stopped(GaslabError):
 class Shell:
     """Carries out lines of a script on a laboratory, and writes what comes to `out`."""
 
+    WORDS: dict[str, Callable[..., None]] = {}
+    """The words of the shell itself: its methods whose names begin with `word_`."""
+
     def __init__(self, lab: Lab, out: TextIO, coloured: bool) -> None:
-        self.lab = lab
-        self.out = out
-        self.coloured = coloured
+        self.lab, self.out, self.coloured = lab, out, coloured
         self.with_names = True
-        self.has_ended = False
-        self.is_stopped = False
+        self.has_ended = self.is_stopped = False
         self.refusals = 0
-        self._words: dict[str, Callable[..., None]] = {
-            "run": self._run, "play": self._play, "draw": self._draw, "picture": self._picture,
-            "shoot": self._shoot, "trace": self._trace, "names": self._names,
-            "help": lambda word="": self._say(help_text(word))}
 
     def do(self, text: str) -> None:
         """Carries out a text. Faults are said, and end the text but not the shell."""
@@ -101,7 +89,6 @@ class Shell:
     def stoppable(self) -> Iterator[None]:
         """Ctrl-C then ends what is done, after the present command. Twice, it ends the shell."""
         def stop(*_: Any) -> None:
-            """Notes the first Ctrl-C."""
             if self.is_stopped:
                 raise KeyboardInterrupt
             self.is_stopped = True
@@ -115,47 +102,57 @@ class Shell:
     def _one(self, command: str) -> Optional[Reply]:
         """Does a command. Returns the laboratory's reply, if it was asked."""
         word, *rest = command.split(" ")
-        if word not in self._words:
+        if word not in self.WORDS:
             reply, = self.lab.send([command])
             self.has_ended = isinstance(reply, Bye) or reply == Refused(1, "line", command)
             return reply
         try:
-            inspect.signature(self._words[word]).bind(*rest)
+            inspect.signature(self.WORDS[word]).bind(self, *rest)
         except TypeError:
             self._say(help_text(word))
         else:
-            self._words[word](*rest)
+            self.WORDS[word](self, *rest)
         return None
 
-    def _run(self, number: str) -> None:
+    def word_run(self, n: str) -> None:
+        """makes n steps in commands of 64 and tells how far it is; -n goes back"""
         def tell(done: int, total: int) -> None:
-            """Writes how far it is, over the last such line."""
             print(f"\r{done} of {total} steps", end="", file=self.out, flush=True)
             is_stopped = self.is_stopped and done < total
             if is_stopped or done == total:
                 self._say("")
             if is_stopped:
                 raise _Stopped("stopped")
-        self.lab.advance(int(number), _PIECE, tell)
+        self.lab.advance(int(n), _PIECE, tell)
 
-    def _play(self, path: str) -> None:
-        self._carry_out(read_script(path), stops=True)
+    def word_play(self, FILE: str) -> None:
+        """does the commands of a script, up to the first ERR"""
+        self._carry_out(read_script(FILE), stops=True)
 
-    def _shoot(self, x: str, y: str, vx: str, vy: str) -> None:
+    def word_shoot(self, x: str, y: str, vx: str, vy: str) -> None:
+        """puts a particle that flies with (vx, vy), each 1 or -1"""
         self._say(self.lab.shoot(int(x), int(y), int(vx), int(vy)))
 
-    def _trace(self, steps: str) -> None:
-        self._say(csv_text(self.lab.trace(int(steps))).rstrip("\n"))
+    def word_trace(self, n: str) -> None:
+        """makes n steps, and tells where the particles are at each tick"""
+        self._say(csv_text(self.lab.trace(int(n))).rstrip("\n"))
 
-    def _draw(self, colour: str = "kind") -> None:
-        self._say(text_picture(self.lab, columns(), self.coloured, colour))
+    def word_draw(self, velocity: str = "kind") -> None:
+        """draws the gas here; the colours may be those of velocities"""
+        self._say(text_picture(self.lab, columns(), self.coloured, velocity))
 
-    def _picture(self, path: str) -> None:
-        picture(self.lab, path)
-        self._say(f"wrote {path}")
+    def word_picture(self, PATH: str) -> None:
+        """writes a PNG or GIF file"""
+        picture(self.lab, PATH)
+        self._say(f"wrote {PATH}")
 
-    def _names(self, switch: str) -> None:
-        self.with_names = {"on": True, "off": False}.get(switch, self.with_names)
+    def word_names(self, on_or_off: str) -> None:
+        """replies with names, or as they come"""
+        self.with_names = {"on": True, "off": False}.get(on_or_off, self.with_names)
+
+    def word_help(self, word: str = "") -> None:
+        """tells about a word, or which words there are"""
+        self._say(help_text(word))
 
     def _say(self, what: Union[str, Reply]) -> None:
         """Writes a text, or a reply with names or as it came."""
@@ -165,32 +162,31 @@ class Shell:
         print(what, file=self.out, flush=True)
 
 
+Shell.WORDS = {name[len("word_"):]: method for name, method in vars(Shell).items()
+               if name.startswith("word_")}
+
+
 def prompted(history: Optional[str]) -> Iterator[str]:
     """What is typed at a prompt, a whole text at a time, with a history if the system has one.
 
     Ctrl-C drops what is typed, and Ctrl-D ends.
     """
-    try:
+    with suppress(ImportError):
         import readline
-        if history and os.path.exists(history):
+        with suppress(OSError):
             readline.read_history_file(history)
-    except (ImportError, OSError):
-        history = None
     try:
         while True:
-            try:
+            with suppress(KeyboardInterrupt):
                 text = input("gas> ")
                 while is_open(text):
                     text += "\n" + input("...> ")
-            except KeyboardInterrupt:
-                print(file=sys.stderr)
+                yield text
                 continue
-            yield text
+            print(file=sys.stderr)
     except EOFError:
         print(file=sys.stderr)
     finally:
-        if history:
-            try:
-                readline.write_history_file(history)
-            except OSError:
-                pass
+        with suppress(ImportError, OSError):
+            import readline
+            readline.write_history_file(history)

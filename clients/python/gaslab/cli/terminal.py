@@ -8,7 +8,7 @@ from typing import Optional
 
 from ..lab.lab import Lab
 from ..measure.measuring import sums_of
-from ..pictures import text_picture
+from ..pictures.text import text_picture
 from ..protocol.errors import Gone, Moving, Silent
 from ..snapshot.files import Snapshot
 

@@ -7,9 +7,11 @@ from contextlib import nullcontext
 import numpy
 
 from ..lab.lab import Lab
-from ..measure import chart, csv_text, every, profile, random_gas
-from ..page import Page
-from ..pictures import film, picture, text_picture
+from ..measure.measuring import every, profile, random_gas
+from ..measure.tables import chart, csv_text
+from ..page.server import Page
+from ..pictures.drawing import film, picture
+from ..pictures.text import text_picture
 from ..protocol.errors import Strange, printable
 from ..protocol.replies import Row, parse_reply, show_cells
 from ..protocol.scripts import read_text

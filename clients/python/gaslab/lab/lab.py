@@ -66,12 +66,12 @@ class Lab(Gates):
               probes: Optional[Mapping[str, tuple[int, int, int, int]]] = None,
               columns: Optional[Sequence[str]] = None) -> Any:
         """Measures `times` times, each time after `steps` more steps: see `gaslab.every`."""
-        from ..measure import every
+        from ..measure.measuring import every
         return every(self, steps, times, ledger, probes, columns)
 
     def velocity(self, mean: int = 8) -> Any:
         """Density and both momentum densities in squares of cells: see `gaslab.velocity`."""
-        from ..measure import velocity
+        from ..measure.measuring import velocity
         return velocity(self, mean)
 
 

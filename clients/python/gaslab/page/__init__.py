@@ -1,4 +1,1 @@
 """The page of `watch --page`."""
-from .server import Page
-
-__all__ = ["Page"]

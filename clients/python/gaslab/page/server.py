@@ -3,6 +3,7 @@ import base64
 import json
 import threading
 import time
+from functools import partial
 from http.server import BaseHTTPRequestHandler, ThreadingHTTPServer
 from pathlib import Path
 from typing import Any, Optional
@@ -101,17 +102,6 @@ class Looker:
         return self.mean or (mean if mean > 1 else None)
 
 
-class _Server(ThreadingHTTPServer):
-    daemon_threads = True
-
-    def __init__(self, port: int, looker: Looker) -> None:
-        self.looker = looker
-        super().__init__(("127.0.0.1", port), _Handler)
-
-    def handle_error(self, request: Any, client_address: Any) -> None:
-        """Says nothing: a browser may break off at any place."""
-
-
 class Page:
     """The page of a laboratory, for browsers on this machine, until it is closed.
 
@@ -122,7 +112,10 @@ class Page:
     def __init__(self, lab: Lab, port: int = 0, seconds: float = 0.25, mean: Optional[int] = None,
                  colour: str = "kind") -> None:
         self.looker = Looker(lab, seconds, mean, colour)
-        self._server = _Server(port, self.looker)
+        self._server = ThreadingHTTPServer(("127.0.0.1", port), partial(_Handler, self.looker))
+        self._server.daemon_threads = True
+        # a browser may break off at any place
+        self._server.handle_error = lambda *_: None  # type: ignore[method-assign]
         self._thread = threading.Thread(target=self._server.serve_forever, args=(0.05,))
         self._thread.start()
         self.address = f"http://127.0.0.1:{self._server.server_address[1]}/"
@@ -144,13 +137,16 @@ class Page:
 class _Handler(BaseHTTPRequestHandler):
     """Answers GET for the page's files and its state, and nothing else."""
 
-    server: _Server
     server_version, sys_version = "gaslab", ""
     timeout = 60  # seconds that a browser may be silent
 
+    def __init__(self, looker: Looker, *request: Any) -> None:
+        self.looker = looker
+        super().__init__(*request)
+
     def do_GET(self) -> None:
         """Answers a request for a file of the page or its state."""
-        port = self.server.server_address[1]
+        port = self.server.server_address[1]  # type: ignore[index]
         # pages of others, which have another name for this machine, can't read the gas
         is_for_us = self.headers.get("Host") in (f"127.0.0.1:{port}", f"localhost:{port}")
         found = self._found() if is_for_us else None
@@ -172,7 +168,7 @@ class _Handler(BaseHTTPRequestHandler):
         if asked.path == "/state":
             since = parse_qs(asked.query[:100]).get("since", ["0"])[0]
             number = int(since) if since.isascii() and since.isdecimal() else 0
-            return "application/json", json.dumps(self.server.looker.state(number)).encode()
+            return "application/json", json.dumps(self.looker.state(number)).encode()
         if asked.path in _FILES:
             name, kind = _FILES[asked.path]
             return kind, (Path(__file__).parent / name).read_bytes()

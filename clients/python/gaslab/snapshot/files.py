@@ -150,7 +150,7 @@ class Snapshot:
         return int(self.particles.sum())
 
     def _repr_png_(self) -> bytes:
-        from ..pictures import picture_bytes
+        from ..pictures.drawing import picture_bytes
         return picture_bytes(self)
 
 
