@@ -6,7 +6,7 @@ import time
 import unittest
 
 from gaslab.protocol.errors import REFUSALS, Gone, Silent, Strange
-from gaslab.protocol.link import Lines, Link
+from gaslab.protocol.link import Link
 
 from .test_replies import EACH
 
@@ -30,19 +30,15 @@ class Pair:
 
 
 class CutAtEveryByte(unittest.TestCase):
-    def test_lines(self):
-        for at in range(len(STREAM) + 1):
-            lines = Lines()
-            lines.feed(STREAM[:at])
-            lines.feed(STREAM[at:])
-            self.assertEqual([line.decode() for line in lines.whole], ALL)
-            self.assertEqual(lines.rest, b"")
-
-    def test_lines_byte_by_byte(self):
-        lines = Lines()
-        for at in range(len(STREAM)):
-            lines.feed(STREAM[at:at + 1])
-        self.assertEqual([line.decode() for line in lines.whole], ALL)
+    def test_byte_by_byte(self):
+        with Pair() as pair:
+            def drip():
+                for at in range(len(STREAM)):
+                    pair.other.sendall(STREAM[at:at + 1])
+            thread = threading.Thread(target=drip)
+            thread.start()
+            self.assertEqual([pair.link.next_line() for _ in ALL], ALL)
+            thread.join()
 
     def test_a_link(self):
         with Pair() as pair:

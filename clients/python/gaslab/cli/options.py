@@ -1,6 +1,7 @@
 """The options of the command line, and how words find their gas by them."""
 import argparse
 import math
+import re
 from collections.abc import Callable, Iterator
 from contextlib import contextmanager
 from itertools import takewhile
@@ -9,7 +10,7 @@ from typing import Any, Optional, Union
 from ..lab.lab import Lab
 from ..pictures.pixels import COLOURS
 from ..protocol.commands import MOST_ENTRIES, SIDES
-from ..protocol.scripts import Script, read_script
+from ..protocol.scripts import Script, parse_script, read_text
 from ..snapshot.files import Snapshot
 
 _MOST = 10 ** 9
@@ -18,9 +19,7 @@ _MOST = 10 ** 9
 def whole(least: int, most: int) -> Callable[[str], int]:
     """The type of an option that is a whole number in a range."""
     def number(text: str) -> int:
-        digits = text[1:] if text[:1] == "-" else text
-        if not digits.isascii() or not digits.isdecimal() or len(text) > 20 \
-                or not least <= int(text) <= most:
+        if not re.fullmatch("-?[0-9]{1,20}", text) or not least <= int(text) <= most:
             raise argparse.ArgumentTypeError(f"a whole number from {least:,} to {most:,}: not "
                                              f"{text[:40]!r}")
         return int(text)
@@ -144,7 +143,7 @@ def lab_of(asked: argparse.Namespace) -> Iterator[Lab]:
     if _is_snapshot(asked.file):
         load = asked.file
     elif asked.file:
-        size, parts = read_script(asked.file)
+        size, parts = parse_script(read_text(asked.file))
         # a line `quit` would end the session
         script = Script(size, list(takewhile(lambda part: part[1] != "quit", parts)))
     if asked.join:

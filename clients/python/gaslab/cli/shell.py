@@ -13,7 +13,7 @@ from ..pictures.text import text_picture
 from ..protocol.commands import COMMANDS
 from ..protocol.errors import GaslabError, Gone, LIMITS, REFUSALS, Refused, Strange, printable
 from ..protocol.replies import Bye, Reply, named, reply_text
-from ..protocol.scripts import Script, is_open, parse_script, read_script
+from ..protocol.scripts import Script, is_open, parse_script, read_text
 from .terminal import columns
 
 _PIECE = 64  # steps of a command of `run`
@@ -47,7 +47,6 @@ class _Stopped(GaslabError):
 
 class Shell:
     """Carries out lines of a script on a laboratory, and writes what comes to `out`."""
-
     WORDS: dict[str, Callable[..., None]] = {}
     """The words of the shell itself: its methods whose names begin with `word_`."""
 
@@ -127,7 +126,7 @@ class Shell:
 
     def word_play(self, FILE: str) -> None:
         """does the commands of a script, up to the first ERR"""
-        self._carry_out(read_script(FILE), stops=True)
+        self._carry_out(parse_script(read_text(FILE)), stops=True)
 
     def word_shoot(self, x: str, y: str, vx: str, vy: str) -> None:
         """puts a particle that flies with (vx, vy), each 1 or -1"""

@@ -35,7 +35,6 @@ class Commands(Session):
 
     Steps and periods are in ticks. A refusal raises `Refused`, and the laboratory is as it was.
     """
-
     put, erase, wall, block, unwall = (
         _command(Ok, word) for word in ("put", "erase", "wall", "block", "unwall"))
     source, drain, unport = (_command(Ok, word) for word in ("source", "drain", "unport"))

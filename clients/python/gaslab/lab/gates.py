@@ -1,5 +1,6 @@
 """For builders of gates: single particles, their ways, truth tables, and scripts that are moved."""
 import itertools
+import re
 from collections.abc import Iterable, Mapping
 from typing import Any, Union
 
@@ -23,7 +24,6 @@ def _velocity(place: int) -> int:
 
 class Gates(Looks):
     """A laboratory for gates, which are made of few particles."""
-
     def shoot(self, x: int, y: int, vx: int, vy: int) -> Ok:
         """Puts a particle into the cell (x, y) that flies with (vx, vy), each 1 or -1.
 
@@ -125,10 +125,10 @@ def _placed(line: str, number: int, dx: int, dy: int) -> str:
         raise ValueError(f"line {number}: row fills a whole row and can't be moved: use put")
     moves = (dx, dy) if word in RECTANGLES else (dy,) if word == "read" else ()
     old = rest[:len(moves)]
-    if len(old) < len(moves) or not all(it.isascii() and it.isdecimal() for it in old):
+    if len(old) < len(moves) or not all(re.fullmatch("[0-9]{1,10}", it) for it in old):
         raise ValueError(f"line {number}: {takes(word)}")
     moved = [int(coordinate) + offset for coordinate, offset in zip(old, moves)]
-    if any(coordinate < 0 for coordinate in moved):
+    if moved and min(moved) < 0:
         raise ValueError(f"line {number}: {line} would leave the lattice")
     return " ".join((word, *map(str, moved), *rest[len(moves):]))
 

@@ -16,7 +16,6 @@ class Lab(Gates):
     Each command of the laboratory is a method of its name. A refusal raises `Refused`, and the
     laboratory is then as it was. A `Lab` is for one thread at a time.
     """
-
     @classmethod
     def run(cls, width: int = 64, height: int = 64, workers: int = 1, cap: int = MOST_ENTRIES,
             load: Optional[PathLike] = None, save: Optional[PathLike] = None,

@@ -14,14 +14,12 @@ from ..snapshot.files import Snapshot
 from ..snapshot.rectangles import cover
 from ..snapshot.scene import Scene
 from .commands import Commands
-from .session import mismatch
 
 _AHEAD = 512  # entries that are asked for at once
 
 
 class Looks(Commands):
     """The whole gas at one tick: read from the laboratory, and put there from arrays."""
-
     def __init__(self, door: Door, start: Optional[Snapshot] = None,
                  shelf: Optional[PathLike] = None) -> None:
         super().__init__(door)
@@ -53,12 +51,10 @@ class Looks(Commands):
             first = len(self._entries)
             lines = [f"entry {k}" for k in range(first, first + ahead)]
             for line, reply in zip(lines, self.send(lines)):
-                if isinstance(reply, Entry) and not is_whole:
-                    self._entries.append(reply)
-                elif isinstance(reply, Refused) and reply.number == 9:
+                if isinstance(reply, Refused) and reply.number == 9:
                     is_whole = True
-                elif not isinstance(reply, Entry):
-                    raise mismatch(line, reply)
+                elif not is_whole:
+                    self._entries.append(self._checked(Entry, line, reply))
             if len(self._entries) > MOST_ENTRIES:
                 raise Strange(f"the journal has more than {MOST_ENTRIES} entries")
             ahead = min(2 * ahead, _AHEAD)
@@ -101,9 +97,7 @@ class Looks(Commands):
         """The digits of these rows."""
         lines = [f"read {y}" for y in rows]
         for line, row in zip(lines, self.send(lines)):
-            if not self._is_of(row, Row):
-                raise mismatch(line, row)
-            yield row.hex  # type: ignore[union-attr]
+            yield self._checked(Row, line, row).hex
 
     def scene(self) -> Scene:
         """Walls, obstacles and ports, from the start and the journal."""

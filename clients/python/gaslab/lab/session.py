@@ -6,7 +6,7 @@ from typing import Optional, TypeVar, Union
 from ..protocol.doors import Door, PathLike
 from ..protocol.errors import GaslabError, Gone, Refused, Strange, printable
 from ..protocol.replies import Bye, Reply, Row, Tally
-from ..protocol.scripts import Script, read_script
+from ..protocol.scripts import Script, parse_script, read_text
 from ..protocol.link import Replies, lines_of
 
 _LAST_WAIT = 5.0  # seconds
@@ -16,6 +16,7 @@ Kind = TypeVar("Kind")
 
 class Session:
     """One seat at a laboratory. It is for one thread at a time, whichever that is."""
+    size: tuple[int, int]
 
     def __init__(self, door: Door) -> None:
         self._door = door
@@ -89,7 +90,7 @@ class Session:
         It may have `#` comments, blank lines, `repeat`, and `size W H` before the commands. Raises
         `ValueError` if that is not the size of this gas.
         """
-        found = script if isinstance(script, Script) else read_script(script)
+        found = script if isinstance(script, Script) else parse_script(read_text(script))
         self.check_size(found)
         return self._do(found.commands())
 
@@ -131,23 +132,11 @@ class Session:
         return self._expect(kind, " ".join((word, *(str(operator.index(it)) for it in numbers))))
 
     def _expect(self, kind: type[Kind], line: str) -> Kind:
-        reply = self.ask(line)
-        if not self._is_of(reply, kind):
-            raise mismatch(line, reply)
-        return reply  # type: ignore[return-value]
+        return self._checked(kind, line, self.ask(line))
 
-    def _is_of(self, reply: Reply, kind: type) -> bool:
-        """Whether a reply is of a kind, and a row as wide as the lattice."""
-        has_width = not isinstance(reply, Row) or self._size is None \
-            or 4 * len(reply.hex) == self._size[0]
-        return isinstance(reply, kind) and has_width
-
-    @property
-    def size(self) -> tuple[int, int]:
-        """Width and height of the lattice in cells."""
-        raise NotImplementedError
-
-
-def mismatch(line: str, reply: Reply) -> GaslabError:
-    """The fault of a reply that doesn't belong to its line."""
-    return Strange(f"no answer to {line[:60]!r}: {printable(str(reply))[:80]}")
+    def _checked(self, kind: type[Kind], line: str, reply: Reply) -> Kind:
+        """The reply, if it is of that kind, and a row as wide as the lattice."""
+        if not isinstance(reply, kind) or isinstance(reply, Row) and self._size is not None \
+                and 4 * len(reply.hex) != self._size[0]:
+            raise Strange(f"no answer to {line[:60]!r}: {printable(str(reply))[:80]}")
+        return reply

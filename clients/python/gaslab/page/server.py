@@ -35,7 +35,6 @@ class Looker:
     Only `keep_looking` asks the laboratory, in one thread. `state` may be called by any. While no
     page has asked for a few seconds, and while the journal does not grow, no row is read.
     """
-
     def __init__(self, lab: Lab, seconds: float, mean: Optional[int], colour: str) -> None:
         self.lab, self.seconds, self.mean, self.colour = lab, seconds, mean, colour
         self.has_stopped = threading.Event()
@@ -108,7 +107,6 @@ class Page:
     `seconds` is the shortest time between two looks at the gas. `mean` and `colour` are those of
     pictures.
     """
-
     def __init__(self, lab: Lab, port: int = 0, seconds: float = 0.25, mean: Optional[int] = None,
                  colour: str = "kind") -> None:
         self.looker = Looker(lab, seconds, mean, colour)
@@ -136,7 +134,6 @@ class Page:
 
 class _Handler(BaseHTTPRequestHandler):
     """Answers GET for the page's files and its state, and nothing else."""
-
     server_version, sys_version = "gaslab", ""
     timeout = 60  # seconds that a browser may be silent
 

@@ -56,7 +56,6 @@ def _check_built(script: Path) -> None:
 
 class Program:
     """The program, started for one session on its standard streams."""
-
     def __init__(self, path: Path, options: dict[str, Any], timeout: float) -> None:
         self.path = path
         words = [str(path), "run"]
@@ -107,7 +106,6 @@ class Program:
 
 class Server:
     """A server, joined over a socket."""
-
     def __init__(self, host: str, port: int, timeout: float) -> None:
         self.address = f"{host}:{port}"
         try:

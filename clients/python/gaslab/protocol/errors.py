@@ -4,33 +4,27 @@ from typing import Any, Optional
 
 from .commands import takes
 
-REFUSALS: dict[int, str] = {
-    1: "line", 2: "word", 3: "count", 4: "number", 5: "rect", 6: "steps", 7: "period", 8: "row",
-    9: "entry", 10: "full", 11: "ports", 12: "tick", 13: "journal", 14: "memory", 15: "save",
+_REFUSALS = {
+    1: ("line", "a line is UTF-8 and has at most 2,048 bytes; the session has ended"),
+    2: ("word", "the first word of a line names a command"),
+    3: ("count", "each command has its own number of words"),
+    4: ("number", "a number has 1 to 10 decimal digits and is at most 4,294,967,295"),
+    5: ("rect", "a rectangle has at least one cell and lies inside the lattice, and so does a row"),
+    6: ("steps", "one command makes 1 to 4,096 steps"),
+    7: ("period", "a source's period is 1 to 65,535"),
+    8: ("row", "a row has exactly width/4 hexadecimal digits"),
+    9: ("entry", "the journal has no such entry yet"),
+    10: ("full", "there are at most 16 sources and at most 16 drains"),
+    11: ("ports", "there is no way back while a source or a drain exists"),
+    12: ("tick", "the tick stays from -2^40 to 2^40"),
+    13: ("journal", "the journal is full: --cap says how many changes it has room for"),
+    14: ("memory", "memory ran out"),
+    15: ("save", "the program saves only with --save, and only where it can write"),
 }
+REFUSALS: dict[int, str] = {number: word for number, (word, _) in _REFUSALS.items()}
 """The number of each refusal, and its word."""
-
-LIMITS: dict[int, str] = {
-    1: "a line is UTF-8 and has at most 2,048 bytes; the session has ended",
-    2: "the first word of a line names a command",
-    3: "each command has its own number of words",
-    4: "a number has 1 to 10 decimal digits and is at most 4,294,967,295",
-    5: "a rectangle has at least one cell and lies inside the lattice, and so does a row",
-    6: "one command makes 1 to 4,096 steps",
-    7: "a source's period is 1 to 65,535",
-    8: "a row has exactly width/4 hexadecimal digits",
-    9: "the journal has no such entry yet",
-    10: "there are at most 16 sources and at most 16 drains",
-    11: "there is no way back while a source or a drain exists",
-    12: "the tick stays from -2^40 to 2^40",
-    13: "the journal is full: --cap says how many changes it has room for",
-    14: "memory ran out",
-    15: "the program saves only with --save, and only where it can write",
-}
+LIMITS: dict[int, str] = {number: limit for number, (_, limit) in _REFUSALS.items()}
 """The limit that each refusal stands for, in words."""
-
-_PACKAGES = {"numpy": "numpy", "PIL": "Pillow", "matplotlib": "matplotlib", "aiohttp": "aiohttp",
-             "pandas": "pandas"}
 
 
 class GaslabError(Exception):
@@ -44,12 +38,8 @@ class Refused(GaslabError):
     which limit the line broke. `place` is the line's number in its list or its file, from 1, if it
     came from one.
     """
-
     def __init__(self, number: int, word: str, line: str, place: Optional[int] = None) -> None:
-        self.number = number
-        self.word = word
-        self.line = line
-        self.place = place
+        self.number, self.word, self.line, self.place = number, word, line, place
         self.limit = number == 3 and takes(line.split(" ")[0]) or LIMITS[number]
         shown = line if len(line) <= 60 else line[:57] + "..."
         where = "" if place is None else f"line {place}: "
@@ -75,14 +65,12 @@ class Unreachable(GaslabError, ConnectionError):
 class Gone(GaslabError, ConnectionError):
     """The other side ended before it had answered."""
 
-
 class Silent(GaslabError, TimeoutError):
     """No reply came within the timeout: the server may be full, or busy with a long step."""
 
 
 class Strange(GaslabError):
     """The reply is none that a laboratory gives."""
-
 
 class Moving(GaslabError):
     """The gas was changed during each attempt to read it whole."""
@@ -91,14 +79,13 @@ class Moving(GaslabError):
 class MissingLibrary(GaslabError, ImportError):
     """A library is not installed. The message says how to install it."""
 
-
 def library(name: str) -> Any:
     """A module of another package, such as "PIL.Image". Raises `MissingLibrary` without it."""
     try:
         return importlib.import_module(name)
     except ImportError as fault:
-        package = _PACKAGES[name.partition(".")[0]]
-        debian = "pil" if package == "Pillow" else package
+        debian = name.partition(".")[0].lower()
+        package = "Pillow" if debian == "pil" else debian
         raise MissingLibrary(f"{package} is not installed for this Python: apt-get install "
                              f"python3-{debian}, or pip install {package}") from fault
 

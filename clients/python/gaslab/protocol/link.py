@@ -20,21 +20,6 @@ _WINDOW = 65536  # bytes that wait to be written
 _MOST_ASKED = 16384  # lines that wait for their replies
 
 
-class Lines:
-    """Cuts bytes, however they arrive, into lines."""
-
-    def __init__(self) -> None:
-        self.whole: deque[bytes] = deque()
-        self.rest = b""
-
-    def feed(self, data: bytes) -> None:
-        """Takes the next bytes. Raises `Strange` if a line is longer than any reply."""
-        *lines, self.rest = (self.rest + data).split(b"\n")
-        self.whole.extend(lines)
-        if len(self.rest) > LINE_LIMIT or any(len(line) > LINE_LIMIT for line in lines):
-            raise Strange(f"no reply of a laboratory: it has more than {LINE_LIMIT} bytes")
-
-
 class Link:
     """Two descriptors, both made non-blocking: `source` is read and `sink` is written.
 
@@ -42,14 +27,12 @@ class Link:
     none came (True) or when the other side hung up (False), or an empty text. `has_read` is called
     after each read.
     """
-
     def __init__(self, source: int, sink: int, timeout: float, why: Callable[[bool], str],
                  has_read: Callable[[], None] = lambda: None) -> None:
         self.timeout = timeout
         self._source, self._sink, self._why, self._has_read = source, sink, why, has_read
-        self._lines = Lines()
-        self._unsent = bytearray()
-        self._at_end = False
+        self._lines: deque[bytes] = deque()
+        self._rest, self._unsent, self._at_end = b"", bytearray(), False
         self._reading, self._both = select.poll(), select.poll()
         self._reading.register(source, select.POLLIN)
         self._both.register(source, select.POLLIN)
@@ -78,14 +61,14 @@ class Link:
         timeout. The time that `refill` takes is not counted.
         """
         deadline = time.monotonic() + self.timeout
-        while not self._lines.whole:
+        while not self._lines:
             if self._at_end:
                 raise Gone("the other side left without an answer" + self._because(False))
             began = time.monotonic()
             refill()
             deadline += time.monotonic() - began
             self._pump(deadline)
-        line = self._lines.whole.popleft()
+        line = self._lines.popleft()
         try:
             return line.decode()
         except UnicodeDecodeError:
@@ -114,7 +97,10 @@ class Link:
             raise Gone(f"the connection broke: {fault}" + self._because(False)) from fault
         self._at_end = not data
         self._has_read()
-        self._lines.feed(data)
+        *lines, self._rest = (self._rest + data).split(b"\n")
+        self._lines.extend(lines)
+        if any(len(line) > LINE_LIMIT for line in (*lines, self._rest)):
+            raise Strange(f"no reply of a laboratory: it has more than {LINE_LIMIT} bytes")
 
     def _write(self) -> None:
         """Writes some of what is queued. What a closed side no longer reads is dropped."""
@@ -128,8 +114,8 @@ class Link:
 
     def _because(self, is_silent: bool) -> str:
         why = self._why(is_silent)
-        if self._lines.rest:
-            why = f"in the middle of a reply, {bytes(self._lines.rest[:40])!r}; {why}"
+        if self._rest:
+            why = f"in the middle of a reply, {self._rest[:40]!r}; {why}"
         return f": {why}" if why else ""
 
 
@@ -153,7 +139,6 @@ class Replies(Iterator[Reply]):
     as they are needed, and sent ahead of the replies. If the laboratory is asked something else in
     between, the rest is sent first, and its replies are kept here.
     """
-
     def __init__(self, link: Link, lines: Union[str, Iterable[str]]) -> None:
         self._link = link
         self._lines = iter(lines_of(lines) if isinstance(lines, str) else lines)

@@ -5,6 +5,7 @@
 
 A laboratory knows none of these. What comes out of `Script.commands` is one command after another.
 """
+import re
 import sys
 from collections.abc import Iterator
 from typing import Any, NamedTuple, Optional
@@ -24,18 +25,12 @@ class Script(NamedTuple):
 
     A part is a line number with a command, or with a count and the parts that are repeated.
     """
-
     size: Optional[tuple[int, int]]
     parts: list[Any]
 
     def commands(self) -> Iterator[tuple[int, str]]:
         """The commands with their line numbers from 1, with each `repeat` carried out."""
         return _unrolled(self.parts)
-
-
-def read_script(path: PathLike) -> Script:
-    """The script in a file; "-" is standard input. Raises `ValueError` if it is none."""
-    return parse_script(read_text(path))
 
 
 def parse_script(text: str) -> Script:
@@ -64,11 +59,10 @@ def _tokens(text: str) -> Tokens:
 
 
 def _size(place: int, command: str) -> tuple[int, int]:
-    sides = [int(word) for word in command.split(" ")[1:] if word in map(str, SIDES)]
-    if len(sides) != 2 or len(command.split(" ")) != 3:
-        raise ValueError(f"line {place}: size takes width and height, multiples of 64 from 64 to "
-                         "4,096")
-    return sides[0], sides[1]
+    words = command.split(" ")[1:]
+    if len(words) != 2 or not set(words) <= set(map(str, SIDES)):
+        raise ValueError(f"line {place}: size takes width and height, multiples of 64 from 64 to 4,096")
+    return int(words[0]), int(words[1])
 
 
 def _parts(tokens: Tokens, depth: int) -> list[Any]:
@@ -87,8 +81,8 @@ def _parts(tokens: Tokens, depth: int) -> list[Any]:
 
 def _repeat(place: int, words: list[str], tokens: Tokens, depth: int) -> tuple[int, list[Any]]:
     """How often, and what."""
-    number = "".join(words)
-    if len(words) != 1 or not number.isascii() or not number.isdecimal() or len(number) > 10:
+    number = " ".join(words)
+    if not re.fullmatch("[0-9]{1,10}", number):
         raise ValueError(f"line {place}: repeat takes a number, as in repeat 30 {{ step 100 }}")
     if not tokens or tokens.pop()[1] != "{":
         raise ValueError(f"line {place}: a {{ is missing after `repeat {number}`")

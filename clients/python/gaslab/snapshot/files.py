@@ -20,36 +20,20 @@ class SnapshotFault(GaslabError, ValueError):
     """The bytes are no snapshot. `name` is the fault's name in docs/FORMATS.md."""
     name = ""
 
-    def __init_subclass__(cls) -> None:
-        cls.name = cls.__name__[:-len("Fault")]
-
     def __init__(self, what: str) -> None:
         super().__init__(f"{self.name}: {what}")
 
 
-class ShortFault(SnapshotFault):
-    """A field's bytes are not all there."""
+def _fault(name: str, what: str) -> type[SnapshotFault]:
+    return type(f"{name}Fault", (SnapshotFault,), {"name": name, "__doc__": what, "__module__": __name__})
 
 
-class MagicFault(SnapshotFault):
-    """The first 8 bytes are those of neither version."""
-
-
-class SizeFault(SnapshotFault):
-    """A side is no multiple of 64, or too long."""
-
-
-class TickFault(SnapshotFault):
-    """The tick is not from -2^40 to 2^40."""
-
-
-class PortFault(SnapshotFault):
-    """A count of ports is above 16, a rectangle is not inside, or a period is 0."""
-
-
-class TrailingFault(SnapshotFault):
-    """There are bytes after the last field."""
-
+ShortFault = _fault("Short", "A field's bytes are not all there.")
+MagicFault = _fault("Magic", "The first 8 bytes are those of neither version.")
+SizeFault = _fault("Size", "A side is no multiple of 64, or too long.")
+TickFault = _fault("Tick", "The tick is not from -2^40 to 2^40.")
+PortFault = _fault("Port", "A count of ports is above 16, a rectangle is not inside, or a period is 0.")
+TrailingFault = _fault("Trailing", "There are bytes after the last field.")
 
 Drain = NamedTuple("Drain", [(name, int) for name in ("x", "y", "w", "h")])
 Drain.__doc__ = "A rectangle of cells that loses its particles at each tick."
@@ -71,7 +55,6 @@ class Snapshot:
     `width * height / 8` bytes; `particles`, `walls` and `obstacles` are the same as arrays of truth
     values of shape (height, width). Drains and sources are in the order in which they were added.
     """
-
     width: int
     height: int
     tick: int = 0
@@ -156,7 +139,6 @@ class Snapshot:
 
 class _Reader:
     """Takes the fields of a snapshot from the left."""
-
     def __init__(self, data: bytes) -> None:
         self.data, self.at = data, 0
 

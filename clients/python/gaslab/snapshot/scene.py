@@ -14,7 +14,6 @@ class Scene:
 
     `walls` and `obstacles` are arrays of truth values of shape (height, width).
     """
-
     def __init__(self, start: Snapshot) -> None:
         self.size = start.width, start.height
         self.walls, self.obstacles = start.walls, start.obstacles
