@@ -11,7 +11,7 @@ from unittest import mock
 
 import numpy
 
-from gaslab import (Refused, Snapshot, chart, csv_text, every, profile, random_gas, velocity)
+from gaslab import (Refused, Snapshot, chart, csv_text, profile, random_gas, velocity)
 from gaslab.measure.measuring import sums_of
 from gaslab.measure.tables import columns_of, table_of
 
@@ -67,12 +67,6 @@ class Every(unittest.TestCase):
                 lab.every(2, 3, columns=["tick", "drag"])
             self.assertEqual(lab.tally().tick, 6)
 
-    def test_progress(self):
-        told = []
-        with run() as lab:
-            every(lab, 1, 2, progress=lambda *both: told.append(both))
-        self.assertEqual(told, [(1, 2), (2, 2)])
-
     def test_a_wrong_probe_is_refused(self):
         with run() as lab:
             self.assertRaises(Refused, lab.every, 1, 1, probes={"out": (60, 0, 5, 1)})
@@ -106,10 +100,6 @@ class Tables(unittest.TestCase):
         text = 'tick,"a,b"\n1,-2.0\n3,0.5\n'
         for table in self.both():
             self.assertEqual(csv_text(table), text)
-            with tempfile.TemporaryDirectory() as room:
-                path = os.path.join(room, "it.csv")
-                csv_text(table, path)
-                self.assertEqual(Path(path).read_bytes(), text.encode())
         self.assertEqual(list(csv.reader(io.StringIO(text))),
                          [["tick", "a,b"], ["1", "-2.0"], ["3", "0.5"]])
 

@@ -8,7 +8,6 @@ import numpy
 
 from ..protocol.commands import COMMANDS, MOST_STEPS
 from ..protocol.replies import Entry, Ledger, Ok, Probe, Row, Saved, Tally
-from ..protocol.link import check_line
 from ..snapshot.cells import plane_of
 from .session import Session
 
@@ -53,7 +52,7 @@ class Commands(Session):
             if len(found) != width:
                 raise ValueError(f"a row has {width} cells, not {len(found)}")
             cells = plane_of(numpy.array(found)).hex()
-        return self._expect(Ok, check_line(f"row {operator.index(y)} {cells}"))
+        return self._expect(Ok, f"row {operator.index(y)} {cells}")
 
     def advance(self, steps: int, each: int = MOST_STEPS,
                 progress: Callable[[int, int], None] = lambda done, steps: None) -> None:

@@ -19,7 +19,10 @@ _AHEAD = 512  # entries that are asked for at once
 
 
 class Looks(Commands):
-    """The whole gas at one tick: read from the laboratory, and put there from arrays."""
+    """The whole gas at one tick: read from the laboratory, and put there from arrays.
+
+    `known` are the entries that were read so far. After `look` they are those that made this gas.
+    """
     def __init__(self, door: Door, start: Optional[Snapshot] = None,
                  shelf: Optional[PathLike] = None) -> None:
         super().__init__(door)
@@ -27,7 +30,7 @@ class Looks(Commands):
         self._scene: Optional[Scene] = None
         self._enacted = 0
         self.bursts: list[float] = []
-        self._entries: list[Entry] = []
+        self.known: list[Entry] = []
 
     @property
     def size(self) -> tuple[int, int]:
@@ -48,22 +51,17 @@ class Looks(Commands):
         """All entries of the journal so far. Those that are known are not asked for again."""
         ahead, is_whole = 1, False
         while not is_whole:
-            first = len(self._entries)
+            first = len(self.known)
             lines = [f"entry {k}" for k in range(first, first + ahead)]
             for line, reply in zip(lines, self.send(lines)):
                 if isinstance(reply, Refused) and reply.number == 9:
                     is_whole = True
                 elif not is_whole:
-                    self._entries.append(self._checked(Entry, line, reply))
-            if len(self._entries) > MOST_ENTRIES:
+                    self.known.append(self._checked(Entry, line, reply))
+            if len(self.known) > MOST_ENTRIES:
                 raise Strange(f"the journal has more than {MOST_ENTRIES} entries")
             ahead = min(2 * ahead, _AHEAD)
-        return list(self._entries)
-
-    @property
-    def known(self) -> list[Entry]:
-        """The entries that were read so far. After `look` they are those that made this gas."""
-        return list(self._entries)
+        return list(self.known)
 
     def particles(self) -> Any:
         """The particles at one tick, an array of bool of shape (height, width)."""
@@ -87,7 +85,7 @@ class Looks(Commands):
                 began = time.monotonic()
                 rows += self._rows(range(first, min(first + burst, self.size[1])))
                 self.bursts.append(time.monotonic() - began)
-            known = len(self._entries)
+            known = len(self.known)
             if len(self.journal()) == known:
                 return scene.snapshot(tally.tick, bytes.fromhex("".join(rows)))
         raise Moving(f"the gas was changed during each of {tries} looks: others step it without a "

@@ -1,5 +1,5 @@
 """Measuring: tables over time, profiles over space, fields, and random gases to measure."""
-from collections.abc import Callable, Iterator, Mapping, Sequence
+from collections.abc import Iterator, Mapping, Sequence
 from typing import Any, NamedTuple, Optional, Union
 
 import numpy
@@ -16,8 +16,7 @@ from .tables import table_of
 
 def every(lab: Lab, steps: int, times: int, ledger: bool = True,
           probes: Optional[Mapping[str, Rectangle]] = None,
-          columns: Optional[Sequence[str]] = None,
-          progress: Callable[[int, int], None] = lambda done, times: None) -> Any:
+          columns: Optional[Sequence[str]] = None) -> Any:
     """Measures `times` times, each time after `steps` more steps (backwards if negative).
 
     The columns are the tick; the count and the momentum `px`, `py` of the whole gas; with `ledger`
@@ -37,13 +36,12 @@ def every(lab: Lab, steps: int, times: int, ledger: bool = True,
         if name not in names:
             raise ValueError(f"no column {name}: there are {', '.join(names)}")
     before, rows = _measured(lab, ledger, areas), []
-    for done in range(times):
+    for _ in range(times):
         lab.advance(steps)
         now = _measured(lab, ledger, areas)
         row = dict(zip(names, [*now, *(a - b for a, b in zip(now[1:], before[1:]))]))
         rows.append([row[name] for name in columns or names])
         before = now
-        progress(done + 1, times)
     return table_of(columns or names, rows)
 
 

@@ -3,7 +3,7 @@ import csv
 import io
 import os
 from collections.abc import Iterable, Sequence
-from typing import Any, Optional, Union
+from typing import Any, Union
 
 import numpy
 
@@ -32,15 +32,12 @@ def columns_of(table: Any) -> list[str]:
     return list(table.columns if hasattr(table, "columns") else table.dtype.names)
 
 
-def csv_text(table: Any, path: Optional[PathLike] = None) -> str:
-    """A table as CSV with a line of names, also written to `path` if it is given."""
+def csv_text(table: Any) -> str:
+    """A table as CSV with a line of names."""
     names, text = columns_of(table), io.StringIO()
     writer = csv.writer(text, lineterminator="\n")
     writer.writerow(names)
     writer.writerows(zip(*(table[name].tolist() for name in names)))
-    if path is not None:
-        with draft(path) as file:
-            file.write(text.getvalue().encode())
     return text.getvalue()
 
 

@@ -39,23 +39,20 @@ class Refused(GaslabError):
     came from one.
     """
     def __init__(self, number: int, word: str, line: str, place: Optional[int] = None) -> None:
+        super().__init__(number, word, line, place)
         self.number, self.word, self.line, self.place = number, word, line, place
         self.limit = number == 3 and takes(line.split(" ")[0]) or LIMITS[number]
-        shown = line if len(line) <= 60 else line[:57] + "..."
-        where = "" if place is None else f"line {place}: "
-        super().__init__(f"{where}ERR {number} {word}: {self.limit}; asked: {printable(shown)}")
+
+    def __str__(self) -> str:
+        shown = self.line if len(self.line) <= 60 else self.line[:57] + "..."
+        where = "" if self.place is None else f"line {self.place}: "
+        return f"{where}ERR {self.number} {self.word}: {self.limit}; asked: {printable(shown)}"
 
     def __eq__(self, other: object) -> bool:
-        return isinstance(other, Refused) and self._parts() == other._parts()
+        return isinstance(other, Refused) and self.args[:3] == other.args[:3]
 
     def __hash__(self) -> int:
-        return hash(self._parts())
-
-    def __reduce__(self) -> tuple[type, tuple[Any, ...]]:
-        return Refused, (*self._parts(), self.place)
-
-    def _parts(self) -> tuple[int, str, str]:
-        return self.number, self.word, self.line
+        return hash(self.args[:3])
 
 
 class Unreachable(GaslabError, ConnectionError):
@@ -65,12 +62,14 @@ class Unreachable(GaslabError, ConnectionError):
 class Gone(GaslabError, ConnectionError):
     """The other side ended before it had answered."""
 
+
 class Silent(GaslabError, TimeoutError):
     """No reply came within the timeout: the server may be full, or busy with a long step."""
 
 
 class Strange(GaslabError):
     """The reply is none that a laboratory gives."""
+
 
 class Moving(GaslabError):
     """The gas was changed during each attempt to read it whole."""

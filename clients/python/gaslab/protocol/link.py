@@ -25,14 +25,14 @@ class Link:
 
     `timeout` is in seconds: how long a whole reply may take. `why` returns what else is known when
     none came (True) or when the other side hung up (False), or an empty text. `has_read` is called
-    after each read.
+    after each read. `unsent` are the bytes that wait to be written.
     """
     def __init__(self, source: int, sink: int, timeout: float, why: Callable[[bool], str],
                  has_read: Callable[[], None] = lambda: None) -> None:
         self.timeout = timeout
         self._source, self._sink, self._why, self._has_read = source, sink, why, has_read
         self._lines: deque[bytes] = deque()
-        self._rest, self._unsent, self._at_end = b"", bytearray(), False
+        self._rest, self.unsent, self._at_end = b"", bytearray(), False
         self._reading, self._both = select.poll(), select.poll()
         self._reading.register(source, select.POLLIN)
         self._both.register(source, select.POLLIN)
@@ -40,18 +40,13 @@ class Link:
         os.set_blocking(source, False)
         os.set_blocking(sink, False)
 
-    @property
-    def unsent(self) -> int:
-        """How many bytes wait to be written."""
-        return len(self._unsent)
-
     def push(self, line: str) -> None:
         """Queues a line. It is written while the next reply is waited for, or by `flush`."""
-        self._unsent += line.encode() + b"\n"
+        self.unsent += line.encode() + b"\n"
 
     def flush(self) -> None:
         """Writes what can be written at once, and reads nothing."""
-        if self._unsent:
+        if self.unsent:
             self._write()
 
     def next_line(self, refill: Callable[[], None] = lambda: None) -> str:
@@ -77,12 +72,12 @@ class Link:
     def _pump(self, deadline: float) -> None:
         """Waits until something can be read or written, and does it."""
         left = deadline - time.monotonic()
-        poll = self._both if self._unsent else self._reading
+        poll = self._both if self.unsent else self._reading
         ready = dict(poll.poll(1000 * max(0.0, min(left, _LONGEST))))
         can_read = ready.get(self._source, 0) & ~select.POLLOUT
         if not ready or left < 0 and not can_read:
             raise Silent(f"no answer for {self.timeout:g} seconds" + self._because(True))
-        if self._unsent and ready.get(self._sink, 0) & ~select.POLLIN:
+        if self.unsent and ready.get(self._sink, 0) & ~select.POLLIN:
             self._write()
         if can_read:
             self._read()
@@ -105,12 +100,12 @@ class Link:
     def _write(self) -> None:
         """Writes some of what is queued. What a closed side no longer reads is dropped."""
         try:
-            count = os.write(self._sink, self._unsent[:_CHUNK])
+            count = os.write(self._sink, self.unsent[:_CHUNK])
         except BlockingIOError:
             return
         except OSError:
-            count = len(self._unsent)
-        del self._unsent[:count]
+            count = len(self.unsent)
+        del self.unsent[:count]
 
     def _because(self, is_silent: bool) -> str:
         why = self._why(is_silent)
@@ -123,13 +118,6 @@ def lines_of(text: str) -> list[str]:
     """The lines of a text, which is cut at newlines and nowhere else."""
     lines = text.split("\n")
     return lines if lines[-1] else lines[:-1]
-
-
-def check_line(line: str) -> str:
-    """The line itself. Raises `ValueError` if it is several lines."""
-    if "\n" in line:
-        raise ValueError(f"one line has no newline: {line[:60]!r}")
-    return line
 
 
 class Replies(Iterator[Reply]):
@@ -152,9 +140,6 @@ class Replies(Iterator[Reply]):
         self._fill()
         self._link.flush()
 
-    def __iter__(self) -> "Replies":
-        return self
-
     def __next__(self) -> Reply:
         if self._kept:
             return self._kept.popleft()
@@ -165,10 +150,8 @@ class Replies(Iterator[Reply]):
 
     def finish(self) -> None:
         """Sends the rest, and keeps the replies for later."""
-        reply = self._take()
-        while reply is not None:
+        for reply in iter(self._take, None):
             self._kept.append(reply)
-            reply = self._take()
 
     def _take(self) -> Optional[Reply]:
         if self.has_ended:
@@ -183,28 +166,25 @@ class Replies(Iterator[Reply]):
             self.has_ended = True
             raise Gone(f"{fault}; {len(self._asked)} lines have no answer") from fault
         reply = parse_reply(text, self._asked.popleft())
-        is_last = isinstance(reply, Bye) or isinstance(reply, Refused) and reply.number == 1
-        if is_last:
-            self._check_end(text)
-        return reply
-
-    def _check_end(self, text: str) -> None:
-        """After `BYE` and `ERR 1 line` the session is over: what else was sent is lost."""
-        self.has_ended = True
-        if self._asked:
-            self._kept.append(parse_reply(text, "quit"))
+        # after these the session is over: what else was sent is lost
+        self.has_ended = isinstance(reply, Bye) or isinstance(reply, Refused) and reply.number == 1
+        if self.has_ended and self._asked:
+            self._kept.append(reply)
             raise Gone(f"the session ended with {text}; {len(self._asked)} lines have no answer")
+        return reply
 
     def _fill(self) -> None:
         if self._is_filling:
             raise RuntimeError("the lines of send() ask the laboratory themselves")
         self._is_filling = True
         try:
-            while self._link.unsent < _WINDOW and len(self._asked) < _MOST_ASKED:
+            while len(self._link.unsent) < _WINDOW and len(self._asked) < _MOST_ASKED:
                 line = next(self._lines, None)
                 if line is None:
                     break
-                self._link.push(check_line(line))
+                if "\n" in line:
+                    raise ValueError(f"one line has no newline: {line[:60]!r}")
+                self._link.push(line)
                 self._asked.append(line)
         except BaseException:
             self._lines = iter(())

@@ -9,31 +9,23 @@ from .commands import MOST_ENTRIES, MOST_SEATS, SIDES, parse_change
 from .errors import REFUSALS, Refused, Strange, printable
 
 
-class Ok(NamedTuple):
-    """A change was made. `index` is its place in the journal, from 0."""
-    index: int  # type: ignore[assignment]
+def _numbers_of(name: str, fields: str, what: str) -> Any:
+    """A kind of reply that has numbers only."""
+    kind: Any = NamedTuple(name, [(field, int) for field in fields.split()])  # type: ignore[misc]
+    kind.__doc__, kind.__module__ = what, __name__
+    return kind
 
 
-class Probe(NamedTuple):
-    """Sums in a rectangle: particles, and their momentum to the right and downwards."""
-    count: int  # type: ignore[assignment]
-    px: int
-    py: int
-
-
-class Tally(NamedTuple):
-    """The tick, and the sums of the whole gas."""
-    tick: int
-    count: int  # type: ignore[assignment]
-    px: int
-    py: int
-
-
-Ledger = NamedTuple("Ledger", [(name, int) for name in (
-    "start", "injected", "drained", "start_x", "injected_x", "drained_x", "walls_x", "obstacles_x",
-    "start_y", "injected_y", "drained_y", "walls_y", "obstacles_y")])
-Ledger.__doc__ = ("The accounts: counts of particles, then momentum to the right (x), then "
-                  "downwards (y).")
+Ok = _numbers_of("Ok", "index", "A change was made. `index` is its place in the journal, from 0.")
+Probe = _numbers_of("Probe", "count px py", "Sums in a rectangle: particles, and their momentum to the right and "
+                    "downwards.")
+Tally = _numbers_of("Tally", "tick count px py", "The tick, and the sums of the whole gas.")
+Ledger = _numbers_of("Ledger", "start injected drained start_x injected_x drained_x walls_x obstacles_x start_y "
+                     "injected_y drained_y walls_y obstacles_y", "The accounts: counts of particles, then momentum "
+                     "to the right (x), then downwards (y).")
+Saved = _numbers_of("Saved", "entries length", "A snapshot was written: the journal's length at that moment, and the "
+                    "file's in bytes.")
+Bye = _numbers_of("Bye", "", "The session has ended.")
 
 
 class Row(NamedTuple):
@@ -50,16 +42,6 @@ class Entry(NamedTuple):
     """An entry of the journal: who made the change, and its command."""
     seat: int
     command: str
-
-
-class Saved(NamedTuple):
-    """A snapshot was written: the journal's length at that moment, and the file's in bytes."""
-    entries: int
-    length: int
-
-
-class Bye(NamedTuple):
-    """The session has ended."""
 
 
 Reply = Union[Ok, Probe, Tally, Ledger, Row, Entry, Saved, Bye, Refused]
