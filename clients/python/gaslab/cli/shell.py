@@ -21,24 +21,19 @@ _PIECE = 64  # steps of a command of `run`
 
 def help_text(word: str = "") -> str:
     """What the shell says about a word, or about all."""
-    own = {name: (_takes(Shell.WORDS[name]), Shell.WORDS[name].__doc__, ()) for name in Shell.WORDS}
+    own = {name: (" ".join(list(inspect.signature(it).parameters)[1:]), it.__doc__, ())
+           for name, it in Shell.WORDS.items()}
     own["repeat"] = ("N { .. }", "as in: repeat 30 { step 100; ledger }", ())
-    if word:
-        if word not in {**COMMANDS, **own}:
-            return f"there is no word {word}: help lists them"
-        words, what, numbers = {**COMMANDS, **own}[word]
-        limits = [f"  ERR {number} {REFUSALS[number]}: {LIMITS[number]}" for number in numbers]
-        return "\n".join((f"{word} {words}".rstrip(), f"  {what}", *limits))
-    lines = [[f"  {name + ' ' + words:<24} {what}" for name, (words, what, _) in table.items()]
-             for table in (COMMANDS, own)]
-    return "\n".join(["the laboratory's commands:", *lines[0], "of the shell, with ; between "
-                      "commands and # before a comment; Ctrl-C ends a run:", *lines[1]])
-
-
-def _takes(word: Callable[..., None]) -> str:
-    """The words that a word of the shell takes, in brackets if they may be left out."""
-    return " ".join(name if it.default is it.empty else f"[{name}]" for name, it in
-                    list(inspect.signature(word).parameters.items())[1:])
+    if not word:
+        lines = [[f"  {name + ' ' + words:<24} {what}" for name, (words, what, _) in table.items()]
+                 for table in (COMMANDS, own)]
+        return "\n".join(["the laboratory's commands:", *lines[0], "of the shell, with ; between "
+                          "commands and # before a comment; Ctrl-C ends a run:", *lines[1]])
+    if word not in {**COMMANDS, **own}:
+        return f"there is no word {word}: help lists them"
+    words, what, numbers = {**COMMANDS, **own}[word]
+    limits = [f"  ERR {number} {REFUSALS[number]}: {LIMITS[number]}" for number in numbers]
+    return "\n".join((f"{word} {words}".rstrip(), f"  {what}", *limits))
 
 
 class _Stopped(GaslabError):
@@ -176,13 +171,14 @@ def prompted(history: Optional[str]) -> Iterator[str]:
             readline.read_history_file(history)
     try:
         while True:
-            with suppress(KeyboardInterrupt):
+            try:
                 text = input("gas> ")
                 while is_open(text):
                     text += "\n" + input("...> ")
+            except KeyboardInterrupt:
+                print(file=sys.stderr)
+            else:
                 yield text
-                continue
-            print(file=sys.stderr)
     except EOFError:
         print(file=sys.stderr)
     finally:

@@ -85,7 +85,7 @@ def truth_table(script: Union[str, Iterable[str]], inputs: Mapping[str, Area],
     if len(inputs) > _MOST_INPUTS or set(inputs) & set(outputs):
         raise ValueError(f"a truth table has at most {_MOST_INPUTS} inputs, and outputs of other "
                          "names")
-    found, rows = parse_script(_text(script)), []
+    found, rows = parse_script(script), []
     if found.size:
         options["width"], options["height"] = found.size
     for choice in itertools.product((0, 1), repeat=len(inputs)):
@@ -116,7 +116,7 @@ def place(script: Union[str, Iterable[str]], dx: int, dy: int) -> list[str]:
         raise ValueError(f"an offset is even in both directions, and not ({dx}, {dy}): at an odd "
                          "one particles fly in other directions")
     return [_placed(line, number, dx, dy)
-            for number, line in parse_script(_text(script)).commands()]
+            for number, line in parse_script(script).commands()]
 
 
 def _placed(line: str, number: int, dx: int, dy: int) -> str:
@@ -131,7 +131,3 @@ def _placed(line: str, number: int, dx: int, dy: int) -> str:
     if moved and min(moved) < 0:
         raise ValueError(f"line {number}: {line} would leave the lattice")
     return " ".join((word, *map(str, moved), *rest[len(moves):]))
-
-
-def _text(script: Union[str, Iterable[str]]) -> str:
-    return script if isinstance(script, str) else "\n".join(script)

@@ -28,7 +28,7 @@ class Session:
         self.close(polite=kind is None)
 
     def __repr__(self) -> str:
-        return f"<Lab {'closed' if self.is_closed else 'on'} {self._door}>"
+        return f"<Lab {'closed' if self.is_closed else 'on'} {self._door.name}>"
 
     def _greet(self) -> None:
         """Asks once, so that a program or a server that will not answer is known at once."""

@@ -95,10 +95,8 @@ class Looker:
 
     def _mean_of(self, gas: Snapshot) -> Optional[int]:
         """Each cell is a pixel, unless there are too many: then squares of cells are."""
-        mean = 1
-        while self.colour == "kind" and max(gas.width, gas.height) // mean > _WIDEST:
-            mean *= 2
-        return self.mean or (mean if mean > 1 else None)
+        mean = next(it for it in (1, 2, 4) if max(gas.width, gas.height) // it <= _WIDEST)
+        return self.mean or (mean if mean > 1 and self.colour == "kind" else None)
 
 
 class Page:

@@ -1,6 +1,5 @@
 """A gas as text for a terminal, two pixels in each character."""
-from collections.abc import Iterator, Sequence
-from typing import Any, Optional
+from typing import Optional
 
 import numpy
 
@@ -31,19 +30,11 @@ def text_picture(gas: Gas, columns: int = 80, coloured: bool = True, colour: str
     if len(pixels) % 2:
         pixels = numpy.vstack((pixels, numpy.full_like(pixels[:1], palette.EMPTY)))
     write = _coloured if coloured else _plain
-    return "\n".join(write(_pairs(colours, pair)) for pair in zip(pixels[::2], pixels[1::2]))
+    return "\n".join(write([(colours[a], colours[b]) for a, b in zip(upper, lower)])
+                     for upper, lower in zip(pixels[::2], pixels[1::2]))
 
 
-Pair = tuple[palette.Colour, palette.Colour]
-
-
-def _pairs(colours: Sequence[palette.Colour], rows: Any) -> Iterator[Pair]:
-    """The colours of the upper and the lower pixel of each character."""
-    upper, lower = rows
-    return zip((colours[index] for index in upper), (colours[index] for index in lower))
-
-
-def _coloured(pairs: Iterator[Pair]) -> str:
+def _coloured(pairs: list[tuple[palette.Colour, palette.Colour]]) -> str:
     """Half blocks: the upper pixel is the character's colour, the lower one its background."""
     parts, last = [], None
     for pair in pairs:
@@ -55,9 +46,5 @@ def _coloured(pairs: Iterator[Pair]) -> str:
     return "".join(parts) + "\x1b[0m"
 
 
-def _plain(pairs: Iterator[Pair]) -> str:
-    return "".join(" ▄▀█"[2 * _is_dark(upper) + _is_dark(lower)] for upper, lower in pairs)
-
-
-def _is_dark(colour: palette.Colour) -> bool:
-    return sum(colour) < 480
+def _plain(pairs: list[tuple[palette.Colour, palette.Colour]]) -> str:
+    return "".join(" ▄▀█"[2 * (sum(upper) < 480) + (sum(lower) < 480)] for upper, lower in pairs)

@@ -57,7 +57,7 @@ def _check_built(script: Path) -> None:
 class Program:
     """The program, started for one session on its standard streams."""
     def __init__(self, path: Path, options: dict[str, Any], timeout: float) -> None:
-        self.path = path
+        self.name = str(path)
         words = [str(path), "run"]
         for name, value in options.items():
             if value is not None:
@@ -72,9 +72,6 @@ class Program:
         assert self._process.stdin and self._process.stdout
         self.link = Link(self._process.stdout.fileno(), self._process.stdin.fileno(), timeout,
                          self._why)
-
-    def __str__(self) -> str:
-        return f"{self.path}"
 
     def _why(self, is_silent: bool) -> str:
         """The program's status, if it has ended, and the end of what it said."""
@@ -107,18 +104,15 @@ class Program:
 class Server:
     """A server, joined over a socket."""
     def __init__(self, host: str, port: int, timeout: float) -> None:
-        self.address = f"{host}:{port}"
+        self.name = f"{host}:{port}"
         try:
             self._socket = socket.create_connection((host, port), timeout)
         except (OSError, UnicodeError) as fault:
-            raise Unreachable(f"no server at {printable(self.address)}: {fault}") from fault
+            raise Unreachable(f"no server at {printable(self.name)}: {fault}") from fault
         self._socket.setsockopt(socket.IPPROTO_TCP, socket.TCP_NODELAY, 1)
         number = self._socket.fileno()
         self.link = Link(number, number, timeout, self._why, self._acknowledge)
         self._acknowledge()
-
-    def __str__(self) -> str:
-        return self.address
 
     def _acknowledge(self) -> None:
         """Makes the system acknowledge at once what arrives, if it can.
@@ -130,8 +124,8 @@ class Server:
 
     def _why(self, is_silent: bool) -> str:
         if is_silent:
-            return f"the server at {self.address} is full, or busy with long steps of others"
-        return f"the server at {self.address} has ended"
+            return f"the server at {self.name} is full, or busy with long steps of others"
+        return f"the server at {self.name} has ended"
 
     def close(self, polite: bool = True) -> None:
         """Closes the socket."""

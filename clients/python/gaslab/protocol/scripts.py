@@ -7,8 +7,8 @@ A laboratory knows none of these. What comes out of `Script.commands` is one com
 """
 import re
 import sys
-from collections.abc import Iterator
-from typing import Any, NamedTuple, Optional
+from collections.abc import Iterable, Iterator
+from typing import Any, NamedTuple, Optional, Union
 
 from .commands import SIDES
 from .doors import PathLike
@@ -33,8 +33,8 @@ class Script(NamedTuple):
         return _unrolled(self.parts)
 
 
-def parse_script(text: str) -> Script:
-    """The script that a text is. Raises `ValueError`, with the line, if it is none."""
+def parse_script(text: Union[str, Iterable[str]]) -> Script:
+    """The script that a text is, or its lines. Raises `ValueError`, with the line, if it is none."""
     tokens = _tokens(text)[::-1]
     size = _size(*tokens.pop()) if tokens and tokens[-1][1].split(" ")[0] == "size" else None
     parts = _parts(tokens, 0)
@@ -49,10 +49,10 @@ def is_open(text: str) -> bool:
     return words.count("{") > words.count("}")
 
 
-def _tokens(text: str) -> Tokens:
+def _tokens(text: Union[str, Iterable[str]]) -> Tokens:
     """Commands and braces, each with its line."""
     found = []
-    for place, line in enumerate(lines_of(text), 1):
+    for place, line in enumerate(lines_of(text) if isinstance(text, str) else text, 1):
         line = line.partition("#")[0].replace("{", ";{;").replace("}", ";};")
         found += [(place, " ".join(part.split())) for part in line.split(";")]
     return [(place, word) for place, word in found if word]
