@@ -4,7 +4,7 @@ import os
 import signal
 import sys
 from collections.abc import Callable, Sequence
-from typing import Any, Optional
+from typing import Optional
 
 from .cli import options, words
 from .protocol.errors import GaslabError, printable
@@ -64,17 +64,12 @@ def parser() -> argparse.ArgumentParser:
     return whole
 
 
-def _leave(number: int, _: Any) -> None:
-    """Ends the program after TERM or HUP, so that what it started is ended too."""
-    raise SystemExit(128 + number)
-
-
 def main(arguments: Optional[Sequence[str]] = None) -> int:
     """Runs a word. The status is 0, 1 after a fault, which is said, or 2 for wrong options."""
     asked = parser().parse_args(arguments)
-    for number in (signal.SIGTERM, signal.SIGHUP):
+    for number in (signal.SIGTERM, signal.SIGHUP):  # what was started is then ended too
         if signal.getsignal(number) == signal.SIG_DFL:
-            signal.signal(number, _leave)
+            signal.signal(number, lambda number, _: sys.exit(128 + number))
     try:
         status = asked.run(asked)
         sys.stdout.flush()

@@ -16,7 +16,7 @@ from unittest import mock
 import gaslab.page.server
 from gaslab import Lab
 from gaslab.page.server import Page
-from gaslab.cli.terminal import looks
+from gaslab.cli.words import looks
 
 from .fake import Fake
 from .seen import read
@@ -128,7 +128,7 @@ class Terminal(unittest.TestCase):
             self.assertEqual(len(said(*words, "--mean", 16)[1].splitlines()), 2 + 2)
             self.assertEqual(said(*words, "--colour", "velocity")[0], 0)
         with Fake(hall.answer) as fake, Lab.join("127.0.0.1", fake.port) as lab, \
-                mock.patch("gaslab.cli.terminal.is_coloured", lambda: True):
+                mock.patch("gaslab.cli.words.is_coloured", lambda: True):
             # the particle in the cell (0, 3) flies to the right and upwards
             self.assertIn("86;180;233", next(looks(lab, 0, 1, colour="velocity")))
             self.assertNotIn("86;180;233", next(looks(lab, 0, 1)))

@@ -1,5 +1,7 @@
 """The shell: a prompt for commands, with names in the replies and the limit beside each `ERR`."""
 import inspect
+import os
+import shutil
 import signal
 import sys
 from collections.abc import Callable, Iterator
@@ -14,9 +16,18 @@ from ..protocol.commands import COMMANDS
 from ..protocol.errors import GaslabError, Gone, LIMITS, REFUSALS, Refused, Strange, printable
 from ..protocol.replies import Bye, Reply, named, reply_text
 from ..protocol.scripts import Script, is_open, parse_script, read_text
-from .terminal import columns
 
 _PIECE = 64  # steps of a command of `run`
+
+
+def is_coloured() -> bool:
+    """Whether standard output is a terminal that shows colours."""
+    return sys.stdout.isatty() and not os.environ.get("NO_COLOR")
+
+
+def columns() -> int:
+    """How many characters a line of the terminal has, or 128 if there is no terminal."""
+    return shutil.get_terminal_size().columns if sys.stdout.isatty() else 128
 
 
 def help_text(word: str = "") -> str:

@@ -1,26 +1,30 @@
 """The words of the command line."""
 import argparse
 import os
+import shutil
 import sys
+import time
+from collections.abc import Iterator
 from contextlib import nullcontext
+from typing import Optional
 
 import numpy
 
 from ..lab.lab import Lab
-from ..measure.measuring import every, profile, random_gas
+from ..measure.measuring import every, profile, random_gas, sums_of
 from ..measure.tables import chart, csv_text
 from ..page.server import Page
 from ..pictures.drawing import film, picture
 from ..pictures.text import text_picture
-from ..protocol.errors import Strange, printable
+from ..protocol.errors import Gone, Moving, Silent, Strange, printable
 from ..protocol.replies import Row, parse_reply, show_cells
 from ..protocol.scripts import read_text
 from ..snapshot.files import Snapshot
 from ..snapshot.rectangles import cover
 from .options import gas_of, lab_of
-from .shell import Shell, prompted
-from .terminal import columns, is_coloured, looks
+from .shell import Shell, columns, is_coloured, prompted
 
+_LAST = 8  # entries that are shown
 _CLEAR = "\x1b[H\x1b[2J"
 _PIECE = 4096  # bytes of a line that are read at once
 
@@ -129,3 +133,35 @@ def watch(asked: argparse.Namespace) -> None:
             return
         for text in looks(lab, asked.seconds, asked.times, asked.mean, asked.colour):
             print((_CLEAR if sys.stdout.isatty() else "") + text, flush=True)
+
+
+def looks(lab: Lab, pause: float, times: Optional[int], mean: Optional[int] = None,
+          colour: str = "kind") -> Iterator[str]:
+    """What is shown at each look, until the server ends, with a pause of seconds between two."""
+    done = 0
+    while times is None or done < times:
+        if done:
+            time.sleep(pause)
+        try:
+            yield _screen(lab, lab.look(tries=5), mean, colour)
+        except Moving:
+            yield "others change the gas all the time: no look was of one tick"
+        except Silent:
+            yield "the server does not answer"
+        except Gone:
+            yield "the server has ended"
+            return
+        done += 1
+
+
+def _screen(lab: Lab, gas: Snapshot, mean: Optional[int], colour: str) -> str:
+    """The gas, its sums and the last entries as text, as high as the terminal if it can be."""
+    tally, entries = sums_of(gas), lab.known
+    first = max(0, len(entries) - _LAST)
+    lines = [f"{first + k}: seat {entry.seat}: {entry.command[:60]}"
+             for k, entry in enumerate(entries[first:])]
+    sums = f"tick {gas.tick}, {tally.count} particles, px {tally.px}, py {tally.py}"
+    took = f"read in {len(lab.bursts)} bursts, the longest {1000 * max(lab.bursts):.1f} ms"
+    rows = max(4, shutil.get_terminal_size().lines - 3 - _LAST) if sys.stdout.isatty() else None
+    drawn = text_picture(gas, columns(), is_coloured(), colour, mean, rows)
+    return "\n".join((drawn, sums, took, *lines))

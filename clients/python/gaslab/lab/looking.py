@@ -13,7 +13,7 @@ from ..snapshot.cells import as_cells, plane_of
 from ..snapshot.files import Snapshot
 from ..snapshot.rectangles import cover
 from ..snapshot.scene import Scene
-from .commands import Commands
+from .session import Commands
 
 _AHEAD = 512  # entries that are asked for at once
 

@@ -78,6 +78,7 @@ class Moving(GaslabError):
 class MissingLibrary(GaslabError, ImportError):
     """A library is not installed. The message says how to install it."""
 
+
 def library(name: str) -> Any:
     """A module of another package, such as "PIL.Image". Raises `MissingLibrary` without it."""
     try:

@@ -20,17 +20,12 @@ def cover(needed: Any, allowed: Any) -> list[Rectangle]:
     for y in numpy.flatnonzero(needed.any(axis=1)):
         columns = numpy.flatnonzero(left[y])
         while columns.size:
-            x, top, w, h = max(_around(may, int(columns[0]), int(y)),
-                               key=lambda it: _count(left, it))
+            x, top, w, h = max(_around(may, int(columns[0]), int(y)), key=lambda it: numpy.count_nonzero(
+                left[it[1]:it[1] + it[3], it[0]:it[0] + it[2]]))
             done.append((x, top, w, h))
             left[top:top + h, x:x + w] = False
             columns = numpy.flatnonzero(left[y])
     return sorted(done, key=lambda it: (it[1], it[0]))
-
-
-def _count(cells: Any, area: Rectangle) -> int:
-    x, y, w, h = area
-    return int(numpy.count_nonzero(cells[y:y + h, x:x + w]))
 
 
 def _around(may: Any, x: int, y: int) -> Iterator[Rectangle]:
@@ -40,16 +35,11 @@ def _around(may: Any, x: int, y: int) -> Iterator[Rectangle]:
     for up, (left, right) in enumerate(above):
         if up + 1 < len(above) and above[up + 1] == (left, right):
             continue  # the next row upwards can be taken too
-        down = 0
         for down, (first, last) in enumerate(below):
-            wide = max(left, first), min(right, last)
-            is_last = down + 1 == len(below)
-            if is_last or _meet(wide, below[down + 1]) != wide:
-                yield wide[0], y - up, wide[1] - wide[0], up + down + 1
-
-
-def _meet(one: tuple[int, int], other: tuple[int, int]) -> tuple[int, int]:
-    return max(one[0], other[0]), min(one[1], other[1])
+            first, last = max(left, first), min(right, last)
+            further = below[down + 1] if down + 1 < len(below) else (last, first)
+            if further[0] > first or further[1] < last:
+                yield first, y - up, last - first, up + down + 1
 
 
 def _runs(rows: Any, x: int) -> Iterator[tuple[int, int]]:
