@@ -60,7 +60,7 @@ def page_of(hall, seconds=0.02, timeout=60):
     """A page that is kept up to date by a thread, and the fake server that it watches."""
     with Fake(hall.answer) as fake, Lab.join("127.0.0.1", fake.port, timeout) as lab:
         with Page(lab, seconds=seconds) as page:
-            thread = threading.Thread(target=page.watch)
+            thread = threading.Thread(target=page.looker.keep_looking)
             thread.start()
             try:
                 yield page, fake

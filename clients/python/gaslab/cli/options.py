@@ -1,6 +1,5 @@
 """The options of the command line, and how words find their gas by them."""
 import argparse
-import math
 import re
 from collections.abc import Callable, Iterator
 from contextlib import contextmanager
@@ -32,8 +31,8 @@ def seconds(text: str) -> float:
         number = float(text)
     except ValueError:
         number = -1.0
-    if not 0 < number < math.inf:
-        raise argparse.ArgumentTypeError(f"a number of seconds above 0: not {text[:40]!r}")
+    if not 0 < number <= 1e6:
+        raise argparse.ArgumentTypeError(f"seconds above 0, 1,000,000 at most: not {text[:40]!r}")
     return number
 
 

@@ -129,7 +129,7 @@ def watch(asked: argparse.Namespace) -> None:
         if asked.page:
             with Page(lab, asked.page_port, asked.seconds, asked.mean, asked.colour) as page:
                 print(f"PAGE {page.address}", flush=True)
-                page.watch()
+                page.looker.keep_looking()
             return
         for text in looks(lab, asked.seconds, asked.times, asked.mean, asked.colour):
             print((_CLEAR if sys.stdout.isatty() else "") + text, flush=True)

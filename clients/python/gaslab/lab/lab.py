@@ -1,5 +1,4 @@
 """The laboratory as an object: a program that is started, or a server that is joined."""
-import math
 from collections.abc import Mapping, Sequence
 from typing import Any, Optional
 
@@ -80,6 +79,6 @@ def _check(name: str, number: int, least: int, most: int) -> None:
 
 
 def _checked(timeout: float) -> float:
-    if not 0 < timeout < math.inf:
-        raise ValueError(f"timeout is a number of seconds above 0, and not {timeout}")
+    if not 0 < timeout <= 1e6:
+        raise ValueError(f"timeout is a number of seconds above 0, 1,000,000 at most, and not {timeout}")
     return timeout

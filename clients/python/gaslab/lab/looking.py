@@ -13,12 +13,12 @@ from ..snapshot.cells import as_cells, plane_of
 from ..snapshot.files import Snapshot
 from ..snapshot.rectangles import cover
 from ..snapshot.scene import Scene
-from .session import Commands
+from .session import Session
 
 _AHEAD = 512  # entries that are asked for at once
 
 
-class Looks(Commands):
+class Looks(Session):
     """The whole gas at one tick: read from the laboratory, and put there from arrays.
 
     `known` are the entries that were read so far. After `look` they are those that made this gas.
@@ -87,7 +87,8 @@ class Looks(Commands):
                 self.bursts.append(time.monotonic() - began)
             known = len(self.known)
             if len(self.journal()) == known:
-                return scene.snapshot(tally.tick, bytes.fromhex("".join(rows)))
+                return Snapshot(*self.size, tally.tick, tuple(scene.drains), tuple(scene.sources),
+                                bytes.fromhex("".join(rows)), plane_of(scene.walls), plane_of(scene.obstacles))
         raise Moving(f"the gas was changed during each of {tries} looks: others step it without a "
                      "pause; a server on this machine that saves can be looked at by shelf=")
 

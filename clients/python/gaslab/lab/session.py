@@ -10,18 +10,38 @@ import numpy
 from ..protocol.commands import COMMANDS, MOST_STEPS
 from ..protocol.doors import Door, PathLike
 from ..protocol.errors import GaslabError, Gone, Refused, Strange, printable
+from ..protocol.link import Replies, lines_of
 from ..protocol.replies import Bye, Entry, Ledger, Ok, Probe, Reply, Row, Saved, Tally
 from ..protocol.scripts import Script, parse_script, read_text
 from ..snapshot.cells import plane_of
-from ..protocol.link import Replies, lines_of
 
 _LAST_WAIT = 5.0  # seconds
 
 Kind = TypeVar("Kind")
 
 
+def _command(kind: type[Kind], word: str) -> Callable[..., Kind]:
+    """The method that asks a command and returns its reply. It takes the command's numbers."""
+    names = ("self", *COMMANDS[word].words.split())
+    signature = Signature([Parameter(name, Parameter.POSITIONAL_OR_KEYWORD) for name in names])
+
+    def ask(*given: Any, **named: Any) -> Kind:
+        lab, *numbers = signature.bind(*given, **named).arguments.values()
+        reply: Kind = lab._ask(kind, word, *numbers)
+        return reply
+    ask.__name__, ask.__qualname__ = word, f"Lab.{word}"
+    ask.__doc__ = f"`{word}`: it {COMMANDS[word].what}. Returns `{kind.__name__}`."
+    ask.__signature__ = signature  # type: ignore[attr-defined]
+    return ask
+
+
 class Session:
-    """One seat at a laboratory. It is for one thread at a time, whichever that is."""
+    """One seat at a laboratory. It is for one thread at a time, whichever that is.
+
+    Each command is a method. Coordinates and sizes are in cells, `x` to the right and `y` downwards
+    from 0. Steps and periods are in ticks. A refusal raises `Refused`, and the laboratory is as it
+    was.
+    """
     size: tuple[int, int]
 
     def __init__(self, door: Door) -> None:
@@ -141,27 +161,6 @@ class Session:
             raise Strange(f"no answer to {line[:60]!r}: {printable(str(reply))[:80]}")
         return reply
 
-
-def _command(kind: type[Kind], word: str) -> Callable[..., Kind]:
-    """The method that asks a command and returns its reply. It takes the command's numbers."""
-    names = ("self", *COMMANDS[word].words.split())
-    signature = Signature([Parameter(name, Parameter.POSITIONAL_OR_KEYWORD) for name in names])
-
-    def ask(*given: Any, **named: Any) -> Kind:
-        lab, *numbers = signature.bind(*given, **named).arguments.values()
-        reply: Kind = lab._ask(kind, word, *numbers)
-        return reply
-    ask.__name__, ask.__qualname__ = word, f"Lab.{word}"
-    ask.__doc__ = f"`{word}`: it {COMMANDS[word].what}. Returns `{kind.__name__}`."
-    ask.__signature__ = signature  # type: ignore[attr-defined]
-    return ask
-
-
-class Commands(Session):
-    """Coordinates and sizes are in cells, `x` to the right and `y` downwards from 0.
-
-    Steps and periods are in ticks. A refusal raises `Refused`, and the laboratory is as it was.
-    """
     put, erase, wall, block, unwall = (
         _command(Ok, word) for word in ("put", "erase", "wall", "block", "unwall"))
     source, drain, unport = (_command(Ok, word) for word in ("source", "drain", "unport"))

@@ -125,10 +125,6 @@ class Page:
         self._server.server_close()
         self._thread.join()
 
-    def watch(self) -> None:
-        """Looks at the gas until the page is closed, in this thread."""
-        self.looker.keep_looking()
-
 
 class _Handler(BaseHTTPRequestHandler):
     """Answers GET for the page's files and its state, and nothing else."""

@@ -34,18 +34,10 @@ WALL_INSIDE, OBSTACLE_INSIDE = PARTICLE, HIT
 """In `DENSITIES`: the tints inside the outlines of walls and obstacles."""
 _MARKS = {**dict(enumerate(CELLS[:_FIRST])), WALL_INSIDE: (205, 205, 205),
           OBSTACLE_INSIDE: (250, 205, 170), SOURCE: (0, 158, 115), DRAIN: (204, 90, 160)}
+_STEPS = numpy.linspace(0, len(_RAMP) - 1, 256 - _FIRST)
+_SHADES = numpy.rint([numpy.interp(_STEPS, range(len(_RAMP)), part) for part in zip(*_RAMP)])
 
-
-def _ramp_colour(share: float) -> Colour:
-    place = share * (len(_RAMP) - 1)
-    low = min(int(place), len(_RAMP) - 2)
-    red, green, blue = (round(a + (b - a) * (place - low))
-                        for a, b in zip(_RAMP[low], _RAMP[low + 1]))
-    return red, green, blue
-
-
-DENSITIES: tuple[Colour, ...] = (*_MARKS.values(), *(
-    _ramp_colour(step / (255 - _FIRST)) for step in range(256 - _FIRST)))
+DENSITIES: tuple[Colour, ...] = (*_MARKS.values(), *map(tuple, _SHADES.astype(int).T.tolist()))
 """The palette of density pictures: marks, darker for ports, then from empty (white) to full."""
 
 

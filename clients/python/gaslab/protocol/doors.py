@@ -5,6 +5,7 @@ import signal
 import socket
 import subprocess
 import tempfile
+from contextlib import suppress
 from pathlib import Path
 from typing import Any, Optional, Union
 
@@ -76,10 +77,8 @@ class Program:
     def _why(self, is_silent: bool) -> str:
         """The program's status, if it has ended, and the end of what it said."""
         parts = []
-        try:
+        with suppress(subprocess.TimeoutExpired):
             parts.append(f"the program ended with status {self._process.wait(0.2)}")
-        except subprocess.TimeoutExpired:
-            pass
         self._said.seek(0)
         said = self._said.read().decode(errors="replace").strip()
         if said:

@@ -15,7 +15,6 @@ from .replies import Bye, Reply, parse_reply
 LINE_LIMIT = 2048
 """The most bytes that a line or a reply has, its newline not counted."""
 _CHUNK = 65536
-_LONGEST = 1e6  # seconds that a system waits at once
 _WINDOW = 65536  # bytes that wait to be written
 _MOST_ASKED = 16384  # lines that wait for their replies
 
@@ -44,11 +43,6 @@ class Link:
         """Queues a line. It is written while the next reply is waited for, or by `flush`."""
         self.unsent += line.encode() + b"\n"
 
-    def flush(self) -> None:
-        """Writes what can be written at once, and reads nothing."""
-        if self.unsent:
-            self._write()
-
     def next_line(self, refill: Callable[[], None] = lambda: None) -> str:
         """The next line that arrives. `refill` is called on the way, to queue more lines.
 
@@ -73,12 +67,12 @@ class Link:
         """Waits until something can be read or written, and does it."""
         left = deadline - time.monotonic()
         poll = self._both if self.unsent else self._reading
-        ready = dict(poll.poll(1000 * max(0.0, min(left, _LONGEST))))
+        ready = dict(poll.poll(1000 * max(0.0, left)))
         can_read = ready.get(self._source, 0) & ~select.POLLOUT
         if not ready or left < 0 and not can_read:
             raise Silent(f"no answer for {self.timeout:g} seconds" + self._because(True))
-        if self.unsent and ready.get(self._sink, 0) & ~select.POLLIN:
-            self._write()
+        if ready.get(self._sink, 0) & ~select.POLLIN:
+            self.flush()
         if can_read:
             self._read()
 
@@ -97,8 +91,8 @@ class Link:
         if any(len(line) > LINE_LIMIT for line in (*lines, self._rest)):
             raise Strange(f"no reply of a laboratory: it has more than {LINE_LIMIT} bytes")
 
-    def _write(self) -> None:
-        """Writes some of what is queued. What a closed side no longer reads is dropped."""
+    def flush(self) -> None:
+        """Writes what can be written at once. What a closed side no longer reads is dropped."""
         try:
             count = os.write(self._sink, self.unsent[:_CHUNK])
         except BlockingIOError:

@@ -108,11 +108,7 @@ def reply_text(reply: Reply) -> str:
 
 
 def named(reply: Reply) -> str:
-    """A reply for people: its word, and each number with its name.
-
-    >>> named(Probe(1, 1, -1))
-    'PROBE count 1, px 1, py -1'
-    """
+    """A reply for people: its word, and each number with its name."""
     if isinstance(reply, Refused):
         return f"ERR {reply.number} {reply.word}: {reply.limit}"
     if isinstance(reply, Row):

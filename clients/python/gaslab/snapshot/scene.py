@@ -5,7 +5,6 @@ import numpy
 
 from ..protocol.commands import MOST_PORTS, parse_change
 from ..protocol.errors import Strange
-from .cells import plane_of
 from .files import Drain, Snapshot, Source
 
 
@@ -43,8 +42,3 @@ class Scene:
             self.walls[area] = word == "wall"
         if word != "wall":
             self.obstacles[area] = word == "block"
-
-    def snapshot(self, tick: int, particles: bytes) -> Snapshot:
-        """The gas with these particles, a packed plane, at this tick."""
-        return Snapshot(*self.size, tick, tuple(self.drains), tuple(self.sources), particles,
-                        plane_of(self.walls), plane_of(self.obstacles))
