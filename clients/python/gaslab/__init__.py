@@ -1,19 +1,14 @@
 """A client for gaslab, the flow laboratory on the HPP lattice gas.
 
-It speaks the laboratory's line protocol over a pipe or a socket, reads its snapshots, and draws and
-measures what it finds. It proves nothing: what is proved is the program that it talks to.
-
-    >>> from gaslab import Lab, picture                         # doctest: +SKIP
-    >>> with Lab.run() as lab:                                  # doctest: +SKIP
-    ...     replies = lab.play("examples/4_tunnel.txt")
-    ...     image = picture(lab, "tunnel.png", mean=4)
+It speaks the laboratory's line protocol over a pipe or a socket, reads its snapshots, and draws and measures
+what it finds. It proves nothing: what is proved is the program that it talks to.
 """
 from .protocol.errors import (GaslabError, Gone, LIMITS, MissingLibrary, Moving, REFUSALS, Refused, Silent,
                               Strange, Unreachable)
 from .protocol.replies import (Bye, Entry, Ledger, Ok, Probe, Reply, Row, Saved, Tally, named, parse_reply,
                                reply_text)
-from .snapshot.files import (Drain, MagicFault, PortFault, ShortFault, SizeFault, Snapshot, SnapshotFault, Source,
-                             TickFault, TrailingFault)
+from .snapshot.files import (Drain, MagicFault, PortFault, ShortFault, SizeFault, Snapshot, SnapshotFault,
+                             Source, TickFault, TrailingFault)
 from .lab.gates import place, truth_table
 from .lab.lab import Lab
 from .measure.measuring import Fields, every, profile, random_gas, velocity
@@ -25,10 +20,10 @@ from .pictures.text import text_picture
 __version__ = "1.0.0"
 
 __all__ = [
-    "Bye", "Drain", "Entry", "Fields", "GaslabError", "Gone", "LIMITS", "Lab", "Ledger",
-    "MagicFault", "MissingLibrary", "Moving", "Ok", "PortFault", "Probe", "REFUSALS", "Refused",
-    "Reply", "Row", "Saved", "ShortFault", "Silent", "SizeFault", "Snapshot", "SnapshotFault",
-    "Source", "Strange", "Tally", "TickFault", "TrailingFault", "Unreachable", "chart", "csv_text",
-    "every", "film", "named", "palette", "parse_reply", "picture", "picture_bytes", "place",
-    "profile", "random_gas", "reply_text", "text_picture", "truth_table", "velocity",
+    "Bye", "Drain", "Entry", "Fields", "GaslabError", "Gone", "LIMITS", "Lab", "Ledger", "MagicFault",
+    "MissingLibrary", "Moving", "Ok", "PortFault", "Probe", "REFUSALS", "Refused", "Reply", "Row", "Saved",
+    "ShortFault", "Silent", "SizeFault", "Snapshot", "SnapshotFault", "Source", "Strange", "Tally",
+    "TickFault", "TrailingFault", "Unreachable", "chart", "csv_text", "every", "film", "named", "palette",
+    "parse_reply", "picture", "picture_bytes", "place", "profile", "random_gas", "reply_text", "text_picture",
+    "truth_table", "velocity",
 ]

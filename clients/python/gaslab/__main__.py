@@ -23,16 +23,14 @@ WORDS: dict[str, tuple[Callable[..., Optional[int]], str, tuple[str, ...], str, 
               (SOURCES,), "a table over time, as CSV",
               "PROGRAM table examples/4_tunnel.txt --steps 100 --times 30 "
               "--probe front=20,28,8,8 --chart drag.svg"),
-    "profile": (words.profile_word, "--along --bins", (SOURCES,),
-                "a table over columns or rows, as CSV",
+    "profile": (words.profile_word, "--along --bins", (SOURCES,), "a table over columns or rows, as CSV",
                 "PROGRAM profile examples/4_tunnel.txt --along x --bins 8"),
     "random": (words.random_word, "--width --height --density --drift --drift-down --seed", (),
                "a random gas, as lines for ./gaslab run",
                "PROGRAM random --density 0.3 --drift 0.2 --seed 1 | ./gaslab run"),
     "show": (words.show, "snapshot --script", (),
              "what is in a snapshot, and its walls as a script", "PROGRAM show day.gas"),
-    "journal": (words.journal, "host port --timeout", (),
-                "the journal of a running server, as a script",
+    "journal": (words.journal, "host port --timeout", (), "the journal of a running server, as a script",
                 "PROGRAM journal 127.0.0.1 7878 > journal.txt"),
     "rows": (words.rows, "", (), "draws the rows among replies as dots and marks",
              "./gaslab run < examples/2_blocks.txt | PROGRAM rows"),
@@ -50,8 +48,7 @@ def parser() -> argparse.ArgumentParser:
     whole = argparse.ArgumentParser(
         prog=program, description="A client for gaslab. It proves nothing: what is proved is the "
         "program that it talks to, GASLAB_PROGRAM or else ./gaslab of the repository.",
-        epilog="WORD --help lists the options of a word, with an example for the top of the "
-        "repository.")
+        epilog="WORD --help lists the options of a word, with an example for the top of the repository.")
     parts = whole.add_subparsers(dest="word", metavar="WORD", required=True)
     for word, (run, names, groups, what, example) in WORDS.items():
         part = parts.add_parser(word, help=what, description=what[0].upper() + what[1:] + ".",
@@ -78,8 +75,7 @@ def main(arguments: Optional[Sequence[str]] = None) -> int:
         os.dup2(os.open(os.devnull, os.O_WRONLY), sys.stdout.fileno())
         return 1
     except (GaslabError, OSError, ValueError, MemoryError) as fault:
-        print(f"gaslab {asked.word}: {printable(str(fault)) or type(fault).__name__}",
-              file=sys.stderr)
+        print(f"gaslab {asked.word}: {printable(str(fault)) or type(fault).__name__}", file=sys.stderr)
         return 1
     except KeyboardInterrupt:
         return 130

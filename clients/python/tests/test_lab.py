@@ -305,7 +305,7 @@ class OtherSides(unittest.TestCase):
                               ({"height": 4160}, "sides are multiples of 64"),
                               ({"width": "64"}, "sides are multiples of 64"),
                               ({"workers": 17}, "workers is 1 to 16"), ({"cap": 0}, "cap is 1 to"),
-                              ({"timeout": 0}, "timeout is"), ({"timeout": float("nan")}, "seconds")
+                              ({"timeout": 0}, "timeout is"), ({"timeout": float("nan")}, "timeout is 0.001 to")
                               ):
             with self.assertRaisesRegex(ValueError, rule):
                 run(**options)
@@ -476,7 +476,6 @@ class Looking(unittest.TestCase):
             self.assertEqual(lab._repr_png_()[:8], b"\x89PNG\r\n\x1a\n")
             self.assertRegex(repr(lab), r"^<Lab on .*stand_in.py>$")
         self.assertRegex(repr(lab), r"^<Lab closed .*stand_in.py>$")
-
 
     def test_probes_that_name_no_size(self):
         def all_refused(line):

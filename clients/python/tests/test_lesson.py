@@ -28,6 +28,7 @@ def executed(program, room):
     return text, sum("image/png" in output.get("data", {}) for output in outputs)
 
 
+@unittest.skipIf(os.environ.get("WITHOUT_PANDAS"), "its kernel is another Python, with pandas")
 @unittest.skipUnless(importlib.util.find_spec("nbconvert") and importlib.util.find_spec("ipykernel"),
                      "nbconvert or ipykernel is not installed")
 class Executed(unittest.TestCase):

@@ -18,8 +18,9 @@ COUNT = 1000
 KINDS = {name: line for name, line in (
     ("Ok", b"OK 4711"), ("Probe", b"PROBE 12 -4 0"), ("Tally", b"TALLY -17 4 2 -2"),
     ("Ledger", REPLIES["ledger"][:-1]), ("Row", b"ROW 0000000ff0000000"),
-    ("Entry of a rectangle", b"ENTRY 63 wall 0 20 64 1"), ("Entry of a port",
-    b"ENTRY 7 source 4 24 2 8 1"), ("Entry of a row", b"ENTRY 0 row 5 0000000ff0000000"),
+    ("Entry of a rectangle", b"ENTRY 63 wall 0 20 64 1"),
+    ("Entry of a port", b"ENTRY 7 source 4 24 2 8 1"),
+    ("Entry of a row", b"ENTRY 0 row 5 0000000ff0000000"),
     ("Entry of steps", b"ENTRY 1 step 4096"), ("Saved", b"SAVED 4 3094"), ("Bye", b"BYE"),
     ("Refused", b"ERR 5 rect"))}
 PIECES = (b"0", b"9", b"-", b" ", b"  ", b"\n", b"\r", b"\0", b"\x1b[2J", b"\xff", b"\xc2\x85",

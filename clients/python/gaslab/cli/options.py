@@ -19,8 +19,7 @@ def whole(least: int, most: int) -> Callable[[str], int]:
     """The type of an option that is a whole number in a range."""
     def number(text: str) -> int:
         if not re.fullmatch("-?[0-9]{1,20}", text) or not least <= int(text) <= most:
-            raise argparse.ArgumentTypeError(f"a whole number from {least:,} to {most:,}: not "
-                                             f"{text[:40]!r}")
+            raise argparse.ArgumentTypeError(f"a whole number from {least:,} to {most:,}: not {text[:40]!r}")
         return int(text)
     return number
 
@@ -39,8 +38,7 @@ def seconds(text: str) -> float:
 def side(text: str) -> int:
     """The type of a width or a height."""
     if text not in map(str, SIDES):
-        raise argparse.ArgumentTypeError("sides are multiples of 64 from 64 to 4,096: not "
-                                         f"{text[:40]!r}")
+        raise argparse.ArgumentTypeError(f"sides are multiples of 64 from 64 to 4,096: not {text[:40]!r}")
     return int(text)
 
 
@@ -65,22 +63,19 @@ def _option(what: str, kind: Any = None, default: Any = None, **more: Any) -> di
     return {"help": what, "type": kind, "default": default, **more}
 
 
-def _switch(what: str) -> dict[str, Any]:
-    return {"help": what, "action": "store_true"}
-
-
+_SWITCH = {"action": "store_true"}
 _COUNT = whole(1, _MOST)
 OPTIONS: dict[str, dict[str, Any]] = {
     "host": _option("where the server runs, such as 127.0.0.1"),
     "port": _option("the number that it listens at", whole(0, 65535)),
     "file": _option("a script that is run first, or a snapshot; - is standard input", nargs="?"),
     "snapshot": _option("a snapshot, as the command save writes it"),
-    "--script": _switch("the commands alone, without comments, as ./gaslab run reads them"),
+    "--script": {"help": "the commands alone, without comments, as ./gaslab run reads them", **_SWITCH},
     "--join": _option("a server that is joined, as a seat", address, metavar="HOST:PORT"),
     "--width": _option("cells, a multiple of 64 (64, or the script's)", side),
     "--height": _option("cells, a multiple of 64 (64, or the script's)", side),
     "--workers": _option("threads of the program (1)", whole(1, 16), 1),
-    "--cap": _option("how many changes the journal has room for (65536)", whole(1, MOST_ENTRIES), MOST_ENTRIES),
+    "--cap": _option("how many changes the journal has room for (65536)", whole(1, 65536), MOST_ENTRIES),
     "--load": _option("the snapshot to start from, or that the joined server started from", metavar="PATH"),
     "--save": _option("the file that the command save writes", metavar="PATH"),
     "--program": _option("another program than GASLAB_PROGRAM or ./gaslab", metavar="PATH"),
@@ -94,7 +89,7 @@ OPTIONS: dict[str, dict[str, Any]] = {
     "--frames": _option("how many frames (50)", _COUNT, 50),
     "--milliseconds": _option("for each frame (100)", whole(1, 65535), 100),
     "--times": _option("how many rows (30) or looks (without end)", _COUNT),
-    "--no-ledger": _switch("without the thirteen accounts"),
+    "--no-ledger": {"help": "without the thirteen accounts", **_SWITCH},
     "--probe": _option("a rectangle to probe; may be given several times", probe, [], action="append",
                        metavar="NAME=x,y,w,h"),
     "--columns": _option("only these columns (all)", metavar="NAME,NAME,.."),
@@ -107,14 +102,14 @@ OPTIONS: dict[str, dict[str, Any]] = {
     "--drift-down": _option("and downwards (0)", float, 0.0),
     "--seed": _option("the same seed gives the same gas", whole(0, 2 ** 32 - 1)),
     "--seconds": _option("between two looks (0.25)", seconds, 0.25),
-    "--page": _switch("a page on 127.0.0.1 instead, for a browser on this machine"),
+    "--page": {"help": "a page on 127.0.0.1 instead, for a browser on this machine", **_SWITCH},
     "--page-port": _option("the page's port (any)", whole(0, 65535), 0),
 }
 """Each argument and option, as argparse takes it."""
 
 GROUPS = {
-    "where the gas comes from": "file --join --width --height --workers --cap --load --save "
-                                "--program --timeout",
+    "where the gas comes from":
+        "file --join --width --height --workers --cap --load --save --program --timeout",
     "how it looks": "--scale --mean --colour",
 }
 """Options that belong together."""

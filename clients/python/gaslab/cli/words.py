@@ -65,8 +65,7 @@ def table(asked: argparse.Namespace) -> None:
     """Measurements over time."""
     wanted = asked.columns.split(",") if asked.columns else None
     with lab_of(asked) as lab:
-        found = every(lab, asked.steps, asked.times or 30, not asked.no_ledger, dict(asked.probe),
-                      wanted)
+        found = every(lab, asked.steps, asked.times or 30, not asked.no_ledger, dict(asked.probe), wanted)
     print(csv_text(found), end="")
     if asked.chart:
         chart(found, asked.chart, "tick", asked.column or ["d_obstacles_x"])
@@ -93,8 +92,7 @@ def show(asked: argparse.Namespace) -> None:
         print(f"# {gas.count} particles, {numpy.count_nonzero(gas.walls)} wall cells, "
               f"{numpy.count_nonzero(gas.obstacles)} obstacle cells")
         print(f"# {len(gas.sources)} sources, {len(gas.drains)} drains")
-    for word, areas in (("wall", cover(gas.walls, gas.walls)),
-                        ("block", cover(gas.obstacles, gas.obstacles)),
+    for word, areas in (("wall", cover(gas.walls, gas.walls)), ("block", cover(gas.obstacles, gas.obstacles)),
                         ("source", gas.sources), ("drain", gas.drains)):
         for area in areas:
             print(word, *area)

@@ -27,8 +27,8 @@ class Gates(Looks):
     def shoot(self, x: int, y: int, vx: int, vy: int) -> Ok:
         """Puts a particle into the cell (x, y) that flies with (vx, vy), each 1 or -1.
 
-        A cell has one velocity at each tick. Raises `ValueError`, and says why, if it is another at
-        the present tick, or if the cell is outside, solid, or holds a particle already.
+        A cell has one velocity at each tick. Raises `ValueError`, and says why, if it is another at the
+        present tick, or if the cell is outside, solid, or holds a particle already.
         """
         (width, height), tick = self.size, self.tally().tick
         if {vx, vy} - {1, -1}:
@@ -38,8 +38,7 @@ class Gates(Looks):
         flies = _velocity(x + tick), _velocity(y + tick)
         if flies != (vx, vy):
             beside = tuple(place if found == asked else place + (1 if place + 1 < side else -1)
-                           for place, found, asked, side in
-                           zip((x, y), flies, (vx, vy), self.size))
+                           for place, found, asked, side in zip((x, y), flies, (vx, vy), self.size))
             raise ValueError(f"at tick {tick} a particle in ({x}, {y}) flies with {flies}; one "
                              f"with {(vx, vy)} can start in {beside}")
         scene = self.scene()
@@ -52,9 +51,9 @@ class Gates(Looks):
     def trace(self, steps: int) -> Any:
         """Makes steps (backwards if negative), and tells where the particles are at each tick.
 
-        The table has a row for each particle at each tick, the present one too: `tick`, `x`, `y`
-        and its velocity `vx`, `vy`. At each tick they are in the order of rows. Raises `ValueError`
-        if there are more than 64 particles.
+        The table has a row for each particle at each tick, the present one too: `tick`, `x`, `y` and its
+        velocity `vx`, `vy`. At each tick they are in the order of rows. Raises `ValueError` if there are more
+        than 64 particles.
         """
         from ..measure.tables import table_of
         rows = []
@@ -63,8 +62,7 @@ class Gates(Looks):
                 self.advance(1 if steps > 0 else -1)
             tick, count, *_ = self.tally()
             if count > _MOST_TRACED:
-                raise ValueError(f"trace is for at most {_MOST_TRACED} particles, and there are "
-                                 f"{count}")
+                raise ValueError(f"trace is for at most {_MOST_TRACED} particles, and there are {count}")
             for y, x in numpy.argwhere(self.particles()).tolist():
                 rows.append((tick, x, y, _velocity(x + tick), _velocity(y + tick)))
         return table_of(("tick", "x", "y", "vx", "vy"), rows)
@@ -74,17 +72,16 @@ def truth_table(script: Union[str, Iterable[str]], inputs: Mapping[str, Area],
                 outputs: Mapping[str, Area], **options: Any) -> Any:
     """Runs a script once for each choice of inputs, and counts the particles in the outputs.
 
-    Inputs and outputs are cells (x, y) or rectangles (x, y, w, h), by name. For each choice a new
-    laboratory begins; the chosen inputs are filled with particles; then the script's commands are
-    done, and the outputs are probed. The table has a column for each input, 0 or 1, and for each
-    output. `script` is a text or its lines; `size W H` in it is the size. `options` are those of
-    `Lab.run`. Raises `Refused` as `Lab.do` does, and `ValueError` for more than 10 inputs.
+    Inputs and outputs are cells (x, y) or rectangles (x, y, w, h), by name. For each choice a new laboratory
+    begins; the chosen inputs are filled with particles; then the script's commands are done, and the outputs
+    are probed. The table has a column for each input, 0 or 1, and for each output. `script` is a text or its
+    lines; `size W H` in it is the size. `options` are those of `Lab.run`. Raises `Refused` as `Lab.do` does,
+    and `ValueError` for more than 10 inputs.
     """
     from ..measure.tables import table_of
     from .lab import Lab
     if len(inputs) > _MOST_INPUTS or set(inputs) & set(outputs):
-        raise ValueError(f"a truth table has at most {_MOST_INPUTS} inputs, and outputs of other "
-                         "names")
+        raise ValueError(f"a truth table has at most {_MOST_INPUTS} inputs, and outputs of other names")
     found, rows = parse_script(script), []
     if found.size:
         options["width"], options["height"] = found.size
@@ -108,15 +105,14 @@ def _rectangle(area: Area) -> Area:
 def place(script: Union[str, Iterable[str]], dx: int, dy: int) -> list[str]:
     """The commands of a script, moved by dx columns and dy rows, which are even.
 
-    At an odd offset the particles would fly in other directions. Rectangles and the row of `read`
-    are moved, and all other commands stay. Raises `ValueError` with the line if a command would
-    leave the lattice at its left or upper edge, and for `row`, which fills a whole row.
+    At an odd offset the particles would fly in other directions. Rectangles and the row of `read` are moved,
+    and all other commands stay. Raises `ValueError` with the line if a command would leave the lattice at its
+    left or upper edge, and for `row`, which fills a whole row.
     """
     if dx % 2 or dy % 2:
         raise ValueError(f"an offset is even in both directions, and not ({dx}, {dy}): at an odd "
                          "one particles fly in other directions")
-    return [_placed(line, number, dx, dy)
-            for number, line in parse_script(script).commands()]
+    return [_placed(line, number, dx, dy) for number, line in parse_script(script).commands()]
 
 
 def _placed(line: str, number: int, dx: int, dy: int) -> str:

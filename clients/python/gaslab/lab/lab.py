@@ -12,8 +12,8 @@ from .gates import Gates
 class Lab(Gates):
     """A running laboratory. Make one by `Lab.run` or `Lab.join`, best in a `with` statement.
 
-    Each command of the laboratory is a method of its name. A refusal raises `Refused`, and the
-    laboratory is then as it was. A `Lab` is for one thread at a time.
+    Each command of the laboratory is a method of its name. A refusal raises `Refused`, and the laboratory is
+    then as it was. A `Lab` is for one thread at a time.
     """
     @classmethod
     def run(cls, width: int = 64, height: int = 64, workers: int = 1, cap: int = MOST_ENTRIES,
@@ -21,20 +21,21 @@ class Lab(Gates):
             program: Optional[PathLike] = None, timeout: float = 60.0) -> "Lab":
         """Starts the built program for one session.
 
-        It is `program`, or else what the variable GASLAB_PROGRAM of the environment names, or else
-        the script `gaslab` of this repository, or the one on the PATH. Width and height are in
-        cells, multiples of 64 from 64 to 4,096. `workers` are threads, 1 to 16. `cap` is how many
-        changes the journal has room for, 1 to 65,536. `load` is a snapshot to start from, which has
-        the size, and `save` the file that `save` writes. `timeout` is how many seconds a reply may
-        take. Raises `ValueError` for other values, and `Unreachable` if there is no built program.
+        It is `program`, or else what the variable GASLAB_PROGRAM of the environment names, or else the script
+        `gaslab` of this repository, or the one on the PATH. Width and height are in cells, multiples of 64
+        from 64 to 4,096. `workers` are threads, 1 to 16. `cap` is how many changes the journal has room for,
+        1 to 65,536. `load` is a snapshot to start from, which has the size, and `save` the file that `save`
+        writes. `timeout` is how many seconds a reply may take. Raises `ValueError` for other values, and
+        `Unreachable` if there is no built program.
         """
         start = Snapshot.read(load) if load is not None else None
         size = (start.width, start.height) if start else (width, height)
         check_sides(*size)
         _check("workers", workers, 1, 16)
         _check("cap", cap, 1, MOST_ENTRIES)
+        _check("timeout", timeout, 0.001, 10 ** 6, (int, float))
         asked = dict(width=size[0], height=size[1], workers=workers, cap=cap, load=load, save=save)
-        lab = cls(Program(find_program(program), asked, _checked(timeout)), start)
+        lab = cls(Program(find_program(program), asked, timeout), start)
         lab._size = size
         lab._greet()
         return lab
@@ -44,13 +45,13 @@ class Lab(Gates):
              shelf: Optional[PathLike] = None) -> "Lab":
         """Joins a server, as one more seat. Raises `Silent` if it is full.
 
-        `port` is 0 to 65,535. `start` is the snapshot that the server was started from, if there
-        was one: its walls are not in the journal. `shelf` is the path of the server's `--save`, if
-        it is on this machine; the whole gas is then read by snapshot, which writes that file again
-        at each look.
+        `port` is 0 to 65,535. `start` is the snapshot that the server was started from, if there was one: its
+        walls are not in the journal. `shelf` is the path of the server's `--save`, if it is on this machine;
+        the whole gas is then read by snapshot, which writes that file again at each look.
         """
         _check("a port", port, 0, 65535)
-        lab = cls(Server(host, port, _checked(timeout)), start, shelf)
+        _check("timeout", timeout, 0.001, 10 ** 6, (int, float))
+        lab = cls(Server(host, port, timeout), start, shelf)
         lab._greet()
         return lab
 
@@ -73,12 +74,6 @@ class Lab(Gates):
         return velocity(self, mean)
 
 
-def _check(name: str, number: int, least: int, most: int) -> None:
-    if not isinstance(number, int) or not least <= number <= most:
+def _check(name: str, number: float, least: float, most: int, kind: Any = int) -> None:
+    if not isinstance(number, kind) or not least <= number <= most:
         raise ValueError(f"{name} is {least:,} to {most:,}, and not {number}")
-
-
-def _checked(timeout: float) -> float:
-    if not 0 < timeout <= 1e6:
-        raise ValueError(f"timeout is a number of seconds above 0, 1,000,000 at most, and not {timeout}")
-    return timeout

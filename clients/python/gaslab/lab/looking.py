@@ -1,12 +1,12 @@
 """Looks at the whole gas, and whole gases that are put there."""
 import time
 from collections.abc import Iterator
-from typing import Any, Optional
+from typing import Any, Optional, Union
 
 import numpy
 
 from ..protocol.commands import MOST_ENTRIES, SIDES
-from ..protocol.doors import Door, PathLike
+from ..protocol.doors import PathLike, Program, Server
 from ..protocol.errors import Moving, Refused, Strange
 from ..protocol.replies import Entry, Probe, Row
 from ..snapshot.cells import as_cells, plane_of
@@ -23,7 +23,7 @@ class Looks(Session):
 
     `known` are the entries that were read so far. After `look` they are those that made this gas.
     """
-    def __init__(self, door: Door, start: Optional[Snapshot] = None,
+    def __init__(self, door: Union[Program, Server], start: Optional[Snapshot] = None,
                  shelf: Optional[PathLike] = None) -> None:
         super().__init__(door)
         self._start, self._shelf = start, shelf
@@ -70,10 +70,10 @@ class Looks(Session):
     def look(self, tries: int = 20, burst: int = 256) -> Snapshot:
         """The whole gas at one tick: particles, walls, obstacles and ports.
 
-        With a shelf it is a snapshot. Without, the rows are read, `burst` of them at once. If the
-        journal has grown meanwhile, the gas was changed, and all rows are read again. Raises
-        `Moving` after so many `tries`. Walls and ports then come from the journal and the start.
-        `bursts` then has the seconds that each burst of the last look took.
+        With a shelf it is a snapshot. Without, the rows are read, `burst` of them at once. If the journal has
+        grown meanwhile, the gas was changed, and all rows are read again. Raises `Moving` after so many
+        `tries`. Walls and ports then come from the journal and the start. `bursts` then has the seconds that
+        each burst of the last look took.
         """
         if self._shelf is not None:
             self.save()
@@ -87,8 +87,8 @@ class Looks(Session):
                 self.bursts.append(time.monotonic() - began)
             known = len(self.known)
             if len(self.journal()) == known:
-                return Snapshot(*self.size, tally.tick, tuple(scene.drains), tuple(scene.sources),
-                                bytes.fromhex("".join(rows)), plane_of(scene.walls), plane_of(scene.obstacles))
+                planes = bytes.fromhex("".join(rows)), plane_of(scene.walls), plane_of(scene.obstacles)
+                return Snapshot(*self.size, tally.tick, tuple(scene.drains), tuple(scene.sources), *planes)
         raise Moving(f"the gas was changed during each of {tries} looks: others step it without a "
                      "pause; a server on this machine that saves can be looked at by shelf=")
 
@@ -114,9 +114,8 @@ class Looks(Session):
     def set(self, particles: Any = None, walls: Any = None, obstacles: Any = None) -> int:
         """Makes the gas hold exactly these cells, arrays of truth values of shape (height, width).
 
-        What is not given stays. Particles are set by one `row` for each row that differs, walls
-        and obstacles by few rectangles. Returns the number of changes. Raises `ValueError` for
-        arrays of another shape.
+        What is not given stays. Particles are set by one `row` for each row that differs, walls and obstacles
+        by few rectangles. Returns the number of changes. Raises `ValueError` for arrays of another shape.
         """
         lines: list[str] = []
         scene, shape = self.scene(), self.size[::-1]
@@ -124,8 +123,7 @@ class Looks(Session):
             (particles, scene.walls), (walls, scene.walls), (obstacles, scene.obstacles))]
         for cells in given:
             if cells.shape != shape:
-                raise ValueError(f"an array has shape (height, width), here {shape}, and not "
-                                 f"{cells.shape}")
+                raise ValueError(f"an array has shape (height, width), here {shape}, and not {cells.shape}")
         lines += _edits(scene, *given[1:])
         if particles is not None:
             new = [plane_of(row).hex() for row in given[0]]

@@ -8,7 +8,7 @@ from typing import Any, Optional, TypeVar, Union
 import numpy
 
 from ..protocol.commands import COMMANDS, MOST_STEPS
-from ..protocol.doors import Door, PathLike
+from ..protocol.doors import PathLike, Program, Server
 from ..protocol.errors import GaslabError, Gone, Refused, Strange, printable
 from ..protocol.link import Replies, lines_of
 from ..protocol.replies import Bye, Entry, Ledger, Ok, Probe, Reply, Row, Saved, Tally
@@ -38,13 +38,12 @@ def _command(kind: type[Kind], word: str) -> Callable[..., Kind]:
 class Session:
     """One seat at a laboratory. It is for one thread at a time, whichever that is.
 
-    Each command is a method. Coordinates and sizes are in cells, `x` to the right and `y` downwards
-    from 0. Steps and periods are in ticks. A refusal raises `Refused`, and the laboratory is as it
-    was.
+    Each command is a method. Coordinates and sizes are in cells, `x` to the right and `y` downwards from 0.
+    Steps and periods are in ticks. A refusal raises `Refused`, and the laboratory is as it was.
     """
     size: tuple[int, int]
 
-    def __init__(self, door: Door) -> None:
+    def __init__(self, door: Union[Program, Server]) -> None:
         self._door = door
         self._open: Optional[Replies] = None
         self._size: Optional[tuple[int, int]] = None
@@ -98,8 +97,8 @@ class Session:
     def do(self, lines: Union[str, Iterable[str]]) -> list[Reply]:
         """Sends lines one after the other, and returns their replies.
 
-        Raises `Refused` at the first refusal, with the line's number in the list as its `place`,
-        from 1. The lines before it were carried out, and those behind it are not sent.
+        Raises `Refused` at the first refusal, with the line's number in the list as its `place`, from 1. The
+        lines before it were carried out, and those behind it are not sent.
         """
         lines = lines_of(lines) if isinstance(lines, str) else lines
         return self._do(enumerate(lines, 1))
@@ -132,9 +131,8 @@ class Session:
     def send(self, lines: Union[str, Iterable[str]]) -> Replies:
         """Sends any number of lines, and returns an iterator over the replies.
 
-        Sending begins at once and goes on while replies are read. A refusal is a `Refused` among
-        the replies: `do` is for lines of which each should be accepted. A text is cut into its
-        lines.
+        Sending begins at once and goes on while replies are read. A refusal is a `Refused` among the replies:
+        `do` is for lines of which each should be accepted. A text is cut into its lines.
         """
         if self.is_closed:
             raise Gone("the session has ended")
@@ -185,8 +183,7 @@ class Session:
                 progress: Callable[[int, int], None] = lambda done, steps: None) -> None:
         """Makes any number of steps, backwards if it is negative, `each` in a command.
 
-        `progress` is called after each command with how many steps are done, and how many there
-        are in all.
+        `progress` is called after each command with how many steps are done, and how many there are in all.
         """
         move = self.step if steps >= 0 else self.back
         done, total = 0, abs(operator.index(steps))

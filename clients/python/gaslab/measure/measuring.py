@@ -15,16 +15,15 @@ from .tables import table_of
 
 
 def every(lab: Lab, steps: int, times: int, ledger: bool = True,
-          probes: Optional[Mapping[str, Rectangle]] = None,
-          columns: Optional[Sequence[str]] = None) -> Any:
+          probes: Optional[Mapping[str, Rectangle]] = None, columns: Optional[Sequence[str]] = None) -> Any:
     """Measures `times` times, each time after `steps` more steps (backwards if negative).
 
-    The columns are the tick; the count and the momentum `px`, `py` of the whole gas; with `ledger`
-    its thirteen accounts; and for each of `probes`, a name with a rectangle (x, y, w, h), its
-    `name_count`, `name_px` and `name_py`. Then comes the difference of each of these to the row
-    before, or for the first row to the start, as `d_` and the name. So `d_obstacles_x` is the drag
-    times `steps`, and `d_injected` and `d_drained` are the flux in and out. `columns` names those
-    that are wanted, in their order. Raises `ValueError` for an unknown one, before the first step.
+    The columns are the tick; the count and the momentum `px`, `py` of the whole gas; with `ledger` its
+    thirteen accounts; and for each of `probes`, a name with a rectangle (x, y, w, h), its `name_count`,
+    `name_px` and `name_py`. Then comes the difference of each of these to the row before, or for the first
+    row to the start, as `d_` and the name. So `d_obstacles_x` is the drag times `steps`, and `d_injected` and
+    `d_drained` are the flux in and out. `columns` names those that are wanted, in their order. Raises
+    `ValueError` for an unknown one, before the first step.
 
     The table is a DataFrame if pandas is installed, and else an array of numpy records.
     """
@@ -53,8 +52,8 @@ def _measured(lab: Lab, ledger: bool, areas: Mapping[str, Rectangle]) -> list[in
 class Fields(NamedTuple):
     """Arrays of shape (height / mean, width / mean), each number for a square of cells.
 
-    `density` is in particles a cell; `px`, to the right, and `py`, downwards, are the momentum a
-    cell. px / density is the mean velocity to the right, in columns a tick.
+    `density` is in particles a cell; `px`, to the right, and `py`, downwards, are the momentum a cell. px /
+    density is the mean velocity to the right, in columns a tick.
     """
     density: Any
     px: Any
@@ -64,8 +63,8 @@ class Fields(NamedTuple):
 def velocity(gas: Gas, mean: int = 8, tick: int = 0) -> Fields:
     """Density and both momentum densities in squares of `mean` by `mean` cells.
 
-    Wall cells count as cells. `tick` is for bare truth values. Raises `ValueError` unless `mean` is
-    1 to 64 and divides both sides.
+    Wall cells count as cells. `tick` is for bare truth values. Raises `ValueError` unless `mean` is 1 to 64
+    and divides both sides.
     """
     found = as_snapshot(gas, tick)
     check_looks(found, mean, "kind")
@@ -88,9 +87,9 @@ def sums_of(gas: Snapshot) -> Tally:
 def profile(gas: Gas, along: str = "x", bins: Optional[int] = None, tick: int = 0) -> Any:
     """How particles and momentum are spread along `x` (columns) or `y` (rows).
 
-    The table has `bins` rows, or one for each column or row of cells: the first cell `from`, the
-    cell after the last `to`, the `count` of particles, their share of the cells as `density`, and
-    their momentum `px` and `py`. `tick` is for bare truth values.
+    The table has `bins` rows, or one for each column or row of cells: the first cell `from`, the cell after
+    the last `to`, the `count` of particles, their share of the cells as `density`, and their momentum `px`
+    and `py`. `tick` is for bare truth values.
     """
     if along not in ("x", "y"):
         raise ValueError(f"along is 'x' or 'y', and not {along!r}")
@@ -112,12 +111,11 @@ def random_gas(width: int, height: int, density: float,
                tick: int = 0) -> Iterator[str]:
     """The lines `row y HEX` of a random gas, one for each of the `height` rows.
 
-    Each cell holds a particle with probability `density`, independently of the others.
-    `drift` is the mean velocity to the right, or a pair with that downwards, in columns and rows a
-    step. A cell whose particle would move with (vx, vy) at `tick` is filled with probability
-    density * (1 + drift_x * vx) * (1 + drift_y * vy). The same `seed`, 0 to 4,294,967,295, gives
-    the same gas. Raises `ValueError` for a size that no lattice has, or if a probability would not
-    be from 0 to 1.
+    Each cell holds a particle with probability `density`, independently of the others. `drift` is the mean
+    velocity to the right, or a pair with that downwards, in columns and rows a step. A cell whose particle
+    would move with (vx, vy) at `tick` is filled with probability density * (1 + drift_x * vx) * (1 + drift_y
+    * vy). The same `seed`, 0 to 4,294,967,295, gives the same gas. Raises `ValueError` for a size that no
+    lattice has, or if a probability would not be from 0 to 1.
     """
     check_sides(width, height)
     drift_x, drift_y = drift if isinstance(drift, tuple) else (drift, 0.0)

@@ -44,8 +44,8 @@ def csv_text(table: Any) -> str:
 def chart(table: Any, path: PathLike, x: str, y: Union[str, Sequence[str]]) -> None:
     """Writes a chart of the columns `y` over the column `x`, a line with a mark for each number.
 
-    The path ends in .svg, .png or .pdf. Raises `ValueError` for another ending, an unknown column,
-    or a table without rows.
+    The path ends in .svg, .png or .pdf. Raises `ValueError` for another ending, an unknown column, or a table
+    without rows.
     """
     names = [y] if isinstance(y, str) else list(y)
     ending = os.path.splitext(os.fspath(path))[1][1:].lower()

@@ -32,8 +32,8 @@ _SHARE = 4  # a look is followed by a pause at least so many times as long
 class Looker:
     """The last look at a gas, as what the page shows.
 
-    Only `keep_looking` asks the laboratory, in one thread. `state` may be called by any. While no
-    page has asked for a few seconds, and while the journal does not grow, no row is read.
+    Only `keep_looking` asks the laboratory, in one thread. `state` may be called by any. While no page has
+    asked for a few seconds, and while the journal does not grow, no row is read.
     """
     def __init__(self, lab: Lab, seconds: float, mean: Optional[int], colour: str) -> None:
         self.lab, self.seconds, self.mean, self.colour = lab, seconds, mean, colour
@@ -102,8 +102,7 @@ class Looker:
 class Page:
     """The page of a laboratory, for browsers on this machine, until it is closed.
 
-    `seconds` is the shortest time between two looks at the gas. `mean` and `colour` are those of
-    pictures.
+    `seconds` is the shortest time between two looks at the gas. `mean` and `colour` are those of pictures.
     """
     def __init__(self, lab: Lab, port: int = 0, seconds: float = 0.25, mean: Optional[int] = None,
                  colour: str = "kind") -> None:
@@ -145,8 +144,7 @@ class _Handler(BaseHTTPRequestHandler):
         self.send_response(200 if found else 404)
         for name, value in (("Content-Type", f"{kind}; charset=utf-8"),
                             ("Content-Length", str(len(body))), ("Cache-Control", "no-store"),
-                            ("Content-Security-Policy", _RULES),
-                            ("X-Content-Type-Options", "nosniff")):
+                            ("Content-Security-Policy", _RULES), ("X-Content-Type-Options", "nosniff")):
             self.send_header(name, value)
         self.end_headers()
         self.wfile.write(body)

@@ -39,13 +39,13 @@ def picture(gas: Gas, path: Optional[PathLike] = None, scale: Optional[int] = No
             mean: Optional[int] = None, colour: str = "kind", tick: int = 0) -> Any:
     """A picture of a gas, as an image of Pillow, which a notebook shows.
 
-    With `path` it is also written to that file, a PNG or a GIF by its ending. Each cell is a square
-    of `scale` by `scale` pixels, 1 to 64; without it the longer side has some 600 pixels.
-    Particles, walls, obstacles, sources and drains have a colour each (`palette.CELLS`). With
-    `colour="velocity"` a particle has the colour of its direction. With `mean=8` each square of 8
-    by 8 cells is one such square of pixels, and its shade is the density there, in particles a
-    cell; a bar below shows the shades, and lines go round walls, obstacles and ports. `tick` is for
-    bare truth values, which have none. Raises `ValueError` for other values or another ending.
+    With `path` it is also written to that file, a PNG or a GIF by its ending. Each cell is a square of
+    `scale` by `scale` pixels, 1 to 64; without it the longer side has some 600 pixels. Particles, walls,
+    obstacles, sources and drains have a colour each (`palette.CELLS`). With `colour="velocity"` a particle
+    has the colour of its direction. With `mean=8` each square of 8 by 8 cells is one such square of pixels,
+    and its shade is the density there, in particles a cell; a bar below shows the shades, and lines go round
+    walls, obstacles and ports. `tick` is for bare truth values, which have none. Raises `ValueError` for
+    other values or another ending.
     """
     kind = _kind(path, _PICTURES, "a picture") if path is not None else ""
     image = _drawn(as_snapshot(gas, tick), scale, mean, colour)
@@ -78,11 +78,11 @@ def film(lab: Lab, path: PathLike, steps: int, frames: int, scale: Optional[int]
          mean: Optional[int] = None, colour: str = "kind", milliseconds: int = 100) -> None:
     """Writes a film of `frames` frames that repeats, with `steps` steps between two of them.
 
-    It is a GIF if the path ends in .gif, and an animated PNG if it ends in .png or .apng. The first
-    frame is the gas as it is. The laboratory ends at the last one, `steps * (frames - 1)` ticks
-    later. Each frame is shown for `milliseconds`, 1 to 65,535; a GIF rounds them to ten. Frames
-    stay in memory until the film is whole and the file is replaced. The other words are those of
-    `picture`. Raises `ValueError` for other values or another ending, before the first step.
+    It is a GIF if the path ends in .gif, and an animated PNG if it ends in .png or .apng. The first frame is
+    the gas as it is. The laboratory ends at the last one, `steps * (frames - 1)` ticks later. Each frame is
+    shown for `milliseconds`, 1 to 65,535; a GIF rounds them to ten. Frames stay in memory until the film is
+    whole and the file is replaced. The other words are those of `picture`. Raises `ValueError` for other
+    values or another ending, before the first step.
     """
     kind = _kind(path, _FILMS, "a film")
     if frames < 1 or not 1 <= milliseconds <= 65535:

@@ -1,7 +1,7 @@
 """The colours of pictures. Readers who are colour-blind can tell them apart.
 
-They are from the palette of Okabe and Ito, with greys and two light tints. The tests see them as
-people with each of the three common kinds of colour blindness do.
+They are from the palette of Okabe and Ito, with greys and two light tints. The tests see them as people with
+each of the three common kinds of colour blindness do.
 """
 from typing import Any
 

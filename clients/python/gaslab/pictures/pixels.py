@@ -54,8 +54,7 @@ def counts_of(cells: Any, mean: int) -> Any:
 def density_pixels(gas: Snapshot, mean: int, solids: bool = True) -> Any:
     """One pixel for each square of `mean` by `mean` cells: indices into `palette.DENSITIES`.
 
-    With `solids` a square of which at least half is wall or obstacle has the colour of what it has
-    more of.
+    With `solids` a square of which at least half is wall or obstacle has the colour of what it has more of.
     """
     pixels = palette.density_index(counts_of(gas.particles, mean), mean * mean)
     if not solids:

@@ -14,10 +14,10 @@ def text_picture(gas: Gas, columns: int = 80, coloured: bool = True, colour: str
                  mean: Optional[int] = None, rows: Optional[int] = None) -> str:
     """The gas as text, two pixels in each character.
 
-    With `mean` a pixel is the density of a square of so many cells. Without it each cell is a
-    pixel, unless the text would be wider than `columns` characters or higher than `rows`: then it
-    is the density of the smallest squares that fit. Without `coloured` there are four characters
-    only: both pixels dark, the upper, the lower, or none.
+    With `mean` a pixel is the density of a square of so many cells. Without it each cell is a pixel, unless
+    the text would be wider than `columns` characters or higher than `rows`: then it is the density of the
+    smallest squares that fit. Without `coloured` there are four characters only: both pixels dark, the upper,
+    the lower, or none.
     """
     found = as_snapshot(gas)
     check_looks(found, mean, colour)

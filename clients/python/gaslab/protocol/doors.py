@@ -23,9 +23,8 @@ _BUILT = {0: "", 1: "was built from other sources", 2: "is not built"}
 def find_program(program: Optional[PathLike] = None) -> Path:
     """The program to start: `program`, or what GASLAB_PROGRAM names, or a script `gaslab`.
 
-    The script is the one of the repository that this package is in, or else the one on the PATH.
-    Raises `Unreachable` if there is none, or if a repository's program is not built from its
-    sources as they are.
+    The script is the one of the repository that this package is in, or else the one on the PATH. Raises
+    `Unreachable` if there is none, or if a repository's program is not built from its sources as they are.
     """
     own = _ROOT / "gaslab"
     named = program if program is not None else os.environ.get("GASLAB_PROGRAM") or (
@@ -35,8 +34,7 @@ def find_program(program: Optional[PathLike] = None) -> Path:
                           "program= (--program); a clone makes it by ./gaslab --build")
     path = Path(named).absolute()
     if not os.access(path, os.X_OK) or path.is_dir():
-        raise Unreachable(f"no program to start: {path} can't be run; ./gaslab --build makes the "
-                          "program")
+        raise Unreachable(f"no program to start: {path} can't be run; ./gaslab --build makes the program")
     if (path.resolve().parent / "crates" / "gaslab_program").is_dir():
         _check_built(path)
     return path
@@ -71,8 +69,7 @@ class Program:
             self._said.close()
             raise Unreachable(f"no program to start: {fault}") from fault
         assert self._process.stdin and self._process.stdout
-        self.link = Link(self._process.stdout.fileno(), self._process.stdin.fileno(), timeout,
-                         self._why)
+        self.link = Link(self._process.stdout.fileno(), self._process.stdin.fileno(), timeout, self._why)
 
     def _why(self, is_silent: bool) -> str:
         """The program's status, if it has ended, and the end of what it said."""
@@ -129,7 +126,3 @@ class Server:
     def close(self, polite: bool = True) -> None:
         """Closes the socket."""
         self._socket.close()
-
-
-Door = Union[Program, Server]
-"""A way to a laboratory: a link, and how it is closed."""

@@ -34,9 +34,8 @@ class GaslabError(Exception):
 class Refused(GaslabError):
     """The laboratory refused a line and is as it was before.
 
-    `number` and `word` are those of the reply, `line` is what was asked, and `limit` says in words
-    which limit the line broke. `place` is the line's number in its list or its file, from 1, if it
-    came from one.
+    `number` and `word` are those of the reply, `line` is what was asked, and `limit` says in words which
+    limit the line broke. `place` is the line's number in its list or its file, from 1, if it came from one.
     """
     def __init__(self, number: int, word: str, line: str, place: Optional[int] = None) -> None:
         super().__init__(number, word, line, place)

@@ -22,9 +22,9 @@ _MOST_ASKED = 16384  # lines that wait for their replies
 class Link:
     """Two descriptors, both made non-blocking: `source` is read and `sink` is written.
 
-    `timeout` is in seconds: how long a whole reply may take. `why` returns what else is known when
-    none came (True) or when the other side hung up (False), or an empty text. `has_read` is called
-    after each read. `unsent` are the bytes that wait to be written.
+    `timeout` is in seconds: how long a whole reply may take. `why` returns what else is known when none came
+    (True) or when the other side hung up (False), or an empty text. `has_read` is called after each read.
+    `unsent` are the bytes that wait to be written.
     """
     def __init__(self, source: int, sink: int, timeout: float, why: Callable[[bool], str],
                  has_read: Callable[[], None] = lambda: None) -> None:
@@ -46,8 +46,8 @@ class Link:
     def next_line(self, refill: Callable[[], None] = lambda: None) -> str:
         """The next line that arrives. `refill` is called on the way, to queue more lines.
 
-        Raises `Gone` if the other side ends first, and `Silent` if the line is not whole after the
-        timeout. The time that `refill` takes is not counted.
+        Raises `Gone` if the other side ends first, and `Silent` if the line is not whole after the timeout.
+        The time that `refill` takes is not counted.
         """
         deadline = time.monotonic() + self.timeout
         while not self._lines:
@@ -117,9 +117,9 @@ def lines_of(text: str) -> list[str]:
 class Replies(Iterator[Reply]):
     """The replies to lines that are being sent, in order.
 
-    A refusal is a `Refused` among the replies and is not raised. Lines are taken from the iterable
-    as they are needed, and sent ahead of the replies. If the laboratory is asked something else in
-    between, the rest is sent first, and its replies are kept here.
+    A refusal is a `Refused` among the replies and is not raised. Lines are taken from the iterable as they
+    are needed, and sent ahead of the replies. If the laboratory is asked something else in between, the rest
+    is sent first, and its replies are kept here.
     """
     def __init__(self, link: Link, lines: Union[str, Iterable[str]]) -> None:
         self._link = link

@@ -17,14 +17,14 @@ def _numbers_of(name: str, fields: str, what: str) -> Any:
 
 
 Ok = _numbers_of("Ok", "index", "A change was made. `index` is its place in the journal, from 0.")
-Probe = _numbers_of("Probe", "count px py", "Sums in a rectangle: particles, and their momentum to the right and "
-                    "downwards.")
+Probe = _numbers_of("Probe", "count px py",
+                    "Sums in a rectangle: particles, and their momentum to the right and downwards.")
 Tally = _numbers_of("Tally", "tick count px py", "The tick, and the sums of the whole gas.")
-Ledger = _numbers_of("Ledger", "start injected drained start_x injected_x drained_x walls_x obstacles_x start_y "
-                     "injected_y drained_y walls_y obstacles_y", "The accounts: counts of particles, then momentum "
-                     "to the right (x), then downwards (y).")
-Saved = _numbers_of("Saved", "entries length", "A snapshot was written: the journal's length at that moment, and the "
-                    "file's in bytes.")
+Ledger = _numbers_of("Ledger", "start injected drained start_x injected_x drained_x walls_x obstacles_x "
+                     "start_y injected_y drained_y walls_y obstacles_y",
+                     "The accounts: counts of particles, then momentum to the right (x), then downwards (y).")
+Saved = _numbers_of("Saved", "entries length",
+                    "A snapshot was written: the journal's length at that moment, and the file's in bytes.")
 Bye = _numbers_of("Bye", "", "The session has ended.")
 
 
@@ -63,8 +63,8 @@ _ENTRY = re.compile(r"(0|[1-9][0-9]?) (.*)", re.ASCII)
 def parse_reply(text: str, asked: str) -> Reply:
     """The reply that a line spells, without its newline. `asked` is the line that was sent.
 
-    A refusal is returned as a `Refused` and not raised. Raises `Strange` for any other text: also
-    if a number is one that no laboratory gives, or if an entry is no change.
+    A refusal is returned as a `Refused` and not raised. Raises `Strange` for any other text: also if a number
+    is one that no laboratory gives, or if an entry is no change.
     """
     word, _, rest = text.partition(" ")
     reply: Optional[Reply] = None

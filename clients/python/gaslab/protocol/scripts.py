@@ -74,8 +74,7 @@ def _parts(tokens: Tokens, depth: int) -> list[Any]:
             raise ValueError(f"line {place}: size comes once, before the commands")
         if command == "{" or depth > _DEEPEST:
             raise ValueError(f"line {place}: a {{ comes after `repeat N`, {_DEEPEST} deep at most")
-        parts.append((place, *_repeat(place, rest, tokens, depth)) if word == "repeat"
-                     else (place, command))
+        parts.append((place, *_repeat(place, rest, tokens, depth)) if word == "repeat" else (place, command))
     return parts
 
 

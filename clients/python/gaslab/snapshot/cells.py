@@ -1,8 +1,7 @@
 """Sets of cells, packed as the laboratory packs them, and as arrays of numpy.
 
-A row of `width` cells is `width / 8` bytes; the left cell is the highest bit of the first byte. A
-plane is its rows from the top, one after the other. An array of cells is of truth values, of shape
-(height, width).
+A row of `width` cells is `width / 8` bytes; the left cell is the highest bit of the first byte. A plane is
+its rows from the top, one after the other. An array of cells is of truth values, of shape (height, width).
 """
 from typing import Any
 

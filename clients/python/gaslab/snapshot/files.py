@@ -11,7 +11,6 @@ from ..protocol.doors import PathLike
 from ..protocol.errors import GaslabError
 from .cells import array_of, as_cells, check_sides, plane_of
 
-TICK_LIMIT = 2 ** 40
 _LONGEST = 6291766  # bytes
 _LARGEST_SIDE = {b"HPPGAS1\n": 2048, b"HPPGAS2\n": 4096}
 
@@ -51,9 +50,9 @@ def _cells_of(name: str, what: str) -> Any:
 class Snapshot:
     """A gas at one tick.
 
-    `width` and `height` are in cells, `tick` in steps. The three sets of cells are packed planes of
-    `width * height / 8` bytes; `particles`, `walls` and `obstacles` are the same as arrays of truth
-    values of shape (height, width). Drains and sources are in the order in which they were added.
+    `width` and `height` are in cells, `tick` in steps. The three sets of cells are packed planes of `width *
+    height / 8` bytes; `particles`, `walls` and `obstacles` are the same as arrays of truth values of shape
+    (height, width). Drains and sources are in the order in which they were added.
     """
     width: int
     height: int
@@ -80,8 +79,8 @@ class Snapshot:
                     sources: Iterable[Iterable[int]] = ()) -> "Snapshot":
         """The gas of these arrays of truth values, each of shape (height, width).
 
-        At least one is given; the others are empty. A drain is (x, y, w, h) in cells, and a source
-        has its period in ticks behind. Raises `ValueError` if they are no gas.
+        At least one is given; the others are empty. A drain is (x, y, w, h) in cells, and a source has its
+        period in ticks behind. Raises `ValueError` if they are no gas.
         """
         names = ("particles", "walls", "obstacles")
         given = {name: as_cells(cells, name) for name, cells in
@@ -117,8 +116,7 @@ class Snapshot:
 
     def to_bytes(self) -> bytes:
         """The snapshot in version 2 of the format."""
-        head = struct.pack(">HHqBB", self.width, self.height, self.tick,
-                           len(self.drains), len(self.sources))
+        head = struct.pack(">HHqBB", self.width, self.height, self.tick, len(self.drains), len(self.sources))
         ports = [struct.pack(f">{len(port)}H", *port) for port in (*self.drains, *self.sources)]
         planes = (self.particle_bytes, self.wall_bytes, self.obstacle_bytes)
         return b"".join((b"HPPGAS2\n", head, *ports, *planes))
@@ -158,7 +156,7 @@ class _Reader:
         if not all(side in SIDES and side <= _LARGEST_SIDE[magic] for side in (width, height)):
             raise SizeFault(f"{width} by {height} in a snapshot that begins with {magic!r}")
         tick, = self.take(">q", "the tick")
-        if abs(tick) > TICK_LIMIT:
+        if abs(tick) > 2 ** 40:
             raise TickFault(f"{tick} is not from -2^40 to 2^40")
         drains, sources = self.take("BB", "the counts of ports")
         if drains > MOST_PORTS or sources > MOST_PORTS:

@@ -11,9 +11,9 @@ Rectangle = tuple[int, int, int, int]
 def cover(needed: Any, allowed: Any) -> list[Rectangle]:
     """Rectangles that have all `needed` cells and else only `allowed` ones. They may overlap.
 
-    Both are arrays of truth values of one shape. Each next rectangle begins with the first cell
-    that is still needed, and is the one that has most of the needed cells. That is the fewest for
-    rectangles, crosses and discs, but not for each shape.
+    Both are arrays of truth values of one shape. Each next rectangle begins with the first cell that is still
+    needed, and is the one that has most of the needed cells. That is the fewest for rectangles, crosses and
+    discs, but not for each shape.
     """
     left, may = needed.copy(), needed | allowed
     done: list[Rectangle] = []
