@@ -16,7 +16,7 @@ import threading
 HERE = os.path.dirname(os.path.abspath(__file__))
 sys.path.append(os.path.join(HERE, "..", "..", "..", "tools"))
 
-import channel_gas
+import channel_gas  # noqa: E402
 
 RECTANGLES = {"put": 0, "erase": 0, "wall": 0, "block": 0, "unwall": 0, "probe": 0, "drain": 0,
               "source": 1}

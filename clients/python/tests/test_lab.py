@@ -1,3 +1,5 @@
+import asyncio
+import concurrent.futures
 import itertools
 import os
 import pickle
@@ -305,8 +307,8 @@ class OtherSides(unittest.TestCase):
                               ({"height": 4160}, "sides are multiples of 64"),
                               ({"width": "64"}, "sides are multiples of 64"),
                               ({"workers": 17}, "workers is 1 to 16"), ({"cap": 0}, "cap is 1 to"),
-                              ({"timeout": 0}, "timeout is"), ({"timeout": float("nan")}, "timeout is 0.001 to")
-                              ):
+                              ({"timeout": 0}, "timeout is 0.001 to"),
+                              ({"timeout": float("nan")}, "timeout is 0.001 to")):
             with self.assertRaisesRegex(ValueError, rule):
                 run(**options)
 
@@ -590,6 +592,21 @@ class Lessons(unittest.TestCase):
             with run() as lab:
                 found = "".join(reply_text(reply) + "\n" for reply in lab.play(script))
             self.assertEqual(found, script.with_suffix(".out").read_text(), name)
+
+
+class SeveralThreads(unittest.TestCase):
+    def test_an_asyncio_server_can_use_it(self):
+        """One laboratory, asked by several tasks through an executor of one thread."""
+        async def serve():
+            loop = asyncio.get_running_loop()
+            with concurrent.futures.ThreadPoolExecutor(1) as one:
+                lab = await loop.run_in_executor(one, lambda: run())
+                found = await asyncio.gather(*(loop.run_in_executor(one, lab.put, k, 0, 1, 1)
+                                               for k in range(20)))
+                gas = await loop.run_in_executor(one, lab.look)
+                await loop.run_in_executor(one, lab.close)
+            return found, gas.count
+        self.assertEqual(asyncio.run(serve()), ([Ok(k) for k in range(20)], 20))
 
 
 class SeveralClients(unittest.TestCase):

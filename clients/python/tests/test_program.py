@@ -26,9 +26,8 @@ class WhichProgram(unittest.TestCase):
         self.addCleanup(environment.stop)
         os.environ.pop("GASLAB_PROGRAM", None)
 
-    def script(self, status, folder="crates/gaslab_program"):
-        """A script `gaslab` as in a repository, which says this status and else is the stand-in."""
-        (self.room / folder).mkdir(parents=True, exist_ok=True)
+    def script(self, status):
+        """A script `gaslab`, which says this status and else is the stand-in."""
         script = self.room / "gaslab"
         script.write_text(f'#!/bin/sh\nif [ "$1" = --is-built ]; then echo so; exit {status}; fi\n'
                           f'exec {sys.executable} {STAND_IN} "$@"\n')
@@ -65,7 +64,7 @@ class WhichProgram(unittest.TestCase):
             self.assertEqual(lab.tally(), Tally(0, 0, 0, 0))
 
     def test_an_installed_one_is_found_on_the_path(self):
-        self.script(1, folder="share")
+        self.script(0)
         os.environ["PATH"] = f"{self.room}:{os.environ['PATH']}"
         with mock.patch("gaslab.protocol.doors._ROOT", self.room / "nothing"), Lab.run() as lab:
             self.assertEqual(lab.tally(), Tally(0, 0, 0, 0))

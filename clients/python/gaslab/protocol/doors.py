@@ -35,8 +35,9 @@ def find_program(program: Optional[PathLike] = None) -> Path:
     path = Path(named).absolute()
     if not os.access(path, os.X_OK) or path.is_dir():
         raise Unreachable(f"no program to start: {path} can't be run; ./gaslab --build makes the program")
-    if (path.resolve().parent / "crates" / "gaslab_program").is_dir():
-        _check_built(path)
+    with open(path, "rb") as file:
+        if b"--is-built" in file.read(1 << 14):  # it is the script, which can tell, and not the program
+            _check_built(path)
     return path
 
 
