@@ -370,6 +370,8 @@ class Words(unittest.TestCase):
             "2,1,-1,1,0,0,0,0,0,0,-1,1,-1", "4,1,-1,1,0,0,0,0,0,0,0,0,0"]))
         self.assertIn("a_count", svg.read_text())
         self.assertEqual(said(*words, "--columns", "tick,d_a_px")[1], "tick,d_a_px\n2,1\n4,0\n")
+        out = said("table", script, "--columns", "tick", *PROGRAM)[1]
+        self.assertEqual(out.splitlines()[1:], [str(100 * n) for n in range(1, 31)])
         status, out, errors = said(*words, "--columns", "drag")
         self.assertEqual((status, out), (1, ""))
         self.assertIn("gaslab table: no column drag: there are tick, count", errors)

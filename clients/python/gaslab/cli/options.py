@@ -85,7 +85,7 @@ OPTIONS: dict[str, dict[str, Any]] = {
     "--colour": _option("what the colour of a particle shows (kind)", None, "kind", choices=COLOURS),
     "--output": _option("a file that ends in .png or .gif (drawn here)", metavar="PATH"),
     "--output!": _option("a file that ends in .png, .apng or .gif", metavar="PATH", required=True),
-    "--steps": _option("steps before each frame or row; backwards if negative (1)", whole(-_MOST, _MOST), 1),
+    "--steps": _option("before each frame (1) or row (100), backwards if negative", whole(-_MOST, _MOST), 1),
     "--frames": _option("how many frames (50)", _COUNT, 50),
     "--milliseconds": _option("for each frame (100)", whole(1, 65535), 100),
     "--times": _option("how many rows (30) or looks (without end)", _COUNT),
@@ -116,11 +116,11 @@ GROUPS = {
 
 
 def add(parser: argparse._ActionsContainer, names: str) -> None:
-    """Adds options by their names in the table."""
-    for name in names.split():
+    """Adds options by their names in the table, some with a default of their own: "--steps=100"."""
+    for name, _, default in (name.partition("=") for name in names.split()):
         flags = ["-o", "--output"] if name.startswith("--output") else [name]
-        metavar = {} if name.startswith("-") else {"metavar": name.upper()}
-        parser.add_argument(*flags, **metavar, **OPTIONS[name])
+        own = {"default": default} if default else {} if name.startswith("-") else {"metavar": name.upper()}
+        parser.add_argument(*flags, **{**OPTIONS[name], **own})
 
 
 def _is_snapshot(path: Optional[str]) -> bool:

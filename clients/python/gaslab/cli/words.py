@@ -65,7 +65,7 @@ def table(asked: argparse.Namespace) -> None:
     """Measurements over time."""
     wanted = asked.columns.split(",") if asked.columns else None
     with lab_of(asked) as lab:
-        found = every(lab, asked.steps, asked.times or 30, not asked.no_ledger, dict(asked.probe), wanted)
+        found = every(lab, asked.steps, asked.times, not asked.no_ledger, dict(asked.probe), wanted)
     print(csv_text(found), end="")
     if asked.chart:
         chart(found, asked.chart, "tick", asked.column or ["d_obstacles_x"])
@@ -80,7 +80,7 @@ def profile_word(asked: argparse.Namespace) -> None:
 def random_word(asked: argparse.Namespace) -> None:
     """The lines of a random gas."""
     drift = (asked.drift, asked.drift_down)
-    for line in random_gas(asked.width or 64, asked.height or 64, asked.density, drift, asked.seed):
+    for line in random_gas(asked.width, asked.height, asked.density, drift, asked.seed):
         print(line)
 
 
