@@ -158,7 +158,7 @@ class Densities(unittest.TestCase):
         found = read(plain_png(gas, 8))
         self.assertEqual((found.width, found.height), (8, 8))
         row = [found.pixel(x, 0) for x in range(8)]
-        self.assertEqual(row, [colour(palette.WALL), (255, 255, 255), colour(palette.OBSTACLE)]
+        self.assertEqual(row, [palette.DENSITIES[palette.WALL], (255, 255, 255), colour(palette.OBSTACLE)]
                          + 5 * [(255, 255, 255)])
 
     def test_outlines(self):
@@ -320,9 +320,9 @@ def lab_colour(rgb, blindness):
 
 
 class ColourBlindReaders(unittest.TestCase):
-    def check(self, indices, least):
+    def check(self, indices, least, colours=palette.CELLS):
         for blindness in BLINDNESS:
-            seen = [lab_colour(colour(index), blindness) for index in indices]
+            seen = [lab_colour(colours[index], blindness) for index in indices]
             for i, one in enumerate(seen):
                 for j in range(i):
                     far = sum((a - b) ** 2 for a, b in zip(one, seen[j])) ** 0.5
@@ -333,6 +333,14 @@ class ColourBlindReaders(unittest.TestCase):
 
     def test_velocities_can_be_told_apart(self):
         self.check([palette.EMPTY, *range(7, 11)], 20)
+
+    def test_marks_of_densities_can_be_told_apart(self):
+        """From one another, and lines and tints from each shade."""
+        lines = [palette.WALL, palette.OBSTACLE, palette.SOURCE, palette.DRAIN]
+        self.check(lines, 20, palette.DENSITIES)
+        for mark in (*lines, palette.WALL_INSIDE, palette.OBSTACLE_INSIDE):
+            for shade in range(palette.density_index(0, 1), 256, 3):
+                self.check([mark, shade], 19.5, palette.DENSITIES)
 
     def test_the_measure_finds_red_and_green(self):
         red, green = (lab_colour(rgb, "deutan") for rgb in ((200, 60, 40), (95, 120, 40)))
