@@ -6,6 +6,7 @@ import sys
 from collections.abc import Callable, Sequence
 from typing import Optional
 
+from . import __version__
 from .cli import options, words
 from .protocol.errors import GaslabError, printable
 
@@ -43,12 +44,13 @@ WORDS: dict[str, tuple[Callable[..., Optional[int]], str, tuple[str, ...], str, 
 
 def parser() -> argparse.ArgumentParser:
     """The parser of the command line."""
-    name = os.path.basename(sys.argv[0])
-    program = name if name == "gaslab-client" else "python3 clients/python"
+    is_command = os.path.basename(sys.argv[0]) == "gaslab-client"
+    program = "gaslab-client" if is_command else "python3 clients/python"
     whole = argparse.ArgumentParser(
         prog=program, description="A client for gaslab. It proves nothing: what is proved is the "
         "program that it talks to, GASLAB_PROGRAM or else ./gaslab of the repository.",
         epilog="WORD --help lists the options of a word, with an example for the top of the repository.")
+    whole.add_argument("--version", action="version", version=f"gaslab-client {__version__}")
     parts = whole.add_subparsers(dest="word", metavar="WORD", required=True)
     for word, (run, names, groups, what, example) in WORDS.items():
         part = parts.add_parser(word, help=what, description=what[0].upper() + what[1:] + ".",

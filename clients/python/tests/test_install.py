@@ -69,6 +69,7 @@ class Installed(unittest.TestCase):
     def test_command(self):
         command = self.python.with_name("gaslab-client")
         self.assertIn("usage: gaslab-client", self.run_there(command, "--help"))
+        self.assertEqual(self.run_there(command, "--version"), f"gaslab-client {gaslab.__version__}\n")
         self.assertEqual(len(self.run_there(command, "random", "--seed", "1").splitlines()), 64)
 
     def test_a_first_script(self):

@@ -2,6 +2,7 @@ import os
 import random
 import struct
 import tempfile
+import time
 import unittest
 from pathlib import Path
 
@@ -297,6 +298,17 @@ class Rectangles(unittest.TestCase):
             found = cover(cells, cells)
             self.assertLessEqual(len(found), most)
             self.assertTrue((self.cells(found) == cells).all())
+
+    def test_noise_of_more_runs_than_a_journal_has_entries(self):
+        cells = numpy.random.RandomState(3).random_sample((1024, 512)) < 0.5
+        began = time.monotonic()
+        found = cover(cells, cells)
+        self.assertLess(time.monotonic() - began, 10)
+        self.assertGreater(len(found), 65536)
+        seen = numpy.zeros_like(cells)
+        for x, y, w, h in found:
+            seen[y:y + h, x:x + w] = True
+        self.assertTrue((seen == cells).all())
 
     def test_one_for_one(self):
         cells = array_of(bytes(8) + (b"\x0f" + bytes(7)) * 2 + bytes(488), 64)

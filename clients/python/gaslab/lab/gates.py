@@ -11,9 +11,7 @@ from ..protocol.replies import Ok
 from ..protocol.scripts import parse_script
 from .looking import Looks
 
-Area = tuple[int, ...]
-"""A cell (x, y) or a rectangle (x, y, w, h)."""
-
+Area = tuple[int, ...]  # a cell (x, y) or a rectangle (x, y, w, h)
 _MOST_TRACED = 64
 _MOST_INPUTS = 10
 

@@ -11,8 +11,6 @@ from ..protocol.doors import PathLike
 from ..protocol.errors import library
 from ..snapshot.files import draft
 
-_CHARTS = ("svg", "png", "pdf")
-
 
 def table_of(names: Sequence[str], rows: Iterable[Sequence[Union[int, float]]]) -> Any:
     """A table of these rows: `table["tick"]` is a column.
@@ -49,7 +47,7 @@ def chart(table: Any, path: PathLike, x: str, y: Union[str, Sequence[str]]) -> N
     """
     names = [y] if isinstance(y, str) else list(y)
     ending = os.path.splitext(os.fspath(path))[1][1:].lower()
-    if ending not in _CHARTS:
+    if ending not in ("svg", "png", "pdf"):
         raise ValueError(f"a chart's path ends in .svg, .png or .pdf: not {path}")
     for name in (x, *names):
         if name not in columns_of(table):

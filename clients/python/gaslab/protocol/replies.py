@@ -10,7 +10,6 @@ from .errors import REFUSALS, Refused, Strange, printable
 
 
 def _numbers_of(name: str, fields: str, what: str) -> Any:
-    """A kind of reply that has numbers only."""
     kind: Any = NamedTuple(name, [(field, int) for field in fields.split()])  # type: ignore[misc]
     kind.__doc__, kind.__module__ = what, __name__
     return kind

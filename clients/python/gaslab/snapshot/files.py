@@ -41,7 +41,6 @@ Source.__doc__ = "A rectangle of cells that is filled at each tick that `period`
 
 
 def _cells_of(name: str, what: str) -> Any:
-    """A property: a packed plane as an array."""
     return property(lambda gas: array_of(getattr(gas, name), gas.width),
                     doc=f"Truth values of shape (height, width): where {what} are.")
 
