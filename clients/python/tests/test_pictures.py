@@ -1,6 +1,7 @@
 import os
 import tempfile
 import unittest
+from unittest import mock
 
 import numpy
 
@@ -262,6 +263,26 @@ class Films(unittest.TestCase):
             with open(path, "rb") as file:
                 self.assertEqual(file.read(), old)
             self.assertEqual(os.listdir(room), ["film.gif"])
+
+
+class HalfWrittenFiles(unittest.TestCase):
+    """A fault or Ctrl-C in the middle of a file leaves the old one, and nothing beside it."""
+
+    def test_pictures_and_films(self):
+        def half(image, file, *_, **options):
+            file.write(b"half")
+            raise KeyboardInterrupt
+        with tempfile.TemporaryDirectory() as room, run() as lab:
+            path = os.path.join(room, "it.gif")
+            for write in (lambda: picture(lab, path), lambda: film(lab, path, steps=1, frames=2)):
+                write()
+                with open(path, "rb") as file:
+                    old = file.read()
+                with mock.patch("PIL.Image.Image.save", half):
+                    self.assertRaises(KeyboardInterrupt, write)
+                with open(path, "rb") as file:
+                    self.assertEqual(file.read(), old)
+                self.assertEqual(os.listdir(room), ["it.gif"])
 
 
 class Texts(unittest.TestCase):
