@@ -1,0 +1,99 @@
+# shellcheck shell=sh
+# Packs the proved program with all that somebody without the kit needs.
+: "${here:?}" "${folder:?}" "${program:?}" "${mark:?}" "${parts:?}"
+
+# The section of README.md that says what is proved, under a heading that says of which program.
+write_proved() {
+    echo "# What is proved of this program"
+    echo
+    echo "gaslab $(noted version) for $1, commit $(noted commit), proved with $(noted kit)."
+    echo
+    sed -n '/^## What is proved$/,/^## /{/^## /d;p;}' "$here/README.md"
+    echo "The functions and documents that are named here are in the repository, at that commit."
+}
+
+# Writes the pages that come from the program's help. What is packed for other processors may not run here.
+write_pages() {
+    pages=$1/lib/pages
+    "$here/tools/help_pages" --version "$(noted version)" "$program" "$pages" || stop "the man page can't be written to $pages"
+}
+
+# Compiles the proved program for other processors. rt begins with what the build kept, so nothing is proved again. That it runs
+# here is not asked.
+compile_for() {
+    need_kit
+    [ -d "$folder/out/incremental" ] || stop "to pack for $1, the program has to be built by ./gaslab --build --cpu $1"
+    say "compiling the proved program for $1: about a minute"
+    room=$folder/out/rooms/$1
+    log=$room.log
+    packed=$room/crates/gaslab_program/out/gaslab_program
+    mkdir -p "$room" || not_written "$room"
+    (furnish_program && cd "$room/crates/gaslab_program" && rt run --cpu="$1" -- run) >"$log" 2>&1 </dev/null
+    if [ ! -x "$packed" ] || ! grep -q '^crate gaslab_program: .*checked=0$' "$log" || ! grep -q " cpu=$1 " "$log"; then
+        tail -n 8 "$log" >&2
+        stop "the program was not compiled for $1. The lines above say why"
+    fi
+}
+
+# Finds or compiles the proved program for these processors: its path is then `packed`.
+need_program_for() {
+    is_built || stop "the program is not built from the present sources: run ./gaslab --build first"
+    packed=$program
+    if [ "$(noted cpu)" != "$1" ]; then compile_for "$1"; fi
+}
+
+# Copies that program, and what is noted of it.
+copy_program() {
+    cp "$packed" "$2" && { sed "s/^cpu .*/cpu $1/; /^program /d" "$mark" && echo "program $(sum_of "$2")"; } >"$2.mark"
+}
+
+# Copies the Python client, without its tests and what Python keeps.
+copy_client() {
+    mkdir -p "$1/clients" && cp -R "$here/clients/python" "$1/clients/" || return
+    rm -rf "$1/clients/python/tests"
+    find "$1/clients/python" \( -name __pycache__ -o -name '*.egg-info' -o -name build \) -prune -exec rm -rf {} +
+}
+
+# Writes the sums of the files in a folder, beside them.
+write_sums() {
+    (cd "$1" && find . -type f | LC_ALL=C sort | xargs -d '\n' sha256sum) >"$1.sums" && mv "$1.sums" "$1/SHA256SUMS"
+}
+
+# Copies to a new folder what a package has, for these processors.
+stage() {
+    to=$2
+    # PROVED.md comes from there
+    grep -q '^## What is proved$' "$here/README.md" &&
+        mkdir -p "$to/lib" "$to/docs" &&
+        cp "$here/gaslab" "$here/CHANGELOG.md" "$to/" &&
+        cp "$parts/sources.sh" "$parts/run.sh" "$parts/help.sh" "$parts/install.sh" "$to/lib/" &&
+        cp "$here/docs/FORMATS.md" "$here/docs/CLASS.md" "$here/docs/GAS.md" "$to/docs/" &&
+        cp "$here/docs/PACKAGE.md" "$to/README.md" &&
+        cp -RL "$here/examples" "$to/" &&
+        copy_client "$to" &&
+        copy_program "$1" "$to/lib/gaslab_program" &&
+        write_proved "$1" >"$to/PROVED.md" &&
+        write_pages "$to" &&
+        chmod -R u=rwX,go=rX "$to" &&
+        write_sums "$to"
+}
+
+# Packs a folder of that name, in a folder, so that the same files give the same bytes.
+pack() {
+    tar -C "$1" --sort=name --owner=0 --group=0 --numeric-owner --mtime='2000-01-01 00:00Z' -cf - "$2" | gzip -9n >"$2.tar.gz.new" &&
+        mv "$2.tar.gz.new" "$2.tar.gz"
+}
+
+# Packs the program for the processors that these words name, or for x86-64-v2, into a file in the current folder.
+package_as_asked() {
+    take rooms
+    asked=x86-64-v2
+    [ $# = 0 ] || asked_cpu "$@" || stop "--package takes --cpu x86-64-v2 or --cpu x86-64-v3, or nothing"
+    need_program_for "$asked"
+    name=gaslab-$(noted version)-$asked
+    staged=$(mktemp -d) || not_written "${TMPDIR:-/tmp}"
+    stage "$asked" "$staged/$name" || not_written "$staged"
+    pack "$staged" "$name" || not_written "$name.tar.gz"
+    rm -rf "$staged" "$folder/out/rooms"
+    sha256sum "$name.tar.gz"
+}
