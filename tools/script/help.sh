@@ -33,6 +33,8 @@ END_OF_HELP
 show_help() {
     if is_built; then
         shows=$program
+    elif is_package; then
+        stop "$(tell_state)"
     else
         take unproved
         need_unproved

@@ -87,15 +87,14 @@ is_built() { built_state && runs_here "$(noted cpu)"; }
 tell_state() {
     built_state
     state=$?
-    if [ $state = 0 ] && ! runs_here "$(noted cpu)"; then
-        echo "not built for this processor, but for $(noted cpu): run ./gaslab --build"
-        return 2
-    fi
+    if [ $state = 0 ] && ! runs_here "$(noted cpu)"; then state=3; fi
     case $state in
-    0) echo "built from these sources for $(noted cpu), proved at commit $(noted commit)" ;;
-    1) echo "built from other sources: run ./gaslab --build" ;;
-    2) echo "not built: run ./gaslab --build" ;;
+    0) echo "built from these sources for $(noted cpu), proved at commit $(noted commit)" && return ;;
+    1) said='built from other sources' again='the program was changed since: unpack the package again' ;;
+    2) said='not built' again='the program is missing: unpack the package again' ;;
+    3) said="not built for this processor, but for $(noted cpu)" again="$said: use the package for x86-64-v2" state=2 ;;
     esac
+    if is_package; then echo "$again"; else echo "$said: run ./gaslab --build"; fi
     return $state
 }
 
