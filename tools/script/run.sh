@@ -113,7 +113,7 @@ run_in_background() {
 run_program() {
     if ! (: 3<&0) 2>/dev/null; then exec "$@"; fi
     errors=/dev/null
-    if value_of --load "$@" >/dev/null; then errors=$(mktemp) || errors=/dev/null; fi
+    if value_of --load "$@" >/dev/null; then errors=$(mktemp 2>/dev/null) || errors=/dev/null; fi
     run_in_background "$@"
     if [ "$errors" != /dev/null ]; then cat "$errors" >&2; fi
     [ -z "$caught" ] || { forget_errors && kill -s "$caught" $$; }
