@@ -33,6 +33,8 @@ WORDS: dict[str, tuple[Callable[..., Optional[int]], str, tuple[str, ...], str, 
              "what is in a snapshot, and its walls as a script", "PROGRAM show day.gas"),
     "journal": (words.journal, "host port --timeout", (), "the journal of a running server, as a script",
                 "PROGRAM journal 127.0.0.1 7878 > journal.txt"),
+    "page": (words.page, "file --to", (), "the laboratory as one HTML file, with nothing to install",
+             "PROGRAM page examples/4_tunnel.txt --to tunnel.html"),
     "rows": (words.rows, "", (), "draws the rows among replies as dots and marks",
              "./gaslab run < examples/2_blocks.txt | PROGRAM rows"),
     "watch": (words.watch, "host port --timeout --seconds --times --mean --colour --page "

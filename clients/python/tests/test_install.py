@@ -63,7 +63,8 @@ class Installed(unittest.TestCase):
         version, installed, place = self.run_there(self.python, "-c", text).split()
         self.assertEqual((version, installed), 2 * (gaslab.__version__,))
         self.assertTrue(place.startswith(str(self.room / "venv")), place)
-        for name in ("py.typed", "page/page.html", "page/page.js", "page/page.css"):
+        for name in ("py.typed", "page/page.html", "page/page.js", "page/page.css",
+                     "page/static/index.html", "page/static/lessons.json"):
             self.assertTrue(Path(place).parent.joinpath(name).exists(), name)
 
     def test_command(self):

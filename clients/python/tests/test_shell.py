@@ -313,7 +313,7 @@ class Words(unittest.TestCase):
             with mock.patch("sys.argv", ["/usr/bin/gaslab-client"]):
                 self.assertIn(f"gaslab-client {word}", said(word, "--help")[1])
         self.assertEqual(set(WORDS), {"shell", "draw", "film", "table", "profile", "random", "show",
-                                      "journal", "rows", "watch"})
+                                      "journal", "page", "rows", "watch"})
 
     def test_no_word(self):
         self.assertEqual(said()[0], 2)

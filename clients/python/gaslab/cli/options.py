@@ -102,6 +102,7 @@ OPTIONS: dict[str, dict[str, Any]] = {
     "--drift-down": _option("and downwards (0)", float, 0.0),
     "--seed": _option("the same seed gives the same gas", whole(0, 2 ** 32 - 1)),
     "--seconds": _option("between two looks (0.25)", seconds, 0.25),
+    "--to": _option("the HTML file that is written", metavar="FILE.html", required=True),
     "--page": {"help": "a page on 127.0.0.1 instead, for a browser on this machine", **_SWITCH},
     "--page-port": _option("the page's port (any)", whole(0, 65535), 0),
 }
@@ -123,7 +124,7 @@ def add(parser: argparse._ActionsContainer, names: str) -> None:
         parser.add_argument(*flags, **{**OPTIONS[name], **own})
 
 
-def _is_snapshot(path: Optional[str]) -> bool:
+def is_snapshot(path: Optional[str]) -> bool:
     if path is None or path == "-":
         return False
     with open(path, "rb") as file:
@@ -134,7 +135,7 @@ def _is_snapshot(path: Optional[str]) -> bool:
 def lab_of(asked: argparse.Namespace) -> Iterator[Lab]:
     """The laboratory that the options name, after the script."""
     load, script = asked.load, Script(None, [])
-    if _is_snapshot(asked.file):
+    if is_snapshot(asked.file):
         load = asked.file
     elif asked.file:
         size, parts = parse_script(read_text(asked.file))
@@ -155,7 +156,7 @@ def lab_of(asked: argparse.Namespace) -> Iterator[Lab]:
 @contextmanager
 def gas_of(asked: argparse.Namespace) -> Iterator[Union[Lab, Snapshot]]:
     """What the options name: a snapshot as it is in its file, or else a laboratory."""
-    if not asked.join and _is_snapshot(asked.file):
+    if not asked.join and is_snapshot(asked.file):
         yield Snapshot.read(asked.file)
     else:
         with lab_of(asked) as lab:

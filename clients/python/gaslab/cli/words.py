@@ -13,15 +13,16 @@ import numpy
 from ..lab.lab import Lab
 from ..measure.measuring import every, profile, random_gas, sums_of
 from ..measure.tables import chart, csv_text
+from ..page.one_file import one_file
 from ..page.server import Page
 from ..pictures.drawing import film, picture
 from ..pictures.text import text_picture
 from ..protocol.errors import Gone, Moving, Silent, Strange, printable
 from ..protocol.replies import Row, parse_reply, show_cells
-from ..protocol.scripts import read_text
+from ..protocol.scripts import parse_script, read_text
 from ..snapshot.files import Snapshot
 from ..snapshot.rectangles import cover
-from .options import gas_of, lab_of
+from .options import gas_of, is_snapshot, lab_of
 from .shell import Shell, columns, is_coloured, prompted
 
 _LAST = 8  # entries that are shown
@@ -104,6 +105,25 @@ def journal(asked: argparse.Namespace) -> None:
         entries = lab.journal()
     for entry in entries:
         print(entry.command)
+
+
+def page(asked: argparse.Namespace) -> None:
+    """The laboratory as one HTML file, with what it opens first."""
+    name, contents = "", None
+    if is_snapshot(asked.file):
+        Snapshot.read(asked.file)
+        with open(asked.file, "rb") as file:
+            contents = file.read()
+    elif asked.file:
+        script = parse_script(read_text(asked.file))
+        first = [f"size {script.size[0]} {script.size[1]}"] if script.size else []
+        lines = [*first, *(command for _, command in script.commands())]
+        contents = "".join(line + "\n" for line in lines).encode()
+    if asked.file:
+        name = "a script" if asked.file == "-" else os.path.basename(asked.file)
+    text = one_file(name, contents)
+    with open(asked.to, "w", encoding="utf-8") as made:
+        made.write(text)
 
 
 def rows(asked: argparse.Namespace) -> None:
