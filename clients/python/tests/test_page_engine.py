@@ -1,0 +1,176 @@
+"""The page's engine in JavaScript against the second implementation, and what the page's lessons claim. It needs node."""
+import importlib.machinery
+import importlib.util
+import json
+import math
+import random
+import shutil
+import subprocess
+import sys
+import unittest
+
+from .test_lab import ROOT
+
+EXAMPLES = ROOT / "examples"
+PAGE = ROOT / "clients" / "python" / "gaslab" / "page"
+NODE = shutil.which("node")
+SIZES = {"5_sound": (256, 256), "5_empty": (256, 256), "9_light_cone": (128, 128), "7_kept": (128, 64)}
+SESSIONS = ["8_first", "8_second", "8_third"]
+OBSTACLES_X = 8  # its place in a LEDGER reply
+
+
+def run_engine(cases):
+    """The page's replies to each case: width, height, the lines of each session, and a case to start from or -1."""
+    done = subprocess.run([NODE, ROOT / "clients/python/tests/engine.mjs"], input=json.dumps(cases),
+                          stdout=subprocess.PIPE, text=True, check=True)
+    return json.loads(done.stdout)
+
+
+def second():
+    """tools/channel_gas.py as a module."""
+    loader = importlib.machinery.SourceFileLoader("channel_gas", str(ROOT / "tools" / "channel_gas.py"))
+    module = importlib.util.module_from_spec(importlib.util.spec_from_loader("channel_gas", loader))
+    loader.exec_module(module)
+    return module
+
+
+def run_second(channel_gas, width, height, lines):
+    gas = channel_gas.Gas(width, height)
+    books = channel_gas.Books(gas.sums(gas.particles))
+    return [" ".join(map(str, reply)) for reply in channel_gas.session(0, lines, gas, books, [], "")]
+
+
+def random_script(draw, width, height, has_ports):
+    def area():
+        x, y = draw.randrange(width), draw.randrange(height)
+        return f"{x} {y} {draw.randint(1, min(20, width - x))} {draw.randint(1, min(20, height - y))}"
+
+    def line():
+        word = draw.choice(["put", "put", "erase", "wall", "block", "unwall", "probe", "row", "step", "step", "tally",
+                            "ledger", "read", "entry", *(["source", "drain", "unport"] if has_ports else ["back"])])
+        if word in ("step", "back"):
+            return f"{word} {draw.randint(1, 9)}"
+        if word == "row":
+            return f"row {draw.randrange(height)} {draw.getrandbits(width):0{width // 4}x}"
+        if word == "source":
+            return f"source {area()} {draw.randint(1, 5)}"
+        fixed = {"tally": "", "ledger": "", "unport": "", "read": f" {draw.randrange(height)}", "entry": " 0"}
+        return word + (fixed[word] if word in fixed else f" {area()}")
+    lines = ["put 3 5 9 9", *(line() for _ in range(30))]
+    return [*lines, "step 5", "tally", "ledger", *(f"read {y}" for y in range(height))]
+
+
+def trimmed(lines):
+    """At most 16 ports of a kind stand at a time, since the second implementation refuses nothing."""
+    counts, kept = {}, []
+    for line in lines:
+        word = line.split(" ")[0]
+        counts[word] = counts.get(word, 0) + 1
+        if word == "unport":
+            counts = {}
+        if word not in ("source", "drain") or counts[word] <= 16:
+            kept.append(line)
+    return kept
+
+
+@unittest.skipUnless(NODE, "there is no node")
+class Engine(unittest.TestCase):
+    @classmethod
+    def setUpClass(cls):
+        cls.channel_gas = second()
+
+    def test_200_random_scripts(self):
+        draw, cases = random.Random(61), []
+        for k in range(200):
+            width, height = draw.choice([(64, 64), (64, 64), (128, 64), (64, 128), (192, 64)])
+            cases.append([width, height, [trimmed(random_script(draw, width, height, k % 2))], -1])
+        lines = 0
+        for (width, height, (script,), _), found in zip(cases, run_engine(cases)):
+            wanted = run_second(self.channel_gas, width, height, script)
+            differ = [it for it in zip(script, found, wanted) if it[1] != it[2]]
+            self.assertEqual((differ[:3], len(found)), ([], len(wanted)))
+            lines += len(found)
+        self.assertGreater(lines, 15000)
+
+    def test_all_lessons_and_scenes(self):
+        """Each script gives the output beside it."""
+        scripts = [it for it in sorted(EXAMPLES.glob("**/*.txt")) if it.stem not in (*SESSIONS, "7_next_day")]
+        self.assertGreaterEqual(len(scripts), 25)
+        cases = [[*SIZES.get(it.stem, (64, 64)), [it.read_text().splitlines()], -1] for it in scripts]
+        outputs = [it.with_suffix(".out").read_text() for it in scripts]
+        kept = next(k for k, it in enumerate(scripts) if it.stem == "7_kept")
+        cases.append([128, 64, [(EXAMPLES / "7_next_day.txt").read_text().splitlines()], kept])
+        cases.append([64, 64, [(EXAMPLES / f"{name}.txt").read_text().splitlines() for name in SESSIONS], -1])
+        outputs.append((EXAMPLES / "7_next_day.out").read_text())
+        outputs.append("".join((EXAMPLES / f"{name}.out").read_text() for name in SESSIONS))
+        names = [it.stem for it in scripts] + ["7_next_day", "8"]
+        for name, found, wanted in zip(names, run_engine(cases), outputs):
+            self.assertEqual("\n".join(found) + "\n", wanted, name)
+
+    def test_refusals(self):
+        lines = {"": "2 word", "jump": "2 word", "put 1": "3 count", "step x": "4 number", "put 0 0 65 1": "5 rect",
+                 "read 64": "5 rect", "step 0": "6 steps", "back 4097": "6 steps", "source 0 0 1 1 0": "7 period",
+                 "row 0 0": "8 row", "entry 0": "9 entry"}
+        found, = run_engine([[64, 64, [[*lines, *["drain 0 0 1 1"] * 17, "back 1"]], -1]])
+        self.assertEqual(found[:len(lines)], [f"ERR {it}" for it in lines.values()])
+        self.assertEqual(found[-2:], ["ERR 10 full", "ERR 11 ports"])
+
+
+def entropy(rows):
+    """The mean of -p ln p - (1 - p) ln (1 - p) over squares of 8 by 8 cells."""
+    cells = [f"{int(row[4:], 16):0{4 * (len(row) - 4)}b}" for row in rows]
+    squares = [sum(cells[y + k][x:x + 8].count("1") for k in range(8)) / 64
+               for y in range(0, len(cells), 8) for x in range(0, len(cells[0]), 8)]
+    return -sum(p * math.log(p) + (1 - p) * math.log(1 - p) for p in squares if 0 < p < 1) / len(squares)
+
+
+class Claims(unittest.TestCase):
+    """Each number that a lesson or one of its buttons claims."""
+
+    @classmethod
+    def setUpClass(cls):
+        cls.channel_gas = second()
+        made = json.loads((PAGE / "static" / "lessons.json").read_text())
+        choices = json.loads((PAGE / "choices.json").read_text())
+        cls.lessons = {it["id"]: it for it in made["lessons"] + made["scenes"]}
+        cls.claims = [(it["id"], claim) for it in choices["lessons"] + choices["scenes"] for claim in it["claims"]]
+
+    def script(self, lesson, claim):
+        lines = list(self.lessons[lesson]["setup"])
+        for line in claim["lines"]:
+            if line.startswith("try "):
+                lines += self.lessons[lesson]["tries"][int(line[4:])]["lines"]
+            else:
+                lines += [f"read {y}" for y in range(64)] if line == "entropy" else [line]
+        return lines + (["step 200", "ledger", "step 100", "ledger"] if "drag" in claim else [])
+
+    def check(self, lesson, claim, replies):
+        self.assertEqual([it for it in replies if it.startswith("ERR")], [], (lesson, claim))
+        if "drag" in claim:
+            early, late = (int(replies[k].split(" ")[OBSTACLES_X]) for k in (-3, -1))
+            self.assertEqual(late - early, 100 * claim["drag"], claim)
+        elif claim["lines"][-1] == "entropy":
+            self.assertEqual(f"{entropy(replies[-64:]):.8f}", claim["reply"], claim)
+        else:
+            self.assertEqual(replies[-1], claim["reply"], (lesson, claim))
+
+    def test_second_implementation(self):
+        self.assertGreater(len(self.claims), 25)
+        for lesson, claim in self.claims:
+            width, height = self.lessons[lesson]["size"]
+            self.check(lesson, claim, run_second(self.channel_gas, width, height, self.script(lesson, claim)))
+
+    @unittest.skipUnless(NODE, "there is no node")
+    def test_engine(self):
+        cases = [[*self.lessons[lesson]["size"], [self.script(lesson, claim)], -1] for lesson, claim in self.claims]
+        for (lesson, claim), replies in zip(self.claims, run_engine(cases)):
+            self.check(lesson, claim, replies)
+
+    def test_each_lesson_with_an_answer_claims_something(self):
+        for lesson in (it["id"] for it in self.lessons.values() if "expect" in it):
+            self.assertTrue([it for it in self.claims if it[0] == lesson], lesson)
+
+    def test_lessons_are_made_from_the_examples(self):
+        done = subprocess.run([sys.executable, ROOT / "tools" / "page_lessons", "--check"], stderr=subprocess.PIPE,
+                              text=True)
+        self.assertEqual((done.returncode, done.stderr), (0, ""))
