@@ -116,6 +116,42 @@ class Browser:
             assert time.monotonic() < deadline, (script, self.value(script), value)
             time.sleep(0.02)
 
+    def navigate(self, address: str) -> None:
+        """Opens another page, and forgets what was complained about."""
+        self.errors.clear()
+        self._ask("Page.navigate", url=address)
+
+    def resize(self, width: int, height: int) -> None:
+        """Makes the window as large as a person's; below 500 pixels it is a phone's."""
+        self._ask("Emulation.setDeviceMetricsOverride", width=width, height=height, deviceScaleFactor=1,
+                  mobile=width < 500)
+        self._ask("Emulation.setTouchEmulationEnabled", enabled=width < 500)
+
+    def reduce_motion(self, is_asked: bool) -> None:
+        """Sets what a person asks of moving pictures."""
+        value = "reduce" if is_asked else "no-preference"
+        self._ask("Emulation.setEmulatedMedia",
+                  features=[{"name": "prefers-reduced-motion", "value": value}])
+
+    def pull(self, start: tuple[float, float], end: tuple[float, float]) -> None:
+        """Moves the mouse with its button held."""
+        for kind, (x, y), held in (("mouseMoved", start, 0), ("mousePressed", start, 1),
+                                   ("mouseMoved", end, 1), ("mouseReleased", end, 0)):
+            button = "none" if kind == "mouseMoved" and not held else "left"
+            self._ask("Input.dispatchMouseEvent", type=kind, x=x, y=y, button=button, buttons=held,
+                      clickCount=int(kind != "mouseMoved"))
+
+    def tap(self, x: float, y: float) -> None:
+        """Touches a place with a finger."""
+        self._ask("Input.dispatchTouchEvent", type="touchStart", touchPoints=[{"x": x, "y": y}])
+        self._ask("Input.dispatchTouchEvent", type="touchEnd", touchPoints=[])
+
+    def key(self, key: str, code: int, modifiers: int = 0) -> None:
+        """Presses a key; 2 is Ctrl."""
+        for kind in ("keyDown", "keyUp"):
+            self._ask("Input.dispatchKeyEvent", type=kind, key=key, windowsVirtualKeyCode=code,
+                      modifiers=modifiers)
+
     def screenshot(self, path: str) -> None:
         """Writes what is seen to a PNG file."""
         with open(path, "wb") as file:

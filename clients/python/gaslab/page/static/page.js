@@ -4,10 +4,10 @@ import { Link } from "./link.js";
 import { View, COLOURS } from "./canvas.js";
 import { TOOLS, byId, options, rectangle, randomGas } from "./tools.js";
 import { Edits } from "./edits.js";
-import { keepForReload, takeKept, lessonOf } from "./keep.js";
+import { keepForReload, takeKept } from "./keep.js";
 import { showNumbers, showLedger, makeLedger, Plots, say } from "./readings.js";
 import { plainWords } from "./language.js";
-import { find, EMPTY } from "./lessons.js";
+import { find, EMPTY, LESSONS, SCENES } from "./lessons.js";
 import { download } from "./share.js";
 import { Console } from "./console.js";
 import { Popovers, showLesson } from "./dialogs.js";
@@ -514,4 +514,5 @@ const popovers = new Popovers(lab, { load(lesson, size) { load(lesson, size); ta
 join();
 at("script").onclick = () => popovers.saveScript();
 popovers.header(); chooseTool("put"); setMode("particles"); setSpeed(4, false); showTime();
-Object.assign(globalThis, { laboratory: { lab, send, load, chooseTool, setMode, tab, log, view, plots, edits, join, connect, find, lessonOf } });   // for tests
+Object.assign(globalThis, { laboratory: { lab, send, load, chooseTool, setMode, view, plots, edits, join, connect, find,
+  all: () => [...LESSONS, ...SCENES].map((l) => l.id), openBytes: (...file) => popovers.openBytes(...file) } });   // for tests

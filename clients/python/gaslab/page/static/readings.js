@@ -162,8 +162,8 @@ export class Plots {
 
   note(tick, text) {
     const last = this.notes.at(-1);
-    if (last && last.tick === tick) { last.more = (last.more || 0) + 1; last.text = `${last.first} and ${last.more} more`; return; }
-    this.notes.push({ tick, text, first: text });
+    if (last && last.tick === tick) { last.more = (last.more || 0) + 1; last.text = `${text} and ${last.more} more`; return; }
+    this.notes.push({ tick, text });
     if (this.notes.length > 12) this.notes.shift();
   }
 

@@ -1,0 +1,319 @@
+"""The page as one file, in a real browser and from a folder. It is skipped without Chromium."""
+import json
+import tempfile
+import time
+import unittest
+from pathlib import Path
+
+from gaslab.page.one_file import MOST, bundle, one_file
+
+from .browser import CHROMIUM, Browser
+from .test_lab import ROOT
+from .test_page_engine import run_second, second
+
+_READY = "globalThis.laboratory?.lab.picture != null && laboratory.lab.link.waiting.size === 0 && !laboratory.lab.loading"
+_PLACES = """(() => { const v = laboratory.view, box = v.canvas.getBoundingClientRect();
+  return CELLS.map(([x, y]) => [box.left + (x + .5 - v.left) * v.scale, box.top + (y + .5 - v.top) * v.scale]); })()"""
+_BRIGHT = """(async () => {
+  const v = laboratory.view, { width: w, height: h } = v.picture, seen = [], began = performance.now();
+  const part = (c) => (c /= 255) <= .04045 ? c / 12.92 : ((c + .055) / 1.055) ** 2.4;
+  const bright = (d, k) => .2126 * part(d[k]) + .7152 * part(d[k + 1]) + .0722 * part(d[k + 2]);
+  for (let last = -1; seen.length < 21 && performance.now() - began < 30000;) {
+    await new Promise(requestAnimationFrame);
+    if (v.picture.number === last) continue;
+    last = v.picture.number;
+    const d = v.cells.getContext("2d").getImageData(0, 0, w, h).data;
+    seen.push(Float32Array.from({ length: w * h }, (_, k) => bright(d, 4 * k)));
+  }
+  let flashing = 0;
+  for (let k = 0; k < w * h; k++) {
+    let turns = 0, low = seen[0][k], high = low;
+    for (const now of seen.map((s) => s[k])) {      // a flash is a pair of changes by a tenth, there and back
+      low = Math.min(low, now); high = Math.max(high, now);
+      if (high - low >= .1) { turns += 1; low = high = now; }
+    }
+    if (turns > 6) flashing += 1;
+  }
+  return [seen.length, flashing];
+})()"""
+_PARTICLES = """(() => {
+  const { width: w, height: h } = laboratory.view.picture;
+  const d = laboratory.view.cells.getContext("2d").getImageData(0, 0, w, h).data, full = ["0 114 178", "240 228 66"];
+  return Array.from({ length: h }, (_, y) => Array.from({ length: w }, (_, x) =>
+    full.includes([0, 1, 2].map((k) => d[4 * (y * w + x) + k]).join(" ")) ? 1 : 0).join("")); })()"""
+
+
+@unittest.skipUnless(CHROMIUM, "there is no chromium")
+class OneFile(unittest.TestCase):
+    @classmethod
+    def setUpClass(cls):
+        room = tempfile.TemporaryDirectory()
+        cls.addClassCleanup(room.cleanup)
+        cls.room = Path(room.name)
+        cls.address = cls.written("page.html", one_file())
+        cls.browser = Browser("about:blank")
+        cls.addClassCleanup(cls.browser.__exit__)
+
+    @classmethod
+    def written(cls, name, text):
+        (cls.room / name).write_text(text, "utf-8")
+        return (cls.room / name).as_uri()
+
+    def tearDown(self):
+        self.assertEqual(self.browser.errors, [])
+        self.browser.reduce_motion(False)
+
+    def open(self, lesson="4", address=None, size=(1440, 900)):
+        """Opens a lesson on a page that keeps nothing of the one before."""
+        self.browser.value("globalThis.laboratory && (laboratory.lab.worked = false)")
+        self.browser.resize(*size)
+        self.browser.navigate("about:blank")
+        self.browser.wait("location.href", "about:blank")
+        self.browser.navigate(f"{address or self.address}{f'?lesson={lesson}' if lesson else ''}")
+        self.browser.wait(_READY, True)
+
+    def value(self, script):
+        return self.browser.value(script)
+
+    def tick(self):
+        return self.value("laboratory.lab.picture.tick")
+
+    def send(self, *lines):
+        """Sends lines as a person does, and waits for the picture after them."""
+        number = self.value("laboratory.lab.picture.number")
+        replies = self.value(f"laboratory.send({json.dumps(lines)})")
+        self.browser.wait(f"laboratory.lab.picture.number > {number}", True)
+        return replies
+
+    def draw(self, tool, start, end):
+        """Draws from a cell to a cell by mouse events."""
+        before = self.value(f"laboratory.chooseTool('{tool}'); document.getElementById('last').textContent")
+        self.browser.pull(*self.value(_PLACES.replace("CELLS", json.dumps([start, end]))))
+        self.browser.wait(f"document.getElementById('last').textContent !== {json.dumps(before)} "
+                          "&& laboratory.lab.link.waiting.size === 0", True)
+        time.sleep(.2)
+
+    def undo(self):
+        """Ctrl+Z, and what the page says about it."""
+        self.value("document.activeElement.blur()")
+        self.browser.key("z", 90, 2)
+        self.browser.wait("laboratory.lab.link.waiting.size", 0)
+        time.sleep(.3)
+        return self.value("document.getElementById('callout').hidden ? '' : document.getElementById('callout').textContent")
+
+    def said(self):
+        return self.value("document.getElementById('last').textContent")
+
+    def drag(self):
+        return self.value("document.querySelector('#plot-list .number').textContent")
+
+    def state(self):
+        """Walls, obstacles, ports and particles."""
+        return self.value("(({ walls, obstacles, ports, picture }) => JSON.stringify([[...walls], [...obstacles], ports, "
+                          "[...picture.particles]]))(laboratory.view)")
+
+    def run_to(self, tick):
+        self.browser.wait(f"laboratory.lab.picture.tick >= {tick}", True)
+
+    def test_lesson_4(self):
+        """It moves and has no drag. A drawn obstacle takes 6, and twice as high 10, at once and for ever."""
+        self.open()
+        self.run_to(70)
+        self.assertEqual((self.drag(), self.value("laboratory.lab.playing")), ("0", True))
+        self.draw("block", (30, 30), (33, 33))
+        self.assertRegex(self.said(), r"^sentblock 30 30 4 4OK \d+$")
+        self.run_to(self.tick() + 130)
+        self.assertEqual(self.drag(), "6")
+        self.value("[...document.querySelectorAll('.tries button')][1].click()")
+        self.run_to(self.tick() + 130)
+        self.assertEqual(self.drag(), "10")
+        self.assertEqual(self.value("document.getElementById('balance').className"), "even")
+
+    def test_pixels_and_ledger_are_the_replies(self):
+        self.open()
+        self.run_to(40)
+        self.draw("wall", (30, 24), (31, 40))
+        self.send(".pause")
+        rows, ledger = (self.value(f"laboratory.lab.link.send({json.dumps(it)})") for it in
+                        ([f"read {y}" for y in range(64)], ["ledger"]))
+        self.assertEqual(self.value(_PARTICLES), [f"{int(row[4:], 16):064b}" for row in rows])
+        shown = self.value("[...document.querySelectorAll('#ledger tr:not(.sum) td')].map((e) => e.textContent)")
+        places = [0, 3, 8, 1, 4, 9, 2, 5, 10, None, 6, 11, None, 7, 12]
+        numbers = ledger[0].split(" ")[1:]
+        self.assertEqual([it.replace(",", "").replace("−", "-") for it in shown],
+                         ["" if place is None else numbers[place] for place in places])
+
+    def test_the_stream_does_not_flash(self):
+        self.open()
+        self.run_to(70)
+        self.assertEqual(self.value(_BRIGHT), [21, 0])
+        self.value("laboratory.view.remember = function (p) { this.recent = [p]; this.isCalm = false; }")
+        self.assertGreater(self.value(_BRIGHT)[1], 500, "single ticks flash, so the count counts")
+
+    def test_nothing_moves_by_itself_when_motion_is_reduced(self):
+        self.browser.reduce_motion(True)
+        self.open()
+        time.sleep(.5)
+        self.assertEqual((self.tick(), self.value("laboratory.lab.playing")), (0, False))
+
+    def test_undo_takes_the_last_edit(self):
+        self.open("8")
+        start = self.state()
+        self.draw("wall", (5, 5), (8, 6))
+        walled = self.state()
+        self.draw("put", (2, 2), (7, 7))
+        self.assertNotEqual(self.state(), walled)
+        self.undo()
+        self.assertEqual(self.state(), walled)
+        self.undo()
+        self.assertEqual(self.state(), start)
+
+    def test_undo_stops_at_what_cannot_be_undone(self):
+        self.open("8")
+        self.draw("wall", (5, 5), (8, 6))
+        self.draw("put", (2, 2), (7, 7))
+        self.send("step 1")
+        before = self.state()
+        for _ in range(2):
+            self.assertIn("put 2 2 6 6 can't be undone: its particles have moved on", self.undo())
+            self.assertEqual(self.state(), before)
+
+    def test_undo_of_unport_and_of_a_source(self):
+        self.open()
+        self.send(".pause")
+        start = self.value("JSON.stringify(laboratory.view.ports)")
+        self.send("unport")
+        self.undo()
+        self.assertEqual(self.value("JSON.stringify(laboratory.view.ports)"), start)
+        self.draw("source", (30, 20), (31, 21))
+        self.undo()
+        self.assertEqual(self.value("JSON.stringify(laboratory.view.ports)"), start)
+
+    def test_undo_of_erase_unwall_and_rows(self):
+        self.open("6")
+        for tool in ("erase", "unwall", "block", "random"):
+            start = self.state()
+            self.draw(tool, (0, 20), (45, 35))
+            self.assertNotEqual(self.state(), start, tool)
+            self.undo()
+            self.assertEqual(self.state(), start, tool)
+
+    def test_curves_of_two_runs_stay_apart(self):
+        """Lesson 6: the gas comes home, and the spoilt one stays above 0.5 all the way."""
+        self.open("6")
+        for line, tick in ((".goto 320 16 60", 320), (".goto 0 16 60", 0), (".goto 320 16 60", 320)):
+            self.send(line)
+            self.browser.wait(f"laboratory.lab.picture.tick === {tick} && !laboratory.lab.playing", True)
+        self.send("put 33 24 1 1")
+        self.send(".goto 0 16 60")
+        self.browser.wait("laboratory.lab.picture.tick === 0 && !laboratory.lab.playing", True)
+        names = self.value("laboratory.plots.series.entropy.names")
+        self.assertEqual(names, ["run 2, back", "run 3", "run 4, back"])
+        rows = self.value("laboratory.plots.series.entropy.rows.map(([tick, ...v]) => [tick, ...v])")
+        home, spoilt = ([row[k] for row in rows if row[k] is not None] for k in (1, 3))
+        self.assertGreater(min(spoilt), 0.5)
+        self.assertLess(min(home), 0.4)
+        self.assertGreater(min(len(home), len(spoilt)), 10)
+
+    def test_a_wrong_file_opens_nothing(self):
+        self.open("8")
+        self.draw("wall", (5, 5), (8, 6))
+        before = self.state()
+        for data, words in ((b"\x89PNG\r\n\x1a\n\0\0", "neither a script nor a snapshot"), (b"put 1 2 3 4\nbogus 1\n", "Line 2"),
+                            (b"HPPGAS2\n\0\0", "damaged"), (b"size 65 64\n", "multiples of 64")):
+            self.value(f"laboratory.openBytes('it', Uint8Array.from({list(data)}))")
+            self.assertIn(words, self.value("document.getElementById('callout').textContent"))
+            self.assertEqual(self.state(), before)
+        self.assertEqual(self.value("document.getElementById('lesson-name').textContent"), "Three people on one gas")
+
+    def test_the_gas_before_can_be_brought_back(self):
+        self.open("8")
+        self.draw("wall", (5, 5), (8, 6))
+        self.send("step 7")
+        before, ledger = self.state(), self.value("laboratory.lab.link.send(['ledger', 'entry 4'])")
+        self.value("laboratory.load(laboratory.find('1'))")
+        self.browser.wait("document.getElementById('banner').hidden", False)
+        self.assertNotEqual(self.state(), before)
+        self.value("document.querySelector('#banner button').click()")
+        self.browser.wait("document.getElementById('lesson-name').textContent", "Three people on one gas")
+        self.browser.wait("laboratory.lab.picture?.tick", 7)
+        self.assertEqual(self.state(), before)
+        self.assertEqual(self.value("laboratory.lab.link.send(['ledger', 'entry 4'])"), ledger)
+
+    def test_a_reload_keeps_the_gas(self):
+        self.open("8")
+        self.draw("wall", (5, 5), (8, 6))
+        self.send("step 7")
+        before = self.state()
+        self.value("location.reload()")
+        time.sleep(.5)
+        self.browser.wait(_READY + " && laboratory.lab.picture.tick === 7", True)
+        self.assertEqual(self.state(), before)
+        self.assertIn("kept over the reload", self.value("document.getElementById('banner').textContent"))
+
+    def test_who_joins_changes_nothing_and_sees_that_it_plays(self):
+        self.open()
+        self.run_to(30)
+        self.value("laboratory.join()")
+        self.browser.wait(_READY + " && laboratory.lab.playing", True)
+        self.assertGreaterEqual(self.tick(), 30)
+        self.assertEqual(self.value("document.getElementById('play').textContent"), "Pause")
+
+    def test_another_seat(self):
+        """Its speed is shown, its edits stop undo, and it can't open another gas."""
+        self.open()
+        self.value("""globalThis.told = []; globalThis.other = laboratory.connect();
+            other.onmessage = ({ data }) => { if (typeof data === "string") told.push(data); else other.send("0 .drawn"); };
+            other.send("1 .open 64 64"); other.send("2 .play 1 5"); other.send("3 wall 9 19 2 2"); 0""")
+        self.browser.wait("told.some((t) => t.startsWith('3 OK'))", True)
+        self.assertIn("1 NO first", self.value("told"))
+        self.browser.wait("document.getElementById('speed-text').textContent", "5 steps a second")
+        self.assertIn("Seat 1 made the last change", self.undo())
+        self.value("other.close()")
+
+    def test_sizes_and_taps(self):
+        """No sideways scrolling, and on a phone both tabs can be tapped."""
+        for size in ((1440, 900), (1024, 768), (390, 844)):
+            self.open(size=size)
+            self.assertLessEqual(self.value("document.documentElement.scrollWidth"), size[0])
+        for name in ("lesson", "readings"):
+            place = self.value(f"(() => {{ const tab = document.getElementById('tab-{name}'); tab.scrollIntoView({{ block: 'center' }}); "
+                               "const box = tab.getBoundingClientRect(); return [box.left + box.width / 2, box.top + box.height / 2]; })()")
+            self.browser.tap(*place)
+            self.browser.wait("document.body.dataset.tab", name)
+
+    def test_all_lessons_open(self):
+        self.open()
+        for lesson in self.value("laboratory.all()"):
+            self.value(f"laboratory.load(laboratory.find('{lesson}'))")
+            self.browser.wait(_READY, True)
+            self.assertIn("OK", self.said(), lesson)
+
+    def test_a_script_comes_in_and_goes_home(self):
+        """The script that the page hands out makes the same gas in the second implementation."""
+        script = (ROOT / "examples" / "4_tunnel.txt").read_bytes()
+        self.open("", self.written("tunnel.html", one_file("<b>tunnel</b>.txt", script)))
+        self.assertEqual(self.value("document.getElementById('lesson-name').textContent"), "<b>tunnel</b>.txt")
+        self.assertEqual(self.value("document.getElementById('truth').textContent.trim()"), "Nothing is proved here")
+        self.draw("block", (20, 24), (21, 25))
+        self.send("step 40")
+        home = self.value("laboratory.lab.link.file('.script').then((f) => new TextDecoder().decode(f.contents))")
+        size, *lines = home.splitlines()
+        self.assertEqual((size, lines[-2:]), ("size 64 64", ["block 20 24 2 2", "step 40"]))
+        asks = ["tally", "ledger", *(f"read {y}" for y in range(64))]
+        found = self.value(f"laboratory.lab.link.send({json.dumps(asks)})")
+        self.assertEqual(run_second(second(), 64, 64, [*lines, *asks])[len(lines):], found)
+
+
+class Bundle(unittest.TestCase):
+    def test_one_file_is_small_and_closed(self):
+        text = one_file()
+        self.assertLessEqual(len(text.encode()), MOST)
+        self.assertNotRegex(text, r"""(src|href)=["'](?!data:)[^#"']""")
+        self.assertIn("default-src 'none'", text)
+
+    def test_each_module_is_once_in_its_bundle(self):
+        for entry in ("page", "worker"):
+            text = bundle(entry)
+            self.assertEqual(text.count("const module_frame = "), 1)
+            self.assertNotRegex(text, r"(?m)^(import|export)\b")
