@@ -13,6 +13,7 @@ export function rampColour(share) {
   return RAMP[low].map((a, k) => Math.round(a + (RAMP[low + 1][k] - a) * (place - low)));
 }
 const WEIGHTS = [.22, .24, .26, .28];      // of the last pictures: even enough that the stream of lesson 4 doesn't flash
+const STALE = 16;          // pictures after which one is too old for a mean
 const FLASHING = 21800;    // pixels, WCAG 2.3.1
 const POP = Uint8Array.from({ length: 256 }, (_, v) => { let n = 0; for (; v; v &= v - 1) n++; return n; });
 
@@ -45,13 +46,14 @@ export class View {
     return resized;
   }
 
-  /** Keeps the last pictures for a mean. While a gas plays quickly and fills a part of what is seen, single
+  /** Keeps the last pictures of four ticks for a mean. While a gas plays quickly and fills a part of what is seen, single
       ticks would flash: a cell may change three times a second, or changing cells cover 21,800 pixels. */
   remember(p, isOther) {
     const before = this.recent.at(-1);
     if (isOther || !p.playing || before && p.number < before.number) { this.recent = []; this.isCalm = false; }
-    this.recent.push(p);
-    if (this.recent.length > WEIGHTS.length) this.recent.shift();
+    const phase = Math.floor(p.tick / Math.max(p.steps, 1)) & 3;      // one of each, also when pictures are skipped
+    this.recent = this.recent.filter((r) => r.phase !== phase && p.number - r.number < STALE);
+    this.recent.push({ phase, number: p.number, tick: p.tick, particles: p.particles });
     if (!p.playing || p.rate <= 3 || p.width * p.height > 1 << 20) this.isCalm = false;
     else if (2 * p.tally[0] * this.scale ** 2 > FLASHING) this.isCalm = true;
   }

@@ -135,7 +135,7 @@ export class Plots {
     const way = this.last && p.tick < this.last.tick ? "back" : "forward";
     if (way !== this.way) this.beginRun(way);
     this.recent.push({ tick: p.tick, sum: PLOTS.drag.rate(p) });
-    while (this.recent.length > 2 && Math.abs(p.tick - this.recent[1].tick) >= WINDOW) this.recent.shift();
+    while (this.recent.length > 2 && Math.abs(p.tick - this.recent[1].tick) >= 2 * WINDOW) this.recent.shift();
     this.last = p;
     this.putValues(p);
   }
@@ -148,11 +148,18 @@ export class Plots {
     if (this.last) this.putValues(this.last);
   }
 
+  /** Where a mean begins: a multiple of four ticks before, which divides the stream's period, also when pictures are
+      skipped. */
+  since(tick) {
+    const far = this.recent.filter((r) => Math.abs(tick - r.tick) >= WINDOW);
+    return far.findLast((r) => (tick - r.tick) % 4 === 0) ?? far.at(-1) ?? this.recent[0];
+  }
+
   /** The name of the present run's column, for a probe's key or for the plot's own value. */
   column(key = 0) { return `${key ? `probe ${key}, ` : ""}run ${this.run}${this.way === "back" ? ", back" : ""}`; }
 
   putValues(p) {
-    const way = this.column(), first = this.recent[0], span = first ? p.tick - first.tick : 0;
+    const way = this.column(), first = this.since(p.tick), span = first ? p.tick - first.tick : 0;
     if (Math.abs(span) >= Math.min(WINDOW, 4)) this.series.drag.add(p.tick, way, (PLOTS.drag.rate(p) - first.sum) / span);
     for (const id of ["flux", "count"]) this.series[id].add(p.tick, way, PLOTS[id].value(p));
     if (this.shown.includes("entropy")) this.series.entropy.add(p.tick, way, entropy(p));
