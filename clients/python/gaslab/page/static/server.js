@@ -54,6 +54,7 @@ export class Server {
   command(page, line) {
     if (page.rights === "watch" && !/^ *(probe|tally|ledger|read|entry|quit)\b/.test(line)) return "NO watch";
     const reply = this.lab.line(page.seat, line);
+    if (reply.startsWith("SAVED")) return "ERR 15 save";       // there is no file here: Share hands a snapshot out
     if (reply.startsWith("OK ")) {
       this.isNew = false;
       const k = Number(reply.slice(3));
