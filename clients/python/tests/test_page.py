@@ -11,9 +11,13 @@ from .browser import CHROMIUM, Browser
 from .test_lab import ROOT
 from .test_page_engine import run_second, second
 
-_READY = "globalThis.laboratory?.lab.picture != null && laboratory.lab.link.waiting.size === 0 && !laboratory.lab.loading"
+_READY = ("globalThis.laboratory?.lab.picture != null && laboratory.lab.link.waiting.size === 0 "
+          "&& !laboratory.lab.loading")
 _PLACES = """(() => { const v = laboratory.view, box = v.canvas.getBoundingClientRect();
-  return CELLS.map(([x, y]) => [box.left + (x + .5 - v.left) * v.scale, box.top + (y + .5 - v.top) * v.scale]); })()"""
+  return CELLS.map(([x, y]) => [box.left + (x + .5 - v.left) * v.scale,
+    box.top + (y + .5 - v.top) * v.scale]); })()"""
+_CALLOUT = "(({ hidden, textContent }) => hidden ? '' : textContent)(document.getElementById('callout'))"
+_LESSON = "document.getElementById('lesson-name').textContent"
 _BRIGHT = """(async () => {
   const v = laboratory.view, { width: w, height: h } = v.picture, seen = [], began = performance.now();
   const part = (c) => (c /= 255) <= .04045 ? c / 12.92 : ((c + .055) / 1.055) ** 2.4;
@@ -22,7 +26,8 @@ _BRIGHT = """(async () => {
     await new Promise(requestAnimationFrame);
     if (v.picture.number === last) continue;
     last = v.picture.number;
-    seen.push([performance.now(), Float32Array.from({ length: w * h }, (_, k) => bright(v.image.data, 4 * k))]);
+    const all = Float32Array.from({ length: w * h }, (_, k) => bright(v.image.data, 4 * k));
+    seen.push([performance.now(), all]);
   }
   let flashing = 0, changing = 0;
   for (let k = 0; k < w * h; k++) {
@@ -39,7 +44,8 @@ _BRIGHT = """(async () => {
 })()"""
 _PARTICLES = """(() => {
   const { width: w, height: h } = laboratory.view.picture;
-  const d = laboratory.view.cells.getContext("2d").getImageData(0, 0, w, h).data, full = ["0 114 178", "240 228 66"];
+  const d = laboratory.view.cells.getContext("2d").getImageData(0, 0, w, h).data;
+  const full = ["0 114 178", "240 228 66"];
   return Array.from({ length: h }, (_, y) => Array.from({ length: w }, (_, x) =>
     full.includes([0, 1, 2].map((k) => d[4 * (y * w + x) + k]).join(" ")) ? 1 : 0).join("")); })()"""
 
@@ -100,7 +106,7 @@ class OneFile(unittest.TestCase):
         self.browser.key("z", 90, 2)
         self.browser.wait("laboratory.lab.link.waiting.size", 0)
         time.sleep(.3)
-        return self.value("document.getElementById('callout').hidden ? '' : document.getElementById('callout').textContent")
+        return self.value(_CALLOUT)
 
     def said(self):
         return self.value("document.getElementById('last').textContent")
@@ -110,8 +116,8 @@ class OneFile(unittest.TestCase):
 
     def state(self):
         """Walls, obstacles, ports and particles."""
-        return self.value("(({ walls, obstacles, ports, picture }) => JSON.stringify([[...walls], [...obstacles], ports, "
-                          "[...picture.particles]]))(laboratory.view)")
+        return self.value("(({ walls, obstacles, ports, picture }) => JSON.stringify([[...walls], "
+                          "[...obstacles], ports, [...picture.particles]]))(laboratory.view)")
 
     def run_to(self, tick):
         self.browser.wait(f"laboratory.lab.picture.tick >= {tick}", True)
@@ -135,10 +141,13 @@ class OneFile(unittest.TestCase):
         self.run_to(40)
         self.draw("wall", (30, 24), (31, 40))
         self.send(".pause")
+        self.browser.wait("laboratory.lab.picture.playing", False)
+        self.value("new Promise((done) => requestAnimationFrame(() => requestAnimationFrame(() => done(0))))")
         rows, ledger = (self.value(f"laboratory.lab.link.send({json.dumps(it)})") for it in
                         ([f"read {y}" for y in range(64)], ["ledger"]))
         self.assertEqual(self.value(_PARTICLES), [f"{int(row[4:], 16):064b}" for row in rows])
-        shown = self.value("[...document.querySelectorAll('#ledger tr:not(.sum) td')].map((e) => e.textContent)")
+        shown = self.value("[...document.querySelectorAll('#ledger tr:not(.sum) td')]"
+                           ".map((e) => e.textContent)")
         places = [0, 3, 8, 1, 4, 9, 2, 5, 10, None, 6, 11, None, 7, 12]
         numbers = ledger[0].split(" ")[1:]
         self.assertEqual([it.replace(",", "").replace("−", "-") for it in shown],
@@ -221,12 +230,13 @@ class OneFile(unittest.TestCase):
         self.open("8")
         self.draw("wall", (5, 5), (8, 6))
         before = self.state()
-        for data, words in ((b"\x89PNG\r\n\x1a\n\0\0", "neither a script nor a snapshot"), (b"put 1 2 3 4\nbogus 1\n", "Line 2"),
+        for data, words in ((b"\x89PNG\r\n\x1a\n\0\0", "neither a script nor a snapshot"),
+                            (b"put 1 2 3 4\nbogus 1\n", "Line 2"),
                             (b"HPPGAS2\n\0\0", "damaged"), (b"size 65 64\n", "multiples of 64")):
             self.value(f"laboratory.openBytes('it', Uint8Array.from({list(data)}))")
-            self.assertIn(words, self.value("document.getElementById('callout').textContent"))
+            self.assertIn(words, self.value(_CALLOUT))
             self.assertEqual(self.state(), before)
-        self.assertEqual(self.value("document.getElementById('lesson-name').textContent"), "Three people on one gas")
+        self.assertEqual(self.value(_LESSON), "Three people on one gas")
 
     def test_the_gas_before_can_be_brought_back(self):
         self.open("8")
@@ -237,7 +247,7 @@ class OneFile(unittest.TestCase):
         self.browser.wait("document.getElementById('banner').hidden", False)
         self.assertNotEqual(self.state(), before)
         self.value("document.querySelector('#banner button').click()")
-        self.browser.wait("document.getElementById('lesson-name').textContent", "Three people on one gas")
+        self.browser.wait(_LESSON, "Three people on one gas")
         self.browser.wait("laboratory.lab.picture?.tick", 7)
         self.assertEqual(self.state(), before)
         self.assertEqual(self.value("laboratory.lab.link.send(['ledger', 'entry 4'])"), ledger)
@@ -265,7 +275,8 @@ class OneFile(unittest.TestCase):
         """Its speed is shown, its edits stop undo, and it can't open another gas."""
         self.open()
         self.value("""globalThis.told = []; globalThis.other = laboratory.connect();
-            other.onmessage = ({ data }) => { if (typeof data === "string") told.push(data); else other.send("0 .drawn"); };
+            other.onmessage = ({ data }) => typeof data === "string" ? told.push(data)
+                : other.send("0 .drawn");
             other.send("1 .open 64 64"); other.send("2 .play 1 5"); other.send("3 wall 9 19 2 2"); 0""")
         self.browser.wait("told.some((t) => t.startsWith('3 OK'))", True)
         self.assertIn("1 NO first", self.value("told"))
@@ -279,10 +290,43 @@ class OneFile(unittest.TestCase):
             self.open(size=size)
             self.assertLessEqual(self.value("document.documentElement.scrollWidth"), size[0])
         for name in ("lesson", "readings"):
-            place = self.value(f"(() => {{ const tab = document.getElementById('tab-{name}'); tab.scrollIntoView({{ block: 'center' }}); "
-                               "const box = tab.getBoundingClientRect(); return [box.left + box.width / 2, box.top + box.height / 2]; })()")
-            self.browser.tap(*place)
+            tab = f"document.getElementById('tab-{name}')"
+            self.value(tab + ".scrollIntoView({ block: 'center' })")
+            box = self.value(tab + ".getBoundingClientRect().toJSON()")
+            self.browser.tap(box["x"] + box["width"] / 2, box["y"] + box["height"] / 2)
             self.browser.wait("document.body.dataset.tab", name)
+
+    def test_start_again(self):
+        self.open("8")
+        start = self.state()
+        self.draw("wall", (5, 5), (8, 6))
+        self.value("document.querySelector('#lesson .again').click()")
+        self.browser.wait(_READY + " && laboratory.edits.list.length === 0", True)
+        time.sleep(.3)
+        self.assertEqual(self.state(), start)
+
+    def test_pasted_lines_are_sent_one_by_one(self):
+        self.open("8")
+        self.value("""(() => { const data = new DataTransfer();
+            data.setData("text", "put 0 0 1 1\\n# a comment\\nbogus\\nput 9 9 1 1\\n");
+            document.getElementById("entry").dispatchEvent(new ClipboardEvent("paste",
+                { clipboardData: data, cancelable: true })); })()""")
+        self.browser.wait("document.getElementById('last').textContent.includes('bogus')", True)
+        self.assertEqual(self.value("laboratory.edits.list.map((e) => e.lines.join())"), ["put 0 0 1 1"])
+
+    def test_a_broken_picture_is_said(self):
+        """It ends the connection, the last picture stays, and joining again shows the gas."""
+        self.open("8")
+        before = self.state()
+        self.value("laboratory.lab.link.bytes(Uint8Array.from({ length: 170 }, (_, k) => k ? 7 : 1).buffer)")
+        self.assertEqual(self.state(), before)
+        self.assertEqual(self.value("document.body.dataset.status"), "gone")
+        self.assertIn("can't read", self.value("document.getElementById('banner').textContent"))
+        self.assertEqual([it["type"] for it in self.browser.errors], ["warning"])
+        self.browser.errors.clear()
+        self.value("laboratory.join()")
+        self.browser.wait("document.body.dataset.status", "open")
+        self.browser.wait("document.getElementById('banner').hidden", True)
 
     def test_all_lessons_open(self):
         self.open()
@@ -295,11 +339,13 @@ class OneFile(unittest.TestCase):
         """The script that the page hands out makes the same gas in the second implementation."""
         script = (ROOT / "examples" / "4_tunnel.txt").read_bytes()
         self.open("", self.written("tunnel.html", one_file("<b>tunnel</b>.txt", script)))
-        self.assertEqual(self.value("document.getElementById('lesson-name').textContent"), "<b>tunnel</b>.txt")
-        self.assertEqual(self.value("document.getElementById('truth').textContent.trim()"), "Nothing is proved here")
+        self.assertEqual(self.value(_LESSON), "<b>tunnel</b>.txt")
+        truth = self.value("document.getElementById('truth').textContent.trim()")
+        self.assertEqual(truth, "Nothing is proved here")
         self.draw("block", (20, 24), (21, 25))
         self.send("step 40")
-        home = self.value("laboratory.lab.link.file('.script').then((f) => new TextDecoder().decode(f.contents))")
+        home = self.value("laboratory.lab.link.file('.script')"
+                          ".then((f) => new TextDecoder().decode(f.contents))")
         size, *lines = home.splitlines()
         self.assertEqual((size, lines[-2:]), ("size 64 64", ["block 20 24 2 2", "step 40"]))
         asks = ["tally", "ledger", *(f"read {y}" for y in range(64))]

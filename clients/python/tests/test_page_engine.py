@@ -1,4 +1,4 @@
-"""The page's engine in JavaScript against the second implementation, and what the page's lessons claim. It needs node."""
+"""The page's engine in JavaScript, by node, against the second implementation; and what its lessons claim."""
 import importlib.machinery
 import importlib.util
 import json
@@ -20,7 +20,7 @@ OBSTACLES_X = 8  # its place in a LEDGER reply
 
 
 def run_engine(cases):
-    """The page's replies to each case: width, height, the lines of each session, and a case to start from or -1."""
+    """The replies to each case: width, height, the lines of each session, and a case to start from or -1."""
     done = subprocess.run([NODE, ROOT / "clients/python/tests/engine.mjs"], input=json.dumps(cases),
                           stdout=subprocess.PIPE, text=True, check=True)
     return json.loads(done.stdout)
@@ -46,8 +46,9 @@ def random_script(draw, width, height, has_ports):
         return f"{x} {y} {draw.randint(1, min(20, width - x))} {draw.randint(1, min(20, height - y))}"
 
     def line():
-        word = draw.choice(["put", "put", "erase", "wall", "block", "unwall", "probe", "row", "step", "step", "tally",
-                            "ledger", "read", "entry", *(["source", "drain", "unport"] if has_ports else ["back"])])
+        word = draw.choice(["put", "put", "erase", "wall", "block", "unwall", "probe", "row", "step", "step",
+                            "tally", "ledger", "read", "entry",
+                            *(["source", "drain", "unport"] if has_ports else ["back"])])
         if word in ("step", "back"):
             return f"{word} {draw.randint(1, 9)}"
         if word == "row":
@@ -108,9 +109,9 @@ class Engine(unittest.TestCase):
             self.assertEqual("\n".join(found) + "\n", wanted, name)
 
     def test_refusals(self):
-        lines = {"": "2 word", "jump": "2 word", "put 1": "3 count", "step x": "4 number", "put 0 0 65 1": "5 rect",
-                 "read 64": "5 rect", "step 0": "6 steps", "back 4097": "6 steps", "source 0 0 1 1 0": "7 period",
-                 "row 0 0": "8 row", "entry 0": "9 entry"}
+        lines = {"": "2 word", "jump": "2 word", "put 1": "3 count", "step x": "4 number",
+                 "put 0 0 65 1": "5 rect", "read 64": "5 rect", "step 0": "6 steps", "back 4097": "6 steps",
+                 "source 0 0 1 1 0": "7 period", "row 0 0": "8 row", "entry 0": "9 entry"}
         found, = run_engine([[64, 64, [[*lines, *["drain 0 0 1 1"] * 17, "back 1"]], -1]])
         self.assertEqual(found[:len(lines)], [f"ERR {it}" for it in lines.values()])
         self.assertEqual(found[-2:], ["ERR 10 full", "ERR 11 ports"])
@@ -133,7 +134,8 @@ class Claims(unittest.TestCase):
         made = json.loads((PAGE / "static" / "lessons.json").read_text())
         choices = json.loads((PAGE / "choices.json").read_text())
         cls.lessons = {it["id"]: it for it in made["lessons"] + made["scenes"]}
-        cls.claims = [(it["id"], claim) for it in choices["lessons"] + choices["scenes"] for claim in it["claims"]]
+        cls.claims = [(it["id"], claim) for it in choices["lessons"] + choices["scenes"]
+                      for claim in it["claims"]]
 
     def script(self, lesson, claim):
         lines = list(self.lessons[lesson]["setup"])
@@ -157,12 +159,13 @@ class Claims(unittest.TestCase):
     def test_second_implementation(self):
         self.assertGreater(len(self.claims), 25)
         for lesson, claim in self.claims:
-            width, height = self.lessons[lesson]["size"]
-            self.check(lesson, claim, run_second(self.channel_gas, width, height, self.script(lesson, claim)))
+            size, lines = self.lessons[lesson]["size"], self.script(lesson, claim)
+            self.check(lesson, claim, run_second(self.channel_gas, *size, lines))
 
     @unittest.skipUnless(NODE, "there is no node")
     def test_engine(self):
-        cases = [[*self.lessons[lesson]["size"], [self.script(lesson, claim)], -1] for lesson, claim in self.claims]
+        cases = [[*self.lessons[lesson]["size"], [self.script(lesson, claim)], -1]
+                 for lesson, claim in self.claims]
         for (lesson, claim), replies in zip(self.claims, run_engine(cases)):
             self.check(lesson, claim, replies)
 
@@ -171,6 +174,6 @@ class Claims(unittest.TestCase):
             self.assertTrue([it for it in self.claims if it[0] == lesson], lesson)
 
     def test_lessons_are_made_from_the_examples(self):
-        done = subprocess.run([sys.executable, ROOT / "tools" / "page_lessons", "--check"], stderr=subprocess.PIPE,
-                              text=True)
+        done = subprocess.run([sys.executable, ROOT / "tools" / "page_lessons", "--check"],
+                              stderr=subprocess.PIPE, text=True)
         self.assertEqual((done.returncode, done.stderr), (0, ""))

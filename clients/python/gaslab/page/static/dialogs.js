@@ -18,6 +18,10 @@ export function showLesson(lab) {
   const { lesson } = lab, box = at("lesson");
   at("lesson-kind").textContent = kindOf(lesson); at("lesson-name").textContent = lesson.name;
   box.replaceChildren(make("p", kindOf(lesson), "kicker"), make("h2", lesson.name), ...lesson.text.map(paragraph));
+  if (!lesson.own) {
+    const again = make("button", "Start again", "plain again");
+    again.onclick = lab.startAgain; box.children[1].after(again);
+  }
   box.scrollTop = 0;
   const own = kindOf(lesson) === "Your own"; document.body.dataset.lesson = own ? "own" : "told";
   if (lesson.task) box.append(make("p", lesson.task, "task"));
@@ -40,8 +44,9 @@ function expect({ ask, choices, right, answer }) {
   choices.forEach((words, k) => {
     const b = make("button", words, "choice");
     b.onclick = () => {
+      if (b.ariaDisabled) return;
       [...set.querySelectorAll("button")].forEach((o, j) => {
-        o.disabled = true; o.classList.toggle("right", j === right); o.classList.toggle("mine", j === k);
+        o.ariaDisabled = "true"; o.classList.toggle("right", j === right); o.classList.toggle("mine", j === k);
         if (j === k) o.append(make("em", j === right ? "Right" : "Your guess"));
       });
       const p = make("p", answer, "answer"); p.setAttribute("role", "status"); box.append(p);

@@ -68,24 +68,30 @@ const events = {
     if (why.startsWith("ERR")) refuse(why, "step 1", { time: true });
   },
   picture(p) {
-    if (p.number > seen.last + 1 && seen.last && p.playing) seen.made += p.number - seen.last - 1;
-    seen.made++; seen.last = p.number;
-    fresh = p; lab.picture = p;
-    plays(p.playing, p.steps, p.rate);
-    const resized = view.setPicture(p);
-    edits.picture(p, view);
-    if (lab.hasPorts()) lab.acted = p.tick;
-    lab.furthest = lab.hasPorts() ? 0 : Math.max(lab.furthest, p.tick);
-    plots.add(p);
-    if (resized || view.fitted) view.fit(view.fitted === true || resized && !lab.lesson.view ? null : view.fitted || lab.lesson.view);
-    if (!waitingFrame) { waitingFrame = true; requestAnimationFrame(draw); }
+    const before = lab.picture;
+    try { show(p); } catch (fault) { fresh = null; lab.picture = view.picture = before; link.strange(fault); }
   },
   gone(strange = false) {
     document.body.dataset.status = "gone"; lab.playing = false; showTime();
     banner(strange ? "The server sent something that this page can't read. The connection is closed." : "The server has ended. This is its last picture. Pictures can still be saved.", true, "Connect again", join);
   },
 };
-lab.doTry = doTry;
+lab.doTry = doTry; lab.startAgain = () => load(lab.lesson);
+
+/** Takes a picture in: what it says about play, walls and readings, and draws it with the next frame. */
+function show(p) {
+  if (p.number > seen.last + 1 && seen.last && p.playing) seen.made += p.number - seen.last - 1;
+  seen.made++; seen.last = p.number;
+  fresh = p; lab.picture = p;
+  plays(p.playing, p.steps, p.rate);
+  const resized = view.setPicture(p);
+  edits.picture(p, view);
+  if (lab.hasPorts()) lab.acted = p.tick;
+  lab.furthest = lab.hasPorts() ? 0 : Math.max(lab.furthest, p.tick);
+  plots.add(p);
+  if (resized || view.fitted) view.fit(view.fitted === true || resized && !lab.lesson.view ? null : view.fitted || lab.lesson.view);
+  if (!waitingFrame) { waitingFrame = true; requestAnimationFrame(draw); }
+}
 
 /** Takes a seat. A gas that is there stays as it is: only a new one gets a lesson. */
 function join() {
@@ -116,7 +122,12 @@ function plays(is, steps, rate) {
 }
 
 function draw() {
-  waitingFrame = false; showKey();
+  waitingFrame = false;
+  try { drawNow(); } catch (fault) { link.strange(fault); }
+}
+
+function drawNow() {
+  showKey();
   if (!fresh) { view.draw(); return; }
   const p = fresh; fresh = null;
   view.probes = p.probes.map((q) => ({ rect: q.rect, name: `probe ${q.key}` }));
@@ -260,7 +271,7 @@ function setSpeed(k, now = true) {
   lab.speed = Math.max(0, Math.min(SPEEDS.length - 1, k));
   at("speed").value = lab.speed;
   const [steps, rate] = SPEEDS[lab.speed];
-  at("speed-text").textContent = steps === 1 ? `${rate} step${rate > 1 ? "s" : ""} a second` : `${say(steps)} steps a picture`;
+  at("speed-text").textContent = `${say(steps * rate)} step${steps * rate > 1 ? "s" : ""} a second`;
   at("speed").setAttribute("aria-valuetext", at("speed-text").textContent);
   if (now && lab.playing) play();
 }
@@ -426,7 +437,7 @@ canvas.onpointermove = (e) => {
 };
 canvas.onpointerup = canvas.onpointercancel = (e) => {
   pointers.delete(e.pointerId);
-  const was = drag; if (pointers.size === 0) drag = null;
+  const was = drag; if (pointers.size === 0 || was?.pinch) drag = null;      // a finger that stays draws nothing
   if (was?.from && e.type === "pointerup" && view.selection) act(view.selection.rect);
   else if (was?.from) { view.selection = null; redraw(); }
 };

@@ -137,7 +137,8 @@ export class Server {
 
   take({ lab, probes, isFromFile }) {
     this.pause("opened");
-    Object.assign(this, { lab, probes, isFromFile, isNew: false, dirty: true });
+    const keys = Math.max(0, ...probes.map((p) => p.key));
+    Object.assign(this, { lab, probes, keys, isFromFile, isNew: false, dirty: true });
     for (const page of this.pages.values()) page.solids = -1;
     this.tell(`* open ${lab.gas.width} ${lab.gas.height} ${lab.journal.length}`);
     return "DONE";
