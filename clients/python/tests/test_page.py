@@ -296,6 +296,13 @@ class OneFile(unittest.TestCase):
             self.browser.tap(box["x"] + box["width"] / 2, box["y"] + box["height"] / 2)
             self.browser.wait("document.body.dataset.tab", name)
 
+    def test_a_lesson_has_its_own_speed(self):
+        self.open()
+        self.run_to(10)
+        self.value("laboratory.load(laboratory.find('1'))")
+        self.browser.wait(_READY + " && !laboratory.lab.picture.playing", True)
+        self.assertEqual(self.value("document.getElementById('speed-text').textContent"), "5 steps a second")
+
     def test_start_again(self):
         self.open("8")
         start = self.state()

@@ -58,6 +58,7 @@ const events = {
   entry(k, seat, line) {
     edits.entry(line, seat === lab.seat ? null : seat);
     if (seat !== lab.seat) log.exchange(lab.people.get(seat) || `seat ${seat}`, line, `OK ${k}`);
+    if (!lab.loading) lab.worked = true;
     if (lab.loading || !lab.picture || /^(step|back|row)/.test(line)) return;
     lab.tried = true; view.ghost = null;
     if (lab.picture.tick !== 0) plots.note(lab.picture.tick, line);
@@ -219,6 +220,7 @@ export async function load(lesson, size = lesson.size) {
   edits.isOff = true;
   const replies = await send([`.open ${size[0]} ${size[1]}`, ...lesson.setup, ...(lesson.probes || []).map((r) => `.watch ${r.join(" ")}`)]);
   edits.isOff = lab.loading = false; lab.worked = false;
+  setSpeed(lesson.speed, false);               // pictures of the gas before may have come meanwhile
   if (/^(NO|GONE)/.test(replies[0])) { Object.assign(lab, lab.old); showLesson(lab); return; }
   if (lab.old.worked) offerOld();
   if (lesson.play && !matchMedia("(prefers-reduced-motion: reduce)").matches) play();
