@@ -295,6 +295,8 @@ class OneFile(unittest.TestCase):
             box = self.value(tab + ".getBoundingClientRect().toJSON()")
             self.browser.tap(box["x"] + box["width"] / 2, box["y"] + box["height"] / 2)
             self.browser.wait("document.body.dataset.tab", name)
+            below = f"document.getElementById('{name}').getBoundingClientRect().top"
+            self.assertGreater(self.value(f"{below} - {tab}.getBoundingClientRect().top"), 0)
 
     def test_a_lesson_has_its_own_speed(self):
         self.open()
