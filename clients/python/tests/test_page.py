@@ -1,5 +1,6 @@
-"""The page as one file, in a real browser and from a folder. It is skipped without Chromium."""
+"""The page as one file, in a real browser and from a folder. Skipped without Chromium or by WITHOUT_PAGE=1."""
 import json
+import os
 import tempfile
 import time
 import unittest
@@ -50,7 +51,7 @@ _PARTICLES = """(() => {
     full.includes([0, 1, 2].map((k) => d[4 * (y * w + x) + k]).join(" ")) ? 1 : 0).join("")); })()"""
 
 
-@unittest.skipUnless(CHROMIUM, "there is no chromium")
+@unittest.skipUnless(CHROMIUM and not os.environ.get("WITHOUT_PAGE"), "no chromium, or WITHOUT_PAGE")
 class OneFile(unittest.TestCase):
     @classmethod
     def setUpClass(cls):
