@@ -1,4 +1,4 @@
-"""The page as one file, in a real browser and from a folder. Skipped without Chromium or by WITHOUT_PAGE=1."""
+"""The page as one file, in a real browser, from a folder. Skipped without Chromium or by WITHOUT_PAGE=1."""
 import json
 import os
 import tempfile
