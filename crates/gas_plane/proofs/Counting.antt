@@ -1,6 +1,6 @@
 -- Particles that are counted in four classes of columns and rows.
 use Rattle.std.proofs.Common.{◌≡◌, ℕ, ◌+◌, ◌*◌, ◌/◌, ◌%◌, ◌^◌, ◌<◌, ◌≤◌, true, List, ℤ, get_or, sym, subst, ◌∙◌, mul-le-mul, arith}
-use Rattle.gas_terms.specs.Cells.{Cells, Rectangle, extent, whole, lies_within, within}
+use Rattle.gas_terms.specs.Cells.{Cells, Rectangle, extent, lies_within, within}
 use Rattle.gas_terms.specs.Accounts.{total_in, IsOfAtMost}
 use Rattle.gas_terms.specs.Counts.{AreSmall, sums_of_counts}
 use Rattle.gas_terms.proofs.AccountBounds.{size-width, size-height, size-even}
@@ -26,9 +26,6 @@ counts_small counts cells r are w h =
           let P : ℕ → Type 0 = λ n. get_or counts n 0 < 2 ^ 32 in
           subst P place (omega arith);
     }
-
-pub lattice_counts_small : (counts : List ℕ) (cells old : Cells) → IsLattice old → AreCounts counts cells (whole old) → AreSmall counts
-lattice_counts_small counts cells old is are = counts_small counts cells (whole old) are (size-width (extent old) is.sized) (size-height (extent old) is.sized)
 
 pub rectangle_counts_small : (counts : List ℕ) (cells : Cells) (r : Rectangle) → IsLattice cells → lies_within (extent cells) r ≡ true → AreCounts counts cells r → AreSmall counts
 rectangle_counts_small counts cells r is fits are =

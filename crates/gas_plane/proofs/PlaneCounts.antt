@@ -142,14 +142,8 @@ class_counts_by cells r a b i test same =
     (ap₂ (λ u v. u && v) (same x y p q) (same_parity (i % (cells.width / 64)) x a))
     (same_parity (i / (cells.width / 64)) y b)))
 
-pub tile_counts_by : (cells : Cells) (r : Rectangle) (a b i : ℕ) (t : Tile) → ((x y : ℕ) → x < 64 → y < 64 → tile.has t x y ≡ (has cells (left_of cells i + x) (top_of cells i + y) && is_inside r (left_of cells i + x) (top_of cells i + y))) → count_cells (λ x y. tile.has t x y && x % 2 == a && y % 2 == b) ≡ tile_counted cells r a b i
-tile_counts_by cells r a b i t same = class_counts_by cells r a b i (λ x y. tile.has t x y) same
-
 pub counts_next : (f : ℕ → ℕ) (i count here next : ℕ) → count ≡ sum_below i f → here ≡ f i → next ≡ count + here → next ≡ sum_below (i + 1) f
 counts_next f i count here next e h n = let s : sum_below (i + 1) f ≡ sum_below i f + f i = ap (λ n. sum_below n f) (add-one i) in omega arith
-
-pub sum_past : (f : ℕ → ℕ) (i count : ℕ) → count ≡ sum_below i f → f i ≡ 0 → count ≡ sum_below (i + 1) f
-sum_past f i count e h = let s : sum_below (i + 1) f ≡ sum_below i f + f i = ap (λ n. sum_below n f) (add-one i) in omega arith
 
 -- the tile in the column of a row of tiles
 in_column : (n row column : ℕ) → column < n → (row * n + column) % n ≡ column

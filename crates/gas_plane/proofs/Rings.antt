@@ -1,13 +1,16 @@
 -- The ring round a tile, from the eight tiles there.
-use Rattle.std.proofs.Common.{◌≡◌, ℕ, ◌+◌, ◌-◌, ◌*◌, ◌/◌, ◌%◌, ◌<◌, sym, ◌∙◌, ap, ap₂, arith, inl, inr}
+use Rattle.std.proofs.Common.{◌≡◌, ℕ, ◌+◌, ◌-◌, ◌*◌, ◌/◌, ◌%◌, ◌<◌, ◌≤◌, refl, subst, sym, ◌∙◌, ap, ap₂, arith, inl, inr}
+use Rattle.std.proofs.Math.Nat.{mod-lt}
+use Rattle.std.proofs.lemmas.Nat.{row-Below}
 use Rattle.bit_tile.specs.Tile as tile
 use Rattle.bit_tile.specs.declared.Tile.{Tile}
 use Rattle.tile_border.specs.Ring.{ring, IsBorderOf}
 use Rattle.tile_border.specs.declared.border.Border.{Border}
 use Rattle.tile_border.specs.declared.Round.{Round}
-use Rattle.gas_terms.specs.Cells.{Cells, extent, has}
-use Rattle.gas_plane.specs.declared.around.TilePlaces.{TilePlaces}
-use Rattle.gas_plane.specs.Planes.{IsLattice, IsTileFrom, AreTilesRound, IsRingRound, ArePlacesRound, place_by, column_by, row_by}
+use Rattle.gas_terms.specs.Cells.{Cells, extent, has, tile_count}
+use Rattle.gas_plane.specs.Tiles.{IsColumnOf}
+use Rattle.gas_plane.specs.declared.around.TileRows.{TileRows}
+use Rattle.gas_plane.specs.Planes.{TilePlaces, IsLattice, IsTileFrom, AreTilesRound, IsRingRound, ArePlacesRound, place_by, column_by, row_by}
 use Rattle.gas_plane.proofs.BareTiles.{by_one, by_two}
 use Rattle.gas_plane.proofs.Places.{IsWholeTiles, wide, high, ring_before, ring_after, ring_in, ring_cases}
 
@@ -123,3 +126,28 @@ module _ (cells : Cells) (i : ℕ) (p : TilePlaces) (places : ArePlacesRound cel
         below_left = moved r.below_left.now (p.left * 64) (p.below * 64) (column_by cells i 0) (row_by cells i 2) left below is_below_left;
         below_right = moved r.below_right.now (p.right * 64) (p.below * 64) (column_by cells i 2) (row_by cells i 2) right below is_below_right;
       }
+
+pub row_in : (cells : Cells) (i : ℕ) → IsLattice cells → i < tile_count cells → i / (cells.width / 64) < cells.height / 64
+row_in cells i is within = (row-Below i (cells.width / 64) (cells.width / 64) (cells.height / 64) within (let e : cells.width / 64 ≤ cells.width / 64 = omega arith in e)).1
+
+-- the places round tile i, by the columns of tiles beside its own
+abbrev pub places_of : Cells → ℕ → ℕ → ℕ → ℕ → TilePlaces
+places_of cells i c l r =
+    let row = i / (cells.width / 64) in
+    let down = cells.height / 64 in
+    record { left = l; column = c; right = r; above = (row + down - 1) % down; row = row; below = (row + 1) % down }
+
+pub are_places : (rows : TileRows) (cells : Cells) (i c l r : ℕ) → IsColumnOf rows c cells i → l ≡ (c + rows.across - 1) % rows.across → l < rows.across → r ≡ (c + 1) % rows.across → r < rows.across → ArePlacesRound cells i (places_of cells i c l r)
+are_places rows cells i c l r is e p f q =
+    let a = is.rows.across in
+    let high_some = (high (extent cells) is.lattice.sized).some in
+    record {
+      column = is.place;
+      row = refl;
+      left = e ∙ ap (λ n. (c + n - 1) % n) a;
+      right = f ∙ ap (λ n. (c + 1) % n) a;
+      above = refl;
+      below = refl;
+      columns = (subst (λ n. n < cells.width / 64) (sym is.place) (mod-lt i (wide (extent cells) is.lattice.sized).some), subst (λ n. l < n) a p, subst (λ n. r < n) a q);
+      rows = (row_in cells i is.lattice is.within, mod-lt _ high_some, mod-lt _ high_some);
+    }

@@ -1,23 +1,43 @@
 -- Tiles in their rooms.
-use Rattle.std.proofs.Common.{◌≡◌, ℕ, zero, suc, ◌*◌, ◌/◌, ◌<◌, ◌∙◌, true, false, List, [], ◌∷◌, length, map, get_or, set, replicate, refl, sym, ap, ap₂, subst}
+use Rattle.std.proofs.Common.{◌≡◌, ℕ, zero, suc, ◌+◌, ◌-◌, ◌*◌, ◌/◌, ◌<◌, ◌∙◌, true, false, List, ◌∷◌, length, get_or, set, take, drop, replicate, arith, refl, sym, ap, subst}
 use Rattle.std.proofs.Math.ListN.{get_or-map}
-use Rattle.std.proofs.lemmas.List.{map-set}
+use Rattle.std.proofs.lemmas.List.{map-set, length-map, get_or-take, get_or-drop, get_or_default}
 use Rattle.bit_tile.specs.Tile.{HasCells}
 use Rattle.bit_tile.specs.declared.Tile.{Tile}
 use Rattle.gas_terms.specs.Cells.{Cells, Extent, is_size, tile_count}
 use Rattle.gas_plane.specs.Marks.{mark_at, IsMarkOf}
-use Rattle.gas_plane.specs.Planes.{with_tile}
-use Rattle.gas_plane.specs.Tiles.{no_cells, tile_at, tiles_of, Cover, IsMarked}
+use Rattle.gas_plane.specs.Planes.{IsTileFrom, with_tile}
+use Rattle.gas_plane.specs.Tiles.{no_cells, tile_at, tiles_of, AreTilesInRow, Cover, IsMarked}
 use Rattle.gas_plane.specs.declared.marks.Mark.{Mark}
 use Rattle.gas_plane.specs.declared.marks.Mark.TheVariants.{Bare}
 use Rattle.std.proofs.lemmas.List.{length-replicate}
 use Rattle.gas_plane.specs.declared.room.Room.{Room}
 use Rattle.gas_plane.proofs.BareTiles.{marked_set, lent_is_mark}
-use Rattle.gas_plane.proofs.Tilings.{tiled, tiled_set}
+use Rattle.gas_plane.proofs.Tilings.{tiled, tiled_set, tile_place, tile_read}
 
 -- what is read of a room
 pub room_read : (rooms : List Room) (i : ℕ) (r : Room) → r ≡ get_or rooms i r → r.tile ≡ get_or (tiles_of rooms) i r.tile
 room_read rooms i r e = ap (λ (r : Room). r.tile) e ∙ sym (get_or-map (λ (r : Room). r.tile) rooms i r)
+
+place_in : (rooms : List Room) (size : Extent) (cells : Cells) (row column w : ℕ) → Cover (tiles_of rooms) size → tiled (tiles_of rooms) size ≡ cells → row < cells.height / 64 → column < cells.width / 64 → w ≡ size.width → row * (w / 64) + column < length rooms
+place_in rooms size cells row column w cover e below across same =
+    let a : column < size.width / 64 = subst (λ n. column < n / 64) (sym (ap (λ (c : Cells). c.width) e)) across in
+    let b : row < size.height / 64 = subst (λ n. row < n / 64) (sym (ap (λ (c : Cells). c.height) e)) below in
+    subst (λ v. row * (v / 64) + column < length rooms) (sym same) (subst (λ n. row * (size.width / 64) + column < n) (length-map rooms (λ (r : Room). r.tile)) (tile_place (tiles_of rooms) size column row cover a b))
+
+-- the rooms from the first one of a row of tiles on
+pub row_read : (rooms : List Room) (size : Extent) (cells : Cells) (row w : ℕ) → Cover (tiles_of rooms) size → tiled (tiles_of rooms) size ≡ cells → row < cells.height / 64 → w ≡ size.width
+    → AreTilesInRow (take (length rooms - row * (w / 64)) (drop (row * (w / 64)) rooms)) cells row
+row_read rooms size cells row w cover e below same =
+    let s = row * (w / 64) in
+    record {
+      tile = λ column d across.
+          let r : Room = get_or rooms (s + column) d in
+          let place : s + column < length rooms = place_in rooms size cells row column w cover e below across same in
+          let read : get_or (take (length rooms - s) (drop s rooms)) column d ≡ r = get_or-take (length rooms - s) (drop s rooms) column d (omega (arith, place)) ∙ get_or-drop s rooms column d in
+          subst (λ (r : Room). IsTileFrom r.tile cells (column * 64) (row * 64)) (sym read)
+          (tile_read (tiles_of rooms) size cells column row w r.tile cover e across below same (room_read rooms (s + column) r (get_or_default rooms (s + column) d r place)));
+    }
 
 -- what is put in one
 pub room_set : (rooms : List Room) (i : ℕ) (r : Room) → tiles_of (set rooms i r) ≡ set (tiles_of rooms) i r.tile

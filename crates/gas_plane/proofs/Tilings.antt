@@ -38,7 +38,7 @@ tiled_from tiles size column row cover p q =
           ∙ tile_has_cell tiles (size.width / 64) column row x y a b);
     }
 
-tile_place : (tiles : List Tile) (size : Extent) (column row : ℕ) → Cover tiles size → column < size.width / 64 → row < size.height / 64 → row * (size.width / 64) + column < length tiles
+pub tile_place : (tiles : List Tile) (size : Extent) (column row : ℕ) → Cover tiles size → column < size.width / 64 → row < size.height / 64 → row * (size.width / 64) + column < length tiles
 tile_place tiles size column row cover p q = omega (arith, cover.enough, mul-add-lt row (size.width / 64) column (size.height / 64) q p)
 
 -- the tile that is read at a place

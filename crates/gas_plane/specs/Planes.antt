@@ -6,7 +6,6 @@ use Rattle.tile_border.specs.Ring.{ring, IsOnRing}
 use Rattle.tile_border.specs.declared.border.Border.{Border}
 use Rattle.tile_border.specs.declared.Round.{Round}
 use Rattle.gas_plane.specs.declared.around.Position.{Position}
-use Rattle.gas_plane.specs.declared.around.TilePlaces.{TilePlaces}
 use Rattle.gas_terms.specs.Cells.{Cells, has, cells_where, extent, is_size, IsFull}
 
 -- the cells of a lattice: it has a lattice's size, and each cell has a truth value
@@ -27,7 +26,16 @@ pub record IsPosition (across : ℕ) (p : Position) : Type 0 where
   pub column : p.column ≡ p.tile % across
   pub row : p.row ≡ p.tile / across
 
--- the column and the row of tiles that tile i stands in, and those beside them round the torus
+-- a column and a row of tiles, and those beside them
+pub record TilePlaces : Type 0 where
+  pub left : ℕ
+  pub column : ℕ
+  pub right : ℕ
+  pub above : ℕ
+  pub row : ℕ
+  pub below : ℕ
+
+-- those that tile i stands in, and those beside them round the torus
 pub record ArePlacesRound (cells : Cells) (i : ℕ) (p : TilePlaces) : Type 0 where
   pub column : p.column ≡ i % (cells.width / 64)
   pub row : p.row ≡ i / (cells.width / 64)

@@ -1,13 +1,15 @@
 //! The tiles round a tile of a plane, and their border.
 
-ghost use Rattle.std.specs.Prelude.{◌≡◌, ◌+◌, ◌*◌, ◌/◌, ◌<◌};
-ghost use Rattle.gas_terms.specs.Cells.{tile_count, tile_rectangle};
-ghost use Rattle.gas_plane.specs.Planes.{IsLattice, IsTileFrom, AreTilesRound, IsRingRound, ArePlacesRound, IsPosition};
+ghost use Rattle.std.specs.Prelude.{◌≡◌, ℕ, ◌+◌, ◌*◌, ◌/◌, ◌<◌};
+ghost use Rattle.gas_terms.specs.Cells.{Cells, tile_count, tile_rectangle};
+ghost use Rattle.gas_plane.specs.Planes.{IsLattice, IsTileFrom, AreTilesRound, IsRingRound, IsPosition};
+ghost use Rattle.gas_plane.specs.Tiles.{AreRowsRound, AreFullRows, IsColumnOf};
 ghost use Rattle.tile_border.specs.Ring.{IsBorderOfRound};
 ghost use Rattle.tile_border.specs.declared.border.Border.{Border as RingCells};
 
 use crate::Plane;
 use crate::circle::{after, before};
+use crate::room::Room;
 use bit_tile::Tile;
 use tile_border::{Border, Round};
 
@@ -46,6 +48,61 @@ impl Position {
     }
 }
 
+/// A row of a plane's tiles, with the row above and the row below it: the lattice is a torus. Whoever goes along a row looks it up
+/// once.
+#[derive(Clone, Copy)]
+pub struct TileRows<'a> {
+    pub across: u32,
+    above: &'a [Room],
+    here: &'a [Room],
+    below: &'a [Room],
+}
+
+impl<'a> TileRows<'a> {
+    /// The tile in this column.
+    #[inline]
+    pub fn tile(self, column: u32) -> &'a Tile
+        requires full { AreFullRows self }
+        requires column { column < self.across }
+        ensures { (cells : Cells) (row : ℕ) → AreRowsRound self.entry cells row →
+            IsTileFrom result.now cells (column * 64) (row * 64) }
+    {
+        &self.here[column as usize].tile
+    }
+
+    /// The eight tiles round it.
+    #[inline]
+    pub fn round(self, column: u32) -> Round<'a>
+        requires full { AreFullRows self }
+        requires column { column < self.across }
+        ensures tiles { (cells : Cells) (i : ℕ) → IsColumnOf self.entry column cells i →
+            AreTilesRound result cells i }
+        ensures ring { (cells : Cells) (i : ℕ) (b : RingCells) →
+            IsColumnOf self.entry column cells i → IsBorderOfRound b result →
+            let r = tile_rectangle cells i in IsRingRound b cells r.x r.y }
+    {
+        let TileRows {
+            across,
+            above,
+            here,
+            below,
+        } = self;
+        let left = before(column, across) as usize;
+        let right = after(column, across) as usize;
+        let column = column as usize;
+        Round {
+            above: &above[column].tile,
+            below: &below[column].tile,
+            left: &here[left].tile,
+            right: &here[right].tile,
+            above_left: &above[left].tile,
+            above_right: &above[right].tile,
+            below_left: &below[left].tile,
+            below_right: &below[right].tile,
+        }
+    }
+}
+
 impl Plane {
     /// The eight tiles round tile i: the lattice is a torus.
     #[inline]
@@ -67,16 +124,23 @@ impl Plane {
         ensures ring { let r = tile_rectangle self.now at.tile in (b : RingCells) →
             IsBorderOfRound b result → IsRingRound b self.now r.x r.y }
     {
-        let p = self.places_at(at);
-        Round {
-            above: self.tile_in(p.column, p.above),
-            below: self.tile_in(p.column, p.below),
-            left: self.tile_in(p.left, p.row),
-            right: self.tile_in(p.right, p.row),
-            above_left: self.tile_in(p.left, p.above),
-            above_right: self.tile_in(p.right, p.above),
-            below_left: self.tile_in(p.left, p.below),
-            below_right: self.tile_in(p.right, p.below),
+        self.rows_round(at.row).round(at.column)
+    }
+
+    /// A row of tiles, with the row above and the row below it.
+    #[inline]
+    pub fn rows_round(&self, row: u32) -> TileRows<'_>
+        requires { row < self.now.height / 64 }
+        ensures rows { AreRowsRound result self.now row }
+        ensures full { AreFullRows result }
+        ensures lattice { IsLattice self.now }
+    {
+        let down = self.down();
+        TileRows {
+            across: self.across(),
+            above: self.rooms_from(before(row, down)),
+            here: self.rooms_from(row),
+            below: self.rooms_from(after(row, down)),
         }
     }
 
@@ -88,27 +152,6 @@ impl Plane {
         let mut border = Border::EMPTY;
         border.surround(&self.round(i));
         border
-    }
-
-    // the columns and rows of the tile at this position and of those round it
-    #[inline]
-    fn places_at(&self, at: Position) -> TilePlaces
-        requires tile { at.tile < tile_count self.now }
-        requires position { IsPosition (self.now.width / 64) at }
-        ensures places { ArePlacesRound self.now at.tile result }
-        ensures lattice { IsLattice self.now }
-    {
-        let across = self.across();
-        let down = self.down();
-        let Position { column, row, .. } = at;
-        TilePlaces {
-            left: before(column, across),
-            column,
-            right: after(column, across),
-            above: before(row, down),
-            row,
-            below: after(row, down),
-        }
     }
 
     /// The position of tile i.
@@ -124,15 +167,4 @@ impl Plane {
             row: i / across,
         }
     }
-}
-
-// the column and the row of tiles that a tile is in, and those beside them on the torus
-#[derive(Clone, Copy)]
-struct TilePlaces {
-    left: u32,
-    column: u32,
-    right: u32,
-    above: u32,
-    row: u32,
-    below: u32,
 }

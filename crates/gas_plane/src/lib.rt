@@ -4,10 +4,12 @@
 #![tactic(auto)]
 
 ghost use Rattle.std.specs.Borrow.{sem};
-ghost use Rattle.std.specs.Prelude.{◌↔◌, ◌≡◌, IsTrue, ◌*◌, ◌/◌, ◌<◌, false, IfOk};
+ghost use Rattle.std.specs.Prelude.{◌↔◌, ◌≡◌, IsTrue, ◌*◌, ◌/◌, ◌<◌, ◌≤◌, length, false, IfOk};
 ghost use Rattle.gas_terms.specs.Cells.{has, cells_where, extent, tile_count, tile_rectangle};
 ghost use Rattle.gas_plane.specs.Planes.{IsLattice, IsTileFrom, IsBare, IsBareRound, IsBareFarRound, AreThreeBare, HasNone, with_tile};
 ghost use Rattle.gas_plane.specs.Lending.{LendsTile};
+ghost use Rattle.gas_plane.specs.Tiles.{AreTilesInRow};
+ghost use Rattle.gas_plane.specs.Tiles.{AreTilesInRow};
 
 mod around;
 mod circle;
@@ -20,7 +22,7 @@ mod room;
 mod rows;
 mod totals;
 
-pub use around::Position;
+pub use around::{Position, TileRows};
 pub use bit_tile::Tile;
 pub use circle::{after, before};
 pub use counts::sums;
@@ -225,12 +227,14 @@ impl Plane {
         (self.size.height() / 64) as u32
     }
 
-    fn tile_in(&self, column: u32, row: u32) -> &Tile
-        requires column { column < self.now.width / 64 }
-        requires row { row < self.now.height / 64 }
-        ensures { IsTileFrom result.now self.now (column * 64) (row * 64) }
+    // the rooms from the one that has the first tile of this row of tiles
+    #[inline]
+    fn rooms_from(&self, row: u32) -> &[Room]
+        requires { row < self.now.height / 64 }
+        ensures length { self.now.width / 64 ≤ length result.now }
+        ensures tiles { AreTilesInRow result.now self.now row }
     {
         let across = self.size.width() as usize / 64;
-        &self.tiles[row as usize * across + column as usize].tile
+        &self.tiles[row as usize * across..]
     }
 }

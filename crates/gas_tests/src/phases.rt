@@ -104,7 +104,10 @@ fn named(solid: &Solid, tile: u32, row: usize) -> (u32, u32, u32) {
 fn words_name_the_blocks_of_walls(rt: HostRuntime) {
     let cells = plane(&rt, 128, 128, &[(0, 0), (21, 20)]);
     let none = plane(&rt, 128, 128, &[]);
-    let mut walls = solids(&rt, &cells, &none).walls;
+    let both = solids(&rt, &cells, &none);
+    expect_that(&rt, both.obstacles.has_no_blocks());
+    let mut walls = both.walls;
+    expect_that(&rt, !walls.has_no_blocks());
     expect_that(&rt, named(&walls, 0, 0) == (1, 0, 1));
     expect_that(&rt, named(&walls, 0, 10) == (1024, 1024, 2048));
     expect_that(&rt, named(&walls, 0, 11) == (0, 0, 0));

@@ -408,6 +408,16 @@ fn is_upper_left(rt: &impl Abort, plane: &Plane, i: u32) -> bool {
     plane.round_at(plane.position(i)).above_left.get(5, 5)
 }
 
+// whether the tile in this column and row of tiles has the cell (5, 5), and whether the one below it to the left has
+fn in_rows(rt: &impl Abort, plane: &Plane, column: u32, row: u32) -> (bool, bool) {
+    let size = plane.size();
+    expect_that(&rt, column < u32::from(size.width()) / 64);
+    expect_that(&rt, row < u32::from(size.height()) / 64);
+    let rows = plane.rows_round(row);
+    let below_left = rows.round(column).below_left;
+    (rows.tile(column).get(5, 5), below_left.get(5, 5))
+}
+
 // 5 tiles in a row
 #[test]
 fn positions_follow_one_another(rt: HostRuntime) {
@@ -423,6 +433,9 @@ fn positions_follow_one_another(rt: HostRuntime) {
     // tile 6 has tile 0 above it and to the left
     expect_that(&rt, is_upper_left(&rt, &plane, 6));
     expect_that(&rt, !is_upper_left(&rt, &plane, 7));
+    // which is the first of its row, and below the last row
+    expect_that(&rt, in_rows(&rt, &plane, 0, 0) == (true, false));
+    expect_that(&rt, in_rows(&rt, &plane, 1, 4) == (false, true));
 }
 
 #[test]

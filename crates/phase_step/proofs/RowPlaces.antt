@@ -1,7 +1,8 @@
 -- Which rows of a lattice are seen round a tile of a part.
-use Rattle.std.proofs.Common.{◌≡◌, ℕ, zero, suc, ◌+◌, ◌-◌, ◌*◌, ◌/◌, ◌%◌, ◌<◌, ◌≤◌, refl, sym, ap, ◌∙◌, arith}
+use Rattle.std.proofs.Common.{◌≡◌, ℕ, zero, suc, ◌+◌, ◌-◌, ◌*◌, ◌/◌, ◌%◌, ◌<◌, ◌≤◌, refl, sym, ap, ◌∙◌, arith, inl, inr}
+use Rattle.std.proofs.lemmas.Bool.{cases_lt}
 use Rattle.std.proofs.Math.Nat.{mod-lt, add-mod_right, mod-add-mod, add-mod-mod}
-use Rattle.std.proofs.lemmas.Nat.{mod-mul-add, div-add-mod'}
+use Rattle.std.proofs.lemmas.Nat.{mod-mul-add, div-mul-add, div-add-mod'}
 
 -- a row of the torus by its row of tiles
 pub row_turns : (a k d y : ℕ) → 0 < d → y < 64 → (a * 64 + (k * 64 + y)) % (d * 64) ≡ (a + k) % d * 64 + y
@@ -55,3 +56,17 @@ row_seen (suc zero) k shift m h top y v small some closed low high from to =
           ∙ sym (there shift m top v some)));
     }
 row_seen (suc (suc n)) k shift m h top y v small some closed low high from to = absurd (omega arith)
+
+-- a tile that begins no row of tiles is in the row of the one before it
+pub row_stays : (a i : ℕ) → 0 < a → (i % a ≡ 0 → ⊥) → (i - 1) / a ≡ i / a
+row_stays a i some inner =
+    let q = i / a in
+    let r = i % a in
+    let split : q * a + r ≡ i = div-add-mod' i a in
+    let less : r < a = mod-lt i some in
+    let past : 1 ≤ r = elim (cases_lt r 1) [
+      | inl none ↦ absurd (inner (omega (arith, none)))
+      | inr past ↦ past
+    ] in
+    let e : i - 1 ≡ q * a + (r - 1) = omega (arith, split, past) in
+    ap (λ n. n / a) e ∙ div-mul-add q a (r - 1) (omega (arith, less))

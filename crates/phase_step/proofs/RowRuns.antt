@@ -1,22 +1,32 @@
 -- A run of a part, phase by phase.
-use Rattle.std.proofs.Common.{◌≡◌, ℕ, zero, suc, ◌+◌, ◌-◌, ◌*◌, ◌/◌, ◌%◌, ◌<◌, ◌≤◌, true, pos, refl, sym, ap, ap₂, ◌∙◌, subst, arith, add-one, mul-le-mul}
-use Rattle.gas_terms.specs.Cells.{Cells, HasSidesOf, has, joined, extent, is_size, IsFull}
+use Rattle.std.proofs.Common.{◌≡◌, ℕ, suc, ◌+◌, ◌-◌, ◌*◌, ◌/◌, ◌%◌, ◌<◌, ◌≤◌, true, pos, refl, sym, ap, ap₂, ◌∙◌, subst, arith, add-one, mul-le-mul}
+use Rattle.gas_terms.specs.Cells.{Cells, HasSidesOf, has, joined, tile_count, tile_rectangle, extent, is_size, IsFull}
 use Rattle.gas_terms.specs.Gas.{streamed}
-use Rattle.gas_terms.proofs.Cells.{same_cells, full-cells_where}
+use Rattle.gas_terms.specs.Accounts.{moved_by}
+use Rattle.gas_terms.proofs.Cells.{same_cells}
+use Rattle.bit_tile.specs.declared.Tile.{Tile}
+use Rattle.gas_plane.specs.Planes.{IsLattice}
+use Rattle.gas_plane.proofs.Rings.{row_in}
 use Rattle.gas_plane.proofs.Places.{wide, high}
 use Rattle.block_rule.specs.Accounts.{counted_of}
 use Rattle.block_rule.specs.declared.walled.Counted.{Counted}
-use Rattle.std.proofs.lemmas.Nat.{mod-mul-add}
+use Rattle.std.proofs.lemmas.Nat.{mod-mul-add, div-add-mod'}
 use Rattle.phase_step.specs.Runs.{parity_at, tiles_take}
-use Rattle.phase_step.specs.Actions.{acted, after_with, flow_plus, flow_with, FlowsFit}
+use Rattle.phase_step.specs.Actions.{Leaves, acted, after_with, flow_plus, flow_with, FlowsFit}
 use Rattle.phase_step.specs.Balance.{flow_counted}
 use Rattle.phase_step.specs.TileRuns.{tiles_move, tiles_flow}
-use Rattle.phase_step.specs.Parts.{own_rows, own_flow, own_take, own_moves, IsPartOf, HasRun}
+use Rattle.phase_step.specs.Parts.{own_rows, own_flow, own_take, own_moves, IsPartOf, IsTileOf, IsUnspoilt, HasRun, tile_in, whole_part}
+use Rattle.phase_step.specs.Turns.{IsTileAfter}
+use Rattle.phase_step.specs.SolidBlocks.{AreLent}
+use Rattle.phase_step.specs.declared.steps.solids.Lent.{Lent}
+use Rattle.block_rule.specs.Windows.{taken_in}
+use Rattle.gas_terms.specs.declared.accounts.Took.{Took}
+use Rattle.phase_step.proofs.ActedTiles.{cell_within}
 use Rattle.phase_step.specs.WholeRuns.{Dynamics, after_all}
 use Rattle.phase_step.specs.declared.parts.Part.{Part}
 use Rattle.phase_step.specs.declared.sums.flow.Flow.{Flow}
 use Rattle.phase_step.proofs.ActionRuns.{same_flow, sides_with}
-use Rattle.phase_step.proofs.ActionSums.{takes_all_with, moves_all_with}
+use Rattle.phase_step.proofs.ActionSums.{takes_all_with, moves_all, moves_all_with}
 use Rattle.phase_step.proofs.Balances.{flows_counted, counted_fit}
 use Rattle.phase_step.proofs.RunTakes.{counted_none}
 use Rattle.phase_step.proofs.OwnPhases.{IsOwnPhase, own_flow_next, own_flow_fits}
@@ -135,19 +145,14 @@ whole_is down walls obstacles cells sized full of_walls of_obstacles e =
       rows = record { row = λ x y l _ h. let less : y < cells.height = omega (arith, h) in ap (has cells x) (sym (whole_row down cells.height y f less)) };
     }
 
-pub full_after : (d : Dynamics) (cells : Cells) (n : ℕ) → IsFull cells → IsFull (after_all d cells n)
-full_after d cells zero full = full
-full_after d cells (suc k) full =
-    let come = streamed (parity_at d.parity k) (after_all d cells k) (joined d.walls d.obstacles) in full-cells_where come.width come.height (λ x y. d.leaves k x y (has come x y))
-
--- the torus is closed: what a run makes of the whole lattice is the lattice after it
-pub whole_after : (down n : ℕ) (counted : Counted) (d : Dynamics) (cells new : Cells) (answer : Flow) → IsFull cells → IsFull new → HasRun (record { first = 0; down = down; margin = 0 }) counted d n cells cells new answer → new ≡ after_all d cells n
-whole_after down n counted d cells new answer full full_new run =
-    let placed = run.is.placed in
-    same_cells new (after_all d cells n) full_new (full_after d cells n full) placed.wide (placed.all refl)
+-- the torus is closed: the whole lattice has all rows
+pub whole_same : (down k : ℕ) (walls obstacles new lattice : Cells) → IsFull new → IsPartOf (record { first = 0; down = down; margin = 0 }) walls obstacles new lattice k → new ≡ lattice
+whole_same down k walls obstacles new lattice full is =
+    let placed = is.placed in
+    same_cells new lattice full is.full placed.wide (placed.all refl)
     (λ x y l h.
-    run.is.rows.row x y (subst (λ w. x < w) placed.wide l) (omega arith) (omega (arith, h))
-    ∙ ap (has (after_all d cells n) x) (whole_row down new.height y (placed.all refl ∙ placed.down) h))
+    is.rows.row x y (subst (λ w. x < w) placed.wide l) (omega arith) (omega (arith, h))
+    ∙ ap (has lattice x) (whole_row down new.height y (placed.all refl ∙ placed.down) h))
 
 pub whole_flow : (down n : ℕ) (counted : Counted) (d : Dynamics) (cells new : Cells) (answer : Flow) → is_size (extent cells) ≡ true → HasRun (record { first = 0; down = down; margin = 0 }) counted d n cells cells new answer
     → answer ≡ flow_counted counted (flow_with d.parity d.walls d.obstacles d.leaves cells n)
@@ -161,6 +166,51 @@ whole_flow down n counted d cells new answer sized run =
     ∙ ap (flow_counted counted)
     (ap₂ (λ f m. tiles_flow d.parity d.walls d.obstacles d.leaves cells f m n) first count
     ∙ same_flow _ _ (takes_all_with d.parity d.walls d.obstacles d.leaves cells n sized) (moves_all_with d.parity (joined d.walls d.obstacles) d.leaves cells n sized))
+
+-- what an action on it moves
+pub whole_moves : (p : ℕ) (leaves : Leaves) (cells : Cells) → is_size (extent cells) ≡ true → own_moves (whole_part cells) p cells cells (acted leaves cells) ≡ moved_by (pos p) cells (acted leaves cells)
+whole_moves p leaves cells sized =
+    let a = cells.width / 64 in
+    let first : 0 * a ≡ 0 = omega arith in
+    let rows : cells.height / 64 - 2 * 0 ≡ cells.height / 64 = omega arith in
+    let turned : cells.height / 64 * a ≡ a * (cells.height / 64) = omega arith in
+    ap₂ (tiles_move (pos p) cells (acted leaves cells)) first (ap (λ n. n * a) rows ∙ turned) ∙ moves_all (pos p) leaves cells sized
+
+-- its tiles are the lattice's
+whole_tile : (cells : Cells) (i : ℕ) → IsLattice cells → i < tile_count cells → tile_in (whole_part cells) (cells.width / 64) i ≡ i
+whole_tile cells i is within =
+    let a = cells.width / 64 in
+    let down = cells.height / 64 in
+    let row : i / a < down = row_in cells i is within in
+    let turn : 0 + down - 0 + i / a ≡ 1 * down + i / a = omega arith in
+    ap (λ r. r % down * a + i % a) turn ∙ (ap (λ r. r * a + i % a) (mod-mul-add 1 down (i / a) row) ∙ div-add-mod' i a)
+
+whole_turned : (p : ℕ) (cells walls obstacles : Cells) (i k : ℕ) (t : Tile) → IsLattice cells → i < tile_count cells → IsTileOf (whole_part cells) p cells cells walls obstacles k i t → IsTileAfter p cells walls obstacles i t
+whole_turned p cells walls obstacles i k t is within turned x y h q =
+    let tiles = (high (extent cells) is.sized).tiles in
+    let place = cell_within cells i x y is within h q in
+    turned x y h q (omega arith) (omega (arith, place.1))
+    ∙ ap (has (streamed p cells (joined walls obstacles)) (i % (cells.width / 64) * 64 + x)) (whole_row (cells.height / 64) cells.height (i / (cells.width / 64) * 64 + y) (omega (arith, tiles)) place.1)
+
+whole_unspoilt : (cells : Cells) (i : ℕ) → IsLattice cells → i < tile_count cells → IsUnspoilt (whole_part cells) cells i 0
+whole_unspoilt cells i is within =
+    let tiles = (high (extent cells) is.sized).tiles in
+    let row : i / (cells.width / 64) < cells.height / 64 = row_in cells i is within in
+    record { low = omega arith; high = omega (arith, tiles, row) }
+
+-- a step of a tile of it is the lattice's
+pub whole_turns : (p : ℕ) (old w o : Cells) (i : ℕ) (lent : Lent) (t : Tile) → IsLattice old → i < tile_count old → HasSidesOf w old → HasSidesOf o old → AreLent w o i lent
+    → (IsPartOf (whole_part old) w o old old 0 → AreLent w o (tile_in (whole_part old) (old.width / 64) i) lent → IsTileOf (whole_part old) p old old w o 1 i t) → IsTileAfter p old w o i t
+whole_turns p old w o i lent t is within of_walls of_obstacles known turned =
+    whole_turned p old w o i 1 t is within
+    (turned (whole_is (old.height / 64) w o old is.sized is.full of_walls of_obstacles refl) (subst (λ j. AreLent w o j lent) (sym (whole_tile old i is within)) known))
+
+pub whole_takes : (p : ℕ) (old w o : Cells) (i : ℕ) (lent : Lent) (took : Took) → IsLattice old → i < tile_count old → HasSidesOf w old → HasSidesOf o old → AreLent w o i lent
+    → (IsPartOf (whole_part old) w o old old 0 → AreLent w o (tile_in (whole_part old) (old.width / 64) i) lent → IsUnspoilt (whole_part old) old i 0 → took ≡ taken_in (pos p) old w o (tile_rectangle old (tile_in (whole_part old) (old.width / 64) i)))
+    → took ≡ taken_in (pos p) old w o (tile_rectangle old i)
+whole_takes p old w o i lent took is within of_walls of_obstacles known takes =
+    takes (whole_is (old.height / 64) w o old is.sized is.full of_walls of_obstacles refl) (subst (λ j. AreLent w o j lent) (sym (whole_tile old i is within)) known) (whole_unspoilt old i is within)
+    ∙ ap (λ j. taken_in (pos p) old w o (tile_rectangle old j)) (whole_tile old i is within)
 
 -- A strip is a part with a margin.
 pub strip_is : (first down rows : ℕ) (walls obstacles strip lattice : Cells) → is_size (extent lattice) ≡ true → IsFull lattice → HasSidesOf walls lattice → HasSidesOf obstacles lattice → lattice.height ≡ down * 64 → strip.width ≡ lattice.width → strip.height ≡ (rows + 2) * 64 → 0 < rows → first + rows ≤ down

@@ -64,6 +64,10 @@ own_take part p cells lattice walls obstacles =
 abbrev pub own_moves : Part → ℕ → Cells → Cells → Cells → Moved
 own_moves part p cells old new = let across = old.width / 64 in tiles_move (pos p) old new (part.first * across) (own_rows part cells * across)
 
+-- the whole lattice as a part of itself
+abbrev pub whole_part : Cells → Part
+whole_part cells = record { first = 0; down = cells.height / 64; margin = 0 }
+
 -- The cells are those of a part of a lattice with these walls and obstacles, but for the rows that k phases spoil.
 pub record IsPartOf (part : Part) (walls obstacles cells lattice : Cells) (k : ℕ) : Type 0 where
   pub sized : is_size (extent lattice) ≡ true

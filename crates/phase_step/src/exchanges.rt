@@ -7,7 +7,7 @@ mod later;
 mod listed;
 mod still;
 
-pub use action::{Action, act_on, change_of};
+pub use action::{Action, change_of};
 pub use exchange::{Exchange, any_area};
 pub use few::Few;
 pub use later::Later;

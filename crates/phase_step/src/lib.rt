@@ -21,12 +21,12 @@ mod sums;
 
 pub use balance::{completed, one_account};
 pub use block_rule::Counted;
-pub use exchanges::{Action, Exchange, Few, Later, Listed, Still, act_on, any_area, change_of};
+pub use exchanges::{Action, Exchange, Few, Later, Listed, Still, any_area, change_of};
 use gas_plane::Plane;
 use gas_terms::Took;
-pub use parts::{Part, run_part, run_whole};
+pub use parts::{Part, act_on, run_part, run_whole};
 use steps::turn_each;
-pub use steps::{Lent, Solid, Solids, turn_tile_at};
+pub use steps::{Solid, Solids, turn_tile_at};
 pub use sums::{Change, Flow};
 
 /// A run of n phases in which particles meet these walls and obstacles, from the given parity on, with an action after each.

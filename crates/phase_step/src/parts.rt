@@ -1,24 +1,27 @@
 //! Parts of a lattice: some of its rows of tiles, one after another round its torus. A run of a part is told by the rows that it
 //! has of the lattice: a strip's run and that of the whole lattice are one.
 
-ghost use Rattle.std.specs.Prelude.{◌≡◌, ℕ, ◌+◌, ◌-◌, ◌*◌, ◌/◌, ◌%◌, ◌<◌, ◌≤◌, ◌⊎◌, IsTrue, false, pos};
+ghost use Rattle.std.specs.Prelude.{◌≡◌, ℕ, ℤ, ◌+◌, ◌-◌, ◌*◌, ◌/◌, ◌%◌, ◌<◌, ◌≤◌, ◌⊎◌, IsTrue, false, pos};
 ghost use Rattle.gas_terms.specs.Cells.{Cells, joined, tile_count, tile_rectangle, HasSidesOf};
 ghost use Rattle.gas_plane.specs.Planes.{IsLattice, IsTileFrom, IsPosition};
+ghost use Rattle.gas_plane.specs.Tiles.{AreRowsRound, AreFullRows, IsColumnOf};
 ghost use Rattle.block_rule.specs.Windows.{taken_in};
-ghost use Rattle.phase_step.specs.SolidBlocks.{AreLent};
+ghost use Rattle.phase_step.specs.SolidBlocks.{AreLent, HasNoBlocks};
 ghost use Rattle.gas_terms.specs.Gas.{streamed};
+ghost use Rattle.gas_terms.specs.Velocity.{parity as of_tick};
+ghost use Rattle.gas_terms.specs.Accounts.{moved_by};
 ghost use Rattle.block_rule.specs.Accounts.{counted_of};
 ghost use Rattle.phase_step.specs.Actions.{acted};
 ghost use Rattle.phase_step.specs.Exchanges.{leaves_of};
-ghost use Rattle.phase_step.specs.Parts.{own_take, own_moves, own_rows, tile_in, IsTileOf, IsUnspoilt, IsPartOf, IsReady, IsHeld, IsOfSome, HasRun};
+ghost use Rattle.phase_step.specs.Parts.{own_take, own_moves, own_rows, tile_in, IsTileOf, IsUnspoilt, IsPartOf, IsReady, IsHeld, IsOfSome, HasRun, whole_part};
 ghost use Rattle.phase_step.specs.WholeRuns.{dynamics, CanRun, HasRunWhole};
 
 use crate::exchanges::{Action, Exchange, change_of};
-use crate::steps::{Ground, Lent};
+use crate::steps::{Ground, Lent, Solids};
 use crate::sums::Flow;
 use crate::{Run, parity_at};
 use block_rule::{Counted, Window, turn_tile_even, turn_tile_odd};
-use gas_plane::{Plane, Position, Tile};
+use gas_plane::{Plane, Position, Tile, TileRows};
 use gas_terms::{Moved, Took};
 use std::mem;
 
@@ -51,9 +54,9 @@ impl Own {
     }
 }
 
-// A tile of a part at even parity, in place, among the walled blocks of the lattice's tile that it is.
+/// A tile of a part at even parity, in place, among the walled blocks of the lattice's tile that it is.
 #[inline(always)]
-fn turn_even_in_part(lent: Lent<'_>, counted: Counted, tile: &mut Tile) -> Took
+pub fn turn_even_in_part(lent: Lent<'_>, counted: Counted, tile: &mut Tile) -> Took
     ensures cells { (part : Part) (walls obstacles cells lattice : Cells) (i k : ℕ) →
         IsLattice cells → i < tile_count cells → IsPartOf part walls obstacles cells lattice k →
         AreLent walls obstacles (tile_in part (lattice.width / 64) i) lent.entry →
@@ -69,33 +72,50 @@ fn turn_even_in_part(lent: Lent<'_>, counted: Counted, tile: &mut Tile) -> Took
     turn_tile_even(tile, lent.walls, lent.obstacles, counted)
 }
 
-// The same at odd parity: its blocks reach into the part's tiles round it.
+/// The same at odd parity: its blocks reach into the part's tiles round it.
 #[inline(always)]
-fn turn_odd_in_part(
-    old: &Plane,
-    at: Position,
+pub fn turn_odd_in_part(
+    rows: TileRows<'_>,
+    column: u32,
     lent: Lent<'_>,
     counted: Counted,
     out: &mut Tile,
 ) -> Took
+    requires full { AreFullRows rows }
+    requires column { column < rows.across }
+    ensures cells { (part : Part) (walls obstacles cells lattice : Cells) (i k : ℕ) →
+        IsColumnOf rows.entry column cells i → IsPartOf part walls obstacles cells lattice k →
+        AreLent walls obstacles (tile_in part (lattice.width / 64) i) lent.entry →
+        IsTileOf part 1 cells lattice walls obstacles (k + 1) i out.new }
+    ensures took { (part : Part) (walls obstacles cells lattice : Cells) (i k : ℕ) →
+        IsColumnOf rows.entry column cells i → IsPartOf part walls obstacles cells lattice k →
+        AreLent walls obstacles (tile_in part (lattice.width / 64) i) lent.entry →
+        IsUnspoilt part cells i k → result ≡ counted_of counted (taken_in (pos 1) lattice walls obstacles
+        (tile_rectangle lattice (tile_in part (lattice.width / 64) i))) }
+{
+    let particles = Window {
+        tile: rows.tile(column),
+        round: rows.round(column),
+    };
+    turn_tile_odd(&particles, lent.walls, lent.obstacles, counted, out)
+}
+
+// The rows of tiles round the tile at this position, by those round the tile before it.
+#[inline(always)]
+fn rows_at<'a>(old: &'a Plane, at: Position, before: TileRows<'a>) -> TileRows<'a>
     requires lattice { IsLattice old.now }
     requires tile { at.tile < tile_count old.now }
     requires position { IsPosition (old.now.width / 64) at }
-    ensures cells { (part : Part) (walls obstacles lattice : Cells) (k : ℕ) →
-        IsPartOf part walls obstacles old.now lattice k →
-        AreLent walls obstacles (tile_in part (lattice.width / 64) at.tile) lent.entry →
-        IsTileOf part 1 old.now lattice walls obstacles (k + 1) at.tile out.new }
-    ensures took { (part : Part) (walls obstacles lattice : Cells) (k : ℕ) →
-        IsPartOf part walls obstacles old.now lattice k →
-        AreLent walls obstacles (tile_in part (lattice.width / 64) at.tile) lent.entry →
-        IsUnspoilt part old.now at.tile k → result ≡ counted_of counted (taken_in (pos 1) lattice walls obstacles
-        (tile_rectangle lattice (tile_in part (lattice.width / 64) at.tile))) }
+    requires full { AreFullRows before }
+    requires before { AreRowsRound before old.now ((at.tile - 1) / (old.now.width / 64)) }
+    ensures column { IsColumnOf result at.column old.now at.tile }
+    ensures full { AreFullRows result }
 {
-    let particles = Window {
-        tile: old.tile(at.tile),
-        round: old.round_at(at),
-    };
-    turn_tile_odd(&particles, lent.walls, lent.obstacles, counted, out)
+    if at.column == 0 {
+        old.rows_round(at.row)
+    } else {
+        before
+    }
 }
 
 // the tile of the lattice that tile i of a part is
@@ -158,10 +178,12 @@ fn turn_odd_part(
     let tiles = part.down * across;
     let mut took = Took::ZERO;
     let mut at = old.position(0);
+    let mut rows = old.rows_round(0);
     let mut there = tile_there(part, across, 0);
     for i in 0..out.size().tiles() {
+        rows = rows_at(old, at, rows);
         let lent = ground.in_tile(there);
-        let here = turn_odd_in_part(old, at, lent, counted, out.tile_mut(i));
+        let here = turn_odd_in_part(rows, at.column, lent, counted, out.tile_mut(i));
         if own.has(i) {
             took = took.plus(here);
         }
@@ -200,63 +222,8 @@ fn turn_even_part(particles: &mut Plane, ground: Ground<'_>, part: Part, counted
     took
 }
 
-// The same, compiled for none and for some.
-fn turn_odd(old: &Plane, ground: Ground<'_>, part: Part, counted: Counted, out: &mut Plane) -> Took
-    requires held { IsHeld part ground.solids.now.walls ground.solids.now.obstacles old.now }
-    requires out { HasSidesOf out.old old.now }
-    ensures sides { HasSidesOf out.new old.now }
-    ensures rows { (lattice : Cells) (k : ℕ) → let s = ground.entry.solids.now in
-        IsPartOf part s.walls s.obstacles old.now lattice k →
-        IsPartOf part s.walls s.obstacles out.new
-        (streamed 1 lattice (joined s.walls s.obstacles)) (k + 1) }
-    ensures took { (lattice : Cells) (k : ℕ) → let s = ground.entry.solids.now in
-        IsPartOf part s.walls s.obstacles old.now lattice k → part.margin * k ≤ 64 →
-        result ≡ counted_of counted (own_take part 1 old.now lattice s.walls s.obstacles) }
-{
-    let Ground { solids, clear } = ground;
-    if clear {
-        let none = Ground {
-            solids,
-            clear: true,
-        };
-        turn_odd_part(old, none, part, counted, out)
-    } else {
-        let some = Ground {
-            solids,
-            clear: false,
-        };
-        turn_odd_part(old, some, part, counted, out)
-    }
-}
-
-fn turn_even(particles: &mut Plane, ground: Ground<'_>, part: Part, counted: Counted) -> Took
-    requires held { IsHeld part ground.solids.now.walls ground.solids.now.obstacles particles.old }
-    ensures sides { HasSidesOf particles.new particles.old }
-    ensures rows { (lattice : Cells) (k : ℕ) → let s = ground.entry.solids.now in
-        IsPartOf part s.walls s.obstacles particles.old lattice k →
-        IsPartOf part s.walls s.obstacles particles.new
-        (streamed 0 lattice (joined s.walls s.obstacles)) (k + 1) }
-    ensures took { (lattice : Cells) (k : ℕ) → let s = ground.entry.solids.now in
-        IsPartOf part s.walls s.obstacles particles.old lattice k → part.margin * k ≤ 64 →
-        result ≡ counted_of counted (own_take part 0 particles.old lattice s.walls s.obstacles) }
-{
-    let Ground { solids, clear } = ground;
-    if clear {
-        let none = Ground {
-            solids,
-            clear: true,
-        };
-        turn_even_part(particles, none, part, counted)
-    } else {
-        let some = Ground {
-            solids,
-            clear: false,
-        };
-        turn_even_part(particles, some, part, counted)
-    }
-}
-
 // A phase of a part in place. Returns what is taken in its own tiles.
+#[inline(always)]
 fn turn_part(
     particles: &mut Plane,
     ground: Ground<'_>,
@@ -278,9 +245,9 @@ fn turn_part(
         result ≡ counted_of counted (own_take part parity particles.old lattice s.walls s.obstacles) }
 {
     if parity == 0 {
-        turn_even(particles, ground, part, counted)
+        turn_even_part(particles, ground, part, counted)
     } else {
-        let took = turn_odd(particles, ground, part, counted, spare);
+        let took = turn_odd_part(particles, ground, part, counted, spare);
         mem::swap(particles, spare);
         took
     }
@@ -341,6 +308,44 @@ fn act_after<A: Action>(particles: &mut Plane, action: &A, k: u16, part: Part, p
     act_on_part(particles, &action.after_phase(k), part, parity)
 }
 
+// The loop of a run. `absent` is what is known: that there are no walls, and that there are no obstacles.
+#[inline(always)]
+fn run_on<A: Action>(
+    particles: &mut Plane,
+    part: Part,
+    run: Run<'_, A>,
+    absent: (bool, bool),
+    counted: Counted,
+    spare: &mut Plane,
+) -> Flow
+    requires parity { run.parity < 2 }
+    requires walls { IsTrue absent.0 → HasNoBlocks run.solids.now.walls }
+    requires obstacles { IsTrue absent.1 → HasNoBlocks run.solids.now.obstacles }
+    requires part { let s = run.solids.now in IsReady part s.walls s.obstacles particles.old 0 }
+    requires few { part.margin * run.n ≤ 64 }
+    requires spare { HasSidesOf spare.old particles.old }
+    ensures run { (lattice : Cells) → let r = run.entry in let s = r.solids.now in
+        IsPartOf part s.walls s.obstacles particles.old lattice 0 →
+        HasRun part counted (dynamics r.parity s (A.leaves r.action.now)) r.n
+        particles.old lattice particles.new result }
+    ensures sides { HasSidesOf particles.new particles.old × HasSidesOf spare.new particles.old }
+{
+    let (no_walls, no_obstacles) = absent;
+    let ground = Ground {
+        solids: run.solids,
+        no_walls,
+        no_obstacles,
+    };
+    let mut flow = Flow::ZERO;
+    for k in 0..run.n {
+        let now = parity_at(run.parity, k);
+        let took = turn_part(particles, ground, part, now, counted, spare);
+        let moved = act_after(particles, run.action, k, part, 1 - now);
+        flow = flow.plus(Flow { took, moved });
+    }
+    flow
+}
+
 /// A run on a part of a lattice, in place. Returns what it comes to in the part's own tiles; an account that is not kept has 0.
 /// `spare` is overwritten.
 pub fn run_part<A: Action>(
@@ -360,18 +365,26 @@ pub fn run_part<A: Action>(
         particles.old lattice particles.new result }
     ensures sides { HasSidesOf particles.new particles.old × HasSidesOf spare.new particles.old }
 {
-    let ground = Ground {
-        solids: run.solids,
-        clear: run.solids.have_no_blocks(),
-    };
-    let mut flow = Flow::ZERO;
-    for k in 0..run.n {
-        let now = parity_at(run.parity, k);
-        let took = turn_part(particles, ground, part, now, counted, spare);
-        let moved = act_after(particles, run.action, k, part, 1 - now);
-        flow = flow.plus(Flow { took, moved });
+    let Solids { walls, obstacles } = run.solids;
+    // four loops: each asks its tiles for the sets that have cells
+    match (walls.has_no_blocks(), obstacles.has_no_blocks()) {
+        (true, true) => run_on(particles, part, run, (true, true), counted, spare),
+        (true, false) => run_on(particles, part, run, (true, false), counted, spare),
+        (false, true) => run_on(particles, part, run, (false, true), counted, spare),
+        (false, false) => run_on(particles, part, run, (false, false), counted, spare),
     }
-    flow
+}
+
+// the whole lattice, which is a part of itself
+fn whole(cells: &Plane) -> Part
+    ensures part { result ≡ whole_part cells.now }
+    ensures lattice { IsLattice cells.now }
+{
+    Part {
+        first: 0,
+        down: cells.size().height() as u32 / 64,
+        margin: 0,
+    }
 }
 
 /// A run on the whole lattice, on the calling thread. An account that is not kept has 0.
@@ -387,13 +400,23 @@ pub fn run_whole<A: Action>(
         HasRunWhole counted (dynamics r.parity r.solids.now (A.leaves r.action.now)) r.n
         particles.old particles.new spare.new result }
 {
-    let part = Part {
-        first: 0,
-        down: particles.size().height() as u32 / 64,
-        margin: 0,
-    };
+    let part = whole(particles);
     let flow = run_part(particles, part, run, counted, spare);
     // what is made is a lattice too
     let _ = particles.size();
     flow
+}
+
+/// Acts on every cell, at a tick of this parity. Returns what came in and what went out.
+pub fn act_on(plane: &mut Plane, exchange: &Exchange, parity: u8) -> Moved
+    requires { parity < 2 }
+    ensures lattice { IsLattice plane.old }
+    ensures cells { plane.new ≡ acted (leaves_of exchange.now) plane.old }
+    ensures moved { (tick : ℤ) → of_tick tick ≡ parity →
+        result ≡ moved_by tick plane.old plane.new }
+{
+    let part = whole(plane);
+    let moved = act_on_part(plane, exchange, part, parity);
+    let _ = plane.size();
+    moved
 }

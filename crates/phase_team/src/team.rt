@@ -20,7 +20,7 @@ use std::marker::Model;
 use std::thread::Threads;
 
 /// From so many phases on, two sums of the particles cost less than a second account.
-const LONG_RUN: u16 = 16;
+const LONG_RUN: u16 = 2;
 
 /// How many workers a team has at most.
 pub const MOST_WORKERS: u32 = 16;
@@ -159,7 +159,7 @@ impl<R: Threads + Drop> Stepper for Team<R, NoGate> {
         self.phase(old, walls, obstacles, parity, out)
     }
 
-    // a long run among walls keeps one account, and works the other out from the momentum
+    // among walls, a run of several phases keeps one account, and works the other out from the momentum
     fn run_with<A: Action>(
         &mut self,
         particles: &mut Plane,

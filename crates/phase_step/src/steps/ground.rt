@@ -1,17 +1,22 @@
-//! What particles meet in a run, and whether that is nothing.
+//! What particles meet in a run, and what of that is known to be nothing.
 
 ghost use Rattle.std.specs.Prelude.{◌≡◌, ◌<◌, IsTrue};
 ghost use Rattle.gas_terms.specs.Cells.{tile_count};
-ghost use Rattle.phase_step.specs.SolidBlocks.{AreLent, HasNoBlocks};
+ghost use Rattle.block_rule.specs.TileBlocks.{AreLentBlocks};
+ghost use Rattle.phase_step.specs.SolidBlocks.{is_walled_in, AreLent, HasNoBlocks};
 
+use crate::steps::solid::Solid;
 use crate::steps::solids::{Lent, Solids};
+use block_rule::SetBlocks;
 
-/// Walls and obstacles, and whether it is known that there are none. A loop that is compiled for none asks no tile for them.
+/// Walls and obstacles, and of which it is known that there are none. A loop that is compiled for none asks no tile for them.
 #[derive(Clone, Copy)]
 pub struct Ground<'a> {
     pub solids: &'a Solids,
-    pub clear: bool,
-    pub ghost known: { IsTrue clear → HasNoBlocks solids.now.walls × HasNoBlocks solids.now.obstacles },
+    pub no_walls: bool,
+    pub no_obstacles: bool,
+    pub ghost walls: { IsTrue no_walls → HasNoBlocks solids.now.walls },
+    pub ghost obstacles: { IsTrue no_obstacles → HasNoBlocks solids.now.obstacles },
 }
 
 impl<'a> Ground<'a> {
@@ -22,12 +27,19 @@ impl<'a> Ground<'a> {
         requires obstacles { i < tile_count self.solids.now.obstacles }
         ensures { let s = self.entry.solids.now in AreLent s.walls s.obstacles i result }
     {
-        if self.clear {
-            return Lent {
-                walls: None,
-                obstacles: None,
-            };
+        Lent {
+            walls: lent(&self.solids.walls, self.no_walls, i),
+            obstacles: lent(&self.solids.obstacles, self.no_obstacles, i),
         }
-        self.solids.in_tile(i)
     }
+}
+
+// the blocks of tile i that have a cell of the set
+#[inline(always)]
+fn lent(set: &Solid, none: bool, i: u32) -> Option<SetBlocks<'_>>
+    requires none { IsTrue none → HasNoBlocks set.now }
+    requires tile { i < tile_count set.now }
+    ensures { AreLentBlocks result (is_walled_in set.now i) }
+{
+    if none { None } else { set.in_tile(i) }
 }

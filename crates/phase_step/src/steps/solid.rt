@@ -1,8 +1,8 @@
 //! A set of cells that particles do not pass, with its blocks: walls, or obstacles.
 
-ghost use Rattle.std.specs.Prelude.{◌≡◌, ℕ, ◌+◌, ◌*◌, ◌/◌, ◌-◌, ◌%◌, ◌<◌, ◌≤◌, ◌^◌, ◌&&◌, nat_le, nat_lt, IfOk, IsTrue, false};
+ghost use Rattle.std.specs.Prelude.{◌↔◌, ◌≡◌, ℕ, ◌+◌, ◌*◌, ◌/◌, ◌-◌, ◌%◌, ◌<◌, ◌≤◌, ◌^◌, ◌&&◌, nat_le, nat_lt, IfOk, IsTrue, false};
 ghost use Rattle.gas_terms.specs.Cells.{Cells, cells_where, filled, cleared, tile_count, tile_rectangle};
-ghost use Rattle.gas_plane.specs.Planes.{IsLattice};
+ghost use Rattle.gas_plane.specs.Planes.{IsLattice, HasNone};
 ghost use Rattle.block_rule.specs.TileBlocks.{AreLentBlocks};
 ghost use Rattle.phase_step.specs.Turns.{IsWindowFrom};
 ghost use Rattle.phase_step.specs.SolidBlocks.{is_walled_in, HasNoBlocks, HaveAllTiles, AreBlocksOf, DifferIn, AreRenewedUpTo};
@@ -89,7 +89,8 @@ impl Solid {
 
     /// Whether it has no cell, and so no block.
     pub fn has_no_blocks(&self) -> bool
-        ensures { IsTrue result → HasNoBlocks self.now }
+        ensures cells { IsTrue result ↔ HasNone self.now }
+        ensures blocks { IsTrue result → HasNoBlocks self.now }
     {
         // it is a lattice
         let _ = self.cells.size();

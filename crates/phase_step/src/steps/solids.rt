@@ -1,8 +1,7 @@
 //! Walls and obstacles, with their blocks.
 
-ghost use Rattle.std.specs.Prelude.{◌≡◌, ◌<◌, false, IfOk, IsTrue};
-ghost use Rattle.gas_terms.specs.Cells.{cells_where, filled, cleared, tile_count};
-ghost use Rattle.phase_step.specs.SolidBlocks.{AreLent, HasNoBlocks};
+ghost use Rattle.std.specs.Prelude.{◌≡◌, false, IfOk};
+ghost use Rattle.gas_terms.specs.Cells.{cells_where, filled, cleared};
 
 use crate::steps::solid::Solid;
 use block_rule::SetBlocks;
@@ -77,25 +76,5 @@ impl Solids {
     {
         self.walls.clear(area);
         self.obstacles.clear(area);
-    }
-
-    /// Whether there is no wall and no obstacle.
-    pub fn have_no_blocks(&self) -> bool
-        ensures { IsTrue result → HasNoBlocks self.now.walls × HasNoBlocks self.now.obstacles }
-    {
-        self.walls.has_no_blocks() && self.obstacles.has_no_blocks()
-    }
-
-    /// The walled blocks of tile i.
-    #[inline(always)]
-    pub fn in_tile(&self, i: u32) -> Lent<'_>
-        requires walls { i < tile_count self.now.walls }
-        requires obstacles { i < tile_count self.now.obstacles }
-        ensures { AreLent self.now.walls self.now.obstacles i result }
-    {
-        Lent {
-            walls: self.walls.in_tile(i),
-            obstacles: self.obstacles.in_tile(i),
-        }
     }
 }

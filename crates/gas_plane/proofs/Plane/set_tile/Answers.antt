@@ -1,7 +1,6 @@
 use Rattle.gas_plane.proofs.Rooms.{tiled_room, marked_room}
 use Rattle.gas_plane.proofs.Tilings.{tile_there}
 use Rattle.gas_plane.specs.Tiles.{tiles_of}
-use Rattle.gas_plane.specs.declared.room.Room.{Room}
 use Rattle.gas_plane.proofs.Plane.set_tile.Goals as goal
 
 pub returns : goal.returns

@@ -1,25 +1,35 @@
-use Rattle.std.proofs.Common.{◌/◌, ◌∙◌, ap, arith}
-use Rattle.gas_terms.specs.Cells.{Extent}
+use Rattle.std.proofs.Common.{◌*◌, ◌/◌, ◌≤◌, sym, subst, refl, arith}
+use Rattle.phase_step.specs.Parts.{IsPartOf, IsReady, HasRun}
 use Rattle.phase_step.specs.WholeRuns.{dynamics}
-use Rattle.phase_step.proofs.RowRuns.{whole_is, whole_after, whole_flow}
+use Rattle.phase_step.specs.declared.parts.Part.{Part}
+use Rattle.phase_step.proofs.RowRuns.{whole_is, whole_same, whole_flow}
 use Rattle.phase_step.proofs.parts.run_whole.Goals as goal
 
 pub run_part-flow-requires-clause-part : goal.run_part-flow-requires-clause-part
 run_part-flow-requires-clause-part g c =
     let s = c.args.run.solids.now in
-    let e = ap (λ n. n / 64) (c.height.ensures ∙ ap (λ (s : Extent). s.height) c.size.ensures.extent) in
-    record { lattice = c.args.particles.now; is = whole_is (c.height.result / 64) s.walls s.obstacles c.args.particles.now c.size.ensures.lattice.sized c.size.ensures.lattice.full c.requires.walls c.requires.obstacles e; few = omega arith }
+    let cells = c.args.particles.now in
+    let lattice = c.whole-part.ensures.lattice in
+    subst (λ (part : Part). IsReady part s.walls s.obstacles cells 0) (sym c.whole-part.ensures.part)
+    (record { lattice = cells; is = whole_is (cells.height / 64) s.walls s.obstacles cells lattice.sized lattice.full c.requires.walls c.requires.obstacles refl; few = omega arith })
+
+pub run_part-flow-requires-clause-few : goal.run_part-flow-requires-clause-few
+run_part-flow-requires-clause-few g c = subst (λ (part : Part). part.margin * c.args.run.n ≤ 64) (sym c.whole-part.ensures.part) (omega arith)
 
 pub returns : goal.returns
 returns g c =
     let run = c.args.run in
     let s = run.solids.now in
     let d = dynamics run.parity s (g.A.Action.leaves run.action.now) in
-    let e = ap (λ n. n / 64) (c.height.ensures ∙ ap (λ (s : Extent). s.height) c.size.ensures.extent) in
-    let whole = whole_is (c.height.result / 64) s.walls s.obstacles c.args.particles.now c.size.ensures.lattice.sized c.size.ensures.lattice.full c.requires.walls c.requires.obstacles e in
-    let made = c.run_part-flow.ensures.run c.args.particles.now whole in
+    let cells = c.args.particles.now in
+    let down = cells.height / 64 in
+    let lattice = c.whole-part.ensures.lattice in
+    let new = c.run_part-flow.new.particles in
+    let whole = whole_is down s.walls s.obstacles cells lattice.sized lattice.full c.requires.walls c.requires.obstacles refl in
+    let made : HasRun (record { first = 0; down = down; margin = 0 }) c.args.counted d run.n cells cells new c.run_part-flow.result =
+    subst (λ (part : Part). IsPartOf part s.walls s.obstacles cells cells 0 → HasRun part c.args.counted d run.n cells cells new c.run_part-flow.result) c.whole-part.ensures.part (c.run_part-flow.ensures.run cells) whole in
     record {
-      particles = whole_after (c.height.result / 64) run.n c.args.counted d c.args.particles.now c.run_part-flow.new.particles c.run_part-flow.result c.size.ensures.lattice.full c.size-2.ensures.lattice.full made;
+      particles = whole_same down run.n s.walls s.obstacles new _ c.size.ensures.lattice.full made.is;
       spare = c.run_part-flow.ensures.sides.1;
-      flow = whole_flow (c.height.result / 64) run.n c.args.counted d c.args.particles.now c.run_part-flow.new.particles c.run_part-flow.result c.size.ensures.lattice.sized made;
+      flow = whole_flow down run.n c.args.counted d cells new c.run_part-flow.result lattice.sized made;
     }

@@ -1,4 +1,4 @@
-use Rattle.std.proofs.Common.{◌/◌, ◌∙◌, ap, refl, pos, arith}
+use Rattle.std.proofs.Common.{ℕ, ◌*◌, ◌%◌, ◌/◌, subst, ◌∙◌, ap, refl, pos, arith}
 use Rattle.gas_terms.specs.Cells.{tile_rectangle}
 use Rattle.block_rule.specs.Accounts.{counted_of}
 use Rattle.block_rule.specs.Around.{around}
@@ -9,28 +9,35 @@ use Rattle.phase_step.proofs.PhaseSweeps.{place_is}
 use Rattle.phase_step.proofs.PartTurns.{tile_place, tile_turned, own_cells}
 use Rattle.phase_step.proofs.SolidBlocks.{view_of, lent_in_view}
 use Rattle.phase_step.proofs.TurnedTiles.{border_near, window_view, window_seen}
+use Rattle.gas_terms.specs.Cells.{Cells}
+use Rattle.gas_plane.specs.Planes.{IsTileFrom}
+use Rattle.gas_plane.specs.Tiles.{IsColumnOf}
+use Rattle.gas_plane.specs.declared.around.TileRows.{TileRows}
+use Rattle.bit_tile.specs.declared.Tile.{Tile}
 use Rattle.phase_step.proofs.parts.turn_odd_in_part.Goals as goal
+
+tile_of_column : (rows : TileRows) (column : ℕ) (cells : Cells) (i : ℕ) (t : Tile) → IsColumnOf rows column cells i → IsTileFrom t cells (column * 64) (i / (cells.width / 64) * 64) → IsTileFrom t cells (i % (cells.width / 64) * 64) (i / (cells.width / 64) * 64)
+tile_of_column rows column cells i t at from = subst (λ c. IsTileFrom t cells (c * 64) (i / (cells.width / 64) * 64)) at.place from
 
 pub returns : goal.returns
 returns c =
-    let old = c.args.old.now in
-    let i = c.args.at.tile in
     let t = c.tile.result.now in
-    let particles : Window = record { tile = c.tile.result; round = c.round_at.result } in
-    let near = around t (border_near c.round_at.result).0 in
+    let particles : Window = record { tile = c.tile.result; round = c.round.result } in
+    let near = around t (border_near c.round.result).0 in
     record {
-      cells = λ part w o lattice k is lent.
+      cells = λ part w o old lattice i k at is lent.
           let j = tile_in part (lattice.width / 64) i in
           let r = tile_rectangle lattice j in
-          let there = tile_place part old lattice w o i k is c.requires.tile in
-          let here = place_is old old old i c.requires.lattice.sized c.requires.tile (record { wide = refl; high = refl }) (record { wide = refl; high = refl }) in
-          let view = window_view i old old particles refl refl here.right here.bottom (record { tile = c.tile.ensures; round = c.round_at.ensures.ring }) in
-          tile_turned 1 part old lattice w o i k near c.turn_tile_odd.new.out (omega arith) is c.requires.tile view
+          let there = tile_place part old lattice w o i k is at.within in
+          let here = place_is old old old i at.lattice.sized at.within (record { wide = refl; high = refl }) (record { wide = refl; high = refl }) in
+          let view = window_view i old old particles refl refl here.right here.bottom (record { tile = tile_of_column c.args.rows c.args.column old i t at (c.tile.ensures old _ at.rows); round = λ b is. c.round.ensures.ring old i b at is }) in
+          tile_turned 1 part old lattice w o i k near c.turn_tile_odd.new.out (omega arith) is at.within view
           (c.turn_tile_odd.ensures.cells near (view_of w r.x r.y) (view_of o r.x r.y) (window_seen particles) (lent_in_view lattice w o w j c.args.lent.walls there is.of_walls lent.of_walls) (lent_in_view lattice w o o j c.args.lent.obstacles there is.of_obstacles lent.of_obstacles));
-      took = λ part w o lattice k is lent unspoilt.
+      took = λ part w o old lattice i k at is lent unspoilt.
           let j = tile_in part (lattice.width / 64) i in
           let r = tile_rectangle lattice j in
-          let there = tile_place part old lattice w o i k is c.requires.tile in
+          let there = tile_place part old lattice w o i k is at.within in
+          let from = tile_of_column c.args.rows c.args.column old i t at (c.tile.ensures old _ at.rows) in
           c.turn_tile_odd.ensures.took (view_of w r.x r.y) (view_of o r.x r.y) (lent_in_view lattice w o w j c.args.lent.walls there is.of_walls lent.of_walls) (lent_in_view lattice w o o j c.args.lent.obstacles there is.of_obstacles lent.of_obstacles)
-          ∙ ap (counted_of c.args.counted) (tiles_took (pos 1) t lattice w o r.x r.y (view_of w r.x r.y) (view_of o r.x r.y) there (own_cells part old lattice w o i k t c.requires.lattice.sized is c.requires.tile unspoilt.low unspoilt.high c.tile.ensures) (record { cell = λ _ _ _ _. refl }) (record { cell = λ _ _ _ _. refl }));
+          ∙ ap (counted_of c.args.counted) (tiles_took (pos 1) t lattice w o r.x r.y (view_of w r.x r.y) (view_of o r.x r.y) there (own_cells part old lattice w o i k t at.lattice.sized is at.within unspoilt.low unspoilt.high from) (record { cell = λ _ _ _ _. refl }) (record { cell = λ _ _ _ _. refl }));
     }

@@ -1,6 +1,7 @@
 use Rattle.std.proofs.Common.{◌≡◌, ℕ, ◌+◌, ◌-◌, ◌*◌, ◌/◌, ◌≤◌}
 use Rattle.gas_terms.specs.Cells.{Cells, HasSidesOf}
 use Rattle.gas_plane.specs.Planes.{IsPosition}
+use Rattle.gas_plane.specs.Tiles.{AreRowsRound, AreFullRows}
 use Rattle.block_rule.specs.Accounts.{counted_of}
 use Rattle.phase_step.specs.Runs.{tiles_take}
 use Rattle.phase_step.specs.Parts.{tile_in, IsPartOf, AreTurnedUpTo}
@@ -17,4 +18,6 @@ invariant-loop-i l =
       took : (lattice : Cells) (k : ℕ) → IsPartOf l.fn.part w o l.old lattice k → l.fn.part.margin * k ≤ 64 → l.took ≡ counted_of l.own.counted (tiles_take 1 lattice w o (l.fn.part.first * (lattice.width / 64)) (l.i - l.own.first - (l.i - l.own.end)));
       tile : l.at.tile ≡ l.i;
       at : IsPosition (l.old.width / 64) l.at;
+      rows : AreRowsRound l.rows l.old ((l.i - 1) / (l.old.width / 64));
+      full : AreFullRows l.rows;
     }

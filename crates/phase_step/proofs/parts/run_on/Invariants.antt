@@ -1,7 +1,7 @@
 use Rattle.gas_terms.specs.Cells.{Cells, HasSidesOf}
 use Rattle.phase_step.specs.Parts.{IsPartOf, HasRun}
 use Rattle.phase_step.specs.WholeRuns.{dynamics}
-use Rattle.phase_step.proofs.parts.run_part.Given as goal
+use Rattle.phase_step.proofs.parts.run_on.Given as goal
 
 abbrev pub invariant-loop-k : goal.invariant-loop-k
 invariant-loop-k g l =
