@@ -122,11 +122,10 @@ pub record AreReads (reads : ℕ) (input : List ℕ) (end : SessionEnd) : Type 0
   pub short : length input + read_limit * empty_reads end ≤ read_limit * reads
   pub all : end ≡ TooManyReads → reads ≡ most_reads
 
--- Nothing is read past an end: no line of the input ends the session, the last read left out. Each read before it gave at
--- least one byte.
+-- Little is read past an end: no line ends the session in the input without a last part, which is no longer than one read. Over
+-- reads of one byte each, that is the last byte.
 pub record StopsAtEnd (size : Extent) (reads : ℕ) (input : List ℕ) : Type 0 where
   pub before : List ℕ
-  -- what the last read gave
   pub last : List ℕ
   pub parts : input ≡ before ++ last
   pub earlier : reads ≤ length before + 1
