@@ -1,5 +1,7 @@
+import cmath
 import csv
 import io
+import math
 import os
 import random
 import sys
@@ -11,7 +13,7 @@ from unittest import mock
 
 import numpy
 
-from gaslab import (Refused, Snapshot, chart, csv_text, profile, random_gas, velocity)
+from gaslab import Refused, Snapshot, chart, csv_text, profile, random_gas, velocity, wave
 from gaslab.measure.measuring import sums_of
 from gaslab.measure.tables import columns_of, table_of
 
@@ -175,6 +177,31 @@ class Fields(unittest.TestCase):
             self.assertEqual((found.density[0, 0], found.density.sum()), (1, 1))
             self.assertEqual((found.px.any(), found.py.any()), (False, False))
             self.assertRaisesRegex(ValueError, "mean is from 1 to 64", lab.velocity, 7)
+
+
+class Waves(unittest.TestCase):
+    def test_against_the_cells(self):
+        """Each cell's share of the wave, by the rule for its velocity, summed over the cells."""
+        draw = random.Random(7)
+        cells = {(x, y) for x in range(128) for y in range(64) if draw.random() < 0.4}
+        gas = Snapshot(128, 64, -3, particle_bytes=plane(cells, 128))
+        for across, down in ((1, 0), (0, 2), (3, -1)):
+            wanted = numpy.zeros(3, complex)
+            for x, y in cells:
+                right, below = (1 if (place - 3) % 2 == 0 else -1 for place in (x, y))
+                phase = 2 * cmath.pi * (across * x / 128 + down * y / 64)
+                wanted += numpy.array((1, right, below)) * cmath.exp(-1j * phase) / 4096
+            self.assertTrue(numpy.allclose(wave(gas, across, down), wanted))
+
+    def test_of_a_gas_whose_left_half_is_full(self):
+        """The sum of a half of the 64 roots of unity is 1 / sin(pi / 64)."""
+        with run() as lab:
+            lab.put(0, 0, 32, 64)
+            found = wave(lab, 1)
+        self.assertAlmostEqual(abs(found.density), 2 / 64 / math.sin(math.pi / 64))
+
+    def test_no_wave(self):
+        self.assertRaisesRegex(ValueError, "at least one length", wave, numpy.zeros((64, 64)), 0)
 
 
 class Profiles(unittest.TestCase):

@@ -84,6 +84,31 @@ def sums_of(gas: Snapshot) -> Tally:
     return Tally(gas.tick, *(int(part.sum(dtype=int)) for part in _parts(gas)))
 
 
+class Wave(NamedTuple):
+    """The amplitudes of a plane wave, in particles or momentum a cell.
+
+    Their absolute values are heights. Their angles tell how far the wave is from a crest in the cell (0, 0).
+    """
+    density: complex
+    px: complex
+    py: complex
+
+
+def wave(gas: Gas, across: int, down: int = 0, tick: int = 0) -> Wave:
+    """The plane wave with `across` lengths over the gas's width and `down` over its height.
+
+    If the density is mean + height * cos(2 pi (across * x / width + down * y / height)), then `density` is
+    `height`. A random gas of density d adds noise, of some (2 d / cells) ** 0.5 to each amplitude. `tick` is
+    for bare truth values. Raises `ValueError` if both numbers are 0.
+    """
+    if not across and not down:
+        raise ValueError("a wave has at least one length, across or down")
+    found = as_snapshot(gas, tick)
+    right, below = (numpy.exp(-2j * numpy.pi * lengths * numpy.arange(side) / side) / side
+                    for lengths, side in ((across, found.width), (down, found.height)))
+    return Wave(*(complex(2 * below @ (part @ right)) for part in _parts(found)))
+
+
 def profile(gas: Gas, along: str = "x", bins: Optional[int] = None, tick: int = 0) -> Any:
     """How particles and momentum are spread along `x` (columns) or `y` (rows).
 
