@@ -11,7 +11,7 @@ from .snapshot.files import (Drain, MagicFault, PortFault, ShortFault, SizeFault
                              Source, TickFault, TrailingFault)
 from .lab.gates import place, truth_table
 from .lab.lab import Lab
-from .measure.measuring import Fields, every, profile, random_gas, velocity
+from .measure.measuring import Fields, Wave, every, profile, random_gas, velocity, wave
 from .measure.tables import chart, csv_text
 from .pictures import palette
 from .pictures.drawing import film, picture, picture_bytes
@@ -23,7 +23,7 @@ __all__ = [
     "Bye", "Drain", "Entry", "Fields", "GaslabError", "Gone", "LIMITS", "Lab", "Ledger", "MagicFault",
     "MissingLibrary", "Moving", "Ok", "PortFault", "Probe", "REFUSALS", "Refused", "Reply", "Row", "Saved",
     "ShortFault", "Silent", "SizeFault", "Snapshot", "SnapshotFault", "Source", "Strange", "Tally",
-    "TickFault", "TrailingFault", "Unreachable", "chart", "csv_text", "every", "film", "named", "palette",
-    "parse_reply", "picture", "picture_bytes", "place", "profile", "random_gas", "reply_text", "text_picture",
-    "truth_table", "velocity",
+    "TickFault", "TrailingFault", "Unreachable", "Wave", "chart", "csv_text", "every", "film", "named",
+    "palette", "parse_reply", "picture", "picture_bytes", "place", "profile", "random_gas", "reply_text",
+    "text_picture", "truth_table", "velocity", "wave",
 ]

@@ -33,13 +33,13 @@ WORDS: dict[str, tuple[Callable[..., Optional[int]], str, tuple[str, ...], str, 
              "what is in a snapshot, and its walls as a script", "PROGRAM show day.gas"),
     "journal": (words.journal, "host port --timeout", (), "the journal of a running server, as a script",
                 "PROGRAM journal 127.0.0.1 7878 > journal.txt"),
-    "page": (words.page, "file --to", (), "the laboratory as one HTML file, with nothing to install",
-             "PROGRAM page examples/4_tunnel.txt --to tunnel.html"),
+    "page": (words.page, "gas --to --share --page-port --cap --load --program --timeout", (),
+             "the laboratory in a browser: lesson 4, a script, a snapshot or a server's gas",
+             "PROGRAM page examples/4_tunnel.txt"),
     "rows": (words.rows, "", (), "draws the rows among replies as dots and marks",
              "./gaslab run < examples/2_blocks.txt | PROGRAM rows"),
-    "watch": (words.watch, "host port --timeout --seconds --times --mean --colour --page "
-              "--page-port --load", (), "shows the gas of a server, here or as a page",
-              "PROGRAM watch 127.0.0.1 7878 --page"),
+    "watch": (words.watch, "host port --timeout --seconds --times --mean --colour --load", (),
+              "shows the gas of a server in the terminal", "PROGRAM watch 127.0.0.1 7878"),
 }
 """Each word: what runs it, its options, groups of options, what it is for, and an example."""
 

@@ -10,22 +10,11 @@ import shutil
 import subprocess
 import tempfile
 import time
+from pathlib import Path
 from typing import Any
 
 CHROMIUM = shutil.which("chromium")
 _PATIENCE = 120.0  # seconds
-_PIXELS = """(() => {
-  const canvas = document.getElementById("gas");
-  const copy = new OffscreenCanvas(canvas.width, canvas.height).getContext("2d");
-  copy.drawImage(canvas, 0, 0);
-  const data = copy.getImageData(0, 0, canvas.width, canvas.height).data;
-  return [canvas.width, canvas.height, ...data];
-})()"""
-
-
-def text(name: str) -> str:
-    """The expression for the text of an element of the page."""
-    return f'document.getElementById("{name}").textContent'
 
 
 class Browser:
@@ -101,14 +90,6 @@ class Browser:
         assert "exceptionDetails" not in found, found
         return found["result"].get("value")
 
-    def canvas(self) -> tuple[int, int, dict[tuple[int, int], tuple[int, ...]]]:
-        """Width and height of the page's canvas, and the colour of each pixel that is not white."""
-        width, height, *data = self.value(_PIXELS)
-        pixels = [tuple(data[at:at + 4]) for at in range(0, len(data), 4)]
-        assert {pixel[3] for pixel in pixels} == {255}
-        return width, height, {(n % width, n // width): pixel[:3] for n, pixel in enumerate(pixels)
-                               if pixel[:3] != (255, 255, 255)}
-
     def wait(self, script: str, value: Any) -> None:
         """Waits until an expression has a value."""
         deadline = time.monotonic() + _PATIENCE
@@ -133,24 +114,50 @@ class Browser:
         self._ask("Emulation.setEmulatedMedia",
                   features=[{"name": "prefers-reduced-motion", "value": value}])
 
-    def pull(self, start: tuple[float, float], end: tuple[float, float]) -> None:
-        """Moves the mouse with its button held."""
-        for kind, (x, y), held in (("mouseMoved", start, 0), ("mousePressed", start, 1),
-                                   ("mouseMoved", end, 1), ("mouseReleased", end, 0)):
+    def slow_down(self, times: float) -> None:
+        """Lets the page compute as if on a slower machine; 1 is as it is."""
+        self._ask("Emulation.setCPUThrottlingRate", rate=times)
+
+    def pull(self, *places: tuple[float, float]) -> None:
+        """Moves the mouse with its button held, from a place over others."""
+        start, end = places[0], places[-1]
+        moves = [("mouseMoved", it, 1) for it in places[1:]]
+        for kind, (x, y), held in (("mouseMoved", start, 0), ("mousePressed", start, 1), *moves,
+                                   ("mouseReleased", end, 0)):
             button = "none" if kind == "mouseMoved" and not held else "left"
             self._ask("Input.dispatchMouseEvent", type=kind, x=x, y=y, button=button, buttons=held,
                       clickCount=int(kind != "mouseMoved"))
 
+    def touch(self, kind: str, *places: tuple[float, float]) -> None:
+        """Puts fingers down, moves or lifts them: touchStart, touchMove, touchEnd with those that stay."""
+        self._ask("Input.dispatchTouchEvent", type=kind, touchPoints=[{"x": x, "y": y} for x, y in places])
+
     def tap(self, x: float, y: float) -> None:
         """Touches a place with a finger."""
-        self._ask("Input.dispatchTouchEvent", type="touchStart", touchPoints=[{"x": x, "y": y}])
-        self._ask("Input.dispatchTouchEvent", type="touchEnd", touchPoints=[])
+        self.touch("touchStart", (x, y))
+        self.touch("touchEnd")
 
     def key(self, key: str, code: int, modifiers: int = 0) -> None:
-        """Presses a key; 2 is Ctrl."""
+        """Presses a key; 2 is Ctrl, 8 Shift."""
         for kind in ("keyDown", "keyUp"):
             self._ask("Input.dispatchKeyEvent", type=kind, key=key, windowsVirtualKeyCode=code,
                       modifiers=modifiers)
+
+    def heap(self) -> int:
+        """Bytes of the page's heap, after its garbage was collected."""
+        self._ask("HeapProfiler.collectGarbage")
+        return self._ask("Runtime.getHeapUsage")["usedSize"]
+
+    def download_to(self, folder: str) -> None:
+        """Lets the page save files in a folder."""
+        self._ask("Browser.setDownloadBehavior", behavior="allow", downloadPath=folder)
+
+    def wait_for_file(self, path: Path) -> None:
+        """Waits until a file is saved whole: Chromium renames it then."""
+        deadline = time.monotonic() + _PATIENCE
+        while not path.exists():
+            assert time.monotonic() < deadline, path
+            time.sleep(0.02)
 
     def screenshot(self, path: str) -> None:
         """Writes what is seen to a PNG file."""

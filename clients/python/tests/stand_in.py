@@ -4,7 +4,7 @@
     stand_in.py run --width 128 --load day.gas --save day.gas
     stand_in.py serve --listen 127.0.0.1:7878 --sessions 3
 
-It has the refusals that the client meets on its way (2, 3, 4, 5, 6, 9 and 15), and no others. It is
+It has the refusals that the client meets on its way (2 to 6, 9, 11, 13 and 15), and no others. It is
 slow, and independent of both the program and the client.
 """
 import argparse
@@ -21,12 +21,13 @@ import channel_gas  # noqa: E402
 RECTANGLES = {"put": 0, "erase": 0, "wall": 0, "block": 0, "unwall": 0, "probe": 0, "drain": 0,
               "source": 1}
 ONE = ("step", "back", "entry", "read")
+READINGS = ("probe", "entry", "read", "tally", "ledger", "save", "quit")
 NONE = ("unport", "tally", "ledger", "save", "quit")
 
 
 class Laboratory:
     def __init__(self, asked):
-        self.save_path = asked.save
+        self.save_path, self.cap = asked.save, asked.cap
         if asked.load:
             with open(asked.load, "rb") as file:
                 self.gas = channel_gas.from_snapshot(file.read())
@@ -59,6 +60,10 @@ class Laboratory:
             return "ERR 6 steps"
         if word == "entry" and numbers[0] >= len(self.journal):
             return "ERR 9 entry"
+        if word == "back" and (self.gas.sources or self.gas.drains):
+            return "ERR 11 ports"
+        if word not in READINGS and len(self.journal) >= self.cap:
+            return "ERR 13 journal"
         return "ERR 15 save" if word == "save" and not self.save_path else None
 
     def answer(self, seat, line):

@@ -1,69 +1,76 @@
-"""The page in a real browser, Debian's Chromium without a window. It is skipped without one."""
+"""The page of a server in Debian's Chromium without a window, over the second implementation."""
+import json
 import os
-import shutil
-import tempfile
+import subprocess
+import sys
 import unittest
 
-from gaslab import palette
+from .browser import CHROMIUM, Browser
+from .test_lab import ROOT, STAND_IN
 
-from .browser import CHROMIUM, Browser, text
-from .test_watch import MARKUP, Hall, page_of
+MARKUP = "<img src=x onerror=alert(1)>"
 
 
-@unittest.skipUnless(CHROMIUM, "there is no chromium")
+class Started:
+    """`gaslab-client page` with these words, in a `with` statement: its two links, and its process."""
+    def __init__(self, *words):
+        start = [sys.executable, str(ROOT / "clients" / "python"), "page", *map(str, words)]
+        self._process = subprocess.Popen(start, stdout=subprocess.PIPE, text=True)
+        self.process = self._process.pid
+        self.links = [self._process.stdout.readline().split()[1] for _ in range(2)]
+
+    def __enter__(self):
+        return self
+
+    def __exit__(self, *_):
+        self.stop()
+
+    def stop(self):
+        """Ends it as Ctrl-C does. Returns its status."""
+        if self._process.stdout.closed:
+            return self._process.returncode
+        self._process.terminate()
+        self._process.stdout.close()
+        return self._process.wait(60)
+
+
+@unittest.skipUnless(CHROMIUM and not os.environ.get("WITHOUT_PAGE"), "no chromium, or WITHOUT_PAGE")
 class InABrowser(unittest.TestCase):
-    def test_the_page(self):
-        """A known gas, steps, what others type, and the server's end."""
-        hall = Hall(["0 wall 0 9 64 1", "4 block 8 8 2 2", "3 put 0 3 1 1"])
-        with page_of(hall) as (page, _), Browser(page.address) as browser:
-            browser.wait("document.body?.dataset.look", "1")
-            wall = {(x, 9): palette.CELLS[palette.WALL] for x in range(64)}
-            block = {(x, y): palette.CELLS[palette.OBSTACLE] for x in (8, 9) for y in (8, 9)}
-            blue = palette.CELLS[palette.PARTICLE]
-            self.assertEqual(browser.canvas(), (64, 64, {**wall, **block, (0, 3): blue}))
-            self.assertEqual([browser.value(text(name)) for name in ("tick", "count", "px", "py")],
-                             ["0", "1", "1", "-1"])
-            self.assertEqual(browser.value(text("size")), "64 by 64")
-            self.assertRegex(browser.value(text("took")),
-                             r"^The last look took [0-9.]+ ms. It reads at most 64 rows at once; ")
-            cells = '[...document.querySelectorAll("#entries td")].map((it) => it.textContent)'
-            self.assertEqual(browser.value(cells), ["2", "3", "put 0 3 1 1", "1", "4", "block 8 8 2 2",
-                                                    "0", "0", "wall 0 9 64 1"])
-            self.assertEqual(browser.value('document.querySelectorAll("#entries *").length'), 12)
-            self.assertEqual(browser.value('document.querySelectorAll("img, b").length'), 0)
-            for tick in range(1, 4):
-                hall.step()
-                browser.wait(text("tick"), str(tick))
-                self.assertEqual(browser.canvas(),
-                                 (64, 64, {**wall, **block, (tick, 3): blue}))
-            hall.has_ended = True
-            browser.wait("document.body?.dataset.status", "ended")
-            self.assertTrue(browser.value(text("message")).startswith("The server has ended"))
-            self.assertEqual(browser.canvas(), (64, 64, {**wall, **block, (3, 3): blue}))
+    def test_what_others_type_is_text(self):
+        """A name and a refused line with markup stay text, and no rule of the page is broken."""
+        with Started("--program", STAND_IN) as server, Browser(server.links[0]) as browser:
+            browser.wait("document.body?.dataset.status", "open")
+            browser.value(f"""new Promise((done) => {{
+                const socket = new WebSocket({json.dumps(server.links[1].replace('http', 'ws') + 'socket')});
+                socket.onopen = () => socket.send({json.dumps('1 .name ' + MARKUP)});
+                socket.onmessage = ({{ data }}) => {{
+                    if (/^1 /.test(data)) {{ socket.close(); done(0); }} }}; }})""")
+            browser.value(f"laboratory.send([{json.dumps(MARKUP)}])")
+            browser.wait("document.getElementById('log').textContent.includes('onerror=alert')", True)
+            self.assertEqual(browser.value("document.querySelectorAll('img').length"), 0)
             self.assertEqual(browser.errors, [])
 
-    def test_what_others_send_is_text(self):
-        with page_of(Hall([f"3 {MARKUP}"])) as (page, _), Browser(page.address) as browser:
-            browser.wait("document.body?.dataset.status", "ended")
-            self.assertIn(MARKUP, browser.value(text("message")))
-            self.assertEqual(browser.value('document.querySelectorAll("img, b").length'), 0)
-            self.assertEqual(browser.errors, [])
+    def test_a_server_that_goes(self):
+        """The last picture stays, and the page says what happened."""
+        started = Started("--program", STAND_IN)
+        try:
+            with Browser(started.links[0]) as browser:
+                browser.wait("document.body?.dataset.status", "open")
+                browser.wait("laboratory.lab.picture?.tick > 0", True)
+                self.assertEqual(started.stop(), 143)
+                browser.wait("document.body.dataset.status", "gone")
+                self.assertIn("has ended", browser.value("document.getElementById('banner').textContent"))
+                self.assertGreater(browser.value("laboratory.view.picture.tick"), 0)
+        finally:
+            started.stop()
 
     def test_complaints_are_noticed(self):
         """So that a console without errors says something."""
-        with page_of(Hall()) as (page, _), Browser(page.address) as browser:
-            browser.wait("document.body?.dataset.look", "1")
-            browser.value("console.error('it'); fetch('nothing').then(() => 0)")
+        with Browser("data:text/html,<p>it</p>") as browser:
+            browser.value("console.error('it'); setTimeout(() => { throw new Error('it'); })")
             browser.value("new Promise((done) => setTimeout(done, 200))")
             self.assertEqual(len(browser.errors), 2)
 
-    def test_a_screenshot_can_be_kept(self):
-        room = tempfile.mkdtemp()
-        self.addCleanup(shutil.rmtree, room)
-        path = os.environ.get("GASLAB_SCREENSHOT") or os.path.join(room, "page.png")
-        with page_of(Hall(["0 wall 0 9 64 1", "3 put 0 3 1 1"])) as (page, _):
-            with Browser(page.address) as browser:
-                browser.wait("document.body?.dataset.look", "1")
-                browser.screenshot(path)
-        with open(path, "rb") as file:
-            self.assertEqual(file.read(8), b"\x89PNG\r\n\x1a\n")
+
+if __name__ == "__main__":
+    unittest.main()

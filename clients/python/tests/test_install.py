@@ -63,8 +63,7 @@ class Installed(unittest.TestCase):
         version, installed, place = self.run_there(self.python, "-c", text).split()
         self.assertEqual((version, installed), 2 * (gaslab.__version__,))
         self.assertTrue(place.startswith(str(self.room / "venv")), place)
-        for name in ("py.typed", "page/page.html", "page/page.js", "page/page.css",
-                     "page/static/index.html", "page/static/lessons.json"):
+        for name in ("py.typed", "page/static/index.html", "page/static/lessons.json"):
             self.assertTrue(Path(place).parent.joinpath(name).exists(), name)
 
     def test_command(self):
@@ -111,6 +110,7 @@ class WithoutALibrary(unittest.TestCase):
                 ("PIL", "picture(Snapshot(64, 64))", "Pillow", "python3-pil"),
                 ("matplotlib", "chart(Table, 'it.svg', 'x', 'x')", "matplotlib",
                  "python3-matplotlib"),
+                ("aiohttp", "from gaslab.page.web import Web; Web(None)", "aiohttp", "python3-aiohttp"),
                 ("numpy", "", "numpy", "python3-numpy")):
             text = text.replace("Table", "__import__('numpy').rec.fromarrays([[1]], names='x')")
             done = self.said((name,), f"from gaslab import *\n{text}\n")

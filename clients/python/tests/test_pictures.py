@@ -6,7 +6,7 @@ from unittest import mock
 import numpy
 
 from gaslab import Drain, Snapshot, Source, film, palette, picture, picture_bytes, text_picture
-from gaslab.pictures.drawing import plain_png
+from gaslab.pictures.pixels import density_pixels
 
 from .seen import read
 from .test_lab import run
@@ -133,14 +133,13 @@ class Densities(unittest.TestCase):
         cells = {(x, y) for y in range(64) for x in range(64) if x % 8 < y // 8}
         gas = Snapshot(64, 64, particle_bytes=plane(cells))
         for mean in (8, 16):
-            for found, scale in ((read(picture_bytes(gas, scale=2, mean=mean)), 2),
-                                 (read(plain_png(gas, mean)), 1)):
-                for row in range(64 // mean):
-                    count = sum((x, y) in cells for x in range(mean)
-                                for y in range(row * mean, row * mean + mean))
-                    for column in range(64 // mean):
-                        self.assertEqual(found.pixel(scale * column, scale * row),
-                                         shade(count, mean * mean))
+            found, plain = read(picture_bytes(gas, scale=2, mean=mean)), density_pixels(gas, mean)
+            for row in range(64 // mean):
+                count = sum((x, y) in cells for x in range(mean)
+                            for y in range(row * mean, row * mean + mean))
+                for column in range(64 // mean):
+                    self.assertEqual(found.pixel(2 * column, 2 * row), shade(count, mean * mean))
+                    self.assertEqual(palette.DENSITIES[plain[row, column]], shade(count, mean * mean))
 
     def test_ends_of_the_ramp(self):
         self.assertEqual(palette.DENSITIES[palette.density_index(0, 64)], (255, 255, 255))
@@ -156,9 +155,9 @@ class Densities(unittest.TestCase):
         less = {(x + 8, y) for x in range(8) for y in range(4)} - {(8, 0)}
         gas = Snapshot(64, 64, wall_bytes=plane(half | less),
                        obstacle_bytes=plane({(x + 16, y) for x in range(8) for y in range(8)}))
-        found = read(plain_png(gas, 8))
-        self.assertEqual((found.width, found.height), (8, 8))
-        row = [found.pixel(x, 0) for x in range(8)]
+        found = density_pixels(gas, 8)
+        self.assertEqual(found.shape, (8, 8))
+        row = [palette.DENSITIES[index] for index in found[0]]
         self.assertEqual(row, [palette.DENSITIES[palette.WALL], (255, 255, 255), colour(palette.OBSTACLE)]
                          + 5 * [(255, 255, 255)])
 

@@ -459,7 +459,7 @@ class Words(unittest.TestCase):
                       ("table", "--probe", "a=1,2,3,x"), ("profile", "--bins", endless),
                       ("random", "--seed", "-1"), ("random", "--width", endless),
                       ("watch", "127.0.0.1", "99999"), ("watch", "127.0.0.1", "-1"),
-                      ("watch", "127.0.0.1", "1", "--page-port", "99999"),
+                      ("page", "--page-port", "99999"), ("page", "--cap", "65537"),
                       ("watch", "127.0.0.1", "1", "--seconds", "nan"),
                       ("watch", "127.0.0.1", "1", "--colour", "red"),
                       ("journal", "127.0.0.1", "x")):

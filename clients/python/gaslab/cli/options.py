@@ -102,8 +102,10 @@ OPTIONS: dict[str, dict[str, Any]] = {
     "--drift-down": _option("and downwards (0)", float, 0.0),
     "--seed": _option("the same seed gives the same gas", whole(0, 2 ** 32 - 1)),
     "--seconds": _option("between two looks (0.25)", seconds, 0.25),
-    "--to": _option("the HTML file that is written", metavar="FILE.html", required=True),
-    "--page": {"help": "a page on 127.0.0.1 instead, for a browser on this machine", **_SWITCH},
+    "gas": _option("a script, a snapshot, or a server's address and port (lesson 4)", nargs="*"),
+    "--to": _option("write one HTML file instead, which needs no server", metavar="FILE.html"),
+    "--share": _option("bind to this address of the machine, so that others can open the page",
+                       metavar="ADDRESS"),
     "--page-port": _option("the page's port (any)", whole(0, 65535), 0),
 }
 """Each argument and option, as argparse takes it."""
@@ -131,6 +133,11 @@ def is_snapshot(path: Optional[str]) -> bool:
         return file.read(6) == b"HPPGAS"
 
 
+def until_quit(script: Script) -> Script:
+    """The script up to a line `quit`, which would end the session."""
+    return Script(script.size, list(takewhile(lambda part: part[1] != "quit", script.parts)))
+
+
 @contextmanager
 def lab_of(asked: argparse.Namespace) -> Iterator[Lab]:
     """The laboratory that the options name, after the script."""
@@ -138,9 +145,7 @@ def lab_of(asked: argparse.Namespace) -> Iterator[Lab]:
     if is_snapshot(asked.file):
         load = asked.file
     elif asked.file:
-        size, parts = parse_script(read_text(asked.file))
-        # a line `quit` would end the session
-        script = Script(size, list(takewhile(lambda part: part[1] != "quit", parts)))
+        script = until_quit(parse_script(read_text(asked.file)))
     if asked.join:
         start = Snapshot.read(load) if load else None
         lab = Lab.join(*asked.join, timeout=asked.timeout, start=start)

@@ -1,10 +1,11 @@
 """The words of the command line."""
 import argparse
 import os
+import re
 import shutil
 import sys
 import time
-from collections.abc import Iterator
+from collections.abc import Callable, Iterator
 from contextlib import nullcontext
 from typing import Optional
 
@@ -13,20 +14,26 @@ import numpy
 from ..lab.lab import Lab
 from ..measure.measuring import every, profile, random_gas, sums_of
 from ..measure.tables import chart, csv_text
+from ..page.hall import Hall
+from ..page.laboratory import Laboratory, Means
 from ..page.one_file import one_file
-from ..page.server import Page
+from ..page.web import Web
 from ..pictures.drawing import film, picture
 from ..pictures.text import text_picture
-from ..protocol.errors import Gone, Moving, Silent, Strange, printable
+from ..protocol.doors import find_program
+from ..protocol.errors import Gone, Moving, Silent, Strange, Unreachable, printable
 from ..protocol.replies import Row, parse_reply, show_cells
-from ..protocol.scripts import parse_script, read_text
+from ..protocol.scripts import Script, parse_script, read_text
 from ..snapshot.files import Snapshot
 from ..snapshot.rectangles import cover
-from .options import gas_of, is_snapshot, lab_of
+from .options import gas_of, is_snapshot, lab_of, until_quit
 from .shell import Shell, columns, is_coloured, prompted
 
 _LAST = 8  # entries that are shown
 _CLEAR = "\x1b[H\x1b[2J"
+_SHARED = """\
+Whoever reaches {} and has the first link draws, plays and opens another gas. With the second they
+watch. Nothing is encrypted: others on the network can read the links. Ctrl-C ends it."""
 _PIECE = 4096  # bytes of a line that are read at once
 
 
@@ -108,22 +115,88 @@ def journal(asked: argparse.Namespace) -> None:
 
 
 def page(asked: argparse.Namespace) -> None:
-    """The laboratory as one HTML file, with what it opens first."""
-    name, contents = "", None
+    """The laboratory as a page: served, or as one HTML file, with what it opens first."""
+    if len(asked.gas) > 2:
+        raise ValueError("it takes a script, a snapshot, or an address and a port")
+    if len(asked.gas) == 2:
+        if asked.to:
+            raise ValueError("--to makes a file of a script or a snapshot, not of a server's gas")
+        _serve(asked, lambda links: Hall(_joined(asked), Means(), links))
+        return
+    asked.file, = asked.gas or [None]
+    if asked.to:
+        with open(asked.to, "w", encoding="utf-8") as made:
+            made.write(one_file(*_contents(asked)))
+        return
+    try:
+        means = Means(find_program(asked.program), asked.cap, asked.timeout)
+    except Unreachable as fault:
+        print(f"NOT PROVED: {fault}. The page computes by an engine of its own.", file=sys.stderr)
+        _serve(asked, None, _contents(asked))
+    else:
+        _serve(asked, lambda links: Hall(_own(asked, means), means, links))
+
+
+def _contents(asked: argparse.Namespace) -> tuple[str, Optional[bytes]]:
+    """The name and the contents of a script or a snapshot for a page with an engine of its own."""
+    path = asked.file or asked.load
+    if path is None:
+        return "", None
+    if asked.file and asked.load:
+        raise ValueError("a file beside --load needs a program")
+    if is_snapshot(path):
+        Snapshot.read(path)
+        with open(path, "rb") as file:
+            return os.path.basename(path), file.read()
+    script = parse_script(read_text(path))
+    first = [f"size {script.size[0]} {script.size[1]}"] if script.size else []
+    lines = [*first, *(command for _, command in script.commands())]
+    return _name(path), "".join(line + "\n" for line in lines).encode()
+
+
+def _name(path: str) -> str:
+    return "a script" if path == "-" else os.path.basename(path)
+
+
+def _own(asked: argparse.Namespace, means: Means) -> Laboratory:
+    """A program of the page's own, after the script or with the snapshot."""
+    load, script = asked.load, Script(None, [])
     if is_snapshot(asked.file):
-        Snapshot.read(asked.file)
-        with open(asked.file, "rb") as file:
-            contents = file.read()
+        load = asked.file
     elif asked.file:
         script = parse_script(read_text(asked.file))
-        first = [f"size {script.size[0]} {script.size[1]}"] if script.size else []
-        lines = [*first, *(command for _, command in script.commands())]
-        contents = "".join(line + "\n" for line in lines).encode()
-    if asked.file:
-        name = "a script" if asked.file == "-" else os.path.basename(asked.file)
-    text = one_file(name, contents)
-    with open(asked.to, "w", encoding="utf-8") as made:
-        made.write(text)
+    start, name = Snapshot.read(load) if load else None, _name(asked.file or load or "")
+    laboratory = Laboratory.own(means, script.size or (64, 64), start, name)
+    try:
+        laboratory.lab.play(until_quit(script))
+    except BaseException:
+        laboratory.close()
+        raise
+    return laboratory
+
+
+def _joined(asked: argparse.Namespace) -> Laboratory:
+    host, port = asked.gas
+    if not re.fullmatch("[0-9]{1,5}", port):
+        raise ValueError(f"{port[:40]!r} is no port")
+    start = Snapshot.read(asked.load) if asked.load else None
+    return Laboratory.joined(host, int(port), asked.timeout, start)
+
+
+def _serve(asked: argparse.Namespace, make_hall: Optional[Callable[[tuple[str, str]], Hall]],
+           opened: tuple[str, Optional[bytes]] = ("", None)) -> None:
+    """Serves until Ctrl-C, or until the laboratory is gone."""
+    web = Web(make_hall, asked.share or "127.0.0.1", opened)
+
+    def ready(web: Web) -> None:
+        print(f"PAGE {web.link('all')}", flush=True)
+        if make_hall:
+            print(f"WATCH {web.link('watch')}", flush=True)
+        if asked.share:
+            print(_SHARED.format(asked.share), flush=True)
+        elif sys.stdout.isatty():
+            print("Open the first link in a browser. Ctrl-C ends the page.")
+    web.serve(asked.page_port, ready)
 
 
 def rows(asked: argparse.Namespace) -> None:
@@ -144,11 +217,6 @@ def watch(asked: argparse.Namespace) -> None:
     """Shows a server's gas until the server ends, or Ctrl-C."""
     start = Snapshot.read(asked.load) if asked.load else None
     with Lab.join(asked.host, asked.port, asked.timeout, start=start) as lab:
-        if asked.page:
-            with Page(lab, asked.page_port, asked.seconds, asked.mean, asked.colour) as page:
-                print(f"PAGE {page.address}", flush=True)
-                page.looker.keep_looking()
-            return
         for text in looks(lab, asked.seconds, asked.times, asked.mean, asked.colour):
             print((_CLEAR if sys.stdout.isatty() else "") + text, flush=True)
 

@@ -1,17 +1,22 @@
-"""The page as one HTML file, which runs from a folder with nothing installed and no network."""
+"""The page as one text: a file that runs from a folder with nothing installed, or what a server serves."""
 import base64
 import hashlib
 import json
 import re
 from pathlib import Path
-from typing import Optional
+from typing import Any, Optional
+
+from ..pictures import palette
+from ..protocol.commands import COMMANDS
 
 STATIC = Path(__file__).parent / "static"
 MOST = 400_000  # bytes
-_IMPORT = re.compile(r'^import \{ ([^}]+) \} from "\./([a-z_]+)\.js";\n', re.M)
+_CELLS = ("empty", "particle", "wall", "obstacle", "source", "drain", "hit",
+          "rightDown", "leftDown", "rightUp", "leftUp")  # the page's names of `palette.CELLS`
+_IMPORT = re.compile(r'^import (?:\{ ([^}]+) \} from )?"\./([a-z_]+)\.js";\n', re.M)
 _EXPORT = re.compile(r"^export (?:default )?(async function|function|class|const|let) (\w+)", re.M)
-_RULES = ("default-src 'none'; script-src blob: {hashes}; style-src 'unsafe-inline'; "
-          "img-src data: blob:; worker-src blob:; base-uri 'none'; form-action 'none'")
+_RULES = ("default-src 'none'; script-src {scripts}; style-src 'unsafe-inline'; img-src data: blob:; "
+          "base-uri 'none'; form-action 'none'; {more}")
 
 
 def read(name: str) -> str:
@@ -20,18 +25,28 @@ def read(name: str) -> str:
 
 
 def one_file(name: str = "", contents: Optional[bytes] = None) -> str:
-    """The page with all its parts, and with a script or a snapshot that it opens first."""
-    license_of = read("dygraph-LICENSE.txt").replace("*/", "* /")
-    scripts = [f"/*! dygraphs\n{license_of}*/\n{read('dygraph.min.js')}", bundle("page")]
-    data = {"lessons": ("application/json", json.dumps(json.loads(read("lessons.json")))),
-            "worker": ("text/plain", bundle("worker"))}
+    """The page with an engine of its own, and with a script or a snapshot that it opens first."""
+    data = {"worker": ("text/plain", bundle("worker"))}
     if contents is not None:
         opened = {"name": name, "contents": base64.b64encode(contents).decode("ascii")}
         data["opened"] = "application/json", json.dumps(opened)
+    return _text(data, "worker-src blob:", "blob: ")
+
+
+def served_file(address: str) -> str:
+    """The page of a server, which may connect to this address alone."""
+    return _text({}, f"connect-src {address}")
+
+
+def _text(own: dict[str, tuple[str, str]], more: str, scripts_of: str = "") -> str:
+    license_of = read("dygraph-LICENSE.txt").replace("*/", "* /")
+    scripts = [f"/*! dygraphs\n{license_of}*/\n{read('dygraph.min.js')}", bundle("page")]
+    data = {"facts": ("application/json", _packed(facts())),
+            "lessons": ("application/json", _packed(json.loads(read("lessons.json")))), **own}
     hashes = " ".join(f"'sha256-{_hash(script)}'" for script in scripts)
-    rules = _RULES.format(hashes=hashes)
+    rules = _RULES.format(scripts=scripts_of + hashes, more=more)
     styles = f'<meta http-equiv="Content-Security-Policy" content="{rules}">\n' + "".join(
-        f"<style>\n{read(sheet)}</style>\n" for sheet in ("dygraph.min.css", "page.css"))
+        f"<style>\n{_bare(read(sheet))}</style>\n" for sheet in ("dygraph.min.css", "page.css"))
     parts = [f'<script type="{kind}" id="{key}">{_safe(text, kind)}</script>\n'
              for key, (kind, text) in data.items()]
     parts += [f"<script>{_closed(script)}</script>\n" for script in scripts]
@@ -51,15 +66,44 @@ def _collect(name: str, found: dict[str, str], above: tuple[str, ...]) -> None:
         return
     if name in above:
         raise ValueError(f"modules import each other: {' '.join((*above, name))}")
-    text = read(f"{name}.js")
+    text = _bare(read(f"{name}.js"))
     for _, other in _IMPORT.findall(text):
         _collect(other, found, (*above, name))
     exports = ", ".join(word for _, word in _EXPORT.findall(text))
-    text = _IMPORT.sub(lambda it: f"const {{ {it[1].replace(' as ', ': ')} }} = module_{it[2]};\n", text)
+    text = _IMPORT.sub(_taken, text)
     text = _EXPORT.sub(r"\1 \2", text)
     if re.search(r"^(import|export)\b", text, re.M):
         raise ValueError(f"{name}.js has an import or export of another form")
     found[name] = f"const module_{name} = (() => {{\n{text}return {{ {exports} }};\n}})();\n"
+
+
+def _taken(found: "re.Match[str]") -> str:
+    """An import as a line of a function, if it takes names."""
+    return f"const {{ {found[1].replace(' as ', ': ')} }} = module_{found[2]};\n" if found[1] else ""
+
+
+def facts() -> dict[str, Any]:
+    """What the page knows: its own facts, with the commands and the colours that the client has too."""
+    known: dict[str, Any] = json.loads(read("facts.json"))
+    known["commands"] = {word: [f"{word} {it.words}".rstrip(), it.what] for word, it in COMMANDS.items()
+                         if word != "quit"}
+    known["colours"].update(zip(_CELLS, map(_hex, palette.CELLS)))
+    known["ramp"] = [_hex(colour) for colour in palette.RAMP]
+    return known
+
+
+def _hex(colour: palette.Colour) -> str:
+    return "#%02x%02x%02x" % colour
+
+
+def _packed(known: Any) -> str:
+    """JSON without spaces."""
+    return json.dumps(known, ensure_ascii=False, separators=(",", ":"))
+
+
+def _bare(text: str) -> str:
+    """A script or a style without indentation and without comments that fill lines."""
+    return re.sub(r"^ *(?://.*|/\*\*[\s\S]*?\*/)\n|^ +", "", text, flags=re.M)
 
 
 def _hash(script: str) -> str:

@@ -58,19 +58,8 @@ def picture(gas: Gas, path: Optional[PathLike] = None, scale: Optional[int] = No
 def picture_bytes(gas: Gas, scale: Optional[int] = None, mean: Optional[int] = None,
                   colour: str = "kind", tick: int = 0) -> bytes:
     """The PNG file of `picture` as bytes."""
-    return _png(picture(gas, None, scale, mean, colour, tick))
-
-
-def plain_png(gas: Snapshot, mean: Optional[int] = None, colour: str = "kind") -> bytes:
-    """A PNG file with a pixel for each cell, or for each square of `mean` by `mean` cells."""
-    check_looks(gas, mean, colour)
-    return _png(_image(cell_pixels(gas, colour), palette.CELLS) if mean is None
-                else _image(density_pixels(gas, mean), palette.DENSITIES))
-
-
-def _png(image: Any) -> bytes:
     data = io.BytesIO()
-    image.save(data, "PNG")
+    picture(gas, None, scale, mean, colour, tick).save(data, "PNG")
     return data.getvalue()
 
 

@@ -29,13 +29,14 @@ CELLS: tuple[Colour, ...] = (
 """The palette of pictures that show each cell: index to colour."""
 
 _FIRST = 7
-_RAMP = ((255, 255, 255), (86, 180, 233), (0, 114, 178), (0, 30, 70))
+RAMP: tuple[Colour, ...] = ((255, 255, 255), (86, 180, 233), (0, 114, 178), (0, 30, 70))
+"""The shades of densities, from empty to full, with others between them."""
 WALL_INSIDE, OBSTACLE_INSIDE = PARTICLE, HIT
 """In `DENSITIES`: the tints inside the outlines of walls and obstacles."""
 _MARKS = {**dict(enumerate(CELLS[:_FIRST])), WALL: (90, 90, 90), WALL_INSIDE: (200, 195, 185),
           OBSTACLE_INSIDE: (250, 205, 170), SOURCE: (0, 240, 0), DRAIN: (160, 0, 240)}
-_STEPS = numpy.linspace(0, len(_RAMP) - 1, 256 - _FIRST)
-_SHADES = numpy.rint([numpy.interp(_STEPS, range(len(_RAMP)), part) for part in zip(*_RAMP)])
+_STEPS = numpy.linspace(0, len(RAMP) - 1, 256 - _FIRST)
+_SHADES = numpy.rint([numpy.interp(_STEPS, range(len(RAMP)), part) for part in zip(*RAMP)])
 
 DENSITIES: tuple[Colour, ...] = (*_MARKS.values(), *map(tuple, _SHADES.astype(int).T.tolist()))
 """The palette of density pictures: marks, darker for ports, then from empty (white) to full."""

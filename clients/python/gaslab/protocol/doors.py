@@ -35,10 +35,15 @@ def find_program(program: Optional[PathLike] = None) -> Path:
     path = Path(named).absolute()
     if not os.access(path, os.X_OK) or path.is_dir():
         raise Unreachable(f"no program to start: {path} can't be run; ./gaslab --build makes the program")
-    with open(path, "rb") as file:
-        if b"--is-built" in file.read(1 << 14):  # it is the script, which can tell, and not the program
-            _check_built(path)
+    if is_script(path):
+        _check_built(path)
     return path
+
+
+def is_script(path: PathLike) -> bool:
+    """Whether a file is the script `gaslab`, which can tell what its program is built from, or a program."""
+    with open(path, "rb") as file:
+        return b"--is-built" in file.read(1 << 14)
 
 
 def _check_built(script: Path) -> None:

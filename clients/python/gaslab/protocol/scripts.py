@@ -10,7 +10,7 @@ import sys
 from collections.abc import Iterable, Iterator
 from typing import Any, NamedTuple, Optional, Union
 
-from .commands import SIDES
+from .commands import MOST_STEPS, SIDES
 from .doors import PathLike
 from .link import lines_of
 
@@ -41,6 +41,24 @@ def parse_script(text: Union[str, Iterable[str]]) -> Script:
     if tokens:
         raise ValueError(f"line {tokens[-1][0]}: there is a }} without its {{")
     return Script(size, parts)
+
+
+def journal_script(size: tuple[int, int], commands: Iterable[str], note: str = "") -> str:
+    """The script of a journal: its size, then its commands, with steps that follow one another joined.
+
+    A note is its first line, as a comment.
+    """
+    lines = [f"# {note}"] if note else []
+    lines.append("size {} {}".format(*size))
+    for command in commands:
+        word, *words = command.split(" ")
+        before, *steps = lines[-1].split(" ")
+        total = int(words[0]) + int(steps[0]) if word == before and word in ("step", "back") else 0
+        if 0 < total <= MOST_STEPS:
+            lines[-1] = f"{word} {total}"
+        else:
+            lines.append(command)
+    return "\n".join(lines) + "\n"
 
 
 def is_open(text: str) -> bool:

@@ -1,16 +1,19 @@
 // The edits that can be undone: one list of all, newest last. What can't be undone stays in it and says why.
-import { rectangles } from "./tools.js";
+import { cover, hex } from "./shapes.js";
 
 const MOST = 100;
 const FILLS = { put: ["particles", 1], erase: ["particles", 0], wall: ["walls", 1], block: ["obstacles", 1] };
 const PORTS = ["source", "drain", "unport"];
 const bit = (set, width, x, y) => { const at = y * width + x; return set[at >> 3] >> (7 - (at & 7)) & 1; };
 
-export class Edits {
-  /** `changed` is called when the list changes. */
-  constructor(changed) {
-    Object.assign(this, { changed, isOff: false, depth: 0, list: [], open: null, now: null });
-  }
+class Edits {
+  list = [];
+  open = null;             // the edit whose lines still come
+  now = null;              // planes and ports after the last line
+  own = new Set();         // planes of `now` that may be written
+  depth = 0;
+  isOff = false;           // what comes is no edit
+  changed = () => {};      // called when the list changes
 
   clear() { this.list = []; this.open = null; this.now = null; this.changed(); }
 
@@ -32,11 +35,12 @@ export class Edits {
   close() {
     const { open } = this;
     this.open = null;
-    if (!open?.rect) return;
-    const cut = (set) => set.slice(open.rect[1] * this.width / 8, (open.rect[1] + open.rect[3]) * this.width / 8);
-    const kept = open.kinds.has("cells") ? ["particles"] : [], solids = open.kinds.has("solids") ? ["walls", "obstacles"] : [];
-    const { before } = open;
-    open.before = { ports: before.ports, ...Object.fromEntries([...kept, ...solids].map((name) => [name, cut(before[name])])) };
+    if (!open) return;
+    const [, y, , h] = open.rect ?? [0, 0, 0, 0], { kinds, before } = open, bytes = this.width / 8;
+    const cut = (set) => set.slice(y * bytes, (y + h) * bytes);
+    const names = [["cells", "particles"], ["solids", "walls"], ["solids", "obstacles"]];
+    const kept = names.filter(([kind]) => kinds.has(kind)).map(([, name]) => [name, cut(before[name])]);
+    open.before = { ports: before.ports, ...Object.fromEntries(kept) };
     open.after = cut(this.now.particles);
   }
 
@@ -57,14 +61,16 @@ export class Edits {
 
   note(word, words, line, by) {
     if (!this.open) {
-      this.open = { lines: [], by, rect: null, tick: this.tick, hasMoved: this.isMoving, kinds: new Set(), before: { ...this.now } };
+      this.open = { lines: [], by, rect: null, tick: this.tick, hasMoved: this.isMoving, kinds: new Set(),
+        before: { ...this.now } };
       this.own.clear();                                  // `before` keeps the planes as they are
       this.list.push(this.open);
       if (this.list.length > MOST) this.list.shift();
     }
     const { open } = this;
     open.lines.push(line);
-    const kind = PORTS.includes(word) ? "ports" : FILLS[word]?.[0] === "particles" || word === "row" ? "cells" : "solids";
+    const kind = PORTS.includes(word) ? "ports" : FILLS[word]?.[0] === "particles" || word === "row" ? "cells"
+      : "solids";
     open.kinds.add(kind);
     if (kind === "ports") return;
     const rect = word === "row" ? [0, Number(words[0]), this.width, 1] : words.map(Number);
@@ -77,7 +83,8 @@ export class Edits {
     const n = words.map(Number), { now } = this;
     if (FILLS[word]) this.fill(...FILLS[word], n);
     else if (word === "unwall") { this.fill("walls", 0, n); this.fill("obstacles", 0, n); }
-    else if (word === "row") this.plane("particles").set(words[1].match(/../g).map((v) => parseInt(v, 16)), n[0] * this.width / 8);
+    else if (word === "row")
+      this.plane("particles").set(words[1].match(/../g).map((v) => parseInt(v, 16)), n[0] * this.width / 8);
     else if (word === "unport") now.ports = { drains: [], sources: [] };
     else if (word === "drain") now.ports = { ...now.ports, drains: [...now.ports.drains, n] };
     else if (word === "source") now.ports = { ...now.ports, sources: [...now.ports.sources, n] };
@@ -100,16 +107,20 @@ export class Edits {
   /** The name of the last edit, or nothing. */
   label() {
     const lines = this.list.at(-1)?.lines;
-    return lines ? lines.length > 1 ? `${lines.at(-1).slice(0, 30)} and ${lines.length - 1} more` : lines[0].slice(0, 40) : "";
+    return lines ? lines.length > 1 ? `${lines.at(-1).slice(0, 30)} and ${lines.length - 1} more`
+      : lines[0].slice(0, 40) : "";
   }
 
   /** What undoes the last edit: { lines, note }, or { why } if it can't be undone and stays. */
   plan() {
     const last = this.list.at(-1);
     if (!last) return { why: "There is nothing to undo." };
-    if (last.by !== null) return { why: `Seat ${last.by} made the last change: ${this.label()}. Undo stops at it.` };
-    const lines = [...last.kinds.has("ports") ? this.portLines(last) : [], ...last.kinds.has("solids") ? this.solidLines(last) : []];
-    if (!last.kinds.has("cells")) return { lines, note: "" };
+    if (last.by !== null) return {
+      why: `Seat ${last.by} made the last change: ${this.label()}. Undo stops at it.` };
+    const { kinds } = last;
+    const lines = [...kinds.has("ports") ? this.portLines(last) : [], ...kinds.has("solids")
+      ? this.solidLines(last) : []];
+    if (!kinds.has("cells")) return { lines, note: "" };
     const isSame = !last.hasMoved && !this.isMoving && this.tick === last.tick
       && last.after.every((v, k) => v === this.now.particles[last.rect[1] * this.width / 8 + k]);
     if (isSame) return { lines: [...lines, ...this.cellLines(last)], note: "" };
@@ -121,7 +132,8 @@ export class Edits {
 
   portLines({ before: { ports } }) {
     const { drains, sources } = this.now.ports, has = drains.length + sources.length > 0;
-    return [...has ? ["unport"] : [], ...ports.drains.map((r) => `drain ${r.join(" ")}`), ...ports.sources.map((r) => `source ${r.join(" ")}`)];
+    return [...has ? ["unport"] : [], ...ports.drains.map((r) => `drain ${r.join(" ")}`),
+      ...ports.sources.map((r) => `source ${r.join(" ")}`)];
   }
 
   solidLines({ rect, before }) {
@@ -129,9 +141,11 @@ export class Edits {
     const had = (kind) => (i, j) => bit(before[kind], width, i, j - rect[1]);
     const gone = (i, j) => ["walls", "obstacles"].some((kind) => has(kind)(i, j) && !had(kind)(i, j));
     const lost = (kind) => (i, j) => had(kind)(i, j) && (!has(kind)(i, j) || gone(i, j));
-    const lines = (word, test) => rectangles(rect, test).map((r) => `${word} ${r.join(" ")}`);
-    const least = [...lines("unwall", gone), ...lines("wall", lost("walls")), ...lines("block", lost("obstacles"))];
-    const anew = [`unwall ${rect.join(" ")}`, ...lines("wall", had("walls")), ...lines("block", had("obstacles"))];
+    const lines = (word, test) => cover(rect, test).map((r) => `${word} ${r.join(" ")}`);
+    const least = [...lines("unwall", gone), ...lines("wall", lost("walls")),
+      ...lines("block", lost("obstacles"))];
+    const anew = [`unwall ${rect.join(" ")}`, ...lines("wall", had("walls")),
+      ...lines("block", had("obstacles"))];
     return anew.length < least.length ? anew : least;
   }
 
@@ -139,10 +153,13 @@ export class Edits {
   cellLines({ rect, before }) {
     const { now, width } = this, has = (i, j) => bit(now.particles, width, i, j);
     const was = (i, j) => bit(before.particles, width, i, j - rect[1]);
-    const lines = (word, test) => rectangles(rect, test).map((r) => `${word} ${r.join(" ")}`);
-    const least = [...lines("erase", (i, j) => has(i, j) && !was(i, j)), ...lines("put", (i, j) => was(i, j) && !has(i, j))];
+    const lines = (word, test) => cover(rect, test).map((r) => `${word} ${r.join(" ")}`);
+    const least = [...lines("erase", (i, j) => has(i, j) && !was(i, j)),
+      ...lines("put", (i, j) => was(i, j) && !has(i, j))];
     if (least.length <= rect[3]) return least;
-    const row = (j) => Array.from(before.particles.subarray(j * width / 8, (j + 1) * width / 8), (v) => v.toString(16).padStart(2, "0")).join("");
+    const row = (j) => hex(before.particles.subarray(j * width / 8, (j + 1) * width / 8));
     return Array.from({ length: rect[3] }, (_, k) => `row ${rect[1] + k} ${row(k)}`);
   }
 }
+
+export const edits = new Edits();

@@ -1,4 +1,5 @@
-// The worker of a page without a network. Each port that comes in is one page's connection; null on it ends it.
+// The worker of a page without a network. Each port that comes in is one page's connection; null on it ends
+// it.
 import { Server } from "./server.js";
 
 const server = new Server({ program: "page", cap: 65536 });

@@ -1,0 +1,166 @@
+"""The laboratory behind the pages: a program of their own, or a seat of a running server."""
+import os
+import tempfile
+from collections.abc import Iterator
+from pathlib import Path
+from typing import NamedTuple, Optional
+
+from ..lab.lab import Lab
+from ..protocol.commands import MOST_ENTRIES
+from ..protocol.doors import PathLike, is_script
+from ..protocol.errors import Refused, Strange
+from ..protocol.link import LINE_LIMIT
+from ..protocol.replies import Ledger, Ok, Probe, Tally, reply_text
+from ..protocol.scripts import journal_script
+from ..snapshot.files import Snapshot
+from .pictures import LAYOUT, Reading
+
+OTHERS = 256
+"""What is added to the number of a server's seat, since pages count their seats from 0."""
+_MEMORY = "/dev/shm"  # files there are never written to a disk
+_TRIES = 3  # looks at a gas that others change
+
+
+class Means(NamedTuple):
+    """How programs of the pages' own are started."""
+    program: PathLike = ""
+    cap: int = MOST_ENTRIES
+    timeout: float = 60.0
+
+
+class Laboratory:
+    """A gas with its journal, the probes that pages watch, and which page made which entry.
+
+    `start` is the snapshot that it began from, `name` what the pages call it, and `program` what computes it:
+    `proved`, `named` if somebody named the program, or `server`. It is for one thread at a time.
+    """
+    def __init__(self, lab: Lab, start: Optional[Snapshot], name: str, program: str, cap: int) -> None:
+        self.lab, self.start, self.name, self.program, self.cap = lab, start, name, program, cap
+        self.probes: dict[int, tuple[int, ...]] = {}
+        self.keys = self._told = 0
+        self._makers: dict[int, Optional[int]] = {}
+        self._room: Optional["tempfile.TemporaryDirectory[str]"] = None
+
+    @classmethod
+    def own(cls, means: Means, size: tuple[int, int] = (64, 64), start: Optional[Snapshot] = None,
+            name: str = "") -> "Laboratory":
+        """Starts a program, with a snapshot or an empty lattice. It saves to a file that nobody else sees."""
+        place = _MEMORY if os.access(_MEMORY, os.W_OK) else None
+        room = tempfile.TemporaryDirectory(prefix="gaslab-", dir=place)
+        path = Path(room.name, "start.gas")
+        try:
+            if start:
+                start.write(path)
+            lab = Lab.run(*size, cap=means.cap, load=path if start else None, save=Path(room.name, "now.gas"),
+                          program=means.program, timeout=means.timeout)
+        except BaseException:
+            room.cleanup()
+            raise
+        it = cls(lab, start, name, "proved" if is_script(means.program) else "named", means.cap)
+        it._room = room
+        return it
+
+    @classmethod
+    def joined(cls, host: str, port: int, timeout: float, start: Optional[Snapshot]) -> "Laboratory":
+        """Takes a seat of a server, which began from this snapshot if from any."""
+        lab = Lab.join(host, port, timeout, start)
+        return cls(lab, start, f"{host} {port}", "server", MOST_ENTRIES)
+
+    @property
+    def is_own(self) -> bool:
+        """Whether pages may open another gas in its place."""
+        return self._room is not None
+
+    def close(self) -> None:
+        """Ends the session."""
+        self.lab.close(polite=False)
+        if self._room:
+            self._room.cleanup()
+
+    def replies(self, seat: int, lines: list[str]) -> list[str]:
+        """The replies to lines of a page's seat."""
+        ready = [self._ready_reply(line) for line in lines]
+        found = self.lab.send([line for line, reply in zip(lines, ready) if reply is None])
+        replies = []
+        for reply in ready:
+            if reply is None:
+                it = next(found)
+                if isinstance(it, Ok):
+                    self._makers[it.index] = seat
+                reply = reply_text(it)
+            replies.append(reply)
+        return replies
+
+    def _ready_reply(self, line: str) -> Optional[str]:
+        """The reply to a line that the laboratory must not get: it would end the session, or save."""
+        if len(line.encode()) > LINE_LIMIT:
+            return "ERR 1 line"
+        word = line.strip().partition(" ")[0]
+        if word == "quit":
+            return "BYE"
+        return "ERR 15 save" if word == "save" and self.is_own else None
+
+    def tick(self) -> int:
+        """The present tick."""
+        return self.lab.tally().tick
+
+    def move(self, steps: int) -> str:
+        """Makes steps of play, backwards if negative. Returns the refusal, or an empty text."""
+        if not steps:
+            return ""
+        try:
+            reply = self.lab.step(steps) if steps > 0 else self.lab.back(-steps)
+        except Refused as refused:
+            return reply_text(refused)
+        self._makers[reply.index] = None
+        return ""
+
+    def news(self) -> Iterator[tuple[int, Optional[int], str]]:
+        """Each entry since the last call: its index, who made it, and the command.
+
+        The maker is a page's seat, `OTHERS` and a server's seat, or None for the steps of play.
+        """
+        self.lab.journal()
+        first, self._told = self._told, len(self.lab.known)
+        for k in range(first, self._told):
+            entry = self.lab.known[k]
+            yield k, self._makers.pop(k, OTHERS + entry.seat), entry.command
+
+    def watch(self, words: list[str]) -> str:
+        """Watches a rectangle. Returns the page's reply."""
+        if len(self.probes) >= LAYOUT["probes"]:
+            return "NO probes"
+        reply, = self.replies(0, [" ".join(["probe", *words])])
+        if not reply.startswith("PROBE"):
+            return reply
+        self.keys += 1
+        self.probes[self.keys] = tuple(int(word) for word in words if word)
+        return f"WATCH {self.keys}"
+
+    def look(self) -> Reading:
+        """The whole gas and its readings. Raises `Moving` if others change a server's gas all the time."""
+        gas = self.gas()
+        probes = list(self.probes.items())
+        lines = ["tally", "ledger", *(" ".join(["probe", *map(str, area)]) for _, area in probes)]
+        tally, ledger, *sums = self.lab.do(lines)
+        if not isinstance(tally, Tally) or not isinstance(ledger, Ledger):
+            raise Strange("no readings of a laboratory")
+        known = len(self.lab.known)
+        is_mixed = not self.is_own and len(self.lab.journal()) != known
+        found = [(*probe, reply) for probe, reply in zip(probes, sums) if isinstance(reply, Probe)]
+        return Reading(gas, tally, ledger, found, len(self.lab.known), is_mixed)
+
+    def gas(self) -> Snapshot:
+        """The whole gas. A program of one's own saves it, which is quicker than reading its rows."""
+        if self._room:
+            try:
+                self.lab.save()
+                return Snapshot.read(Path(self._room.name, "now.gas"))
+            except (Refused, OSError):
+                pass  # there was no room for the file
+        return self.lab.look(tries=_TRIES)
+
+    def script(self) -> str:
+        """The journal as a script, with the size first, and steps that follow one another joined."""
+        note = "This began from a snapshot: gaslab-client draw gas.txt --load start.gas" if self.start else ""
+        return journal_script(self.lab.size, (entry.command for entry in self.lab.journal()), note)

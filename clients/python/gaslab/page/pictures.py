@@ -1,0 +1,71 @@
+"""Pictures and files as binary messages, by the layout that the page reads too: static/layout.js."""
+import json
+import struct
+from typing import Any, NamedTuple, Optional
+
+from ..protocol.replies import Ledger, Probe, Tally
+from ..snapshot.files import Snapshot
+from .one_file import read
+
+_TYPES = {"u8": "B", "u16": "H", "u32": "I", "i64": "q"}
+
+
+def _layout() -> dict[str, Any]:
+    text = read("layout.js")
+    layout: dict[str, Any] = json.loads(text[text.index("{"):text.rindex("}") + 1])
+    return layout
+
+
+def _form(name: str) -> struct.Struct:
+    """The fields of a part of the layout."""
+    return struct.Struct(">" + "".join(f"{(*count, 1)[0]}{_TYPES[kind]}" for _, kind, *count in LAYOUT[name]))
+
+
+LAYOUT = _layout()
+"""Kinds, flags and fields of the messages."""
+NOBODY: int = LAYOUT["nobody"]
+"""The seat that plays while nobody does."""
+_HEAD, _PROBE, _FILE = _form("head"), _form("probe"), _form("fileHead")
+
+
+class Play(NamedTuple):
+    """Who plays: steps a picture, pictures a second, and the tick to stop at, if there is one."""
+    seat: int
+    steps: int
+    rate: int
+    to: Optional[int] = None
+
+
+class Reading(NamedTuple):
+    """The whole gas at one tick, with its sums, its accounts, its probes and the journal's length.
+
+    A probe has its key, its rectangle and its sums. `is_mixed` is whether the sums are of another moment.
+    """
+    gas: Snapshot
+    tally: Tally
+    ledger: Ledger
+    probes: list[tuple[int, tuple[int, ...], Probe]]
+    entries: int
+    is_mixed: bool
+
+
+def picture(reading: Reading, number: int, play: Optional[Play], with_solids: bool) -> bytes:
+    """The message of a picture. Walls, obstacles and ports are in it if the page doesn't have them yet."""
+    gas, flags = reading.gas, LAYOUT["flags"]
+    has = {"solids": with_solids, "ports": with_solids, "playing": play, "mixed": reading.is_mixed}
+    bits = sum(bit for name, bit in flags.items() if has[name])
+    seat, steps, rate, _ = play or Play(NOBODY, 0, 0)
+    head = _HEAD.pack(LAYOUT["picture"], bits, seat, gas.width, gas.height, gas.tick, number, reading.entries,
+                      steps, rate, len(reading.probes), *reading.tally[1:], *reading.ledger)
+    parts = [head, *(_PROBE.pack(key, *area, 0, *sums) for key, area, sums in reading.probes)]
+    parts.append(gas.particle_bytes)
+    if with_solids:
+        parts += [gas.wall_bytes, gas.obstacle_bytes, bytes((len(gas.drains), len(gas.sources)))]
+        parts += [struct.pack(f">{len(port)}H", *port) for port in (*gas.drains, *gas.sources)]
+    return b"".join(parts)
+
+
+def file(line: int, name: str, contents: bytes) -> bytes:
+    """The message of a file that was asked for by the line of this number."""
+    word = name.encode()
+    return _FILE.pack(LAYOUT["file"], 0, len(word), line) + word + contents

@@ -1,0 +1,38 @@
+// Elements of the page: found by id, or made from text without markup.
+export const at = (id) => document.getElementById(id);
+export const setting = (id) => JSON.parse(at(id)?.textContent ?? "null");
+
+/** An element. `tag` may have classes: "p.task". Strings of `props` are attributes, and so is what has a
+    dash; all else are properties. Children are elements or text; null and false are left out. */
+export function h(tag, props = {}, ...children) {
+  const [name, ...classes] = tag.split("."), element = document.createElement(name);
+  if (classes.length) element.className = classes.join(" ");
+  for (const [key, value] of Object.entries(props)) {
+    if (typeof value === "string" || key.includes("-")) element.setAttribute(key, value);
+    else element[key] = value;
+  }
+  element.append(...children.flat().filter((child) => child !== null && child !== false));
+  return element;
+}
+
+/** An icon from its shapes: [tag, attributes] each. */
+export function icon(shapes) {
+  const make = (tag, look) => {
+    const element = document.createElementNS("http://www.w3.org/2000/svg", tag);
+    for (const [key, value] of Object.entries(look)) element.setAttribute(key, value);
+    return element;
+  };
+  const svg = make("svg", { viewBox: "0 0 20 20", "aria-hidden": "true" });
+  svg.append(...shapes.map(([tag, look]) => make(tag, look)));
+  return svg;
+}
+
+/** Text in which what is between backticks is code, as children of `h`. */
+export const words = (text) => text.split("`").map((part, k) => k % 2 ? h("code", {}, part) : part);
+
+/** Writes text that has changed: an element that stays the same costs no layout. */
+export function setText(element, text) { if (element.textContent !== text) element.textContent = text; }
+
+const numbers = new Intl.NumberFormat("en-GB", { maximumFractionDigits: 3 });
+export const say = (n) => numbers.format(Object.is(n, -0) ? 0 : n).replace("-", "−");
+export const plural = (n, one) => `${say(n)} ${one}${n === 1 ? "" : "s"}`;

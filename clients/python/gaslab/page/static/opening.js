@@ -1,0 +1,109 @@
+// What opens a gas: lessons, files and what was kept over a reload. The gas before can be brought back.
+import { at } from "./dom.js";
+import { plainWords, isRefusal } from "./facts.js";
+import { EMPTY, find } from "./lessons.js";
+import { state, SPEEDS } from "./state.js";
+import { view } from "./canvas.js";
+import { edits } from "./edits.js";
+import { keepForReload, takeKept, lessonOf } from "./keep.js";
+import { notice, banner, hideBanner, speak } from "./notices.js";
+import { note } from "./log.js";
+import { send } from "./session.js";
+import { pickFile } from "./share.js";
+
+const asked = new URLSearchParams(location.search);
+const watches = (rects = []) => rects.map((rect) => `.watch ${rect.join(" ")}`);
+
+/** Opens lines or a snapshot in place of the gas. Resolves to the first refusal, [line, reply], or null. */
+async function open(lesson, size, lines, snapshot = null) {
+  const { lesson: old, tried, worked } = state;
+  const tool = matchMedia("(pointer: coarse)").matches ? "look" : lesson.tool;      // a finger scrolls first
+  state.change({ old: { lesson: old, tried, worked }, lesson, loading: true, tried: false, tool,
+    mode: lesson.mode, speed: lesson.speed });
+  view.fitted = lesson.view || true;
+  edits.isOff = true;
+  const [first] = snapshot ? [await state.link.upload(snapshot)]
+    : await send([`.open ${size.join(" ")} ${lesson.name.replace(/[\r\n]/g, " ")}`], { isQuiet: true });
+  const replies = first === "DONE" && lines.length ? await send(lines, { isQuiet: true }) : [];
+  const bad = replies.findIndex(isRefusal);
+  if (bad >= 0) await state.link.send([".bring"]);     // the lines after it were done too
+  edits.isOff = false;
+  state.change({ loading: false, worked: false });
+  if (first === "DONE" && bad < 0) return null;
+  state.change(state.old);
+  return first === "DONE" ? [bad, replies[bad]] : [-1, first];
+}
+
+/** Opens a lesson, and plays it if it is one that plays by itself. */
+export async function load(lesson, size = lesson.size) {
+  note(`${lesson.name}: ${size[0]} by ${size[1]} cells`);
+  const bad = await open(lesson, size, [...lesson.setup, ...watches(lesson.probes)]);
+  if (bad) { notice({ title: `${lesson.name} was not opened`, text: plainWords(bad[1]) }); return; }
+  state.change({ speed: lesson.speed });               // pictures of the gas before may have come meanwhile
+  offerOld();
+  const [steps, rate] = SPEEDS[state.speed];
+  if (lesson.play && !matchMedia("(prefers-reduced-motion: reduce)").matches)
+    await send([`.play ${steps} ${rate}`]);
+}
+
+/** Opens a script or a snapshot that was read and checked whole, beside a lesson's text or its own. A script
+    that began from a snapshot asks for that first. */
+export async function openBytes(name, bytes, lesson = null, snapshot = null) {
+  const read = lessonOf(bytes),
+    refused = (text, does) => notice({ title: `${name} was not opened`, text, does });
+  if (read.fault) { refused(read.fault); return; }
+  if (read.isAfterSnapshot && !snapshot) {
+    refused("This script began from a snapshot. Choose that file too.",
+      [["Choose the snapshot", () => pickFile((file) => openBytes(name, bytes, lesson, file.bytes))]]);
+    return;
+  }
+  const start = read.snapshot ?? snapshot, own = lesson ?? { ...EMPTY, id: "own", name, own: true, text: [] };
+  const fault = snapshot && lessonOf(snapshot);
+  if (fault && !fault.snapshot) { refused(fault.fault ?? "This is a script, not a snapshot."); return; }
+  const bad = await open(own, read.size, [...read.lines ?? [], ...watches(own.probes)], start);
+  if (bad) {
+    const place = bad[0] < 0 ? ""
+      : `Line ${read.numbers[bad[0]]} of ${read.count}, “${read.lines[bad[0]].slice(0, 40)}”: `;
+    if (state.lesson === EMPTY) await load(find("4"));
+    refused(`${place}${plainWords(bad[1], read.lines?.[bad[0]])} Nothing was opened.`);
+    return;
+  }
+  const [tally] = await state.link.send(["tally"]), tick = tally.split(" ")[1];
+  if (!lesson) state.change({
+    lesson: { ...own, text: [`This gas was opened from a file, at tick ${tick}.`] } });
+  state.change({ worked: true, tried: true });
+  speak(`${name} was opened at tick ${tick}.`);
+  note(`${name}, opened at tick ${tick}`);
+  offerOld();
+}
+
+/** After work was done on the gas before, it can be brought back. */
+function offerOld() {
+  const { old } = state;
+  if (!old.worked) { hideBanner(); return; }
+  const text = `The gas before, of “${old.lesson.name}”, is kept with its journal until another is opened.`;
+  banner(text, [["Bring it back", async () => {
+    const { lesson, tried, worked } = state;
+    state.change({ loading: true });
+    const [reply] = await send([".bring"]);
+    state.change({ loading: false });
+    if (reply !== "DONE") return;
+    state.change({ ...old, old: { lesson, tried, worked } });
+    hideBanner();
+  }]]);
+}
+
+/** A new gas begins with what was kept over a reload, the page's own script, or a lesson. */
+async function begin() {
+  const kept = takeKept(), opened = at("opened");
+  if (kept) {
+    await openBytes(kept.name, kept.bytes, find(kept.lesson) ?? null);
+    banner("Your gas was kept over the reload. Its ledger and journal begin anew.", [["Fine", hideBanner]]);
+  } else if (opened && !asked.has("lesson")) {
+    const { name, contents } = JSON.parse(opened.textContent);
+    await openBytes(name, Uint8Array.from(atob(contents), (c) => c.charCodeAt(0)));
+  } else await load(find(asked.get("lesson") || "4") ?? find("4"));
+}
+
+state.on(["isNew"], () => { if (state.isNew) begin(); });
+addEventListener("pagehide", () => { if (state.picture && state.worked) keepForReload(view, state.lesson); });

@@ -1,0 +1,292 @@
+// Pixels of a gas: packed bits into ImageData, one pixel a cell, 2 by 2 cells or a square.
+import { COLOURS, RAMP } from "./facts.js";
+import { h } from "./dom.js";
+
+const rgb = (r, g, b) => (255 << 24 | b << 16 | g << 8 | r) >>> 0;      // as ImageData has it, little-endian
+const parts = (hex) => [1, 3, 5].map((k) => parseInt(hex.slice(k, k + 2), 16));
+const C = Object.fromEntries(Object.entries(COLOURS).map(([name, hex]) => [name, rgb(...parts(hex))]));
+const GROUNDS = [C.empty, C.wall, C.obstacle, C.source, C.drain];
+const isSolid = (kind) => kind === 1 || kind === 2;
+// of the last pictures: even enough that the stream of lesson 4 doesn't flash
+const WEIGHTS = [.22, .24, .26, .28];
+const STALE = 16;          // pictures after which one is too old for a mean
+const FLASHING = 21800;    // pixels, WCAG 2.3.1
+const BIG = 1 << 20;       // cells from which no mean of pictures is made
+const MEAN = 8;            // pictures of a mean density
+export const POP = Uint8Array.from({ length: 256 },
+  (_, v) => [1, 2, 4, 8, 16, 32, 64, 128].filter((b) => v & b).length);
+
+const SHADES = Uint32Array.from({ length: 256 }, (_, n) => {
+  const place = n / 255 * 3, low = Math.min(Math.floor(place), 2),
+    [a, b] = [parts(RAMP[low]), parts(RAMP[low + 1])];
+  return rgb(...a.map((v, k) => Math.round(v + (b[k] - v) * (place - low))));
+});
+
+/** The mean of pixels, each with its weight. */
+function mix(pixels, weights) {
+  const whole = weights.reduce((a, b) => a + b);
+  return rgb(...[0, 8, 16].map((shift) =>
+    Math.round(pixels.reduce((sum, pixel, k) => sum + weights[k] * (pixel >>> shift & 255), 0) / whole)));
+}
+
+/** A canvas with its pixels as words. */
+class Sheet {
+  constructor() { this.canvas = h("canvas"); this.context = this.canvas.getContext("2d"); }
+
+  resize(width, height) {
+    if (this.image?.width === width && this.image.height === height) return;
+    Object.assign(this.canvas, { width, height });
+    this.image = new ImageData(width, height);
+    this.pixels = new Uint32Array(this.image.data.buffer);
+  }
+
+  put(...part) { this.context.putImageData(this.image, 0, 0, ...part); return this.canvas; }
+}
+
+export class Painter {
+  mode = "particles";
+  picture = null;
+  walls = null;
+  obstacles = null;
+  ports = { drains: [], sources: [] };
+  scale = 8;               // CSS pixels a cell
+  square = 4;              // cells of a side of what density counts
+  range = "full";          // of the shades: full, middle or own
+  shades = [0, 1];         // the densities of the first and the last shade
+  isMean = false;          // density is a mean of the last pictures
+  recent = [];             // the last pictures of four ticks
+  isCalm = false;          // their mean is drawn
+  past = [];               // counts of the last pictures for a mean density
+  full = new Sheet();
+  half = new Sheet();
+  coarse = new Sheet();
+
+  get cells() { return this.full.canvas; }
+
+  setPicture(picture) {
+    const resized = !this.picture || this.picture.width !== picture.width
+      || this.picture.height !== picture.height;
+    const { width, height } = picture;
+    if (resized && !(picture.walls && picture.ports)) throw new RangeError("walls and ports");
+    this.picture = picture;
+    this.remember(picture, resized);
+    if (picture.walls) { this.walls = picture.walls; this.obstacles = picture.obstacles; }
+    if (picture.ports) this.ports = picture.ports;
+    if (resized) {
+      this.full.resize(width, height);
+      this.square = width * height <= 1 << 16 ? 4 : width * height <= BIG ? 8 : 16;
+      this.past = [];
+    }
+    if (resized || picture.walls || picture.ports) this.remark();
+    return resized;
+  }
+
+  /** Keeps the last pictures of four ticks for a mean. While a gas plays quickly and fills a part of what is
+      seen, single ticks would flash: a cell may change three times a second, or changing cells cover 21,800
+      pixels. */
+  remember(p, isOther) {
+    const before = this.recent.at(-1);
+    if (isOther || !p.playing || before && p.number < before.number) { this.recent = []; this.isCalm = false;
+      }
+    // one of each, also when pictures are skipped
+    const phase = Math.floor(p.tick / Math.max(p.steps, 1)) & 3;
+    this.recent = this.recent.filter((r) => r.phase !== phase && p.number - r.number < STALE);
+    this.recent.push({ phase, number: p.number, tick: p.tick, particles: p.particles });
+    if (!p.playing || p.rate <= 3 || p.width * p.height > BIG) this.isCalm = false;
+    else if (2 * p.tally[0] * this.scale ** 2 > FLASHING) this.isCalm = true;
+  }
+
+  /** Finds what each cell lies on, and the bytes of eight cells that need more than the two colours. */
+  remark() {
+    const { width, height } = this.picture, n = width * height / 8;
+    this.rectangles = null;
+    this.special = new Uint8Array(n);
+    this.ground = new Uint8Array(width * height);      // a place in GROUNDS
+    const paint = ([x, y, w, tall], kind) => {
+      for (let j = y; j < y + tall; j++) this.ground.fill(kind, j * width + x, j * width + x + w);
+    };
+    for (const drain of this.ports.drains) paint(drain, 4);
+    for (const source of this.ports.sources) paint(source, 3);
+    for (let k = 0; k < n; k++) {
+      const both = this.walls[k] | this.obstacles[k];
+      for (let b = 0; both && b < 8; b++) if (both >> (7 - b) & 1)
+        this.ground[8 * k + b] = this.obstacles[k] >> (7 - b) & 1 ? 2 : 1;
+      for (let b = 0; b < 8; b++) this.special[k] |= this.ground[8 * k + b] && 1;
+    }
+  }
+
+  has(x, y, set = this.picture.particles) {
+    const at = y * this.picture.width + x;
+    return set[at >> 3] >> (7 - (at & 7)) & 1;
+  }
+
+  parity() { return ((this.picture.tick % 2) + 2) % 2; }
+
+  /** The way of a particle in a cell at the present tick: [1 right or -1 left, 1 down or -1 up]. */
+  way(x, y) { const t = this.parity(); return [(x + t) & 1 ? -1 : 1, (y + t) & 1 ? -1 : 1]; }
+
+  isSolidAt(x, y) { return isSolid(this.ground[y * this.picture.width + x]); }
+
+  /** What a block does in the next step: empty, passes, collides or bounces. */
+  fate(x, y) {
+    const { width, height } = this.picture, xs = [x, (x + 1) % width], ys = [y, (y + 1) % height];
+    const cells = [[xs[0], ys[0]], [xs[1], ys[0]], [xs[0], ys[1]], [xs[1], ys[1]]];
+    const held = cells.map(([i, j]) => this.has(i, j)), n = held[0] + held[1] + held[2] + held[3];
+    if (n === 0) return "empty";
+    if (cells.some(([i, j]) => this.isSolidAt(i, j))) return "bounces";
+    return n === 2 && held[0] === held[3] ? "collides" : "passes";
+  }
+
+  /** Walls and obstacles as rectangles with their kind, found once after each edit. */
+  solids() {
+    if (this.rectangles) return this.rectangles;
+    const { width, height } = this.picture, { ground } = this, open = new Map(), all = [];
+    const run = (x, y) => {
+      const kind = ground[y * width + x];
+      if (!isSolid(kind) || x && ground[y * width + x - 1] === kind) return;
+      let n = 1;
+      while (x + n < width && ground[y * width + x + n] === kind) n++;
+      const name = `${x} ${n} ${kind}`, above = open.get(name);
+      if (above && above[0][1] + above[0][3] === y) { above[0][3] += 1; return; }
+      const one = [[x, y, n, 1], kind];
+      open.set(name, one);
+      all.push(one);
+    };
+    for (let y = 0; y < height; y++) for (let k = 0; k < width / 8; k++)
+      if (this.special[y * width / 8 + k]) for (let x = 8 * k; x < 8 * k + 8; x++) run(x, y);
+    return (this.rectangles = all);
+  }
+
+  /** Packed bits to pixels, for the visible rows and bytes alone. */
+  paintCells({ x0, y0, x1, y1 }) {
+    const { picture: { width, particles }, special, ground, full: { pixels } } = this;
+    const bytes = width / 8, k0 = x0 >> 3, k1 = (x1 + 7) >> 3, { empty } = C;
+    for (let y = y0; y < y1; y++) {
+      const [even, odd] = this.looks(y);
+      let at = y * width + 8 * k0, b = y * bytes + k0;
+      for (let k = k0; k < k1; k++, b++, at += 8) {
+        const v = particles[b];
+        if (special[b]) {
+          for (let c = 0; c < 8; c++) {
+            const kind = ground[at + c];
+            pixels[at + c] = v >> (7 - c) & 1 ? isSolid(kind) ? C.hit : c & 1 ? odd : even : GROUNDS[kind];
+          }
+        } else if (v === 0) {
+          pixels[at] = pixels[at + 1] = pixels[at + 2] = pixels[at + 3] = empty;
+          pixels[at + 4] = pixels[at + 5] = pixels[at + 6] = pixels[at + 7] = empty;
+        } else {
+          pixels[at] = v & 128 ? even : empty; pixels[at + 1] = v & 64 ? odd : empty;
+          pixels[at + 2] = v & 32 ? even : empty; pixels[at + 3] = v & 16 ? odd : empty;
+          pixels[at + 4] = v & 8 ? even : empty; pixels[at + 5] = v & 4 ? odd : empty;
+          pixels[at + 6] = v & 2 ? even : empty; pixels[at + 7] = v & 1 ? odd : empty;
+        }
+      }
+    }
+    return this.full.put(8 * k0, y0, 8 * (k1 - k0), y1 - y0);
+  }
+
+  /** The colours of particles in even and odd columns of a row. */
+  looks(y) {
+    if (this.mode !== "velocity") return [C.particle, C.particle];
+    const colour = (x) => this.colourOf(x, y, this.parity());
+    return [colour(0), colour(1)];
+  }
+
+  colourOf(x, y, t) { return [C.rightDown, C.leftDown, C.rightUp, C.leftUp][(y + t & 1) << 1 | x + t & 1]; }
+
+  /** The mean of the last pictures, for the visible rows and bytes. */
+  paintMean({ x0, y0, x1, y1 }) {
+    const { picture: { width }, ground, full: { pixels } } = this, all = this.recent.map((p) => p.particles);
+    const bytes = width / 8, k0 = x0 >> 3, k1 = (x1 + 7) >> 3, colours = this.means();
+    const [a, b, c, d] = [0, 1, 2, 3].map((k) => all[k] ?? all[0]);
+    for (let y = y0; y < y1; y++) for (let k = k0; k < k1; k++) {
+      const at = y * bytes + k, low = (y & 1) << 5;
+      for (let bit = 7, x = 8 * k; bit >= 0; bit--, x++) {
+        const held = a[at] >> bit & 1 | (b[at] >> bit & 1) << 1 | (c[at] >> bit & 1) << 2
+          | (d[at] >> bit & 1) << 3;
+        pixels[y * width + x] = colours[ground[y * width + x] << 6 | low | (x & 1) << 4 | held];
+      }
+    }
+    return this.full.put(8 * k0, y0, 8 * (k1 - k0), y1 - y0);
+  }
+
+  /** The mean colours of each ground, parity of row and column, and pattern of the last pictures. */
+  means() {
+    const weights = WEIGHTS.slice(-this.recent.length);
+    const colour = (kind, y, x, tick, isFull) => !isFull ? GROUNDS[kind] : isSolid(kind) ? C.hit
+      : this.mode === "velocity" ? this.colourOf(x, y, tick) : C.particle;
+    return Uint32Array.from({ length: 320 }, (_, n) => mix(this.recent.map(({ tick }, k) =>
+      colour(n >> 6, n >> 5 & 1, n >> 4 & 1, ((tick % 2) + 2) % 2, n >> k & 1)), weights));
+  }
+
+  /** Half as wide and high, for big lattices: a pixel is the mean of 2 by 2 cells, of 16 patterns. */
+  paintHalf() {
+    const { picture: { width, height, particles }, special, ground, half } = this, bytes = width / 8;
+    half.resize(width / 2, height / 2);
+    const out = half.pixels, colours = this.patterns();
+    for (let y = 0; y < height; y += 2) {
+      let a = y * bytes, b = a + bytes, at = y / 2 * width / 2;
+      for (const end = b; a < end; a++, b++, at += 4) {
+        const u = particles[a], l = particles[b];
+        out[at] = colours[u >> 4 & 12 | l >> 6]; out[at + 1] = colours[u >> 2 & 12 | l >> 4 & 3];
+        out[at + 2] = colours[u & 12 | l >> 2 & 3]; out[at + 3] = colours[u << 2 & 12 | l & 3];
+        if (special[a] | special[b]) for (let c = 0; c < 4; c++) {
+          const g = y * width + (a % bytes) * 8 + 2 * c,
+            all = [g, g + 1, g + width, g + width + 1].map((k) => ground[k]);
+          const kind = all.find(isSolid) || (out[at + c] === C.empty ? all.find((k) => k) : 0);
+          if (kind) out[at + c] = GROUNDS[kind];
+        }
+      }
+    }
+    return half.put();
+  }
+
+  /** The mean colours of the patterns of 2 by 2 cells at an even column and row: upper left is bit 3. */
+  patterns() {
+    const t = this.parity(), isVelocity = this.mode === "velocity";
+    const colour = (k) => isVelocity ? this.colourOf(k & 1, k >> 1, t) : C.particle;
+    return Uint32Array.from({ length: 16 }, (_, pattern) =>
+      mix([0, 1, 2, 3].map((k) => pattern >> (3 - k) & 1 ? colour(k) : C.empty), [1, 1, 1, 1]));
+  }
+
+  /** The density in squares, one pixel a square. */
+  paintDensity() {
+    const { picture: { width, height, number }, square: q, past } = this, most = this.isMean ? MEAN : 1;
+    const isSame = past.at(-1)?.square === q && past.length <= most;
+    if (past.at(-1)?.number !== number || !isSame)
+      this.past = [...isSame ? past : [], { number, square: q, counts: this.countSquares() }].slice(-most);
+    this.coarse.resize(width / q, height / q);
+    const { pixels } = this.coarse, sums = new Float32Array(pixels.length);
+    for (const { counts } of this.past) for (let k = 0; k < sums.length; k++) sums[k] += counts[k];
+    const whole = q * q * this.past.length;
+    this.shades = this.range === "middle" ? [.25, .75] : this.range === "full" ? [0, 1]
+      : [extreme(sums, -1), extreme(sums, 1)]
+      .map((sum) => sum / whole);
+    const [low, high] = this.shades, factor = 255 / ((high - low) * whole || 1);
+    for (let k = 0; k < sums.length; k++)
+      pixels[k] = SHADES[Math.max(0, Math.min(255, Math.round((sums[k] - low * whole) * factor)))];
+    return this.coarse.put();
+  }
+
+  /** How many particles are in each square. */
+  countSquares() {
+    const { picture: { width, height, particles }, square: q } = this, across = width / q, bytes = width / 8;
+    const counts = new Uint16Array(across * height / q);
+    for (let y = 0; y < height; y++) {
+      const first = Math.floor(y / q) * across;
+      for (let k = 0; k < bytes; k++) {
+        const v = particles[y * bytes + k];
+        if (q === 4) { counts[first + 2 * k] += POP[v >> 4]; counts[first + 2 * k + 1] += POP[v & 15]; }
+        else counts[first + Math.floor(8 * k / q)] += POP[v];
+      }
+    }
+    return counts;
+  }
+}
+
+/** The greatest of many numbers, or with sign -1 the least. */
+function extreme(numbers, sign) {
+  let found = numbers[0];
+  for (const n of numbers) if (sign * n > sign * found) found = n;
+  return found;
+}

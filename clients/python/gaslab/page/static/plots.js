@@ -1,0 +1,302 @@
+// The plots: values of each picture by tick, kept in runs, and drawn by dygraphs.
+import { at, h, say, setText } from "./dom.js";
+import { COLOURS } from "./facts.js";
+import { LEDGER_NAMES } from "./frame.js";
+import { POP } from "./paint.js";
+
+const WINDOW = 20;         // ticks over which a rate is a mean
+const POINTS = 1500;       // points of a plot before every second one is dropped
+const RECORDS = 20000;     // readings that are kept for a table
+const KEPT = 3;            // runs: the present one, and paler the two before it
+const NOTES = 12;
+const LINES = [COLOURS.particle, "#b45309", "#00674a", "#8e3b7a", "#16202b", "#5a6673", "#a63f00", "#1d5f8a"];
+
+/** Mean of −ρ ln ρ − (1−ρ) ln(1−ρ) over squares of 8 by 8 cells. */
+export function entropy({ width, height, particles }) {
+  const across = width / 8;
+  let sum = 0;
+  for (let j = 0; j < height; j += 8) for (let i = 0; i < across; i++) {
+    let n = 0;
+    for (let r = 0; r < 8; r++) n += POP[particles[(j + r) * across + i]];
+    const d = n / 64;
+    if (d > 0 && d < 1) sum -= d * Math.log(d) + (1 - d) * Math.log(1 - d);
+  }
+  return sum / (across * height / 8);
+}
+
+/** Each plot: its unit, the greatest value that it can have, and its value in a picture. */
+const PLOTS = {
+  drag: { name: "Drag", unit: "momentum to the right that obstacles take per tick" },
+  flux: { name: "Flux", unit: "mean momentum to the right, per column", value: (p) => p.tally[1] / p.width },
+  count: { name: "Count", unit: "particles in the gas", value: (p) => p.tally[0] },
+  probe: { name: "Probe", most: 1, unit: "share of full cells in each probe" },
+  entropy: { name: "Entropy", most: Math.LN2, unit: "coarse-grained, in squares of 8 by 8 cells, per cell",
+    value: entropy },
+};
+
+/** The kept values of one plot by tick. Each run, forward or back, has a column of its own for each value. */
+class Series {
+  constructor() { this.clear(); }
+
+  clear() { this.rows = []; this.names = []; }
+
+  /** Takes the columns of old runs out. */
+  keep(isKept) {
+    const kept = this.names.map(isKept);
+    if (kept.every((is) => is)) return;
+    this.names = this.names.filter((_, k) => kept[k]);
+    this.rows = this.rows.map(([tick, ...values]) => [tick, ...values.filter((_, k) => kept[k])])
+      .filter(([, ...values]) => values.some((v) => v !== null));
+  }
+
+  add(tick, column, value) {
+    const { rows } = this;
+    let k = this.names.indexOf(column), low = 0, high = rows.length;
+    if (k < 0) { k = this.names.push(column) - 1; for (const row of rows) row.push(null); }
+    if (high && rows[high - 1][0] < tick) low = high;
+    while (low < high) { const mid = (low + high) >> 1; if (rows[mid][0] < tick) low = mid + 1;
+      else high = mid; }
+    if (rows[low]?.[0] !== tick) rows.splice(low, 0, [tick, ...this.names.map(() => null)]);
+    rows[low][k + 1] = value;
+    if (rows.length > POINTS) this.rows = halved(rows);
+  }
+}
+
+const halved = (list) => list.filter((_, k) => k % 2 === 0 || k === list.length - 1);
+const runOf = (name) => Number(/run (\d+)/.exec(name)[1]);
+const probeOf = (name) => Number(/^probe (\d+)/.exec(name)?.[1] ?? 0);
+const paler = (hex) => `#${[1, 3, 5].map((k) => parseInt(hex.slice(k, k + 2), 16))
+  .map((v) => Math.round(255 - (255 - v) * .4).toString(16).padStart(2, "0")).join("")}`;
+
+class Plots {
+  constructor() {
+    Object.assign(this, { series: Object.fromEntries(Object.keys(PLOTS).map((id) => [id, new Series()])),
+      shown: [], graphs: {}, drawn: 0, late: null });
+    this.clear();
+    document.querySelector("#plots .chips").append(...Object.entries(PLOTS).map(([id, { name, unit }]) =>
+      h("button", { "data-plot": id, title: unit, onclick: () => this.toggle(id) }, name)));
+  }
+
+  clear() {
+    for (const series of Object.values(this.series)) series.clear();
+    Object.assign(this, { recent: [], records: [], notes: [], last: null, run: 1, way: "forward" });
+    this.redraw(true);
+  }
+
+  /** The obstacles' account begins anew. */
+  newLedger() { this.recent = []; this.last = null; }
+
+  toggle(id) { this.choose(this.shown.includes(id) ? this.shown.filter((one) => one !== id)
+    : [...this.shown, id]); }
+
+  choose(ids) {
+    this.shown = Object.keys(PLOTS).filter((id) => ids.includes(id));
+    for (const chip of document.querySelectorAll("#plots .chips button"))
+      chip.setAttribute("aria-pressed", ids.includes(chip.dataset.plot));
+    for (const graph of Object.values(this.graphs)) graph.destroy();
+    this.graphs = {};
+    at("plot-list").replaceChildren(...this.shown.map((id) => h("figure", {},
+      h("figcaption", {}, h("b", {}, PLOTS[id].name), h("span.unit", {}, PLOTS[id].unit), h("span.number")),
+      h("div.plot", { id: `plot-${id}` }))));
+    this.redraw(true);
+  }
+
+  /** Takes the values of a picture. */
+  add(p) {
+    const { last } = this;
+    if (last?.tick !== p.tick) {
+      const way = last && p.tick < last.tick ? "back" : "forward";
+      if (way !== this.way) this.beginRun(way);
+      this.recent.push({ tick: p.tick, sum: p.ledger[7] });
+      while (this.recent.length > 2 && Math.abs(p.tick - this.recent[1].tick) >= 2 * WINDOW)
+        this.recent.shift();
+    }
+    this.last = p;
+    this.putValues(p);
+  }
+
+  /** A change of way begins a new run, and the values of older ones stay apart from its own. */
+  beginRun(way) {
+    this.run += 1;
+    this.way = way;
+    this.recent = this.last ? [{ tick: this.last.tick, sum: this.last.ledger[7] }] : [];
+    for (const series of Object.values(this.series)) series.keep((name) => runOf(name) > this.run - KEPT);
+    if (this.last) this.putValues(this.last);
+  }
+
+  /** The drag up to a tick, or null. The mean begins a multiple of four ticks before, which divides the
+      stream's period, also when pictures are skipped. */
+  drag({ tick, ledger }) {
+    const far = this.recent.filter((r) => Math.abs(tick - r.tick) >= WINDOW);
+    const first = far.findLast((r) => (tick - r.tick) % 4 === 0) ?? far.at(-1) ?? this.recent[0];
+    const span = first ? tick - first.tick : 0;
+    return Math.abs(span) >= 4 ? (ledger[7] - first.sum) / span : null;
+  }
+
+  /** The name of the present run's column, for a probe's key or for the plot's own value. */
+  column(key = 0) {
+    return `${key ? `probe ${key}, ` : ""}run ${this.run}${this.way === "back" ? ", back" : ""}`;
+  }
+
+  putValues(p) {
+    const drag = this.drag(p), isEntropy = this.shown.includes("entropy");
+    const values = { drag, flux: PLOTS.flux.value(p), count: p.tally[0], entropy: isEntropy ? entropy(p)
+      : null };
+    for (const [id, value] of Object.entries(values)) if (value !== null)
+      this.series[id].add(p.tick, this.column(), value);
+    for (const { key, rect, sums } of p.probes)
+      this.series.probe.add(p.tick, this.column(key), sums[0] / (rect[2] * rect[3]));
+    this.records.push({ run: this.run, tick: p.tick, tally: p.tally, ledger: p.ledger, drag,
+      entropy: values.entropy,
+      probes: p.probes });
+    if (this.records.length > RECORDS) this.records = halved(this.records);
+    this.redraw();
+  }
+
+  /** The readings of all pictures as a table of comma-separated values, oldest first. */
+  table() {
+    const keys = [...new Set(this.records.flatMap(({ probes }) => probes.map(({ key }) => key)))].sort((a,
+      b) => a - b);
+    const head = ["run", "tick", "count", "px", "py", ...LEDGER_NAMES, "drag", "entropy",
+      ...keys.flatMap((key) => ["count", "px", "py"].map((name) => `probe_${key}_${name}`))];
+    const rows = this.records.map(({ run, tick, tally, ledger, drag, entropy: e, probes }) =>
+      [run, tick, ...tally, ...ledger,
+      drag ?? "", e ?? "", ...keys.flatMap((key) => probes.find((one) => one.key === key)?.sums
+        ?? ["", "", ""])]);
+    return [head, ...rows].map((row) => row.join(",")).join("\n") + "\n";
+  }
+
+  note(tick, text) {
+    const last = this.notes.at(-1);
+    if (last?.tick === tick) last.lines.push(text);
+    else this.notes.push({ tick, lines: [text] });
+    if (this.notes.length > NOTES) this.notes.shift();
+  }
+
+  redraw(now = false) {
+    if (!now && performance.now() - this.drawn < 100) {
+      this.late ??= setTimeout(() => { this.late = null; this.redraw(true); }, 100);
+      return;
+    }
+    this.drawn = performance.now();
+    for (const id of this.shown) this.drawOne(id);
+    this.listNotes();
+  }
+
+  /** The edits whose numbers are in the plots. */
+  listNotes() {
+    const said = this.notes.map(({ tick, lines }) => `${tick} ${lines.length} ${lines[0]}`).join();
+    if (at("notes").dataset.said === said) return;
+    at("notes").dataset.said = said;
+    at("notes").replaceChildren(...this.notes.map(({ tick, lines }) => h("li", {}, `tick ${say(tick)}: `,
+      h("code", {}, lines[0].slice(0, 40)), lines.length > 1 ? ` and ${lines.length - 1} more` : "")));
+  }
+
+  drawOne(id) {
+    const box = at(`plot-${id}`), series = this.series[id],
+      number = box.parentElement.querySelector(".number");
+    const value = this.value(series), hasCurve = series.rows.length > 1;
+    setText(number, value === null ? "" : say(value));
+    box.classList.toggle("empty", !hasCurve);
+    if (hasCurve) { this.drawCurve(id, box, series); return; }
+    this.graphs[id]?.destroy();
+    delete this.graphs[id];
+    const hasProbe = this.last?.probes.length > 0;
+    setText(box, id === "probe" && !hasProbe ? "Choose Probe (R) and draw a rectangle."
+      : "Play, and the curve begins.");
+  }
+
+  /** The present value, if the plot has one: of several probes none is the value. */
+  value({ rows, names }) {
+    if (!this.last) return null;
+    const own = names.flatMap((name, k) => runOf(name) === this.run ? [k + 1] : []);
+    const row = rows.findLast(([tick]) => tick <= this.last.tick) ?? rows.at(-1);
+    return own.length === 1 && row ? row[own[0]] : null;
+  }
+
+  drawCurve(id, box, { rows, names }) {
+    const values = rows.flatMap(([, ...row]) => row).filter((v) => v !== null), { most } = PLOTS[id];
+    const max = Math.max(...values, 0), min = Math.min(...values, 0), room = (max - min || 1) * .12;
+    const valueRange = [min < 0 ? min - room : 0, most ? most * 1.06 : max === min ? 1 : max + room];
+    const dateWindow = [rows[0][0], Math.max(rows.at(-1)[0], rows[0][0] + 12)], isWide = max >= 1e5;
+    const font = parseFloat(getComputedStyle(document.documentElement).fontSize) * .8;
+    const kept = `${names.join()} ${isWide} ${this.run} ${font}`;
+    if (this.graphs[id]?.kept === kept) {
+      this.graphs[id].updateOptions({ file: rows, valueRange, dateWindow }); return; }
+    this.graphs[id]?.destroy();
+    box.textContent = "";
+    this.graphs[id] = new Dygraph(box, rows,
+      { labels: ["tick", ...names], valueRange, dateWindow, connectSeparatedPoints: true,
+      series: Object.fromEntries(names.map((name) => [name, this.look(name)])), legend: names.length > 1
+        ? "always" : "onmouseover",
+      labelsKMB: false, gridLineColor: "#dfe3e8", axisLineColor: "#8a94a0", axisLabelFontSize: font,
+        axisLineWidth: 1,
+      rightGap: 8, xRangePad: 0, highlightCircleSize: 4, interactionModel: {},
+      axes: { x: { axisLabelWidth: 3.8 * font, pixelsPerLabel: 4.3 * font, axisLabelFormatter: (v) => say(v),
+        valueFormatter: (tick) => `tick ${say(tick)}`, ticker: Dygraph.numericLinearTicks },
+      y: { axisLabelWidth: (isWide ? 4.8 : 3.3) * font, pixelsPerLabel: 2.8 * font,
+        axisLabelFormatter: (v) => say(v) } },
+      underlayCallback: (c, area, graph) => this.drawNotes(c, area, graph, font) });
+    this.graphs[id].kept = kept;
+  }
+
+  /** How a column is drawn: runs back are dashed, runs before the present one paler. */
+  look(name) {
+    const key = probeOf(name), isBack = name.endsWith("back"), isOld = runOf(name) < this.run;
+    const colour = key ? LINES[(key - 1) % LINES.length] : isBack ? "#a63f00" : LINES[0];
+    return { color: isOld ? paler(colour) : colour, strokeWidth: isOld ? 1.5 : 2.25, strokePattern: isBack
+      ? [6, 3] : null };
+  }
+
+  /** A line and a number for each edit; the list below the plots has their lines. */
+  drawNotes(c, area, graph, font) {
+    c.save();
+    c.font = `600 ${font}px ${getComputedStyle(document.body).fontFamily}`;
+    c.textBaseline = "top";
+    let free = -Infinity;
+    this.notes.forEach(({ tick }, k) => {
+      const x = graph.toDomXCoord(tick), w = c.measureText(k + 1).width + 4;
+      if (x < area.x || x > area.x + area.w) return;
+      c.strokeStyle = "#a63f00";
+      c.setLineDash([3, 3]);
+      c.beginPath();
+      c.moveTo(x, area.y);
+      c.lineTo(x, area.y + area.h);
+      c.stroke();
+      if (x - w / 2 < free) return;
+      free = x + w / 2 + 2;
+      c.fillStyle = "#ffffffd9";
+      c.fillRect(x - w / 2, area.y, w, font + 3);
+      c.fillStyle = "#8a3500";
+      c.fillText(k + 1, x - w / 2 + 2, area.y + 2);
+    });
+    c.restore();
+  }
+
+  /** A plot with its labels, as a canvas. */
+  picture(id) {
+    const box = at(`plot-${id}`), from = box.getBoundingClientRect(), ratio = 2;
+    const canvas = h("canvas", { width: from.width * ratio, height: (from.height + 26) * ratio }),
+      c = canvas.getContext("2d");
+    c.scale(ratio, ratio);
+    c.fillStyle = "#ffffff";
+    c.fillRect(0, 0, from.width, from.height + 26);
+    c.fillStyle = COLOURS.probe;
+    c.font = `600 14px ${getComputedStyle(document.body).fontFamily}`;
+    c.fillText(`${PLOTS[id].name}: ${PLOTS[id].unit}`, 4, 17);
+    for (const part of box.querySelectorAll("canvas, .dygraph-axis-label")) {
+      const { left, top, width, height } = part.getBoundingClientRect(),
+        [x, y] = [left - from.left, top - from.top + 26];
+      if (part instanceof HTMLCanvasElement) { c.drawImage(part, x, y, width, height); continue; }
+      const { font, textAlign } = getComputedStyle(part);
+      Object.assign(c, { font, textBaseline: "middle", textAlign });
+      c.fillText(part.textContent, textAlign === "right" ? x + width : textAlign === "center" ? x + width / 2
+        : x, y + height / 2);
+    }
+    return canvas;
+  }
+
+  resize() { for (const graph of Object.values(this.graphs)) graph.resize(); }
+}
+
+export const plots = new Plots();

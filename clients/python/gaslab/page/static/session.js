@@ -1,0 +1,192 @@
+// The page's seat at a server: joins, sends lines, takes events and pictures in.
+import { connect } from "./local.js";
+import { Link } from "./link.js";
+import { plainWords, isRefusal } from "./facts.js";
+import { EMPTY, named, shared } from "./lessons.js";
+import { state, SPEEDS } from "./state.js";
+import { view } from "./canvas.js";
+import { edits } from "./edits.js";
+import { plots } from "./plots.js";
+import { notice, hideNotice, banner, hideBanner, speak } from "./notices.js";
+import { note, exchanges, entryOf } from "./log.js";
+import { saveFile, savePicture } from "./share.js";
+
+let fresh = null;          // a picture that waits for the next frame
+let isJoining = false, keepsPlots = false;
+const seen = { since: performance.now(), drawn: 0, made: 0, number: 0, tick: 0 };
+
+const events = {
+  hello({ seat, rights, program, cap, isNew }) {
+    isJoining = true;
+    state.people.set(seat, "");
+    state.change({ status: "open", seat, rights, program, cap, isNew, people: state.people });
+    if (rights === "watch") banner("You are watching. Another seat drives this gas.");
+  },
+  open(width, height, name) {
+    edits.clear();
+    view.selection = null;
+    hideNotice();
+    if (keepsPlots) plots.newLedger();
+    else plots.clear();
+    state.change({ least: 0, furthest: 0, acted: -Infinity, picture: null });
+    const isOwn = state.loading || keepsPlots || isJoining && state.lesson !== EMPTY;
+    if (!isOwn) state.change({ lesson: named(name) ?? shared(name, isJoining ? "joined" : "opened") });
+    isJoining = false;
+  },
+  seat(seat, what, name) {
+    if (what === "left") state.people.delete(seat);
+    else state.people.set(seat, name || state.people.get(seat) || "");
+    if (what !== "name" && seat !== state.seat)
+      note(`seat ${seat} ${what === "came" ? "has joined" : "has left"}`);
+    state.change({ people: state.people });
+  },
+  entry(k, seat, line) {
+    edits.entry(line, seat === state.seat ? null : seat);
+    if (seat !== state.seat) entryOf(state.people.get(seat) || `seat ${seat}`, line, `OK ${k}`);
+    if (state.loading) return;
+    state.change({ worked: true });
+    if (!state.picture || /^(step|back)/.test(line)) return;
+    state.change({ tried: true });
+    if (state.picture.tick !== 0) plots.note(state.picture.tick, line);
+  },
+  play(seat, steps, rate) { takePlay(true, steps, rate); },
+  pause(seat, why) {
+    const wasPlaying = state.playing;
+    state.change({ playing: false });
+    if (why.startsWith("ERR")) refuse(why, "step 1", { isTime: true, wasPlaying });
+    else if (why !== "opened" && state.picture)
+      speak(`${why === "there" ? "Arrived" : "Paused"} at tick ${state.picture.tick}.`);
+  },
+  picture(picture) {
+    const before = state.picture;
+    try { take(picture); } catch (fault) {
+      fresh = null;
+      state.picture = view.picture = before;
+      state.link.strange(fault);
+    }
+  },
+  gone(isStrange = false) {
+    state.change({ status: "gone", playing: false });
+    banner(isStrange ? "The server sent something that this page can't read. The connection is closed."
+      : "The server has ended. This is its last picture.",
+        [["Connect again", join], ["Save the picture", savePicture]], true);
+  },
+};
+
+/** Takes a seat. A gas that is there stays as it is: only a new one gets a lesson. */
+export function join() {
+  hideBanner();
+  state.people.clear();
+  state.change({ link: new Link(connect(), events) });
+}
+
+/** Takes a picture in. It is drawn with the next frame. */
+function take(p) {
+  if (p.number > seen.number + 1 && seen.number && p.playing) seen.made += p.number - seen.number - 1;
+  seen.made += 1;
+  seen.number = p.number;
+  fresh = p;
+  takePlay(p.playing, p.steps, p.rate);
+  const isResized = view.setPicture(p), { drains, sources } = view.ports,
+    hasPorts = drains.length + sources.length > 0;
+  edits.picture(p, view);
+  state.change({ picture: p, acted: hasPorts ? p.tick : state.acted, least: Math.min(state.least, p.tick),
+    furthest: hasPorts ? 0 : Math.max(state.furthest, p.tick) });
+  plots.add(p);
+  if (isResized || view.fitted) {
+    const whole = view.fitted === true || isResized && !state.lesson.view;
+    view.fit(whole ? null : view.fitted || state.lesson.view);
+  }
+  view.redraw();
+}
+
+/** What each picture and event says about play. The gas is everybody's: another seat may have done it. */
+function takePlay(playing, steps, rate) {
+  if (state.playing !== playing) state.change({ playing });
+  const speed = playing ? SPEEDS.findIndex((one) => one[0] === steps && one[1] === rate) : -1;
+  if (speed >= 0 && speed !== state.speed) state.change({ speed });
+}
+
+view.onFrame = () => {
+  const shown = fresh;
+  fresh = null;
+  try {
+    if (shown) view.probes = shown.probes.map(({ key, rect }) => ({ rect, name: `probe ${key}` }));
+    view.draw();
+    if (!shown) return;
+    seen.drawn += 1;
+    state.change({ shown });
+    measure(shown);
+    state.link.drawn();
+  } catch (fault) { state.link.strange(fault); }
+};
+
+/** Counts pictures and steps of each second. */
+function measure({ tick, steps, rate }) {
+  const now = performance.now(), seconds = (now - seen.since) / 1000;
+  if (seconds < 1) return;
+  state.change({ pace: { drawn: seen.drawn / seconds, made: seen.made / seconds,
+    steps: Math.abs(tick - seen.tick) / seconds, asked: steps * rate } });
+  Object.assign(seen, { since: now, drawn: 0, made: 0, tick });
+}
+
+/** Sends lines that a person asked for. Resolves to their replies. `where` says how a refusal is shown:
+    `rect` is its place on the gas, `isTime` that time was to move, `isQuiet` that the caller shows it. */
+export async function send(lines, where = {}) {
+  hideNotice();
+  edits.begin();
+  const replies = await state.link.send(lines);
+  edits.end();
+  exchanges(lines, replies);
+  const bad = replies.findIndex(isRefusal);
+  if (bad >= 0 && !where.isQuiet) refuse(replies[bad], lines[bad], { ...where, lines });
+  return replies;
+}
+
+/** Says why this seat may not do something, and is true then. */
+export function isWatching(rect = null) {
+  if (state.rights === "watch") refuse("NO watch", "", { rect });
+  return state.rights === "watch";
+}
+
+/** Shows a refusal where it happened. */
+function refuse(reply, line, where) {
+  if (where.isTime && reply.startsWith("ERR 11")) { state.change({ refusedBack: state.refusedBack + 1 });
+    return; }
+  const does = { "ERR 10": [["Remove all ports", () => send(["unport"])]],
+    "ERR 13": [["Save script and snapshot, go on", () => goOn(where)]] }[reply.slice(0, 6)];
+  const { width = 64, height = 64 } = state.picture ?? {}, shown = line.length > 34 ? `${line.slice(0, 34)}…`
+    : line;
+  notice({ title: "Not done", text: plainWords(reply, line, [width, height]), does, rect: where.rect,
+    code: line && `${shown}  →  ${reply}` });
+}
+
+/** Goes on with a new journal after the full one and the gas were saved. Probes, plots and play stay, and
+    what was refused is sent again. */
+async function goOn({ lines = [], wasPlaying = false }) {
+  await saveFile(".script");
+  await saveFile(".snapshot");
+  keepsPlots = true;
+  const [reply] = await send([".fresh"]);
+  keepsPlots = false;
+  if (isRefusal(reply)) return;
+  const [steps, rate] = SPEEDS[state.speed];
+  await send([...lines, ...wasPlaying ? [`.play ${steps} ${rate}`] : []]);
+}
+
+addEventListener("error", ({ message }) =>
+  banner(`This page has a fault: ${message}. Load it again.`, [], true));
+addEventListener("unhandledrejection",
+  ({ reason }) => banner(`This page has a fault: ${reason}. Load it again.`, [], true));
+
+/** Pauses, and waits for the picture that stays. */
+export async function pause() {
+  if (state.playing) await state.link.send([".pause"]);
+  while (state.picture?.playing)
+    await new Promise((done) => state.addEventListener("changed", done, { once: true }));
+}
+
+export function play() {
+  const [steps, rate] = SPEEDS[state.speed];
+  return send([`.play ${steps} ${rate}`]);
+}

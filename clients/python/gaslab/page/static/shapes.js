@@ -1,0 +1,83 @@
+// Sets of cells as rectangles, and the lines that draw them.
+
+/** The rectangle between two cells, snapped outward to squares of `snap` cells, within the lattice. */
+export function rectangle([ax, ay], [bx, by], { width, height }, snap = 1) {
+  const span = (a, b, side) => {
+    const low = Math.max(0, Math.min(a, b, side - 1)), high = Math.min(side - 1, Math.max(a, b, 0));
+    const from = Math.floor(low / snap) * snap;
+    return [from, Math.min(side, (Math.floor(high / snap) + 1) * snap) - from];
+  };
+  const [x, w] = span(ax, bx, width), [y, h] = span(ay, by, height);
+  return [x, y, w, h];
+}
+
+/** The rectangles of an ellipse that fills a rectangle. A cell is in it if its middle is. */
+export function ellipse(rect) {
+  const [x, y, w, h] = rect, part = (v, from, side) => ((v + .5 - from) / side * 2 - 1) ** 2;
+  return cover(rect, (i, j) => part(i, x, w) + part(j, y, h) <= 1);
+}
+
+/** The rectangles of a stroke through cells, with a pen of `snap` by `snap` cells. */
+export function stroke(cells, size, snap) {
+  const names = new Set(), squares = [];
+  const add = (cell) => {
+    const rect = rectangle(cell, cell, size, snap), name = rect.join();
+    if (!names.has(name)) { names.add(name); squares.push(rect); }
+  };
+  cells.forEach(([x, y], k) => {
+    const [a, b] = cells[Math.max(0, k - 1)], n = Math.max(Math.abs(x - a), Math.abs(y - b), 1);
+    for (let s = 0; s <= n; s++) add([Math.round(a + (x - a) * s / n), Math.round(b + (y - b) * s / n)]);
+  });
+  const low = (k) => Math.min(...squares.map((r) => r[k])),
+    high = (k) => Math.max(...squares.map((r) => r[k] + r[k + 2]));
+  const [x, y, w, h] = [low(0), low(1), high(0) - low(0), high(1) - low(1)], held = new Uint8Array(w * h);
+  for (const [i, j, a, b] of squares) for (let q = j - y; q < j - y + b; q++)
+    held.fill(1, q * w + i - x, q * w + i - x + a);
+  return cover([x, y, w, h], (i, j) => held[(j - y) * w + i - x]);
+}
+
+/** Few rectangles that cover the cells which pass a test, and no other. They may overlap: of all that begin
+    with the row of the first cell that is left, the largest is taken. */
+export function cover([x, y, w, h], test) {
+  const held = new Uint8Array(w * h), out = [];
+  for (let j = 0; j < h; j++) for (let i = 0; i < w; i++) held[j * w + i] = test(x + i, y + j) ? 1 : 0;
+  const left = held.slice();
+  for (let k = left.indexOf(1); k >= 0; k = left.indexOf(1, k)) {
+    const [i, j, a, b] = largest(held, w, h, k % w, Math.floor(k / w));
+    for (let q = j; q < j + b; q++) left.fill(0, q * w + i, q * w + i + a);
+    out.push([x + i, y + j, a, b]);
+  }
+  return out;
+}
+
+/** The largest rectangle of held cells with a cell in its top row. */
+function largest(held, w, h, i, j) {
+  let from = 0, to = w, best = [i, j, 1, 1];
+  for (let row = j; row < h && held[row * w + i]; row++) {
+    let a = i, b = i;
+    while (a > from && held[row * w + a - 1]) a--;
+    while (b + 1 < to && held[row * w + b + 1]) b++;
+    from = a;
+    to = b + 1;
+    if ((to - from) * (row - j + 1) > best[2] * best[3]) best = [from, j, to - from, row - j + 1];
+  }
+  return best;
+}
+
+export const hex = (bytes) => Array.from(bytes, (v) => v.toString(16).padStart(2, "0")).join("");
+
+/** `row` lines that lay a random gas into a rectangle, and keep what is outside it. Solid cells stay empty.
+    Density and drifts are percents. */
+export function randomGas(view, [x, y, w, h], { density, right, down }, random = Math.random) {
+  const { width, particles } = view.picture, bytes = width / 8, out = [];
+  for (let j = y; j < y + h; j++) {
+    const row = particles.slice(j * bytes, (j + 1) * bytes);
+    for (let i = x; i < x + w; i++) {
+      const [vx, vy] = view.way(i, j), mask = 128 >> (i & 7);
+      const chance = density / 100 * (1 + right / 100 * vx) * (1 + down / 100 * vy);
+      if (!view.isSolidAt(i, j) && random() < chance) row[i >> 3] |= mask; else row[i >> 3] &= ~mask;
+    }
+    out.push(`row ${j} ${hex(row)}`);
+  }
+  return out;
+}

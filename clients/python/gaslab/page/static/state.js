@@ -1,0 +1,51 @@
+// What the page knows of the gas and of itself. Views read it; each change is an event with what changed.
+import { EMPTY } from "./lessons.js";
+
+/** Steps a picture and pictures a second of each place of the speed slider. */
+export const SPEEDS = [[1, 1], [1, 2], [1, 5], [1, 10], [1, 20], [1, 30], [1, 60],
+  ...Array.from({ length: 12 }, (_, k) => [2 << k, 60])];
+
+class State extends EventTarget {
+  status = "connecting";       // connecting, open or gone
+  seat = null;                 // this page's number, after hello
+  rights = "all";              // all or watch
+  program = "none";            // none, page, proved, named or server
+  cap = 0;                     // entries that a journal holds
+  people = new Map();          // seat to name
+  link = null;
+  isNew = false;               // the server's gas waits for a lesson
+  picture = null;              // the last one that came
+  shown = null;                // the last one that was drawn
+  playing = false;
+  speed = 4;                   // a place in SPEEDS
+  tool = "put";
+  mode = "particles";          // particles, velocity or density
+  lesson = EMPTY;
+  loading = false;             // a lesson or a file is being opened
+  tried = false;               // something was drawn since the lesson began
+  worked = false;              // something would be lost
+  least = 0;                   // the least and the greatest tick since the gas was opened
+  furthest = 0;
+  acted = -Infinity;           // the last tick at which there were ports
+  pace = null;                 // a second's pictures and steps: { drawn, made, steps, asked }
+  old = null;                  // lesson, tried and worked of the gas before
+  refusedBack = 0;             // how often a way back was asked for that is none
+  keysOn = true;               // single keys act
+
+  constructor() { super(); Object.seal(this); }
+
+  /** Sets fields, and tells the views once. */
+  change(fields) {
+    Object.assign(this, fields);
+    this.dispatchEvent(new CustomEvent("changed", { detail: fields }));
+  }
+
+  /** Calls `show` after each change of one of these fields. */
+  on(names, show) {
+    this.addEventListener("changed", ({ detail }) => { if (names.some((name) => name in detail)) show(); });
+  }
+
+  get isOff() { return this.rights === "watch" || this.status !== "open"; }
+}
+
+export const state = new State();

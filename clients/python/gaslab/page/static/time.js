@@ -1,0 +1,132 @@
+// Time: play, steps, speed and the tick slider, and why one of them can't be had.
+import { at, h, icon, say, plural, setText } from "./dom.js";
+import { ICONS } from "./facts.js";
+import { state, SPEEDS } from "./state.js";
+import { view } from "./canvas.js";
+import { speak } from "./notices.js";
+import { send, play, pause, isWatching } from "./session.js";
+
+const LOUD = 6000, HELD = 340, SPOKEN = 10000;      // milliseconds
+const NEARLY = .9;         // of a journal
+let loudUntil = 0, steppedAt = 0, spokenAt = 0, isPulled = false;
+
+const hasPorts = () => view.ports.drains.length + view.ports.sources.length > 0;
+
+export function toggle() {
+  if (isWatching()) return;
+  if (state.playing) send([".pause"]);
+  else play();
+}
+
+export async function step(n, isBack = false) {
+  if (isWatching()) return;
+  steppedAt = performance.now();
+  if (isBack && hasPorts()) { refuseBack(); return; }
+  if (state.playing) await state.link.send([".pause"]);
+  await send([`${isBack ? "back" : "step"} ${n}`], { isTime: true });
+}
+
+/** A held key must not flash. */
+export const isTooSoon = () => performance.now() - steppedAt < HELD;
+
+export function goTo(tick) {
+  if (isWatching() || !state.picture) return;
+  const far = tick - state.picture.tick;
+  if (hasPorts() && far < 0) refuseBack();
+  else send([`.goto ${tick} ${Math.max(1, Math.min(4096, Math.ceil(Math.abs(far) / 60)))} 60`],
+    { isTime: true });
+}
+
+export function setSpeed(speed) {
+  state.change({ speed: Math.max(0, Math.min(SPEEDS.length - 1, speed)) });
+  if (state.playing) play();
+}
+
+function refuseBack() { state.change({ refusedBack: state.refusedBack + 1 }); }
+
+function showSpeed() {
+  const [steps, rate] = SPEEDS[state.speed], text = `${plural(steps * rate, "step")} a second`;
+  at("speed").value = state.speed;
+  at("speed").setAttribute("aria-valuetext", text);
+  setText(at("speed-text"), text);
+}
+
+function showTime() {
+  const { isOff, picture: p } = state, ports = hasPorts(), word = state.playing ? "Pause" : "Play";
+  if (at("play").textContent !== word) at("play").replaceChildren(icon(ICONS[word.toLowerCase()]), word);
+  for (const id of ["play", "step"]) at(id).setAttribute("aria-disabled", isOff);
+  for (const id of ["back", "rewind"]) at(id).setAttribute("aria-disabled", isOff || ports);
+  at("tick-slider").disabled = isOff || ports;
+  at("ticks").hidden = ports;
+  if (p && !isPulled) {
+    at("tick-slider").min = Math.min(state.least, 0);
+    at("tick-slider").max = Math.max(state.furthest, 1);
+    at("tick-slider").value = p.tick;
+    setText(at("tick-text"), say(state.furthest));
+  }
+  showReason();
+  if (p?.playing && performance.now() - spokenAt > SPOKEN) {
+    if (spokenAt) speak(`Tick ${p.tick}`);
+    spokenAt = performance.now();
+  }
+}
+
+/** Why time can't be had, or what is to be known of it: [text, whether ports are the reason]. */
+function reason() {
+  const { picture: p, cap, pace, acted } = state, { drains, sources } = view.ports;
+  if (state.isOff || !p) return ["", false];
+  if (p.journal > NEARLY * cap)
+    return [`The journal is ${p.journal < cap ? "nearly " : ""}full: `
+      + `${say(p.journal)} of ${say(cap)} entries.`, false];
+  if (p.playing && pace?.made > 3 && pace.drawn < pace.made * .75)
+    return [`Skipping pictures: ${Math.round(pace.drawn)} of ${Math.round(pace.made)} a second are drawn. `
+      + "No step is missed.", false];
+  if (p.playing && pace?.asked > 10 && pace.steps < pace.asked * .75)
+    return [`Asked for ${say(pace.asked)} steps a second, made ${say(Math.round(pace.steps))}.`, false];
+  const ports = [[sources.length, "source"], [drains.length, "drain"]].filter(([n]) => n)
+    .map(([n, one]) => plural(n, one));
+  if (ports.length) return [`No way back: ${ports.join(", ")}.`, true];
+  return [p.tick < acted ? `Ports acted until tick ${say(acted)}: this is another past.` : "", false];
+}
+
+function showReason() {
+  const [text, isPorts] = reason(), box = at("reason");
+  box.hidden = !text;
+  box.classList.toggle("loud", performance.now() < loudUntil);
+  if (box.dataset.text === text) return;
+  box.dataset.text = text;
+  box.replaceChildren(h("span", { role: "status" }, text));
+  if (isPorts)
+    box.append(h("button", { onclick: () => send(["unport"]) }, "Remove them: ", h("code", {}, "unport")));
+}
+
+at("step").append(icon(ICONS.step));
+at("back").append(icon(ICONS.back));
+at("rewind").append(icon(ICONS.rewind));
+at("play").onclick = toggle;
+at("step").onclick = () => step(1);
+at("back").onclick = () => step(1, true);
+at("rewind").onclick = () => goTo(0);
+at("speed").max = SPEEDS.length - 1;
+at("speed").oninput = () => setSpeed(at("speed").valueAsNumber);
+at("tick-slider").oninput = () => {
+  isPulled = true;
+  pause();
+  setText(at("tick-text"), `to ${say(at("tick-slider").valueAsNumber)}`);
+};
+at("tick-slider").onchange = async () => {
+  const aim = at("tick-slider").valueAsNumber;
+  await pause();
+  isPulled = false;
+  goTo(aim);
+};
+state.on(["speed"], showSpeed);
+state.on(["shown", "playing", "status", "rights", "pace", "refusedBack"], showTime);
+state.on(["refusedBack"], () => {
+  loudUntil = performance.now() + LOUD;
+  setTimeout(showTime, LOUD);
+  showTime();
+  speak(reason()[0]);
+});
+showSpeed();
+showTime();

@@ -1,0 +1,77 @@
+// What is shown: particles, velocities or density, zoom, and the key of colours.
+import { at, h, setText } from "./dom.js";
+import { COLOURS, ZOOM } from "./facts.js";
+import { state } from "./state.js";
+import { view } from "./canvas.js";
+import { plots } from "./plots.js";
+
+const WAYS = [["rightDown", "↘"], ["leftDown", "↙"], ["rightUp", "↗"], ["leftUp", "↖"]];
+const modes = [...at("modes").children];
+
+export function zoom(factor) {
+  if (!view.picture) return;
+  view.zoom(factor, ...view.middle);
+  view.redraw();
+}
+
+export function fit(rect = null) {
+  view.fit(rect);
+  view.redraw();
+}
+
+function showMode() {
+  view.mode = state.mode;
+  for (const button of modes) {
+    const isOn = button.dataset.mode === state.mode;
+    button.setAttribute("aria-checked", isOn);
+    button.tabIndex = isOn ? 0 : -1;
+  }
+  at("density").hidden = state.mode !== "density";
+  view.redraw();
+}
+
+/** What the colours mean. It says nothing that isn't drawn. */
+function showKey() {
+  const isNear = view.scale >= ZOOM.grid && view.mode !== "density", hasArrows = view.scale >= ZOOM.arrows;
+  const [low, high] = view.shades.map((share) => `${Math.round(share * 100)} %`),
+    swatch = (look) => h("i", { style: look });
+  const name = [view.mode, isNear, hasArrows, low, high, view.square, view.isMean].join();
+  if (at("key").dataset.name === name) return;
+  const marks = isNear ? [h("span", {}, h("i.ring"), "collides next"),
+    h("span", {}, h("i.ring.dashed"), "bounces")] : [];
+  at("key").dataset.name = name;
+  if (view.mode === "density") {
+    at("key").replaceChildren(h("span", {}, low), h("span.ramp"), h("span", {}, high));
+    setText(at("density-text"),
+      `Squares of ${view.square} by ${view.square} cells${view.isMean ? ", mean of 8 pictures" : ""}`);
+  } else if (view.mode === "velocity" && !hasArrows)
+    at("key").replaceChildren(...WAYS.map(([way, arrow]) =>
+      h("span", {}, swatch(`background:${COLOURS[way]}`), arrow)), ...marks);
+  else at("key").replaceChildren(...isNear ? marks
+    : [h("span", {}, swatch(`background:${COLOURS.hit};outline:1px solid #8a94a0`), "particle on a wall")]);
+}
+
+for (const button of modes) button.onclick = () => state.change({ mode: button.dataset.mode });
+at("modes").onkeydown = (e) => {
+  const by = { ArrowRight: 1, ArrowLeft: -1 }[e.key];
+  if (!by) return;
+  e.preventDefault();
+  e.stopPropagation();
+  const next = modes[(modes.findIndex((b) => b.dataset.mode === state.mode) + by + 3) % 3];
+  state.change({ mode: next.dataset.mode });
+  next.focus();
+};
+at("square").onchange = () => { view.square = Number(at("square").value); view.redraw(); };
+at("range").onchange = () => { view.range = at("range").value; view.redraw(); };
+at("mean").onchange = () => { view.isMean = at("mean").checked; view.redraw(); };
+at("zoom-in").onclick = () => zoom(1.5);
+at("zoom-out").onclick = () => zoom(1 / 1.5);
+at("zoom-fit").onclick = () => fit();
+state.on(["mode"], showMode);
+view.onDraw = () => { at("square").value = view.square; showKey(); };
+new ResizeObserver(() => {
+  if (view.picture && view.fitted) view.fit(view.fitted === true ? null : view.fitted);
+  view.redraw();
+  plots.resize();
+}).observe(at("mat"));
+showMode();

@@ -1,0 +1,243 @@
+"""The server of the page: HTTP and one WebSocket a page, by aiohttp."""
+import asyncio
+import hmac
+import queue
+import secrets
+import threading
+import time
+from collections.abc import Callable
+from concurrent.futures import Future
+from contextlib import suppress
+from functools import partial
+from ipaddress import ip_address
+from typing import Any, Optional, Union
+
+from ..protocol.errors import GaslabError, Gone, Silent, Strange, library
+from .hall import Hall, Seat
+from .one_file import one_file, served_file
+
+_LONGEST = 8 << 20  # bytes of a message; the longest snapshot has 6.3 million
+_MOST_WAITING = 4096  # messages for a page that doesn't read
+_PATIENCE = 3.0  # seconds that connections get to end
+_POLL = 0.1  # seconds between two looks for what others did
+_LOST = (Gone, Silent, Strange)
+_HEADERS = {"Cache-Control": "no-store", "X-Content-Type-Options": "nosniff",
+            "Referrer-Policy": "no-referrer", "Cross-Origin-Resource-Policy": "same-origin"}
+
+
+class Desk(threading.Thread):
+    """The thread that asks the laboratory. It does jobs one after the other, and plays between them."""
+    def __init__(self, hall: Hall, has_ended: Callable[[], None]) -> None:
+        super().__init__(daemon=True)
+        self.hall, self.has_ended = hall, has_ended
+        self.fault: Optional[Exception] = None
+        self._jobs: "queue.Queue[Optional[Callable[[], None]]]" = queue.Queue()
+
+    def call(self, job: Callable[[], Any]) -> "Future[Any]":
+        """Does a job. Its result, or what it raises, comes by the future."""
+        future: "Future[Any]" = Future()
+
+        def run() -> None:
+            if not future.set_running_or_notify_cancel():
+                return
+            try:
+                future.set_result(job())
+            except BaseException as fault:
+                future.set_exception(fault)
+                if isinstance(fault, _LOST):
+                    raise
+        self._jobs.put(run)
+        return future
+
+    def end(self) -> None:
+        """Ends the thread, after the jobs before."""
+        self._jobs.put(None)
+
+    def run(self) -> None:
+        """Works until it is ended, or can't go on, as when the laboratory is lost."""
+        try:
+            while True:
+                job = self._next()
+                if job is None:
+                    break
+                job()
+                self.hall.beat()
+        except Exception as fault:
+            self.fault = fault
+        finally:
+            self.hall.close()
+            self.has_ended()
+
+    def _next(self) -> Optional[Callable[[], None]]:
+        player = self.hall.player
+        wait = max(0.0, player.due - time.monotonic()) if player.play else _POLL
+        try:
+            return self._jobs.get(timeout=min(wait, _POLL)) if wait else self._jobs.get_nowait()
+        except queue.Empty:
+            return self.hall.poll
+
+
+class Outbox:
+    """The messages for one page. `put` may be called by any thread, and never waits."""
+    def __init__(self, loop: asyncio.AbstractEventLoop) -> None:
+        self._loop = loop
+        self._waiting: "asyncio.Queue[Union[str, bytes]]" = asyncio.Queue()
+        self.is_full = asyncio.Event()
+
+    def put(self, message: Union[str, bytes]) -> None:
+        """Queues a message."""
+        with suppress(RuntimeError):  # the loop has ended
+            self._loop.call_soon_threadsafe(self._put, message)
+
+    def _put(self, message: Union[str, bytes]) -> None:
+        if self._waiting.qsize() < _MOST_WAITING:
+            self._waiting.put_nowait(message)
+        else:
+            self.is_full.set()
+
+    async def send_to(self, socket: Any) -> None:
+        """Sends what comes, until the page has gone."""
+        while True:
+            message = await self._waiting.get()
+            await (socket.send_str(message) if isinstance(message, str) else socket.send_bytes(message))
+
+
+class Web:
+    """The addresses of a page. Who has the link of a seat that draws, or that watches, has those rights.
+
+    Without a hall it serves the page with an engine of its own, which begins with `opened`.
+    """
+    def __init__(self, make_hall: Optional[Callable[[tuple[str, str]], Hall]], host: str = "127.0.0.1",
+                 opened: tuple[str, Optional[bytes]] = ("", None)) -> None:
+        self.http, self.host, self.opened = library("aiohttp.web"), str(ip_address(host)), opened
+        if ip_address(host).is_unspecified:
+            raise ValueError("--share takes the address by which others reach this machine (hostname -I)")
+        self.tokens = {rights: secrets.token_urlsafe(16) for rights in ("all", "watch")}
+        self.hall = make_hall and make_hall((self.tokens["all"], self.tokens["watch"]))
+        self.port = 0
+        self._sockets: set[Any] = set()
+
+    @property
+    def _place(self) -> str:
+        return f"[{self.host}]:{self.port}" if ":" in self.host else f"{self.host}:{self.port}"
+
+    def link(self, rights: str) -> str:
+        """The link of a seat."""
+        return f"http://{self._place}/{self.tokens[rights]}/"
+
+    def serve(self, port: int, ready: Callable[["Web"], None]) -> None:
+        """Serves until it is interrupted. Raises `Gone`, `Silent` or `Strange` if the laboratory is lost."""
+        asyncio.run(self.run(port, ready))
+
+    async def run(self, port: int, ready: Callable[["Web"], None]) -> None:
+        """Serves, as `serve` does, until it is cancelled."""
+        loop, ended = asyncio.get_running_loop(), asyncio.Event()
+
+        def has_ended() -> None:
+            with suppress(RuntimeError):  # the loop has ended before
+                loop.call_soon_threadsafe(ended.set)
+        self.desk = Desk(self.hall, has_ended) if self.hall else None
+        runner = self.http.AppRunner(self._app(), access_log=None)
+        await runner.setup()
+        try:
+            await self.http.TCPSite(runner, self.host, port).start()
+            self.port = runner.addresses[0][1]
+            if self.desk:
+                self.desk.start()
+            ready(self)
+            await ended.wait()
+        finally:
+            await self._end(runner, ended)
+        if self.desk and self.desk.fault:
+            raise self.desk.fault
+
+    async def _end(self, runner: Any, ended: asyncio.Event) -> None:
+        await asyncio.gather(*(_close(socket, 1001) for socket in self._sockets))
+        with suppress(asyncio.TimeoutError):  # a connection that was reset can take a minute
+            await asyncio.wait_for(runner.cleanup(), _PATIENCE)
+        if self.desk and self.desk.is_alive():
+            self.desk.end()
+            with suppress(asyncio.TimeoutError):  # a long job is left: the program ends with this one
+                await asyncio.wait_for(ended.wait(), _PATIENCE)
+        elif self.hall and not ended.is_set():
+            self.hall.close()
+
+    def _app(self) -> Any:
+        """The addresses, with a look at each request before it is answered."""
+        @self.http.middleware
+        async def guard(request: Any, handler: Callable[[Any], Any]) -> Any:
+            self._check(request)
+            response = await handler(request)
+            if not response.prepared:
+                response.headers.update(_HEADERS)
+            return response
+        app = self.http.Application(middlewares=[guard])
+        for path, answer in (("", self._page), ("gas.html", self._one_file), ("socket", self._socket)):
+            app.router.add_get("/{token}/" + path, answer)
+        return app
+
+    def _check(self, request: Any) -> None:
+        """Lets through only requests to this server by its own name, from its own pages, with a token."""
+        names = {self._place, f"localhost:{self.port}"} if self.host == "127.0.0.1" else {self._place}
+        origin = request.headers.get("Origin")
+        if request.host not in names or origin not in (None, f"http://{request.host}"):
+            raise self.http.HTTPForbidden(text="This server answers its own pages alone.\n")
+        token = request.match_info.get("token", "").encode()
+        request["rights"] = next((rights for rights, it in self.tokens.items()
+                                  if hmac.compare_digest(token, it.encode())), None)
+        if request["rights"] is None:
+            raise self.http.HTTPNotFound(text="There is nothing here.\n")
+
+    async def _page(self, request: Any) -> Any:
+        text = served_file(f"ws://{request.host}") if self.hall else one_file(*self.opened)
+        return self.http.Response(text=text, content_type="text/html",
+                                  headers={"Content-Security-Policy": "frame-ancestors 'none'"})
+
+    async def _one_file(self, request: Any) -> Any:
+        return self.http.Response(text=one_file(), content_type="text/html", headers={
+            "Content-Disposition": 'attachment; filename="gaslab.html"'})
+
+    async def _socket(self, request: Any) -> Any:
+        if not self.hall or not self.desk or "Origin" not in request.headers:
+            raise self.http.HTTPForbidden(text="This server answers its own pages alone.\n")
+        socket = self.http.WebSocketResponse(max_msg_size=_LONGEST, heartbeat=30.0, compress=False)
+        await socket.prepare(request)
+        self._sockets.add(socket)
+        outbox = Outbox(asyncio.get_running_loop())
+        tasks = [asyncio.ensure_future(it) for it in (outbox.send_to(socket), outbox.is_full.wait())]
+        try:
+            seat = await self._do(partial(self.hall.join, request["rights"], outbox.put))
+            tasks.append(asyncio.ensure_future(self._listen(socket, seat)))
+            done, _ = await asyncio.wait(tasks, return_when=asyncio.FIRST_COMPLETED)
+            for task in done:
+                task.exception()
+            with suppress(GaslabError):
+                await self._do(partial(self.hall.leave, seat))
+        except GaslabError:
+            pass  # the laboratory is lost, and the server ends
+        finally:
+            self._sockets.discard(socket)
+            for task in tasks:
+                task.cancel()
+            await _close(socket, 1008)
+        return socket
+
+    async def _listen(self, socket: Any, seat: Seat) -> None:
+        """Does what a page sends, a message at a time. What is none of a page's messages ends it."""
+        assert self.hall
+        async for message in socket:
+            if message.type.name not in ("TEXT", "BINARY"):
+                break
+            await self._do(partial(self.hall.said, seat, message.data))
+
+    async def _do(self, job: Callable[[], Any]) -> Any:
+        assert self.desk
+        if not self.desk.is_alive():
+            raise Gone("the laboratory has ended")
+        return await asyncio.wrap_future(self.desk.call(job))
+
+
+async def _close(socket: Any, code: int) -> None:
+    """Closes a page's connection. One that reads nothing is left after a while."""
+    with suppress(asyncio.TimeoutError):
+        await asyncio.wait_for(socket.close(code=code), _PATIENCE)
