@@ -65,7 +65,7 @@ stage() {
     # PROVED.md comes from there
     grep -q '^## What is proved$' "$here/README.md" &&
         mkdir -p "$to/lib" "$to/docs" &&
-        cp "$here/gaslab" "$here/CHANGELOG.md" "$to/" &&
+        cp "$here/gaslab" "$here/gaslab.html" "$here/CHANGELOG.md" "$to/" &&
         cp "$parts/sources.sh" "$parts/run.sh" "$parts/help.sh" "$parts/install.sh" "$to/lib/" &&
         cp "$here/docs/FORMATS.md" "$here/docs/CLASS.md" "$here/docs/GAS.md" "$to/docs/" &&
         cp "$here/docs/PACKAGE.md" "$to/README.md" &&
