@@ -4,7 +4,6 @@ pub mod Windows
 pub mod Took
 pub mod Blank
 pub mod Holding
-pub mod Sparing
 pub mod Torus
 pub mod TorusTook
 pub mod Borders

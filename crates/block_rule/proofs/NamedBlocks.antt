@@ -16,7 +16,6 @@ use Rattle.block_rule.specs.declared.collide_odd.OddBlocks.{OddBlocks}
 use Rattle.block_rule.specs.TileBlocks.{NamesBlocks, AreLentBlocks}
 use Rattle.block_rule.specs.declared.blocks_in_tile.SetBlocks.{SetBlocks}
 use Rattle.block_rule.proofs.Holding.{same_block, class_among}
-use Rattle.block_rule.proofs.Sparing.{at_even_even}
 use Rattle.block_rule.specs.Rows.{AreMadeOdd, AreUpper, AreLower, ShowsInnerRows, odd_row, eight_row}
 use Rattle.block_rule.specs.declared.blocks.Blocks.{Blocks}
 use Rattle.block_rule.specs.declared.blocks.EightRows.{EightRows}
@@ -247,7 +246,7 @@ both_even walls obstacles words walled obstructed are of_walls of_obstacles i j 
 
 -- the words of cells for even parity
 pub even_blocks_are : (cells : Tile) (test : ℕ → ℕ → Bool) → HasCells cells test → AreEvenBlocksOf cells.even_even test
-even_blocks_are cells test are i j h k = at_even_even test cells are i j h k ∙ ap₂ test (omega arith) (omega arith)
+even_blocks_are cells test are i j h k = is_even_even cells i j h k ∙ (are (2 * i + 0) (2 * j + 0) (omega arith) (omega arith) ∙ ap₂ test (omega arith) (omega arith))
 
 -- where one set has no blocks those of the other are all
 or_none : (a b : Bool) → b ≡ false → a ≡ (a || b)

@@ -5,8 +5,8 @@ use Rattle.bit_tile.specs.Bit.{bit}
 use Rattle.bit_tile.specs.Tile.{HasCells}
 use Rattle.bit_tile.specs.declared.Tile.{Tile}
 use Rattle.bit_tile.proofs.Classes.{by_class, even_even_at, odd_even_at, even_odd_at, odd_odd_at}
-use Rattle.block_rule.specs.Cell.{made, partner, spared, unless}
-use Rattle.block_rule.specs.Rows.{ShowsTile, ShowsRound, IsMade, ShowsRows, AreMadeOdd, AreUpper, AreLower, IsSpared, even_row, odd_row, beside_left, beside_right, eight_row}
+use Rattle.block_rule.specs.Cell.{made, partner}
+use Rattle.block_rule.specs.Rows.{ShowsTile, ShowsRound, IsMade, ShowsRows, AreMadeOdd, AreUpper, AreLower, even_row, odd_row, beside_left, beside_right, eight_row}
 use Rattle.block_rule.specs.declared.blocks.Blocks.{Blocks}
 use Rattle.block_rule.specs.declared.blocks.EightRows.{EightRows}
 
@@ -169,28 +169,6 @@ module _ (window : ℕ → ℕ → Bool) (t : Tile) (shows : ShowsTile window t)
         left_lower = round.below_left ∙ odd_even_at dl 31 0;
         right_upper = round.right 63 (omega arith) ∙ even_odd_at r 0 31;
         right_lower = round.below_right ∙ even_even_at dr 0 0;
-      }
-
--- and where the old cells of two sets stay
-spared_cell : (w o kept old made own beside facing across : Bool) (cell : Bool → Bool → Bool → Bool → Bool) → old ≡ own → made ≡ cell own beside facing across → kept ≡ (if w then old else made) → (if o then old else kept) ≡ unless o (unless w cell) own beside facing across
-spared_cell w o kept old made own beside facing across cell e f g = rw (g, e, f) refl
-
-module _ (cell : Bool → Bool → Bool → Bool → Bool) (window walled obstructed : ℕ → ℕ → Bool) (r y old_odd old_even odd even first_odd first_even last_odd last_even : ℕ)
-    (first : IsSpared walled r old_odd old_even odd even first_odd first_even) (last : IsSpared obstructed r old_odd old_even first_odd first_even last_odd last_even) where
-  pub spared_upper : ((i : ℕ) → i < 32 → window (2 * i + 2) y ≡ bit old_odd i) → ((i : ℕ) → i < 32 → window (2 * i + 1) y ≡ bit old_even i) → AreUpper (λ _. cell) (λ _. cell) window y odd even
-      → AreUpper (λ i. spared walled obstructed cell (2 * i + 1) r) (λ i. spared walled obstructed cell (2 * i + 0) r) window y last_odd last_even
-  spared_upper shows_odd shows_even are =
-      record {
-        left = λ i h. last.in_odd i h ∙ spared_cell (walled (2 * i + 1) r) (obstructed (2 * i + 1) r) _ _ _ _ _ _ _ cell (sym (shows_odd i h)) (are.left i h) (first.in_odd i h);
-        right = λ i h. last.in_even i h ∙ spared_cell (walled (2 * i + 0) r) (obstructed (2 * i + 0) r) _ _ _ _ _ _ _ cell (sym (shows_even i h)) (are.right i h) (first.in_even i h);
-      }
-
-  pub spared_lower : ((i : ℕ) → i < 32 → window (2 * i + 2) (y + 1) ≡ bit old_odd i) → ((i : ℕ) → i < 32 → window (2 * i + 1) (y + 1) ≡ bit old_even i) → AreLower (λ _. cell) (λ _. cell) window y odd even
-      → AreLower (λ i. spared walled obstructed cell (2 * i + 1) r) (λ i. spared walled obstructed cell (2 * i + 0) r) window y last_odd last_even
-  spared_lower shows_odd shows_even are =
-      record {
-        left = λ i h. last.in_odd i h ∙ spared_cell (walled (2 * i + 1) r) (obstructed (2 * i + 1) r) _ _ _ _ _ _ _ cell (sym (shows_odd i h)) (are.left i h) (first.in_odd i h);
-        right = λ i h. last.in_even i h ∙ spared_cell (walled (2 * i + 0) r) (obstructed (2 * i + 0) r) _ _ _ _ _ _ _ cell (sym (shows_even i h)) (are.right i h) (first.in_even i h);
       }
 
 -- the odd blocks' cells

@@ -29,7 +29,3 @@ turned_at p cells walled x y = made (turned_cell walled) p cells x y
 -- a rule, but for cells that keep their value
 abbrev pub unless : Bool → (Bool → Bool → Bool → Bool → Bool) → Bool → Bool → Bool → Bool → Bool
 unless kept cell own beside facing across = if kept then own else cell own beside facing across
-
--- the rule of the cell (x, y), where the cells of two sets keep their values
-abbrev pub spared : (ℕ → ℕ → Bool) → (ℕ → ℕ → Bool) → (Bool → Bool → Bool → Bool → Bool) → ℕ → ℕ → Bool → Bool → Bool → Bool → Bool
-spared some others cell x y = unless (others x y) (unless (some x y) cell)

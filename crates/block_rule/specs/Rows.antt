@@ -1,4 +1,4 @@
-use Rattle.std.specs.Prelude.{◌≡◌, ℕ, ◌+◌, ◌*◌, ◌<◌, Bool, if◌then◌else◌, slice_index}
+use Rattle.std.specs.Prelude.{◌≡◌, ℕ, ◌+◌, ◌*◌, ◌<◌, Bool, slice_index}
 use Rattle.bit_tile.specs.Bit.{bit}
 use Rattle.bit_tile.specs.Tile.{has}
 use Rattle.bit_tile.specs.declared.Tile.{Tile}
@@ -94,11 +94,6 @@ beside_right r j = record { upper = slice_index r.even_odd j; lower = slice_inde
 abbrev pub ShowsInnerRows : (ℕ → ℕ → Bool) → Tile → Tile → Tile → Type 0
 ShowsInnerRows window t left right =
     (j : ℕ) → j < 31 → ShowsRows window (2 * j + 2) (odd_row t j) (beside_left left j) (beside_right right j)
-
--- two words of a row of a tile's cells, in which the old cells stay that pass the test: those of odd and of even columns of row y
-pub record IsSpared (test : ℕ → ℕ → Bool) (y old_odd old_even new_odd new_even odd even : ℕ) : Type 0 where
-  pub in_odd : (i : ℕ) → i < 32 → bit odd i ≡ (if test (2 * i + 1) y then bit old_odd i else bit new_odd i)
-  pub in_even : (i : ℕ) → i < 32 → bit even i ≡ (if test (2 * i + 0) y then bit old_even i else bit new_even i)
 
 -- the upper and the lower words of a row of odd blocks after rules of their columns
 pub record AreUpper (left_rule right_rule : ℕ → Bool → Bool → Bool → Bool → Bool) (window : ℕ → ℕ → Bool) (y ul ur : ℕ) : Type 0 where

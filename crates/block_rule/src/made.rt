@@ -3,7 +3,7 @@
 ghost use Rattle.std.specs.Prelude.{◌≡◌, ℕ, ◌+◌, ◌*◌, ◌/◌, ◌<◌, ◌≤◌, ◌⊎◌, Bool, slice_index};
 ghost use Rattle.bit_tile.specs.Bit.{bit};
 ghost use Rattle.bit_tile.specs.Tile.{HasCells};
-ghost use Rattle.block_rule.specs.Cell.{made, spared, turned_at};
+ghost use Rattle.block_rule.specs.Cell.{made, turned_at};
 ghost use Rattle.block_rule.specs.Rows.{ShowsTile, ShowsAllRound, ShowsOddRow, ShowsInnerRows, IsMadeOdd, AreMadeOdd, odd_row, eight_row};
 
 use crate::blocks::{Blocks, EightRows, Rule, collided, next, previous};

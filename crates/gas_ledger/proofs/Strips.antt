@@ -1,33 +1,22 @@
 -- Counts of the cells of a row, 64 at a time from the left.
-use Rattle.std.proofs.Common.{◌≡◌, ℕ, ◌+◌, ◌*◌, ◌/◌, ◌%◌, ◌^◌, ◌<◌, ◌≤◌, ◌==◌, ◌&&◌, not, cond, List, [], ◌∷◌, get_or, sym, subst, ap, ap₂, ◌∙◌, arith, bit_and, w64}
+use Rattle.std.proofs.Common.{◌≡◌, ℕ, ◌+◌, ◌*◌, ◌%◌, ◌^◌, ◌<◌, ◌≤◌, ◌==◌, ◌&&◌, not, cond, List, [], get_or, sym, ap, ap₂, ◌∙◌, arith, bit_and, w64}
 use Rattle.std.specs.Int.{bit_not}
 use Rattle.bit_tile.specs.Bit.{bit}
 use Rattle.bit_tile.specs.Sums.{count_below}
-use Rattle.bit_tile.proofs.Bits.{bit-and, bit-not, get_or-replicate_zero}
-use Rattle.gas_terms.specs.Cells.{Cells, has, without, extent}
+use Rattle.bit_tile.proofs.Bits.{bit-and, bit-not}
+use Rattle.gas_terms.specs.Cells.{Cells, has, without}
 use Rattle.gas_terms.specs.Rows.{row_has, row_replaced}
 use Rattle.gas_terms.specs.Accounts.{parity_count}
 use Rattle.gas_terms.proofs.Cells.{has-cells_where}
 use Rattle.gas_terms.proofs.FiniteSums.{sum_below, sum_below-cong}
-use Rattle.gas_terms.proofs.RowSums.{strip, strip_count, strip_more, new_row}
-use Rattle.gas_plane.specs.Planes.{IsLattice}
-use Rattle.gas_plane.proofs.Places.{wide}
+use Rattle.gas_terms.proofs.RowSums.{strip, strip_more, new_row}
 use Rattle.gas_plane.proofs.PlaneCounts.{row_sum, same_parity}
 use Rattle.gas_plane.proofs.RowSweeps.{chunk_has}
 use Rattle.gas_plane.specs.Counts.{AreCounts}
-use Rattle.gas_ledger.specs.Gases.{row_of}
 
 -- the word has the 64 cells of row y from column 64 * column on
 pub record IsWordOf (word : ℕ) (cells : Cells) (column y : ℕ) : Type 0 where
   pub cell : (x : ℕ) → x < 64 → bit word x ≡ has cells (column * 64 + x) y
-
-pub strip_starts : (cells : Cells) (y : ℕ) → AreCounts (0 ∷ 0 ∷ 0 ∷ 0 ∷ []) cells (strip y 0)
-strip_starts cells y = record { count = λ a b p q. get_or-replicate_zero 4 (2 * b + a) ∙ sym (strip_count cells y 0 a b) }
-
-pub strip_ends : (counts : List ℕ) (cells old : Cells) (y column : ℕ) → IsLattice old → column ≡ old.width / 64 → AreCounts counts cells (strip y (column * 64)) → AreCounts counts cells (row_of old y)
-strip_ends counts cells old y column is e are =
-    let whole : column * 64 ≡ old.width = omega (arith, (wide (extent old) is.sized).tiles) in
-    subst (λ w. AreCounts counts cells (strip y w)) whole are
 
 -- a word's cells are counted in its part of the row
 word_count : (word : ℕ) (cells : Cells) (column y a b : ℕ) → IsWordOf word cells column y

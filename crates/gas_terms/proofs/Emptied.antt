@@ -13,9 +13,6 @@ use Rattle.gas_terms.proofs.ChangeTotals.{total-change}
 use Rattle.gas_terms.proofs.Totals.{same_sums}
 use Rattle.gas_terms.proofs.TotalBounds.{same_counts}
 
-pub none_inside : (there inside p q : Bool) → there ≡ false → ◌≡◌ {A = ℕ} (cond (there && inside && p && q) 1 0) 0
-none_inside there inside p q e = rw e refl
-
 none_picked : (there p q : Bool) → there ≡ false → ◌≡◌ {A = ℕ} (cond (there && p && q) 1 0) 0
 none_picked there p q e = rw e refl
 
