@@ -1,6 +1,6 @@
 -- Counts of a class.
 use Rattle.std.proofs.Common.{◌≡◌, ℕ, ◌+◌, ◌*◌, ◌%◌, ◌^◌, ◌<◌, ◌==◌, Bool, true, false, not, inl, inr, ◌&&◌, if◌then◌else◌, zero, suc, List, [], ◌∷◌, get_or, bit_and, refl, sym, ◌∙◌, ap, ap₂, arith}
-use Rattle.std.proofs.lemmas.Bool.{cases_eq, eq-eqb, ne_eqb}
+use Rattle.std.proofs.lemmas.Bool.{cases_eq, eq-eqb, ne_eqb, and_right}
 use Rattle.std.proofs.lemmas.Nat.{and_le_l}
 use Rattle.bit_tile.specs.Bit.{bit}
 use Rattle.bit_tile.specs.Sums.{sum_below, count_below}
@@ -27,10 +27,6 @@ both_true : (a b : Bool) → b ≡ true → (a && b) ≡ a
 both_true true b e = e
 both_true false b e = refl
 
-both_false : (a b : Bool) → b ≡ false → (a && b) ≡ false
-both_false true b e = e
-both_false false b e = refl
-
 abbrev pub one : Bool → ℕ
 one b = if b then 1 else 0
 
@@ -39,10 +35,10 @@ one_of_two : (i k : ℕ) (test : ℕ → Bool) → i < 2 → one (test (2 * k) &
 one_of_two i k test two =
     bits_cases (λ i. one (test (2 * k) && 2 * k % 2 == i) + one (test (2 * k + 1) && (2 * k + 1) % 2 == i) ≡ one (test (2 * k + i)))
     (let a = ap one (both_true (test (2 * k)) (2 * k % 2 == 0) (eq-eqb (2 * k % 2) 0 (omega arith))) in
-    let b = ap one (both_false (test (2 * k + 1)) ((2 * k + 1) % 2 == 0) (ne_eqb ((2 * k + 1) % 2) 0 (λ e. omega arith))) in
+    let b = ap one (and_right (test (2 * k + 1)) ((2 * k + 1) % 2 == 0) (ne_eqb ((2 * k + 1) % 2) 0 (λ e. omega arith))) in
     let e : one (test (2 * k)) ≡ one (test (2 * k + 0)) = ap (λ m. one (test m)) (omega arith) in
     ap₂ (λ u v. u + v) a b ∙ (let z : one (test (2 * k)) + 0 ≡ one (test (2 * k)) = omega arith in z) ∙ e)
-    (let a = ap one (both_false (test (2 * k)) (2 * k % 2 == 1) (ne_eqb (2 * k % 2) 1 (λ e. omega arith))) in
+    (let a = ap one (and_right (test (2 * k)) (2 * k % 2 == 1) (ne_eqb (2 * k % 2) 1 (λ e. omega arith))) in
     let b = ap one (both_true (test (2 * k + 1)) ((2 * k + 1) % 2 == 1) (eq-eqb ((2 * k + 1) % 2) 1 (omega arith))) in
     ap₂ (λ u v. u + v) a b ∙ (let z : 0 + one (test (2 * k + 1)) ≡ one (test (2 * k + 1)) = omega arith in z)) i two
 
@@ -62,7 +58,7 @@ row_here test i j y e =
 row_elsewhere : (test : ℕ → Bool) (i j y : ℕ) → (y % 2 ≡ j → ⊥) → count_below 64 (λ x. test x && x % 2 == i && y % 2 == j) ≡ 0
 row_elsewhere test i j y e =
     count_below-same 64 (λ x. test x && x % 2 == i && y % 2 == j) (λ _. false)
-    (λ x _. both_false (test x && x % 2 == i) (y % 2 == j) (ne_eqb (y % 2) j e))
+    (λ x _. and_right (test x && x % 2 == i) (y % 2 == j) (ne_eqb (y % 2) j e))
     ∙ count_below-none 64
 
 two_rows : (test : ℕ → ℕ → Bool) (i j k : ℕ) → i < 2 → j < 2 → count_below 64 (λ x. test x (2 * k) && x % 2 == i && 2 * k % 2 == j) + count_below 64 (λ x. test x (2 * k + 1) && x % 2 == i && (2 * k + 1) % 2 == j) ≡ count_below 32 (λ m. test (2 * m + i) (2 * k + j))

@@ -1,10 +1,11 @@
 -- A word's bits at every other place of a longer word, and back.
-use Rattle.std.proofs.Common.{◌≡◌, ℕ, ◌+◌, ◌-◌, ◌*◌, ◌/◌, ◌%◌, ◌^◌, ◌<◌, ◌≤◌, ◌==◌, Bool, true, false, not, ◌&&◌, ◌||◌, if◌then◌else◌, refl, ◌∙◌, ap, ap₂, arith, inl, inr, nat_lt, bit_and, bit_or}
-use Rattle.std.proofs.lemmas.Bool.{agree_below_at, cases_eq, cases_lt, eq-eqb, ne_eqb}
-use Rattle.std.proofs.lemmas.Bool.Decides.{nat_tests, Decides-eqb}
+use Rattle.std.proofs.Common.{◌≡◌, ℕ, ◌+◌, ◌-◌, ◌*◌, ◌/◌, ◌%◌, ◌^◌, ◌<◌, ◌==◌, Bool, true, false, not, ◌&&◌, ◌||◌, if◌then◌else◌, refl, ◌∙◌, ap, ap₂, arith, inl, inr, nat_lt, bit_and, bit_or}
+use Rattle.std.proofs.lemmas.Bool.{agree_below_at, cases_eq, cases_lt, eq-eqb, ne_eqb, lt-ltb, le-ltb, and_parts, ltb-true}
+use Rattle.std.proofs.lemmas.Bool.Decides.{Decides-eqb}
 use Rattle.bit_tile.specs.Bit.{bit}
 use Rattle.bit_tile.proofs.Bits.{bit-and, bit-or, bit-shr, bit-shl_high, bit-shl_low, bit-even_columns}
 use Rattle.bit_tile.proofs.Words32.{bit-above}
+use Rattle.std.proofs.Math.Bool.{or-false, and-true, and-false}
 
 -- A stage has the bits in parts of s, each followed by s places without bits: the places that it fills, and which of the
 -- bits stands there.
@@ -23,10 +24,6 @@ fits_at s i =
     not (in_part s i)
     || ((in_part (2 * s) i && source (2 * s) i == source s i && (nat_lt i s || not (in_part (2 * s) (i - s))))
     || (not (in_part (2 * s) i) && not (nat_lt i s) && in_part (2 * s) (i - s) && source (2 * s) (i - s) == source s i))
-
-or_false : (b : Bool) → (b || false) ≡ b
-or_false true = refl
-or_false false = refl
 
 pick : (o low before here there a b t : Bool) → (here ≡ true → a ≡ t) → (there ≡ true → b ≡ t) → ((o && here && (low || not before)) || (not o && not low && before && there)) ≡ true → ((o && a) || (if low then false else (before && b))) ≡ t
 pick false false false false false a b t f g h = absurd (cc)
@@ -47,26 +44,20 @@ pick false true true true false a b t f g h = absurd (cc)
 pick false true true true true a b t f g h = absurd (cc)
 pick true false false false false a b t f g h = absurd (cc)
 pick true false false false true a b t f g h = absurd (cc)
-pick true false false true false a b t f g h = or_false a ∙ f refl
-pick true false false true true a b t f g h = or_false a ∙ f refl
+pick true false false true false a b t f g h = or-false a ∙ f refl
+pick true false false true true a b t f g h = or-false a ∙ f refl
 pick true false true false false a b t f g h = absurd (cc)
 pick true false true false true a b t f g h = absurd (cc)
 pick true false true true false a b t f g h = absurd (cc)
 pick true false true true true a b t f g h = absurd (cc)
 pick true true false false false a b t f g h = absurd (cc)
 pick true true false false true a b t f g h = absurd (cc)
-pick true true false true false a b t f g h = or_false a ∙ f refl
-pick true true false true true a b t f g h = or_false a ∙ f refl
+pick true true false true false a b t f g h = or-false a ∙ f refl
+pick true true false true true a b t f g h = or-false a ∙ f refl
 pick true true true false false a b t f g h = absurd (cc)
 pick true true true false true a b t f g h = absurd (cc)
-pick true true true true false a b t f g h = or_false a ∙ f refl
-pick true true true true true a b t f g h = or_false a ∙ f refl
-
-is_less : (a b : ℕ) → a < b → nat_lt a b ≡ true
-is_less a b h = grind (arith, nat_tests)
-
-not_less : (a b : ℕ) → b ≤ a → nat_lt a b ≡ false
-not_less a b h = grind (arith, nat_tests)
+pick true true true true false a b t f g h = or-false a ∙ f refl
+pick true true true true true a b t f g h = or-false a ∙ f refl
 
 cut_off : (b m r : Bool) → m ≡ false → (b && m) ≡ (m && r)
 cut_off true m r e = rw e
@@ -83,8 +74,8 @@ by_part false b e f = absurd (cc)
 shifted : (x s i : ℕ) → i < 64 → bit (x * 2 ^ s % 2 ^ 64) i ≡ (if nat_lt i s then false else bit x (i - s))
 shifted x s i h =
     elim (cases_lt i s) [
-      | inl low ↦ let e : nat_lt i s ≡ true = is_less i s low in rw e (bit-shl_low x s i h low)
-      | inr high ↦ let e : nat_lt i s ≡ false = not_less i s high in rw e (bit-shl_high x s i h high)
+      | inl low ↦ let e : nat_lt i s ≡ true = lt-ltb i s low in rw e (bit-shl_low x s i h low)
+      | inr high ↦ let e : nat_lt i s ≡ false = le-ltb i s high in rw e (bit-shl_high x s i h high)
     ]
 
 equal : (bits : ℕ → Bool) (a b : ℕ) → (a == b) ≡ true → bits a ≡ bits b
@@ -98,23 +89,23 @@ stage x bits s mask is is_mask fits i h =
     ∙ (ap₂ (λ a b. a && b) (bit-or x (x * 2 ^ s % 2 ^ 64) i) (is_mask i h)
     ∙ elim (cases_lt (i % (2 * s)) s) [
       | inl low ↦
-          let part : in_part s i ≡ true = is_less (i % (2 * s)) s low in
+          let part : in_part s i ≡ true = lt-ltb (i % (2 * s)) s low in
           kept_on _ (in_part s i) (bits (source s i)) part
           (ap₂ (λ a b. a || b) (is i h) (shifted x s i h ∙ ap (λ b. if nat_lt i s then false else b) (is (i - s) (omega arith)))
           ∙ pick (in_part (2 * s) i) (nat_lt i s) (in_part (2 * s) (i - s)) (source (2 * s) i == source s i) (source (2 * s) (i - s) == source s i) _ _ (bits (source s i)) (equal bits _ _) (equal bits _ _)
           (by_part (in_part s i) _ part (fits i h)))
-      | inr high ↦ let part : in_part s i ≡ false = not_less (i % (2 * s)) s high in cut_off _ (in_part s i) (bits (source s i)) part
+      | inr high ↦ let part : in_part s i ≡ false = le-ltb (i % (2 * s)) s high in cut_off _ (in_part s i) (bits (source s i)) part
     ])
 
 whole : (w : ℕ) → w < 2 ^ 32 → IsSpread w (bit w) 32
 whole w fits i h =
     elim (cases_lt i 32) [
       | inl low ↦
-          let part : in_part 32 i ≡ true = is_less (i % (2 * 32)) 32 (omega arith) in
+          let part : in_part 32 i ≡ true = lt-ltb (i % (2 * 32)) 32 (omega arith) in
           let there : source 32 i ≡ i = omega arith in
           rw (part, there)
       | inr high ↦
-          let part : in_part 32 i ≡ false = not_less (i % (2 * 32)) 32 (omega arith) in
+          let part : in_part 32 i ≡ false = le-ltb (i % (2 * 32)) 32 (omega arith) in
           rw part (bit-above w i fits high)
     ]
 
@@ -141,13 +132,6 @@ gathers_at s i =
     && ((in_part s i && source s i == source (2 * s) i && (false || not (in_part s (i + s))))
     || (not (in_part s i) && not false && in_part s (i + s) && source s (i + s) == source (2 * s) i)))
 
-both_of : (a b : Bool) → (a && b) ≡ true → (a ≡ true) × (b ≡ true)
-both_of true b e = (refl, e)
-both_of false b e = absurd (cc)
-
-less : (a b : ℕ) → nat_lt a b ≡ true → a < b
-less a b e = grind (arith, nat_tests)
-
 pub stage_back : (x : ℕ) (bits : ℕ → Bool) (s mask : ℕ) → IsSpread x bits s → ((i : ℕ) → i < 64 → bit mask i ≡ in_part (2 * s) i) → ((i : ℕ) → i < 64 → gathers_at s i ≡ true) → IsSpread (bit_and (bit_or x (x / 2 ^ s)) mask) bits (2 * s)
 stage_back x bits s mask is is_mask fits i h =
     let t : Bool = bits (source (2 * s) i) in
@@ -156,22 +140,14 @@ stage_back x bits s mask is is_mask fits i h =
     ∙ (ap₂ (λ a b. a && b) (bit-or x (x / 2 ^ s) i) (is_mask i h)
     ∙ elim (cases_lt (i % (2 * (2 * s))) (2 * s)) [
       | inl low ↦
-          let part : in_part (2 * s) i ≡ true = is_less (i % (2 * (2 * s))) (2 * s) low in
-          let both = both_of (nat_lt (i + s) 64) _ (by_part (in_part (2 * s) i) _ part (fits i h)) in
-          let inside : i + s < 64 = less (i + s) 64 both.0 in
+          let part : in_part (2 * s) i ≡ true = lt-ltb (i % (2 * (2 * s))) (2 * s) low in
+          let both = and_parts (nat_lt (i + s) 64) _ (by_part (in_part (2 * s) i) _ part (fits i h)) in
+          let inside : i + s < 64 = ltb-true (i + s) 64 both.0 in
           kept_on _ (in_part (2 * s) i) t part
           (ap₂ (λ a b. a || b) (is i h) (moved ∙ is (i + s) inside)
           ∙ pick (in_part s i) false (in_part s (i + s)) (source s i == source (2 * s) i) (source s (i + s) == source (2 * s) i) _ _ t (equal bits _ _) (equal bits _ _) both.1)
-      | inr high ↦ let part : in_part (2 * s) i ≡ false = not_less (i % (2 * (2 * s))) (2 * s) high in cut_off _ (in_part (2 * s) i) t part
+      | inr high ↦ let part : in_part (2 * s) i ≡ false = le-ltb (i % (2 * (2 * s))) (2 * s) high in cut_off _ (in_part (2 * s) i) t part
     ])
-
-and_true : (b : Bool) → (b && true) ≡ b
-and_true true = refl
-and_true false = refl
-
-and_false : (b : Bool) → (b && false) ≡ false
-and_false true = refl
-and_false false = refl
 
 -- the bits at the even places of a word
 evens : (w : ℕ) → IsSpread (bit_and w 6148914691236517205) (λ k. bit w (2 * k)) 1
@@ -181,13 +157,13 @@ evens w i h =
     ∙ elim (cases_eq (i % 2) 0) [
       | inl e ↦
           let here : (i % 2 == 0) ≡ true = eq-eqb (i % 2) 0 e in
-          let part : in_part 1 i ≡ true = is_less (i % (2 * 1)) 1 (omega arith) in
+          let part : in_part 1 i ≡ true = lt-ltb (i % (2 * 1)) 1 (omega arith) in
           let place : 2 * source 1 i ≡ i = omega arith in
-          rw (here, part, place) (and_true (bit w i))
+          rw (here, part, place) (and-true (bit w i))
       | inr ne ↦
           let here : (i % 2 == 0) ≡ false = ne_eqb (i % 2) 0 ne in
-          let part : in_part 1 i ≡ false = not_less (i % (2 * 1)) 1 (omega arith) in
-          rw (here, part) (and_false (bit w i))
+          let part : in_part 1 i ≡ false = le-ltb (i % (2 * 1)) 1 (omega arith) in
+          rw (here, part) (and-false (bit w i))
     ])
 
 pub bit_of_gather : (w i : ℕ) → i < 32 →
@@ -205,7 +181,7 @@ bit_of_gather w i h =
     let d = stage_back _ f 4 71777214294589695 c (λ i h. agree_below_at (λ i. bit 71777214294589695 i) (λ i. in_part 8 i) 64 i refl h) (λ i h. agree_below_at (λ i. gathers_at 4 i) (λ _. true) 64 i refl h) in
     let e = stage_back _ f 8 281470681808895 d (λ i h. agree_below_at (λ i. bit 281470681808895 i) (λ i. in_part 16 i) 64 i refl h) (λ i h. agree_below_at (λ i. gathers_at 8 i) (λ _. true) 64 i refl h) in
     let g = stage_back _ f 16 4294967295 e (λ i h. agree_below_at (λ i. bit 4294967295 i) (λ i. in_part 32 i) 64 i refl h) (λ i h. agree_below_at (λ i. gathers_at 16 i) (λ _. true) 64 i refl h) in
-    let part : in_part 32 i ≡ true = is_less (i % (2 * 32)) 32 (omega arith) in
+    let part : in_part 32 i ≡ true = lt-ltb (i % (2 * 32)) 32 (omega arith) in
     let place : source 32 i ≡ i = omega arith in
     g i (omega arith) ∙ rw (part, place)
 
@@ -218,17 +194,17 @@ both_rows a b even odd i h is_a is_b =
           let none : bit (b * 2 % 2 ^ 64) i ≡ false =
           shifted b 1 i h
           ∙ elim (cases_lt i 1) [
-            | inl low ↦ let k : nat_lt i 1 ≡ true = is_less i 1 low in rw k
+            | inl low ↦ let k : nat_lt i 1 ≡ true = lt-ltb i 1 low in rw k
             | inr high ↦
-                let k : nat_lt i 1 ≡ false = not_less i 1 (omega arith) in
+                let k : nat_lt i 1 ≡ false = le-ltb i 1 (omega arith) in
                 let m : ((i - 1) % 2 == 0) ≡ false = ne_eqb ((i - 1) % 2) 0 (λ h. omega arith) in
                 rw k (is_b (i - 1) (omega arith) ∙ rw m)
           ] in
-          rw (bit-or, none, here) (or_false (bit a i) ∙ (is_a i h ∙ rw here))
+          rw (bit-or, none, here) (or-false (bit a i) ∙ (is_a i h ∙ rw here))
       | inr ne ↦
           let here : (i % 2 == 0) ≡ false = ne_eqb (i % 2) 0 ne in
           let first : bit a i ≡ false = is_a i h ∙ rw here in
-          let k : nat_lt i 1 ≡ false = not_less i 1 (omega arith) in
+          let k : nat_lt i 1 ≡ false = le-ltb i 1 (omega arith) in
           let m : ((i - 1) % 2 == 0) ≡ true = eq-eqb ((i - 1) % 2) 0 (omega arith) in
           let there : bit (b * 2 % 2 ^ 64) i ≡ bit odd (i / 2) = shifted b 1 i h ∙ rw k (is_b (i - 1) (omega arith) ∙ rw m (ap (bit odd) (omega arith))) in
           rw (bit-or, first, here, there)

@@ -6,7 +6,7 @@ use mir.Val.{to_z, of_z}
 use Rattle.std.specs.Int.{bit_not, w32, w64}
 use Rattle.std.specs.Int.RustNames.{count_ones}
 use Rattle.std.proofs.lemmas.Nat.{and_le_l}
-use Rattle.std.proofs.lemmas.Bool.{cases_eq, eq-eqb, ne_eqb}
+use Rattle.std.proofs.lemmas.Bool.{cases_eq, eq-eqb, ne_eqb, and_right}
 use Rattle.bit_tile.specs.Bit.{bit}
 use Rattle.bit_tile.specs.Sums.{sum_below, count_below}
 use Rattle.bit_tile.specs.Tile.{has, HasCells}
@@ -29,10 +29,6 @@ use Rattle.block_rule.proofs.Around.{turned_by_cells, walled_from, walled_by_cel
 use Rattle.block_rule.proofs.Blank.{walled_either}
 use Rattle.gas_terms.specs.declared.accounts.Took.{Took}
 use Rattle.block_rule.proofs.Took.{pair, twice_momentum-same, twice_momentum-none, pair_same, accounts_same, right_count, left_count, down_count, up_count}
-
-pub and_false : (a b : Bool) → b ≡ false → (a && b) ≡ false
-and_false true b e = e
-and_false false b e = refl
 
 -- `(old & solid) | (new & !solid)`
 either_word : (o n w : Bool) → ((o && w) || (n && not w)) ≡ (if w then o else n)
@@ -57,7 +53,7 @@ held_cell false m t own beside facing across e f = f
 
 -- a row without places
 none_among : (row places : ℕ) → ((i : ℕ) → i < 32 → bit places i ≡ false) → count_below 32 (λ i. bit row i && bit places i) ≡ 0
-none_among row places none = count_below-same 32 _ (λ _. false) (λ i h. and_false (bit row i) (bit places i) (none i h)) ∙ count_below-none 32
+none_among row places none = count_below-same 32 _ (λ _. false) (λ i h. and_right (bit row i) (bit places i) (none i h)) ∙ count_below-none 32
 
 -- how many of a row's cells are in places
 abbrev pub among : List ℕ → List ℕ → ℕ → ℕ
@@ -172,7 +168,7 @@ pub none_held : (tile before : Tile) (test : ℕ → ℕ → Bool) → HasNoCell
 none_held tile before test none x y h k = kept_of (test x y) (has tile x y) (has before x y) (none x y h k)
 
 pub none_took : (p : ℕ) (tile : Tile) (test : ℕ → ℕ → Bool) → HasNoCell test → pair (pos 0) (pos 0) ≡ twice_momentum p (λ x y. has tile x y && test x y)
-none_took p tile test none = twice_momentum-none p _ (λ x y h k. and_false (has tile x y) (test x y) (none x y h k))
+none_took p tile test none = twice_momentum-none p _ (λ x y h k. and_right (has tile x y) (test x y) (none x y h k))
 
 -- what is put back in two goes
 held_twice : (w o t old first second : Bool) → first ≡ (if w && not o then t else old) → second ≡ (if o then t else first) → second ≡ (if w || o then t else old)

@@ -1,6 +1,6 @@
 -- What a tile takes, on the torus.
 use Rattle.std.proofs.Common.{◌≡◌, ℕ, zero, suc, ◌+◌, ◌*◌, ◌%◌, ◌<◌, ◌==◌, Bool, true, false, not, ◌&&◌, ◌||◌, refl, sym, ◌∙◌, ap, ap₂, arith}
-use Rattle.std.specs.Prelude.{pos, negsuc, ◌-ℤ◌, ◌*ℤ◌, ℤ}
+use Rattle.std.specs.Prelude.{pos, ◌-ℤ◌, ◌*ℤ◌, ℤ}
 use Rattle.std.proofs.lemmas.Int.{ints}
 use Rattle.bit_tile.specs.Sums.{sum_below, count_below}
 use Rattle.bit_tile.specs.Tile.{has, HasCells}
@@ -20,17 +20,14 @@ use Rattle.block_rule.specs.Around.{either, none, is_walled_at, is_for_walls, tw
 use Rattle.block_rule.specs.Windows.{IsView, IsTilePlace, square, taken_in}
 use Rattle.block_rule.proofs.Blank.{walled_either}
 use Rattle.block_rule.proofs.Took.{pair_same, accounts_same, twice_momentum-same, twice_momentum-none, right_count, left_count, down_count, up_count}
-use Rattle.block_rule.proofs.Holding.{and_false}
 use Rattle.block_rule.proofs.Torus.{MadeCells, CellsWalled, walled_same, solid_view}
+use Rattle.std.proofs.lemmas.Bool.{and_right}
+use Rattle.gas_terms.proofs.Parity.{parity-small}
 
 abbrev pub SumsByParities : Type 0
 SumsByParities =
     (tick : ℤ) (cells : Cells) (r : Rectangle) →
     total_in tick cells r ≡ sums_by_parity tick (parity_count cells r 0 0) (parity_count cells r 1 0) (parity_count cells r 0 1) (parity_count cells r 1 1)
-
-pub parity_below : (tick : ℤ) → parity tick < 2
-parity_below (pos n) = omega arith
-parity_below (negsuc n) = omega arith
 
 remainder_same : (from x : ℕ) → from % 2 ≡ 0 → (from + x) % 2 ≡ x % 2
 remainder_same from x even = omega arith
@@ -77,7 +74,7 @@ momentum_same : SumsByParities → (tick : ℤ) (cells : Cells) (x0 y0 : ℕ) �
 momentum_same sums tick cells x0 y0 even_x even_y =
     let here : ℕ → ℕ → Bool = λ x y. plane.has cells (x0 + x) (y0 + y) in
     let count : (a b : ℕ) → class here a b ≡ parity_count cells (square x0 y0) a b = λ a b. sym (counts_same cells x0 y0 a b even_x even_y) in
-    momentum_by_classes here (parity tick) (parity_below tick)
+    momentum_by_classes here (parity tick) (parity-small tick)
     ∙ ap₂ (λ a b. by_classes (parity tick) a b (class here 0 1) (class here 1 1)) (count 0 0) (count 1 0)
     ∙ ap₂ (λ c d. by_classes (parity tick) (parity_count cells (square x0 y0) 0 0) (parity_count cells (square x0 y0) 1 0) c d) (count 0 1) (count 1 1)
     ∙ sym (ap torus.twice_momentum (sums tick cells (square x0 y0)))
@@ -128,11 +125,11 @@ module _ (made : MadeCells) (walled : CellsWalled) (sums : SumsByParities) (tick
       accounts_same _ _ _ _
       (twice_momentum-same (parity tick) _ _ (λ x y in_row in_column.
       regroup (has tile x y) (is_walled_at (parity tick) near_walls x y) (is_walled_at (parity tick) near_obstacles x y)
-      ∙ ap₂ (λ a b. a && b) (is_tile x y in_row in_column) (walls_take made walled (parity tick) (parity_below tick) particles walls obstacles x0 y0 near_walls near_obstacles place walls_view obstacles_view x y in_row in_column)
+      ∙ ap₂ (λ a b. a && b) (is_tile x y in_row in_column) (walls_take made walled (parity tick) (parity-small tick) particles walls obstacles x0 y0 near_walls near_obstacles place walls_view obstacles_view x y in_row in_column)
       ∙ sym (made_same (takes_for_walls walls obstacles) x y in_row in_column))
       ∙ momentum_same sums tick (stopped (parity tick) particles (takes_for_walls walls obstacles)) x0 y0 place.even_column place.even_row)
       (twice_momentum-same (parity tick) _ _ (λ x y in_row in_column.
-      ap₂ (λ a b. a && b) (is_tile x y in_row in_column) (obstacles_take made walled (parity tick) (parity_below tick) particles walls obstacles x0 y0 near_walls near_obstacles place walls_view obstacles_view x y in_row in_column)
+      ap₂ (λ a b. a && b) (is_tile x y in_row in_column) (obstacles_take made walled (parity tick) (parity-small tick) particles walls obstacles x0 y0 near_walls near_obstacles place walls_view obstacles_view x y in_row in_column)
       ∙ sym (made_same (takes_for_obstacles walls obstacles) x y in_row in_column))
       ∙ momentum_same sums tick (stopped (parity tick) particles (takes_for_obstacles walls obstacles)) x0 y0 place.even_column place.even_row)
 
@@ -144,5 +141,5 @@ tiles_took = taken_is_taken_in has-cells_where cell_walled total_in-parities
 pub taken_of_none : (p : ℕ) (tile : Tile) → taken p tile none none ≡ record { walls = record { x = pos 0; y = pos 0 }; obstacles = record { x = pos 0; y = pos 0 } }
 taken_of_none p tile =
     sym (accounts_same _ _ _ _
-    (twice_momentum-none p (λ x y. has tile x y && false && true) (λ x y _ _. ap (λ b. b && true) (and_false (has tile x y) false refl)))
-    (twice_momentum-none p (λ x y. has tile x y && false) (λ x y _ _. and_false (has tile x y) false refl)))
+    (twice_momentum-none p (λ x y. has tile x y && false && true) (λ x y _ _. ap (λ b. b && true) (and_right (has tile x y) false refl)))
+    (twice_momentum-none p (λ x y. has tile x y && false) (λ x y _ _. and_right (has tile x y) false refl)))

@@ -1,5 +1,5 @@
 -- A row of blocks in four words.
-use Rattle.std.proofs.Common.{◌≡◌, ℕ, ◌+◌, ◌-◌, ◌*◌, ◌/◌, ◌%◌, ◌^◌, ◌<◌, ◌==◌, Bool, true, false, not, ◌&&◌, ◌||◌, if◌then◌else◌, refl, ◌∙◌, ap, ap₂, arith, inl, inr, bit_and, bit_or}
+use Rattle.std.proofs.Common.{◌≡◌, ℕ, ◌+◌, ◌-◌, ◌*◌, ◌/◌, ◌%◌, ◌^◌, ◌<◌, ◌==◌, Bool, false, not, ◌&&◌, ◌||◌, if◌then◌else◌, ◌∙◌, ap, ap₂, arith, inl, inr, bit_and, bit_or}
 use Rattle.std.specs.Prelude.{bit_xor}
 use Rattle.std.specs.Int.{bit_not, w32}
 use Rattle.std.proofs.lemmas.Nat.{xor_lt, or_lt}
@@ -8,6 +8,7 @@ use Rattle.bit_tile.specs.Bit.{bit}
 use Rattle.bit_tile.proofs.Bits.{either, bit-zero, bit-and, bit-or, bit-xor, bit-shr}
 use Rattle.bit_tile.proofs.Words32.{bit-not, bit-shl_high, bit-shl_low, bit-above}
 use Rattle.block_rule.specs.Cell.{turned_cell}
+use Rattle.std.proofs.Math.Bool.{or-false, or_comm}
 
 -- the corners of a block, which keep their cells where it is walled
 upper_left_table : (w ul ur ll lr : Bool) → either ul (either (either ul lr) (either ul ur && not (either ul lr || either ur ll)) && not w) ≡ turned_cell w ul ur ll lr
@@ -59,10 +60,6 @@ module _ (walled ul ur ll lr i : ℕ) (fits : walled < 2 ^ 32) (ul_fits : ul < 2
 pub none_walled : (i new : ℕ) (own beside facing across : Bool) → bit new i ≡ turned_cell (bit 0 i) own beside facing across → bit new i ≡ turned_cell false own beside facing across
 none_walled i new own beside facing across is = is ∙ ap (λ w. turned_cell w own beside facing across) (bit-zero i)
 
-or_false : (b : Bool) → (b || false) ≡ b
-or_false true = refl
-or_false false = refl
-
 -- `(row >> 1) | (right << 31)` and `(row << 1) | (left >> 31)`
 pub bit_of_next : (row right i : ℕ) → row < 2 ^ 32 → i < 32 → bit (bit_or (row / 2) (right * 2147483648 % 2 ^ 32)) i ≡ (if i == 31 then bit right 0 else bit row (i + 1))
 bit_of_next row right i fits within =
@@ -74,7 +71,7 @@ bit_of_next row right i fits within =
       | inr ne ↦
           let here : bit (row / 2) i ≡ bit row (i + 1) = bit-shr row 1 i ∙ ap (bit row) (omega arith) in
           let low : bit (right * 2147483648 % 2 ^ 32) i ≡ false = bit-shl_low right 31 i within (omega arith) in
-          rw (bit-or, here, low, ne_eqb i 31 ne) (or_false (bit row (i + 1)))
+          rw (bit-or, here, low, ne_eqb i 31 ne) (or-false (bit row (i + 1)))
     ]
 
 pub bit_of_previous : (row left i : ℕ) → left < 2 ^ 32 → i < 32 → bit (bit_or (row * 2 % 2 ^ 32) (left / 2147483648)) i ≡ (if i == 0 then bit left 31 else bit row (i - 1))
@@ -87,28 +84,22 @@ bit_of_previous row left i fits within =
       | inr ne ↦
           let here : bit (row * 2 % 2 ^ 32) i ≡ bit row (i - 1) = bit-shl_high row 1 i within (omega arith) in
           let above : bit (left / 2147483648) i ≡ false = bit-shr left 31 i ∙ bit-above left (31 + i) fits (omega arith) in
-          rw (bit-or, here, above, ne_eqb i 0 ne) (or_false (bit row (i - 1)))
+          rw (bit-or, here, above, ne_eqb i 0 ne) (or-false (bit row (i - 1)))
     ]
 
 -- whether one of a block's corners has a cell, seen from each of them: `(ul | ll) | (ur | lr)`
 abbrev any : ℕ → ℕ → ℕ → ℕ → ℕ
 any ul ur ll lr = bit_or (bit_or ul ll) (bit_or ur lr)
 
-or_swapped : (a b : Bool) → (a || b) ≡ (b || a)
-or_swapped true true = refl
-or_swapped true false = refl
-or_swapped false true = refl
-or_swapped false false = refl
-
 module _ (ul ur ll lr i : ℕ) where
   pub any_upper_left : bit (any ul ur ll lr) i ≡ ((bit ul i || bit ll i) || (bit ur i || bit lr i))
   any_upper_left = rw (bit-or (bit_or ul ll) (bit_or ur lr) i, bit-or, bit-or)
 
   pub any_upper_right : bit (any ul ur ll lr) i ≡ ((bit ur i || bit lr i) || (bit ul i || bit ll i))
-  any_upper_right = any_upper_left ∙ or_swapped (bit ul i || bit ll i) (bit ur i || bit lr i)
+  any_upper_right = any_upper_left ∙ or_comm (bit ul i || bit ll i) (bit ur i || bit lr i)
 
   pub any_lower_left : bit (any ul ur ll lr) i ≡ ((bit ll i || bit ul i) || (bit lr i || bit ur i))
-  any_lower_left = any_upper_left ∙ ap₂ (λ u v. u || v) (or_swapped (bit ul i) (bit ll i)) (or_swapped (bit ur i) (bit lr i))
+  any_lower_left = any_upper_left ∙ ap₂ (λ u v. u || v) (or_comm (bit ul i) (bit ll i)) (or_comm (bit ur i) (bit lr i))
 
   pub any_lower_right : bit (any ul ur ll lr) i ≡ ((bit lr i || bit ur i) || (bit ll i || bit ul i))
-  any_lower_right = any_lower_left ∙ or_swapped (bit ll i || bit ul i) (bit lr i || bit ur i)
+  any_lower_right = any_lower_left ∙ or_comm (bit ll i || bit ul i) (bit lr i || bit ur i)

@@ -1,6 +1,5 @@
 -- What a laboratory's type keeps.
 use Rattle.std.proofs.Common.{◌≡◌, ℕ, true, ◌≤◌, ◌<◌, ◌^◌, nat_lt, List, [], ◌∷◌, ◌++◌, length, sym, ap, ap₂, ◌∙◌, subst, arith}
-use Rattle.std.proofs.lemmas.Bool.Decides.{nat_tests}
 use Rattle.gas_terms.specs.Cells.{Cells, extent, HasSidesOf, IsEvenTorus}
 use Rattle.gas_terms.specs.Gas.{Gas}
 use Rattle.gas_terms.specs.Commands.{fits, is_tick}
@@ -17,6 +16,7 @@ use Rattle.gas_ledger.specs.Books.{TickHolds, Affords}
 use Rattle.gas_ledger.proofs.Stepping.{torus_of, book_tick}
 use Rattle.gas_plane.specs.Planes.{IsLattice}
 use Rattle.gas_lab.specs.Labs.{lab_of, IsKept}
+use Rattle.std.proofs.lemmas.Bool.{ltb-true}
 
 -- The gas has the start's sides.
 pub kept_extent : (lab : Laboratory) → IsSound lab → extent lab.gas.particles ≡ extent lab.start.particles
@@ -30,14 +30,11 @@ pub kept_in_order : (lab lab' : Laboratory) (command : Command) → IsSound lab 
 kept_in_order lab lab' command sound same in_order =
     ap (λ e. fits e command) (kept_extent lab sound ∙ ap (λ (l : Laboratory). extent l.start.particles) same) ∙ in_order
 
-below_height : (y n : ℕ) → nat_lt y n ≡ true → y < n
-below_height y n h = grind (arith, nat_tests)
-
 pub row_within : (lab lab' : Laboratory) (command : Command) (y : ℕ) → lab ≡ lab' → command ≡ Read y →
     fits (extent lab.gas.particles) command ≡ true → y < lab'.gas.particles.height
 row_within lab lab' command y same is in_order =
     let here : nat_lt y lab.gas.particles.height ≡ true = ap (fits (extent lab.gas.particles)) (sym is) ∙ in_order in
-    subst (λ (l : Laboratory). y < l.gas.particles.height) same (below_height y lab.gas.particles.height here)
+    subst (λ (l : Laboratory). y < l.gas.particles.height) same (ltb-true y lab.gas.particles.height here)
 
 -- The gas is a torus, as the start is.
 pub kept_torus : (lab : Laboratory) (others : Cells) → IsKept lab others → IsEvenTorus lab.gas.particles

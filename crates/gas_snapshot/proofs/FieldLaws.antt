@@ -8,7 +8,7 @@ use Rattle.std.proofs.Common.{FitsSigned, nat_abs}
 use mir.ValLaws as laws
 use Rattle.std.proofs.lemmas.Int.{of_z-to_z, to_z-of_z, fits_signed_from_abs}
 use Rattle.std.specs.Int.{w16, w64, from_be_bytes, to_be_bytes, cast_signed, cast_unsigned}
-use Rattle.std.proofs.lemmas.Bool.{leb-true, cases_lt, ltb-false, le-ltb}
+use Rattle.std.proofs.lemmas.Bool.{leb-true, cases_lt, ltb-false, le-ltb, and_parts}
 use Rattle.std.proofs.lemmas.List.{take_at, drop_at, take-append-drop, length-append, length-take, length-drop, get_or-drop, get_or-take, get_or_past, append-nil, nil_from_length, drop-drop}
 use Rattle.std.proofs.lemmas.Nat.{be_bytes_2, be_bytes_8, from_be_bytes-to_be_bytes_2, from_be_bytes-to_be_bytes_8}
 use Rattle.gas_terms.specs.Cells.{Extent, Rectangle, lies_within}
@@ -53,10 +53,6 @@ guard_ok false d x y e = (refl, cc)
 pub guarded : {A : Type 0} (b : Bool) (d : SnapFault) (x y : A) → cond b (Ok x) (Err d) ≡ Ok y → (b ≡ true) × (x ≡ y)
 guarded true d x y e = (refl, cc)
 guarded false d x y e = absurd cc
-
-pub both_true : (a b : Bool) → (a && b) ≡ true → (a ≡ true) × (b ≡ true)
-both_true true b e = (refl, e)
-both_true false b e = absurd cc
 
 -- what a reader took from the front
 pub record Takes (bytes text rest : List ℕ) : Type 0 where

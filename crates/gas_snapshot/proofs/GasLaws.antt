@@ -1,8 +1,8 @@
 -- The two laws: what is read is spelled so, and what is spelled so is read.
-use Rattle.std.proofs.Common.{◌≡◌, ℕ, ◌+◌, ◌-◌, ◌*◌, ◌/◌, ◌%◌, ◌<◌, ◌≤◌, Bool, true, false, cond, eqb, ◌&&◌, List, [], ◌∷◌, ◌++◌, length, take, drop, Result, Ok, Err, refl, sym, ap, subst, ◌∙◌, append_assoc, arith, ℤ, inl, inr}
+use Rattle.std.proofs.Common.{◌≡◌, ℕ, ◌+◌, ◌-◌, ◌*◌, ◌/◌, ◌%◌, ◌<◌, ◌≤◌, Bool, true, false, cond, eqb, List, [], ◌∷◌, ◌++◌, length, take, drop, Result, Ok, Err, refl, sym, ap, subst, ◌∙◌, append_assoc, arith, ℤ, inl, inr}
 use Rattle.std.specs.Prelude.{IsOk, IfOk, nat_le}
 use Rattle.std.specs.List.{AllByRecursion}
-use Rattle.std.proofs.lemmas.Bool.{lt-ltb, le-ltb, cases_lt, leb-true, le-leb, eq-eqb}
+use Rattle.std.proofs.lemmas.Bool.{lt-ltb, le-ltb, cases_lt, leb-true, le-leb, eq-eqb, and_parts, and_from}
 use Rattle.std.proofs.lemmas.Bool.Decides.{nat_tests}
 use Rattle.std.proofs.lemmas.List.{take_at, drop_at, take-append-drop, length-append, length-drop, length-take, nil_from_length}
 use Rattle.std.proofs.Math.Seq.{take-length}
@@ -22,7 +22,7 @@ use Rattle.gas_snapshot.specs.declared.fault.SnapFault.{SnapFault}
 use Rattle.gas_snapshot.specs.declared.fault.SnapFault.TheVariants.{Short, Trailing}
 use Rattle.gas_snapshot.specs.Spelling.{head, rows, obstacle_rows, spelling, most_old_side, HasSpelling, Spells, Allows}
 use Rattle.gas_snapshot.specs.Reading.{◌>>=◌, Head, field_at, is_size_of, head_at, cells_in, cells_at, obstacles_at, obstacles_in, layers, body_at, reading, Gives}
-use Rattle.gas_snapshot.proofs.FieldLaws.{IsBytes, IsBytes-take, IsBytes-drop, bind_ok, both_true, done, ok_is, suits}
+use Rattle.gas_snapshot.proofs.FieldLaws.{IsBytes, IsBytes-take, IsBytes-drop, bind_ok, done, ok_is, suits}
 use Rattle.gas_snapshot.proofs.HeadLaws.{head_text, made_head, HeadFits, PortsFit, head_takes, head_again, size_of}
 use Rattle.gas_snapshot.proofs.Rows.{read_again, written_again, length_rows, is_even}
 
@@ -31,10 +31,6 @@ made_extent w h = record { width = w; height = h }
 
 abbrev failed : SnapFault → Result Gas SnapFault
 failed f = Err f
-
-both : (a b : Bool) → a ≡ true → b ≡ true → (a && b) ≡ true
-both true b p q = q
-both false b p q = absurd cc
 
 -- how many bytes the cells of one set are
 abbrev pub part : Extent → ℕ
@@ -195,7 +191,7 @@ read_lattice size bytes ok = record { sized = ok; full = full-cells_where size.w
 
 areas_suit : (size : Extent) (ss : List Source) → AllByRecursion (λ s. suits size s ≡ true) ss → AllByRecursion (λ s. lies_within size s.area ≡ true) ss × AllByRecursion (λ s. is_period s.period ≡ true) ss
 areas_suit size [] h = (tt, tt)
-areas_suit size (s ∷ ss) h = let b = both_true (lies_within size s.area) (is_period s.period) h.0 in let r = areas_suit size ss h.1 in ((b.0, r.0), (b.1, r.1))
+areas_suit size (s ∷ ss) h = let b = and_parts (lies_within size s.area) (is_period s.period) h.0 in let r = areas_suit size ss h.1 in ((b.0, r.0), (b.1, r.1))
 
 pub ports_inside : (size : Extent) (ports : PortLists) → PortsFit size ports → LieWithin size ports
 ports_inside size ports fit = record {
@@ -205,7 +201,7 @@ ports_inside size ports fit = record {
 
 port_set : (h : Head) → HeadFits h → IsPortSet h.ports
 port_set h fit =
-    let b = both_true (nat_le (length h.ports.drains) 16) (nat_le (length h.ports.sources) 16) fit.few in
+    let b = and_parts (nat_le (length h.ports.drains) 16) (nat_le (length h.ports.sources) 16) fit.few in
     record {
       few_drains = leb-true _ _ b.0;
       few_sources = leb-true _ _ b.1;
@@ -285,7 +281,7 @@ fitting_size Two g ok allowed = grind (arith, nat_tests)
 
 suiting : (size : Extent) (ss : List Source) → AllByRecursion (λ s. lies_within size s.area ≡ true) ss → AllByRecursion (λ s. is_period s.period ≡ true) ss → AllByRecursion (λ s. suits size s ≡ true) ss
 suiting size [] a b = tt
-suiting size (s ∷ ss) a b = (both (lies_within size s.area) (is_period s.period) a.0 b.0, suiting size ss a.1 b.1)
+suiting size (s ∷ ss) a b = (and_from (lies_within size s.area) (is_period s.period) a.0 b.0, suiting size ss a.1 b.1)
 
 fitting : (v : Version) (g : Gas) → HasSpelling v g → HeadFits (head_of v g)
 fitting v g has =
@@ -293,7 +289,7 @@ fitting v g has =
     record {
       sized = fitting_size v g sound.particles.sized has.allowed;
       tick = sound.tick;
-      few = both (nat_le (length g.drains) 16) (nat_le (length g.sources) 16) (le-leb _ _ sound.ports.few_drains) (le-leb _ _ sound.ports.few_sources);
+      few = and_from (nat_le (length g.drains) 16) (nat_le (length g.sources) 16) (le-leb _ _ sound.ports.few_drains) (le-leb _ _ sound.ports.few_sources);
       ports = record {
         drains = recursion_from_All (λ r. lies_within (extent g.particles) r ≡ true) g.drains sound.fit.ports_inside.drains;
         sources = suiting (extent g.particles) g.sources (recursion_from_All (λ s. lies_within (extent g.particles) s.area ≡ true) g.sources sound.fit.ports_inside.sources) (recursion_from_All (λ s. is_period s.period ≡ true) g.sources sound.ports.periods);

@@ -10,7 +10,8 @@ use Rattle.gas_snapshot.specs.declared.version.Version.{Version}
 use Rattle.gas_snapshot.specs.declared.fault.SnapFault.{SnapFault}
 use Rattle.gas_snapshot.specs.Spelling.{magic, sides, moment, counts, drain, source}
 use Rattle.gas_snapshot.specs.Reading.{◌>>=◌, Head, magic_at, is_size_of, size_at, tick_at, are_few, counts_at, drain_at, source_at, many, ports_at, head_at}
-use Rattle.gas_snapshot.proofs.FieldLaws.{IsBytes, bind_ok, both_true, ok_is, Takes, then_takes, magic_takes, size_takes, tick_takes, counts_takes, drain_takes, suits, source_takes, many_take, magic_again, size_again, tick_again, counts_again, IsSmall, drain_again, source_again, many_again}
+use Rattle.gas_snapshot.proofs.FieldLaws.{IsBytes, bind_ok, ok_is, Takes, then_takes, magic_takes, size_takes, tick_takes, counts_takes, drain_takes, suits, source_takes, many_take, magic_again, size_again, tick_again, counts_again, IsSmall, drain_again, source_again, many_again}
+use Rattle.std.proofs.lemmas.Bool.{and_parts}
 
 abbrev pub port_text : PortLists → List ℕ
 port_text ports = flat_map drain ports.drains ++ flat_map source ports.sources
@@ -96,7 +97,7 @@ pub record IsSmallSize (size : Extent) : Type 0 where
   pub high : size.height < 2 ^ 16
 
 small_size : (size : Extent) → is_size size ≡ true → IsSmallSize size
-small_size size ok = let b = both_true (is_side size.width) (is_side size.height) ok in record { wide = small_side size.width b.0; high = small_side size.height b.1 }
+small_size size ok = let b = and_parts (is_side size.width) (is_side size.height) ok in record { wide = small_side size.width b.0; high = small_side size.height b.1 }
 
 small_area : (size : Extent) (r : Rectangle) → IsSmallSize size → lies_within size r ≡ true → IsSmall r
 small_area size r small ok =
@@ -115,7 +116,7 @@ unfolding ports_at
 ports_again size ports rest small fit =
     let regrouped : port_text ports ++ rest ≡ flat_map drain ports.drains ++ (flat_map source ports.sources ++ rest) = append_assoc (flat_map drain ports.drains) (flat_map source ports.sources) rest in
     let first = many_again (drain_at size) drain (λ r. lies_within size r ≡ true) (λ r rest ok. drain_again size r rest (small_area size r small ok) ok) ports.drains (flat_map source ports.sources ++ rest) fit.drains in
-    let second = many_again (source_at size) source (λ s. suits size s ≡ true) (λ s rest ok. source_again size s rest (small_area size s.area small (both_true (lies_within size s.area) (is_period s.period) ok).0) (small_period s.period (both_true (lies_within size s.area) (is_period s.period) ok).1) ok) ports.sources rest fit.sources in
+    let second = many_again (source_at size) source (λ s. suits size s ≡ true) (λ s rest ok. source_again size s rest (small_area size s.area small (and_parts (lies_within size s.area) (is_period s.period) ok).0) (small_period s.period (and_parts (lies_within size s.area) (is_period s.period) ok).1) ok) ports.sources rest fit.sources in
     ap (λ (b : List ℕ). many (drain_at size) (length ports.drains) b >>= λ drains. many (source_at size) (length ports.sources) drains.1 >>= λ sources. Ok (made_ports drains.0 sources.0, sources.1)) regrouped
     ∙ ap (λ (r : Result (List Rectangle × List ℕ) SnapFault). r >>= λ drains. many (source_at size) (length ports.sources) drains.1 >>= λ sources. Ok (made_ports drains.0 sources.0, sources.1)) first
     ∙ ap (λ (r : Result (List Source × List ℕ) SnapFault). r >>= λ sources. Ok (made_ports ports.drains sources.0, sources.1)) second

@@ -14,9 +14,10 @@ use Rattle.gas_terms.specs.Cells.{Cells, Extent, has, cells_where, extent, IsFul
 use Rattle.gas_terms.specs.Rows.{row_has, row_bytes, row_replaced}
 use Rattle.gas_terms.proofs.Cells.{has-cells_where, full-cells_where, same_cells, same_cells_where}
 use Rattle.gas_terms.proofs.Bytes.{length-row_bytes, row_has-row_bytes, row_bytes-row_replaced}
-use Rattle.gas_snapshot.proofs.FieldLaws.{both_true, IsBytes-take, IsBytes-drop}
+use Rattle.gas_snapshot.proofs.FieldLaws.{IsBytes-take, IsBytes-drop}
 use Rattle.gas_snapshot.specs.Spelling.{rows}
 use Rattle.gas_snapshot.specs.Reading.{cells_in}
+use Rattle.std.proofs.lemmas.Bool.{and_parts}
 
 -- ---- reading
 
@@ -163,7 +164,7 @@ pub even_side : (n : ℕ) → is_side n ≡ true → n % 8 ≡ 0
 even_side n h = grind (arith, nat_tests)
 
 pub is_even : (size : Extent) → is_size size ≡ true → size.width % 8 ≡ 0
-is_even size h = even_side size.width (both_true (is_side size.width) (is_side size.height) h).0
+is_even size h = even_side size.width (and_parts (is_side size.width) (is_side size.height) h).0
 
 -- the step of the loop that reads rows
 pub row_is_read : (size : Extent) (field : List ℕ) (n len : ℕ) (cells : Cells) → is_size size ≡ true → len ≡ size.width / 8 → cells ≡ first_rows size field n

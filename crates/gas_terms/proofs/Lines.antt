@@ -15,6 +15,7 @@ use Rattle.gas_terms.proofs.ListSums.{sum_by-range}
 use Rattle.gas_terms.proofs.Mirrors.{has-transposed, transposed_joined, transposed_symmetry}
 use Rattle.gas_terms.proofs.Parity.{parity-small, parity-next}
 use Rattle.gas_terms.proofs.Torus.{solid_sides, obstacles_sides, torus_forward}
+use Rattle.std.proofs.Math.Bool.{and-true, and-false}
 
 abbrev bit : Bool → ℕ
 bit b = cond b 1 0
@@ -95,22 +96,14 @@ module _ (p : ℕ) (cells walls : Cells) (e : HasEvenSides cells.width cells.hei
       ∙ sum_below_round p h g small e.high
 
 -- A line without particles that go one way stays so.
-and_true : (b : Bool) → (b && true) ≡ b
-and_true true = refl
-and_true false = refl
-
-and_false : (b : Bool) → (b && false) ≡ false
-and_false true = refl
-and_false false = refl
-
 marked : (n : ℕ) (m : Bool) (f g : ℕ → Bool) → (m ≡ true → sum_below n (λ i. bit (f i)) ≡ sum_below n (λ i. bit (g i)))
     → sum_below n (λ i. bit (f i && m)) ≡ sum_below n (λ i. bit (g i && m))
 marked n true f g same =
-    sum_below-cong n (λ i. bit (f i && true)) (λ i. bit (f i)) (λ i l. ap bit (and_true (f i)))
+    sum_below-cong n (λ i. bit (f i && true)) (λ i. bit (f i)) (λ i l. ap bit (and-true (f i)))
     ∙ same refl
-    ∙ sym (sum_below-cong n (λ i. bit (g i && true)) (λ i. bit (g i)) (λ i l. ap bit (and_true (g i))))
+    ∙ sym (sum_below-cong n (λ i. bit (g i && true)) (λ i. bit (g i)) (λ i l. ap bit (and-true (g i))))
 marked n false f g same =
-    sum_below-cong n (λ i. bit (f i && false)) (λ i. bit (g i && false)) (λ i l. ap bit (and_false (f i) ∙ sym (and_false (g i))))
+    sum_below-cong n (λ i. bit (f i && false)) (λ i. bit (g i && false)) (λ i l. ap bit (and-false (f i) ∙ sym (and-false (g i))))
 
 goes_tells : (a b : Bool) → goes a b ≡ true → b ≡ a
 goes_tells true true e = refl

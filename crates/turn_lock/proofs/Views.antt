@@ -1,13 +1,10 @@
 -- What the steps of the lock keep of what a seat knows, and of two seats that are apart.
-use Rattle.std.proofs.Common.{◌≡◌, ◌≢◌, ℕ, ◌+◌, ◌<◌, ◌≤◌, Bool, true, false, true≢false, cond, List, [], ◌++◌, All, IfSome, refl, sym, ap, ◌∙◌, subst, arith}
-use Rattle.std.proofs.lemmas.Bool.{false_from_ne_true}
+use Rattle.std.proofs.Common.{◌≡◌, ◌≢◌, ℕ, ◌+◌, ◌<◌, ◌≤◌, Bool, true, false, cond, List, [], ◌++◌, All, IfSome, refl, sym, ap, ◌∙◌, subst, arith}
+use Rattle.std.proofs.lemmas.Bool.{false_from_ne_true, both_ways}
 use mathlib.Core.List.{IsPrefix}
 use Rattle.turn_lock.specs.declared.view.View.{View}
 use Rattle.turn_lock.specs.Turns.{note_of, met, spent, longer, waiting, at_turn, leaving, Has, IsView, AreApart, entries_by}
 use Rattle.turn_lock.proofs.Prefixes.{itself, extended, longer_begins, begins_longer, other_begins_longer, by_between, by_others_added}
-
-pub off : (b : Bool) → b ≡ false → b ≡ true → ⊥
-off b f t = true≢false (sym t ∙ f)
 
 module _ {E F : Type 0} where
   -- how many tickets a seat waits with
@@ -34,8 +31,8 @@ module _ {E F : Type 0} (by : E → ℕ) where
   -- who stands for no number and waits for nothing is apart from all
   pub apart_of_none : (v w : View E F) → v.count ≡ 0 → v.waits ≡ false → Apart v w
   apart_of_none v w none idle = (
-    record { numbers = λ n h _. no_number v none n h; tickets = λ on _. absurd (off v.waits idle on) },
-    record { numbers = λ n _ h. no_number v none n h; tickets = λ _ on. absurd (off v.waits idle on) },
+    record { numbers = λ n h _. no_number v none n h; tickets = λ on _. absurd (both_ways v.waits idle on) },
+    record { numbers = λ n _ h. no_number v none n h; tickets = λ _ on. absurd (both_ways v.waits idle on) },
   )
 
   -- w, which has no number that v has not, is apart from u as v is, if its ticket is another
@@ -55,7 +52,7 @@ module _ {E F : Type 0} (by : E → ℕ) (served tickets : ℕ) (journal : List 
   Knows v = IsView by served tickets journal fixed v
 
   pub idle_has_no_turn : (v : View E F) → Knows v → v.waits ≡ false → v.turn ≡ false
-  idle_has_no_turn v f idle = false_from_ne_true v.turn (λ on. off v.waits idle (f.has_turn on).0)
+  idle_has_no_turn v f idle = false_from_ne_true v.turn (λ on. both_ways v.waits idle (f.has_turn on).0)
 
   pub ticket_more : (v : View E F) → Knows v → IsView by served (tickets + 1) journal fixed v
   ticket_more v f = record {
@@ -77,7 +74,7 @@ module _ {E F : Type 0} (by : E → ℕ) (served tickets : ℕ) (journal : List 
     own = f.own;
     own_old = f.own_old;
     waits_in = λ _. (order, omega arith, door);
-    has_turn = λ on. absurd (off v.turn (idle_has_no_turn v f idle) on);
+    has_turn = λ on. absurd (both_ways v.turn (idle_has_no_turn v f idle) on);
     fixed_is = f.fixed_is;
   }
 
@@ -100,8 +97,8 @@ module _ {E F : Type 0} (by : E → ℕ) (served tickets : ℕ) (journal : List 
     told_begins = (seen, refl);
     own = λ n _. ap (entries_by by n) (sym now);
     own_old = λ _ _. refl;
-    waits_in = λ on. absurd (off false refl on);
-    has_turn = λ on. absurd (off false refl on);
+    waits_in = λ on. absurd (both_ways false refl on);
+    has_turn = λ on. absurd (both_ways false refl on);
     fixed_is = known;
   }
 
@@ -128,8 +125,8 @@ module _ {E F : Type 0} (by : E → ℕ) (served tickets : ℕ) (journal : List 
     told_begins = f.told_begins;
     own = λ n h. f.own n (within n h);
     own_old = λ n h. f.own_old n (within n h);
-    waits_in = λ on. absurd (off v.waits idle on);
-    has_turn = λ on. absurd (off v.turn (idle_has_no_turn v f idle) on);
+    waits_in = λ on. absurd (both_ways v.waits idle on);
+    has_turn = λ on. absurd (both_ways v.turn (idle_has_no_turn v f idle) on);
     fixed_is = f.fixed_is;
   }
 
@@ -140,8 +137,8 @@ module _ {E F : Type 0} (by : E → ℕ) (served tickets : ℕ) (journal : List 
     told_begins = (v.seen, refl);
     own = λ n h. absurd (no_number (note_of v) refl n h);
     own_old = λ n h. absurd (no_number (note_of v) refl n h);
-    waits_in = λ on. absurd (off false refl on);
-    has_turn = λ on. absurd (off false refl on);
+    waits_in = λ on. absurd (both_ways false refl on);
+    has_turn = λ on. absurd (both_ways false refl on);
     fixed_is = f.fixed_is;
   }
 
@@ -166,7 +163,7 @@ module _ {E F : Type 0} (by : E → ℕ) (served tickets : ℕ) (journal : List 
     told_begins = ([], refl);
     own = λ n h. absurd (no_number (spent {E = E} {F = F}) refl n h);
     own_old = λ n h. absurd (no_number (spent {E = E} {F = F}) refl n h);
-    waits_in = λ on. absurd (off false refl on);
-    has_turn = λ on. absurd (off false refl on);
+    waits_in = λ on. absurd (both_ways false refl on);
+    has_turn = λ on. absurd (both_ways false refl on);
     fixed_is = tt;
   }
