@@ -54,28 +54,4 @@ turned_by_cells p cells walled x y =
     ]
 
 pub walled_by_cells : (p : ℕ) (walls : ℕ → ℕ → Bool) (x y : ℕ) → is_walled_at p walls x y ≡ walled_from p walls x y
-walled_by_cells p walls x y =
-    let two_x : x + 1 + 1 ≡ x + 2 = omega arith in
-    let two_y : y + 1 + 1 ≡ y + 2 = omega arith in
-    elim (cases_eq ((x + p) % 2) 0) [
-      | inl e ↦
-          let hx : ((x + p) % 2 == 0) ≡ true = eq-eqb ((x + p) % 2) 0 e in
-          elim (cases_eq ((y + p) % 2) 0) [
-            | inl f ↦
-                let hy : ((y + p) % 2 == 0) ≡ true = eq-eqb ((y + p) % 2) 0 f in
-                rw (hx, hy, two_x, two_y) (walled_upper_left (walls (x + 1) (y + 1)) (walls (x + 2) (y + 1)) (walls (x + 1) (y + 2)) (walls (x + 2) (y + 2)))
-            | inr f ↦
-                let hy : ((y + p) % 2 == 0) ≡ false = ne_eqb ((y + p) % 2) 0 f in
-                rw (hx, hy, two_x) (walled_lower_left (walls (x + 1) y) (walls (x + 2) y) (walls (x + 1) (y + 1)) (walls (x + 2) (y + 1)))
-          ]
-      | inr e ↦
-          let hx : ((x + p) % 2 == 0) ≡ false = ne_eqb ((x + p) % 2) 0 e in
-          elim (cases_eq ((y + p) % 2) 0) [
-            | inl f ↦
-                let hy : ((y + p) % 2 == 0) ≡ true = eq-eqb ((y + p) % 2) 0 f in
-                rw (hx, hy, two_y) (walled_upper_right (walls x (y + 1)) (walls (x + 1) (y + 1)) (walls x (y + 2)) (walls (x + 1) (y + 2)))
-            | inr f ↦
-                let hy : ((y + p) % 2 == 0) ≡ false = ne_eqb ((y + p) % 2) 0 f in
-                rw (hx, hy) (walled_lower_right (walls x y) (walls (x + 1) y) (walls x (y + 1)) (walls (x + 1) (y + 1)))
-          ]
-    ]
+walled_by_cells p walls x y = grind (arith, cases_eq, eq-eqb, walled_upper_left, ne_eqb, walled_lower_left, walled_upper_right, walled_lower_right)

@@ -1,5 +1,5 @@
 -- The blocks of a tile that have a cell of a set, by the cells that they fill.
-use Rattle.std.proofs.Common.{◌≡◌, ℕ, zero, suc, inl, inr, ◌+◌, ◌-◌, ◌*◌, ◌/◌, ◌<◌, ◌≤◌, subst, Bool, true, false, ◌||◌, List, length, get_or, set, refl, sym, ◌∙◌, ap, ap₂, arith, bit_or, get_or-set_same, get_or-set_other}
+use Rattle.std.proofs.Common.{◌≡◌, ℕ, zero, suc, inl, inr, ◌+◌, ◌-◌, ◌*◌, ◌<◌, ◌≤◌, subst, Bool, false, ◌||◌, List, length, get_or, set, arith, bit_or, get_or-set_same, get_or-set_other}
 use Rattle.bit_tile.specs.Bit.{bit}
 use Rattle.bit_tile.specs.Tile.{has, HasCells}
 use Rattle.bit_tile.specs.declared.Tile.{Tile}
@@ -15,21 +15,17 @@ use Rattle.block_rule.specs.declared.collide_odd.OddBlocks.{OddBlocks}
 use Rattle.block_rule.proofs.NamedBlocks.{even_blocks_are, odd_start, even_start, row_start}
 
 first_false : (a b : Bool) → (a || b) ≡ false → a ≡ false
-first_false true b e = e
-first_false false b e = refl
+first_false a b h3 = grind arith
 
 second_false : (a b : Bool) → (a || b) ≡ false → b ≡ false
-second_false true b e = cc
-second_false false b e = e
+second_false a b h3 = grind arith
 
 -- a word that tells of the rows of two sets of cells
 tells_of_first : (some others : ℕ) (t : Tile) (test : ℕ → ℕ → Bool) → HasCells t test → TellsRows some (has t) → TellsRows (bit_or some others) test
-tells_of_first some others t test is told x y h k e =
-    sym (is x y h k) ∙ told x y h k (first_false _ (bit others (y / 2)) (sym (bit-or some others (y / 2)) ∙ e))
+tells_of_first some others t test is told x y h k e = grind (arith, first_false, bit-or)
 
 tells_of_second : (some others : ℕ) (t : Tile) (test : ℕ → ℕ → Bool) → HasCells t test → TellsRows others (has t) → TellsRows (bit_or some others) test
-tells_of_second some others t test is told x y h k e =
-    sym (is x y h k) ∙ told x y h k (second_false (bit some (y / 2)) _ (sym (bit-or some others (y / 2)) ∙ e))
+tells_of_second some others t test is told x y h k e = grind (arith, second_false, bit-or)
 
 pub blocks_named : (told_even told_odd : ℕ) (even odd : Tile) (words : OddBlocks) (window : ℕ → ℕ → Bool) → HasCells even (is_walled_at 0 window) → HasCells odd (is_walled_at 1 window) → TellsRows told_even (has even) → TellsRows told_odd (has odd) → AreOddBlocksOf words (is_walled_at 1 window)
     → NamesBlocks (bit_or told_even told_odd) (record { even = even.even_even; odd = words }) (λ p. is_walled_at p window)
@@ -52,52 +48,22 @@ pub record IsRowNamed (window : ℕ → ℕ → Bool) (k begin end : ℕ) : Type
 
 -- any of a block's cells, in the order of the rule and of the block
 left_first : (a b c d : Bool) → ((a || c) || (b || d)) ≡ (a || b || c || d)
-left_first true b c d = refl
-left_first false true true d = refl
-left_first false true false d = refl
-left_first false false true d = refl
-left_first false false false d = refl
+left_first a b c d = grind arith
 
 right_first : (a b c d : Bool) → ((b || d) || (a || c)) ≡ (a || b || c || d)
-right_first true true c d = refl
-right_first true false c true = refl
-right_first true false c false = refl
-right_first false true c d = refl
-right_first false false true true = refl
-right_first false false true false = refl
-right_first false false false true = refl
-right_first false false false false = refl
+right_first a b c d = grind arith
 
 pub row_named : (window : ℕ → ℕ → Bool) (k y : ℕ) (new : Blocks) → y ≡ 2 * k → IsMadeOdd (λ own beside facing across. (own || facing) || (beside || across)) window y new → IsRowNamed window k new.upper_left new.upper_right
-row_named window k y new e made =
-    record {
-      begins = λ i h.
-          let next : 2 * i + 3 ≡ 2 * i + 2 + 1 = omega arith in
-          made.upper_left i h
-          ∙ (left_first (window (2 * i + 2) y) (window (2 * i + 3) y) (window (2 * i + 2) (y + 1)) (window (2 * i + 3) (y + 1))
-          ∙ ap₂ (λ x y. window (2 * i + 2) y || window x y || window (2 * i + 2) (y + 1) || window x (y + 1)) next e);
-      ends = λ i h.
-          made.upper_right i h
-          ∙ (right_first (window (2 * i) y) (window (2 * i + 1) y) (window (2 * i) (y + 1)) (window (2 * i + 1) (y + 1))
-          ∙ ap (is_block_walled window (2 * i)) e);
-    }
+row_named window k y new e made = grind (arith, left_first, right_first)
 
 -- one row more
 pub rows_named : (window : ℕ → ℕ → Bool) (begin end : List ℕ) (j b e : ℕ) → j < 31 → length begin ≡ 33 → length end ≡ 33 → IsRowNamed window (j + 1) b e → ((k : ℕ) → k < j → IsRowNamed window (k + 1) (get_or begin (k + 1) 0) (get_or end (k + 1) 0))
     → (k : ℕ) → k < j + 1 → IsRowNamed window (k + 1) (get_or (set begin (j + 1) b) (k + 1) 0) (get_or (set end (j + 1) e) (k + 1) 0)
-rows_named window begin end j b e small begin_long end_long here before k below =
-    elim (cases_eq k j) [
-      | inl same ↦ rw (same, get_or-set_same begin (j + 1) b 0 (omega arith), get_or-set_same end (j + 1) e 0 (omega arith)) here
-      | inr other ↦ rw (get_or-set_other begin (j + 1) (k + 1) b 0 (λ e. omega arith), get_or-set_other end (j + 1) (k + 1) e 0 (λ e. omega arith)) (before k (omega arith))
-    ]
+rows_named window begin end j b e small begin_long end_long here before k below = grind (arith, cases_eq, get_or-set_same, get_or-set_other)
 
 -- all of them
 pub all_named : (b : OddBlocks) (window : ℕ → ℕ → Bool) → ((k : ℕ) → k < 33 → IsRowNamed window k (get_or b.begin k 0) (get_or b.end k 0)) → AreOddBlocksOf b (is_walled_at 1 window)
-all_named b window rows =
-    record {
-      begin = λ i k h below. (rows k below).begins i h ∙ sym (ap₂ (is_block_walled window) (odd_start i) (row_start k));
-      end = λ i k h below. (rows k below).ends i h ∙ sym (ap₂ (is_block_walled window) (even_start i) (row_start k));
-    }
+all_named b window rows = grind (arith, odd_start, row_start, even_start)
 
 pub ends_named : (window : ℕ → ℕ → Bool) (begin end : List ℕ) (j top_begin top_end last_begin last_end : ℕ) → 31 ≤ j → length begin ≡ 33 → length end ≡ 33 → get_or begin 0 0 ≡ top_begin → get_or end 0 0 ≡ top_end → IsRowNamed window 0 top_begin top_end → IsRowNamed window 32 last_begin last_end
     → ((k : ℕ) → k < j → IsRowNamed window (k + 1) (get_or begin (k + 1) 0) (get_or end (k + 1) 0)) → (k : ℕ) → k < 33 → IsRowNamed window k (get_or (set begin 32 last_begin) k 0) (get_or (set end 32 last_end) k 0)

@@ -1,5 +1,5 @@
 -- A tile with its border is a window on the tiles round it.
-use Rattle.std.proofs.Common.{◌≡◌, ℕ, ◌+◌, ◌<◌, ◌==◌, false, ap₂, arith}
+use Rattle.std.proofs.Common.{◌≡◌, ℕ, ◌+◌, ◌<◌, false, ap₂, arith}
 use Rattle.std.proofs.lemmas.Bool.{ne_eqb}
 use Rattle.bit_tile.specs.Tile.{has}
 use Rattle.bit_tile.specs.declared.Tile.{Tile}
@@ -9,23 +9,10 @@ use Rattle.block_rule.specs.Around.{around, is_outside}
 use Rattle.block_rule.specs.Rows.{ShowsTile, ShowsRound}
 
 inside : (x : ℕ) → x < 64 → is_outside (x + 1) ≡ false
-inside x h =
-    let low : (x + 1 == 0) ≡ false = ne_eqb (x + 1) 0 (λ e. omega arith) in
-    let high : (x + 1 == 65) ≡ false = ne_eqb (x + 1) 65 (λ e. omega arith) in
-    rw (low, high)
+inside x h = grind (arith, ne_eqb)
 
 pub shows_tile : (t : Tile) (b : Border) → ShowsTile (around t b) t
 shows_tile t b x y h k = rw (inside x h, inside y k) (ap₂ (has t) (omega arith) (omega arith))
 
 pub shows_round : (t : Tile) (b : Border) (above below left right above_left above_right below_left below_right : Tile) → IsBorderOf b above below left right above_left above_right below_left below_right → ShowsRound (around t b) above below left right above_left above_right below_left below_right
-shows_round t b above below left right above_left above_right below_left below_right is =
-    record {
-      above = λ x h. rw (inside x h) (is.above x h);
-      below = λ x h. rw (inside x h) (is.below x h);
-      left = is.left;
-      right = is.right;
-      above_left = is.above_left;
-      above_right = is.above_right;
-      below_left = is.below_left;
-      below_right = is.below_right;
-    }
+shows_round t b above below left right above_left above_right below_left below_right is = grind (arith, inside)

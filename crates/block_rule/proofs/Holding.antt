@@ -1,5 +1,5 @@
 -- What is put back in walled blocks, and what it gives.
-use Rattle.std.proofs.Common.{◌≡◌, ℕ, zero, suc, inl, inr, ◌+◌, ◌-◌, ◌*◌, ◌/◌, ◌%◌, ◌^◌, ◌<◌, ◌≤◌, Bool, true, false, not, ◌&&◌, ◌||◌, if◌then◌else◌, List, get_or, refl, sym, ◌∙◌, ap, ap₂, arith, bit_and, bit_or}
+use Rattle.std.proofs.Common.{◌≡◌, ℕ, zero, suc, ◌+◌, ◌-◌, ◌*◌, ◌/◌, ◌%◌, ◌^◌, ◌<◌, ◌≤◌, Bool, true, false, not, ◌&&◌, ◌||◌, if◌then◌else◌, List, get_or, sym, ◌∙◌, ap, ap₂, arith, bit_and, bit_or}
 use Rattle.std.specs.Prelude.{pos, ◌-ℤ◌, ℤ}
 use Rattle.std.proofs.lemmas.Int.{ints}
 use mir.Val.{to_z, of_z}
@@ -19,7 +19,7 @@ use Rattle.bit_tile.proofs.Classes.{IsClass, is_even_even, is_odd_even, is_even_
 use Rattle.gas_terms.specs.declared.accounts.Pair.{Pair}
 use Rattle.block_rule.specs.Accounts.{if_counted, counted_of}
 use Rattle.block_rule.specs.declared.walled.Counted.{Counted}
-use Rattle.block_rule.specs.Around.{block_start, is_block_walled, turned, none, either, is_walled_at, is_for_walls, twice_momentum, taken}
+use Rattle.block_rule.specs.Around.{block_start, turned, none, either, is_walled_at, is_for_walls, twice_momentum, taken}
 use Rattle.block_rule.specs.Cell.{turned_cell, turned_at, made}
 use Rattle.block_rule.specs.Classes.{class, AreCounts, TellsWords}
 use Rattle.block_rule.specs.Rows.{ShowsTile}
@@ -32,24 +32,14 @@ use Rattle.block_rule.proofs.Took.{pair, twice_momentum-same, twice_momentum-non
 
 -- `(old & solid) | (new & !solid)`
 either_word : (o n w : Bool) → ((o && w) || (n && not w)) ≡ (if w then o else n)
-either_word true n true = refl
-either_word false true true = refl
-either_word false false true = refl
-either_word true true false = refl
-either_word true false false = refl
-either_word false true false = refl
-either_word false false false = refl
+either_word o n w = grind arith
 
 pub held_word : (old new solid i : ℕ) → solid < 2 ^ 32 → i < 32 → bit (bit_or (bit_and old solid) (bit_and new (bit_not w32 solid))) i ≡ (if bit solid i then bit old i else bit new i)
-held_word old new solid i fits within =
-    bit-or (bit_and old solid) (bit_and new (bit_not w32 solid)) i
-    ∙ (ap₂ (λ u v. u || v) (bit-and old solid i) (bit-and new (bit_not w32 solid) i ∙ ap (λ b. bit new i && b) (bit-not solid i fits within))
-    ∙ either_word (bit old i) (bit new i) (bit solid i))
+held_word old new solid i fits within = grind (arith, bit-or, bit-and, bit-not, either_word)
 
 -- a cell that stays in a walled block
 held_cell : (w m t own beside facing across : Bool) → t ≡ own → m ≡ turned_cell false own beside facing across → (if w then t else m) ≡ turned_cell w own beside facing across
-held_cell true m t own beside facing across e f = e
-held_cell false m t own beside facing across e f = f
+held_cell w m t own beside facing across h8 h9 = grind arith
 
 -- a row without places
 none_among : (row places : ℕ) → ((i : ℕ) → i < 32 → bit places i ≡ false) → count_below 32 (λ i. bit row i && bit places i) ≡ 0
@@ -62,15 +52,11 @@ among old places k = count_below 32 (λ i. bit (get_or old k 0) i && bit (get_or
 -- the ones that two words have, each of two rows
 pub ones_among : (cells there : ℕ) (old places : List ℕ) (j : ℕ) → cells < 2 ^ 64 → ((i : ℕ) → i < 32 → bit cells i ≡ bit (get_or old j 0) i) → ((i : ℕ) → i < 32 → bit cells (32 + i) ≡ bit (get_or old (j + 1) 0) i)
     → ((i : ℕ) → i < 32 → bit there i ≡ bit (get_or places j 0) i) → ((i : ℕ) → i < 32 → bit there (32 + i) ≡ bit (get_or places (j + 1) 0) i) → count_ones (bit_and cells there) ≡ among old places j + among old places (j + 1)
-ones_among cells there old places j fits first second first_there second_there =
-    ones_of_two (bit_and cells there) (λ i. bit (get_or old j 0) i && bit (get_or places j 0) i) (λ i. bit (get_or old (j + 1) 0) i && bit (get_or places (j + 1) 0) i) (omega (arith, and_le_l cells there))
-    (λ i h. bit-and cells there i ∙ ap₂ (λ a b. a && b) (first i h) (first_there i h))
-    (λ i h. bit-and cells there (32 + i) ∙ ap₂ (λ a b. a && b) (second i h) (second_there i h))
+ones_among cells there old places j fits first second first_there second_there = grind (arith, ones_of_two, and_le_l, bit-and)
 
 -- those of two rows more
 pub rows_more : (old places : List ℕ) (n more j next before : ℕ) → n + before ≡ sum_below j (among old places) → more ≡ among old places j + among old places (j + 1) → next ≡ j + 1 + 1 → n + more + before ≡ sum_below next (among old places)
-rows_more old places n more j next before so_far here e =
-    rw e (omega (arith, so_far, here, sum_below-more j (among old places), sum_below-more (j + 1) (among old places)))
+rows_more old places n more j next before so_far here e = grind (arith, sum_below-more)
 
 no_row_more : (old places : List ℕ) (j : ℕ) → ((i : ℕ) → i < 32 → bit (get_or places j 0) i ≡ false) → sum_below (j + 1) (among old places) ≡ sum_below j (among old places)
 no_row_more old places j e = omega (arith, none_among (get_or old j 0) (get_or places j 0) e, sum_below-more j (among old places))
@@ -121,18 +107,12 @@ module _ (c : Classes) (cells : ℕ → ℕ → Bool) (is : AreCounts c cells) (
 
 -- a tile that was turned as if there were no walls, with the old cells of walled blocks put back
 pub turned_of_held : (p : ℕ) (tile free out : Tile) (window solid : ℕ → ℕ → Bool) → ShowsTile window tile → HasCells free (turned p window none) → HasCells out (λ x y. if is_walled_at p solid x y then has tile x y else has free x y) → HasCells out (turned p window solid)
-turned_of_held p tile free out window solid shows is_free is_out x y in_row in_column =
-    is_out x y in_row in_column
-    ∙ held_cell (is_walled_at p solid x y) (has free x y) (has tile x y) _ _ _ _ (sym (shows x y in_row in_column)) (is_free x y in_row in_column ∙ turned_by_cells p window false x y)
-    ∙ sym (turned_by_cells p window (is_walled_at p solid x y) x y)
+turned_of_held p tile free out window solid shows is_free is_out x y in_row in_column = grind (arith, held_cell, turned_by_cells)
 
 -- the same with walls and obstacles
 pub turned_of_both : (p : ℕ) (tile free out : Tile) (window walls obstacles : ℕ → ℕ → Bool) → ShowsTile window tile → HasCells free (made (turned_cell false) p window) →
     HasCells out (λ x y. if is_walled_at p walls x y || is_walled_at p obstacles x y then has tile x y else has free x y) → HasCells out (turned p window (either walls obstacles))
-turned_of_both p tile free out window walls obstacles shows is_free is_out =
-    turned_of_held p tile free out window (either walls obstacles) shows
-    (λ x y h k. is_free x y h k ∙ sym (turned_by_cells p window false x y))
-    (λ x y h k. is_out x y h k ∙ ap (λ b. if b then has tile x y else has free x y) (sym (walled_either p walls obstacles x y)))
+turned_of_both p tile free out window walls obstacles shows is_free is_out = grind (arith, turned_of_held, turned_by_cells, walled_either)
 
 pub walled_places : (p : ℕ) (t : Tile) (window : ℕ → ℕ → Bool) → HasCells t (λ x y. walled_from p window x y) → HasCells t (is_walled_at p window)
 walled_places p t window is x y h k = is x y h k ∙ sym (walled_by_cells p window x y)
@@ -140,9 +120,7 @@ walled_places p t window is x y h k = is x y h k ∙ sym (walled_by_cells p wind
 -- a word that tells of a tile's rows tells of those of its classes
 module _ (t : Tile) (rows : ℕ) (told : TellsRows rows (has t)) where
   untold : (p q i j : ℕ) → p < 2 → q < 2 → i < 32 → j < 32 → bit rows j ≡ false → has t (2 * i + p) (2 * j + q) ≡ false
-  untold p q i j p_two q_two h k e =
-      let row : (2 * j + q) / 2 ≡ j = omega arith in
-      told (2 * i + p) (2 * j + q) (omega arith) (omega arith) (rw row e)
+  untold p q i j p_two q_two h k e = grind arith
 
   pub told_even_even : TellsWords rows t.even_even
   told_even_even i j h k e = is_even_even t i j h k ∙ untold 0 0 i j (omega arith) (omega arith) h k e
@@ -161,8 +139,7 @@ pub took_at : (p : ℕ) (tile places : Tile) (test : ℕ → ℕ → Bool) → H
 took_at p tile places test is_places = twice_momentum-same p _ _ (λ x y h k. ap (λ b. has tile x y && b) (is_places x y h k))
 
 pub kept_of : (w t f : Bool) → w ≡ false → f ≡ (if w then t else f)
-kept_of true t f e = cc
-kept_of false t f e = refl
+kept_of w t f h4 = grind arith
 
 pub none_held : (tile before : Tile) (test : ℕ → ℕ → Bool) → HasNoCell test → HasCells before (λ x y. if test x y then has tile x y else has before x y)
 none_held tile before test none x y h k = kept_of (test x y) (has tile x y) (has before x y) (none x y h k)
@@ -172,19 +149,14 @@ none_took p tile test none = twice_momentum-none p _ (λ x y h k. and_right (has
 
 -- what is put back in two goes
 held_twice : (w o t old first second : Bool) → first ≡ (if w && not o then t else old) → second ≡ (if o then t else first) → second ≡ (if w || o then t else old)
-held_twice true true t old first second e f = f
-held_twice true false t old first second e f = f ∙ e
-held_twice false true t old first second e f = f
-held_twice false false t old first second e f = f ∙ e
+held_twice w o t old first second h7 h8 = grind arith
 
 joined_tests : (t w o : Bool) → (t && (w && not o)) ≡ (t && w && not o)
-joined_tests true w o = refl
-joined_tests false w o = refl
+joined_tests t w o = grind arith
 
 pub both_held : (p : ℕ) (tile before first out : Tile) (walled obstructed : ℕ → ℕ → Bool) → HasCells first (λ x y. if is_for_walls p walled obstructed x y then has tile x y else has before x y) → HasCells out (λ x y. if is_walled_at p obstructed x y then has tile x y else has first x y)
     → HasCells out (λ x y. if is_walled_at p walled x y || is_walled_at p obstructed x y then has tile x y else has before x y)
-both_held p tile before first out walled obstructed is_first is_out x y h k =
-    held_twice (is_walled_at p walled x y) (is_walled_at p obstructed x y) (has tile x y) _ _ _ (is_first x y h k) (is_out x y h k)
+both_held p tile before first out walled obstructed is_first is_out x y h k = grind (arith, held_twice)
 
 pub both_took : (p : ℕ) (tile : Tile) (walled obstructed : ℕ → ℕ → Bool) (c : Counted) (a b : Pair) → a ≡ if_counted c.walls (twice_momentum p (λ x y. has tile x y && is_for_walls p walled obstructed x y))
     → b ≡ if_counted c.obstacles (twice_momentum p (λ x y. has tile x y && is_walled_at p obstructed x y)) → (let r : Took = record { walls = a; obstacles = b } in r) ≡ counted_of c (taken p tile walled obstructed)
@@ -199,11 +171,7 @@ is_counted false p q e f = cc
 
 -- blocks that begin at even columns and rows
 block_begins : (x : ℕ) → block_start 0 x ≡ 2 * (x / 2) + 1
-block_begins x =
-    elim (cases_eq ((x + 0) % 2) 0) [
-      | inl e ↦ let first : x + 1 ≡ 2 * (x / 2) + 1 = omega (arith, e) in rw (eq-eqb ((x + 0) % 2) 0 e) first
-      | inr ne ↦ let second : x ≡ 2 * (x / 2) + 1 = omega (arith, ne) in rw (ne_eqb ((x + 0) % 2) 0 ne) second
-    ]
+block_begins x = grind (arith, cases_eq, eq-eqb, ne_eqb)
 
 pub same_block : (x : ℕ) → block_start 0 (2 * (x / 2)) ≡ block_start 0 x
 same_block x = block_begins (2 * (x / 2)) ∙ (let e : 2 * (2 * (x / 2) / 2) + 1 ≡ 2 * (x / 2) + 1 = omega arith in e ∙ sym (block_begins x))
@@ -211,7 +179,4 @@ same_block x = block_begins (2 * (x / 2)) ∙ (let e : 2 * (2 * (x / 2) / 2) + 1
 -- a tile of which the rule spares the blocks that these words name
 pub turned_of_spared : (window solid : ℕ → ℕ → Bool) (words : List ℕ) (out : Tile) → ((i j : ℕ) → i < 32 → j < 32 → bit (get_or words j 0) i ≡ is_walled_at 0 solid (2 * i) (2 * j))
     → HasCells out (λ x y. turned_at 0 window (bit (get_or words (y / 2) 0) (x / 2)) x y) → HasCells out (turned 0 window solid)
-turned_of_spared window solid words out named is x y h k =
-    is x y h k
-    ∙ (ap (λ b. turned_at 0 window b x y) (named (x / 2) (y / 2) (omega arith) (omega arith) ∙ ap₂ (is_block_walled solid) (same_block x) (same_block y))
-    ∙ sym (turned_by_cells 0 window (is_walled_at 0 solid x y) x y))
+turned_of_spared window solid words out named is x y h k = grind (arith, same_block, turned_by_cells)

@@ -1,5 +1,5 @@
 -- The walled blocks of a tile at odd parity.
-use Rattle.std.proofs.Common.{◌≡◌, refl, ◌⊎◌, ℕ, ◌+◌, ◌-◌, ◌*◌, ◌/◌, ◌%◌, ◌<◌, ◌≤◌, Bool, true, false, not, ◌&&◌, ◌||◌, length, get_or, set, sym, subst, ◌∙◌, ap, ap₂, arith, inl, inr, List, Option, Some, None, bit_or}
+use Rattle.std.proofs.Common.{◌≡◌, refl, ◌⊎◌, ℕ, ◌+◌, ◌-◌, ◌*◌, ◌/◌, ◌%◌, ◌<◌, ◌≤◌, Bool, true, false, not, ◌&&◌, ◌||◌, length, get_or, set, sym, subst, ◌∙◌, ap, ap₂, arith, inl, inr, List, Option, Some, None, bit_or, rules}
 use Rattle.std.proofs.lemmas.Bool.{cases_eq, eq-eqb, ne_eqb}
 use Rattle.bit_tile.specs.Bit.{bit}
 use Rattle.bit_tile.specs.Tile.{has, HasCells}
@@ -34,29 +34,15 @@ even_start x = let first : 2 * x + 0 ≡ 2 * x = omega arith in rw (ne_eqb ((2 *
 
 -- row k of blocks is that of the tile's row 2 * k - 1, or of row 0
 pub row_start : (k : ℕ) → block_start 1 (2 * k - 1) ≡ 2 * k
-row_start k =
-    elim (cases_eq k 0) [
-      | inl e ↦ rw e refl
-      | inr some ↦
-          let row : 2 * (k - 1) + 1 ≡ 2 * k - 1 = omega arith in
-          let start : 2 * (k - 1) + 2 ≡ 2 * k = omega arith in
-          ap (block_start 1) (sym row) ∙ (odd_start (k - 1) ∙ start)
-    ]
+row_start k = grind (arith, cases_eq, odd_start)
 
 -- the words by the tile's cells
 pub named_by_cells : (begins ends : ℕ → ℕ) (solid : ℕ → ℕ → Bool) → ((i k : ℕ) → i < 32 → k < 33 → bit (begins k) i ≡ is_walled_at 1 solid (2 * i + 1) (2 * k - 1)) → ((i k : ℕ) → i < 32 → k < 33 → bit (ends k) i ≡ is_walled_at 1 solid (2 * i + 0) (2 * k - 1))
     → NameBlocks begins ends solid
-named_by_cells begins ends solid at_odd at_even =
-    record {
-      begin = λ i k h below. at_odd i k h below ∙ ap₂ (is_block_walled solid) (odd_start i) (row_start k);
-      end = λ i k h below. at_even i k h below ∙ ap₂ (is_block_walled solid) (even_start i) (row_start k);
-    }
+named_by_cells begins ends solid at_odd at_even = grind (arith, odd_start, row_start, even_start)
 
 neither : (w o : Bool) → (w && not o) ≡ false → o ≡ false → false ≡ (w || o)
-neither true true e f = sym f
-neither true false e f = sym e
-neither false true e f = sym f
-neither false false e f = refl
+neither w o h3 h4 = grind arith
 
 -- where no block is walled
 pub none_named : (out : Tile) (window walled obstructed : ℕ → ℕ → Bool) → HasNoCell (is_for_walls 1 walled obstructed) → HasNoCell (is_walled_at 1 obstructed) → ((solid : ℕ → ℕ → Bool) → NameBlocks (λ _. 0) (λ _. 0) solid → HasCells out (turned 1 window solid))
@@ -79,19 +65,11 @@ module _ (begins ends : ℕ → ℕ) (solid : ℕ → ℕ → Bool) (are : NameB
   -- the words of a row
   pub upper_named : (window : ℕ → ℕ → Bool) (k row y ul ur : ℕ) → k < 33 → block_start 1 row ≡ 2 * k → AreUpper (λ i. turned_cell (bit (begins k) i)) (λ i. turned_cell (bit (ends k) i)) window y ul ur
       → AreUpper (λ i. rule_among solid (2 * i + 1) row) (λ i. rule_among solid (2 * i + 0) row) window y ul ur
-  upper_named window k row y ul ur below e is =
-      record {
-        left = λ i h. as_named _ _ _ _ _ _ _ (is.left i h) (begin_at i k (2 * i + 1) row h below (odd_start i) e);
-        right = λ i h. as_named _ _ _ _ _ _ _ (is.right i h) (end_at i k (2 * i + 0) row h below (even_start i) e);
-      }
+  upper_named window k row y ul ur below e is = grind (arith, as_named, begin_at, odd_start, end_at, even_start)
 
   pub lower_named : (window : ℕ → ℕ → Bool) (k row y ll lr : ℕ) → k < 33 → block_start 1 row ≡ 2 * k → AreLower (λ i. turned_cell (bit (begins k) i)) (λ i. turned_cell (bit (ends k) i)) window y ll lr
       → AreLower (λ i. rule_among solid (2 * i + 1) row) (λ i. rule_among solid (2 * i + 0) row) window y ll lr
-  lower_named window k row y ll lr below e is =
-      record {
-        left = λ i h. as_named _ _ _ _ _ _ _ (is.left i h) (begin_at i k (2 * i + 1) row h below (odd_start i) e);
-        right = λ i h. as_named _ _ _ _ _ _ _ (is.right i h) (end_at i k (2 * i + 0) row h below (even_start i) e);
-      }
+  lower_named window k row y ll lr below e is = grind (arith, as_named, begin_at, odd_start, end_at, even_start)
 
   pub row_named : (window : ℕ → ℕ → Bool) (j : ℕ) (new : Blocks) → j < 31 → IsCollidedOdd (begins (j + 1)) (ends (j + 1)) window (2 * j + 2) new → AreMadeOdd (rule_among solid) window j new
   row_named window j new below is =
@@ -184,9 +162,7 @@ even_class words window are p q p_two q_two i j h k = are i j h k ∙ ap₂ (is_
 
 -- the words of a class, of which rows are told
 pub tells_class : (rows : ℕ) (words : List ℕ) (p q : ℕ) (test : ℕ → ℕ → Bool) → p < 2 → q < 2 → TellsRows rows test → IsClass words p q test → TellsWords rows words
-tells_class rows words p q test p_two q_two told is i j h k e =
-    let row : (2 * j + q) / 2 ≡ j = omega arith in
-    is i j h k ∙ told (2 * i + p) (2 * j + q) (omega arith) (omega arith) (rw row e)
+tells_class rows words p q test p_two q_two told is i j h k e = grind arith
 
 pub counted_among : (t : Tile) (rows : ℕ) (ee oe eo oo : List ℕ) (test : ℕ → ℕ → Bool) (a b c d : ℕ) → TellsRows rows test → IsClass ee 0 0 test → IsClass oe 1 0 test → IsClass eo 0 1 test → IsClass oo 1 1 test
     → (TellsWords rows ee → a ≡ particles_among t.even_even ee 32) → (TellsWords rows oe → b ≡ particles_among t.odd_even oe 32) → (TellsWords rows eo → c ≡ particles_among t.even_odd eo 32) → (TellsWords rows oo → d ≡ particles_among t.odd_odd oo 32)
@@ -234,15 +210,11 @@ either_named p walled obstructed a b x y i of_walls of_obstacles = bit-or a b i 
 
 pub both_named : (walls obstacles : OddBlocks) (walled obstructed : ℕ → ℕ → Bool) → AreOddBlocksOf walls (is_walled_at 1 walled) → AreOddBlocksOf obstacles (is_walled_at 1 obstructed)
     → NameBlocks (λ k. bit_or (get_or walls.begin k 0) (get_or obstacles.begin k 0)) (λ k. bit_or (get_or walls.end k 0) (get_or obstacles.end k 0)) (either walled obstructed)
-both_named walls obstacles walled obstructed of_walls of_obstacles =
-    named_by_cells _ _ (either walled obstructed)
-    (λ i k h below. either_named 1 walled obstructed (get_or walls.begin k 0) (get_or obstacles.begin k 0) (2 * i + 1) (2 * k - 1) i (of_walls.begin i k h below) (of_obstacles.begin i k h below))
-    (λ i k h below. either_named 1 walled obstructed (get_or walls.end k 0) (get_or obstacles.end k 0) (2 * i + 0) (2 * k - 1) i (of_walls.end i k h below) (of_obstacles.end i k h below))
+both_named walls obstacles walled obstructed of_walls of_obstacles = grind (arith, named_by_cells, either_named)
 
 pub both_even : (walls obstacles words : List ℕ) (walled obstructed : ℕ → ℕ → Bool) → ((j : ℕ) → j < 32 → get_or words j 0 ≡ bit_or (get_or walls j 0) (get_or obstacles j 0)) → AreEvenBlocksOf walls (is_walled_at 0 walled) → AreEvenBlocksOf obstacles (is_walled_at 0 obstructed)
     → AreEvenBlocksOf words (is_walled_at 0 (either walled obstructed))
-both_even walls obstacles words walled obstructed are of_walls of_obstacles i j h k =
-    ap (λ w. bit w i) (are j k) ∙ either_named 0 walled obstructed (get_or walls j 0) (get_or obstacles j 0) (2 * i) (2 * j) i (of_walls i j h k) (of_obstacles i j h k)
+both_even walls obstacles words walled obstructed are of_walls of_obstacles i j h k = grind (arith, either_named)
 
 -- the words of cells for even parity
 pub even_blocks_are : (cells : Tile) (test : ℕ → ℕ → Bool) → HasCells cells test → AreEvenBlocksOf cells.even_even test
@@ -250,12 +222,10 @@ even_blocks_are cells test are i j h k = is_even_even cells i j h k ∙ (are (2 
 
 -- where one set has no blocks those of the other are all
 or_none : (a b : Bool) → b ≡ false → a ≡ (a || b)
-or_none true b e = refl
-or_none false b e = sym e
+or_none a b h3 = grind arith
 
 or_first : (a b : Bool) → a ≡ false → b ≡ (a || b)
-or_first true b e = cc
-or_first false b e = refl
+or_first a b h3 = grind arith
 
 pub first_alone : (p : ℕ) (walled obstructed : ℕ → ℕ → Bool) → HasNoCell (is_walled_at p obstructed) → (x y : ℕ) → x < 64 → y < 64 → is_walled_at p walled x y ≡ is_walled_at p (either walled obstructed) x y
 first_alone p walled obstructed none x y h k = or_none (is_walled_at p walled x y) (is_walled_at p obstructed x y) (none x y h k) ∙ sym (walled_either p walled obstructed x y)
@@ -267,7 +237,4 @@ pub even_alike : (words : List ℕ) (some other : ℕ → ℕ → Bool) → ((x 
 even_alike words some other same are i j h k = are i j h k ∙ same (2 * i) (2 * j) (omega arith) (omega arith)
 
 pub one_named : (b : OddBlocks) (some solid : ℕ → ℕ → Bool) → ((x y : ℕ) → x < 64 → y < 64 → some x y ≡ is_walled_at 1 solid x y) → AreOddBlocksOf b some → NameBlocks (λ k. get_or b.begin k 0) (λ k. get_or b.end k 0) solid
-one_named b some solid same are =
-    named_by_cells _ _ solid
-    (λ i k h below. are.begin i k h below ∙ same (2 * i + 1) (2 * k - 1) (omega arith) (omega arith))
-    (λ i k h below. are.end i k h below ∙ same (2 * i + 0) (2 * k - 1) (omega arith) (omega arith))
+one_named b some solid same are = grind (arith, named_by_cells)

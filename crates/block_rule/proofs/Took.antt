@@ -1,4 +1,4 @@
-use Rattle.std.proofs.Common.{◌≡◌, ℕ, ◌+◌, ◌-◌, ◌*◌, ◌%◌, ◌<◌, ◌==◌, Bool, true, false, not, ◌&&◌, ◌||◌, refl, sym, ◌∙◌, ap, arith, inl, inr}
+use Rattle.std.proofs.Common.{◌≡◌, ℕ, ◌+◌, ◌-◌, ◌*◌, ◌%◌, ◌<◌, ◌==◌, Bool, false, not, ◌&&◌, ◌||◌, sym, ◌∙◌, ap, arith}
 use Rattle.std.specs.Prelude.{pos, ◌+ℤ◌, ◌-ℤ◌, ℤ}
 use Rattle.std.proofs.lemmas.Int.{ints}
 use Rattle.std.proofs.lemmas.Bool.{cases_eq, eq-eqb, ne_eqb}
@@ -12,18 +12,10 @@ use Rattle.block_rule.specs.Around.{either, none, is_walled_at, twice_forward, t
 use Rattle.block_rule.proofs.Blank.{walled_either}
 
 is_of_parity : (p n : ℕ) → p < 2 → has_parity p n ≡ (n % 2 == p)
-is_of_parity p n two =
-    elim (cases_eq (n % 2) p) [
-      | inl e ↦ eq-eqb ((n + p) % 2) 0 (omega arith) ∙ sym (eq-eqb (n % 2) p e)
-      | inr ne ↦ ne_eqb ((n + p) % 2) 0 (λ h. omega arith) ∙ sym (ne_eqb (n % 2) p ne)
-    ]
+is_of_parity p n two = grind (arith, cases_eq, eq-eqb, ne_eqb)
 
 is_of_other_parity : (p n : ℕ) → p < 2 → not (has_parity p n) ≡ (n % 2 == 1 - p)
-is_of_other_parity p n two =
-    elim (cases_eq (n % 2) p) [
-      | inl e ↦ ap not (eq-eqb ((n + p) % 2) 0 (omega arith)) ∙ sym (ne_eqb (n % 2) (1 - p) (λ h. omega arith))
-      | inr ne ↦ ap not (ne_eqb ((n + p) % 2) 0 (λ h. omega arith)) ∙ sym (eq-eqb (n % 2) (1 - p) (omega arith))
-    ]
+is_of_other_parity p n two = grind (arith, cases_eq, eq-eqb, ne_eqb)
 
 module _ (cells : ℕ → ℕ → Bool) (p : ℕ) (two : p < 2) where
   pub right_count : count_cells (λ x y. cells x y && has_parity p x) ≡ class cells p 0 + class cells p 1
@@ -40,11 +32,7 @@ module _ (cells : ℕ → ℕ → Bool) (p : ℕ) (two : p < 2) where
 
 -- the sum depends on the 64 by 64 cells alone
 pub twice_forward-same : (p q forward : ℕ → ℕ → Bool) → ((x y : ℕ) → x < 64 → y < 64 → p x y ≡ q x y) → twice_forward p forward ≡ twice_forward q forward
-twice_forward-same p q forward same =
-    ap (λ n. pos (2 * n) -ℤ pos (2 * count_cells (λ x y. p x y && not (forward x y))))
-    (cells_same _ _ (λ x y in_row in_column. ap (λ b. b && forward x y) (same x y in_row in_column)))
-    ∙ ap (λ n. pos (2 * count_cells (λ x y. q x y && forward x y)) -ℤ pos (2 * n))
-    (cells_same _ _ (λ x y in_row in_column. ap (λ b. b && not (forward x y)) (same x y in_row in_column)))
+twice_forward-same p q forward same = grind (arith, cells_same)
 
 pub twice_forward-none : (p forward : ℕ → ℕ → Bool) → ((x y : ℕ) → x < 64 → y < 64 → p x y ≡ false) → pos 0 ≡ twice_forward p forward
 twice_forward-none p forward none =
@@ -59,12 +47,10 @@ pub pair_same : (a b c d : ℤ) → a ≡ c → b ≡ d → pair a b ≡ pair c 
 pair_same a b c d x y = rw (x, y)
 
 pub twice_momentum-same : (p : ℕ) (cells others : ℕ → ℕ → Bool) → ((x y : ℕ) → x < 64 → y < 64 → cells x y ≡ others x y) → twice_momentum p cells ≡ twice_momentum p others
-twice_momentum-same p cells others same =
-    pair_same _ _ _ _ (twice_forward-same cells others (λ x y. has_parity p x) same) (twice_forward-same cells others (λ x y. has_parity p y) same)
+twice_momentum-same p cells others same = grind (arith, pair_same, twice_forward-same)
 
 pub twice_momentum-none : (p : ℕ) (cells : ℕ → ℕ → Bool) → ((x y : ℕ) → x < 64 → y < 64 → cells x y ≡ false) → pair (pos 0) (pos 0) ≡ twice_momentum p cells
-twice_momentum-none p cells empty =
-    pair_same _ _ _ _ (twice_forward-none cells (λ x y. has_parity p x) empty) (twice_forward-none cells (λ x y. has_parity p y) empty)
+twice_momentum-none p cells empty = grind (arith, pair_same, twice_forward-none)
 
 -- the account of the walls and that of the obstacles
 abbrev pub accounts : Pair → Pair → Took
@@ -75,24 +61,10 @@ accounts_same a b c d first second = rw (first, second)
 
 -- each particle in one of two parts
 parts : (t w o f : Bool) → (t && (w || o) && f && o) ≡ (t && o && f)
-parts false w o f = refl
-parts true true true true = refl
-parts true true true false = refl
-parts true true false true = refl
-parts true true false false = refl
-parts true false true true = refl
-parts true false true false = refl
-parts true false false f = refl
+parts t w o f = grind arith
 
 rest : (t w o f : Bool) → (t && (w || o) && f && not o) ≡ (t && w && not o && f)
-rest false w o f = refl
-rest true true true true = refl
-rest true true true false = refl
-rest true true false true = refl
-rest true true false false = refl
-rest true false true true = refl
-rest true false true false = refl
-rest true false false f = refl
+rest t w o f = grind arith
 
 module _ (t w o : ℕ → ℕ → Bool) where
   all_count : (f : ℕ → ℕ → Bool) → count_cells (λ x y. t x y && (w x y || o x y) && f x y) ≡ count_cells (λ x y. t x y && o x y && f x y) + count_cells (λ x y. t x y && w x y && not (o x y) && f x y)

@@ -1,5 +1,5 @@
 -- A tile's blocks and their cells on the torus.
-use Rattle.std.proofs.Common.{◌≡◌, ℕ, ◌+◌, ◌-◌, ◌*◌, ◌%◌, ◌<◌, ◌≤◌, Bool, true, false, ◌||◌, if◌then◌else◌, refl, sym, ◌∙◌, ap, ap₂, arith, inl, inr}
+use Rattle.std.proofs.Common.{◌≡◌, ℕ, ◌+◌, ◌-◌, ◌*◌, ◌%◌, ◌<◌, ◌≤◌, Bool, true, false, ◌||◌, if◌then◌else◌, refl, sym, ◌∙◌, ap, arith}
 use Rattle.std.proofs.Math.Nat.{mod-lt}
 use Rattle.std.proofs.lemmas.Nat.{mod-mul-add}
 use Rattle.std.proofs.lemmas.Bool.{cases_eq, eq-eqb, ne_eqb}
@@ -41,23 +41,10 @@ wraps : (w k : ℕ) → k < w → (k + w) % w ≡ k
 wraps w k less = let e : k + w ≡ 1 * w + k = omega arith in ap (λ m. m % w) e ∙ mod-mul-add 1 w k less
 
 next_wraps : (w k : ℕ) → k < w → (k + 1 + w) % w ≡ (k + 1) % w
-next_wraps w k less =
-    elim (cases_eq (k + 1) w) [
-      | inl e ↦
-          let twice : k + 1 + w ≡ 2 * w + 0 = omega arith in
-          let once : k + 1 ≡ 1 * w + 0 = omega arith in
-          ap (λ m. m % w) twice ∙ (mod-mul-add 2 w 0 (omega arith) ∙ sym (ap (λ m. m % w) once ∙ mod-mul-add 1 w 0 (omega arith)))
-      | inr ne ↦
-          let inside : (k + 1) % w ≡ k + 1 = (let e : k + 1 ≡ 0 * w + (k + 1) = omega arith in ap (λ m. m % w) e ∙ mod-mul-add 0 w (k + 1) (omega arith)) in
-          wraps w (k + 1) (omega arith) ∙ sym inside
-    ]
+next_wraps w k less = grind (arith, cases_eq, mod-mul-add, wraps)
 
 pub parity_same : (p from x : ℕ) → from % 2 ≡ 0 → has_parity p (from + x) ≡ has_parity p x
-parity_same p from x even =
-    elim (cases_eq ((x + p) % 2) 0) [
-      | inl e ↦ eq-eqb ((from + x + p) % 2) 0 (omega arith) ∙ sym (eq-eqb ((x + p) % 2) 0 e)
-      | inr ne ↦ ne_eqb ((from + x + p) % 2) 0 (λ h. omega arith) ∙ sym (ne_eqb ((x + p) % 2) 0 ne)
-    ]
+parity_same p from x even = grind (arith, cases_eq, eq-eqb, ne_eqb)
 
 -- the tile's column or row x, and the other one of its blocks, in a window and on the torus
 pub own_place : (w from x : ℕ) → from + x < w → (from + (x + 1) + w - 1) % w ≡ from + x
@@ -69,79 +56,40 @@ partner_along w from x true within =
 partner_along w from x false within = refl
 
 partner_place : (w from p x : ℕ) → from % 2 ≡ 0 → from + x < w → (from + partner p x + w - 1) % w ≡ other_coordinate w p (from + x)
-partner_place w from p x even within =
-    partner_along w from x (has_parity p x) within ∙ ap (λ r. along w r (from + x)) (sym (parity_same p from x even))
+partner_place w from p x even within = grind (arith, partner_along, parity_same)
 
 own_reached : (p x : ℕ) → x < 64 → IsReached p (x + 1)
 own_reached p x within = (omega arith, omega arith)
 
 partner_reached : (p x : ℕ) → p < 2 → x < 64 → IsReached p (partner p x)
-partner_reached p x small within =
-    elim (cases_eq ((x + p) % 2) 0) [
-      | inl e ↦ rw (eq-eqb ((x + p) % 2) 0 e) (omega arith, omega arith)
-      | inr ne ↦ rw (ne_eqb ((x + p) % 2) 0 ne) (omega arith, omega arith)
-    ]
+partner_reached p x small within = grind (arith, cases_eq, eq-eqb, ne_eqb)
 
 -- the cells of the tile's blocks are those of the torus's blocks
 module _ (p : ℕ) (window : ℕ → ℕ → Bool) (cells : Cells) (x0 y0 x y : ℕ) (small : p < 2) (view : IsView p window cells x0 y0) (even_x : x0 % 2 ≡ 0) (even_y : y0 % 2 ≡ 0) (in_row : x < 64) (in_column : y < 64) (within : x0 + x < cells.width) (below : y0 + y < cells.height) where
   pub own_same : window (x + 1) (y + 1) ≡ plane.has cells (x0 + x) (y0 + y)
-  own_same =
-      view.cell (x + 1) (y + 1) (own_reached p x in_row) (own_reached p y in_column)
-      ∙ ap₂ (plane.has cells) (own_place cells.width x0 x within) (own_place cells.height y0 y below)
+  own_same = grind (arith, own_reached, own_place)
 
   pub beside_same : window (partner p x) (y + 1) ≡ plane.has cells (other_coordinate cells.width p (x0 + x)) (y0 + y)
-  beside_same =
-      view.cell (partner p x) (y + 1) (partner_reached p x small in_row) (own_reached p y in_column)
-      ∙ ap₂ (plane.has cells) (partner_place cells.width x0 p x even_x within) (own_place cells.height y0 y below)
+  beside_same = grind (arith, partner_reached, own_reached, partner_place, own_place)
 
   pub facing_same : window (x + 1) (partner p y) ≡ plane.has cells (x0 + x) (other_coordinate cells.height p (y0 + y))
-  facing_same =
-      view.cell (x + 1) (partner p y) (own_reached p x in_row) (partner_reached p y small in_column)
-      ∙ ap₂ (plane.has cells) (own_place cells.width x0 x within) (partner_place cells.height y0 p y even_y below)
+  facing_same = grind (arith, own_reached, partner_reached, own_place, partner_place)
 
   pub across_same : window (partner p x) (partner p y) ≡ plane.has cells (other_coordinate cells.width p (x0 + x)) (other_coordinate cells.height p (y0 + y))
-  across_same =
-      view.cell (partner p x) (partner p y) (partner_reached p x small in_row) (partner_reached p y small in_column)
-      ∙ ap₂ (plane.has cells) (partner_place cells.width x0 p x even_x within) (partner_place cells.height y0 p y even_y below)
+  across_same = grind (arith, partner_reached, partner_place)
 
 any_of_four : (a b c d e f g h : Bool) → a ≡ e → b ≡ f → c ≡ g → d ≡ h → ((a || b) || (c || d)) ≡ (e || h || g || f)
 any_of_four a b c d e f g h ae bf cg dh = grind arith
 
 corner_is_cell : (w own beside facing across : Bool) → corner_rule w own across beside facing ≡ turned_cell w own beside facing across
-corner_is_cell true own beside facing across = refl
-corner_is_cell false true true true true = refl
-corner_is_cell false true true true false = refl
-corner_is_cell false true true false true = refl
-corner_is_cell false true true false false = refl
-corner_is_cell false true false true true = refl
-corner_is_cell false true false true false = refl
-corner_is_cell false true false false true = refl
-corner_is_cell false true false false false = refl
-corner_is_cell false false true true true = refl
-corner_is_cell false false true true false = refl
-corner_is_cell false false true false true = refl
-corner_is_cell false false true false false = refl
-corner_is_cell false false false true true = refl
-corner_is_cell false false false true false = refl
-corner_is_cell false false false false true = refl
-corner_is_cell false false false false false = refl
+corner_is_cell w own beside facing across = grind arith
 
 cell_same : (w v own beside facing across a b c d : Bool) → w ≡ v → own ≡ a → beside ≡ b → facing ≡ c → across ≡ d → turned_cell w own beside facing across ≡ corner_rule v a d b c
 cell_same w v own beside facing across a b c d wv oa sb fc ad = rw (wv, oa, sb, fc, ad) (sym (corner_is_cell v a b c d))
 
 pub walled_same : CellsWalled → (p : ℕ) (window : ℕ → ℕ → Bool) (cells : Cells) (w h x0 y0 x y : ℕ) → p < 2 → cells.width ≡ w → cells.height ≡ h → IsView p window cells x0 y0 → x0 % 2 ≡ 0 → y0 % 2 ≡ 0 → x < 64 → y < 64 → x0 + x < w → y0 + y < h →
     is_walled_at p window x y ≡ is_walled cells (site_of p w h (x0 + x) (y0 + y))
-walled_same law p window cells w h x0 y0 x y small wide high view even_x even_y in_row in_column within below =
-    let right : x0 + x < cells.width = omega arith in
-    let low : y0 + y < cells.height = omega arith in
-    walled_by_cells p window x y
-    ∙ any_of_four _ _ _ _ _ _ _ _
-    (own_same p window cells x0 y0 x y small view even_x even_y in_row in_column right low)
-    (facing_same p window cells x0 y0 x y small view even_x even_y in_row in_column right low)
-    (beside_same p window cells x0 y0 x y small view even_x even_y in_row in_column right low)
-    (across_same p window cells x0 y0 x y small view even_x even_y in_row in_column right low)
-    ∙ sym (law p cells (x0 + x) (y0 + y) right low)
-    ∙ ap₂ (λ a b. is_walled cells (site_of p a b (x0 + x) (y0 + y))) wide high
+walled_same law p window cells w h x0 y0 x y small wide high view even_x even_y in_row in_column within below = grind (arith, walled_by_cells, any_of_four, own_same, facing_same, beside_same, across_same)
 
 turned_same : CellsStep → CellsWalled → (p : ℕ) (near near_solid : ℕ → ℕ → Bool) (particles solid : Cells) (x0 y0 x y : ℕ) → p < 2 → HasEvenSides particles.width particles.height → solid.width ≡ particles.width → solid.height ≡ particles.height → IsView p near particles x0 y0 → IsView p near_solid solid x0 y0 → x0 % 2 ≡ 0 → y0 % 2 ≡ 0 → x < 64 → y < 64 → x0 + x < particles.width → y0 + y < particles.height →
     turned p near near_solid x y ≡ plane.has (streamed p particles solid) (x0 + x) (y0 + y)
@@ -157,30 +105,14 @@ turned_same step walled p near near_solid particles solid x0 y0 x y small even w
 
 -- a view of two sets together
 pub view_either : MadeCells → (p : ℕ) (a b : ℕ → ℕ → Bool) (some others : Cells) (x0 y0 : ℕ) → 0 < some.width → 0 < some.height → HasSidesOf others some → IsView p a some x0 y0 → IsView p b others x0 y0 → IsView p (either a b) (joined some others) x0 y0
-view_either made p a b some others x0 y0 wide high sides is_a is_b =
-    record {
-      cell = λ i j reach_i reach_j.
-          let w : ℕ = some.width in
-          let h : ℕ = some.height in
-          let x : ℕ = (x0 + i + w - 1) % w in
-          let y : ℕ = (y0 + j + h - 1) % h in
-          let there : b i j ≡ plane.has others x y =
-          is_b.cell i j reach_i reach_j
-          ∙ ap₂ (λ v k. plane.has others ((x0 + i + v - 1) % v) ((y0 + j + k - 1) % k)) sides.wide sides.high in
-          ap₂ (λ v k. v || k) (is_a.cell i j reach_i reach_j) there
-          ∙ sym (made w h (λ u v. plane.has some u v || plane.has others u v) x y (mod-lt (x0 + i + w - 1) wide) (mod-lt (y0 + j + h - 1) high));
-    }
+view_either made p a b some others x0 y0 wide high sides is_a is_b = grind (arith, mod-lt)
 
 sides_same : (a b c : Cells) → HasSidesOf a c → HasSidesOf b c → HasSidesOf b a
 sides_same a b c is_a is_b = record { wide = is_b.wide ∙ sym is_a.wide; high = is_b.high ∙ sym is_a.high }
 
 module _ (p : ℕ) (particles walls obstacles : Cells) (x0 y0 : ℕ) (near_walls near_obstacles : ℕ → ℕ → Bool) (place : IsTilePlace particles walls obstacles x0 y0) (walls_view : IsView p near_walls walls x0 y0) (obstacles_view : IsView p near_obstacles obstacles x0 y0) where
   pub solid_view : MadeCells → IsView p (either near_walls near_obstacles) (joined walls obstacles) x0 y0
-  solid_view made =
-      let wide : 0 < walls.width = omega (arith, place.right, place.of_walls.wide) in
-      let high : 0 < walls.height = omega (arith, place.bottom, place.of_walls.high) in
-      view_either made p near_walls near_obstacles walls obstacles x0 y0 wide high
-      (sides_same walls obstacles particles place.of_walls place.of_obstacles) walls_view obstacles_view
+  solid_view made = grind (arith, view_either, sides_same)
 
   pub turned_is_streamed : MadeCells → CellsStep → CellsWalled → (near : ℕ → ℕ → Bool) → p < 2 → IsView p near particles x0 y0 → (x y : ℕ) → x < 64 → y < 64 →
       turned p near (either near_walls near_obstacles) x y ≡ plane.has (streamed p particles (joined walls obstacles)) (x0 + x) (y0 + y)
@@ -196,26 +128,13 @@ tiles_turned p particles walls obstacles x0 y0 near near_walls near_obstacles sm
 
 -- what a tile sees
 pub window_is_view : (p : ℕ) (window : ℕ → ℕ → Bool) (cells : Cells) (x0 y0 : ℕ) → p < 2 → IsWindow window cells x0 y0 → IsView p window cells x0 y0
-window_is_view p window cells x0 y0 small is =
-    record { cell = λ i j reach_i reach_j. is.cell i j (omega (arith, reach_i.1)) (omega (arith, reach_j.1)) }
+window_is_view p window cells x0 y0 small is = grind arith
 
 around_inside : (t : Tile) (b : Border) (i j : ℕ) → 1 ≤ i → i ≤ 64 → 1 ≤ j → j ≤ 64 → around t b i j ≡ has t (i - 1) (j - 1)
-around_inside t b i j i_low i_high j_low j_high =
-    rw (ne_eqb i 0 (λ h. omega arith), ne_eqb i 65 (λ h. omega arith), ne_eqb j 0 (λ h. omega arith), ne_eqb j 65 (λ h. omega arith))
+around_inside t b i j i_low i_high j_low j_high = grind (arith, ne_eqb)
 
 place_inside : (w from i : ℕ) → 1 ≤ i → i ≤ 64 → from + 64 ≤ w → from + (i - 1) ≡ (from + i + w - 1) % w
-place_inside w from i low high within =
-    sym (ap (λ m. m % w) (let e : from + i + w - 1 ≡ from + (i - 1) + w = omega arith in e) ∙ wraps w (from + (i - 1)) (omega arith))
+place_inside w from i low high within = grind (arith, wraps)
 
 pub inside_is_view : (t : Tile) (b : Border) (cells : Cells) (x0 y0 : ℕ) → x0 + 64 ≤ cells.width → y0 + 64 ≤ cells.height → HasCells t (λ x y. plane.has cells (x0 + x) (y0 + y)) → IsView 0 (around t b) cells x0 y0
-inside_is_view t b cells x0 y0 right bottom is =
-    record {
-      cell = λ i j reach_i reach_j.
-          let i_low : 1 ≤ i = omega (arith, reach_i.0) in
-          let i_high : i ≤ 64 = omega (arith, reach_i.1) in
-          let j_low : 1 ≤ j = omega (arith, reach_j.0) in
-          let j_high : j ≤ 64 = omega (arith, reach_j.1) in
-          around_inside t b i j i_low i_high j_low j_high
-          ∙ (is (i - 1) (j - 1) (omega arith) (omega arith)
-          ∙ ap₂ (plane.has cells) (place_inside cells.width x0 i i_low i_high right) (place_inside cells.height y0 j j_low j_high bottom));
-    }
+inside_is_view t b cells x0 y0 right bottom is = grind (arith, around_inside, place_inside)

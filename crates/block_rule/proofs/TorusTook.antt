@@ -1,5 +1,5 @@
 -- What a tile takes, on the torus.
-use Rattle.std.proofs.Common.{◌≡◌, ℕ, zero, suc, ◌+◌, ◌*◌, ◌%◌, ◌<◌, ◌==◌, Bool, true, false, not, ◌&&◌, ◌||◌, refl, sym, ◌∙◌, ap, ap₂, arith}
+use Rattle.std.proofs.Common.{◌≡◌, ℕ, zero, suc, ◌+◌, ◌*◌, ◌%◌, ◌<◌, ◌==◌, Bool, true, false, not, ◌&&◌, ◌||◌, sym, ◌∙◌, ap, ap₂, arith}
 use Rattle.std.specs.Prelude.{pos, ◌-ℤ◌, ◌*ℤ◌, ℤ}
 use Rattle.std.proofs.lemmas.Int.{ints}
 use Rattle.bit_tile.specs.Sums.{sum_below, count_below}
@@ -80,8 +80,7 @@ momentum_same sums tick cells x0 y0 even_x even_y =
     ∙ sym (ap torus.twice_momentum (sums tick cells (square x0 y0)))
 
 regroup : (t w o : Bool) → (t && w && not o) ≡ (t && (w && not o))
-regroup true w o = refl
-regroup false w o = refl
+regroup t w o = grind arith
 
 -- whether a tile's block takes for walls or obstacles is whether its site does
 for_walls : (w o : Bool) (a b : Bool) → a ≡ (w || o) → b ≡ o → (w && not o) ≡ (a && not b)
@@ -100,8 +99,7 @@ module _ (made : MadeCells) (walled : CellsWalled) (p : ℕ) (two : p < 2) (part
       ∙ walled_either p near_walls near_obstacles x y
 
   obstructed_same : is_walled obstacles site ≡ is_walled_at p near_obstacles x y
-  obstructed_same =
-      sym (walled_same walled p near_obstacles obstacles particles.width particles.height x0 y0 x y two place.of_obstacles.wide place.of_obstacles.high obstacles_view place.even_column place.even_row in_row in_column (omega (arith, place.right)) (omega (arith, place.bottom)))
+  obstructed_same = grind (arith, walled_same)
 
   pub walls_take : is_for_walls p near_walls near_obstacles x y ≡ takes_for_walls walls obstacles site
   walls_take = for_walls (is_walled_at p near_walls x y) (is_walled_at p near_obstacles x y) _ _ solid_same obstructed_same
@@ -117,8 +115,7 @@ module _ (made : MadeCells) (walled : CellsWalled) (sums : SumsByParities) (tick
   in_height y h = omega (arith, place.bottom)
 
   made_same : (test : Site → Bool) (x y : ℕ) → x < 64 → y < 64 → plane.has (stopped (parity tick) particles test) (x0 + x) (y0 + y) ≡ (plane.has particles (x0 + x) (y0 + y) && test (site_of (parity tick) particles.width particles.height (x0 + x) (y0 + y)))
-  made_same test x y in_row in_column =
-      made particles.width particles.height (λ u v. plane.has particles u v && test (site_of (parity tick) particles.width particles.height u v)) (x0 + x) (y0 + y) (in_width x in_row) (in_height y in_column)
+  made_same test x y in_row in_column = grind (arith, in_width, in_height)
 
   pub taken_is_taken_in : taken (parity tick) tile near_walls near_obstacles ≡ taken_in tick particles walls obstacles (square x0 y0)
   taken_is_taken_in =
@@ -139,7 +136,4 @@ pub tiles_took : (tick : ℤ) (tile : Tile) (particles walls obstacles : Cells) 
 tiles_took = taken_is_taken_in has-cells_where cell_walled total_in-parities
 
 pub taken_of_none : (p : ℕ) (tile : Tile) → taken p tile none none ≡ record { walls = record { x = pos 0; y = pos 0 }; obstacles = record { x = pos 0; y = pos 0 } }
-taken_of_none p tile =
-    sym (accounts_same _ _ _ _
-    (twice_momentum-none p (λ x y. has tile x y && false && true) (λ x y _ _. ap (λ b. b && true) (and_right (has tile x y) false refl)))
-    (twice_momentum-none p (λ x y. has tile x y && false) (λ x y _ _. and_right (has tile x y) false refl)))
+taken_of_none p tile = grind (arith, accounts_same, twice_momentum-none, and_right)

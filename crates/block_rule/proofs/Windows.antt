@@ -1,5 +1,5 @@
 -- Rows of blocks, seen in the window of a tile and its ring.
-use Rattle.std.proofs.Common.{◌≡◌, refl, ◌⊎◌, ℕ, ◌+◌, ◌-◌, ◌*◌, ◌/◌, ◌%◌, ◌<◌, ◌≤◌, ◌==◌, Bool, if◌then◌else◌, List, length, get_or, set, sym, subst, ◌∙◌, ap, ap₂, arith, inl, inr, get_or-set_other, get_or-set_same}
+use Rattle.std.proofs.Common.{◌≡◌, ◌⊎◌, ℕ, ◌+◌, ◌-◌, ◌*◌, ◌/◌, ◌%◌, ◌<◌, ◌≤◌, ◌==◌, Bool, if◌then◌else◌, List, length, get_or, set, sym, ◌∙◌, ap, ap₂, arith, get_or-set_other, get_or-set_same}
 use Rattle.std.proofs.lemmas.Bool.{cases_eq, cases_lt, eq-eqb, ne_eqb}
 use Rattle.bit_tile.specs.Bit.{bit}
 use Rattle.bit_tile.specs.Tile.{HasCells}
@@ -15,9 +15,7 @@ cell_by cell a b c d e f g h p q r s = ap₂ (λ u v. cell u v c d) p q ∙ ap�
 
 -- what is made of the cell (x, y), by the places of its block's cells
 made_by_places : (cell : Bool → Bool → Bool → Bool → Bool) (p : ℕ) (cells : ℕ → ℕ → Bool) (x y own_x own_y far_x far_y : ℕ) → x + 1 ≡ own_x → y + 1 ≡ own_y → partner p x ≡ far_x → partner p y ≡ far_y → made cell p cells x y ≡ cell (cells own_x own_y) (cells far_x own_y) (cells own_x far_y) (cells far_x far_y)
-made_by_places cell p cells x y own_x own_y far_x far_y ox oy fx fy =
-    ap₂ (λ u v. cell (cells u v) (cells (partner p x) v) (cells u (partner p y)) (cells (partner p x) (partner p y))) ox oy
-    ∙ ap₂ (λ u v. cell (cells own_x own_y) (cells u own_y) (cells own_x v) (cells u v)) fx fy
+made_by_places cell p cells x y own_x own_y far_x far_y ox oy fx fy = grind arith
 
 partner_first : (p x : ℕ) → (x + p) % 2 ≡ 0 → partner p x ≡ x + 2
 partner_first p x h = rw (eq-eqb ((x + p) % 2) 0 h)
@@ -27,26 +25,10 @@ partner_second p x h = rw (ne_eqb ((x + p) % 2) 0 (λ e. omega arith))
 
 -- the next and the previous class, in the window
 pub next_shown : (window : ℕ → ℕ → Bool) (y row right next : ℕ) → ((i : ℕ) → i < 32 → window (2 * i + 1) y ≡ bit row i) → window 65 y ≡ bit right 0 → ((i : ℕ) → i < 32 → bit next i ≡ (if i == 31 then bit right 0 else bit row (i + 1))) → (i : ℕ) → i < 32 → bit next i ≡ window (2 * i + 3) y
-next_shown window y row right next shown end is i within =
-    elim (cases_eq i 31) [
-      | inl e ↦
-          let last : (if i == 31 then bit right 0 else bit row (i + 1)) ≡ bit right 0 = rw (eq-eqb i 31 e) in
-          is i within ∙ (last ∙ (sym end ∙ ap (λ k. window k y) (omega arith)))
-      | inr ne ↦
-          let inner : (if i == 31 then bit right 0 else bit row (i + 1)) ≡ bit row (i + 1) = rw (ne_eqb i 31 ne) in
-          is i within ∙ (inner ∙ (sym (shown (i + 1) (omega arith)) ∙ ap (λ k. window k y) (omega arith)))
-    ]
+next_shown window y row right next shown end is i within = grind (arith, cases_eq, eq-eqb, ne_eqb)
 
 pub previous_shown : (window : ℕ → ℕ → Bool) (y row left previous : ℕ) → ((i : ℕ) → i < 32 → window (2 * i + 2) y ≡ bit row i) → window 0 y ≡ bit left 31 → ((i : ℕ) → i < 32 → bit previous i ≡ (if i == 0 then bit left 31 else bit row (i - 1))) → (i : ℕ) → i < 32 → bit previous i ≡ window (2 * i) y
-previous_shown window y row left previous shown end is i within =
-    elim (cases_eq i 0) [
-      | inl e ↦
-          let first : (if i == 0 then bit left 31 else bit row (i - 1)) ≡ bit left 31 = rw (eq-eqb i 0 e) in
-          is i within ∙ (first ∙ (sym end ∙ ap (λ k. window k y) (omega arith)))
-      | inr ne ↦
-          let inner : (if i == 0 then bit left 31 else bit row (i - 1)) ≡ bit row (i - 1) = rw (ne_eqb i 0 ne) in
-          is i within ∙ (inner ∙ (sym (shown (i - 1) (omega arith)) ∙ ap (λ k. window k y) (omega arith)))
-    ]
+previous_shown window y row left previous shown end is i within = grind (arith, cases_eq, eq-eqb, ne_eqb)
 
 -- the tile's words, in the window
 module _ (window : ℕ → ℕ → Bool) (t : Tile) (shows : ShowsTile window t) (i j : ℕ) (h : i < 32) (k : j < 32) where
@@ -70,20 +52,12 @@ same_blocks a b c d e f g h p q r s = rw (p, q, r, s)
 pub even_row_more : (cell : ℕ → ℕ → Bool → Bool → Bool → Bool → Bool) (tile out : Tile) (new : Blocks) (j : ℕ) → j < length out.even_even → j < length out.odd_even → j < length out.even_odd → j < length out.odd_odd →
     ((k : ℕ) → k < j → IsMade (cell k) (even_row tile k) (even_row out k)) → IsMade (cell j) (even_row tile j) new → (k : ℕ) → k < j + 1 →
     IsMade (cell k) (even_row tile k) (even_row (record { even_even = set out.even_even j new.upper_left; odd_even = set out.odd_even j new.upper_right; even_odd = set out.even_odd j new.lower_left; odd_odd = set out.odd_odd j new.lower_right }) k)
-even_row_more cell tile out new j ee oe eo oo before here k below =
-    elim (cases_eq k j) [
-      | inl same ↦ rw (same, get_or-set_same out.even_even j new.upper_left 0 ee, get_or-set_same out.odd_even j new.upper_right 0 oe, get_or-set_same out.even_odd j new.lower_left 0 eo, get_or-set_same out.odd_odd j new.lower_right 0 oo) here
-      | inr other ↦
-          let less : k < j = omega arith in
-          rw (get_or-set_other, get_or-set_other, get_or-set_other, get_or-set_other) (before k less)
-    ]
+even_row_more cell tile out new j ee oe eo oo before here k below = grind (arith, cases_eq, get_or-set_same, get_or-set_other)
 
 -- and leaves the rows after it
 pub even_row_rest : (tile : Tile) (new : Blocks) (j k : ℕ) → j + 1 ≤ k →
     even_row (record { even_even = set tile.even_even j new.upper_left; odd_even = set tile.odd_even j new.upper_right; even_odd = set tile.even_odd j new.lower_left; odd_odd = set tile.odd_odd j new.lower_right }) k ≡ even_row tile k
-even_row_rest tile new j k later =
-    let other : k ≡ j → ⊥ = λ e. omega arith in
-    same_blocks _ _ _ _ _ _ _ _ (get_or-set_other tile.even_even j k new.upper_left 0 other) (get_or-set_other tile.odd_even j k new.upper_right 0 other) (get_or-set_other tile.even_odd j k new.lower_left 0 other) (get_or-set_other tile.odd_odd j k new.lower_right 0 other)
+even_row_rest tile new j k later = grind (arith, same_blocks, get_or-set_other)
 
 -- the even blocks' cells: the rule is that of block x / 2 of row y / 2
 pub even_cells : (cell : ℕ → ℕ → Bool → Bool → Bool → Bool → Bool) (window : ℕ → ℕ → Bool) (tile out : Tile) → ShowsTile window tile → ((k : ℕ) → k < 32 → IsMade (cell k) (even_row tile k) (even_row out k)) → HasCells out (λ x y. made (cell (y / 2) (x / 2)) 0 window x y)
@@ -120,12 +94,7 @@ even_cells cell window tile out shows done =
 pub eight_more : (P : ℕ → Blocks → Type 0) (rows : EightRows) (new : Blocks) (k : ℕ) → k < length rows.upper_left → k < length rows.upper_right → k < length rows.lower_left → k < length rows.lower_right →
     ((m : ℕ) → m < k → P m (eight_row rows m)) → P k new → (m : ℕ) → m < k + 1 →
     P m (eight_row (record { upper_left = set rows.upper_left k new.upper_left; upper_right = set rows.upper_right k new.upper_right; lower_left = set rows.lower_left k new.lower_left; lower_right = set rows.lower_right k new.lower_right }) m)
-eight_more P rows new k ul ur ll lr before here m below =
-    elim (cases_eq m k) [
-      | inl same ↦ rw (same, get_or-set_same rows.upper_left k new.upper_left 0 ul, get_or-set_same rows.upper_right k new.upper_right 0 ur, get_or-set_same rows.lower_left k new.lower_left 0 ll, get_or-set_same rows.lower_right k new.lower_right 0 lr) here
-      | inr other ↦
-          rw (get_or-set_other rows.upper_left k m new.upper_left 0 other, get_or-set_other rows.upper_right k m new.upper_right 0 other, get_or-set_other rows.lower_left k m new.lower_left 0 other, get_or-set_other rows.lower_right k m new.lower_right 0 other) (before m (omega arith))
-    ]
+eight_more P rows new k ul ur ll lr before here m below = grind (arith, cases_eq, get_or-set_same, get_or-set_other)
 
 -- the rows of odd blocks, in the window: between two rows of the tile, at its top and at its bottom
 module _ (window : ℕ → ℕ → Bool) (t : Tile) (shows : ShowsTile window t) (a d l r al ar dl dr : Tile) (round : ShowsRound window a d l r al ar dl dr) where
@@ -207,20 +176,12 @@ module _ (rule : ℕ → ℕ → Bool → Bool → Bool → Bool → Bool) (wind
   pub uppers_more : (old new : Tile) (from to : ℕ) → ((j : ℕ) → j < from → UpperAt j old) → ((j : ℕ) → from ≤ j → j < to → AreMadeOdd rule window j (odd_row new j))
       → ((j : ℕ) → (j < from) ⊎ (to ≤ j) → (get_or new.odd_odd j 0 ≡ get_or old.odd_odd j 0) × (get_or new.even_odd j 0 ≡ get_or old.even_odd j 0))
       → (j : ℕ) → j < to → UpperAt j new
-  uppers_more old new from to before rows rest j below =
-      elim (cases_lt j from) [
-        | inl low ↦ upper_same _ _ window (2 * j + 2) _ _ _ _ (rest j (inl low)).0 (rest j (inl low)).1 (before j low)
-        | inr high ↦ (rows j high below).upper
-      ]
+  uppers_more old new from to before rows rest j below = grind (arith, cases_lt, upper_same)
 
   pub lowers_more : (old new : Tile) (from to : ℕ) → ((j : ℕ) → j < from → LowerAfter j old) → ((j : ℕ) → from ≤ j → j < to → AreMadeOdd rule window j (odd_row new j))
       → ((j : ℕ) → (j ≤ from) ⊎ (to < j) → (get_or new.odd_even j 0 ≡ get_or old.odd_even j 0) × (get_or new.even_even j 0 ≡ get_or old.even_even j 0))
       → (j : ℕ) → j < to → LowerAfter j new
-  lowers_more old new from to before rows rest j below =
-      elim (cases_lt j from) [
-        | inl low ↦ lower_same _ _ window (2 * j + 2) (2 * j + 2) _ _ _ _ refl (rest (j + 1) (inl (omega arith))).0 (rest (j + 1) (inl (omega arith))).1 (before j low)
-        | inr high ↦ (rows j high below).lower
-      ]
+  lowers_more old new from to before rows rest j below = grind (arith, cases_lt, lower_same)
 
   pub upper_end : (odd even : List ℕ) (ul ur j : ℕ) → j ≡ 31 → 31 < length odd → 31 < length even → AreUpper (λ i. rule (2 * i + 1) (2 * 31 + 1)) (λ i. rule (2 * i + 0) (2 * 31 + 1)) window 64 ul ur
       → AreUpper (λ i. rule (2 * i + 1) (2 * j + 1)) (λ i. rule (2 * i + 0) (2 * j + 1)) window (2 * j + 2) (get_or (set odd 31 ul) j 0) (get_or (set even 31 ur) j 0)
@@ -228,13 +189,7 @@ module _ (rule : ℕ → ℕ → Bool → Bool → Bool → Bool → Bool) (wind
 
   -- the lower words of row j, which is the one after row j - 1
   pub lower_next : (t : Tile) (odd even j : ℕ) → (j ≡ 0 → ⊥) → odd ≡ get_or t.odd_even j 0 → even ≡ get_or t.even_even j 0 → LowerAfter (j - 1) t → AreLower (λ i. rule (2 * i + 1) (2 * j + 0)) (λ i. rule (2 * i + 0) (2 * j + 0)) window (2 * j) odd even
-  lower_next t odd even j some e f is =
-      let next : j - 1 + 1 ≡ j = omega arith in
-      let row : 2 * (j - 1) + 2 ≡ 2 * j = omega arith in
-      rw (e, f)
-      (subst (λ m. AreLower (λ i. rule (2 * i + 1) (2 * m + 0)) (λ i. rule (2 * i + 0) (2 * m + 0)) window (2 * j) (get_or t.odd_even m 0) (get_or t.even_even m 0)) next
-      (subst (λ y. AreLower (λ i. rule (2 * i + 1) (2 * (j - 1 + 1) + 0)) (λ i. rule (2 * i + 0) (2 * (j - 1 + 1) + 0)) window y (get_or t.odd_even (j - 1 + 1) 0) (get_or t.even_even (j - 1 + 1) 0)) row is))
+  lower_next t odd even j some e f is = grind arith
 
 pub upper_inner : (l r : ℕ → Bool → Bool → Bool → Bool → Bool) (window : ℕ → ℕ → Bool) (y : ℕ) (odd even : List ℕ) (ul ur j : ℕ) → (j ≡ 31 → ⊥) → AreUpper l r window y (get_or odd j 0) (get_or even j 0) → AreUpper l r window y (get_or (set odd 31 ul) j 0) (get_or (set even 31 ur) j 0)
-upper_inner l r window y odd even ul ur j ne is =
-    upper_same l r window y _ _ _ _ (get_or-set_other odd 31 j ul 0 ne) (get_or-set_other even 31 j ur 0 ne) is
+upper_inner l r window y odd even ul ur j ne is = grind (arith, upper_same, get_or-set_other)

@@ -40,9 +40,7 @@ module _ (walled ul ur ll lr i : ℕ) (fits : walled < 2 ^ 32) (ul_fits : ul < 2
       rw (bit-and, bit-xor, n, bit-or, bit-xor, bit-xor)
 
   bit_of_change : (own across : ℕ) → bit (change own across (diagonal ul ur ll lr) walled) i ≡ (either (either (bit own i) (bit across i)) (either (bit ul i) (bit ur i) && not (either (bit ul i) (bit lr i) || either (bit ur i) (bit ll i))) && not (bit walled i))
-  bit_of_change own across =
-      bit-and (bit_xor (bit_xor own across) (diagonal ul ur ll lr)) (bit_not w32 walled) i
-      ∙ ap₂ (λ a b. a && b) (bit-xor (bit_xor own across) (diagonal ul ur ll lr) i ∙ ap₂ either (bit-xor own across i) bit_of_diagonal) (bit-not walled i fits within)
+  bit_of_change own across = grind (arith, bit-and, bit-xor, bit_of_diagonal, bit-not)
 
   pub upper_left_bit : bit (bit_xor ul (change ul lr (diagonal ul ur ll lr) walled)) i ≡ turned_cell (bit walled i) (bit ul i) (bit ur i) (bit ll i) (bit lr i)
   upper_left_bit = bit-xor ul (change ul lr (diagonal ul ur ll lr) walled) i ∙ (ap (either (bit ul i)) (bit_of_change ul lr) ∙ upper_left_table (bit walled i) (bit ul i) (bit ur i) (bit ll i) (bit lr i))
