@@ -1,5 +1,5 @@
 -- Cells by their classes.
-use Rattle.std.proofs.Common.{◌≡◌, ℕ, ◌+◌, ◌*◌, ◌/◌, ◌%◌, ◌<◌, ◌==◌, ◌&&◌, ◌⊎◌, nat_le, nat_lt, zero, suc, if◌then◌else◌, Bool, true, false, List, length, get_or, set, refl, sym, ◌∙◌, ap, ap₂, arith, inl, inr, get_or-set_other, get_or-set_same}
+use Rattle.std.proofs.Common.{◌≡◌, ℕ, ◌+◌, ◌*◌, ◌/◌, ◌%◌, ◌<◌, ◌==◌, ◌&&◌, ◌⊎◌, nat_le, nat_lt, zero, suc, if◌then◌else◌, Bool, true, false, List, length, get_or, set, refl, sym, ◌∙◌, ap₂, arith, inl, inr, get_or-set_other, get_or-set_same}
 use Rattle.std.proofs.lemmas.Bool.{cases_eq, eq-eqb, ne_eqb}
 use Rattle.std.proofs.lemmas.Bool.Decides.{nat_tests}
 use Rattle.bit_tile.specs.Bit.{bit}
@@ -22,23 +22,14 @@ module _ (t : Tile) (x y : ℕ) where
 
   pub in_odd_odd : x % 2 ≡ 1 → y % 2 ≡ 1 → has t x y ≡ bit (get_or t.odd_odd (y / 2) 0) (x / 2)
   unfolding has
-  in_odd_odd h k =
-      let e : (y % 2 == 0) ≡ false = ne_eqb (y % 2) 0 (λ e. omega arith) in
-      let f : (x % 2 == 0) ≡ false = ne_eqb (x % 2) 0 (λ e. omega arith) in
-      rw (f, e)
+  in_odd_odd h k = grind (arith, ne_eqb)
 
 -- a row of cells, by columns
 pub row_even : (t : Tile) (x y : ℕ) → y % 2 ≡ 0 → (if x % 2 == 0 then bit (get_or t.even_even (y / 2) 0) (x / 2) else bit (get_or t.odd_even (y / 2) 0) (x / 2)) ≡ has t x y
-row_even t x y k = elim (cases_eq (x % 2) 0) [
-  | inl h ↦ let e : (x % 2 == 0) ≡ true = eq-eqb (x % 2) 0 h in rw e (sym (in_even_even t x y h k))
-  | inr ne ↦ let e : (x % 2 == 0) ≡ false = ne_eqb (x % 2) 0 ne in rw e (sym (in_odd_even t x y (omega arith) k))
-]
+row_even t x y k = grind (arith, cases_eq, eq-eqb, in_even_even, ne_eqb, in_odd_even)
 
 pub row_odd : (t : Tile) (x y : ℕ) → y % 2 ≡ 1 → (if x % 2 == 0 then bit (get_or t.even_odd (y / 2) 0) (x / 2) else bit (get_or t.odd_odd (y / 2) 0) (x / 2)) ≡ has t x y
-row_odd t x y k = elim (cases_eq (x % 2) 0) [
-  | inl h ↦ let e : (x % 2 == 0) ≡ true = eq-eqb (x % 2) 0 h in rw e (sym (in_even_odd t x y h k))
-  | inr ne ↦ let e : (x % 2 == 0) ≡ false = ne_eqb (x % 2) 0 ne in rw e (sym (in_odd_odd t x y (omega arith) k))
-]
+row_odd t x y k = grind (arith, cases_eq, eq-eqb, in_even_odd, ne_eqb, in_odd_odd)
 
 -- the word's bit i of row j
 bit_at_place : (rows : List ℕ) (i j k m : ℕ) → i ≡ k → j ≡ m → bit (get_or rows j 0) i ≡ bit (get_or rows m 0) k
@@ -63,19 +54,7 @@ IsClass rows p q test = (i j : ℕ) → i < 32 → j < 32 → bit (get_or rows j
 
 -- a tile has the cells that each of its classes has
 pub by_class : (t : Tile) (test : ℕ → ℕ → Bool) → IsClass t.even_even 0 0 test → IsClass t.odd_even 1 0 test → IsClass t.even_odd 0 1 test → IsClass t.odd_odd 1 1 test → HasCells t test
-by_class t test ee oe eo oo x y in_row in_column =
-    let i : x / 2 < 32 = omega arith in
-    let j : y / 2 < 32 = omega arith in
-    elim (cases_eq (x % 2) 0) [
-      | inl h ↦ elim (cases_eq (y % 2) 0) [
-        | inl k ↦ in_even_even t x y h k ∙ (ee (x / 2) (y / 2) i j ∙ ap₂ test (omega arith) (omega arith))
-        | inr k ↦ in_even_odd t x y h (omega arith) ∙ (eo (x / 2) (y / 2) i j ∙ ap₂ test (omega arith) (omega arith))
-      ]
-      | inr h ↦ elim (cases_eq (y % 2) 0) [
-        | inl k ↦ in_odd_even t x y (omega arith) k ∙ (oe (x / 2) (y / 2) i j ∙ ap₂ test (omega arith) (omega arith))
-        | inr k ↦ in_odd_odd t x y (omega arith) (omega arith) ∙ (oo (x / 2) (y / 2) i j ∙ ap₂ test (omega arith) (omega arith))
-      ]
-    ]
+by_class t test ee oe eo oo x y in_row in_column = grind (arith, cases_eq, in_even_even, in_even_odd, in_odd_even, in_odd_odd)
 
 -- the cells of a tile's classes
 module _ (t : Tile) where
@@ -93,25 +72,16 @@ module _ (t : Tile) where
 
 -- one cell of a class is put in or taken out
 in_its_row : (t a b : Bool) → (if t then a else b) ≡ (if t && true then a else b)
-in_its_row true a b = refl
-in_its_row false a b = refl
+in_its_row t a b = grind arith
 
 in_other_row : (t a b : Bool) → b ≡ (if t && false then a else b)
-in_other_row true a b = refl
-in_other_row false a b = refl
+in_other_row t a b = grind arith
 
 pub cell_set : (rows : List ℕ) (x y w : ℕ) (held : Bool) → y < length rows → ((i : ℕ) → i < 32 → bit w i ≡ (if i == x then held else bit (get_or rows y 0) i)) → (i j : ℕ) → i < 32 → bit (get_or (set rows y w) j 0) i ≡ (if i == x && j == y then held else bit (get_or rows j 0) i)
-cell_set rows x y w held within here i j in_row =
-    elim (cases_eq j y) [
-      | inl same ↦ rw (same, get_or-set_same, eq-eqb y y refl) (here i in_row ∙ in_its_row (i == x) held (bit (get_or rows y 0) i))
-      | inr other ↦ rw (get_or-set_other, ne_eqb j y other) (in_other_row (i == x) held (bit (get_or rows j 0) i))
-    ]
+cell_set rows x y w held within here i j in_row = grind (arith, cases_eq, get_or-set_same, eq-eqb, in_its_row, get_or-set_other, ne_eqb, in_other_row)
 
 same_place : (i x p : ℕ) → x % 2 ≡ p → (i == x / 2) ≡ (2 * i + p == x)
-same_place i x p h = elim (cases_eq i (x / 2)) [
-  | inl e ↦ eq-eqb i (x / 2) e ∙ sym (eq-eqb (2 * i + p) x (omega arith))
-  | inr ne ↦ ne_eqb i (x / 2) ne ∙ sym (ne_eqb (2 * i + p) x (λ e. omega arith))
-]
+same_place i x p h = grind (arith, cases_eq, eq-eqb, ne_eqb)
 
 other_place : (i x p : ℕ) → p < 2 → (x % 2 ≡ p → ⊥) → (2 * i + p == x) ≡ false
 other_place i x p two h = ne_eqb (2 * i + p) x (λ e. h (omega arith))
@@ -124,10 +94,7 @@ not_there false b u v _ = refl
 
 -- the class of the cell that is set, and the others
 pub class_set : (rows new : List ℕ) (p q x y : ℕ) (held : Bool) (test : ℕ → ℕ → Bool) → x % 2 ≡ p → y % 2 ≡ q → IsClass rows p q test → ((k m : ℕ) → k < 32 → bit (get_or new m 0) k ≡ (if k == x / 2 && m == y / 2 then held else bit (get_or rows m 0) k)) → IsClass new p q (λ i j. if i == x && j == y then held else test i j)
-class_set rows new p q x y held test h k is new_is i j in_row in_column =
-    new_is i j in_row
-    ∙ (ap₂ (λ a b. if a && b then held else bit (get_or rows j 0) i) (same_place i x p h) (same_place j y q k)
-    ∙ ap (λ v. if 2 * i + p == x && 2 * j + q == y then held else v) (is i j in_row in_column))
+class_set rows new p q x y held test h k is new_is i j in_row in_column = grind (arith, same_place)
 
 pub class_kept : (rows : List ℕ) (p q x y : ℕ) (held : Bool) (test : ℕ → ℕ → Bool) → p < 2 → q < 2 → (x % 2 ≡ p → ⊥) ⊎ (y % 2 ≡ q → ⊥) → IsClass rows p q test → IsClass rows p q (λ i j. if i == x && j == y then held else test i j)
 class_kept rows p q x y held test p_two q_two (inl other) is i j in_row in_column =
@@ -137,11 +104,7 @@ class_kept rows p q x y held test p_two q_two (inr other) is i j in_row in_colum
 
 -- a loop has written the rows below j, as the test says, and writes row j
 pub rows_more : (rows : List ℕ) (j w : ℕ) (test : ℕ → ℕ → Bool) → j < length rows → ((i k : ℕ) → k < j → bit (get_or rows k 0) i ≡ test i k) → ((i : ℕ) → bit w i ≡ test i j) → (i k : ℕ) → k < j + 1 → bit (get_or (set rows j w) k 0) i ≡ test i k
-rows_more rows j w test within before here i k below =
-    elim (cases_eq k j) [
-      | inl same ↦ rw (same, get_or-set_same) (here i)
-      | inr other ↦ let less : k < j = omega arith in rw get_or-set_other (before i k less)
-    ]
+rows_more rows j w test within before here i k below = grind (arith, cases_eq, get_or-set_same, get_or-set_other)
 
 -- where a class begins and ends of what is from x up to z
 from_even : (x i : ℕ) → nat_le ((x + 1) / 2) i ≡ nat_le x (2 * i + 0)
@@ -162,24 +125,13 @@ starts zero x = (x + 1) / 2
 starts (suc _) x = x / 2
 
 bounds_of : (p x z i : ℕ) → p < 2 → (nat_le (starts p x) i && nat_lt i (starts p z)) ≡ (nat_le x (2 * i + p) && nat_lt (2 * i + p) z)
-bounds_of p x z i two = elim (cases_eq p 0) [
-  | inl e ↦ rw e (ap₂ (λ a b. a && b) (from_even x i) (to_even z i))
-  | inr ne ↦ let e : p ≡ 1 = omega arith in rw e (ap₂ (λ a b. a && b) (from_odd x i) (to_odd z i))
-]
+bounds_of p x z i two = grind (arith, cases_eq, from_even, to_even, from_odd, to_odd)
 
 and_joined : (a b c d e : Bool) → (b && c) ≡ (d && e) → (a && b && c) ≡ (a && d && e)
-and_joined true b c d e h = h
-and_joined false b c d e h = refl
+and_joined a b c d e h6 = grind arith
 
 pub class_of_rect : (rows : List ℕ) (word p q x y z v : ℕ) → p < 2 → q < 2 → ((i : ℕ) → i < 32 → bit word i ≡ (nat_le (starts p x) i && nat_lt i (starts p z))) → ((i j : ℕ) → bit (get_or rows j 0) i ≡ (bit word i && nat_le (starts q y) j && nat_lt j (starts q v))) → IsClass rows p q (λ i j. nat_le x i && nat_lt i z && nat_le y j && nat_lt j v)
-class_of_rect rows word p q x y z v p_two q_two is_word is_rows i j in_row in_column =
-    is_rows i j
-    ∙ (ap (λ b. b && nat_le (starts q y) j && nat_lt j (starts q v)) (is_word i in_row ∙ bounds_of p x z i p_two)
-    ∙ and_joined (nat_le x (2 * i + p) && nat_lt (2 * i + p) z) _ _ _ _ (bounds_of q y v j q_two))
+class_of_rect rows word p q x y z v p_two q_two is_word is_rows i j in_row in_column = grind (arith, bounds_of, and_joined)
 
 pub rows_more_within : (rows : List ℕ) (j w : ℕ) (test : ℕ → ℕ → Bool) → j < length rows → ((i k : ℕ) → i < 32 → k < j → bit (get_or rows k 0) i ≡ test i k) → ((i : ℕ) → i < 32 → bit w i ≡ test i j) → (i k : ℕ) → i < 32 → k < j + 1 → bit (get_or (set rows j w) k 0) i ≡ test i k
-rows_more_within rows j w test within before here i k in_row below =
-    elim (cases_eq k j) [
-      | inl same ↦ rw (same, get_or-set_same) (here i in_row)
-      | inr other ↦ let less : k < j = omega arith in rw get_or-set_other (before i k in_row less)
-    ]
+rows_more_within rows j w test within before here i k in_row below = grind (arith, cases_eq, get_or-set_same, get_or-set_other)

@@ -1,5 +1,5 @@
 -- Counts of a class.
-use Rattle.std.proofs.Common.{◌≡◌, ℕ, ◌+◌, ◌*◌, ◌%◌, ◌^◌, ◌<◌, ◌==◌, Bool, true, false, not, inl, inr, ◌&&◌, if◌then◌else◌, zero, suc, List, [], ◌∷◌, get_or, bit_and, refl, sym, ◌∙◌, ap, ap₂, arith}
+use Rattle.std.proofs.Common.{◌≡◌, ℕ, ◌+◌, ◌*◌, ◌%◌, ◌^◌, ◌<◌, ◌==◌, Bool, true, false, not, inl, inr, ◌&&◌, if◌then◌else◌, zero, suc, List, [], ◌∷◌, get_or, bit_and, sym, ◌∙◌, ap, ap₂, arith}
 use Rattle.std.proofs.lemmas.Bool.{cases_eq, eq-eqb, ne_eqb, and_right}
 use Rattle.std.proofs.lemmas.Nat.{and_le_l}
 use Rattle.bit_tile.specs.Bit.{bit}
@@ -24,23 +24,14 @@ count_as_sum (suc n) p =
     ∙ (ap (λ m. m + (if p n then 1 else 0)) (count_as_sum n p) ∙ sym (sum_below-suc n (λ k. if p k then 1 else 0)))
 
 both_true : (a b : Bool) → b ≡ true → (a && b) ≡ a
-both_true true b e = e
-both_true false b e = refl
+both_true a b h3 = grind arith
 
 abbrev pub one : Bool → ℕ
 one b = if b then 1 else 0
 
 -- of two neighbors, the one of the parity
 one_of_two : (i k : ℕ) (test : ℕ → Bool) → i < 2 → one (test (2 * k) && 2 * k % 2 == i) + one (test (2 * k + 1) && (2 * k + 1) % 2 == i) ≡ one (test (2 * k + i))
-one_of_two i k test two =
-    bits_cases (λ i. one (test (2 * k) && 2 * k % 2 == i) + one (test (2 * k + 1) && (2 * k + 1) % 2 == i) ≡ one (test (2 * k + i)))
-    (let a = ap one (both_true (test (2 * k)) (2 * k % 2 == 0) (eq-eqb (2 * k % 2) 0 (omega arith))) in
-    let b = ap one (and_right (test (2 * k + 1)) ((2 * k + 1) % 2 == 0) (ne_eqb ((2 * k + 1) % 2) 0 (λ e. omega arith))) in
-    let e : one (test (2 * k)) ≡ one (test (2 * k + 0)) = ap (λ m. one (test m)) (omega arith) in
-    ap₂ (λ u v. u + v) a b ∙ (let z : one (test (2 * k)) + 0 ≡ one (test (2 * k)) = omega arith in z) ∙ e)
-    (let a = ap one (and_right (test (2 * k)) (2 * k % 2 == 1) (ne_eqb (2 * k % 2) 1 (λ e. omega arith))) in
-    let b = ap one (both_true (test (2 * k + 1)) ((2 * k + 1) % 2 == 1) (eq-eqb ((2 * k + 1) % 2) 1 (omega arith))) in
-    ap₂ (λ u v. u + v) a b ∙ (let z : 0 + one (test (2 * k + 1)) ≡ one (test (2 * k + 1)) = omega arith in z)) i two
+one_of_two i k test two = grind (arith, bits_cases, both_true, eq-eqb, and_right, ne_eqb)
 
 -- the columns of a parity
 columns_of : (i : ℕ) (test : ℕ → Bool) → i < 2 → count_below 64 (λ x. test x && x % 2 == i) ≡ count_below 32 (λ m. test (2 * m + i))
@@ -51,9 +42,7 @@ columns_of i test two =
 
 -- a row's cells in the columns of a parity, in its own class and in another
 row_here : (test : ℕ → Bool) (i j y : ℕ) → y % 2 ≡ j → count_below 64 (λ x. test x && x % 2 == i && y % 2 == j) ≡ count_below 64 (λ x. test x && x % 2 == i)
-row_here test i j y e =
-    count_below-same 64 (λ x. test x && x % 2 == i && y % 2 == j) (λ x. test x && x % 2 == i)
-    (λ x _. both_true (test x && x % 2 == i) (y % 2 == j) (eq-eqb (y % 2) j e))
+row_here test i j y e = grind (arith, count_below-same, both_true, eq-eqb)
 
 row_elsewhere : (test : ℕ → Bool) (i j y : ℕ) → (y % 2 ≡ j → ⊥) → count_below 64 (λ x. test x && x % 2 == i && y % 2 == j) ≡ 0
 row_elsewhere test i j y e =
@@ -80,21 +69,14 @@ class_count test i j i_two j_two =
 
 -- the ones of a class's rows are its cells
 pub ones_of_class : (rows : List ℕ) (test : ℕ → ℕ → Bool) (i j n : ℕ) → i < 2 → j < 2 → n ≡ sum_below 32 (λ k. count_below 32 (bit (get_or rows k 0))) → ((m k : ℕ) → m < 32 → k < 32 → bit (get_or rows k 0) m ≡ test (2 * m + i) (2 * k + j)) → n ≡ sum_below 64 (λ y. count_below 64 (λ x. test x y && x % 2 == i && y % 2 == j))
-ones_of_class rows test i j n i_two j_two counted is =
-    counted
-    ∙ (sum_below-same 32 _ _ (λ k in_column. count_below-same 32 (bit (get_or rows k 0)) (λ m. test (2 * m + i) (2 * k + j)) (λ m in_row. is m k in_row in_column))
-    ∙ sym (class_count test i j i_two j_two))
+ones_of_class rows test i j n i_two j_two counted is = grind (arith, sum_below-same, count_below-same, class_count)
 
 abbrev pub class : (ℕ → ℕ → Bool) → ℕ → ℕ → ℕ
 class has i j = sum_below 64 (λ y. count_below 64 (λ x. has x y && x % 2 == i && y % 2 == j))
 
 -- the counts of four classes, in a list
 pub four_classes : (count : ℕ → ℕ → ℕ) (a b c d : ℕ) → a ≡ count 0 0 → b ≡ count 1 0 → c ≡ count 0 1 → d ≡ count 1 1 → (i j : ℕ) → i < 2 → j < 2 → get_or (a ∷ b ∷ c ∷ d ∷ []) (2 * j + i) 0 ≡ count i j
-four_classes count a b c d first second third fourth i j i_two j_two =
-    let list : List ℕ = a ∷ b ∷ c ∷ d ∷ [] in
-    bits_cases (λ i. get_or list (2 * j + i) 0 ≡ count i j)
-    (bits_cases (λ j. get_or list (2 * j + 0) 0 ≡ count 0 j) first third j j_two)
-    (bits_cases (λ j. get_or list (2 * j + 1) 0 ≡ count 1 j) second fourth j j_two) i i_two
+four_classes count a b c d first second third fourth i j i_two j_two = grind (arith, bits_cases)
 
 -- two tests that agree at each cell count the same
 pub cells_same : (p q : ℕ → ℕ → Bool) → ((x y : ℕ) → x < 64 → y < 64 → p x y ≡ q x y) → sum_below 64 (λ y. count_below 64 (λ x. p x y)) ≡ sum_below 64 (λ y. count_below 64 (λ x. q x y))
@@ -102,9 +84,7 @@ cells_same p q same = sum_below-same 64 _ _ (λ y in_column. count_below-same 64
 
 -- one, as either part
 one_in_parts : (p r : Bool) → (if p then 1 else 0) ≡ (if p && r then 1 else 0) + (if p && not r then 1 else 0)
-one_in_parts true true = refl
-one_in_parts true false = refl
-one_in_parts false r = refl
+one_in_parts p r = grind arith
 
 -- a count in two parts
 count_below-split : (n : ℕ) (p r : ℕ → Bool) → count_below n p ≡ count_below n (λ k. p k && r k) + count_below n (λ k. p k && not (r k))
@@ -135,11 +115,7 @@ not_one : (n : ℕ) → not (n % 2 == 0) ≡ (n % 2 == 1)
 not_one n = elim (cases_eq (n % 2) 0) [ inl e ↦ rw e | inr ne ↦ let e : n % 2 ≡ 1 = omega arith in rw e ]
 
 pub and_swapped : (a b c : Bool) → (a && b && c) ≡ (a && c && b)
-and_swapped true true true = refl
-and_swapped true true false = refl
-and_swapped true false true = refl
-and_swapped true false false = refl
-and_swapped false b c = refl
+and_swapped a b c = grind arith
 
 pub in_columns : (has : ℕ → ℕ → Bool) (i : ℕ) → cells_counted (λ x y. has x y && x % 2 == i) ≡ class has i 0 + class has i 1
 in_columns has i =

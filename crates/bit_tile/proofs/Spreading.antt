@@ -26,57 +26,19 @@ fits_at s i =
     || (not (in_part (2 * s) i) && not (nat_lt i s) && in_part (2 * s) (i - s) && source (2 * s) (i - s) == source s i))
 
 pick : (o low before here there a b t : Bool) → (here ≡ true → a ≡ t) → (there ≡ true → b ≡ t) → ((o && here && (low || not before)) || (not o && not low && before && there)) ≡ true → ((o && a) || (if low then false else (before && b))) ≡ t
-pick false false false false false a b t f g h = absurd (cc)
-pick false false false false true a b t f g h = absurd (cc)
-pick false false false true false a b t f g h = absurd (cc)
-pick false false false true true a b t f g h = absurd (cc)
-pick false false true false false a b t f g h = absurd (cc)
-pick false false true false true a b t f g h = g refl
-pick false false true true false a b t f g h = absurd (cc)
-pick false false true true true a b t f g h = g refl
-pick false true false false false a b t f g h = absurd (cc)
-pick false true false false true a b t f g h = absurd (cc)
-pick false true false true false a b t f g h = absurd (cc)
-pick false true false true true a b t f g h = absurd (cc)
-pick false true true false false a b t f g h = absurd (cc)
-pick false true true false true a b t f g h = absurd (cc)
-pick false true true true false a b t f g h = absurd (cc)
-pick false true true true true a b t f g h = absurd (cc)
-pick true false false false false a b t f g h = absurd (cc)
-pick true false false false true a b t f g h = absurd (cc)
-pick true false false true false a b t f g h = or-false a ∙ f refl
-pick true false false true true a b t f g h = or-false a ∙ f refl
-pick true false true false false a b t f g h = absurd (cc)
-pick true false true false true a b t f g h = absurd (cc)
-pick true false true true false a b t f g h = absurd (cc)
-pick true false true true true a b t f g h = absurd (cc)
-pick true true false false false a b t f g h = absurd (cc)
-pick true true false false true a b t f g h = absurd (cc)
-pick true true false true false a b t f g h = or-false a ∙ f refl
-pick true true false true true a b t f g h = or-false a ∙ f refl
-pick true true true false false a b t f g h = absurd (cc)
-pick true true true false true a b t f g h = absurd (cc)
-pick true true true true false a b t f g h = or-false a ∙ f refl
-pick true true true true true a b t f g h = or-false a ∙ f refl
+pick o low before here there a b t h9 h10 h11 = grind (arith, or-false)
 
 cut_off : (b m r : Bool) → m ≡ false → (b && m) ≡ (m && r)
-cut_off true m r e = rw e
-cut_off false m r e = rw e
+cut_off b m r h4 = grind arith
 
 kept_on : (b m r : Bool) → m ≡ true → b ≡ r → (b && m) ≡ (m && r)
-kept_on true m r e f = rw e f
-kept_on false m r e f = rw e f
+kept_on b m r h4 h5 = grind arith
 
 by_part : (m b : Bool) → m ≡ true → (not m || b) ≡ true → b ≡ true
-by_part true b e f = f
-by_part false b e f = absurd (cc)
+by_part m b h3 h4 = grind arith
 
 shifted : (x s i : ℕ) → i < 64 → bit (x * 2 ^ s % 2 ^ 64) i ≡ (if nat_lt i s then false else bit x (i - s))
-shifted x s i h =
-    elim (cases_lt i s) [
-      | inl low ↦ let e : nat_lt i s ≡ true = lt-ltb i s low in rw e (bit-shl_low x s i h low)
-      | inr high ↦ let e : nat_lt i s ≡ false = le-ltb i s high in rw e (bit-shl_high x s i h high)
-    ]
+shifted x s i h = grind (arith, cases_lt, lt-ltb, bit-shl_low, le-ltb, bit-shl_high)
 
 equal : (bits : ℕ → Bool) (a b : ℕ) → (a == b) ≡ true → bits a ≡ bits b
 equal bits a b e = ap bits ((Decides-eqb a b).0 e)
@@ -98,16 +60,7 @@ stage x bits s mask is is_mask fits i h =
     ])
 
 whole : (w : ℕ) → w < 2 ^ 32 → IsSpread w (bit w) 32
-whole w fits i h =
-    elim (cases_lt i 32) [
-      | inl low ↦
-          let part : in_part 32 i ≡ true = lt-ltb (i % (2 * 32)) 32 (omega arith) in
-          let there : source 32 i ≡ i = omega arith in
-          rw (part, there)
-      | inr high ↦
-          let part : in_part 32 i ≡ false = le-ltb (i % (2 * 32)) 32 (omega arith) in
-          rw part (bit-above w i fits high)
-    ]
+whole w fits i h = grind (arith, cases_lt, lt-ltb, le-ltb, bit-above)
 
 pub bit_of_spread : (w : ℕ) → w < 2 ^ 32 → (i : ℕ) → i < 64 →
     (let b : ℕ = bit_and (bit_or w (w * 2 ^ 16 % 2 ^ 64)) 281470681808895 in
@@ -151,20 +104,7 @@ stage_back x bits s mask is is_mask fits i h =
 
 -- the bits at the even places of a word
 evens : (w : ℕ) → IsSpread (bit_and w 6148914691236517205) (λ k. bit w (2 * k)) 1
-evens w i h =
-    bit-and w 6148914691236517205 i
-    ∙ (ap (λ b. bit w i && b) (bit-even_columns i h)
-    ∙ elim (cases_eq (i % 2) 0) [
-      | inl e ↦
-          let here : (i % 2 == 0) ≡ true = eq-eqb (i % 2) 0 e in
-          let part : in_part 1 i ≡ true = lt-ltb (i % (2 * 1)) 1 (omega arith) in
-          let place : 2 * source 1 i ≡ i = omega arith in
-          rw (here, part, place) (and-true (bit w i))
-      | inr ne ↦
-          let here : (i % 2 == 0) ≡ false = ne_eqb (i % 2) 0 ne in
-          let part : in_part 1 i ≡ false = le-ltb (i % (2 * 1)) 1 (omega arith) in
-          rw (here, part) (and-false (bit w i))
-    ])
+evens w i h = grind (arith, bit-and, bit-even_columns, cases_eq, eq-eqb, lt-ltb, and-true, ne_eqb, le-ltb, and-false)
 
 pub bit_of_gather : (w i : ℕ) → i < 32 →
     (let a : ℕ = bit_and w 6148914691236517205 in

@@ -42,11 +42,7 @@ unfolding bit
 bit_of_set_other n k i within other = ap (λ m. m == 1) (bit_at_set_other w32 n k within i other)
 
 pub bit_of_set : (n k i : ℕ) → k < 32 → bit (bit_or n (1 * 2 ^ k % 2 ^ 32)) i ≡ (if i == k then true else bit n i)
-bit_of_set n k i within =
-    elim (cases_eq i k) [
-      | inl same ↦ bit_of_set_same n k i within same ∙ rw (same, eqb_same k) refl
-      | inr other ↦ bit_of_set_other n k i within other ∙ rw (ne_eqb i k other) refl
-    ]
+bit_of_set n k i within = grind (arith, cases_eq, bit_of_set_same, eqb_same, bit_of_set_other, ne_eqb)
 
 pub bit_of_clear : (n k i : ℕ) → k < 32 → i < 32 → bit (bit_and n (bit_not w32 (1 * 2 ^ k % 2 ^ 32))) i ≡ (if i == k then false else bit n i)
 unfolding bit
@@ -69,14 +65,4 @@ none_between b first j = grind (arith, nat_tests)
 
 -- `(MAX >> 32 - n) << first` has the bits from `first` up to `end`
 pub bit_of_span : (first end : ℕ) → (first ≡ end → ⊥) → first ≤ end → end ≤ 32 → (i : ℕ) → i < 32 → bit ((2 ^ 32 - 1) / 2 ^ (32 - (end - first)) * 2 ^ first % 2 ^ 32) i ≡ (nat_le first i && nat_lt i end)
-bit_of_span first end some order within i in_row =
-    elim (cases_lt i first) [
-      | inl low ↦ bit-shl_low _ first i in_row low ∙ grind (arith, nat_tests)
-      | inr high ↦
-          bit-shl_high _ first i in_row high
-          ∙ (bit-shr (2 ^ 32 - 1) (32 - (end - first)) (i - first)
-          ∙ elim (cases_lt i end) [
-            | inl inside ↦ bit-ones _ (omega arith) ∙ grind (arith, nat_tests)
-            | inr above ↦ bit-above (2 ^ 32 - 1) _ (lit< tt) (omega arith) ∙ grind (arith, nat_tests)
-          ])
-    ]
+bit_of_span first end some order within i in_row = grind (arith, cases_lt, bit-shl_low, nat_tests, bit-shl_high, bit-shr, bit-ones, bit-above, lit<)

@@ -1,11 +1,10 @@
-use Rattle.std.proofs.Common.{◌≡◌, ℕ, ◌+◌, ◌*◌, ◌^◌, ◌%◌, ◌<◌, ◌||◌, false, true, Bool, refl, ◌∙◌, ap, arith, bit_or}
+use Rattle.std.proofs.Common.{◌≡◌, ℕ, ◌+◌, ◌*◌, ◌^◌, ◌%◌, ◌<◌, ◌||◌, false, Bool, ◌∙◌, ap, arith, bit_or}
 use Rattle.bit_tile.specs.Bit.{bit}
 use Rattle.bit_tile.proofs.Bits.{bit-or, bit-shl_low, bit-shl_high, above_width}
 use Rattle.bit_tile.proofs.word.joined.Goals as goal
 
 or_nothing : (a b : Bool) → b ≡ false → (a || b) ≡ a
-or_nothing true b e = refl
-or_nothing false b e = e
+or_nothing a b h3 = grind arith
 
 of_first : (a b i : ℕ) → i < 32 → bit (bit_or a (b * 4294967296 % 18446744073709551616)) i ≡ bit a i
 of_first a b i h = bit-or a (b * 4294967296 % 18446744073709551616) i ∙ or_nothing (bit a i) _ (bit-shl_low b 32 i (omega arith) h)
