@@ -30,22 +30,15 @@ module _ {E F : Type 0} (by : E → ℕ) where
 
   -- who stands for no number and waits for nothing is apart from all
   pub apart_of_none : (v w : View E F) → v.count ≡ 0 → v.waits ≡ false → Apart v w
-  apart_of_none v w none idle = (
-    record { numbers = λ n h _. no_number v none n h; tickets = λ on _. absurd (both_ways v.waits idle on) },
-    record { numbers = λ n _ h. no_number v none n h; tickets = λ _ on. absurd (both_ways v.waits idle on) },
-  )
+  apart_of_none v w none idle = grind (arith, no_number, both_ways)
 
   -- w, which has no number that v has not, is apart from u as v is, if its ticket is another
   pub apart_by : (v w u : View E F) → Apart v u → ((n : ℕ) → Has w n → Has v n) → (w.waits ≡ true → u.waits ≡ true → w.ticket ≢ u.ticket) → Apart w u
-  apart_by v w u was within fresh = (
-    record { numbers = λ n mine theirs. was.0.numbers n (within n mine) theirs; tickets = fresh },
-    record { numbers = λ n theirs mine. was.1.numbers n theirs (within n mine); tickets = λ theirs mine same. fresh mine theirs (sym same) },
-  )
+  apart_by v w u was within fresh = grind arith
 
   -- so it is if it waits with the ticket of v, or not at all
   pub apart_kept : (v w u : View E F) → Apart v u → ((n : ℕ) → Has w n → Has v n) → (w.waits ≡ true → (v.waits ≡ true) × (w.ticket ≡ v.ticket)) → Apart w u
-  apart_kept v w u was within kept =
-      apart_by v w u was within (λ on theirs same. let mine = kept on in was.0.tickets mine.0 theirs (sym mine.1 ∙ same))
+  apart_kept v w u was within kept = grind (arith, apart_by)
 
 module _ {E F : Type 0} (by : E → ℕ) (served tickets : ℕ) (journal : List E) (fixed : F) where
   abbrev pub Knows : View E F → Type 0
@@ -55,40 +48,13 @@ module _ {E F : Type 0} (by : E → ℕ) (served tickets : ℕ) (journal : List 
   idle_has_no_turn v f idle = false_from_ne_true v.turn (λ on. both_ways v.waits idle (f.has_turn on).0)
 
   pub ticket_more : (v : View E F) → Knows v → IsView by served (tickets + 1) journal fixed v
-  ticket_more v f = record {
-    begins = f.begins;
-    old_begins = f.old_begins;
-    told_begins = f.told_begins;
-    own = f.own;
-    own_old = f.own_old;
-    waits_in = λ on. let was = f.waits_in on in (was.0, omega arith, was.2);
-    has_turn = f.has_turn;
-    fixed_is = f.fixed_is;
-  }
+  ticket_more v f = grind arith
 
   pub knows_waiting : (v : View E F) → Knows v → v.waits ≡ false → served ≤ tickets → 0 < v.count → IsView by served (tickets + 1) journal fixed (waiting v tickets)
-  knows_waiting v f idle order door = record {
-    begins = f.begins;
-    old_begins = f.old_begins;
-    told_begins = f.told_begins;
-    own = f.own;
-    own_old = f.own_old;
-    waits_in = λ _. (order, omega arith, door);
-    has_turn = λ on. absurd (both_ways v.turn (idle_has_no_turn v f idle) on);
-    fixed_is = f.fixed_is;
-  }
+  knows_waiting v f idle order door = grind (arith, both_ways, idle_has_no_turn)
 
   pub knows_at_turn : (v : View E F) (held : List E) → Knows v → v.waits ≡ true → v.ticket ≡ served → held ≡ journal → Knows (at_turn v held)
-  knows_at_turn v held f on mine now = record {
-    begins = f.begins;
-    old_begins = f.old_begins;
-    told_begins = f.told_begins;
-    own = f.own;
-    own_old = f.own_old;
-    waits_in = f.waits_in;
-    has_turn = λ _. (on, mine, now);
-    fixed_is = f.fixed_is;
-  }
+  knows_at_turn v held f on mine now = grind arith
 
   pub knows_leaving : (v : View E F) (seen : List E) → seen ≡ journal → IfSome v.fixed (λ f. f ≡ fixed) → Knows (leaving v seen)
   knows_leaving v seen now known = record {
@@ -119,28 +85,10 @@ module _ {E F : Type 0} (by : E → ℕ) (served tickets : ℕ) (journal : List 
 
   -- a seat that waits for nothing, with some of its numbers
   pub knows_with_numbers : (v : View E F) (from count : ℕ) → Knows v → v.waits ≡ false → ((n : ℕ) → Has (with_numbers v from count) n → Has v n) → Knows (with_numbers v from count)
-  knows_with_numbers v from count f idle within = record {
-    begins = f.begins;
-    old_begins = f.old_begins;
-    told_begins = f.told_begins;
-    own = λ n h. f.own n (within n h);
-    own_old = λ n h. f.own_old n (within n h);
-    waits_in = λ on. absurd (both_ways v.waits idle on);
-    has_turn = λ on. absurd (both_ways v.turn (idle_has_no_turn v f idle) on);
-    fixed_is = f.fixed_is;
-  }
+  knows_with_numbers v from count f idle within = grind (arith, both_ways, idle_has_no_turn)
 
   pub knows_note : (v : View E F) → Knows v → Knows (note_of v)
-  knows_note v f = record {
-    begins = f.begins;
-    old_begins = (v.seen, refl);
-    told_begins = (v.seen, refl);
-    own = λ n h. absurd (no_number (note_of v) refl n h);
-    own_old = λ n h. absurd (no_number (note_of v) refl n h);
-    waits_in = λ on. absurd (both_ways false refl on);
-    has_turn = λ on. absurd (both_ways false refl on);
-    fixed_is = f.fixed_is;
-  }
+  knows_note v f = grind (arith, no_number, both_ways)
 
   pub knows_met : (v u : View E F) → Knows v → Knows u → Knows (met v u)
   knows_met v u f theirs =
@@ -157,13 +105,4 @@ module _ {E F : Type 0} (by : E → ℕ) (served tickets : ℕ) (journal : List 
       }
 
   pub knows_spent : Knows spent
-  knows_spent = record {
-    begins = (journal, refl);
-    old_begins = ([], refl);
-    told_begins = ([], refl);
-    own = λ n h. absurd (no_number (spent {E = E} {F = F}) refl n h);
-    own_old = λ n h. absurd (no_number (spent {E = E} {F = F}) refl n h);
-    waits_in = λ on. absurd (both_ways false refl on);
-    has_turn = λ on. absurd (both_ways false refl on);
-    fixed_is = tt;
-  }
+  knows_spent = grind (arith, no_number, both_ways)
