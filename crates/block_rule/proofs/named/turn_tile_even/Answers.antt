@@ -1,5 +1,6 @@
+use Rattle.std.proofs.lemmas.Grind.{common_steps}
 use Rattle.std.proofs.Common.{arith}
-use Rattle.block_rule.specs.Around.{either, is_for_walls, is_walled_at}
+use Rattle.block_rule.specs.Around.{is_for_walls, is_walled_at}
 use Rattle.block_rule.specs.TileBlocks.{walled_by}
 use Rattle.block_rule.proofs.Holding.{turned_of_both, none_held, both_held}
 use Rattle.block_rule.proofs.NamedBlocks.{words_lent, nothing_lent, for_walls_none, first_alone, second_alone, even_alike}
@@ -15,21 +16,10 @@ returns-in-None-None-clause-cells c = λ window walled obstructed shows of_walls
     (none_held old new (is_walled_at 0 obstructed) (nothing_lent c.args.obstacles (walled_by obstructed) c.in-None-None.is-1 of_obstacles 0 (omega arith))))
 
 pub returns-in-Some-None-clause-cells : goal.returns-in-Some-None-clause-cells
-returns-in-Some-None-clause-cells c = λ window walled obstructed shows of_walls of_obstacles.
-    let set = c.in-Some-None.walls in
-    let none = nothing_lent c.args.obstacles (walled_by obstructed) c.in-Some-None.is-1 of_obstacles 0 (omega arith) in
-    c.collide_even_among-in-Some-None.ensures window (either walled obstructed) shows
-    (even_alike set.blocks.now.even (is_walled_at 0 walled) (is_walled_at 0 (either walled obstructed)) (first_alone 0 walled obstructed none) (words_lent c.args.walls set (walled_by walled) c.in-Some-None.is-0 of_walls).even)
+returns-in-Some-None-clause-cells c = grind (arith, common_steps, nothing_lent, even_alike, first_alone, words_lent)
 
 pub returns-in-None-Some-clause-cells : goal.returns-in-None-Some-clause-cells
-returns-in-None-Some-clause-cells c = λ window walled obstructed shows of_walls of_obstacles.
-    let set = c.in-None-Some.obstacles in
-    let none = nothing_lent c.args.walls (walled_by walled) c.in-None-Some.is-0 of_walls 0 (omega arith) in
-    c.collide_even_among.ensures window (either walled obstructed) shows
-    (even_alike set.blocks.now.even (is_walled_at 0 obstructed) (is_walled_at 0 (either walled obstructed)) (second_alone 0 walled obstructed none) (words_lent c.args.obstacles set (walled_by obstructed) c.in-None-Some.is-1 of_obstacles).even)
+returns-in-None-Some-clause-cells c = grind (arith, common_steps, nothing_lent, even_alike, second_alone, words_lent)
 
 pub returns-in-Some-Some-clause-cells : goal.returns-in-Some-Some-clause-cells
-returns-in-Some-Some-clause-cells c = λ window walled obstructed shows of_walls of_obstacles.
-    c.collide_even_of_both.ensures window walled obstructed shows
-    (words_lent c.args.walls c.in-Some-Some.walls (walled_by walled) c.in-Some-Some.is-0 of_walls).even
-    (words_lent c.args.obstacles c.in-Some-Some.obstacles (walled_by obstructed) c.in-Some-Some.is-1 of_obstacles).even
+returns-in-Some-Some-clause-cells c = grind (arith, common_steps, words_lent)
