@@ -14,7 +14,6 @@ use Rattle.gas_text.specs.Texts.{parted}
 use Rattle.gas_text.specs.Verbs.{verb_word, verb_of}
 use Rattle.gas_text.specs.Words.{is_space, is_nonempty, words, value_after, value_of, number_of}
 use Rattle.gas_text.specs.declared.verb.Verb.{Verb}
-use Rattle.gas_text.specs.declared.verb.Verb.TheVariants.{Put, Erase, Wall, Block, Unwall, Drain, Probe, Source, Row, Step, Back, Read, Entry, Unport, Tally, Ledger, Save, Quit}
 
 -- whether some bytes are a word: there are some, and none is a space
 abbrev pub is_word : List ℕ → Bool
@@ -64,11 +63,7 @@ one_digit : (n : ℕ) → n < 10 → Spells n ((48 + n) ∷ [])
 one_digit n small = record { value = omega arith; digits = digits_then (48 + n) [] refl (digit_is n small) }
 
 digits_more : (n : ℕ) (text : List ℕ) → 10 ≤ n → Spells (n / 10) text → Spells n (text ++ (48 + n % 10) ∷ [])
-digits_more n text many h =
-    record {
-      value = omega (arith, h.value, value_of_more 0 (48 + n % 10) text);
-      digits = digits_then (48 + n % 10) text h.digits (digit_is (n % 10) (omega arith));
-    }
+digits_more n text many h = grind (arith, value_of_more, digits_then, digit_is)
 
 spells : (n : ℕ) → n < 2 ^ 32 → Spells n (decimal n)
 spells n small = decimal_by_steps Spells one_digit digits_more n (omega arith)
@@ -91,8 +86,7 @@ plain_digits (c ∷ text) h =
     rw (no_space c parts.0) (plain_digits text parts.1)
 
 pub some_plain : (text : List ℕ) → 0 < length text → list_all (λ b. not (is_space b)) text ≡ true → is_word text ≡ true
-some_plain [] some plain = absurd (omega arith)
-some_plain (c ∷ text) some plain = rw plain (grind (arith, nat_tests))
+some_plain text h2 h3 = grind (arith, nat_tests)
 
 pub number_word : (n : ℕ) → n < 2 ^ 32 → is_word (decimal n) ≡ true
 number_word n small = some_plain (decimal n) (decimal_nonempty n (omega arith)) (plain_digits (decimal n) (digits_of_number n small))
@@ -100,42 +94,8 @@ number_word n small = some_plain (decimal n) (decimal_nonempty n (omega arith)) 
 -- ---- verbs
 
 pub verb_is_word : (verb : Verb) → is_word (verb_word verb) ≡ true
-verb_is_word Put = refl
-verb_is_word Erase = refl
-verb_is_word Wall = refl
-verb_is_word Block = refl
-verb_is_word Unwall = refl
-verb_is_word Drain = refl
-verb_is_word Probe = refl
-verb_is_word Source = refl
-verb_is_word Row = refl
-verb_is_word Step = refl
-verb_is_word Back = refl
-verb_is_word Read = refl
-verb_is_word Entry = refl
-verb_is_word Unport = refl
-verb_is_word Tally = refl
-verb_is_word Ledger = refl
-verb_is_word Save = refl
-verb_is_word Quit = refl
+verb_is_word verb = grind arith
 
 pub verb_again : (verb : Verb) → verb_of (verb_word verb) ≡ Some verb
 unfolding verb_of
-verb_again Put = refl
-verb_again Erase = refl
-verb_again Wall = refl
-verb_again Block = refl
-verb_again Unwall = refl
-verb_again Drain = refl
-verb_again Probe = refl
-verb_again Source = refl
-verb_again Row = refl
-verb_again Step = refl
-verb_again Back = refl
-verb_again Read = refl
-verb_again Entry = refl
-verb_again Unport = refl
-verb_again Tally = refl
-verb_again Ledger = refl
-verb_again Save = refl
-verb_again Quit = refl
+verb_again verb = grind arith

@@ -58,8 +58,7 @@ alone_again size verb none all =
 -- ---- ranges
 
 pub area_small : (size : Extent) (r : Rectangle) → is_size size ≡ true → lies_within size r ≡ true → AreSmall (area_numbers r)
-area_small size r sized within =
-    (grind (arith, nat_tests), (grind (arith, nat_tests), (grind (arith, nat_tests), (grind (arith, nat_tests), tt))))
+area_small size r sized within = grind (arith, nat_tests)
 
 pub count_small : (n : ℕ) → is_step_count n ≡ true → n < 2 ^ 32
 count_small n h = grind (arith, nat_tests)

@@ -1,5 +1,5 @@
 -- Words parted by spaces.
-use Rattle.std.proofs.Common.{◌≡◌, ℕ, List, [], ◌∷◌, ◌++◌, sym, ap, ◌∙◌, append_assoc}
+use Rattle.std.proofs.Common.{◌≡◌, ℕ, List, [], ◌∷◌, ◌++◌, sym, ap, append_assoc, arith}
 use Rattle.std.proofs.lemmas.List.{append-nil}
 use Rattle.gas_text.specs.Texts.{parted, spaced}
 
@@ -9,5 +9,4 @@ parted_spaced word (next ∷ words) = ap (λ text. word ++ (32 ∷ text)) (parte
 
 -- a word, and then those after it
 pub words_after : (old mid new word : List ℕ) (words : List (List ℕ)) → mid ≡ old ++ word → new ≡ mid ++ spaced words → new ≡ old ++ parted (word ∷ words)
-words_after old mid new word words first more =
-    more ∙ ap (λ text. text ++ spaced words) first ∙ append_assoc old word (spaced words) ∙ ap (λ text. old ++ text) (sym (parted_spaced word words))
+words_after old mid new word words first more = grind (arith, append_assoc, parted_spaced)
