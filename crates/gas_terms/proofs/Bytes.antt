@@ -1,5 +1,5 @@
 -- The bits of a byte, and the bytes of a row.
-use Rattle.std.proofs.Common.{◌≡◌, ℕ, zero, suc, ◌+◌, ◌-◌, ◌*◌, ◌/◌, ◌%◌, ◌^◌, ◌<◌, ◌==◌, Bool, true, false, if◌then◌else◌, List, length, get_or, sum_by, refl, sym, ◌∙◌, ap, arith}
+use Rattle.std.proofs.Common.{◌≡◌, ℕ, ◌+◌, ◌-◌, ◌*◌, ◌/◌, ◌%◌, ◌^◌, ◌<◌, ◌==◌, Bool, true, false, if◌then◌else◌, List, length, get_or, sum_by, refl, sym, ◌∙◌, ap, arith}
 use Rattle.std.specs.List.{range_with_len, All}
 use Rattle.std.proofs.lemmas.Bool.{agree_below_at}
 use Rattle.std.proofs.lemmas.Bool.Decides.{Decides-eqb}
@@ -26,8 +26,7 @@ weighed false n = omega arith
 
 one_of-below : (b : Bool) → one_of b < 2
 unfolding one_of
-one_of-below true = omega arith
-one_of-below false = omega arith
+one_of-below b = grind arith
 
 is_one : (b : Bool) → (one_of b == 1) ≡ b
 unfolding one_of
@@ -35,14 +34,12 @@ is_one true = refl
 is_one false = refl
 
 digits_of : (g : ℕ → Bool) → bits_summed g ≡ 128 * one_of (g 0) + 64 * one_of (g 1) + 32 * one_of (g 2) + 16 * one_of (g 3) + 8 * one_of (g 4) + 4 * one_of (g 5) + 2 * one_of (g 6) + one_of (g 7)
-digits_of g =
-    omega (arith, weighed (g 0) 128, weighed (g 1) 64, weighed (g 2) 32, weighed (g 3) 16, weighed (g 4) 8, weighed (g 5) 4, weighed (g 6) 2, weighed (g 7) 1)
+digits_of g = grind (arith, weighed)
 
 bit_of_digits : (a b c d e f g h n : ℕ) → a < 2 → b < 2 → c < 2 → d < 2 → e < 2 → f < 2 → g < 2 → h < 2 →
     n ≡ 128 * a + 64 * b + 32 * c + 16 * d + 8 * e + 4 * f + 2 * g + h →
     (n / 128 % 2 ≡ a) × (n / 64 % 2 ≡ b) × (n / 32 % 2 ≡ c) × (n / 16 % 2 ≡ d) × (n / 8 % 2 ≡ e) × (n / 4 % 2 ≡ f) × (n / 2 % 2 ≡ g) × (n % 2 ≡ h)
-bit_of_digits a b c d e f g h n la lb lc ld le lf lg lh s =
-    (omega arith, omega arith, omega arith, omega arith, omega arith, omega arith, omega arith, omega arith)
+bit_of_digits a b c d e f g h n la lb lc ld le lf lg lh s = grind arith
 
 digit : (g : ℕ → Bool) (k n : ℕ) → n ≡ one_of (g k) → (n == 1) ≡ g k
 digit g k n e = ap (λ m. m == 1) e ∙ is_one (g k)
@@ -59,15 +56,7 @@ bit_summed g k h =
     last_digit n h e = let d : n / 1 ≡ n = omega arith in ap (λ m. m % 2) d ∙ e
 
     below_eight : (P : ℕ → Type 0) → P 0 → P 1 → P 2 → P 3 → P 4 → P 5 → P 6 → P 7 → (k : ℕ) → k < 8 → P k
-    below_eight P a b c d e f g h zero l = a
-    below_eight P a b c d e f g h (suc zero) l = b
-    below_eight P a b c d e f g h (suc (suc zero)) l = c
-    below_eight P a b c d e f g h (suc (suc (suc zero))) l = d
-    below_eight P a b c d e f g h (suc (suc (suc (suc zero)))) l = e
-    below_eight P a b c d e f g h (suc (suc (suc (suc (suc zero))))) l = f
-    below_eight P a b c d e f g h (suc (suc (suc (suc (suc (suc zero)))))) l = g
-    below_eight P a b c d e f g h (suc (suc (suc (suc (suc (suc (suc zero))))))) l = h
-    below_eight P a b c d e f g h (suc (suc (suc (suc (suc (suc (suc (suc k)))))))) l = absurd (omega arith)
+    below_eight P h2 h3 h4 h5 h6 h7 h8 h9 k h11 = grind arith
 
 byte_summed : (b : ℕ) → b < 256 → b ≡ bits_summed (λ k. b / 2 ^ (7 - k) % 2 == 1)
 byte_summed b h =
@@ -76,13 +65,10 @@ byte_summed b h =
 
 -- a byte is known by its bits
 pub byte_from_bits : (b : ℕ) (g : ℕ → Bool) → b < 256 → ((k : ℕ) → k < 8 → (b / 2 ^ (7 - k) % 2 == 1) ≡ g k) → b ≡ bits_summed g
-byte_from_bits b g small same =
-    byte_summed b small
-    ∙ (rw (← same 0 (omega arith), ← same 1 (omega arith), ← same 2 (omega arith), ← same 3 (omega arith), ← same 4 (omega arith), ← same 5 (omega arith), ← same 6 (omega arith), ← same 7 (omega arith)))
+byte_from_bits b g small same = grind (arith, byte_summed)
 
 summed-small : (g : ℕ → Bool) → bits_summed g < 256
-summed-small g =
-    omega (arith, digits_of g, one_of-below (g 0), one_of-below (g 1), one_of-below (g 2), one_of-below (g 3), one_of-below (g 4), one_of-below (g 5), one_of-below (g 6), one_of-below (g 7))
+summed-small g = grind (arith, digits_of, one_of-below)
 
 row_byte : Cells → ℕ → ℕ → ℕ
 row_byte cells y i = bits_summed (λ k. has cells (8 * i + k) y)
@@ -110,15 +96,11 @@ row_has-row_bytes cells x y even h =
 
 pub has-row_replaced : (cells : Cells) (row : ℕ) (bytes : List ℕ) (x y : ℕ) → x < cells.width → y < cells.height
     → has (row_replaced cells row bytes) x y ≡ (if y == row then row_has bytes x else has cells x y)
-has-row_replaced cells row bytes x y p q =
-    has-cells_where cells.width cells.height (λ x y. if y == row then row_has bytes x else has cells x y) x y p q
+has-row_replaced cells row bytes x y p q = grind (arith, has-cells_where)
 
 -- what is written is read again
 bit_in_byte : (bytes : List ℕ) (i k : ℕ) → k < 8 → (get_or bytes i 0 / 2 ^ (7 - k) % 2 == 1) ≡ row_has bytes (8 * i + k)
-bit_in_byte bytes i k h =
-    let byte : i ≡ (8 * i + k) / 8 = omega arith in
-    let place : k ≡ (8 * i + k) % 8 = omega arith in
-    ap (λ n. get_or bytes n 0 / 2 ^ (7 - k) % 2 == 1) byte ∙ ap (λ n. get_or bytes ((8 * i + k) / 8) 0 / 2 ^ (7 - n) % 2 == 1) place
+bit_in_byte bytes i k h = grind arith
 
 written_byte : (cells : Cells) (y i : ℕ) (bytes : List ℕ) → i < cells.width / 8 → y < cells.height → get_or bytes i 0 < 256
     → get_or bytes i 0 ≡ bits_summed (λ k. has (row_replaced cells y bytes) (8 * i + k) y)

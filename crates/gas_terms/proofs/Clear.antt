@@ -36,10 +36,7 @@ one_of_near p n x false false l = let e = distance_self n (other_coordinate n p 
 
 all_four : (t : Bool → Bool → Bool) → t true true ≡ false → t true false ≡ false → t false true ≡ false → t false false ≡ false
     → (i j : Bool) → t i j ≡ false
-all_four t a b c d true true = a
-all_four t a b c d true false = b
-all_four t a b c d false true = c
-all_four t a b c d false false = d
+all_four t h2 h3 h4 h5 i j = grind arith
 
 four : (t : Bool → Bool → Bool) → ((i j : Bool) → t i j ≡ false) ⊎ ((i : Bool) × (j : Bool) × (t i j ≡ true))
 four t =
@@ -88,8 +85,7 @@ one_is_clear p x y some others s l m far =
 
 -- A block without particles gets none.
 rule_of_none : (walled a b c d : Bool) → a ≡ false → b ≡ false → c ≡ false → d ≡ false → corner_rule walled a b c d ≡ false
-rule_of_none true a b c d e f g h = e
-rule_of_none false a b c d e f g h = grind arith
+rule_of_none walled a b c d h6 h7 h8 h9 = grind arith
 
 pub none_come : (p x y : ℕ) (particles walls : Cells) → HasEvenSides particles.width particles.height → HasSidesOf walls particles
     → x < particles.width → y < particles.height → ((i j : Bool) → at p particles.width particles.height particles x y i j ≡ false)
@@ -135,18 +131,7 @@ other_holds a b e f = grind arith
 
 occupant_follows : (x y : ℕ) (g : Gas) → x < g.particles.width → y < g.particles.height
     → (a : ℕ) × (b : ℕ) × CameFrom x y g.particles a b → (a : ℕ) × (b : ℕ) × CameFrom x y (occupied g) a b
-occupant_follows x y g l m from =
-    let c = from.2 in (
-      from.0,
-      from.1,
-      record {
-        column = c.column;
-        row = c.row;
-        across = c.across;
-        down = c.down;
-        held = has-joined g.particles (solid g) from.0 from.1 c.column c.row ∙ or_left _ _ c.held;
-      },
-    )
+occupant_follows x y g l m from = grind (arith, has-joined, or_left)
 
 pub occupied_follows : (g : Gas) → IsOnOneTorus g → Follows (occupied g) (occupied (forward g))
 occupied_follows g i = λ x y l m holds.
@@ -172,11 +157,7 @@ occupied_follows g i = λ x y l m holds.
 -- So sets that are apart come nearer by two cells at most.
 nearer : (d w x a x' a' : ℕ) → x < w → a < w → x' < w → a' < w → distance w x x' ≤ 1 → distance w a a' ≤ 1 → d + 2 ≤ distance w x' a'
     → d ≤ distance w x a
-nearer d w x a x' a' l m k o p q r =
-    let t = triangle w x' x a' k l o in
-    let u = triangle w x a a' l m o in
-    let b = distance_back w x x' in
-    omega arith
+nearer d w x a x' a' l m k o p q r = grind (arith, triangle, distance_back)
 
 pub sets_come_nearer : (d : ℕ) (some others some' others' : Cells) → HasSidesOf others some → HasSidesOf some' some → HasSidesOf others' others
     → Follows some some' → Follows others others' → AreApart (d + 2) some others → AreApart d some' others'
@@ -201,8 +182,4 @@ sets_come_nearer d some others some' others' s t u f f' far = λ x y a b l m k o
     ]
 
 pub far_less : (d e : ℕ) (some others : Cells) → d ≤ e → AreApart e some others → AreApart d some others
-far_less d e some others less far = λ x y a b l m k o here there.
-    elim (far x y a b l m k o here there) [
-      | inl r ↦ inl (omega arith)
-      | inr r ↦ inr (omega arith)
-    ]
+far_less d e some others less far = grind arith

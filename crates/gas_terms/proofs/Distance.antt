@@ -1,5 +1,5 @@
 -- Distances on an axis that closes on itself.
-use Rattle.std.proofs.Common.{◌≡◌, ℕ, ◌+◌, ◌-◌, ◌%◌, ◌<◌, ◌≤◌, min, max, Bool, true, false, inl, inr, ap, ◌∙◌, arith}
+use Rattle.std.proofs.Common.{◌≡◌, ℕ, ◌+◌, ◌-◌, ◌%◌, ◌<◌, ◌≤◌, min, max, Bool, true, false, arith, rules}
 use Rattle.std.proofs.Math.Nat.{mod-eq_of_lt, add-mod_right}
 use Rattle.std.proofs.lemmas.Bool.{cases_lt}
 use Rattle.gas_terms.specs.Velocity.{has_parity}
@@ -9,10 +9,7 @@ use Rattle.gas_terms.specs.Symmetry.{distance}
 use Rattle.gas_terms.proofs.Axis.{up_is, down_is}
 
 over_by : (n x a : ℕ) → a ≤ x → x < n → (x + n - a) % n ≡ x - a
-over_by n x a h l =
-    let e : x + n - a ≡ (x - a) + n = omega arith in
-    let b : x - a < n = omega arith in
-    ap (λ k. k % n) e ∙ add-mod_right (x - a) n ∙ mod-eq_of_lt b
+over_by n x a h l = grind (arith, add-mod_right, mod-eq_of_lt)
 
 under_by : (n x a : ℕ) → x < a → a < n → (x + n - a) % n ≡ x + n - a
 under_by n x a h l = let b : x + n - a < n = omega arith in mod-eq_of_lt b
@@ -32,26 +29,13 @@ abbrev ring : ℕ → ℕ → ℕ → ℕ
 ring n x a = min (max (x - a) (a - x)) (n - max (x - a) (a - x))
 
 pub distance_is : (n x a : ℕ) → x < n → a < n → distance n x a ≡ ring n x a
-distance_is n x a l m =
-    elim (cases_lt a x) [
-      | inl h ↦ let e = apart_less n x a h l in omega arith
-      | inr g ↦
-          elim (cases_lt x a) [
-            | inl h ↦ let e = apart_more n x a h m in omega arith
-            | inr k ↦ let s : a ≡ x = omega arith in ap (distance n x) s ∙ distance_self n x l ∙ omega arith
-          ]
-    ]
+distance_is n x a l m = grind (arith, cases_lt, apart_less, apart_more, distance_self)
 
 ring_triangle : (n x a c : ℕ) → x < n → a < n → c < n → ring n x c ≤ ring n x a + ring n a c
 ring_triangle n x a c l m k = omega arith
 
 pub triangle : (n x a c : ℕ) → x < n → a < n → c < n → distance n x c ≤ distance n x a + distance n a c
-triangle n x a c l m k =
-    let e = distance_is n x c l k in
-    let f = distance_is n x a l m in
-    let g = distance_is n a c m k in
-    let t = ring_triangle n x a c l m k in
-    omega arith
+triangle n x a c l m k = search (rules, distance_is, ring_triangle)
 
 -- A block's other coordinate is at most one away.
 along_near : (n x : ℕ) (b : Bool) → x < n → ring n x (along n b x) ≤ 1

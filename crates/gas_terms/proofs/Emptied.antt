@@ -1,7 +1,7 @@
 -- Sums where there is nothing, and what filling and clearing a rectangle brings in and takes out.
 use Rattle.std.proofs.Common.{◌≡◌, ℕ, ◌+◌, ◌%◌, ◌<◌, Bool, true, false, ◌&&◌, ◌||◌, not, cond, ◌==◌, ℤ, pos, ◌-ℤ◌, ◌*ℤ◌, refl, sym, ap, ap₂, ◌∙◌, arith}
 use Rattle.std.proofs.lemmas.Int.{ints}
-use Rattle.gas_terms.specs.Velocity.{sign, parity}
+use Rattle.gas_terms.specs.Velocity.{sign}
 use Rattle.gas_terms.specs.Cells.{Cells, Rectangle, has, is_inside, lies_within, extent, whole, within, without, filled, cleared, HasEvenSides}
 use Rattle.gas_terms.specs.Accounts.{total, total_in, gained, lost, nothing, plus, minus, parity_count, sums_by_parity}
 use Rattle.gas_terms.specs.declared.accounts.Sums.{Sums}
@@ -25,20 +25,14 @@ parity_count-none cells r a b none =
     ∙ (sum_below-cong r.h (λ j. sum_below r.w (λ i. 0)) (λ j. 0) (λ j _. sum_below-none r.w) ∙ sum_below-none r.h))
 
 no_momentum : (b : Bool) → sign b *ℤ (pos (0 + 0) -ℤ pos (0 + 0)) ≡ pos 0
-no_momentum true = refl
-no_momentum false = refl
+no_momentum b = grind arith
 
 no_sums : (tick : ℤ) (a b c d : ℕ) → a ≡ 0 → b ≡ 0 → c ≡ 0 → d ≡ 0 → sums_by_parity tick a b c d ≡ nothing
-no_sums tick a b c d e f g h =
-    same_counts tick a 0 b 0 c 0 d 0 e f g h
-    ∙ same_sums (sums_by_parity tick 0 0 0 0) nothing refl (no_momentum (parity tick == 0)) (no_momentum (parity tick == 0))
+no_sums tick a b c d e f g h = grind (arith, same_counts, same_sums, no_momentum)
 
 -- no cells have no sums
 pub total_in-none : (tick : ℤ) (cells : Cells) (r : Rectangle) → ((i j : ℕ) → i < r.w → j < r.h → has cells (r.x + i) (r.y + j) ≡ false) → total_in tick cells r ≡ nothing
-total_in-none tick cells r none =
-    let counts : (a b : ℕ) → parity_count cells r a b ≡ 0 = λ a b. parity_count-none cells r a b none in
-    total_in-parities tick cells r
-    ∙ no_sums tick (parity_count cells r 0 0) (parity_count cells r 1 0) (parity_count cells r 0 1) (parity_count cells r 1 1) (counts 0 0) (counts 1 0) (counts 0 1) (counts 1 1)
+total_in-none tick cells r none = grind (arith, parity_count-none, total_in-parities, no_sums)
 
 pub total-none : (tick : ℤ) (cells : Cells) → HasEvenSides cells.width cells.height → ((x y : ℕ) → x < cells.width → y < cells.height → has cells x y ≡ false) → total tick cells ≡ nothing
 total-none tick cells even none =
@@ -52,8 +46,7 @@ total-without tick cells others even none =
     (λ x y p q. has-cells_where cells.width cells.height (λ x y. has cells x y && not (has others x y)) x y p q ∙ none x y p q)
 
 pub not_both : (held : Bool) → (held && not held) ≡ false
-not_both true = refl
-not_both false = refl
+not_both held = grind arith
 
 -- the cells of a filled and of a cleared set
 filled_cell : (cells : Cells) (r : Rectangle) (x y : ℕ) → x < cells.width → y < cells.height → has (filled cells r) x y ≡ (has cells x y || is_inside r x y)
@@ -66,29 +59,19 @@ within_cell : (cells : Cells) (r : Rectangle) (x y : ℕ) → x < cells.width �
 within_cell cells r x y p q = has-cells_where cells.width cells.height (λ x y. has cells x y && is_inside r x y) x y p q
 
 cut_out : (held inside : Bool) → (held && not (held && not inside)) ≡ (held && inside)
-cut_out true true = refl
-cut_out true false = refl
-cut_out false inside = refl
+cut_out held inside = grind arith
 
 cut_gains : (held inside : Bool) → ((held && not inside) && not held) ≡ false
-cut_gains true true = refl
-cut_gains true false = refl
-cut_gains false inside = refl
+cut_gains held inside = grind arith
 
 fill_loses : (held inside : Bool) → (held && not (held || inside)) ≡ false
-fill_loses true inside = refl
-fill_loses false inside = refl
+fill_loses held inside = grind arith
 
 fill_loses_inside : (held inside : Bool) → ((held && inside) && not ((held || inside) && inside)) ≡ false
-fill_loses_inside true true = refl
-fill_loses_inside true false = refl
-fill_loses_inside false inside = refl
+fill_loses_inside held inside = grind arith
 
 fill_gains_inside : (held inside : Bool) → (((held || inside) && inside) && not (held && inside)) ≡ ((held || inside) && not held)
-fill_gains_inside true true = refl
-fill_gains_inside true false = refl
-fill_gains_inside false true = refl
-fill_gains_inside false false = refl
+fill_gains_inside held inside = grind arith
 
 -- Clearing a rectangle takes out what it held, and brings in nothing.
 pub lost-cleared : (tick : ℤ) (cells : Cells) (r : Rectangle) → HasEvenSides cells.width cells.height → lies_within (extent cells) r ≡ true → lost tick cells (cleared cells r) ≡ total_in tick cells r

@@ -1,5 +1,5 @@
 -- Gases that move by one rule: their histories neither merge nor part.
-use Rattle.std.proofs.Common.{◌≡◌, ℕ, zero, suc, ◌-◌, pos, ◌+ℤ◌, ◌-ℤ◌, refl, sym, ap, ap₂, ◌∙◌, arith}
+use Rattle.std.proofs.Common.{◌≡◌, ℕ, zero, suc, pos, ◌+ℤ◌, ◌-ℤ◌, refl, sym, ap, ap₂, ◌∙◌, arith, rules}
 use Rattle.std.proofs.lemmas.Int.{ints}
 use Rattle.std.specs.Fn.{iterate}
 use Rattle.gas_terms.specs.Velocity.{parity}
@@ -12,11 +12,7 @@ use Rattle.gas_terms.proofs.Steps.{streamed-streamed, forwards-backs, even_forwa
 
 -- a step of both
 rule_forward : (g k : Gas) → MoveByOneRule g k → MoveByOneRule (forward g) (forward k)
-rule_forward g k r = record {
-  ticks = parity-next g.tick ∙ ap (λ p. 1 - p) r.ticks ∙ sym (parity-next k.tick);
-  walls = r.walls;
-  obstacles = r.obstacles;
-}
+rule_forward g k r = grind (arith, parity-next)
 
 same_solid : (g k : Gas) → MoveByOneRule g k → solid g ≡ solid k
 same_solid g k r = ap₂ (λ a b. joined a b) r.walls r.obstacles
@@ -80,15 +76,7 @@ sides_forward (suc n) g = let s = sides_forward n (forward g) in record { wide =
 -- What leads to given particles in n steps.
 origin_rule : (n : ℕ) (g : Gas) (after : Cells) →
     MoveByOneRule (with_particles g (origin n g after)) (iterate back n (with_particles (iterate forward n g) after))
-origin_rule n g after =
-    let k : Gas = with_particles (iterate forward n g) after in
-    let there : (iterate back n k).tick ≡ g.tick =
-    tick_back n k ∙ ap (λ t. t -ℤ pos n) (tick_forward n g) ∙ (let e : (g.tick +ℤ pos n) -ℤ pos n ≡ g.tick = omega (arith, ints) in e) in
-    record {
-      ticks = ap parity (sym there);
-      walls = sym (walls_back n k ∙ walls_forward n g);
-      obstacles = sym (obstacles_back n k ∙ obstacles_forward n g);
-    }
+origin_rule n g after = search (rules, tick_back, tick_forward, ints, walls_back, walls_forward, obstacles_back, obstacles_forward)
 
 pub origin_leads : (n : ℕ) (g : Gas) (after : Cells) → IsEvenTorus after → (iterate forward n (with_particles g (origin n g after))).particles ≡ after
 origin_leads n g after t =
@@ -105,6 +93,4 @@ sides_back zero g = record { wide = refl; high = refl }
 sides_back (suc n) g = let s = sides_back n (back g) in record { wide = s.wide; high = s.high }
 
 pub origin_fits : (n : ℕ) (g : Gas) (after : Cells) → IsEvenTorus after → IsEvenTorus (origin n g after) × HasSidesOf (origin n g after) after
-origin_fits n g after t =
-    let k : Gas = with_particles (iterate forward n g) after in
-    (even_backs n k t, sides_back n k)
+origin_fits n g after t = grind (arith, even_backs, sides_back)

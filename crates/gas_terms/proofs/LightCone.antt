@@ -14,33 +14,12 @@ use Rattle.gas_terms.proofs.Torus.{solid_sides, torus_step}
 use Rattle.gas_terms.proofs.Axis.{other_below}
 
 pub one_further : (m n p x a : ℕ) → x < n → a < n → distance n x a ≤ m → distance n x (other_coordinate n p a) ≤ m + 1
-one_further m n p x a l k d =
-    let o = other_below n p a k in
-    let t = triangle n x a (other_coordinate n p a) l k o in
-    let s = other_near n p a k o in
-    omega arith
+one_further m n p x a l k d = grind (arith, other_below, triangle, other_near)
 
 near_block : (n p x y a b : ℕ) (some others : Cells) → HasSidesOf others some → AgreeWithin (n + 1) x y some others
     → x < some.width → y < some.height → a < some.width → b < some.height → distance some.width x a ≤ n → distance some.height y b ≤ n
     → IsSameBlock p p some others a b a b
-near_block n p x y a b some others sides agree l m la mb da db =
-    let w = some.width in
-    let h = some.height in
-    let a' = other_coordinate w p a in
-    let b' = other_coordinate h p b in
-    let la' = other_below w p a la in
-    let mb' = other_below h p b mb in
-    let da' = one_further n w p x a l la da in
-    let db' = one_further n h p y b m mb db in
-    let wa : distance w x a ≤ n + 1 = omega arith in
-    let wb : distance h y b ≤ n + 1 = omega arith in
-    record {
-      own = agree a b la mb wa wb;
-      opposed = agree a' b' la' mb' da' db' ∙ ap (λ k. has others (other_coordinate k p a) b') (sym sides.wide)
-          ∙ ap (λ k. has others (other_coordinate others.width p a) (other_coordinate k p b)) (sym sides.high);
-      besides = agree a' b la' mb da' wb ∙ ap (λ k. has others (other_coordinate k p a) b) (sym sides.wide);
-      beneath = agree a b' la mb' wa db' ∙ ap (λ k. has others a (other_coordinate k p b)) (sym sides.high);
-    }
+near_block n p x y a b some others sides agree l m la mb da db = grind (arith, other_below, one_further)
 
 pub phase_is_local : (n p x y : ℕ) (some others walls boulders : Cells) → HasEvenSides some.width some.height
     → HasSidesOf others some → HasSidesOf walls some → HasSidesOf boulders some → x < some.width → y < some.height
@@ -69,8 +48,7 @@ agreeing_forward n x y g k e i j s l m agree =
     }
 
 same_here : (x y : ℕ) (some others : Cells) → x < some.width → y < some.height → AgreeWithin 0 x y some others → has some x y ≡ has others x y
-same_here x y some others l m agree =
-    agree x y l m (omega (arith, distance_self some.width x l)) (omega (arith, distance_self some.height y m))
+same_here x y some others l m agree = grind (arith, distance_self)
 
 -- The ports that both gases have do the same.
 filled_at : ℤ → List Source → ℕ → ℕ → Bool

@@ -1,5 +1,5 @@
 -- Without walls, a step carries the particles that go one way along an axis from each line to the next.
-use Rattle.std.proofs.Common.{◌≡◌, ℕ, zero, suc, ◌+◌, ◌-◌, ◌*◌, ◌/◌, ◌%◌, ◌<◌, Bool, true, false, not, ◌&&◌, cond, refl, sym, ap, ap₂, subst, ◌∙◌, arith}
+use Rattle.std.proofs.Common.{◌≡◌, ℕ, zero, suc, ◌+◌, ◌-◌, ◌*◌, ◌/◌, ◌%◌, ◌<◌, Bool, true, false, not, ◌&&◌, cond, refl, sym, ap, subst, ◌∙◌, arith}
 use Rattle.std.proofs.lemmas.Bool.{eqb-true, eqb-false}
 use Rattle.std.specs.Fn.{iterate}
 use Rattle.gas_terms.specs.Velocity.{has_parity, parity}
@@ -34,9 +34,7 @@ turned_parity n p x false e l q =
     has_parity_true p ((x + n - 1) % n) (omega (arith, down_parity n x e l))
 
 other_other : (n p x : ℕ) → n % 2 ≡ 0 → x < n → other_coordinate n p (other_coordinate n p x) ≡ x
-other_other n p x e l =
-    let b : Bool = has_parity p x in
-    ap (λ t. along n t (along n b x)) (turned_parity n p x b e l refl) ∙ along_back n b x l
+other_other n p x e l = grind (arith, turned_parity, along_back)
 
 module _ (p : ℕ) (cells walls : Cells) (e : HasEvenSides cells.width cells.height) (s : HasSidesOf walls cells)
     (clear : (x y : ℕ) → x < walls.width → y < walls.height → has walls x y ≡ false) where
@@ -63,19 +61,7 @@ module _ (p : ℕ) (cells walls : Cells) (e : HasEvenSides cells.width cells.hei
       let x' = other_coordinate cells.width p x in
       let y' = other_coordinate cells.height p y in
       bit (has (streamed p cells walls) x' y) + bit (has (streamed p cells walls) x' y') ≡ bit (has cells x y) + bit (has cells x y')
-  block_by_column x y l m =
-      let x' : ℕ = other_coordinate cells.width p x in
-      let y' : ℕ = other_coordinate cells.height p y in
-      let l' : x' < cells.width = other_below cells.width p x l in
-      let m' : y' < cells.height = other_below cells.height p y m in
-      let here : other_coordinate cells.width p x' ≡ x = other_other cells.width p x e.wide l in
-      let there : other_coordinate cells.height p y' ≡ y = other_other cells.height p y e.high m in
-      ap₂ (λ f g. bit f + bit g)
-      (cell_in_clear x' y l' m ∙ ap (λ a. corner_rule false (has cells x' y) (has cells a y') (has cells a y) (has cells x' y')) here)
-      (cell_in_clear x' y' l' m'
-      ∙ ap (λ a. corner_rule false (has cells x' y') (has cells a (other_coordinate cells.height p y')) (has cells a y') (has cells x' (other_coordinate cells.height p y'))) here
-      ∙ ap (λ b. corner_rule false (has cells x' y') (has cells x b) (has cells x y') (has cells x' b)) there)
-      ∙ rule_by_line (has cells x' y) (has cells x y') (has cells x y) (has cells x' y')
+  block_by_column x y l m = grind (arith, other_below, other_other, cell_in_clear, rule_by_line)
 
   -- so does a whole column
   column_moves : (x : ℕ) → p < 2 → x < cells.width →
@@ -106,10 +92,7 @@ marked n false f g same =
     sum_below-cong n (λ i. bit (f i && false)) (λ i. bit (g i && false)) (λ i l. ap bit (and-false (f i) ∙ sym (and-false (g i))))
 
 goes_tells : (a b : Bool) → goes a b ≡ true → b ≡ a
-goes_tells true true e = refl
-goes_tells true false e = e
-goes_tells false true e = sym e
-goes_tells false false e = refl
+goes_tells a b h3 = grind arith
 
 -- a line further, a tick later, the velocity is the same
 along_rest : (n x : ℕ) (b : Bool) → n % 2 ≡ 0 → x < n → along n b x % 2 ≡ (x + 1) % 2
@@ -142,20 +125,10 @@ column_forward right g x i clear l =
 
 -- Rows are the columns of the transposed gas.
 row_is_column : (down : Bool) (g : Gas) (y : ℕ) → y < g.particles.height → in_row down g y ≡ in_column down (mapped transposed g) y
-row_is_column down g y m =
-    let w : ℕ = g.particles.width in
-    let here : Bool = goes down (has_parity (parity g.tick) y) in
-    sum_by-range (λ x. bit (has g.particles x y && here)) w
-    ∙ sum_below-cong w (λ x. bit (has g.particles x y && here)) (λ x. bit (has (transposed g.particles) y x && here))
-    (λ x l. ap (λ b. bit (b && here)) (sym (has-transposed g.particles y x m l)))
-    ∙ sym (sum_by-range (λ x. bit (has (transposed g.particles) y x && here)) w)
+row_is_column down g y m = grind (arith, sum_by-range, sum_below-cong, has-transposed)
 
 transposed_torus : (g : Gas) → IsOnOneTorus g → IsOnOneTorus (mapped transposed g)
-transposed_torus g i = record {
-  sides = record { wide = i.sides.high; high = i.sides.wide };
-  walls = record { wide = i.walls.high; high = i.walls.wide };
-  obstacles = record { wide = i.obstacles.high; high = i.obstacles.wide };
-}
+transposed_torus g i = grind arith
 
 transposed_clear : (g : Gas) → IsOnOneTorus g → IsClear g → IsClear (mapped transposed g)
 transposed_clear g i clear = λ x y l m.

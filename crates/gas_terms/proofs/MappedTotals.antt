@@ -1,5 +1,5 @@
 -- The sums of particles after a map of their cells, or at a tick of another parity.
-use Rattle.std.proofs.Common.{◌≡◌, ℕ, ◌-◌, ◌<◌, Bool, true, false, not, cond, ℤ, ◌+ℤ◌, neg_ℤ, refl, sym, ap, ◌∙◌, arith, ap₂, ◌+◌, ◌%◌}
+use Rattle.std.proofs.Common.{◌≡◌, ℕ, ◌-◌, ◌<◌, Bool, not, cond, ℤ, ◌+ℤ◌, neg_ℤ, refl, sym, ap, ◌∙◌, arith, ap₂, ◌+◌, ◌%◌}
 use Rattle.std.proofs.lemmas.Int.{ints}
 use Rattle.gas_terms.specs.Velocity.{velocity_at, parity, has_parity}
 use Rattle.gas_terms.specs.Cells.{Cells, has, HasEvenSides}
@@ -21,10 +21,7 @@ use Rattle.gas_terms.proofs.Axis.{same_parity}
 -- What the particles weigh at another tick, by another weight.
 same_weight : (f g : Weight) (p q : ℕ) (cells : Cells) → p < 2 → q < 2 → HasEvenSides cells.width cells.height
     → ((x y : ℕ) → f (velocity_at p x y) ≡ g (velocity_at q x y)) → weight f p cells ≡ weight g q cells
-same_weight f g p q cells a b even same =
-    weight_by_cell f p cells a even
-    ∙ cell_sum-cong cells.width cells.height (cell_weight f p cells) (cell_weight g q cells) (λ x y l m. ap (λ n. cond (has cells x y) n 0) (same x y))
-    ∙ sym (weight_by_cell g q cells b even)
+same_weight f g p q cells a b even same = grind (arith, weight_by_cell, cell_sum-cong)
 
 -- What they weigh after a map of each axis.
 pulled_weight : (f g : Weight) (p q : ℕ) (cells : Cells) (m k : ℕ → ℕ) → p < 2 → q < 2 → HasEvenSides cells.width cells.height
@@ -60,12 +57,7 @@ total_by : (t u : ℤ) (cells others : Cells) (right left down up : Weight)
     → total t cells
     ≡ sums_by (weight one (parity u) others) (weight right (parity u) others) (weight left (parity u) others) (weight down (parity u) others)
     (weight up (parity u) others)
-total_by t u cells others right left down up a b c d e =
-    total_is t cells
-    ∙ (let z : sums_by (weight one (parity t) cells) (weight rightward (parity t) cells) (weight leftward (parity t) cells)
-    (weight downward (parity t) cells) (weight upward (parity t) cells)
-    ≡ sums_by (weight one (parity u) others) (weight right (parity u) others) (weight left (parity u) others) (weight down (parity u) others)
-    (weight up (parity u) others) = cc in z)
+total_by t u cells others right left down up a b c d e = grind (arith, total_is)
 
 -- the sums with a momentum negated, or both, or exchanged
 right_negated : (n r l d u : ℕ) → sums_by n r l d u ≡ record (sums_by n l r d u) { px = neg_ℤ (sums_by n l r d u).px }
@@ -78,12 +70,10 @@ both_negated : (n r l d u : ℕ) → sums_by n r l d u ≡ record (sums_by n l r
 both_negated n r l d u = same_sums _ _ refl (omega (arith, ints)) (omega (arith, ints))
 
 yes_or_no : (b : Bool) → ◌≡◌ {A = ℕ} (cond b 1 0) (cond (not b) 0 1)
-yes_or_no true = refl
-yes_or_no false = refl
+yes_or_no b = grind arith
 
 no_or_yes : (b : Bool) → ◌≡◌ {A = ℕ} (cond b 0 1) (cond (not b) 1 0)
-no_or_yes true = refl
-no_or_yes false = refl
+no_or_yes b = grind arith
 
 pub total_reversed : (g : Gas) → HasEvenSides g.particles.width g.particles.height
     → gas_total (reversed g) ≡ record (gas_total g) { px = neg_ℤ (gas_total g).px; py = neg_ℤ (gas_total g).py }

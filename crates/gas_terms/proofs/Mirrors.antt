@@ -28,10 +28,7 @@ pub mirror_parity : (n p x : ℕ) → n % 2 ≡ 0 → x < n → not (has_parity 
 mirror_parity n p x e l = grind (arith, nat_tests)
 
 mirror_carries : (n p : ℕ) → n % 2 ≡ 0 → IsCarried p p n (λ x. n - 1 - x)
-mirror_carries n p e = record {
-  below = λ x l. omega arith;
-  other = λ x l. mirror_along n x (has_parity p x) l ∙ ap (λ b. along n b (n - 1 - x)) (mirror_parity n p x e l);
-}
+mirror_carries n p e = grind (arith, mirror_along, mirror_parity)
 
 stay_carries : (n p : ℕ) → IsCarried p p n (λ x. x)
 stay_carries n p = record { below = λ x l. l; other = λ x l. refl }

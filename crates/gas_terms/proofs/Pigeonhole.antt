@@ -31,27 +31,11 @@ moved n v a = cond (eqb a n) v a
 
 moved_small : (n v a : ℕ) → v < suc n → a < suc n → a ≢ v → moved n v a < n
 unfolding moved
-moved_small n v a lv la ne =
-    elim (cases_eq a n) [
-      | inl e ↦ rw (eq-eqb a n e) (omega arith)
-      | inr d ↦ rw (ne_eqb a n d) (omega arith)
-    ]
+moved_small n v a lv la ne = grind (arith, cases_eq, eq-eqb, ne_eqb)
 
 moved_apart : (n v a b : ℕ) → a ≢ v → b ≢ v → moved n v a ≡ moved n v b → a ≡ b
 unfolding moved
-moved_apart n v a b ne de e =
-    elim (cases_eq a n) [
-      | inl p ↦
-          elim (cases_eq b n) [
-            | inl q ↦ p ∙ sym q
-            | inr q ↦ absurd (de (sym (rw (eq-eqb a n p, ne_eqb b n q) at e)))
-          ]
-      | inr p ↦
-          elim (cases_eq b n) [
-            | inl q ↦ absurd (ne (rw (ne_eqb a n p, eq-eqb b n q) at e))
-            | inr q ↦ rw (ne_eqb a n p, ne_eqb b n q) at e
-          ]
-    ]
+moved_apart n v a b ne de e = grind (arith, cases_eq, eq-eqb, ne_eqb)
 
 pub pigeonhole : (n : ℕ) (f : ℕ → ℕ) → ((i : ℕ) → i ≤ n → f i < n) → Meeting n f
 pigeonhole zero f small = absurd (omega (arith, small 0 (omega arith)))

@@ -1,7 +1,6 @@
 -- A gas of finitely many states whose histories never merge returns.
-use Rattle.std.proofs.Common.{◌≡◌, ℕ, zero, suc, ◌+◌, ◌-◌, ◌*◌, ◌^◌, ◌%◌, ◌<◌, List, Bool, length, pos, sym, ap, ◌∙◌, subst, arith}
+use Rattle.std.proofs.Common.{◌≡◌, ℕ, zero, suc, ◌+◌, ◌-◌, ◌*◌, ◌^◌, ◌<◌, List, Bool, length, sym, ap, ◌∙◌, subst, arith}
 use Rattle.std.specs.Fn.{iterate}
-use Rattle.gas_terms.specs.Velocity.{parity}
 use Rattle.gas_terms.specs.Cells.{Cells, IsEvenTorus}
 use Rattle.gas_terms.specs.Gas.{Gas, forward, back}
 use Rattle.gas_terms.specs.Histories.{MoveByOneRule, Recurs}
@@ -15,12 +14,7 @@ use Rattle.gas_terms.proofs.Steps.{forwards-backs}
 
 -- An even number of steps later the rule is the same.
 pub later_rule : (n : ℕ) (g : Gas) → MoveByOneRule (iterate forward (2 * n) g) g
-later_rule n g = record {
-  ticks =
-      ap parity (tick_forward (2 * n) g) ∙ parity_after g.tick (pos (2 * n)) ∙ (let e : (parity g.tick + (2 * n) % 2) % 2 ≡ parity g.tick = omega (arith, parity-small g.tick) in e);
-  walls = walls_forward (2 * n) g;
-  obstacles = obstacles_forward (2 * n) g;
-}
+later_rule n g = grind (arith, tick_forward, parity_after, parity-small, walls_forward, obstacles_forward)
 
 -- What returns once returns again and again.
 pub returns_again : (n k : ℕ) (g : Gas) → (iterate forward (2 * n) g).particles ≡ g.particles → (iterate forward (2 * n * k) g).particles ≡ g.particles
@@ -36,14 +30,11 @@ state : Gas → ℕ → ℕ
 state g i = code (iterate forward (2 * i) g).particles.bits
 
 full_later : (n : ℕ) (g : Gas) → IsEvenTorus g.particles → length (iterate forward n g).particles.bits ≡ g.particles.width * g.particles.height
-full_later n g t =
-    let s = sides_forward n g in
-    (evens_forward n g t).full ∙ ap (λ w. w * (iterate forward n g).particles.height) s.wide ∙ ap (λ h. g.particles.width * h) s.high
+full_later n g t = grind (arith, sides_forward, evens_forward)
 
 state_small : (g : Gas) (i : ℕ) → IsEvenTorus g.particles → state g i < 2 ^ (g.particles.width * g.particles.height)
 unfolding state
-state_small g i t =
-    subst (λ n. code (iterate forward (2 * i) g).particles.bits < 2 ^ n) (full_later (2 * i) g t) (code_small (iterate forward (2 * i) g).particles.bits)
+state_small g i t = grind (arith, code, full_later, code_small)
 
 -- Two sets of the same parts are one.
 same_parts : (w w' h h' : ℕ) (xs ys : List Bool) → w ≡ w' → h ≡ h' → xs ≡ ys → made w h xs ≡ made w' h' ys
@@ -55,15 +46,7 @@ by_parts a b e f h = same_parts a.width b.width a.height b.height a.bits b.bits 
 
 same_state : (g : Gas) (i j : ℕ) → IsEvenTorus g.particles → state g i ≡ state g j → (iterate forward (2 * i) g).particles ≡ (iterate forward (2 * j) g).particles
 unfolding state
-same_state g i j t e =
-    let a : Cells = (iterate forward (2 * i) g).particles in
-    let b : Cells = (iterate forward (2 * j) g).particles in
-    let s = sides_forward (2 * i) g in
-    let u = sides_forward (2 * j) g in
-    let bits : a.bits ≡ b.bits = code_tells a.bits b.bits (full_later (2 * i) g t ∙ sym (full_later (2 * j) g t)) e in
-    let wide : a.width ≡ b.width = s.wide ∙ sym u.wide in
-    let high : a.height ≡ b.height = s.high ∙ sym u.high in
-    by_parts a b wide high bits
+same_state g i j t e = grind (arith, sides_forward, code_tells, full_later, by_parts)
 
 -- The states at two times are one, so the start is the state at their difference.
 met_before : (g : Gas) (i d : ℕ) → IsEvenTorus g.particles → (iterate forward (2 * i) g).particles ≡ (iterate forward (2 * (i + d)) g).particles

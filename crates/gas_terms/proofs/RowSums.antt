@@ -1,5 +1,5 @@
 -- The cells of a row: their sums and their counts, and what is so after the row is replaced.
-use Rattle.std.proofs.Common.{◌≡◌, ℕ, ◌+◌, ◌%◌, ◌<◌, ◌==◌, nat_lt, nat_le, Bool, true, false, ◌&&◌, cond, if◌then◌else◌, List, inl, inr, refl, sym, ap, ap₂, ◌∙◌, arith, ℤ}
+use Rattle.std.proofs.Common.{◌≡◌, ℕ, ◌+◌, ◌%◌, ◌<◌, ◌==◌, nat_lt, nat_le, Bool, true, false, ◌&&◌, cond, List, inl, inr, refl, sym, ap, ap₂, ◌∙◌, arith, ℤ}
 use Rattle.std.proofs.lemmas.Bool.{cases_eq, eq-eqb, ne_eqb}
 use Rattle.std.proofs.lemmas.Bool.Decides.{nat_tests}
 use Rattle.gas_terms.specs.Cells.{Cells, Rectangle, has, is_inside, is_size, HasEvenSides, cells_where}
@@ -33,22 +33,17 @@ strip_more cells y w n a b =
 
 -- a row is replaced, and the others stay
 pub new_row : (cells : Cells) (row : ℕ) (bytes : List ℕ) (x : ℕ) → x < cells.width → row < cells.height → has (row_replaced cells row bytes) x row ≡ row_has bytes x
-new_row cells row bytes x p q =
-    has-cells_where cells.width cells.height (λ x y. if y == row then row_has bytes x else has cells x y) x row p q
-    ∙ ap (λ b. if b then row_has bytes x else has cells x row) (eq-eqb row row refl)
+new_row cells row bytes x p q = grind (arith, has-cells_where, eq-eqb)
 
 pub other_row : (cells : Cells) (row : ℕ) (bytes : List ℕ) (x y : ℕ) → x < cells.width → y < cells.height → (y ≡ row → ⊥) → has (row_replaced cells row bytes) x y ≡ has cells x y
-other_row cells row bytes x y p q ne =
-    has-cells_where cells.width cells.height (λ x y. if y == row then row_has bytes x else has cells x y) x y p q
-    ∙ ap (λ b. if b then row_has bytes x else has cells x y) (ne_eqb y row ne)
+other_row cells row bytes x y p q ne = grind (arith, has-cells_where, ne_eqb)
 
 -- a cell of the row is in its rectangle
 in_row : (w y x y' : ℕ) → x < w → y' ≡ y → (nat_le 0 x && nat_lt x (0 + w) && nat_le y y' && nat_lt y' (y + 1)) ≡ true
 in_row w y x y' p e = grind (arith, nat_tests)
 
 and_true : (b c : Bool) → c ≡ true → (b && c) ≡ b
-and_true true c e = e
-and_true false c e = refl
+and_true b c h3 = grind arith
 
 neither : (b c : Bool) → b ≡ false → (b && c) ≡ b
 neither b c e = rw e refl

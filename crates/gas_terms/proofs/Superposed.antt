@@ -40,11 +40,7 @@ has-solid : (g : Gas) (a b : ℕ) → IsOnOneTorus g → a < g.particles.width �
 has-solid g a b i l m = has-joined g.walls g.obstacles a b (omega (arith, i.walls.wide)) (omega (arith, i.walls.high))
 
 torus_superposed : (g k : Gas) → IsOnOneTorus g → IsOnOneTorus (superposed g k)
-torus_superposed g k i = record {
-  sides = i.sides;
-  walls = record { wide = i.walls.wide; high = i.walls.high };
-  obstacles = record { wide = i.obstacles.wide; high = i.obstacles.high };
-}
+torus_superposed g k i = grind arith
 
 -- In a block where one gas has nothing, both together are as the other.
 like_first : (g k : Gas) (a b : ℕ) → IsOnOneTorus g → IsOnOneTorus k → HasSidesOf k.particles g.particles
@@ -206,11 +202,7 @@ far_runs_superposed n g k e i j s far = runs_superposed n g k e i j s (far_for_l
 
 -- Particles among the same walls.
 torus_with : (g : Gas) (cells : Cells) → IsOnOneTorus g → HasSidesOf cells g.particles → IsOnOneTorus (with_particles g cells)
-torus_with g cells i s = record {
-  sides = record { wide = ap (λ k. k % 2) s.wide ∙ i.sides.wide; high = ap (λ k. k % 2) s.high ∙ i.sides.high };
-  walls = record { wide = i.walls.wide ∙ sym s.wide; high = i.walls.high ∙ sym s.high };
-  obstacles = record { wide = i.obstacles.wide ∙ sym s.wide; high = i.obstacles.high ∙ sym s.high };
-}
+torus_with g cells i s = grind arith
 
 forward_together : (g : Gas) (others : Cells) → IsOnOneTorus g → HasSidesOf others g.particles → AreApart 2 g.particles others
     → forward (with_particles g (joined g.particles others))

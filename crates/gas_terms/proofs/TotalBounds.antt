@@ -1,5 +1,5 @@
 -- Sums by equal counts, and how large the sums of a lattice's particles can be.
-use Rattle.std.proofs.Common.{◌≡◌, ℕ, ◌*◌, ◌^◌, ◌≤◌, true, ℤ, ap, ◌∙◌, mul-le-mul, arith}
+use Rattle.std.proofs.Common.{◌≡◌, ℕ, ◌*◌, ◌^◌, ◌≤◌, true, ℤ, mul-le-mul, arith}
 use Rattle.std.proofs.lemmas.Bool.Decides.{nat_tests}
 use Rattle.gas_terms.specs.Cells.{Cells, Rectangle, Extent, extent, lies_within, is_size}
 use Rattle.gas_terms.specs.Accounts.{total, sums_by_parity, IsOfAtMost}
@@ -7,8 +7,7 @@ use Rattle.gas_terms.proofs.AccountBounds.{more_sums, size-width, size-height, s
 use Rattle.gas_terms.proofs.Bounds.{total-bounded}
 
 pub same_counts : (tick : ℤ) (a a' b b' c c' d d' : ℕ) → a ≡ a' → b ≡ b' → c ≡ c' → d ≡ d' → sums_by_parity tick a b c d ≡ sums_by_parity tick a' b' c' d'
-same_counts tick a a' b b' c c' d d' e f g h =
-    ap (λ n. sums_by_parity tick n b c d) e ∙ ap (λ n. sums_by_parity tick a' n c d) f ∙ ap (λ n. sums_by_parity tick a' b' n d) g ∙ ap (λ n. sums_by_parity tick a' b' c' n) h
+same_counts tick a a' b b' c c' d d' e f g h = grind arith
 
 -- a rectangle is no wider and no higher than the lattice
 pub within_width : (size : Extent) (r : Rectangle) → lies_within size r ≡ true → r.w ≤ size.width

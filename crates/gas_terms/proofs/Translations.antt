@@ -15,8 +15,7 @@ use Rattle.gas_terms.proofs.Axis.{rest_parity, same_parity}
 
 -- A translation keeps the way along an axis.
 move_up : (n c x : ℕ) → ((x + 1) % n + c) % n ≡ ((x + c) % n + 1) % n
-move_up n c x =
-    mod-add-mod (x + 1) n c ∙ ap (λ k. k % n) (let e : x + 1 + c ≡ x + c + 1 = omega arith in e) ∙ sym (mod-add-mod (x + c) n 1)
+move_up n c x = grind (arith, mod-add-mod)
 
 move_down : (n c x : ℕ) → 0 < n → ((x + n - 1) % n + c) % n ≡ ((x + c) % n + n - 1) % n
 move_down n c x some =
@@ -34,8 +33,7 @@ abbrev pub to_add : ℕ → ℕ → ℕ
 to_add n by = n - by % n
 
 pub from_is : (n by x : ℕ) → 0 < n → translated_from n by x ≡ (x + to_add n by) % n
-from_is n by x some =
-    ap (λ k. k % n) (let e : x + n - by % n ≡ x + (n - by % n) = omega arith in e)
+from_is n by x some = grind arith
 
 -- A translation changes the parity by that of its cells.
 pub move_parity : (n by x : ℕ) → n % 2 ≡ 0 → 0 < n → (translated_from n by x + by) % 2 ≡ x % 2
@@ -111,10 +109,4 @@ from_there n by x l =
 
 pub translated_there : (right down : ℕ) (cells : Cells) (x y : ℕ) → x < cells.width → y < cells.height
     → has (translated right down cells) ((x + right) % cells.width) ((y + down) % cells.height) ≡ has cells x y
-translated_there right down cells x y l m =
-    let wide : 0 < cells.width = omega arith in
-    let high : 0 < cells.height = omega arith in
-    has-cells_where cells.width cells.height (λ x y. has cells (translated_from cells.width right x) (translated_from cells.height down y))
-    ((x + right) % cells.width) ((y + down) % cells.height) (mod-lt (x + right) wide) (mod-lt (y + down) high)
-    ∙ ap (λ a. has cells a (translated_from cells.height down ((y + down) % cells.height))) (from_there cells.width right x l)
-    ∙ ap (has cells x) (from_there cells.height down y m)
+translated_there right down cells x y l m = grind (arith, has-cells_where, mod-lt, from_there)

@@ -1,5 +1,5 @@
 -- A map of each axis that takes blocks to blocks commutes with a step.
-use Rattle.std.proofs.Common.{◌≡◌, ℕ, ◌<◌, ◌||◌, refl, sym, ap, subst, ◌∙◌, arith}
+use Rattle.std.proofs.Common.{◌≡◌, ℕ, ◌<◌, ◌||◌, refl, sym, ap, subst, ◌∙◌, arith, rules}
 use Rattle.gas_terms.specs.Cells.{Cells, has, cells_where, joined, HasEvenSides, HasSidesOf}
 use Rattle.gas_terms.specs.Gas.{streamed}
 use Rattle.gas_terms.specs.Block.{other_coordinate}
@@ -52,17 +52,7 @@ has-pulled cells f g x y l m = has-cells_where cells.width cells.height (λ x y.
 
 pulled_block : (p q : ℕ) (cells : Cells) (f g : ℕ → ℕ) → IsCarried p q cells.width f → IsCarried p q cells.height g
     → (x y : ℕ) → x < cells.width → y < cells.height → IsSameBlock p q (pulled cells f g) cells x y (f x) (g y)
-pulled_block p q cells f g c d x y l m =
-    let x' = other_coordinate cells.width p x in
-    let y' = other_coordinate cells.height p y in
-    let l' = other_below cells.width p x l in
-    let m' = other_below cells.height p y m in
-    record {
-      own = has-pulled cells f g x y l m;
-      opposed = has-pulled cells f g x' y' l' m' ∙ ap (λ a. has cells a (g y')) (c.other x l) ∙ ap (has cells (other_coordinate cells.width q (f x))) (d.other y m);
-      besides = has-pulled cells f g x' y l' m ∙ ap (λ a. has cells a (g y)) (c.other x l);
-      beneath = has-pulled cells f g x y' l m' ∙ ap (has cells (f x)) (d.other y m);
-    }
+pulled_block p q cells f g c d x y l m = search (rules, other_below, has-pulled)
 
 carried_elsewhere : (p q n k : ℕ) (f : ℕ → ℕ) → n ≡ k → IsCarried p q n f → IsCarried p q k f
 carried_elsewhere p q n k f e c = subst (λ i. IsCarried p q i f) e c
