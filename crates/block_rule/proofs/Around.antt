@@ -13,9 +13,6 @@ walled_from p walls x y =
 outcome_table : (w a b c d : Bool) → (if w then a else (if d && a && not b && not c || (b && c && not d && not a) then b else d)) ≡ turned_cell w a b c d
 outcome_table w a b c d = grind arith
 
-walled_upper_left : (a b c d : Bool) → (a || b || c || d) ≡ ((a || c) || (b || d))
-walled_upper_left a b c d = grind arith
-
 walled_upper_right : (a b c d : Bool) → (a || b || c || d) ≡ ((b || d) || (a || c))
 walled_upper_right a b c d = grind arith
 
@@ -54,4 +51,4 @@ turned_by_cells p cells walled x y =
     ]
 
 pub walled_by_cells : (p : ℕ) (walls : ℕ → ℕ → Bool) (x y : ℕ) → is_walled_at p walls x y ≡ walled_from p walls x y
-walled_by_cells p walls x y = grind (arith, cases_eq, eq-eqb, walled_upper_left, ne_eqb, walled_lower_left, walled_upper_right, walled_lower_right)
+walled_by_cells p walls x y = grind (arith, cases_eq, eq-eqb, ne_eqb, walled_lower_left, walled_upper_right, walled_lower_right)

@@ -1,5 +1,5 @@
 -- The blocks of a tile that have a cell of a set, by the cells that they fill.
-use Rattle.std.proofs.Common.{◌≡◌, ℕ, zero, suc, inl, inr, ◌+◌, ◌-◌, ◌*◌, ◌<◌, ◌≤◌, subst, Bool, false, ◌||◌, List, length, get_or, set, arith, bit_or, get_or-set_same, get_or-set_other}
+use Rattle.std.proofs.Common.{◌≡◌, ℕ, zero, suc, inl, inr, ◌+◌, ◌-◌, ◌*◌, ◌<◌, ◌≤◌, subst, Bool, ◌||◌, List, length, get_or, set, arith, bit_or, get_or-set_same, get_or-set_other}
 use Rattle.bit_tile.specs.Bit.{bit}
 use Rattle.bit_tile.specs.Tile.{has, HasCells}
 use Rattle.bit_tile.specs.declared.Tile.{Tile}
@@ -14,18 +14,12 @@ use Rattle.block_rule.specs.TileBlocks.{NamesBlocks}
 use Rattle.block_rule.specs.declared.collide_odd.OddBlocks.{OddBlocks}
 use Rattle.block_rule.proofs.NamedBlocks.{even_blocks_are, odd_start, even_start, row_start}
 
-first_false : (a b : Bool) → (a || b) ≡ false → a ≡ false
-first_false a b h3 = grind arith
-
-second_false : (a b : Bool) → (a || b) ≡ false → b ≡ false
-second_false a b h3 = grind arith
-
 -- a word that tells of the rows of two sets of cells
 tells_of_first : (some others : ℕ) (t : Tile) (test : ℕ → ℕ → Bool) → HasCells t test → TellsRows some (has t) → TellsRows (bit_or some others) test
-tells_of_first some others t test is told x y h k e = grind (arith, first_false, bit-or)
+tells_of_first some others t test is told x y h k e = grind (arith, bit-or)
 
 tells_of_second : (some others : ℕ) (t : Tile) (test : ℕ → ℕ → Bool) → HasCells t test → TellsRows others (has t) → TellsRows (bit_or some others) test
-tells_of_second some others t test is told x y h k e = grind (arith, second_false, bit-or)
+tells_of_second some others t test is told x y h k e = grind (arith, bit-or)
 
 pub blocks_named : (told_even told_odd : ℕ) (even odd : Tile) (words : OddBlocks) (window : ℕ → ℕ → Bool) → HasCells even (is_walled_at 0 window) → HasCells odd (is_walled_at 1 window) → TellsRows told_even (has even) → TellsRows told_odd (has odd) → AreOddBlocksOf words (is_walled_at 1 window)
     → NamesBlocks (bit_or told_even told_odd) (record { even = even.even_even; odd = words }) (λ p. is_walled_at p window)
@@ -47,14 +41,11 @@ pub record IsRowNamed (window : ℕ → ℕ → Bool) (k begin end : ℕ) : Type
   pub ends : (i : ℕ) → i < 32 → bit end i ≡ is_block_walled window (2 * i) (2 * k)
 
 -- any of a block's cells, in the order of the rule and of the block
-left_first : (a b c d : Bool) → ((a || c) || (b || d)) ≡ (a || b || c || d)
-left_first a b c d = grind arith
-
 right_first : (a b c d : Bool) → ((b || d) || (a || c)) ≡ (a || b || c || d)
 right_first a b c d = grind arith
 
 pub row_named : (window : ℕ → ℕ → Bool) (k y : ℕ) (new : Blocks) → y ≡ 2 * k → IsMadeOdd (λ own beside facing across. (own || facing) || (beside || across)) window y new → IsRowNamed window k new.upper_left new.upper_right
-row_named window k y new e made = grind (arith, left_first, right_first)
+row_named window k y new e made = grind (arith, right_first)
 
 -- one row more
 pub rows_named : (window : ℕ → ℕ → Bool) (begin end : List ℕ) (j b e : ℕ) → j < 31 → length begin ≡ 33 → length end ≡ 33 → IsRowNamed window (j + 1) b e → ((k : ℕ) → k < j → IsRowNamed window (k + 1) (get_or begin (k + 1) 0) (get_or end (k + 1) 0))

@@ -31,15 +31,8 @@ use Rattle.gas_terms.specs.declared.accounts.Took.{Took}
 use Rattle.block_rule.proofs.Took.{pair, twice_momentum-same, twice_momentum-none, pair_same, accounts_same, right_count, left_count, down_count, up_count}
 
 -- `(old & solid) | (new & !solid)`
-either_word : (o n w : Bool) → ((o && w) || (n && not w)) ≡ (if w then o else n)
-either_word o n w = grind arith
-
 pub held_word : (old new solid i : ℕ) → solid < 2 ^ 32 → i < 32 → bit (bit_or (bit_and old solid) (bit_and new (bit_not w32 solid))) i ≡ (if bit solid i then bit old i else bit new i)
-held_word old new solid i fits within = grind (arith, bit-or, bit-and, bit-not, either_word)
-
--- a cell that stays in a walled block
-held_cell : (w m t own beside facing across : Bool) → t ≡ own → m ≡ turned_cell false own beside facing across → (if w then t else m) ≡ turned_cell w own beside facing across
-held_cell w m t own beside facing across h8 h9 = grind arith
+held_word old new solid i fits within = grind (arith, bit-or, bit-and, bit-not)
 
 -- a row without places
 none_among : (row places : ℕ) → ((i : ℕ) → i < 32 → bit places i ≡ false) → count_below 32 (λ i. bit row i && bit places i) ≡ 0
@@ -107,7 +100,7 @@ module _ (c : Classes) (cells : ℕ → ℕ → Bool) (is : AreCounts c cells) (
 
 -- a tile that was turned as if there were no walls, with the old cells of walled blocks put back
 pub turned_of_held : (p : ℕ) (tile free out : Tile) (window solid : ℕ → ℕ → Bool) → ShowsTile window tile → HasCells free (turned p window none) → HasCells out (λ x y. if is_walled_at p solid x y then has tile x y else has free x y) → HasCells out (turned p window solid)
-turned_of_held p tile free out window solid shows is_free is_out x y in_row in_column = grind (arith, held_cell, turned_by_cells)
+turned_of_held p tile free out window solid shows is_free is_out x y in_row in_column = grind (arith, turned_by_cells)
 
 -- the same with walls and obstacles
 pub turned_of_both : (p : ℕ) (tile free out : Tile) (window walls obstacles : ℕ → ℕ → Bool) → ShowsTile window tile → HasCells free (made (turned_cell false) p window) →
@@ -147,16 +140,12 @@ none_held tile before test none x y h k = kept_of (test x y) (has tile x y) (has
 pub none_took : (p : ℕ) (tile : Tile) (test : ℕ → ℕ → Bool) → HasNoCell test → pair (pos 0) (pos 0) ≡ twice_momentum p (λ x y. has tile x y && test x y)
 none_took p tile test none = twice_momentum-none p _ (λ x y h k. and_right (has tile x y) (test x y) (none x y h k))
 
--- what is put back in two goes
-held_twice : (w o t old first second : Bool) → first ≡ (if w && not o then t else old) → second ≡ (if o then t else first) → second ≡ (if w || o then t else old)
-held_twice w o t old first second h7 h8 = grind arith
-
 joined_tests : (t w o : Bool) → (t && (w && not o)) ≡ (t && w && not o)
 joined_tests t w o = grind arith
 
 pub both_held : (p : ℕ) (tile before first out : Tile) (walled obstructed : ℕ → ℕ → Bool) → HasCells first (λ x y. if is_for_walls p walled obstructed x y then has tile x y else has before x y) → HasCells out (λ x y. if is_walled_at p obstructed x y then has tile x y else has first x y)
     → HasCells out (λ x y. if is_walled_at p walled x y || is_walled_at p obstructed x y then has tile x y else has before x y)
-both_held p tile before first out walled obstructed is_first is_out x y h k = grind (arith, held_twice)
+both_held p tile before first out walled obstructed is_first is_out x y h k = grind arith
 
 pub both_took : (p : ℕ) (tile : Tile) (walled obstructed : ℕ → ℕ → Bool) (c : Counted) (a b : Pair) → a ≡ if_counted c.walls (twice_momentum p (λ x y. has tile x y && is_for_walls p walled obstructed x y))
     → b ≡ if_counted c.obstacles (twice_momentum p (λ x y. has tile x y && is_walled_at p obstructed x y)) → (let r : Took = record { walls = a; obstacles = b } in r) ≡ counted_of c (taken p tile walled obstructed)

@@ -52,9 +52,6 @@ none_named out window walled obstructed no_walls no_obstacles is =
     is (either walled obstructed)
     (named_by_cells (λ _. 0) (λ _. 0) (either walled obstructed) (λ i k h below. bit-zero i ∙ none (2 * i + 1) (2 * k - 1) (omega arith) (omega arith)) (λ i k h below. bit-zero i ∙ none (2 * i + 0) (2 * k - 1) (omega arith) (omega arith)))
 
-as_named : (new first last own beside facing across : Bool) → new ≡ turned_cell first own beside facing across → first ≡ last → new ≡ turned_cell last own beside facing across
-as_named new first last own beside facing across is e = subst (λ w. new ≡ turned_cell w own beside facing across) e is
-
 module _ (begins ends : ℕ → ℕ) (solid : ℕ → ℕ → Bool) (are : NameBlocks begins ends solid) where
   begin_at : (i k x y : ℕ) → i < 32 → k < 33 → block_start 1 x ≡ 2 * i + 2 → block_start 1 y ≡ 2 * k → bit (begins k) i ≡ is_walled_at 1 solid x y
   begin_at i k x y h below e f = are.begin i k h below ∙ sym (ap₂ (is_block_walled solid) e f)
@@ -65,11 +62,11 @@ module _ (begins ends : ℕ → ℕ) (solid : ℕ → ℕ → Bool) (are : NameB
   -- the words of a row
   pub upper_named : (window : ℕ → ℕ → Bool) (k row y ul ur : ℕ) → k < 33 → block_start 1 row ≡ 2 * k → AreUpper (λ i. turned_cell (bit (begins k) i)) (λ i. turned_cell (bit (ends k) i)) window y ul ur
       → AreUpper (λ i. rule_among solid (2 * i + 1) row) (λ i. rule_among solid (2 * i + 0) row) window y ul ur
-  upper_named window k row y ul ur below e is = grind (arith, as_named, begin_at, odd_start, end_at, even_start)
+  upper_named window k row y ul ur below e is = grind (arith, begin_at, odd_start, end_at, even_start)
 
   pub lower_named : (window : ℕ → ℕ → Bool) (k row y ll lr : ℕ) → k < 33 → block_start 1 row ≡ 2 * k → AreLower (λ i. turned_cell (bit (begins k) i)) (λ i. turned_cell (bit (ends k) i)) window y ll lr
       → AreLower (λ i. rule_among solid (2 * i + 1) row) (λ i. rule_among solid (2 * i + 0) row) window y ll lr
-  lower_named window k row y ll lr below e is = grind (arith, as_named, begin_at, odd_start, end_at, even_start)
+  lower_named window k row y ll lr below e is = grind (arith, begin_at, odd_start, end_at, even_start)
 
   pub row_named : (window : ℕ → ℕ → Bool) (j : ℕ) (new : Blocks) → j < 31 → IsCollidedOdd (begins (j + 1)) (ends (j + 1)) window (2 * j + 2) new → AreMadeOdd (rule_among solid) window j new
   row_named window j new below is =

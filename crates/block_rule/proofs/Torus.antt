@@ -58,22 +58,19 @@ partner_along w from x false within = refl
 partner_place : (w from p x : ℕ) → from % 2 ≡ 0 → from + x < w → (from + partner p x + w - 1) % w ≡ other_coordinate w p (from + x)
 partner_place w from p x even within = grind (arith, partner_along, parity_same)
 
-own_reached : (p x : ℕ) → x < 64 → IsReached p (x + 1)
-own_reached p x within = (omega arith, omega arith)
-
 partner_reached : (p x : ℕ) → p < 2 → x < 64 → IsReached p (partner p x)
 partner_reached p x small within = grind (arith, cases_eq, eq-eqb, ne_eqb)
 
 -- the cells of the tile's blocks are those of the torus's blocks
 module _ (p : ℕ) (window : ℕ → ℕ → Bool) (cells : Cells) (x0 y0 x y : ℕ) (small : p < 2) (view : IsView p window cells x0 y0) (even_x : x0 % 2 ≡ 0) (even_y : y0 % 2 ≡ 0) (in_row : x < 64) (in_column : y < 64) (within : x0 + x < cells.width) (below : y0 + y < cells.height) where
   pub own_same : window (x + 1) (y + 1) ≡ plane.has cells (x0 + x) (y0 + y)
-  own_same = grind (arith, own_reached, own_place)
+  own_same = grind (arith, own_place)
 
   pub beside_same : window (partner p x) (y + 1) ≡ plane.has cells (other_coordinate cells.width p (x0 + x)) (y0 + y)
-  beside_same = grind (arith, partner_reached, own_reached, partner_place, own_place)
+  beside_same = grind (arith, partner_reached, partner_place, own_place)
 
   pub facing_same : window (x + 1) (partner p y) ≡ plane.has cells (x0 + x) (other_coordinate cells.height p (y0 + y))
-  facing_same = grind (arith, own_reached, partner_reached, own_place, partner_place)
+  facing_same = grind (arith, partner_reached, own_place, partner_place)
 
   pub across_same : window (partner p x) (partner p y) ≡ plane.has cells (other_coordinate cells.width p (x0 + x)) (other_coordinate cells.height p (y0 + y))
   across_same = grind (arith, partner_reached, partner_place)
@@ -107,12 +104,9 @@ turned_same step walled p near near_solid particles solid x0 y0 x y small even w
 pub view_either : MadeCells → (p : ℕ) (a b : ℕ → ℕ → Bool) (some others : Cells) (x0 y0 : ℕ) → 0 < some.width → 0 < some.height → HasSidesOf others some → IsView p a some x0 y0 → IsView p b others x0 y0 → IsView p (either a b) (joined some others) x0 y0
 view_either made p a b some others x0 y0 wide high sides is_a is_b = grind (arith, mod-lt)
 
-sides_same : (a b c : Cells) → HasSidesOf a c → HasSidesOf b c → HasSidesOf b a
-sides_same a b c is_a is_b = record { wide = is_b.wide ∙ sym is_a.wide; high = is_b.high ∙ sym is_a.high }
-
 module _ (p : ℕ) (particles walls obstacles : Cells) (x0 y0 : ℕ) (near_walls near_obstacles : ℕ → ℕ → Bool) (place : IsTilePlace particles walls obstacles x0 y0) (walls_view : IsView p near_walls walls x0 y0) (obstacles_view : IsView p near_obstacles obstacles x0 y0) where
   pub solid_view : MadeCells → IsView p (either near_walls near_obstacles) (joined walls obstacles) x0 y0
-  solid_view made = grind (arith, view_either, sides_same)
+  solid_view made = grind (arith, view_either)
 
   pub turned_is_streamed : MadeCells → CellsStep → CellsWalled → (near : ℕ → ℕ → Bool) → p < 2 → IsView p near particles x0 y0 → (x y : ℕ) → x < 64 → y < 64 →
       turned p near (either near_walls near_obstacles) x y ≡ plane.has (streamed p particles (joined walls obstacles)) (x0 + x) (y0 + y)
@@ -130,11 +124,8 @@ tiles_turned p particles walls obstacles x0 y0 near near_walls near_obstacles sm
 pub window_is_view : (p : ℕ) (window : ℕ → ℕ → Bool) (cells : Cells) (x0 y0 : ℕ) → p < 2 → IsWindow window cells x0 y0 → IsView p window cells x0 y0
 window_is_view p window cells x0 y0 small is = grind arith
 
-around_inside : (t : Tile) (b : Border) (i j : ℕ) → 1 ≤ i → i ≤ 64 → 1 ≤ j → j ≤ 64 → around t b i j ≡ has t (i - 1) (j - 1)
-around_inside t b i j i_low i_high j_low j_high = grind (arith, ne_eqb)
-
 place_inside : (w from i : ℕ) → 1 ≤ i → i ≤ 64 → from + 64 ≤ w → from + (i - 1) ≡ (from + i + w - 1) % w
 place_inside w from i low high within = grind (arith, wraps)
 
 pub inside_is_view : (t : Tile) (b : Border) (cells : Cells) (x0 y0 : ℕ) → x0 + 64 ≤ cells.width → y0 + 64 ≤ cells.height → HasCells t (λ x y. plane.has cells (x0 + x) (y0 + y)) → IsView 0 (around t b) cells x0 y0
-inside_is_view t b cells x0 y0 right bottom is = grind (arith, around_inside, place_inside)
+inside_is_view t b cells x0 y0 right bottom is = grind (arith, place_inside)
