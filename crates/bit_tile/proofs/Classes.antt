@@ -71,17 +71,11 @@ module _ (t : Tile) where
   is_odd_odd i j _ _ = sym (odd_odd_at t i j) ∙ ap₂ (has t) (omega arith) (omega arith)
 
 -- one cell of a class is put in or taken out
-in_its_row : (t a b : Bool) → (if t then a else b) ≡ (if t && true then a else b)
-in_its_row t a b = grind arith
-
 in_other_row : (t a b : Bool) → b ≡ (if t && false then a else b)
 in_other_row t a b = grind arith
 
 pub cell_set : (rows : List ℕ) (x y w : ℕ) (held : Bool) → y < length rows → ((i : ℕ) → i < 32 → bit w i ≡ (if i == x then held else bit (get_or rows y 0) i)) → (i j : ℕ) → i < 32 → bit (get_or (set rows y w) j 0) i ≡ (if i == x && j == y then held else bit (get_or rows j 0) i)
-cell_set rows x y w held within here i j in_row = grind (arith, cases_eq, get_or-set_same, eq-eqb, in_its_row, get_or-set_other, ne_eqb, in_other_row)
-
-same_place : (i x p : ℕ) → x % 2 ≡ p → (i == x / 2) ≡ (2 * i + p == x)
-same_place i x p h = grind (arith, cases_eq, eq-eqb, ne_eqb)
+cell_set rows x y w held within here i j in_row = grind (arith, cases_eq, get_or-set_same, eq-eqb, get_or-set_other, ne_eqb, in_other_row)
 
 other_place : (i x p : ℕ) → p < 2 → (x % 2 ≡ p → ⊥) → (2 * i + p == x) ≡ false
 other_place i x p two h = ne_eqb (2 * i + p) x (λ e. h (omega arith))
@@ -94,7 +88,7 @@ not_there false b u v _ = refl
 
 -- the class of the cell that is set, and the others
 pub class_set : (rows new : List ℕ) (p q x y : ℕ) (held : Bool) (test : ℕ → ℕ → Bool) → x % 2 ≡ p → y % 2 ≡ q → IsClass rows p q test → ((k m : ℕ) → k < 32 → bit (get_or new m 0) k ≡ (if k == x / 2 && m == y / 2 then held else bit (get_or rows m 0) k)) → IsClass new p q (λ i j. if i == x && j == y then held else test i j)
-class_set rows new p q x y held test h k is new_is i j in_row in_column = grind (arith, same_place)
+class_set rows new p q x y held test h k is new_is i j in_row in_column = grind arith
 
 pub class_kept : (rows : List ℕ) (p q x y : ℕ) (held : Bool) (test : ℕ → ℕ → Bool) → p < 2 → q < 2 → (x % 2 ≡ p → ⊥) ⊎ (y % 2 ≡ q → ⊥) → IsClass rows p q test → IsClass rows p q (λ i j. if i == x && j == y then held else test i j)
 class_kept rows p q x y held test p_two q_two (inl other) is i j in_row in_column =
@@ -107,9 +101,6 @@ pub rows_more : (rows : List ℕ) (j w : ℕ) (test : ℕ → ℕ → Bool) → 
 rows_more rows j w test within before here i k below = grind (arith, cases_eq, get_or-set_same, get_or-set_other)
 
 -- where a class begins and ends of what is from x up to z
-from_even : (x i : ℕ) → nat_le ((x + 1) / 2) i ≡ nat_le x (2 * i + 0)
-from_even x i = grind (arith, nat_tests)
-
 from_odd : (x i : ℕ) → nat_le (x / 2) i ≡ nat_le x (2 * i + 1)
 from_odd x i = grind (arith, nat_tests)
 
@@ -125,13 +116,10 @@ starts zero x = (x + 1) / 2
 starts (suc _) x = x / 2
 
 bounds_of : (p x z i : ℕ) → p < 2 → (nat_le (starts p x) i && nat_lt i (starts p z)) ≡ (nat_le x (2 * i + p) && nat_lt (2 * i + p) z)
-bounds_of p x z i two = grind (arith, cases_eq, from_even, to_even, from_odd, to_odd)
-
-and_joined : (a b c d e : Bool) → (b && c) ≡ (d && e) → (a && b && c) ≡ (a && d && e)
-and_joined a b c d e h6 = grind arith
+bounds_of p x z i two = grind (arith, cases_eq, to_even, from_odd, to_odd)
 
 pub class_of_rect : (rows : List ℕ) (word p q x y z v : ℕ) → p < 2 → q < 2 → ((i : ℕ) → i < 32 → bit word i ≡ (nat_le (starts p x) i && nat_lt i (starts p z))) → ((i j : ℕ) → bit (get_or rows j 0) i ≡ (bit word i && nat_le (starts q y) j && nat_lt j (starts q v))) → IsClass rows p q (λ i j. nat_le x i && nat_lt i z && nat_le y j && nat_lt j v)
-class_of_rect rows word p q x y z v p_two q_two is_word is_rows i j in_row in_column = grind (arith, bounds_of, and_joined)
+class_of_rect rows word p q x y z v p_two q_two is_word is_rows i j in_row in_column = grind (arith, bounds_of)
 
 pub rows_more_within : (rows : List ℕ) (j w : ℕ) (test : ℕ → ℕ → Bool) → j < length rows → ((i k : ℕ) → i < 32 → k < j → bit (get_or rows k 0) i ≡ test i k) → ((i : ℕ) → i < 32 → bit w i ≡ test i j) → (i k : ℕ) → i < 32 → k < j + 1 → bit (get_or (set rows j w) k 0) i ≡ test i k
 rows_more_within rows j w test within before here i k in_row below = grind (arith, cases_eq, get_or-set_same, get_or-set_other)

@@ -1,5 +1,5 @@
 -- Counts of a class.
-use Rattle.std.proofs.Common.{◌≡◌, ℕ, ◌+◌, ◌*◌, ◌%◌, ◌^◌, ◌<◌, ◌==◌, Bool, true, false, not, inl, inr, ◌&&◌, if◌then◌else◌, zero, suc, List, [], ◌∷◌, get_or, bit_and, sym, ◌∙◌, ap, ap₂, arith}
+use Rattle.std.proofs.Common.{◌≡◌, ℕ, ◌+◌, ◌*◌, ◌%◌, ◌^◌, ◌<◌, ◌==◌, Bool, false, not, inl, inr, ◌&&◌, if◌then◌else◌, zero, suc, List, [], ◌∷◌, get_or, bit_and, sym, ◌∙◌, ap, ap₂, arith}
 use Rattle.std.proofs.lemmas.Bool.{cases_eq, eq-eqb, ne_eqb, and_right}
 use Rattle.std.proofs.lemmas.Nat.{and_le_l}
 use Rattle.bit_tile.specs.Bit.{bit}
@@ -23,15 +23,12 @@ count_as_sum (suc n) p =
     count_below-suc n p
     ∙ (ap (λ m. m + (if p n then 1 else 0)) (count_as_sum n p) ∙ sym (sum_below-suc n (λ k. if p k then 1 else 0)))
 
-both_true : (a b : Bool) → b ≡ true → (a && b) ≡ a
-both_true a b h3 = grind arith
-
 abbrev pub one : Bool → ℕ
 one b = if b then 1 else 0
 
 -- of two neighbors, the one of the parity
 one_of_two : (i k : ℕ) (test : ℕ → Bool) → i < 2 → one (test (2 * k) && 2 * k % 2 == i) + one (test (2 * k + 1) && (2 * k + 1) % 2 == i) ≡ one (test (2 * k + i))
-one_of_two i k test two = grind (arith, bits_cases, both_true, eq-eqb, and_right, ne_eqb)
+one_of_two i k test two = grind (arith, bits_cases, eq-eqb, and_right, ne_eqb)
 
 -- the columns of a parity
 columns_of : (i : ℕ) (test : ℕ → Bool) → i < 2 → count_below 64 (λ x. test x && x % 2 == i) ≡ count_below 32 (λ m. test (2 * m + i))
@@ -42,7 +39,7 @@ columns_of i test two =
 
 -- a row's cells in the columns of a parity, in its own class and in another
 row_here : (test : ℕ → Bool) (i j y : ℕ) → y % 2 ≡ j → count_below 64 (λ x. test x && x % 2 == i && y % 2 == j) ≡ count_below 64 (λ x. test x && x % 2 == i)
-row_here test i j y e = grind (arith, count_below-same, both_true, eq-eqb)
+row_here test i j y e = grind (arith, count_below-same, eq-eqb)
 
 row_elsewhere : (test : ℕ → Bool) (i j y : ℕ) → (y % 2 ≡ j → ⊥) → count_below 64 (λ x. test x && x % 2 == i && y % 2 == j) ≡ 0
 row_elsewhere test i j y e =
