@@ -1,7 +1,6 @@
 -- Sums where there is nothing, and what filling and clearing a rectangle brings in and takes out.
-use Rattle.std.proofs.Common.{◌≡◌, ℕ, ◌+◌, ◌%◌, ◌<◌, Bool, true, false, ◌&&◌, ◌||◌, not, cond, ◌==◌, ℤ, pos, ◌-ℤ◌, ◌*ℤ◌, refl, sym, ap, ap₂, ◌∙◌, arith}
+use Rattle.std.proofs.Common.{◌≡◌, ℕ, ◌+◌, ◌%◌, ◌<◌, Bool, true, false, ◌&&◌, ◌||◌, not, cond, ◌==◌, ℤ, refl, sym, ap, ap₂, ◌∙◌, arith}
 use Rattle.std.proofs.lemmas.Int.{ints}
-use Rattle.gas_terms.specs.Velocity.{sign}
 use Rattle.gas_terms.specs.Cells.{Cells, Rectangle, has, is_inside, lies_within, extent, whole, within, without, filled, cleared, HasEvenSides}
 use Rattle.gas_terms.specs.Accounts.{total, total_in, gained, lost, nothing, plus, minus, parity_count, sums_by_parity}
 use Rattle.gas_terms.specs.declared.accounts.Sums.{Sums}
@@ -24,11 +23,8 @@ parity_count-none cells r a b none =
     (λ i j p q. none_picked (has cells (r.x + i) (r.y + j)) ((r.x + i) % 2 == a) ((r.y + j) % 2 == b) (none i j p q))
     ∙ (sum_below-cong r.h (λ j. sum_below r.w (λ i. 0)) (λ j. 0) (λ j _. sum_below-none r.w) ∙ sum_below-none r.h))
 
-no_momentum : (b : Bool) → sign b *ℤ (pos (0 + 0) -ℤ pos (0 + 0)) ≡ pos 0
-no_momentum b = grind arith
-
 no_sums : (tick : ℤ) (a b c d : ℕ) → a ≡ 0 → b ≡ 0 → c ≡ 0 → d ≡ 0 → sums_by_parity tick a b c d ≡ nothing
-no_sums tick a b c d e f g h = grind (arith, same_counts, same_sums, no_momentum)
+no_sums tick a b c d e f g h = grind (arith, same_counts, same_sums)
 
 -- no cells have no sums
 pub total_in-none : (tick : ℤ) (cells : Cells) (r : Rectangle) → ((i j : ℕ) → i < r.w → j < r.h → has cells (r.x + i) (r.y + j) ≡ false) → total_in tick cells r ≡ nothing

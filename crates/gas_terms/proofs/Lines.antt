@@ -20,10 +20,6 @@ use Rattle.std.proofs.Math.Bool.{and-true, and-false}
 abbrev bit : Bool → ℕ
 bit b = cond b 1 0
 
--- Of the four cells of a block, the two of one line get what the two of the other line had.
-rule_by_line : (a b c d : Bool) → bit (corner_rule false a b c d) + bit (corner_rule false d c b a) ≡ bit c + bit b
-rule_by_line a b c d = grind arith
-
 -- The other coordinate's other coordinate is the first.
 turned_parity : (n p x : ℕ) (t : Bool) → n % 2 ≡ 0 → x < n → has_parity p x ≡ t → has_parity p (along n t x) ≡ not t
 turned_parity n p x true e l q =
@@ -61,7 +57,7 @@ module _ (p : ℕ) (cells walls : Cells) (e : HasEvenSides cells.width cells.hei
       let x' = other_coordinate cells.width p x in
       let y' = other_coordinate cells.height p y in
       bit (has (streamed p cells walls) x' y) + bit (has (streamed p cells walls) x' y') ≡ bit (has cells x y) + bit (has cells x y')
-  block_by_column x y l m = grind (arith, other_below, other_other, cell_in_clear, rule_by_line)
+  block_by_column x y l m = grind (arith, other_below, other_other, cell_in_clear)
 
   -- so does a whole column
   column_moves : (x : ℕ) → p < 2 → x < cells.width →
