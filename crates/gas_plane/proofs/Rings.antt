@@ -10,9 +10,29 @@ use Rattle.tile_border.specs.declared.Round.{Round}
 use Rattle.gas_terms.specs.Cells.{Cells, extent, has, tile_count}
 use Rattle.gas_plane.specs.Tiles.{IsColumnOf}
 use Rattle.gas_plane.specs.declared.around.TileRows.{TileRows}
-use Rattle.gas_plane.specs.Planes.{TilePlaces, IsLattice, IsTileFrom, AreTilesRound, IsRingRound, ArePlacesRound, place_by, column_by, row_by}
+use Rattle.gas_plane.specs.Planes.{IsLattice, IsTileFrom, AreTilesRound, IsRingRound, place_by, column_by, row_by}
 use Rattle.gas_plane.proofs.BareTiles.{by_one, by_two}
 use Rattle.gas_plane.proofs.Places.{IsWholeTiles, wide, high, ring_before, ring_after, ring_in, ring_cases}
+
+-- a column and a row of tiles, and those beside them
+pub record TilePlaces : Type 0 where
+  pub left : ℕ
+  pub column : ℕ
+  pub right : ℕ
+  pub above : ℕ
+  pub row : ℕ
+  pub below : ℕ
+
+-- those that tile i stands in, and those beside them round the torus
+pub record ArePlacesRound (cells : Cells) (i : ℕ) (p : TilePlaces) : Type 0 where
+  pub column : p.column ≡ i % (cells.width / 64)
+  pub row : p.row ≡ i / (cells.width / 64)
+  pub left : p.left ≡ (p.column + cells.width / 64 - 1) % (cells.width / 64)
+  pub right : p.right ≡ (p.column + 1) % (cells.width / 64)
+  pub above : p.above ≡ (p.row + cells.height / 64 - 1) % (cells.height / 64)
+  pub below : p.below ≡ (p.row + 1) % (cells.height / 64)
+  pub columns : (p.column < cells.width / 64) × (p.left < cells.width / 64) × (p.right < cells.width / 64)
+  pub rows : (p.row < cells.height / 64) × (p.above < cells.height / 64) × (p.below < cells.height / 64)
 
 module _ (b : Border) (cells : Cells) (k : ℕ) (p : TilePlaces) (is : IsLattice cells) (places : ArePlacesRound cells k p) where
   across : IsWholeTiles cells.width

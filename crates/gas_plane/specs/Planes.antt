@@ -26,26 +26,6 @@ pub record IsPosition (across : ℕ) (p : Position) : Type 0 where
   pub column : p.column ≡ p.tile % across
   pub row : p.row ≡ p.tile / across
 
--- a column and a row of tiles, and those beside them
-pub record TilePlaces : Type 0 where
-  pub left : ℕ
-  pub column : ℕ
-  pub right : ℕ
-  pub above : ℕ
-  pub row : ℕ
-  pub below : ℕ
-
--- those that tile i stands in, and those beside them round the torus
-pub record ArePlacesRound (cells : Cells) (i : ℕ) (p : TilePlaces) : Type 0 where
-  pub column : p.column ≡ i % (cells.width / 64)
-  pub row : p.row ≡ i / (cells.width / 64)
-  pub left : p.left ≡ (p.column + cells.width / 64 - 1) % (cells.width / 64)
-  pub right : p.right ≡ (p.column + 1) % (cells.width / 64)
-  pub above : p.above ≡ (p.row + cells.height / 64 - 1) % (cells.height / 64)
-  pub below : p.below ≡ (p.row + 1) % (cells.height / 64)
-  pub columns : (p.column < cells.width / 64) × (p.left < cells.width / 64) × (p.right < cells.width / 64)
-  pub rows : (p.row < cells.height / 64) × (p.above < cells.height / 64) × (p.below < cells.height / 64)
-
 -- no cell is in the set
 pub record HasNone (cells : Cells) : Type 0 where
   pub cell : (x y : ℕ) → x < cells.width → y < cells.height → has cells x y ≡ false

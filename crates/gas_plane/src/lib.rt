@@ -9,7 +9,6 @@ ghost use Rattle.gas_terms.specs.Cells.{has, cells_where, extent, tile_count, ti
 ghost use Rattle.gas_plane.specs.Planes.{IsLattice, IsTileFrom, IsBare, IsBareRound, IsBareFarRound, AreThreeBare, HasNone, with_tile};
 ghost use Rattle.gas_plane.specs.Lending.{LendsTile};
 ghost use Rattle.gas_plane.specs.Tiles.{AreTilesInRow};
-ghost use Rattle.gas_plane.specs.Tiles.{AreTilesInRow};
 
 mod around;
 mod circle;
