@@ -55,6 +55,7 @@ class PageCase(unittest.TestCase):
         self.browser.wait("location.href", "about:blank")
         self.browser.navigate(f"{address or self.address}{f'?lesson={lesson}' if lesson else ''}")
         self.browser.wait(READY, True)
+        self.settle()
 
     def value(self, script):
         return self.browser.value(script)

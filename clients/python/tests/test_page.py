@@ -1,6 +1,7 @@
 """The page as one file, in a real browser, from a folder."""
 import json
 import os
+import re
 import shutil
 import subprocess
 import time
@@ -335,6 +336,27 @@ class Style(unittest.TestCase):
     def test_lines_are_short(self):
         for path in (STATIC / "page.css", STATIC / "index.html"):
             self.assertLessEqual(max(map(len, path.read_text("utf-8").splitlines())), 110, path.name)
+
+
+class Once(unittest.TestCase):
+    """What both sides need stands in one file, from which both are made."""
+    def test_colours(self):
+        """They are in gaslab/pictures/colours.json."""
+        for path in (*STATIC.parent.parent.rglob("*.py"), *STATIC.iterdir()):
+            if not path.name.startswith("dygraph"):
+                found = re.findall(r"#(?:[0-9a-fA-F]{3,4}){1,2}\b|\brgba?\(\s*\d", path.read_text("utf-8"))
+                self.assertEqual(found, [], path.name)
+
+    def test_keys(self):
+        """They are in facts.json, by which the keyboard, the help and the buttons' titles go."""
+        known = json.loads((STATIC / "facts.json").read_text("utf-8"))
+        keys = [*known["keys"], *known["always"].values()]
+        names = {part for key in keys for part in (*key["shown"].split(), key["key"])} | set(known["moves"])
+        words = "|".join(re.escape(name) for name in sorted(names) if len(name) > 1)
+        for path in (*STATIC.glob("*.js"), STATIC / "index.html"):
+            if not path.name.startswith("dygraph"):
+                text = re.sub(r"^ *//.*|/\*\*[\s\S]*?\*/", "", path.read_text("utf-8"), flags=re.M)
+                self.assertNotRegex(text, rf"\b({words})\b|\bkey\b(\.toLowerCase\(\))? === [\"']", path.name)
 
 
 class Bundle(unittest.TestCase):

@@ -9,6 +9,8 @@ import subprocess
 import sys
 import unittest
 
+from gaslab.page.one_file import bundle
+
 from .test_lab import ROOT
 
 EXAMPLES = ROOT / "examples"
@@ -21,8 +23,8 @@ OBSTACLES_X = 8  # its place in a LEDGER reply
 
 def run_engine(cases):
     """The replies to each case: width, height, the lines of each session, and a case to start from or -1."""
-    done = subprocess.run([NODE, ROOT / "clients/python/tests/engine.mjs"], input=json.dumps(cases),
-                          stdout=subprocess.PIPE, text=True, check=True)
+    done = subprocess.run([NODE, ROOT / "clients/python/tests/engine.mjs"], stdout=subprocess.PIPE, text=True,
+                          input=json.dumps({"engine": bundle("engine"), "cases": cases}), check=True)
     return json.loads(done.stdout)
 
 

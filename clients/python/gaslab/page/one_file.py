@@ -11,8 +11,6 @@ from ..protocol.commands import COMMANDS
 
 STATIC = Path(__file__).parent / "static"
 MOST = 400_000  # bytes
-_CELLS = ("empty", "particle", "wall", "obstacle", "source", "drain", "hit",
-          "rightDown", "leftDown", "rightUp", "leftUp")  # the page's names of `palette.CELLS`
 _IMPORT = re.compile(r'^import (?:\{ ([^}]+) \} from )?"\./([a-z_]+)\.js";\n', re.M)
 _EXPORT = re.compile(r"^export (?:default )?(async function|function|class|const|let) (\w+)", re.M)
 _RULES = ("default-src 'none'; script-src {scripts}; style-src 'unsafe-inline'; img-src data: blob:; "
@@ -45,8 +43,9 @@ def _text(own: dict[str, tuple[str, str]], more: str, scripts_of: str = "") -> s
             "lessons": ("application/json", _packed(json.loads(read("lessons.json")))), **own}
     hashes = " ".join(f"'sha256-{_hash(script)}'" for script in scripts)
     rules = _RULES.format(scripts=scripts_of + hashes, more=more)
+    sheets = read("dygraph.min.css"), _properties(), read("page.css")
     styles = f'<meta http-equiv="Content-Security-Policy" content="{rules}">\n' + "".join(
-        f"<style>\n{_bare(read(sheet))}</style>\n" for sheet in ("dygraph.min.css", "page.css"))
+        f"<style>\n{_bare(sheet)}</style>\n" for sheet in sheets)
     parts = [f'<script type="{kind}" id="{key}">{_safe(text, kind)}</script>\n'
              for key, (kind, text) in data.items()]
     parts += [f"<script>{_closed(script)}</script>\n" for script in scripts]
@@ -83,17 +82,21 @@ def _taken(found: "re.Match[str]") -> str:
 
 
 def facts() -> dict[str, Any]:
-    """What the page knows: its own facts, with the commands and the colours that the client has too."""
-    known: dict[str, Any] = json.loads(read("facts.json"))
+    """What the page knows: its own facts, with the commands and the colours that the client has too.
+
+    A colour of its tools and icons is a name in `palette.COLOURS`, after an @.
+    """
+    text = re.sub('"@([a-zA-Z]+)"', lambda it: json.dumps(palette.COLOURS[it[1]]), read("facts.json"))
+    known: dict[str, Any] = json.loads(text)
     known["commands"] = {word: [f"{word} {it.words}".rstrip(), it.what] for word, it in COMMANDS.items()
                          if word != "quit"}
-    known["colours"].update(zip(_CELLS, map(_hex, palette.CELLS)))
-    known["ramp"] = [_hex(colour) for colour in palette.RAMP]
-    return known
+    return {**known, "colours": palette.COLOURS, "curves": palette.CURVES, "ramp": palette.SHADES}
 
 
-def _hex(colour: palette.Colour) -> str:
-    return "#%02x%02x%02x" % colour
+def _properties() -> str:
+    """The colours as properties of the style, which names them as the page's scripts do."""
+    colours = {**palette.COLOURS, "ramp": ", ".join(palette.SHADES)}
+    return ":root { " + " ".join(f"--{name}: {colour};" for name, colour in colours.items()) + " }\n"
 
 
 def _packed(known: Any) -> str:

@@ -1,8 +1,10 @@
 """The colours of pictures. Readers who are colour-blind can tell them apart.
 
 They are from the palette of Okabe and Ito, with greys and two light tints. The tests see them as people with
-each of the three common kinds of colour blindness do.
+each of the three common kinds of colour blindness do. colours.json has them, with those of the page.
 """
+import json
+from pathlib import Path
 from typing import Any
 
 import numpy
@@ -13,28 +15,30 @@ Colour = tuple[int, int, int]
 EMPTY, PARTICLE, WALL, OBSTACLE, SOURCE, DRAIN, HIT = range(7)
 RIGHT_DOWN, LEFT_DOWN, RIGHT_UP, LEFT_UP = range(7, 11)
 
-CELLS: tuple[Colour, ...] = (
-    (255, 255, 255),  # empty: white
-    (0, 114, 178),    # particle: blue
-    (70, 70, 70),     # wall: dark grey
-    (213, 94, 0),     # obstacle: vermilion
-    (140, 210, 170),  # empty cell of a source: light green
-    (215, 140, 195),  # empty cell of a drain: light purple
-    (240, 228, 66),   # particle on a wall or an obstacle: yellow
-    (0, 114, 178),    # moves right and down: blue
-    (230, 159, 0),    # moves left and down: orange
-    (86, 180, 233),   # moves right and up: sky blue
-    (0, 0, 0),        # moves left and up: black
-)
+_DATA = json.loads(Path(__file__).with_name("colours.json").read_text("ascii"))
+
+
+def _parts(colour: str) -> Colour:
+    red, green, blue = bytes.fromhex(colour[1:])
+    return red, green, blue
+
+
+COLOURS: dict[str, str] = {**_DATA["page"], **_DATA["cells"]}
+"""Each colour of the page and of cells by its name, as #rrggbb."""
+CURVES: list[str] = _DATA["curves"]
+"""The page's colours of curves."""
+SHADES: list[str] = _DATA["ramp"]
+"""The shades of densities, as #rrggbb, from empty to full, with others between them."""
+CELLS: tuple[Colour, ...] = tuple(map(_parts, _DATA["cells"].values()))
 """The palette of pictures that show each cell: index to colour."""
 
 _FIRST = 7
-RAMP: tuple[Colour, ...] = ((255, 255, 255), (86, 180, 233), (0, 114, 178), (0, 30, 70))
-"""The shades of densities, from empty to full, with others between them."""
+RAMP: tuple[Colour, ...] = tuple(map(_parts, SHADES))
+"""The same shades as numbers."""
 WALL_INSIDE, OBSTACLE_INSIDE = PARTICLE, HIT
 """In `DENSITIES`: the tints inside the outlines of walls and obstacles."""
-_MARKS = {**dict(enumerate(CELLS[:_FIRST])), WALL: (90, 90, 90), WALL_INSIDE: (200, 195, 185),
-          OBSTACLE_INSIDE: (250, 205, 170), SOURCE: (0, 240, 0), DRAIN: (160, 0, 240)}
+_MARKS = {**dict(enumerate(CELLS[:_FIRST])), **dict(zip(
+    (WALL, WALL_INSIDE, OBSTACLE_INSIDE, SOURCE, DRAIN), map(_parts, _DATA["marks"].values())))}
 _STEPS = numpy.linspace(0, len(RAMP) - 1, 256 - _FIRST)
 _SHADES = numpy.rint([numpy.interp(_STEPS, range(len(RAMP)), part) for part in zip(*RAMP)])
 

@@ -32,10 +32,7 @@ export function form(act, ...children) {
   return h("form", { onsubmit: (e) => { e.preventDefault(); act(); } }, ...children);
 }
 
-box.onclose = () => {
-  opener?.setAttribute("aria-expanded", "false");
-  opener = null;
-};
+box.onclose = () => { opener?.setAttribute("aria-expanded", "false"); opener = null; };
 box.onpointerdown = ({ target, clientX: x, clientY: y }) => {
   const { left, right, top, bottom } = box.getBoundingClientRect();
   if (target === box && (x < left || x > right || y < top || y > bottom)) closeDialog();

@@ -31,7 +31,7 @@ function help() {
     h("span", {}, text)];
   const single = h("input", { type: "checkbox", checked: state.keysOn,
     onchange: () => setKeys(single.checked) });
-  const all = [...ALWAYS, ...KEYS.map(({ shown, words }) => [shown, words]),
+  const all = [...[...Object.values(ALWAYS), ...KEYS].map(({ shown, words }) => [shown, words]),
     ...TOOLS.map(({ key, name }) => [key, name.toLowerCase()])];
   return [h("h2", {}, "Keys"), h("label.switch", {}, single,
     " Single keys act everywhere. Without this they act on the gas alone."),
@@ -67,9 +67,7 @@ function share() {
       () => h("a", { href: "gas.html", download: "gas.html" }).click())]];
 }
 
-function savePlot(id) {
-  plots.picture(id).toBlob((blob) => download(`${id}.png`, blob, "image/png"));
-}
+function savePlot(id) { plots.picture(id).toBlob((blob) => download(`${id}.png`, blob, "image/png")); }
 
 function giveLink(what, token) {
   const { href } = new URL(`/${token}/`, location.href);
@@ -77,7 +75,7 @@ function giveLink(what, token) {
   const copy = async (button) => {
     input.select();
     try { await navigator.clipboard.writeText(href); button.textContent = "Copied"; }
-    catch { button.textContent = "Press Ctrl+C"; }
+    catch { button.textContent = "Copy it by hand"; }
   };
   const row = give(`Link to ${what}`, what === "watch" ? "Who opens it sees this gas, and can change nothing."
     : "Who opens it takes a seat on this gas.", copy, "Copy");

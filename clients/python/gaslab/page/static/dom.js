@@ -1,5 +1,6 @@
 // Elements of the page: found by id, or made from text without markup.
 export const at = (id) => document.getElementById(id);
+export const SANS = getComputedStyle(document.body).fontFamily;
 export const setting = (id) => JSON.parse(at(id)?.textContent ?? "null");
 
 /** An element. `tag` may have classes: "p.task". Strings of `props` are attributes, and so is what has a
@@ -27,8 +28,10 @@ export function icon(shapes) {
   return svg;
 }
 
-/** Text in which what is between backticks is code, as children of `h`. */
-export const words = (text) => text.split("`").map((part, k) => k % 2 ? h("code", {}, part) : part);
+/** Text in which what is between backticks is code, or another element, as children of `h`. */
+export function words(text, tag = "code") {
+  return text.split("`").map((part, k) => k % 2 ? h(tag, {}, part) : part);
+}
 
 /** Writes text that has changed: an element that stays the same costs no layout. */
 export function setText(element, text) { if (element.textContent !== text) element.textContent = text; }

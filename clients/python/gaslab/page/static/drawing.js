@@ -1,10 +1,9 @@
 // What a tool does with a shape on the gas: its preview, its lines, and undo.
-import { toolOf } from "./facts.js";
+import { isRefusal, toolOf } from "./facts.js";
 import { state } from "./state.js";
 import { view } from "./canvas.js";
 import { edits } from "./edits.js";
 import { plots } from "./plots.js";
-import { isRefusal } from "./facts.js";
 import { rectangle, ellipse, stroke, randomGas } from "./shapes.js";
 import { notice } from "./notices.js";
 import { send, pause, isWatching } from "./session.js";
@@ -28,10 +27,8 @@ function rectsOf(cells) {
 export function preview(cells) {
   const tool = toolOf(state.tool), rects = rectsOf(cells), [, y, , h] = rects[0];
   const line = !tool.line ? `row ${y} … row ${y + h - 1}` : rects.length > 1
-    ? `${tool.id}, ${rects.length} rectangles`
-    : lineOf(tool, rects[0]);
-  view.selection = { rects, colour: tool.colour, reach: tool.solid, line };
-  view.redraw();
+    ? `${tool.id}, ${rects.length} rectangles` : lineOf(tool, rects[0]);
+  view.select({ rects, colour: tool.colour, reach: tool.solid, line });
 }
 
 /** Does what the tool does with a gesture through cells. */
@@ -54,10 +51,7 @@ export async function act(cells) {
   showBad(replies.some(isRefusal));
 }
 
-function showBad(isBad) {
-  view.selection = isBad && view.selection ? { ...view.selection, bad: true } : null;
-  view.redraw();
-}
+function showBad(isBad) { view.select(isBad && view.selection ? { ...view.selection, bad: true } : null); }
 
 export function fillAll() {
   const { width, height } = view.picture;
@@ -81,7 +75,5 @@ export async function doTry({ lines, view: rect }) {
   state.change({ tried: true, worked: true });
   if (lines.some((line) => /^(\.goto|step|back)/.test(line))) await pause();
   await send(lines, { isTime: lines.some((line) => line.startsWith("back")) });
-  if (!rect) return;
-  view.fit(rect);
-  view.redraw();
+  if (rect) view.fit(rect);
 }

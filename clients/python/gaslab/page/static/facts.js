@@ -4,18 +4,20 @@ import { setting, say } from "./dom.js";
 
 const facts = setting("facts");
 export const COLOURS = facts.colours;
+export const CURVES = facts.curves;
 export const RAMP = facts.ramp;
 export const ZOOM = facts.zoom;
 export const COMMANDS = facts.commands;
 export const KEYS = facts.keys;
 export const ALWAYS = facts.always;
+export const MOVES = facts.moves;
+export const CURSOR = facts.cursor;
 export const TOOLS = facts.tools;
 export const ICONS = facts.icons;
 export const TRUTH = facts.truth;
 export const toolOf = (id) => TOOLS.find((tool) => tool.id === id);
 
 export const isRefusal = (reply) => /^(NO|ERR|GONE)/.test(reply);
-export const isSide = (n) => n >= 64 && n <= 4096 && n % 64 === 0;
 
 /** A refusal in plain words: what is wrong, and what to do. `size` is [width, height]. */
 export function plainWords(reply, line = "", [width, height] = [64, 64]) {
@@ -24,7 +26,6 @@ export function plainWords(reply, line = "", [width, height] = [64, 64]) {
   const isRow = what === "5" && ["row", "read"].includes(word);
   const text = facts.refusals[isRow ? "5 row" : what] ?? facts.refusals[""];
   const named = { word: word.slice(0, 24), shape: COMMANDS[word]?.[0] ?? "help", width: say(width),
-    height: say(height),
-    last: height - 1, digits: width / 4 };
+    height: say(height), last: height - 1, digits: width / 4 };
   return text.replace(/\{(\w+)\}/g, (_, name) => named[name]);
 }

@@ -13,18 +13,16 @@ const TRAIL = 500;         // cells
 export const INPUTS = 5;   // of a truth table
 
 export const WAYS = [["1 1", "↘", "right and down"], ["-1 1", "↙", "left and down"],
-  ["1 -1", "↗", "right and up"],
-  ["-1 -1", "↖", "left and up"]].map(([id, arrow, name]) => ({ id, arrow, name }));
+  ["1 -1", "↗", "right and up"], ["-1 -1", "↖", "left and up"]];
 export const shot = { way: "1 1" };
-const nameOf = (way) => WAYS.find(({ id }) => id === way.join(" ")).name;
+const nameOf = (way) => WAYS.find(([id]) => id === way.join(" "))[2];
 
 /** Puts a particle of one velocity into a cell, or says why that can't be. A pull along a diagonal is the
     velocity. */
 export async function shoot(cells) {
-  const [x, y] = cells[0], [dx, dy] = [cells.at(-1)[0] - x, cells.at(-1)[1] - y], { tick } = view.picture,
-    rect = [x, y, 1, 1];
-  const way = dx && dy ? [Math.sign(dx), Math.sign(dy)] : shot.way.split(" ").map(Number),
-    [vx, vy] = view.way(x, y);
+  const [x, y] = cells[0], [dx, dy] = [cells.at(-1)[0] - x, cells.at(-1)[1] - y], rect = [x, y, 1, 1];
+  const way = dx && dy ? [Math.sign(dx), Math.sign(dy)] : shot.way.split(" ").map(Number);
+  const { tick } = view.picture, [vx, vy] = view.way(x, y);
   const refused = (text, does) => notice({ title: "Not put", text, does, rect });
   if (view.isSolidAt(x, y)) refused(`The cell ${x} ${y} is solid: a particle would stay in it.`);
   else if (way[0] !== vx || way[1] !== vy) {
@@ -84,10 +82,13 @@ function lose(text) {
 /** Moves the mark with the particle. */
 function followOn() {
   if (!followed) return;
-  const lab = new Lab(fromSnapshot(followed.before)), { gas } = lab, { picture } = view,
-    n = picture.tick - gas.tick;
-  if (gas.width !== picture.width || gas.height !== picture.height) { followed = null; view.trail = [];
-    return; }
+  const lab = new Lab(fromSnapshot(followed.before)), { gas } = lab, { picture } = view;
+  const n = picture.tick - gas.tick;
+  if (gas.width !== picture.width || gas.height !== picture.height) {
+    followed = null;
+    view.trail = [];
+    return;
+  }
   if (Math.abs(n) > FAR) { lose(`Its way is lost: ${Math.abs(n)} steps were made at once.`); return; }
   const cells = cellsOf(lab, followed.cell, n);
   if (cells.length < Math.abs(n)) { lose("It was drained."); return; }
@@ -113,8 +114,8 @@ export function likelyInputs() {
 /** What probes hold after some steps, for each choice of full inputs: rows of [inputs, counts]. In the end
     the gas is as before. Throws an Error in plain words if it can't be had. */
 export async function truthTable(inputs, ticks, outputs) {
-  const { drains, sources } = view.ports, has = inputs.map(([x, y]) => view.has(x, y));
-  if (drains.length + sources.length) throw new Error("A gas with sources or drains can't be stepped back.");
+  const has = inputs.map(([x, y]) => view.has(x, y));
+  if (view.hasPorts) throw new Error("A gas with sources or drains can't be stepped back.");
   await pause();
   const put = (isFull) => inputs.map(([x, y], k) => `${isFull[k] ? "put" : "erase"} ${x} ${y} 1 1`);
   const cases = Array.from({ length: 1 << inputs.length },
@@ -139,8 +140,8 @@ const HAS_RECT = ["put", "erase", "wall", "block", "unwall", "source", "drain", 
 
 /** The lines of a script up to its first step, moved by an offset: { lines }, or { fault } in plain words. */
 export function placed(bytes, [dx, dy], { width, height, tick }) {
-  const read = lessonOf(bytes), inside = ([x, y, w, h]) => x >= 0 && y >= 0 && x + w <= width
-    && y + h <= height;
+  const read = lessonOf(bytes);
+  const inside = ([x, y, w, h]) => x >= 0 && y >= 0 && x + w <= width && y + h <= height;
   if (!read.lines) return { fault: read.fault ?? "This is a snapshot, not a script." };
   if ((dx + tick) & 1 || (dy + tick) & 1)
     return { fault: `At tick ${tick} both numbers must be ${tick & 1 ? "odd" : "even"}: `
@@ -148,8 +149,8 @@ export function placed(bytes, [dx, dy], { width, height, tick }) {
   const end = read.lines.findIndex((line) => /^(step|back)/.test(line)), lines = [];
   for (const line of end < 0 ? read.lines : read.lines.slice(0, end)) {
     const [word, ...words] = line.split(/ +/), n = words.map(Number);
-    const rects = word === "row" ? runs(words[1]).map(([x, w]) => [x, n[0], w, 1]) : HAS_RECT.includes(word)
-      ? [n] : [];
+    const rects = word === "row" ? runs(words[1]).map(([x, w]) => [x, n[0], w, 1])
+      : HAS_RECT.includes(word) ? [n] : [];
     const moved = rects.map(([x, y, w, h, ...rest]) => [x + dx, y + dy, w, h, ...rest]);
     if (!moved.every(inside)) return { fault: `“${line.slice(0, 40)}” would reach outside the lattice.` };
     lines.push(...moved.map((rect) => `${word === "row" ? "put" : word} ${rect.join(" ")}`));

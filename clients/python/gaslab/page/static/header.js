@@ -1,6 +1,7 @@
 // The header's state, the tabs beside the gas, and choices that the browser remembers.
 import { at, plural } from "./dom.js";
 import { TRUTH } from "./facts.js";
+import { choose, rove } from "./buttons.js";
 import { state } from "./state.js";
 import { plots } from "./plots.js";
 
@@ -21,10 +22,7 @@ function showHeader() {
 
 export function showTab(name) {
   document.body.dataset.tab = name;
-  for (const tab of tabs) {
-    tab.setAttribute("aria-selected", tab.dataset.tab === name);
-    tab.tabIndex = tab.dataset.tab === name ? 0 : -1;
-  }
+  choose(tabs, (tab) => tab.dataset.tab === name, "aria-selected");
   plots.resize();
 }
 
@@ -33,11 +31,7 @@ function remember(name, isOn) {
 }
 
 function remembered(name) { try { return localStorage.getItem(name); } catch { return null; } }
-
-export function setKeys(keysOn) {
-  state.change({ keysOn });
-  remember(KEYS_NAME, keysOn);
-}
+export function setKeys(keysOn) { state.change({ keysOn }); remember(KEYS_NAME, keysOn); }
 
 function setLarge(isLarge) {
   document.documentElement.classList.toggle("large", isLarge);
@@ -47,14 +41,7 @@ function setLarge(isLarge) {
 }
 
 for (const tab of tabs) tab.onclick = () => showTab(tab.dataset.tab);
-document.querySelector(".tabs").onkeydown = (e) => {
-  if (!/^Arrow(Left|Right)$/.test(e.key)) return;
-  e.preventDefault();
-  e.stopPropagation();
-  const other = tabs.find((tab) => tab !== document.activeElement);
-  showTab(other.dataset.tab);
-  other.focus();
-};
+rove(document.querySelector(".tabs"), tabs, true);
 at("larger").onclick = () => setLarge(at("larger").getAttribute("aria-pressed") !== "true");
 state.on(["program", "people", "rights", "seat", "status"], showHeader);
 setLarge(remembered(LARGE_NAME) === "true");

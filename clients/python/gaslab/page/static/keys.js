@@ -1,45 +1,39 @@
-// The keyboard. Single keys can be turned off.
+// The keyboard. Most keys press a button, whose title names its key. Single keys can be turned off.
 import { at } from "./dom.js";
-import { KEYS, TOOLS } from "./facts.js";
+import { KEYS, ALWAYS, MOVES, TOOLS } from "./facts.js";
 import { state } from "./state.js";
 import { view } from "./canvas.js";
 import { hideNotice } from "./notices.js";
-import { toggle, step, goTo, setSpeed, isTooSoon } from "./time.js";
-import { zoom, fit } from "./viewbar.js";
+import { setSpeed, isTooSoon } from "./time.js";
 import { undo } from "./drawing.js";
 import { cursorKey } from "./cursor.js";
-import { toggleLog } from "./console.js";
 
-const mode = (name) => () => state.change({ mode: name });
-const DOES = {
-  toggle, home: () => goTo(0), slower: () => setSpeed(state.speed - 1),
-    faster: () => setSpeed(state.speed + 1),
-  step: (e) => step(e.shiftKey ? 10 : 1), back: (e) => step(e.shiftKey ? 10 : 1, true),
-  zoomIn: () => zoom(1.5), zoomOut: () => zoom(1 / 1.5), fit: () => fit(),
-  particles: mode("particles"), velocity: mode("velocity"), density: mode("density"),
-  entry: () => at("entry").focus(), console: () => toggleLog(),
-  lessons: () => at("lessons-open").click(), help: () => at("help-open").click(),
-};
+const DOES = { slower: () => setSpeed(state.speed - 1), faster: () => setSpeed(state.speed + 1),
+  entry: () => at("entry").focus() };
 
 /** What a key does, or nothing. */
-function doesOf(e) {
-  const name = e.key.length === 1 ? e.key.toLowerCase() : e.key, { target } = e;
-  if (target.matches("input[type=range]") && /^(Arrow|Home)/.test(name)) return null;
-  if (name === " " && target.matches("button, summary") && target !== at("play")) return null;
-  const known = KEYS.find(({ key }) => key === (name === "=" ? "+" : name));
-  const tool = TOOLS.find(({ key }) => key.toLowerCase() === name);
-  return known ? DOES[known.does] : tool ? () => state.change({ tool: tool.id }) : null;
+function doesOf({ key, target, shiftKey }) {
+  const name = key.length === 1 ? key.toLowerCase() : key;
+  const known = KEYS.find((it) => it.key === name || it.also === name), button = at(known?.button);
+  const tool = TOOLS.find((it) => it.key.toLowerCase() === name);
+  if (known?.slides && target.matches("input[type=range]")) return null;
+  if (known?.presses && target.matches("button, summary") && target !== button) return null;
+  if (button) return () => button.dispatchEvent(new MouseEvent("click", { shiftKey }));
+  return known ? DOES[known.does] : tool && (() => state.change({ tool: tool.id }));
 }
 
 document.addEventListener("keydown", (e) => {
   const isTyping = e.target.matches("input:not([type=range]):not([type=checkbox]), select, textarea");
   if (isTyping || at("popover").open) return;
-  if ((e.ctrlKey || e.metaKey) && e.key.toLowerCase() === "z") { e.preventDefault(); undo(); return; }
-  if (e.ctrlKey || e.metaKey || e.altKey || !view.picture) return;
+  const isHeld = e.ctrlKey || e.metaKey;
+  if (isHeld && e.key.toLowerCase() === ALWAYS.undo.key) { e.preventDefault(); undo(); return; }
+  if (isHeld || e.altKey || !view.picture) return;
   if (e.target === view.canvas && cursorKey(e)) { e.preventDefault(); return; }
-  if (e.key === "Escape") { hideNotice(); view.selection = null; view.redraw(); return; }
+  if (e.key === ALWAYS.leave.key) { hideNotice(); view.select(); return; }
   const does = state.keysOn || e.target === view.canvas ? doesOf(e) : null;
   if (!does) return;
   e.preventDefault();
-  if (!(e.repeat && e.key.startsWith("Arrow") && isTooSoon())) does(e);
+  if (!(e.repeat && MOVES[e.key] && isTooSoon())) does();
 });
+
+for (const { button, shown, words } of KEYS) if (button) at(button).title = `${words} (${shown})`;

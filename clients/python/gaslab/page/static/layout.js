@@ -10,13 +10,9 @@ export const LAYOUT = {
   "head": [
     ["kind", "u8"], ["flags", "u8"], ["player", "u16"], ["width", "u16"], ["height", "u16"], ["tick", "i64"],
     ["number", "u32"], ["journal", "u32"], ["steps", "u32"], ["rate", "u16"], ["probes", "u16"],
-    ["tally", "i64", 3], ["ledger", "i64", 13]
-  ],
+    ["tally", "i64", 3], ["ledger", "i64", 13]],
   "probe": [["key", "u16"], ["rect", "u16", 4], ["zero", "u16"], ["sums", "i64", 3]],
   "fileHead": [["kind", "u8"], ["zero", "u8"], ["length", "u16"], ["line", "u32"]],
-  "ledger": [
-    "start", "injected", "drained",
-    "start_x", "injected_x", "drained_x", "walls_x", "obstacles_x",
-    "start_y", "injected_y", "drained_y", "walls_y", "obstacles_y"
-  ]
+  "ledger": ["start", "injected", "drained", "start_x", "injected_x", "drained_x", "walls_x", "obstacles_x",
+    "start_y", "injected_y", "drained_y", "walls_y", "obstacles_y"]
 };

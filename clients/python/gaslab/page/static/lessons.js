@@ -8,8 +8,7 @@ const data = setting("lessons");
 export const LESSONS = data.lessons;
 export const SCENES = data.scenes;
 export const EMPTY = { id: "empty", name: "Empty lattice", about: "A size of your own", size: [64, 64],
-  setup: [],
-  mode: "particles", speed: 4, tool: "put", plots: ["count"], tries: [],
+  setup: [], mode: "particles", speed: 4, tool: "put", plots: ["count"], tries: [],
   text: ["An empty lattice. Put particles in, draw walls, and press play."] };
 
 /** What stands beside a gas that another seat opened, before this page came or after. */

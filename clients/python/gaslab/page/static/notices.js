@@ -27,9 +27,7 @@ function place(box, rect) {
 
 export function hideNotice() {
   at("callout").hidden = true;
-  if (!view.selection?.bad) return;
-  view.selection = null;
-  view.redraw();
+  if (view.selection?.bad) view.select();
 }
 
 export function banner(text, does = [], isBad = false) {

@@ -2,13 +2,13 @@
 import { at } from "./dom.js";
 import { plainWords, isRefusal } from "./facts.js";
 import { EMPTY, find } from "./lessons.js";
-import { state, SPEEDS } from "./state.js";
+import { state } from "./state.js";
 import { view } from "./canvas.js";
 import { edits } from "./edits.js";
 import { keepForReload, takeKept, lessonOf } from "./keep.js";
 import { notice, banner, hideBanner, speak } from "./notices.js";
 import { note } from "./log.js";
-import { send } from "./session.js";
+import { play, send } from "./session.js";
 import { pickFile } from "./share.js";
 
 const asked = new URLSearchParams(location.search);
@@ -41,37 +41,32 @@ export async function load(lesson, size = lesson.size) {
   if (bad) { notice({ title: `${lesson.name} was not opened`, text: plainWords(bad[1]) }); return; }
   state.change({ speed: lesson.speed });               // pictures of the gas before may have come meanwhile
   offerOld();
-  const [steps, rate] = SPEEDS[state.speed];
-  if (lesson.play && !matchMedia("(prefers-reduced-motion: reduce)").matches)
-    await send([`.play ${steps} ${rate}`]);
+  if (lesson.play && !matchMedia("(prefers-reduced-motion: reduce)").matches) await play();
 }
 
 /** Opens a script or a snapshot that was read and checked whole, beside a lesson's text or its own. A script
     that began from a snapshot asks for that first. */
 export async function openBytes(name, bytes, lesson = null, snapshot = null) {
-  const read = lessonOf(bytes),
-    refused = (text, does) => notice({ title: `${name} was not opened`, text, does });
-  if (read.fault) { refused(read.fault); return; }
-  if (read.isAfterSnapshot && !snapshot) {
-    refused("This script began from a snapshot. Choose that file too.",
-      [["Choose the snapshot", () => pickFile((file) => openBytes(name, bytes, lesson, file.bytes))]]);
-    return;
-  }
+  const read = lessonOf(bytes);
+  const refused = (text, does) => notice({ title: `${name} was not opened`, text, does });
+  const choose = () => pickFile((file) => openBytes(name, bytes, lesson, file.bytes));
+  if (read.fault) return refused(read.fault);
+  if (read.isAfterSnapshot && !snapshot)
+    return refused("This script began from a snapshot. Choose that file too.",
+      [["Choose the snapshot", choose]]);
   const start = read.snapshot ?? snapshot, own = lesson ?? { ...EMPTY, id: "own", name, own: true, text: [] };
-  const fault = snapshot && lessonOf(snapshot);
-  if (fault && !fault.snapshot) { refused(fault.fault ?? "This is a script, not a snapshot."); return; }
+  const found = snapshot && lessonOf(snapshot);
+  if (found && !found.snapshot) return refused(found.fault ?? "This is a script, not a snapshot.");
   const bad = await open(own, read.size, [...read.lines ?? [], ...watches(own.probes)], start);
   if (bad) {
-    const place = bad[0] < 0 ? ""
-      : `Line ${read.numbers[bad[0]]} of ${read.count}, “${read.lines[bad[0]].slice(0, 40)}”: `;
+    const [k, reply] = bad, line = read.lines?.[k];
+    const place = k < 0 ? "" : `Line ${read.numbers[k]} of ${read.count}, “${line.slice(0, 40)}”: `;
     if (state.lesson === EMPTY) await load(find("4"));
-    refused(`${place}${plainWords(bad[1], read.lines?.[bad[0]])} Nothing was opened.`);
-    return;
+    return refused(`${place}${plainWords(reply, line)} Nothing was opened.`);
   }
   const [tally] = await state.link.send(["tally"]), tick = tally.split(" ")[1];
-  if (!lesson) state.change({
-    lesson: { ...own, text: [`This gas was opened from a file, at tick ${tick}.`] } });
-  state.change({ worked: true, tried: true });
+  const text = [`This gas was opened from a file, at tick ${tick}.`];
+  state.change({ lesson: lesson ?? { ...own, text }, worked: true, tried: true });
   speak(`${name} was opened at tick ${tick}.`);
   note(`${name}, opened at tick ${tick}`);
   offerOld();
@@ -81,8 +76,7 @@ export async function openBytes(name, bytes, lesson = null, snapshot = null) {
 function offerOld() {
   const { old } = state;
   if (!old.worked) { hideBanner(); return; }
-  const text = `The gas before, of “${old.lesson.name}”, is kept with its journal until another is opened.`;
-  banner(text, [["Bring it back", async () => {
+  const bring = async () => {
     const { lesson, tried, worked } = state;
     state.change({ loading: true });
     const [reply] = await send([".bring"]);
@@ -90,7 +84,9 @@ function offerOld() {
     if (reply !== "DONE") return;
     state.change({ ...old, old: { lesson, tried, worked } });
     hideBanner();
-  }]]);
+  };
+  banner(`The gas before, of “${old.lesson.name}”, is kept with its journal until another is opened.`,
+    [["Bring it back", bring]]);
 }
 
 /** A new gas begins with what was kept over a reload, the page's own script, or a lesson. */

@@ -12,6 +12,7 @@ import "./time.js";
 import "./viewbar.js";
 import "./readings.js";
 import "./toolbar.js";
+import "./console.js";
 import "./pointers.js";
 import "./keys.js";
 import "./lesson.js";

@@ -3,7 +3,7 @@ import { COLOURS, RAMP } from "./facts.js";
 import { h } from "./dom.js";
 
 const rgb = (r, g, b) => (255 << 24 | b << 16 | g << 8 | r) >>> 0;      // as ImageData has it, little-endian
-const parts = (hex) => [1, 3, 5].map((k) => parseInt(hex.slice(k, k + 2), 16));
+export const parts = (hex) => [1, 3, 5].map((k) => parseInt(hex.slice(k, k + 2), 16));
 const C = Object.fromEntries(Object.entries(COLOURS).map(([name, hex]) => [name, rgb(...parts(hex))]));
 const GROUNDS = [C.empty, C.wall, C.obstacle, C.source, C.drain];
 const isSolid = (kind) => kind === 1 || kind === 2;
@@ -62,11 +62,11 @@ export class Painter {
   coarse = new Sheet();
 
   get cells() { return this.full.canvas; }
+  get hasPorts() { return this.ports.drains.length + this.ports.sources.length > 0; }
 
   setPicture(picture) {
-    const resized = !this.picture || this.picture.width !== picture.width
-      || this.picture.height !== picture.height;
-    const { width, height } = picture;
+    const { width, height } = picture, { picture: before } = this;
+    const resized = before?.width !== width || before.height !== height;
     if (resized && !(picture.walls && picture.ports)) throw new RangeError("walls and ports");
     this.picture = picture;
     this.remember(picture, resized);
@@ -86,8 +86,8 @@ export class Painter {
       pixels. */
   remember(p, isOther) {
     const before = this.recent.at(-1);
-    if (isOther || !p.playing || before && p.number < before.number) { this.recent = []; this.isCalm = false;
-      }
+    const isNew = isOther || !p.playing || before && p.number < before.number;
+    if (isNew) { this.recent = []; this.isCalm = false; }
     // one of each, also when pictures are skipped
     const phase = Math.floor(p.tick / Math.max(p.steps, 1)) & 3;
     this.recent = this.recent.filter((r) => r.phase !== phase && p.number - r.number < STALE);
@@ -124,7 +124,6 @@ export class Painter {
 
   /** The way of a particle in a cell at the present tick: [1 right or -1 left, 1 down or -1 up]. */
   way(x, y) { const t = this.parity(); return [(x + t) & 1 ? -1 : 1, (y + t) & 1 ? -1 : 1]; }
-
   isSolidAt(x, y) { return isSolid(this.ground[y * this.picture.width + x]); }
 
   /** What a block does in the next step: empty, passes, collides or bounces. */
@@ -260,8 +259,7 @@ export class Painter {
     for (const { counts } of this.past) for (let k = 0; k < sums.length; k++) sums[k] += counts[k];
     const whole = q * q * this.past.length;
     this.shades = this.range === "middle" ? [.25, .75] : this.range === "full" ? [0, 1]
-      : [extreme(sums, -1), extreme(sums, 1)]
-      .map((sum) => sum / whole);
+      : [extreme(sums, -1), extreme(sums, 1)].map((sum) => sum / whole);
     const [low, high] = this.shades, factor = 255 / ((high - low) * whole || 1);
     for (let k = 0; k < sums.length; k++)
       pixels[k] = SHADES[Math.max(0, Math.min(255, Math.round((sums[k] - low * whole) * factor)))];

@@ -1,15 +1,16 @@
 // The plots: values of each picture by tick, kept in runs, and drawn by dygraphs.
-import { at, h, say, setText } from "./dom.js";
-import { COLOURS } from "./facts.js";
+import { at, h, say, setText, SANS } from "./dom.js";
+import { COLOURS, CURVES, toolOf } from "./facts.js";
 import { LEDGER_NAMES } from "./frame.js";
-import { POP } from "./paint.js";
+import { parts, POP } from "./paint.js";
 
 const WINDOW = 20;         // ticks over which a rate is a mean
 const POINTS = 1500;       // points of a plot before every second one is dropped
 const RECORDS = 20000;     // readings that are kept for a table
 const KEPT = 3;            // runs: the present one, and paler the two before it
 const NOTES = 12;
-const LINES = [COLOURS.particle, "#b45309", "#00674a", "#8e3b7a", "#16202b", "#5a6673", "#a63f00", "#1d5f8a"];
+const LOOK = { connectSeparatedPoints: true, labelsKMB: false, gridLineColor: COLOURS.line, axisLineWidth: 1,
+  axisLineColor: COLOURS.edge, rightGap: 8, xRangePad: 0, highlightCircleSize: 4, interactionModel: {} };
 
 /** Mean of −ρ ln ρ − (1−ρ) ln(1−ρ) over squares of 8 by 8 cells. */
 export function entropy({ width, height, particles }) {
@@ -24,20 +25,18 @@ export function entropy({ width, height, particles }) {
   return sum / (across * height / 8);
 }
 
-/** Each plot: its unit, the greatest value that it can have, and its value in a picture. */
+/** Each plot: its unit, and the greatest value that it can have. */
 const PLOTS = {
   drag: { name: "Drag", unit: "momentum to the right that obstacles take per tick" },
-  flux: { name: "Flux", unit: "mean momentum to the right, per column", value: (p) => p.tally[1] / p.width },
-  count: { name: "Count", unit: "particles in the gas", value: (p) => p.tally[0] },
+  flux: { name: "Flux", unit: "mean momentum to the right, per column" },
+  count: { name: "Count", unit: "particles in the gas" },
   probe: { name: "Probe", most: 1, unit: "share of full cells in each probe" },
-  entropy: { name: "Entropy", most: Math.LN2, unit: "coarse-grained, in squares of 8 by 8 cells, per cell",
-    value: entropy },
+  entropy: { name: "Entropy", most: Math.LN2, unit: "coarse-grained, in squares of 8 by 8 cells, per cell" },
 };
 
 /** The kept values of one plot by tick. Each run, forward or back, has a column of its own for each value. */
 class Series {
   constructor() { this.clear(); }
-
   clear() { this.rows = []; this.names = []; }
 
   /** Takes the columns of old runs out. */
@@ -51,11 +50,9 @@ class Series {
 
   add(tick, column, value) {
     const { rows } = this;
-    let k = this.names.indexOf(column), low = 0, high = rows.length;
+    const low = rows.findLastIndex((row) => row[0] < tick) + 1;
+    let k = this.names.indexOf(column);
     if (k < 0) { k = this.names.push(column) - 1; for (const row of rows) row.push(null); }
-    if (high && rows[high - 1][0] < tick) low = high;
-    while (low < high) { const mid = (low + high) >> 1; if (rows[mid][0] < tick) low = mid + 1;
-      else high = mid; }
     if (rows[low]?.[0] !== tick) rows.splice(low, 0, [tick, ...this.names.map(() => null)]);
     rows[low][k + 1] = value;
     if (rows.length > POINTS) this.rows = halved(rows);
@@ -65,13 +62,16 @@ class Series {
 const halved = (list) => list.filter((_, k) => k % 2 === 0 || k === list.length - 1);
 const runOf = (name) => Number(/run (\d+)/.exec(name)[1]);
 const probeOf = (name) => Number(/^probe (\d+)/.exec(name)?.[1] ?? 0);
-const paler = (hex) => `#${[1, 3, 5].map((k) => parseInt(hex.slice(k, k + 2), 16))
-  .map((v) => Math.round(255 - (255 - v) * .4).toString(16).padStart(2, "0")).join("")}`;
+const paler = (hex) => `rgb(${parts(hex).map((v) => Math.round(255 - (255 - v) * .4)).join()})`;
 
 class Plots {
+  series = Object.fromEntries(Object.keys(PLOTS).map((id) => [id, new Series()]));
+  shown = [];
+  graphs = {};
+  drawn = 0;
+  late = null;
+
   constructor() {
-    Object.assign(this, { series: Object.fromEntries(Object.keys(PLOTS).map((id) => [id, new Series()])),
-      shown: [], graphs: {}, drawn: 0, late: null });
     this.clear();
     document.querySelector("#plots .chips").append(...Object.entries(PLOTS).map(([id, { name, unit }]) =>
       h("button", { "data-plot": id, title: unit, onclick: () => this.toggle(id) }, name)));
@@ -86,8 +86,10 @@ class Plots {
   /** The obstacles' account begins anew. */
   newLedger() { this.recent = []; this.last = null; }
 
-  toggle(id) { this.choose(this.shown.includes(id) ? this.shown.filter((one) => one !== id)
-    : [...this.shown, id]); }
+  toggle(id) {
+    const { shown } = this;
+    this.choose(shown.includes(id) ? shown.filter((one) => one !== id) : [...shown, id]);
+  }
 
   choose(ids) {
     this.shown = Object.keys(PLOTS).filter((id) => ids.includes(id));
@@ -139,15 +141,13 @@ class Plots {
   }
 
   putValues(p) {
-    const drag = this.drag(p), isEntropy = this.shown.includes("entropy");
-    const values = { drag, flux: PLOTS.flux.value(p), count: p.tally[0], entropy: isEntropy ? entropy(p)
-      : null };
-    for (const [id, value] of Object.entries(values)) if (value !== null)
-      this.series[id].add(p.tick, this.column(), value);
+    const values = { drag: this.drag(p), flux: p.tally[1] / p.width, count: p.tally[0],
+      entropy: this.shown.includes("entropy") ? entropy(p) : null };
+    for (const [id, value] of Object.entries(values))
+      if (value !== null) this.series[id].add(p.tick, this.column(), value);
     for (const { key, rect, sums } of p.probes)
       this.series.probe.add(p.tick, this.column(key), sums[0] / (rect[2] * rect[3]));
-    this.records.push({ run: this.run, tick: p.tick, tally: p.tally, ledger: p.ledger, drag,
-      entropy: values.entropy,
+    this.records.push({ ...values, run: this.run, tick: p.tick, tally: p.tally, ledger: p.ledger,
       probes: p.probes });
     if (this.records.length > RECORDS) this.records = halved(this.records);
     this.redraw();
@@ -155,14 +155,14 @@ class Plots {
 
   /** The readings of all pictures as a table of comma-separated values, oldest first. */
   table() {
-    const keys = [...new Set(this.records.flatMap(({ probes }) => probes.map(({ key }) => key)))].sort((a,
-      b) => a - b);
+    const all = this.records.flatMap(({ probes }) => probes.map(({ key }) => key));
+    const keys = [...new Set(all)].sort((a, b) => a - b);
     const head = ["run", "tick", "count", "px", "py", ...LEDGER_NAMES, "drag", "entropy",
       ...keys.flatMap((key) => ["count", "px", "py"].map((name) => `probe_${key}_${name}`))];
-    const rows = this.records.map(({ run, tick, tally, ledger, drag, entropy: e, probes }) =>
-      [run, tick, ...tally, ...ledger,
-      drag ?? "", e ?? "", ...keys.flatMap((key) => probes.find((one) => one.key === key)?.sums
-        ?? ["", "", ""])]);
+    const rows = this.records.map(({ run, tick, tally, ledger, drag, entropy: e, probes }) => {
+      const sums = keys.flatMap((key) => probes.find((one) => one.key === key)?.sums ?? ["", "", ""]);
+      return [run, tick, ...tally, ...ledger, drag ?? "", e ?? "", ...sums];
+    });
     return [head, ...rows].map((row) => row.join(",")).join("\n") + "\n";
   }
 
@@ -193,16 +193,15 @@ class Plots {
   }
 
   drawOne(id) {
-    const box = at(`plot-${id}`), series = this.series[id],
-      number = box.parentElement.querySelector(".number");
+    const box = at(`plot-${id}`), series = this.series[id];
     const value = this.value(series), hasCurve = series.rows.length > 1;
-    setText(number, value === null ? "" : say(value));
+    setText(box.parentElement.querySelector(".number"), value === null ? "" : say(value));
     box.classList.toggle("empty", !hasCurve);
     if (hasCurve) { this.drawCurve(id, box, series); return; }
     this.graphs[id]?.destroy();
     delete this.graphs[id];
-    const hasProbe = this.last?.probes.length > 0;
-    setText(box, id === "probe" && !hasProbe ? "Choose Probe (R) and draw a rectangle."
+    const hasProbe = this.last?.probes.length > 0, { name, key } = toolOf("probe");
+    setText(box, id === "probe" && !hasProbe ? `Choose ${name} (${key}) and draw a rectangle.`
       : "Play, and the curve begins.");
   }
 
@@ -220,22 +219,17 @@ class Plots {
     const valueRange = [min < 0 ? min - room : 0, most ? most * 1.06 : max === min ? 1 : max + room];
     const dateWindow = [rows[0][0], Math.max(rows.at(-1)[0], rows[0][0] + 12)], isWide = max >= 1e5;
     const font = parseFloat(getComputedStyle(document.documentElement).fontSize) * .8;
-    const kept = `${names.join()} ${isWide} ${this.run} ${font}`;
-    if (this.graphs[id]?.kept === kept) {
-      this.graphs[id].updateOptions({ file: rows, valueRange, dateWindow }); return; }
+    const kept = `${names.join()} ${isWide} ${this.run} ${font}`, axisLabelFormatter = (v) => say(v);
+    const ranges = { valueRange, dateWindow };
+    if (this.graphs[id]?.kept === kept) return this.graphs[id].updateOptions({ file: rows, ...ranges });
     this.graphs[id]?.destroy();
     box.textContent = "";
-    this.graphs[id] = new Dygraph(box, rows,
-      { labels: ["tick", ...names], valueRange, dateWindow, connectSeparatedPoints: true,
-      series: Object.fromEntries(names.map((name) => [name, this.look(name)])), legend: names.length > 1
-        ? "always" : "onmouseover",
-      labelsKMB: false, gridLineColor: "#dfe3e8", axisLineColor: "#8a94a0", axisLabelFontSize: font,
-        axisLineWidth: 1,
-      rightGap: 8, xRangePad: 0, highlightCircleSize: 4, interactionModel: {},
-      axes: { x: { axisLabelWidth: 3.8 * font, pixelsPerLabel: 4.3 * font, axisLabelFormatter: (v) => say(v),
-        valueFormatter: (tick) => `tick ${say(tick)}`, ticker: Dygraph.numericLinearTicks },
-      y: { axisLabelWidth: (isWide ? 4.8 : 3.3) * font, pixelsPerLabel: 2.8 * font,
-        axisLabelFormatter: (v) => say(v) } },
+    const x = { axisLabelWidth: 3.8 * font, pixelsPerLabel: 4.3 * font, axisLabelFormatter,
+      valueFormatter: (tick) => `tick ${say(tick)}`, ticker: Dygraph.numericLinearTicks };
+    const y = { axisLabelWidth: (isWide ? 4.8 : 3.3) * font, pixelsPerLabel: 2.8 * font, axisLabelFormatter };
+    this.graphs[id] = new Dygraph(box, rows, { ...LOOK, ...ranges, labels: ["tick", ...names],
+      series: Object.fromEntries(names.map((name) => [name, this.look(name)])), axes: { x, y },
+      legend: names.length > 1 ? "always" : "onmouseover", axisLabelFontSize: font,
       underlayCallback: (c, area, graph) => this.drawNotes(c, area, graph, font) });
     this.graphs[id].kept = kept;
   }
@@ -243,31 +237,26 @@ class Plots {
   /** How a column is drawn: runs back are dashed, runs before the present one paler. */
   look(name) {
     const key = probeOf(name), isBack = name.endsWith("back"), isOld = runOf(name) < this.run;
-    const colour = key ? LINES[(key - 1) % LINES.length] : isBack ? "#a63f00" : LINES[0];
-    return { color: isOld ? paler(colour) : colour, strokeWidth: isOld ? 1.5 : 2.25, strokePattern: isBack
-      ? [6, 3] : null };
+    const colour = key ? CURVES[(key - 1) % CURVES.length] : isBack ? COLOURS.mark : CURVES[0];
+    return { color: isOld ? paler(colour) : colour, strokeWidth: isOld ? 1.5 : 2.25,
+      strokePattern: isBack ? [6, 3] : null };
   }
 
   /** A line and a number for each edit; the list below the plots has their lines. */
   drawNotes(c, area, graph, font) {
     c.save();
-    c.font = `600 ${font}px ${getComputedStyle(document.body).fontFamily}`;
-    c.textBaseline = "top";
+    Object.assign(c, { font: `600 ${font}px ${SANS}`, textBaseline: "top", strokeStyle: COLOURS.mark });
+    c.setLineDash([3, 3]);
     let free = -Infinity;
     this.notes.forEach(({ tick }, k) => {
       const x = graph.toDomXCoord(tick), w = c.measureText(k + 1).width + 4;
       if (x < area.x || x > area.x + area.w) return;
-      c.strokeStyle = "#a63f00";
-      c.setLineDash([3, 3]);
-      c.beginPath();
-      c.moveTo(x, area.y);
-      c.lineTo(x, area.y + area.h);
-      c.stroke();
+      c.stroke(new Path2D(`M${x} ${area.y}v${area.h}`));
       if (x - w / 2 < free) return;
       free = x + w / 2 + 2;
-      c.fillStyle = "#ffffffd9";
+      c.fillStyle = COLOURS.veil;
       c.fillRect(x - w / 2, area.y, w, font + 3);
-      c.fillStyle = "#8a3500";
+      c.fillStyle = COLOURS.markInk;
       c.fillText(k + 1, x - w / 2 + 2, area.y + 2);
     });
     c.restore();
@@ -276,22 +265,21 @@ class Plots {
   /** A plot with its labels, as a canvas. */
   picture(id) {
     const box = at(`plot-${id}`), from = box.getBoundingClientRect(), ratio = 2;
-    const canvas = h("canvas", { width: from.width * ratio, height: (from.height + 26) * ratio }),
-      c = canvas.getContext("2d");
+    const canvas = h("canvas", { width: from.width * ratio, height: (from.height + 26) * ratio });
+    const c = canvas.getContext("2d");
     c.scale(ratio, ratio);
-    c.fillStyle = "#ffffff";
+    c.fillStyle = COLOURS.white;
     c.fillRect(0, 0, from.width, from.height + 26);
-    c.fillStyle = COLOURS.probe;
-    c.font = `600 14px ${getComputedStyle(document.body).fontFamily}`;
+    c.fillStyle = COLOURS.ink;
+    c.font = `600 14px ${SANS}`;
     c.fillText(`${PLOTS[id].name}: ${PLOTS[id].unit}`, 4, 17);
     for (const part of box.querySelectorAll("canvas, .dygraph-axis-label")) {
-      const { left, top, width, height } = part.getBoundingClientRect(),
-        [x, y] = [left - from.left, top - from.top + 26];
+      const { left, top, width, height } = part.getBoundingClientRect();
+      const x = left - from.left, y = top - from.top + 26;
       if (part instanceof HTMLCanvasElement) { c.drawImage(part, x, y, width, height); continue; }
       const { font, textAlign } = getComputedStyle(part);
       Object.assign(c, { font, textBaseline: "middle", textAlign });
-      c.fillText(part.textContent, textAlign === "right" ? x + width : textAlign === "center" ? x + width / 2
-        : x, y + height / 2);
+      c.fillText(part.textContent, x + width * ({ right: 1, center: .5 }[textAlign] ?? 0), y + height / 2);
     }
     return canvas;
   }

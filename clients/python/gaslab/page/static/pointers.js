@@ -27,11 +27,11 @@ canvas.onpointerdown = (e) => {
   if (pointers.size > 1) { startPinch(); return; }
   const cell = cellOf(e), canDraw = state.tool !== "look" && !e.altKey && view.holds(cell) && e.button === 0;
   if (e.button > 1) return;
+  const place = { x: e.clientX, y: e.clientY };
   if (e.pointerType === "touch")
-    gesture = { kind: "wait", cell, x: e.clientX, y: e.clientY, timer: canDraw
-      && setTimeout(() => startDrawing(cell), HOLD) };
+    gesture = { kind: "wait", cell, ...place, timer: canDraw && setTimeout(() => startDrawing(cell), HOLD) };
   else if (canDraw) startDrawing(cell);
-  else { gesture = { kind: "move", x: e.clientX, y: e.clientY }; e.preventDefault(); }
+  else { gesture = { kind: "move", ...place }; e.preventDefault(); }
 };
 
 canvas.onpointermove = (e) => {
@@ -54,7 +54,7 @@ canvas.onpointerup = canvas.onpointercancel = (e) => {
   if (was?.kind === "wait") { clearTimeout(was.timer); describe(was.cell); }
   if (was?.kind !== "draw") return;
   if (e.type === "pointerup") act(was.cells);
-  else dropSelection();
+  else view.select();
 };
 
 canvas.onpointerleave = () => { if (!gesture) showWords(null); };
@@ -64,23 +64,14 @@ canvas.addEventListener("wheel", (e) => {
   e.preventDefault();
   const box = canvas.getBoundingClientRect();
   view.zoom(Math.exp(-e.deltaY * (e.deltaMode ? .05 : .0016)), e.clientX - box.left, e.clientY - box.top);
-  view.redraw();
 }, { passive: false });
 
-function startDrawing(cell) {
-  gesture = { kind: "draw", cells: [cell] };
-  preview(gesture.cells);
-}
-
-function dropSelection() {
-  view.selection = null;
-  view.redraw();
-}
+function startDrawing(cell) { gesture = { kind: "draw", cells: [cell] }; preview(gesture.cells); }
 
 function startPinch() {
   if (gesture?.kind === "wait") clearTimeout(gesture.timer);
   gesture = { kind: "pinch", before: spread() };
-  dropSelection();
+  view.select();
 }
 
 function spread() {
@@ -94,27 +85,25 @@ function pinch() {
   view.zoom(now.far / before.far, now.x, now.y);
   view.pan(now.x - before.x, now.y - before.y);
   gesture.before = now;
-  view.redraw();
 }
 
 /** Moves the gas. A finger on a gas that is seen whole scrolls the page. */
 function move(e) {
   const dx = e.clientX - gesture.x, dy = e.clientY - gesture.y;
   if (e.pointerType === "touch" && view.fitted) scrollBy(0, -dy);
-  else { view.pan(dx, dy); view.redraw(); }
+  else view.pan(dx, dy);
   Object.assign(gesture, { x: e.clientX, y: e.clientY });
 }
 
 /** Says what is in a cell, and what its block does next. */
 function describe([x, y]) {
   if (!view.holds([x, y])) { showWords(null); return; }
-  const { width, height } = view.picture, t = view.parity(), [vx, vy] = view.way(x, y),
-    isFull = view.has(x, y);
-  const kind = KINDS[view.ground[y * width + x]],
-    way = `moves ${vx > 0 ? "right" : "left"} and ${vy > 0 ? "down" : "up"}`;
+  const { width, height } = view.picture, t = view.parity(), [vx, vy] = view.way(x, y);
+  const kind = KINDS[view.ground[y * width + x]];
+  const way = `moves ${vx > 0 ? "right" : "left"} and ${vy > 0 ? "down" : "up"}`;
   const bx = (x - ((x + t) & 1) + width) % width, by = (y - ((y + t) & 1) + height) % height;
-  const held = isFull ? `particle, ${way}` : kind ? "" : state.tool === "put"
-    ? `empty; a particle here ${way}` : "empty";
+  const held = view.has(x, y) ? `particle, ${way}` : kind ? ""
+    : state.tool === "put" ? `empty; a particle here ${way}` : "empty";
   showWords(["Cell ", h("b", {}, `${x} ${y}`), `: ${[kind, held].filter(Boolean).join(", ")}. The block at `,
     h("b", {}, `${bx} ${by}`), ` ${FATES[view.fate(bx, by)]}.`]);
 }

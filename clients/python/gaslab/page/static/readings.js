@@ -13,8 +13,7 @@ const signed = (n) => n > 0 ? `+${say(n)}` : say(n);
 
 for (const name of [...ROWS.map(([it]) => it), "balance"])
   at("ledger").append(h("tr", { className: name === "balance" ? "sum" : "" }, h("th", { scope: "row" }, name),
-    h("td"),
-    h("td"), h("td")));
+    h("td"), h("td"), h("td")));
 
 function showNumbers({ tick, tally }) {
   setText(at("tick"), say(tick));

@@ -1,28 +1,30 @@
 // The server of a page without a network: seats, play and pictures over the engine. It runs in a worker.
-import { Gas, Lab, isSide, toBytes, snapshot, fromSnapshot } from "./engine.js";
-import { encodePicture, encodeFile, NOBODY, UNDRAWN, PROBES } from "./frame.js";
+import { Gas, Lab, LONGEST, toBytes, snapshot, fromSnapshot } from "./engine.js";
+import { encodePicture, encodeFile, isSide, NOBODY, UNDRAWN, PROBES } from "./frame.js";
 
 export class Server {
-  constructor(options) {
-    this.options = options;
-    this.lab = new Lab(new Gas(64, 64), options.cap || 65536);
-    this.pages = new Map(); this.seats = 0;
-    this.play = null; this.number = 0; this.probes = []; this.keys = 0;
-    this.due = 0; this.timer = null; this.dirty = false;
-    this.isNew = true; this.old = null;       // the gas before this one
-    this.start = null; this.name = "";        // the snapshot that it began from, and what the pages call it
-  }
+  pages = new Map();
+  probes = [];
+  seats = this.keys = this.number = this.due = 0;
+  play = this.timer = null;
+  dirty = false;
+  isNew = true;
+  old = null;              // the gas before this one
+  start = null;            // the snapshot that it began from
+  name = "";               // what the pages call it
+
+  constructor({ program, cap }) { Object.assign(this, { program, lab: new Lab(new Gas(64, 64), cap) }); }
 
   /** Adds a page. `send` takes a string or an ArrayBuffer. */
   join(send, rights = "all") {
     const seat = this.seats++;
     const page = { seat, send, rights, undrawn: 0, newest: false, solids: -1, name: "" };
     this.pages.set(seat, page);
-    send(`* hello ${seat} ${rights} ${this.options.program} ${this.lab.cap} ${this.isNew ? "new" : "kept"}`);
+    send(`* hello ${seat} ${rights} ${this.program} ${this.lab.cap} ${this.isNew ? "new" : "kept"}`);
     send(this.opened());
-    for (const other of this.pages.values()) {
-      if (other === page) continue;
-      send(`* seat ${other.seat} came ${other.name}`.trim()); other.send(`* seat ${seat} came`);
+    for (const other of this.pages.values()) if (other !== page) {
+      send(`* seat ${other.seat} came ${other.name}`.trim());
+      other.send(`* seat ${seat} came`);
     }
     this.show();
     return { said: (message) => this.said(page, message), left: () => this.leave(page) };
@@ -37,15 +39,15 @@ export class Server {
   tell(line) { for (const page of this.pages.values()) page.send(line); }
 
   said(page, message) {
-    if (typeof message !== "string") { page.send(`0 ${this.upload(page, new Uint8Array(message))}`); return; }
-    const replies = [];
-    for (const numbered of message.split("\n")) {
-      const cut = numbered.indexOf(" ");
-      const n = cut < 0 ? numbered : numbered.slice(0, cut), line = cut < 0 ? "" : numbered.slice(cut + 1);
-      const reply = line.startsWith(".") ? this.pageWord(page, n, line.split(" ")) : this.command(page, line);
-      if (reply !== null) replies.push(`${n} ${reply}`);
+    if (typeof message !== "string") page.send(`0 ${this.upload(page, new Uint8Array(message))}`);
+    else {
+      const replies = message.split("\n").map((numbered) => {
+        const [, n, line] = /^([^ ]*) ?([^]*)$/.exec(numbered);
+        const reply = line.startsWith(".") ? this.pageWord(page, n, line) : this.command(page, line);
+        return reply === null ? null : `${n} ${reply}`;
+      }).filter((reply) => reply !== null);
+      if (replies.length) page.send(replies.join("\n"));
     }
-    if (replies.length) page.send(replies.join("\n"));
     if (this.dirty) this.show();
   }
 
@@ -62,8 +64,9 @@ export class Server {
     return reply;
   }
 
-  pageWord(page, number, [word, ...rest]) {
-    const n = rest.map(Number);
+  /** The reply to a word of the page, or null. */
+  pageWord(page, number, line) {
+    const [word, ...rest] = line.split(" "), n = rest.map(Number);
     if (word === ".drawn") {
       page.undrawn = Math.max(0, page.undrawn - 1);
       if (page.newest) this.sendTo(page);
@@ -74,100 +77,81 @@ export class Server {
       this.tell(`* seat ${page.seat} name ${page.name}`);
       return "DONE";
     }
-    if (word === ".script") {
-      page.send(encodeFile(number, "gas.txt", new TextEncoder().encode(this.script())));
-      if (this.start) page.send(encodeFile(number, "start.gas", this.start));
-      return "DONE";
-    }
-    if (word === ".snapshot") {
-      page.send(encodeFile(number, "day.gas", snapshot(this.lab.gas)));
-      return "DONE";
-    }
+    const script = [["gas.txt", this.script()], ...this.start ? [["start.gas", this.start]] : []];
+    if (word === ".script") return this.give(page, number, ...script);
+    if (word === ".snapshot") return this.give(page, number, ["day.gas", snapshot(this.lab.gas)]);
     if (page.rights === "watch") return "NO watch";
-    const { lab } = this;
     switch (word) {
-      case ".play": case ".goto": {
-        const [to, steps, rate] = word === ".play" ? [null, ...n] : n;
-        if (!(steps >= 1 && steps <= 4096 && rate >= 1 && rate <= 60)) return "NO speed";
-        const hasPorts = lab.gas.drains.length + lab.gas.sources.length > 0;
-        if (to !== null && to < lab.gas.tick && hasPorts) return "ERR 11 ports";
-        this.play = { seat: page.seat, steps, rate, to };
-        this.tell(`* play ${page.seat} ${steps} ${rate}`);
-        this.due = performance.now(); this.clock();
-        return "DONE";
-      }
+      case ".play": return this.playOn(page, null, ...n);
+      case ".goto": return this.playOn(page, ...n);
       case ".pause": this.pause("asked", page.seat); return "DONE";
-      case ".watch": {
-        if (this.probes.length >= PROBES) return "NO probes";
-        const reply = lab.line(page.seat, ["probe", ...rest].join(" "));
-        if (reply.startsWith("ERR")) return reply;
-        this.probes.push({ key: ++this.keys, rect: n }); this.dirty = true;
-        return `WATCH ${this.keys}`;
-      }
-      case ".unwatch":
-        this.probes = this.probes.filter((p) => p.key !== n[0]);
-        this.dirty = true;
-        return "DONE";
-      case ".open": {
-        if (!isSide(n[0]) || !isSide(n[1])) return "NO size";
-        if (!this.mayOpen(page)) return "NO first";
-        return this.begin(new Gas(n[0], n[1]), { name: rest.slice(2).join(" ") });
-      }
-      case ".fresh": return this.mayOpen(page) ? this.fresh() : "NO first";
-      case ".bring": return this.mayOpen(page) ? this.bring() : "NO first";
+      case ".watch": return this.watch(page, rest);
+      case ".unwatch": return this.unwatch(n[0]);
+      case ".open": return isSide(n[0]) && isSide(n[1])
+        ? this.take(page, { lab: new Lab(new Gas(n[0], n[1]), this.lab.cap), name: rest.slice(2).join(" ") })
+        : "NO size";
+      case ".fresh": return this.fresh(page);
+      case ".bring": return this.old ? this.take(page, this.old) : this.mayNotOpen(page) || "NO old";
     }
     return "NO word";
   }
 
+  /** Sends files, [name, contents] each, that a line of this number asked for. */
+  give(page, number, ...files) {
+    for (const file of files) page.send(encodeFile(number, ...file));
+    return "DONE";
+  }
+
+  playOn({ seat }, to, steps, rate) {
+    const { gas } = this.lab, hasPorts = gas.drains.length + gas.sources.length > 0;
+    if (!(steps >= 1 && steps <= LONGEST && rate >= 1 && rate <= 60)) return "NO speed";
+    if (to !== null && to < gas.tick && hasPorts) return "ERR 11 ports";
+    this.play = { seat, steps, rate, to };
+    this.tell(`* play ${seat} ${steps} ${rate}`);
+    this.due = performance.now();
+    this.clock();
+    return "DONE";
+  }
+
+  watch({ seat }, words) {
+    if (this.probes.length >= PROBES) return "NO probes";
+    const reply = this.lab.line(seat, ["probe", ...words].join(" "));
+    if (reply.startsWith("ERR")) return reply;
+    this.probes.push({ key: ++this.keys, rect: words.map(Number) });
+    this.dirty = true;
+    return `WATCH ${this.keys}`;
+  }
+
+  unwatch(key) {
+    this.probes = this.probes.filter((p) => p.key !== key);
+    this.dirty = true;
+    return "DONE";
+  }
+
   upload(page, bytes) {
-    if (page.rights === "watch") return "NO watch";
     const gas = fromSnapshot(bytes);
-    if (!gas) return "NO snapshot";
-    if (!this.mayOpen(page)) return "NO first";
-    const reply = this.begin(gas, { start: snapshot(gas) });
-    this.show();
-    return reply;
+    if (page.rights === "watch" || !gas) return page.rights === "watch" ? "NO watch" : "NO snapshot";
+    return this.take(page, { lab: new Lab(gas, this.lab.cap), start: snapshot(gas) });
   }
 
   /** Only the first of the seats that may draw opens another gas: the gas is everybody's. */
-  mayOpen(page) {
+  mayNotOpen({ seat }) {
     const seats = [...this.pages.values()].filter((p) => p.rights === "all").map((p) => p.seat);
-    return page.seat === Math.min(...seats);
-  }
-
-  /** Begins a laboratory of a gas, and keeps the one before for `.bring`. */
-  begin(gas, { name = "", start = null, probes = [] }) {
-    if (!this.isNew) this.old = this.present();
-    return this.take({ lab: new Lab(gas, this.lab.cap), probes, name, start });
+    return seat === Math.min(...seats) ? "" : "NO first";
   }
 
   /** The same gas with a new journal and ledger. */
-  fresh() {
-    const { lab: { gas }, name, probes } = this;
-    return this.begin(gas, { name, probes, start: snapshot(gas) });
+  fresh(page) {
+    const { lab: { gas, cap }, name, probes } = this;
+    return this.take(page, { lab: new Lab(gas, cap), name, probes, start: snapshot(gas) });
   }
 
-  present() {
-    const { lab, probes, name, start } = this;
-    return { lab, probes, name, start };
-  }
-
-  opened() {
-    const { gas, journal } = this.lab;
-    return `* open ${gas.width} ${gas.height} ${journal.length} ${this.name}`.trim();
-  }
-
-  /** Brings the gas before back, with its ledger, journal and probes. The present one can then be brought
-      back. */
-  bring() {
-    if (!this.old) return "NO old";
-    const { old } = this;
-    this.old = this.present();
-    return this.take(old);
-  }
-
-  take({ lab, probes, name, start }) {
+  /** Shows another gas with its ledger, journal and probes, and keeps the one before for `.bring`. */
+  take(page, { lab, name = "", start = null, probes = [] }) {
+    const refusal = this.mayNotOpen(page);
+    if (refusal) return refusal;
     this.pause("opened");
+    this.old = this.isNew ? null : { lab: this.lab, probes: this.probes, name: this.name, start: this.start };
     const keys = Math.max(0, ...probes.map((p) => p.key));
     Object.assign(this, { lab, probes, keys, name, start, isNew: false, dirty: true });
     for (const page of this.pages.values()) page.solids = -1;
@@ -175,43 +159,45 @@ export class Server {
     return "DONE";
   }
 
+  opened() {
+    const { gas, journal } = this.lab;
+    return `* open ${gas.width} ${gas.height} ${journal.length} ${this.name}`.trim();
+  }
+
   pause(why, seat = NOBODY) {
     if (!this.play) return;
-    this.play = null; clearTimeout(this.timer); this.dirty = true;
+    this.play = null;
+    this.dirty = true;
+    clearTimeout(this.timer);
     this.tell(`* pause ${seat} ${why}`);
   }
 
+  /** The journal as a script, with steps that follow one another joined. */
   script() {
     const { gas, journal } = this.lab, lines = [`size ${gas.width} ${gas.height}`];
-    if (this.start)
-      lines.unshift("# This began from a snapshot: gaslab-client draw gas.txt --load start.gas");
+    const note = "# This began from a snapshot: gaslab-client draw gas.txt --load start.gas";
+    if (this.start) lines.unshift(note);
     for (const { command } of journal) {
-      const last = lines[lines.length - 1].split(" ");
-      const sum = Number(last[1]) + command.numbers[0];
-      if ((command.kind === "step" || command.kind === "back") && last[0] === command.kind && sum <= 4096)
-        lines[lines.length - 1] = `${command.kind} ${sum}`;
+      const [word, n] = lines.at(-1).split(" "), sum = Number(n) + command.numbers[0];
+      const isJoined = ["step", "back"].includes(word) && word === command.kind && sum <= LONGEST;
+      if (isJoined) lines[lines.length - 1] = `${word} ${sum}`;
       else lines.push(this.lab.text(command));
     }
-    return lines.join("\n") + "\n";
+    return new TextEncoder().encode(lines.join("\n") + "\n");
   }
 
   clock() {
     clearTimeout(this.timer);
-    if (!this.play) return;
-    this.timer = setTimeout(() => this.beat(), Math.max(0, this.due - performance.now()));
+    if (this.play) this.timer = setTimeout(() => this.beat(), Math.max(0, this.due - performance.now()));
   }
 
   beat() {
     const { play, lab } = this;
     if (!play) return;
-    const far = play.to === null ? Infinity : Math.abs(play.to - lab.gas.tick);
-    const n = Math.min(play.steps, far);
-    if (n > 0) {
-      const word = play.to !== null && play.to < lab.gas.tick ? "back" : "step";
-      const reply = lab.line(play.seat, `${word} ${n}`);
-      if (reply.startsWith("ERR")) { this.pause(reply); this.show(); return; }
-    }
-    if (far - n <= 0) this.pause("there");
+    const far = play.to === null ? Infinity : play.to - lab.gas.tick, n = Math.min(play.steps, Math.abs(far));
+    const reply = n > 0 ? lab.line(play.seat, `${far < 0 ? "back" : "step"} ${n}`) : "";
+    if (reply.startsWith("ERR")) this.pause(reply);
+    else if (n === Math.abs(far)) this.pause("there");
     this.show();
     const gap = 1000 / play.rate;
     this.due = Math.max(this.due + gap, performance.now() - gap);
@@ -228,16 +214,13 @@ export class Server {
   }
 
   sendTo(page) {
-    const { lab, play } = this, { gas } = lab;
-    const changed = page.solids !== lab.solidsVersion;
-    page.solids = lab.solidsVersion; page.newest = false; page.undrawn += 1;
-    page.send(encodePicture({ player: play ? play.seat : NOBODY, width: gas.width, height: gas.height,
-      tick: gas.tick, number: this.number, journal: lab.journal.length, steps: play ? play.steps : 0,
-      rate: play ? play.rate : 0, playing: play !== null, mixed: false, tally: gas.sums(),
-      ledger: lab.ledger(),
-      probes: this.probes.map((p) => ({ ...p, sums: gas.sums(p.rect) })),
-      particles: toBytes(gas.particles), walls: changed && toBytes(gas.walls),
-      obstacles: changed && toBytes(gas.obstacles),
-      ports: changed && { drains: gas.drains, sources: gas.sources } }));
+    const { lab, lab: { gas }, play } = this, changed = page.solids !== lab.solidsVersion;
+    const { seat, steps, rate } = play ?? { seat: NOBODY, steps: 0, rate: 0 };
+    Object.assign(page, { solids: lab.solidsVersion, newest: false, undrawn: page.undrawn + 1 });
+    page.send(encodePicture({ player: seat, width: gas.width, height: gas.height, tick: gas.tick,
+      number: this.number, journal: lab.journal.length, steps, rate, playing: play !== null, mixed: false,
+      tally: gas.sums(), ledger: lab.ledger(),
+      probes: this.probes.map((p) => ({ ...p, sums: gas.sums(p.rect) })), particles: toBytes(gas.particles),
+      ...changed && { walls: toBytes(gas.walls), obstacles: toBytes(gas.obstacles), ports: gas } }));
   }
 }

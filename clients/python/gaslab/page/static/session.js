@@ -24,7 +24,7 @@ const events = {
   },
   open(width, height, name) {
     edits.clear();
-    view.selection = null;
+    view.select();
     hideNotice();
     if (keepsPlots) plots.newLedger();
     else plots.clear();
@@ -87,16 +87,13 @@ function take(p) {
   seen.number = p.number;
   fresh = p;
   takePlay(p.playing, p.steps, p.rate);
-  const isResized = view.setPicture(p), { drains, sources } = view.ports,
-    hasPorts = drains.length + sources.length > 0;
+  const isResized = view.setPicture(p), { hasPorts } = view;
   edits.picture(p, view);
   state.change({ picture: p, acted: hasPorts ? p.tick : state.acted, least: Math.min(state.least, p.tick),
     furthest: hasPorts ? 0 : Math.max(state.furthest, p.tick) });
   plots.add(p);
-  if (isResized || view.fitted) {
-    const whole = view.fitted === true || isResized && !state.lesson.view;
-    view.fit(whole ? null : view.fitted || state.lesson.view);
-  }
+  const isWhole = view.fitted === true || isResized && !state.lesson.view;
+  if (isResized || view.fitted) view.fit(isWhole ? null : view.fitted || state.lesson.view);
   view.redraw();
 }
 
@@ -151,12 +148,14 @@ export function isWatching(rect = null) {
 
 /** Shows a refusal where it happened. */
 function refuse(reply, line, where) {
-  if (where.isTime && reply.startsWith("ERR 11")) { state.change({ refusedBack: state.refusedBack + 1 });
-    return; }
+  if (where.isTime && reply.startsWith("ERR 11")) {
+    state.change({ refusedBack: state.refusedBack + 1 });
+    return;
+  }
   const does = { "ERR 10": [["Remove all ports", () => send(["unport"])]],
     "ERR 13": [["Save script and snapshot, go on", () => goOn(where)]] }[reply.slice(0, 6)];
-  const { width = 64, height = 64 } = state.picture ?? {}, shown = line.length > 34 ? `${line.slice(0, 34)}…`
-    : line;
+  const { width = 64, height = 64 } = state.picture ?? {};
+  const shown = line.length > 34 ? `${line.slice(0, 34)}…` : line;
   notice({ title: "Not done", text: plainWords(reply, line, [width, height]), does, rect: where.rect,
     code: line && `${shown}  →  ${reply}` });
 }
@@ -170,14 +169,12 @@ async function goOn({ lines = [], wasPlaying = false }) {
   const [reply] = await send([".fresh"]);
   keepsPlots = false;
   if (isRefusal(reply)) return;
-  const [steps, rate] = SPEEDS[state.speed];
-  await send([...lines, ...wasPlaying ? [`.play ${steps} ${rate}`] : []]);
+  await send([...lines, ...wasPlaying ? [playLine()] : []]);
 }
 
-addEventListener("error", ({ message }) =>
-  banner(`This page has a fault: ${message}. Load it again.`, [], true));
-addEventListener("unhandledrejection",
-  ({ reason }) => banner(`This page has a fault: ${reason}. Load it again.`, [], true));
+const fault = (what) => banner(`This page has a fault: ${what}. Load it again.`, [], true);
+addEventListener("error", ({ message }) => fault(message));
+addEventListener("unhandledrejection", ({ reason }) => fault(reason));
 
 /** Pauses, and waits for the picture that stays. */
 export async function pause() {
@@ -186,7 +183,5 @@ export async function pause() {
     await new Promise((done) => state.addEventListener("changed", done, { once: true }));
 }
 
-export function play() {
-  const [steps, rate] = SPEEDS[state.speed];
-  return send([`.play ${steps} ${rate}`]);
-}
+const playLine = () => `.play ${SPEEDS[state.speed].join(" ")}`;
+export const play = () => send([playLine()]);

@@ -10,18 +10,16 @@ const LOUD = 6000, HELD = 340, SPOKEN = 10000;      // milliseconds
 const NEARLY = .9;         // of a journal
 let loudUntil = 0, steppedAt = 0, spokenAt = 0, isPulled = false;
 
-const hasPorts = () => view.ports.drains.length + view.ports.sources.length > 0;
-
-export function toggle() {
+function toggle() {
   if (isWatching()) return;
   if (state.playing) send([".pause"]);
   else play();
 }
 
-export async function step(n, isBack = false) {
+async function step(n, isBack = false) {
   if (isWatching()) return;
   steppedAt = performance.now();
-  if (isBack && hasPorts()) { refuseBack(); return; }
+  if (isBack && view.hasPorts) { refuseBack(); return; }
   if (state.playing) await state.link.send([".pause"]);
   await send([`${isBack ? "back" : "step"} ${n}`], { isTime: true });
 }
@@ -29,10 +27,10 @@ export async function step(n, isBack = false) {
 /** A held key must not flash. */
 export const isTooSoon = () => performance.now() - steppedAt < HELD;
 
-export function goTo(tick) {
+function goTo(tick) {
   if (isWatching() || !state.picture) return;
   const far = tick - state.picture.tick;
-  if (hasPorts() && far < 0) refuseBack();
+  if (view.hasPorts && far < 0) refuseBack();
   else send([`.goto ${tick} ${Math.max(1, Math.min(4096, Math.ceil(Math.abs(far) / 60)))} 60`],
     { isTime: true });
 }
@@ -52,7 +50,7 @@ function showSpeed() {
 }
 
 function showTime() {
-  const { isOff, picture: p } = state, ports = hasPorts(), word = state.playing ? "Pause" : "Play";
+  const { isOff, picture: p } = state, ports = view.hasPorts, word = state.playing ? "Pause" : "Play";
   if (at("play").textContent !== word) at("play").replaceChildren(icon(ICONS[word.toLowerCase()]), word);
   for (const id of ["play", "step"]) at(id).setAttribute("aria-disabled", isOff);
   for (const id of ["back", "rewind"]) at(id).setAttribute("aria-disabled", isOff || ports);
@@ -71,21 +69,24 @@ function showTime() {
   }
 }
 
+function noWayBack() {
+  const { drains, sources } = view.ports, kinds = [[sources.length, "source"], [drains.length, "drain"]];
+  return `No way back: ${kinds.filter(([n]) => n).map(([n, one]) => plural(n, one)).join(", ")}.`;
+}
+
 /** Why time can't be had, or what is to be known of it: [text, whether ports are the reason]. */
 function reason() {
-  const { picture: p, cap, pace, acted } = state, { drains, sources } = view.ports;
+  const { picture: p, cap, pace, acted } = state;
   if (state.isOff || !p) return ["", false];
-  if (p.journal > NEARLY * cap)
-    return [`The journal is ${p.journal < cap ? "nearly " : ""}full: `
+  if (view.hasPorts && performance.now() < loudUntil) return [noWayBack(), true];
+  if (p.journal > NEARLY * cap) return [`The journal is ${p.journal < cap ? "nearly " : ""}full: `
       + `${say(p.journal)} of ${say(cap)} entries.`, false];
   if (p.playing && pace?.made > 3 && pace.drawn < pace.made * .75)
     return [`Skipping pictures: ${Math.round(pace.drawn)} of ${Math.round(pace.made)} a second are drawn. `
       + "No step is missed.", false];
   if (p.playing && pace?.asked > 10 && pace.steps < pace.asked * .75)
     return [`Asked for ${say(pace.asked)} steps a second, made ${say(Math.round(pace.steps))}.`, false];
-  const ports = [[sources.length, "source"], [drains.length, "drain"]].filter(([n]) => n)
-    .map(([n, one]) => plural(n, one));
-  if (ports.length) return [`No way back: ${ports.join(", ")}.`, true];
+  if (view.hasPorts) return [noWayBack(), true];
   return [p.tick < acted ? `Ports acted until tick ${say(acted)}: this is another past.` : "", false];
 }
 
@@ -100,12 +101,10 @@ function showReason() {
     box.append(h("button", { onclick: () => send(["unport"]) }, "Remove them: ", h("code", {}, "unport")));
 }
 
-at("step").append(icon(ICONS.step));
-at("back").append(icon(ICONS.back));
-at("rewind").append(icon(ICONS.rewind));
+for (const id of ["step", "back", "rewind"]) at(id).append(icon(ICONS[id]));
 at("play").onclick = toggle;
-at("step").onclick = () => step(1);
-at("back").onclick = () => step(1, true);
+at("step").onclick = ({ shiftKey }) => step(shiftKey ? 10 : 1);
+at("back").onclick = ({ shiftKey }) => step(shiftKey ? 10 : 1, true);
 at("rewind").onclick = () => goTo(0);
 at("speed").max = SPEEDS.length - 1;
 at("speed").oninput = () => setSpeed(at("speed").valueAsNumber);
@@ -126,7 +125,7 @@ state.on(["refusedBack"], () => {
   loudUntil = performance.now() + LOUD;
   setTimeout(showTime, LOUD);
   showTime();
-  speak(reason()[0]);
+  speak(noWayBack());
 });
 showSpeed();
 showTime();

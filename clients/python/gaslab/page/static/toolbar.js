@@ -1,14 +1,14 @@
 // The tools, what is chosen beside one, and the line of words below the gas.
 import { at, h, icon } from "./dom.js";
-import { TOOLS, ICONS, toolOf } from "./facts.js";
+import { ALWAYS, TOOLS, ICONS, toolOf } from "./facts.js";
+import { choices, choose, rove } from "./buttons.js";
 import { state } from "./state.js";
 import { view } from "./canvas.js";
 import { edits } from "./edits.js";
 import { options, hasShapes, fillAll, undo } from "./drawing.js";
 import { shot, WAYS } from "./gates.js";
 
-const SHAPES = [["rectangle", "▭"], ["circle", "◯"], ["free", "✎"]],
-  NAMES = { rectangle: "Rectangle", circle: "Circle", free: "Freehand" };
+const SHAPES = [["rectangle", "▭", "Rectangle"], ["circle", "◯", "Circle"], ["free", "✎", "Freehand"]];
 const SNAPS = [[1, "cells"], [2, "2 × 2"], [8, "8 × 8"]];
 const SHARES = [["density", 0, "density"], ["right", -100, "drift →"], ["down", -100, "drift ↓"]];
 const words = h("span.words"), cellWords = h("span.words", { role: "status", hidden: true });
@@ -30,18 +30,6 @@ export function showWords(children, isSpoken = false) {
   else words.replaceChildren(h("b", {}, `${tool.name}.`), ` ${tool.hint}`);
 }
 
-/** Buttons of which one is pressed. */
-function choices(name, all, chosen, choose) {
-  const group = h("span.segments", { role: "group", "aria-label": name });
-  group.append(...all.map(([value, text, label = text]) =>
-    h("button", { "aria-pressed": String(value === chosen()),
-    "aria-label": label, title: label, onclick: () => {
-      choose(value);
-      [...group.children].forEach((b, k) => b.setAttribute("aria-pressed", all[k][0] === value));
-    } }, text)));
-  return group;
-}
-
 function share([name, min, text]) {
   const shown = h("span.value", {}, `${options[name]}%`);
   const input = h("input", { type: "range", min: String(min), max: "100", step: "5",
@@ -51,16 +39,14 @@ function share([name, min, text]) {
 }
 
 function showOptions() {
-  const tool = toolOf(state.tool), choose = (name) => (value) => { options[name] = value; };
+  const tool = toolOf(state.tool), set = (name) => (value) => { options[name] = value; };
   const period = h("input", { type: "number", min: "1", max: "65535", value: String(options.period),
     oninput: () => { options.period = period.valueAsNumber || 1; } });
-  const shapes = SHAPES.map(([id, sign]) => [id, sign, NAMES[id]]),
-    ways = WAYS.map((way) => [way.id, way.arrow, way.name]);
   at("options").replaceChildren(...[
-    hasShapes(tool) && choices("Shape", shapes, () => options.shape, choose("shape")),
-    tool.line && !tool.cell && choices("Snap", SNAPS, () => options.snap, choose("snap")),
+    hasShapes(tool) && choices("Shape", SHAPES, options.shape, set("shape")),
+    tool.line && !tool.cell && choices("Snap", SNAPS, options.snap, set("snap")),
     tool.id === "source" && h("label", {}, "every ", period, " ticks"),
-    tool.id === "shoot" && choices("Way", ways, () => shot.way, (way) => { shot.way = way; }),
+    tool.id === "shoot" && choices("Way", WAYS, shot.way, (way) => { shot.way = way; }),
     ...tool.id === "random" ? [...SHARES.map(share), h("button.plain", { onclick: fillAll }, "Fill all")]
       : [],
   ].filter(Boolean));
@@ -69,11 +55,8 @@ function showOptions() {
 
 function showTool() {
   document.body.dataset.tool = state.tool;
-  for (const button of buttons) {
-    const isOn = button.dataset.tool === state.tool;
-    if (button.dataset.tool) button.setAttribute("aria-pressed", isOn);
-    button.tabIndex = isOn ? 0 : -1;
-  }
+  choose(buttons, ({ dataset }) => dataset.tool === state.tool, "aria-pressed");
+  undoButton.removeAttribute("aria-pressed");
   showOptions();
   showHint();
 }
@@ -86,18 +69,11 @@ function showHint() {
 
 edits.changed = () => {
   undoButton.setAttribute("aria-disabled", edits.list.length === 0);
-  undoButton.title = edits.list.length ? `Undo ${edits.label()} (Ctrl+Z)` : "Undo the last edit (Ctrl+Z)";
+  undoButton.title = `Undo ${edits.label() || "the last edit"} (${ALWAYS.undo.shown})`;
 };
 
 at("tools").append(...buttons);
-at("tools").onkeydown = (e) => {
-  const by = { ArrowDown: 1, ArrowRight: 1, ArrowUp: -1, ArrowLeft: -1 }[e.key];
-  if (!by) return;
-  e.preventDefault();
-  e.stopPropagation();
-  const place = buttons.indexOf(document.activeElement) + by + buttons.length;
-  buttons[place % buttons.length].focus();
-};
+rove(at("tools"), buttons);
 at("hover").replaceChildren(words, cellWords, at("options"));
 state.on(["tool"], showTool);
 state.on(["lesson", "tried"], showHint);

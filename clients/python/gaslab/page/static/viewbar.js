@@ -1,6 +1,7 @@
 // What is shown: particles, velocities or density, zoom, and the key of colours.
 import { at, h, setText } from "./dom.js";
 import { COLOURS, ZOOM } from "./facts.js";
+import { choose, rove } from "./buttons.js";
 import { state } from "./state.js";
 import { view } from "./canvas.js";
 import { plots } from "./plots.js";
@@ -8,25 +9,10 @@ import { plots } from "./plots.js";
 const WAYS = [["rightDown", "↘"], ["leftDown", "↙"], ["rightUp", "↗"], ["leftUp", "↖"]];
 const modes = [...at("modes").children];
 
-export function zoom(factor) {
-  if (!view.picture) return;
-  view.zoom(factor, ...view.middle);
-  view.redraw();
-}
-
-export function fit(rect = null) {
-  view.fit(rect);
-  view.redraw();
-}
-
 function showMode() {
   view.mode = state.mode;
-  for (const button of modes) {
-    const isOn = button.dataset.mode === state.mode;
-    button.setAttribute("aria-checked", isOn);
-    button.tabIndex = isOn ? 0 : -1;
-  }
-  at("density").hidden = state.mode !== "density";
+  choose(modes, ({ id }) => id === state.mode, "aria-checked");
+  at("density-box").hidden = state.mode !== "density";
   view.redraw();
 }
 
@@ -44,29 +30,20 @@ function showKey() {
     at("key").replaceChildren(h("span", {}, low), h("span.ramp"), h("span", {}, high));
     setText(at("density-text"),
       `Squares of ${view.square} by ${view.square} cells${view.isMean ? ", mean of 8 pictures" : ""}`);
-  } else if (view.mode === "velocity" && !hasArrows)
-    at("key").replaceChildren(...WAYS.map(([way, arrow]) =>
+  } else if (view.mode === "velocity" && !hasArrows) at("key").replaceChildren(...WAYS.map(([way, arrow]) =>
       h("span", {}, swatch(`background:${COLOURS[way]}`), arrow)), ...marks);
   else at("key").replaceChildren(...isNear ? marks
-    : [h("span", {}, swatch(`background:${COLOURS.hit};outline:1px solid #8a94a0`), "particle on a wall")]);
+    : [h("span", {}, swatch("background:var(--hit);outline:var(--strong)"), "particle on a wall")]);
 }
 
-for (const button of modes) button.onclick = () => state.change({ mode: button.dataset.mode });
-at("modes").onkeydown = (e) => {
-  const by = { ArrowRight: 1, ArrowLeft: -1 }[e.key];
-  if (!by) return;
-  e.preventDefault();
-  e.stopPropagation();
-  const next = modes[(modes.findIndex((b) => b.dataset.mode === state.mode) + by + 3) % 3];
-  state.change({ mode: next.dataset.mode });
-  next.focus();
-};
+for (const button of modes) button.onclick = () => state.change({ mode: button.id });
+rove(at("modes"), modes, true);
 at("square").onchange = () => { view.square = Number(at("square").value); view.redraw(); };
 at("range").onchange = () => { view.range = at("range").value; view.redraw(); };
 at("mean").onchange = () => { view.isMean = at("mean").checked; view.redraw(); };
-at("zoom-in").onclick = () => zoom(1.5);
-at("zoom-out").onclick = () => zoom(1 / 1.5);
-at("zoom-fit").onclick = () => fit();
+at("zoom-in").onclick = () => view.zoom(1.5, ...view.middle);
+at("zoom-out").onclick = () => view.zoom(1 / 1.5, ...view.middle);
+at("zoom-fit").onclick = () => view.fit();
 state.on(["mode"], showMode);
 view.onDraw = () => { at("square").value = view.square; showKey(); };
 new ResizeObserver(() => {
