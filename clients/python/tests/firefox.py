@@ -19,7 +19,7 @@ _PREFERENCES = {"marionette.port": 0, "browser.shell.checkDefaultBrowser": False
                 "browser.sessionstore.resume_from_crash": False}
 _FAULT = "document.body?.dataset.status === 'gone' ? 1 : 0"
 _KEYS = {"Enter": "\ue007", "Escape": "\ue00c", "ArrowLeft": "\ue012", "ArrowUp": "\ue013",
-         "ArrowRight": "\ue014", "ArrowDown": "\ue015"}
+         "ArrowRight": "\ue014", "ArrowDown": "\ue015", "Home": "\ue011"}
 _HELD = {2: "\ue009", 8: "\ue008"}  # Ctrl and Shift, by the bits of Browser.key
 
 
@@ -41,6 +41,9 @@ class Firefox:
         self._ask("WebDriver:NewSession", capabilities={"alwaysMatch": {}})
         self._ask("WebDriver:SetTimeouts", script=int(1000 * _PATIENCE))
         self.navigate(address)
+
+    def __enter__(self) -> Firefox:
+        return self
 
     def __exit__(self, *_: object) -> None:
         self._socket.close()
