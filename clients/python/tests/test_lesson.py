@@ -29,6 +29,7 @@ def executed(program, room):
 
 
 @unittest.skipIf(os.environ.get("WITHOUT_PANDAS"), "its kernel is another Python, with pandas")
+@unittest.skipIf(os.environ.get("WITHOUT_NOTEBOOK"), "tools/try_client executes it over the program")
 @unittest.skipUnless(importlib.util.find_spec("nbconvert") and importlib.util.find_spec("ipykernel"),
                      "nbconvert or ipykernel is not installed")
 class Executed(unittest.TestCase):
