@@ -7,7 +7,7 @@ ghost use Rattle.block_rule.specs.Around.{twice_momentum};
 ghost use Rattle.block_rule.specs.Lent.{TellsRows};
 ghost use Rattle.block_rule.specs.Classes.{HasAtMost, AreCounts, AreParticlesIn, TellsWords, particles_among};
 
-use crate::walled::{Places, told};
+use crate::walled::{CellMask, bits_from};
 use bit_tile::{Tile, joined};
 use gas_terms::Pair;
 
@@ -39,7 +39,7 @@ pub fn count_class(cells: &[u32; 32], places: &[u32; 32], rows: u32) -> u32
     let mut n = 0;
     for k in 0..4usize {
         let from = k * TOGETHER;
-        if told(rows, from, TOGETHER as u32) != 0 {
+        if bits_from(rows, from, TOGETHER as u32) != 0 {
             n += count_rows(cells, places, from);
         }
     }
@@ -89,12 +89,12 @@ pub fn momentum(counts: Classes, parity: u8) -> Pair
 }
 
 /// Twice the momentum of a tile's particles in these places.
-pub fn momentum_in(tile: &Tile, places: Places<'_>, parity: u8) -> Pair
+pub fn momentum_in(tile: &Tile, places: CellMask<'_>, parity: u8) -> Pair
     requires { parity < 2 }
     ensures { let p = places.entry in TellsRows p.rows (has p.cells.now) →
         result ≡ twice_momentum parity (λ x y. has tile.now x y && has p.cells.now x y) }
 {
-    let Places { cells, rows } = places;
+    let CellMask { cells, rows } = places;
     let counts = Classes {
         even_even: count_class(&tile.even_even, &cells.even_even, rows),
         odd_even: count_class(&tile.odd_even, &cells.odd_even, rows),

@@ -15,7 +15,7 @@ use crate::blocks_in_tile::SetBlocks;
 use crate::collide_odd::{NoBlocks, OddBlocks, OfBoth, OfOne, collide_odd};
 use crate::count::{Classes, count_class, momentum, momentum_in};
 use crate::made::{collide_even, make_even};
-use crate::walled::{Counted, Places};
+use crate::walled::{CellMask, Counted};
 use bit_tile::Tile;
 use gas_terms::{Pair, Took};
 
@@ -142,7 +142,7 @@ fn momentum_by_walls(
     let cells = without(cells_in(walls, parity), obstacles, parity);
     let rows = walls.rows;
     let cells = &cells;
-    momentum_in(tile, Places { cells, rows }, parity)
+    momentum_in(tile, CellMask { cells, rows }, parity)
 }
 
 // These, if they are counted.

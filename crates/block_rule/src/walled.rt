@@ -7,14 +7,14 @@ use bit_tile::Tile;
 
 /// Cells of a tile, and a word that tells in which rows they lie: bit j is 0 only if rows 2 * j and 2 * j + 1 have none.
 #[derive(Clone, Copy)]
-pub struct Places<'a> {
+pub struct CellMask<'a> {
     pub cells: &'a Tile,
     pub rows: u32,
 }
 
 /// What such a word tells of n bits from `from` on: 0 only if there are no cells in their rows.
 #[inline(always)]
-pub fn told(rows: u32, from: usize, n: u32) -> u32
+pub fn bits_from(rows: u32, from: usize, n: u32) -> u32
     requires from { from < 32 }
     requires n { n < 32 }
     ensures { result ≡ 0 → (j : ℕ) → from ≤ j → j < from + n → bit rows j ≡ false }

@@ -5,7 +5,7 @@ ghost use Rattle.std.specs.List.{sum_by};
 ghost use Rattle.claim_desk.specs.Draws.{times, once_below, most_seats};
 
 use crate::draws::Draws;
-use crate::rule::{Apart, DeskRule, Meets, Together};
+use crate::rule::{DeskRule, Draw, JoinSeats, SplitSeat};
 use atomic_table::{Seat, Table};
 pub use std::alloc::AllocError as NoMemory;
 use std::alloc::Global;
@@ -74,7 +74,7 @@ impl Desk {
         let mut list = Vec::with_capacity(alloc, seats as usize)?;
         let (table, mut last) = Table::of_words(alloc, &[0], &(n, seats))?;
         for made in 1..seats {
-            let seat = table.shared.split_seat::<Apart>(&mut last);
+            let seat = table.shared.split_seat::<SplitSeat>(&mut last);
             list.push(DeskSeat::of(seat))?;
         }
         list.push(DeskSeat::of(last))?;
@@ -102,7 +102,7 @@ impl Desk {
         let mut whole = first.into_seat();
         while let Some(next) = seats.pop() {
             let seat = next.into_seat();
-            table.shared.join_seat::<Together>(&mut whole, seat);
+            table.shared.join_seat::<JoinSeats>(&mut whole, seat);
         }
         table.close_with(whole).free();
         limit
@@ -143,7 +143,7 @@ impl DeskSeat {
         if self.ended {
             return None;
         }
-        let found = desk.table.shared.fetch_add::<Meets>(&mut self.seat, 0, 1);
+        let found = desk.table.shared.fetch_add::<Draw>(&mut self.seat, 0, 1);
         if found < u64::from(desk.limit) {
             Some(found as u32)
         } else {

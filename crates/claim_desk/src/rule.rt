@@ -17,18 +17,18 @@ impl TableRule<(), Draws, (u32, u32)> for DeskRule {
 }
 
 /// A draw.
-pub struct Meets;
+pub struct Draw;
 
-impl Play<(), Draws> for Meets {
-    ghost use Rattle.claim_desk.specs.Rule.{Met};
+impl Play<(), Draws> for Draw {
+    ghost use Rattle.claim_desk.specs.Rule.{Drew};
 
-    ghost then = { Met };
+    ghost then = { Drew };
 }
 
 /// A seat beside a seat.
-pub struct Apart;
+pub struct SplitSeat;
 
-impl Split<Draws> for Apart {
+impl Split<Draws> for SplitSeat {
     ghost use Rattle.claim_desk.specs.Draws.{less_one, new_beside};
 
     ghost left = { less_one };
@@ -37,9 +37,9 @@ impl Split<Draws> for Apart {
 }
 
 /// Two seats made one.
-pub struct Together;
+pub struct JoinSeats;
 
-impl Join<Draws> for Together {
+impl Join<Draws> for JoinSeats {
     ghost use Rattle.claim_desk.specs.Draws.{together, spent};
 
     ghost both = { together };

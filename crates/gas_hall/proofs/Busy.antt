@@ -3,7 +3,7 @@ use Rattle.std.proofs.Common.{◌≡◌, ℕ, suc, ◌+◌, ◌≤◌, ◌==◌,
 use Rattle.std.specs.Prelude.{map, reverse}
 use Rattle.std.proofs.lemmas.Bool.Decides.{nat_tests}
 use Rattle.std.proofs.lemmas.List.{reverse-append, length-reverse, reverse-reverse}
-use Rattle.gas_seats.specs.TurnSeats.{SeatView, entries_made}
+use Rattle.gas_seats.specs.TurnSeats.{TurnSeatView, entries_made}
 use Rattle.gas_hall.specs.Busy.{busy, busy_seats}
 
 -- 1 for a seat whose count is another
@@ -69,7 +69,7 @@ busy_turned made xs ys zs back n turned long few again =
     omega (arith, same, few)
 
 -- seats that began without entries, and those that have the same counts as they have now
-pub busy_from_none : (before now after : List SeatView) → All (λ s. entries_made s ≡ 0) before → length before ≡ length now → map entries_made after ≡ map entries_made now
+pub busy_from_none : (before now after : List TurnSeatView) → All (λ s. entries_made s ≡ 0) before → length before ≡ length now → map entries_made after ≡ map entries_made now
     → busy_seats after ≡ busy entries_made before now
 busy_from_none [] [] [] none long same = refl
 busy_from_none [] [] (z ∷ after) none long same = absurd (cc same)

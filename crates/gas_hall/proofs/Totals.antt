@@ -13,7 +13,7 @@ use Rattle.gas_terms.specs.Gas.{Gas}
 use Rattle.gas_terms.specs.Laboratory.{Laboratory, IsPrefix, Applies}
 use Rattle.gas_lab.specs.Labs.{entry_of}
 use Rattle.atomic_table.specs.Seated.{TableId}
-use Rattle.gas_seats.specs.TurnSeats.{SeatView, but_for_seen, entries_made, opening_seat, AsksInTurn}
+use Rattle.gas_seats.specs.TurnSeats.{TurnSeatView, but_for_seen, entries_made, opening_seat, AsksInTurn}
 use Rattle.gas_terms.specs.Laboratory.{made_by}
 use Rattle.gas_seats.proofs.Numbered.{all_of_rule}
 use Rattle.gas_seats.proofs.Prefixes.{goes_on}
@@ -38,7 +38,7 @@ seen_before n seen journal p =
     ap (λ l. length (made_by n l)) p.1 ∙ ap length (filter-append (λ e. eqb e.seat n) seen p.0) ∙ length-append (made_by n seen) (made_by n p.0) in
     omega (arith, parts)
 
-fit_from : (n : ℕ) (xs : List SeatView) (journal : List Entry) → ((i : ℕ) (x : SeatView) → slice_get xs i ≡ Some x → x.number ≡ n + i)
+fit_from : (n : ℕ) (xs : List TurnSeatView) (journal : List Entry) → ((i : ℕ) (x : TurnSeatView) → slice_get xs i ≡ Some x → x.number ≡ n + i)
     → All (λ x. IsPrefix x.seen journal) xs → sum_by entries_made xs ≤ from_on n journal
 fit_from n [] journal numbers seen = omega arith
 fit_from n (x ∷ xs) journal numbers seen =
@@ -51,7 +51,7 @@ fit_from n (x ∷ xs) journal numbers seen =
     omega (arith, own, here, rest, parts, sum)
 
 -- seats that are numbered from 0 made no more entries than the journal has.
-all_fit : (xs : List SeatView) (journal : List Entry) → ((i : ℕ) (x : SeatView) → slice_get xs i ≡ Some x → x.number ≡ i)
+all_fit : (xs : List TurnSeatView) (journal : List Entry) → ((i : ℕ) (x : TurnSeatView) → slice_get xs i ≡ Some x → x.number ≡ i)
     → All (λ x. IsPrefix x.seen journal) xs → sum_by entries_made xs ≤ length journal
 all_fit xs journal numbers seen =
     let most = fit_from 0 xs journal (λ i x is. numbers i x is ∙ omega arith) seen in
@@ -87,7 +87,7 @@ end_has P all left x is have here = subst (All P) (sym is) (longer left have) wh
   longer (z ∷ xs) h = All-cons P z (xs ++ x ∷ []) (h 0 z (omega arith)) (longer xs (λ k d lt. h (suc k) d (omega (arith, lt))))
 
 -- What a seat has seen begins with no less after another command.
-pub all_begin : (seats : List SeatView) (seen now : List Entry) → IsPrefix seen now → All (λ s. IsPrefix s.seen seen) seats → All (λ s. IsPrefix s.seen now) seats
+pub all_begin : (seats : List TurnSeatView) (seen now : List Entry) → IsPrefix seen now → All (λ s. IsPrefix s.seen seen) seats → All (λ s. IsPrefix s.seen now) seats
 all_begin seats seen now more all k d lt = goes_on _ seen now (all k d lt) more
 
 -- lists that are the same under f but for the items at their ends, which are too
@@ -96,31 +96,31 @@ same_at_end f before after left x y is more same =
     ap (map f) more ∙ map-append f left (y ∷ []) ∙ ap (λ z. map f left ++ z ∷ []) same ∙ sym (map-append f left (x ∷ [])) ∙ ap (map f) (sym is)
 
 -- what is the same under f is under what f does not change
-pub numbers_stay : (before after : List SeatView) → map but_for_seen after ≡ map but_for_seen before
-    → ((i : ℕ) (x : SeatView) → slice_get before i ≡ Some x → x.number ≡ i) → (i : ℕ) (x : SeatView) → slice_get after i ≡ Some x → x.number ≡ i
+pub numbers_stay : (before after : List TurnSeatView) → map but_for_seen after ≡ map but_for_seen before
+    → ((i : ℕ) (x : TurnSeatView) → slice_get before i ≡ Some x → x.number ≡ i) → (i : ℕ) (x : TurnSeatView) → slice_get after i ≡ Some x → x.number ≡ i
 numbers_stay before after same numbers i x is =
     let found = item_same but_for_seen after before same i x is in
-    ap (λ (s : SeatView). s.number) found.3 ∙ numbers i found.0 found.2
+    ap (λ (s : TurnSeatView). s.number) found.3 ∙ numbers i found.0 found.2
 
 -- A seat that asks for the ledger sees the journal that it finds, and made no entry.
 ledger_leaves : (lab next : Laboratory) (number : ℕ) (reply : Result Answer Refusal) → Applies lab (entry_of number Ledger) reply next → next ≡ lab
 ledger_leaves lab next number reply (inl h) = h.1
 ledger_leaves lab next number reply (inr h) = h.3
 
-pub made_at_ledger : (old : SeatView) (reply : Result Answer Refusal) (new : SeatView) → AsksInTurn old Ledger reply new → entries_made new ≡ entries_made old
+pub made_at_ledger : (old : TurnSeatView) (reply : Result Answer Refusal) (new : TurnSeatView) → AsksInTurn old Ledger reply new → entries_made new ≡ entries_made old
 made_at_ledger old reply new h =
     let same = ledger_leaves h.0 h.1 old.number reply h.4 in
-    let seen : new.seen ≡ h.0.journal = ap (λ (s : SeatView). s.seen) h.5 ∙ ap (λ (l : Laboratory). l.journal) same in
-    let number : new.number ≡ old.number = ap (λ (s : SeatView). s.number) h.5 in
+    let seen : new.seen ≡ h.0.journal = ap (λ (s : TurnSeatView). s.seen) h.5 ∙ ap (λ (l : Laboratory). l.journal) same in
+    let number : new.number ≡ old.number = ap (λ (s : TurnSeatView). s.number) h.5 in
     ap (λ n. length (made_by n new.seen)) number ∙ ap (λ l. length (made_by old.number l)) seen ∙ ap length h.2.own
 
 -- The seats have seen no more than the last of them, which asked for the ledger: the journal has room for what they made.
-pub room_for_all : (old : SeatView) (reply : Result Answer Refusal) (new : SeatView) → AsksInTurn old Ledger reply new
-    → (seats : List SeatView) → ((i : ℕ) (x : SeatView) → slice_get seats i ≡ Some x → x.number ≡ i) → All (λ s. IsPrefix s.seen new.seen) seats
+pub room_for_all : (old : TurnSeatView) (reply : Result Answer Refusal) (new : TurnSeatView) → AsksInTurn old Ledger reply new
+    → (seats : List TurnSeatView) → ((i : ℕ) (x : TurnSeatView) → slice_get seats i ≡ Some x → x.number ≡ i) → All (λ s. IsPrefix s.seen new.seen) seats
     → (opened : Gas × ℕ) → old.opened ≡ Some opened → sum_by entries_made seats ≤ opened.1
 room_for_all old reply new h seats numbers all opened knows =
     let fit = all_fit seats new.seen numbers all in
-    let seen : new.seen ≡ h.1.journal = ap (λ (s : SeatView). s.seen) h.5 in
+    let seen : new.seen ≡ h.1.journal = ap (λ (s : TurnSeatView). s.seen) h.5 in
     let long = ap length seen in
     let room = h.3.admitted.room in
     let cap : h.1.cap ≡ h.0.cap = ap (λ (l : Laboratory). l.cap) (ledger_leaves h.0 h.1 old.number reply h.4) in
@@ -130,19 +130,19 @@ room_for_all old reply new h seats numbers all opened knows =
     omega (arith, fit, long, room, cap, caps)
 
 -- What the seats opened with stays.
-pub opened_stays : (lab : Laboratory) (before after : List SeatView) → map but_for_seen after ≡ map but_for_seen before
+pub opened_stays : (lab : Laboratory) (before after : List TurnSeatView) → map but_for_seen after ≡ map but_for_seen before
     → All (λ s. s.opened ≡ Some (lab.start, lab.cap)) before → All (λ s. s.opened ≡ Some (lab.start, lab.cap)) after
 opened_stays lab before after same all =
-    all_same (λ (s : SeatView). s.opened) (Some (lab.start, lab.cap)) after before (same_through (λ (s : SeatView). s.opened) but_for_seen (λ s. refl) after before same) all
+    all_same (λ (s : TurnSeatView). s.opened) (Some (lab.start, lab.cap)) after before (same_through (λ (s : TurnSeatView). s.opened) but_for_seen (λ s. refl) after before same) all
 
 -- No seat has made an entry when a hall opens.
-pub none_made : (hall : TableId) (lab : Laboratory) (count : ℕ) (before : List SeatView) → length before ≡ count
+pub none_made : (hall : TableId) (lab : Laboratory) (count : ℕ) (before : List TurnSeatView) → length before ≡ count
     → ((i : ℕ) → i < count → slice_get before i ≡ Some (opening_seat hall lab i)) → All (λ s. entries_made s ≡ 0) before
 none_made hall lab count before long opened =
-    all_of_rule (λ (s : SeatView). entries_made s ≡ 0) (opening_seat hall lab) before (λ i. refl) (λ i below. opened i (omega (arith, below, long)))
+    all_of_rule (λ (s : TurnSeatView). entries_made s ≡ 0) (opening_seat hall lab) before (λ i. refl) (λ i below. opened i (omega (arith, below, long)))
 
 -- the sum is that of the same counts
-pub same_sum : (before after : List SeatView) → map entries_made after ≡ map entries_made before → sum_by entries_made after ≡ sum_by entries_made before
+pub same_sum : (before after : List TurnSeatView) → map entries_made after ≡ map entries_made before → sum_by entries_made after ≡ sum_by entries_made before
 same_sum [] [] same = refl
 same_sum [] (y ∷ after) same = absurd (cc same)
 same_sum (x ∷ before) [] same = absurd (cc same)
@@ -155,19 +155,19 @@ same_sum (x ∷ before) (y ∷ after) same =
     omega (arith, first, others, here, there)
 
 -- Seats that were served bear the numbers that they opened with.
-pub numbers_kept : (hall : TableId) (lab : Laboratory) (count : ℕ) (now before : List SeatView) → map but_for_seen now ≡ map but_for_seen before
+pub numbers_kept : (hall : TableId) (lab : Laboratory) (count : ℕ) (now before : List TurnSeatView) → map but_for_seen now ≡ map but_for_seen before
     → length before ≡ count → ((i : ℕ) → i < count → slice_get before i ≡ Some (opening_seat hall lab i))
-    → (i : ℕ) (seat : SeatView) → slice_get now i ≡ Some seat → seat.number ≡ i
+    → (i : ℕ) (seat : TurnSeatView) → slice_get now i ≡ Some seat → seat.number ≡ i
 numbers_kept hall lab count now before same long opened i seat is =
     let found = item_same but_for_seen now before same i seat is in
     let at = opened i (let below = found.1 in omega (arith, below, long)) in
     let both : found.0 ≡ opening_seat hall lab i = (let one = sym found.2 ∙ at in cc one) in
-    ap (λ (s : SeatView). s.number) (found.3 ∙ ap but_for_seen both)
+    ap (λ (s : TurnSeatView). s.number) (found.3 ∙ ap but_for_seen both)
 
 -- and they know the laboratory that they opened with
-pub opened_kept : (hall : TableId) (lab : Laboratory) (count : ℕ) (now before : List SeatView) → map but_for_seen now ≡ map but_for_seen before
+pub opened_kept : (hall : TableId) (lab : Laboratory) (count : ℕ) (now before : List TurnSeatView) → map but_for_seen now ≡ map but_for_seen before
     → length before ≡ count → ((i : ℕ) → i < count → slice_get before i ≡ Some (opening_seat hall lab i))
     → All (λ s. s.opened ≡ Some (lab.start, lab.cap)) now
 opened_kept hall lab count now before same long opened =
-    all_same (λ (s : SeatView). s.opened) (Some (lab.start, lab.cap)) now before (same_through (λ (s : SeatView). s.opened) but_for_seen (λ s. refl) now before same)
-    (all_of_rule (λ (s : SeatView). s.opened ≡ Some (lab.start, lab.cap)) (opening_seat hall lab) before (λ i. refl) (λ i below. opened i (omega (arith, below, long))))
+    all_same (λ (s : TurnSeatView). s.opened) (Some (lab.start, lab.cap)) now before (same_through (λ (s : TurnSeatView). s.opened) but_for_seen (λ s. refl) now before same)
+    (all_of_rule (λ (s : TurnSeatView). s.opened ≡ Some (lab.start, lab.cap)) (opening_seat hall lab) before (λ i. refl) (λ i below. opened i (omega (arith, below, long))))

@@ -4,7 +4,7 @@ ghost use Rattle.std.specs.Prelude.{◌≡◌, ℕ, ◌+◌, ◌<◌, ◌≤◌,
 ghost use Rattle.gas_terms.specs.Gas.{Gas};
 ghost use Rattle.gas_terms.specs.Laboratory.{IsPrefix};
 ghost use Rattle.gas_seats.specs.Seats.{most_seats};
-ghost use Rattle.gas_seats.specs.TurnSeats.{SeatView, but_for_seen, entries_made, made_in_all};
+ghost use Rattle.gas_seats.specs.TurnSeats.{TurnSeatView, but_for_seen, entries_made, made_in_all};
 ghost use Rattle.gas_hall.specs.Busy.{busy_seats};
 
 use crate::serving::{Lobby, TurnServed, serve_turn};
@@ -47,7 +47,7 @@ fn meet_each<S: Stepper, R>(
 fn meet_all<S: Stepper, R: Wait>(rt: &R, hall: &TurnHall<S>, seats: &mut Vec<TurnSeat<S>>)
     requires some { 0 < vec_len seats.old }
     requires here { All (λ seat. seat.hall ≡ hall.now) seats.old.items }
-    requires numbers { (i : ℕ) (seat : SeatView)
+    requires numbers { (i : ℕ) (seat : TurnSeatView)
         → slice_get seats.old.items i ≡ Some seat → seat.number ≡ i }
     ensures all { vec_len seats.new ≡ vec_len seats.old }
     ensures seats { map but_for_seen seats.new.items ≡ map but_for_seen seats.old.items }
@@ -81,7 +81,7 @@ pub fn serve_lab<S: Stepper + Send, L: Lobby, K: Shelf + Drop + Send, R: Threads
     ensures count { IfSome result (λ served. served.done + served.failed ≡ vec_len shelves) }
     ensures busy { IfSome result (λ served. busy_seats served.seats.items ≤ served.done) }
     ensures all { IfSome result (λ served. vec_len served.seats ≡ vec_len shelves) }
-    ensures numbers { IfSome result (λ served. (i : ℕ) (seat : SeatView)
+    ensures numbers { IfSome result (λ served. (i : ℕ) (seat : TurnSeatView)
         → slice_get served.seats.items i ≡ Some seat → seat.number ≡ i) }
     ensures opened { IfSome result (λ served.
         All (λ seat. seat.opened ≡ Some (lab.start, lab.cap)) served.seats.items) }

@@ -5,7 +5,7 @@ ghost use Rattle.std.specs.List.{sum_by};
 ghost use Rattle.gas_terms.specs.Laboratory.{most_entries, IsPrefix};
 ghost use Rattle.gas_terms.specs.declared.command.Entry.{Entry};
 ghost use Rattle.gas_seats.specs.Seats.{most_seats};
-ghost use Rattle.gas_seats.specs.TurnSeats.{SeatView, but_for_seen, entries_made, made_in_all};
+ghost use Rattle.gas_seats.specs.TurnSeats.{TurnSeatView, but_for_seen, entries_made, made_in_all};
 ghost use Rattle.gas_hall.specs.Busy.{busy};
 
 use gas_lab::Stepper;
@@ -372,7 +372,7 @@ pub fn serve_turn<S: Stepper + Send, L: Lobby, K: Shelf + Drop + Send, R: Thread
     ensures busy { busy entries_made seats.items result.seats.items ≤ result.done }
     ensures all { vec_len result.seats ≡ vec_len seats }
     ensures seats { map but_for_seen result.seats.items ≡ map but_for_seen seats.items }
-    ensures seen { (i : ℕ) (old new : SeatView) → slice_get seats.items i ≡ Some old
+    ensures seen { (i : ℕ) (old new : TurnSeatView) → slice_get seats.items i ≡ Some old
         → slice_get result.seats.items i ≡ Some new → IsPrefix old.seen new.seen }
     ensures here { All (λ seat. seat.hall ≡ hall.now) result.seats.items }
     ensures entries { result.entries ≡ made_in_all result.seats.items }

@@ -5,14 +5,14 @@ ghost use Rattle.gas_ledger.specs.PortLists.{no_ports, with_port, has_all, has_p
 
 use crate::port::{Full, Port, Source};
 use gas_terms::{MOST_PORTS, Rect};
-use phase_step::{Few, any_area};
+use phase_step::{PortArray, any_area};
 use std::marker::Model;
 
 /// At most `MOST_PORTS` drains and as many sources, in the order in which they were added.
 #[derive(Drop)]
 pub struct Ports {
-    drains: Few<Rect>,
-    sources: Few<Source>,
+    drains: PortArray<Rect>,
+    sources: PortArray<Source>,
 }
 
 impl Model for Ports {
@@ -32,8 +32,8 @@ impl Ports {
     {
         let area = any_area();
         Ports {
-            drains: Few::none(area),
-            sources: Few::none(Source { area, period: 1 }),
+            drains: PortArray::none(area),
+            sources: PortArray::none(Source { area, period: 1 }),
         }
     }
 
@@ -105,17 +105,17 @@ impl Ports {
     }
 
     /// The rectangles of the drains in a list of their own.
-    pub(crate) fn drain_areas(&self) -> Few<Rect>
+    pub(crate) fn drain_areas(&self) -> PortArray<Rect>
         ensures { result ≡ self.now.drains }
     {
         self.drains.copy()
     }
 
     /// The rectangles of the sources that are due at the tick.
-    pub(crate) fn due(&self, tick: i64) -> Few<Rect>
+    pub(crate) fn due(&self, tick: i64) -> PortArray<Rect>
         ensures { result ≡ due_areas tick self.now.sources }
     {
-        let mut due = Few::none(any_area());
+        let mut due = PortArray::none(any_area());
         for source in self.sources() {
             if is_due(tick, source.period) {
                 due.push(source.area);

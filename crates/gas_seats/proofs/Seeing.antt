@@ -6,14 +6,14 @@ use Rattle.gas_terms.specs.declared.command.Command.{Command}
 use Rattle.gas_terms.specs.declared.answer.Answer.{Answer}
 use Rattle.gas_terms.specs.declared.refusal.Refusal.{Refusal}
 use Rattle.gas_lab.specs.declared.door.Copied.{Copied}
-use Rattle.gas_seats.specs.TurnSeats.{SeatView, AsksInTurn, CopiesInTurn}
+use Rattle.gas_seats.specs.TurnSeats.{TurnSeatView, AsksInTurn, CopiesInTurn}
 use Rattle.gas_seats.proofs.Events.{applies_extends}
 use Rattle.gas_seats.proofs.Prefixes.{goes_on}
 
-pub asked_sees_on : (old : SeatView) (command : Command) (reply : Result Answer Refusal) (new : SeatView) → AsksInTurn old command reply new → IsPrefix old.seen new.seen
+pub asked_sees_on : (old : TurnSeatView) (command : Command) (reply : Result Answer Refusal) (new : TurnSeatView) → AsksInTurn old command reply new → IsPrefix old.seen new.seen
 asked_sees_on old command reply new h =
     let grown = applies_extends h.0 old.number command reply h.1 h.4 in
     goes_on old.seen h.0.journal new.seen h.2.begins (grown.added, ap (λ s. s.seen) h.5 ∙ grown.journal)
 
-pub copied_sees_on : (old : SeatView) (copied : Result Copied NoMemory) (new : SeatView) → CopiesInTurn old copied new → IsPrefix old.seen new.seen
+pub copied_sees_on : (old : TurnSeatView) (copied : Result Copied NoMemory) (new : TurnSeatView) → CopiesInTurn old copied new → IsPrefix old.seen new.seen
 copied_sees_on old copied new h = subst (λ l. IsPrefix old.seen l) (sym (ap (λ s. s.seen) h.3)) h.1.begins

@@ -3,7 +3,7 @@ use Rattle.std.proofs.Common.{◌≡◌, ℕ, suc, ◌+◌, ◌≤◌, Bool, tru
 use Rattle.std.specs.declared.alloc.AllocError.{AllocError as NoMemory}
 use Rattle.std.proofs.lemmas.List.Elements.{filter-append}
 use Rattle.std.proofs.lemmas.List.Filters.{length-filter_both}
-use Rattle.turn_lock.specs.Doors.{DoorView, Follows}
+use Rattle.ticket_lock.specs.Doors.{DoorView, Follows}
 use Rattle.gas_terms.specs.Cells.{Extent, extent}
 use Rattle.gas_terms.specs.Gas.{Gas}
 use Rattle.gas_terms.specs.Laboratory.{Laboratory, IsSound, Applies}
@@ -14,7 +14,7 @@ use Rattle.gas_terms.specs.declared.refusal.Refusal.{Refusal}
 use Rattle.gas_lab.specs.declared.door.Copied.{Copied}
 use Rattle.gas_lab.specs.Copying.{Copies}
 use Rattle.gas_seats.specs.Seats.{taken}
-use Rattle.gas_seats.specs.TurnSeats.{SeatView, Continues, AsksInTurn, CopiesInTurn}
+use Rattle.gas_seats.specs.TurnSeats.{TurnSeatView, Continues, AsksInTurn, CopiesInTurn}
 use Rattle.gas_terms.specs.Laboratory.{made_by}
 use Rattle.gas_seats.proofs.Events.{applies_extends}
 
@@ -41,7 +41,7 @@ made_more number seen before after added same more own =
     ∙ λ i. length (same i) + length (all_made number added own i)))
 
 -- the view of a seat with this door
-abbrev pub seat_of : DoorView Entry (Gas × ℕ) → ℕ → Extent → SeatView
+abbrev pub seat_of : DoorView Entry (Gas × ℕ) → ℕ → Extent → TurnSeatView
 seat_of d number size = record { hall = d.lock; number = number; size = size; opened = d.fixed; seen = d.seen }
 
 -- what a seat's type keeps of its door, its number, its size and what it made
@@ -62,7 +62,7 @@ module _ {X : Type 0} (lab : X → Laboratory) where
     own = subst (λ n. made_by n (lab x).journal ≡ made_by n d.seen) same found.own;
   }
 
-  pub asked : (d new : DoorView Entry (Gas × ℕ)) (number made : ℕ) (size : Extent) (x y : X) (command : Command) (reply : Result Answer Refusal) (seat : SeatView)
+  pub asked : (d new : DoorView Entry (Gas × ℕ)) (number made : ℕ) (size : Extent) (x y : X) (command : Command) (reply : Result Answer Refusal) (seat : TurnSeatView)
       → Keeps d number size made → seat_of d number size ≡ seat → IsSound (lab x) → IsSound (lab y) → Found d x
       → Applies (lab x) (record { seat = d.number; command = command }) reply (lab y) → new ≡ record d { seen = (lab y).journal }
       → AsksInTurn seat command reply (seat_of new number size)
@@ -84,7 +84,7 @@ module _ {X : Type 0} (lab : X → Laboratory) where
       subst (λ v. Keeps v number size (made + told)) (sym now)
       (keeps.0, keeps.1, omega (arith, had, one, tell, count), omega (arith, had, one, tell, count, most, few))
 
-  pub copied : (d new : DoorView Entry (Gas × ℕ)) (number made : ℕ) (size : Extent) (x y : X) (copy : Result Copied NoMemory) (seat : SeatView)
+  pub copied : (d new : DoorView Entry (Gas × ℕ)) (number made : ℕ) (size : Extent) (x y : X) (copy : Result Copied NoMemory) (seat : TurnSeatView)
       → Keeps d number size made → seat_of d number size ≡ seat → IsSound (lab x) → Found d x → Copies (lab x) copy (lab y) → y ≡ x
       → new ≡ record d { seen = (lab y).journal } → CopiesInTurn seat copy (seat_of new number size)
   copied d new number made size x y copy seat keeps is sound found copies same now =

@@ -11,8 +11,8 @@ ghost use Rattle.gas_seats.specs.Seats.{most_number};
 use gas_lab::{Copied, Lab, Stepper};
 use gas_ledger::Gas;
 use gas_terms::{Answer, Command, Entry, NoMemory, Refusal};
-use turn_lock::Call;
-use turn_lock::rule::Journaled;
+use ticket_lock::Call;
+use ticket_lock::rule::Journaled;
 
 /// The laboratory that the lock moves from seat to seat. What never changes is the gas that it opened with, and how many
 /// entries its journal may have.

@@ -10,16 +10,16 @@ ghost use Rattle.gas_terms.specs.declared.answer.Answer.{Answer};
 ghost use Rattle.gas_terms.specs.declared.answer.Answer.TheVariants.{Taken};
 ghost use Rattle.gas_terms.specs.declared.refusal.Refusal.{Refusal};
 ghost use Rattle.gas_lab.specs.declared.door.Copied.{Copied};
-ghost use Rattle.gas_seats.specs.TurnSeats.{SeatView, AsksInTurn, CopiesInTurn};
+ghost use Rattle.gas_seats.specs.TurnSeats.{TurnSeatView, AsksInTurn, CopiesInTurn};
 
 /// What a seat has seen begins what it sees after each call; and an entry that was answered `Taken(k)` is entry k of all
 /// that goes on from what its seat then has seen.
 pub fn receipts_hold()
-    ensures asks { (old new : SeatView) (command : Command) (reply : Result Answer Refusal)
+    ensures asks { (old new : TurnSeatView) (command : Command) (reply : Result Answer Refusal)
         → AsksInTurn old command reply new → IsPrefix old.seen new.seen }
-    ensures copies { (old new : SeatView) (copied : Result Copied NoMemory)
+    ensures copies { (old new : TurnSeatView) (copied : Result Copied NoMemory)
         → CopiesInTurn old copied new → IsPrefix old.seen new.seen }
-    ensures entry { (old new : SeatView) (command : Command) (k : ℕ) (later : List Entry)
+    ensures entry { (old new : TurnSeatView) (command : Command) (k : ℕ) (later : List Entry)
         → AsksInTurn old command (Ok (Taken k)) new → IsPrefix new.seen later
         → slice_get later k ≡ Some (record { seat = old.number; command = command }) }
 {}

@@ -6,7 +6,7 @@ ghost use Rattle.gas_terms.specs.Cells.{extent};
 ghost use Rattle.gas_terms.specs.Commands.{fits};
 ghost use Rattle.gas_terms.specs.Laboratory.{most_entries, IsPrefix, made_by};
 ghost use Rattle.gas_seats.specs.Seats.{AreNumbered, most_seats};
-ghost use Rattle.gas_seats.specs.TurnSeats.{SeatView, NoteView, entries_made, opening_seat, AsksInTurn, CopiesInTurn};
+ghost use Rattle.gas_seats.specs.TurnSeats.{TurnSeatView, TurnNoteView, entries_made, opening_seat, AsksInTurn, CopiesInTurn};
 
 use crate::entries::entries_of;
 use crate::in_turn::{Asked, CopyAsked, InTurn};
@@ -15,7 +15,7 @@ use gas_terms::{Answer, Command, NoMemory, Refusal, Size};
 use std::alloc::Global;
 use std::marker::Model;
 use std::sync::Wait;
-use turn_lock::{Door as LockDoor, Note, TurnLock};
+use ticket_lock::{LockDoor, Note, TicketLock};
 
 /// A laboratory whose seats take turns. It can't be closed; a door's `copy_gas` clones its gas.
 ///
@@ -23,7 +23,7 @@ use turn_lock::{Door as LockDoor, Note, TurnLock};
 /// have seen.
 #[derive(Drop)]
 pub struct TurnHall<S: Stepper> {
-    lock: TurnLock<InTurn<S>>,
+    lock: TicketLock<InTurn<S>>,
 }
 
 impl<S: Stepper> Model for TurnHall<S> {
@@ -47,10 +47,10 @@ pub struct TurnSeat<S: Stepper> {
 impl<S: Stepper> Model for TurnSeat<S> {
     ghost use Rattle.std.specs.Prelude.{◌≡◌, ◌≤◌, IfSome, length};
     ghost use Rattle.gas_terms.specs.Cells.{extent};
-    ghost use Rattle.gas_seats.specs.TurnSeats.{SeatView};
+    ghost use Rattle.gas_seats.specs.TurnSeats.{TurnSeatView};
     ghost use Rattle.gas_terms.specs.Laboratory.{most_entries, made_by};
 
-    ghost Value = { SeatView };
+    ghost Value = { TurnSeatView };
 
     ghost view = { λ s. record {
       hall = s.door.lock;
@@ -84,7 +84,7 @@ impl<S: Stepper> TurnSeat<S> {
     fn ask<R: Wait>(
         &mut self,
         rt: &R,
-        lock: &TurnLock<InTurn<S>>,
+        lock: &TicketLock<InTurn<S>>,
         command: Command,
     ) -> Result<Answer, Refusal>
         requires own { self.old.hall ≡ lock.now }
@@ -96,7 +96,11 @@ impl<S: Stepper> TurnSeat<S> {
         reply
     }
 
-    fn copy_gas<R: Wait>(&mut self, rt: &R, lock: &TurnLock<InTurn<S>>) -> Result<Copied, NoMemory>
+    fn copy_gas<R: Wait>(
+        &mut self,
+        rt: &R,
+        lock: &TicketLock<InTurn<S>>,
+    ) -> Result<Copied, NoMemory>
         requires own { self.old.hall ≡ lock.now }
         ensures { CopiesInTurn self.old result self.new }
     {
@@ -111,9 +115,9 @@ pub struct TurnNote<S: Stepper> {
 }
 
 impl<S: Stepper> Model for TurnNote<S> {
-    ghost use Rattle.gas_seats.specs.TurnSeats.{NoteView};
+    ghost use Rattle.gas_seats.specs.TurnSeats.{TurnNoteView};
 
-    ghost Value = { NoteView };
+    ghost Value = { TurnNoteView };
 
     ghost view = { λ n. record { hall = n.note.lock; seen = n.note.seen } };
 }
@@ -137,7 +141,7 @@ impl<S: Stepper> TurnHall<S> {
             return Err(lab);
         };
         let size = lab.size();
-        match TurnLock::open(alloc, InTurn { lab }, seats as u64) {
+        match TicketLock::open(alloc, InTurn { lab }, seats as u64) {
             Ok((lock, doors)) => {
                 for door in doors {
                     let number = all.len() as u16;

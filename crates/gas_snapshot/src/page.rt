@@ -17,12 +17,12 @@ const MOST_BYTES: usize = 22 + MOST_PORTS * (8 + 10);
 
 /// The first bytes of a snapshot.
 #[derive(Drop)]
-pub struct Page {
+pub struct HeadPage {
     bytes: [u8; MOST_BYTES],
     len: usize,
 }
 
-impl Model for Page {
+impl Model for HeadPage {
     ghost use Rattle.std.specs.Prelude.{List, ℕ, take, ◌≤◌};
     ghost use Rattle.gas_snapshot.specs.Spelling.{most_head};
 
@@ -33,11 +33,11 @@ impl Model for Page {
     ghost invariant = { λ p. p.len ≤ most_head };
 }
 
-impl Page {
-    fn empty() -> Page
+impl HeadPage {
+    fn empty() -> HeadPage
         ensures { result ≡ [] }
     {
-        Page {
+        HeadPage {
             bytes: [0; MOST_BYTES],
             len: 0,
         }
@@ -115,13 +115,13 @@ impl Page {
 }
 
 /// The bytes before the cells in the gas's spelling.
-pub fn head_of(gas: &Gas) -> Page
+pub fn head_of(gas: &Gas) -> HeadPage
     ensures { result ≡ head Two gas.now }
 {
     let size = gas.size();
     let drains = gas.ports().drains();
     let sources = gas.ports().sources();
-    let mut page = Page::empty();
+    let mut page = HeadPage::empty();
     page.put_bytes(b"HPPGAS2\n");
     page.put_u16(size.width());
     page.put_u16(size.height());

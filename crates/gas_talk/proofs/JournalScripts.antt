@@ -22,7 +22,7 @@ use Rattle.gas_talk.specs.Ends.{until_end}
 use Rattle.gas_talk.specs.LabTalk.{plain, answered, requested, taken_at, talk}
 use Rattle.gas_talk.specs.Lines.{Item, text, lines}
 use Rattle.gas_talk.specs.Scripts.{script, all_plain, asked_by_script, taken_from, made_alone}
-use Rattle.gas_talk.specs.Talk.{no_put, Turn}
+use Rattle.gas_talk.specs.Talk.{no_put, TalkLine}
 use Rattle.gas_text.specs.Texts.{command_text, IsTyped}
 
 abbrev Typed : Entry → Type 0
@@ -91,18 +91,18 @@ taken_answer lab _ change = refl
 
 -- ---- the talk
 
-abbrev turn_of : ℕ → Entry → Turn
-turn_of k entry = record { item = item_of entry; reply = Answered (Taken k); put = no_put }
+abbrev talk_line_of : ℕ → Entry → TalkLine
+talk_line_of k entry = record { item = item_of entry; reply = Answered (Taken k); put = no_put }
 
-turn_there : (lab : Laboratory) (seat cap : ℕ) (entry : Entry) → is_size (extent lab.start.particles) ≡ true → IsAcceptable lab entry → Typed entry → length lab.journal < cap →
-    taken_at seat (made_alone seat cap lab) (item_of entry) plain ≡ (turn_of (length lab.journal) entry, made_alone seat cap (accepted lab entry))
-turn_there lab seat cap entry sized stands typed room =
+talk_line_there : (lab : Laboratory) (seat cap : ℕ) (entry : Entry) → is_size (extent lab.start.particles) ≡ true → IsAcceptable lab entry → Typed entry → length lab.journal < cap →
+    taken_at seat (made_alone seat cap lab) (item_of entry) plain ≡ (talk_line_of (length lab.journal) entry, made_alone seat cap (accepted lab entry))
+talk_line_there lab seat cap entry sized stands typed room =
     let there = made_alone seat cap lab in
     let here : Entry = record { seat = seat; command = entry.command } in
     let one : Entry → Entry = λ e. record { seat = seat; command = e.command } in
     ap (λ r. requested seat (item_of entry) there r plain) (command_again (extent lab.start.particles) entry.command sized stands.in_order typed)
     ∙ ap (λ why. answered (item_of entry) (judged why (answer there entry.command), cond (is_change entry.command && not (is_some why)) (accepted there here) there)) (no_cause_there lab seat cap entry.command stands.change stands.no_cause room)
-    ∙ rw (stands.change, taken_answer there entry.command stands.change, length-map lab.journal one) (ap (λ j. (turn_of (length lab.journal) entry, record (made_alone seat cap (accepted lab entry)) { journal = j })) (sym (map-append one lab.journal (entry ∷ []))))
+    ∙ rw (stands.change, taken_answer there entry.command stands.change, length-map lab.journal one) (ap (λ j. (talk_line_of (length lab.journal) entry, record (made_alone seat cap (accepted lab entry)) { journal = j })) (sym (map-append one lab.journal (entry ∷ []))))
 
 talk_there : (journal : List Entry) (lab : Laboratory) (seat cap : ℕ) → is_size (extent lab.start.particles) ≡ true → Admits lab journal → All Typed journal → length lab.journal + length journal ≤ cap →
     talk seat (made_alone seat cap lab) (all_plain (map item_of journal)) ≡ (taken_from (length lab.journal) journal, made_alone seat cap (fold accepted lab journal))
@@ -114,9 +114,9 @@ talk_there (entry ∷ journal) lab seat cap sized admits typed room =
     let one_more : length next.journal ≡ k + 1 = length-append lab.journal (entry ∷ []) in
     let first = All-head Typed entry journal typed in
     let others = All-tail Typed entry journal typed in
-    ap (λ turn. (turn.0 ∷ (talk seat turn.1 items).0, (talk seat turn.1 items).1)) (turn_there lab seat cap entry sized admits.0 first (omega (arith, room)))
-    ∙ ap (λ rest. (turn_of k entry ∷ rest.0, rest.1)) (talk_there journal next seat cap sized admits.1 others (omega (arith, room, one_more)))
-    ∙ ap (λ n. (turn_of k entry ∷ taken_from n journal, made_alone seat cap (fold accepted next journal))) one_more
+    ap (λ talk_line. (talk_line.0 ∷ (talk seat talk_line.1 items).0, (talk seat talk_line.1 items).1)) (talk_line_there lab seat cap entry sized admits.0 first (omega (arith, room)))
+    ∙ ap (λ rest. (talk_line_of k entry ∷ rest.0, rest.1)) (talk_there journal next seat cap sized admits.1 others (omega (arith, room, one_more)))
+    ∙ ap (λ n. (talk_line_of k entry ∷ taken_from n journal, made_alone seat cap (fold accepted next journal))) one_more
 
 pub journal_is_script : (lab : Laboratory) → is_size (extent lab.start.particles) ≡ true → IsSound lab → All Typed lab.journal → (seat cap : ℕ) → length lab.journal ≤ cap →
     talk seat (opening lab.start cap) (asked_by_script (extent lab.start.particles) lab.journal) ≡ (taken_from 0 lab.journal, made_alone seat cap lab)

@@ -1,4 +1,4 @@
--- How a session comes on, turn by turn, and what holds at each of its ends.
+-- How a session comes on, line by line, and what holds at each of its ends.
 use Rattle.std.proofs.Common.{◌≡◌, ◌≢◌, ℕ, ◌+◌, true, false, cond, List, [], ◌∷◌, ◌++◌, Option, Some, None, Result, refl, sym, ap, ◌∙◌, subst, inl, inr, append_assoc, append-nil}
 use Rattle.std.proofs.lemmas.Fn.{FoldsTo-push}
 use Rattle.std.proofs.KnownBytes.{Appends-nil, Appends-trans}
@@ -21,39 +21,39 @@ use Rattle.gas_talk.specs.declared.end.SessionEnd.TheVariants.{Quit, WriteFault,
 use Rattle.gas_talk.specs.declared.reader.LineReader.{LineReader}
 use Rattle.gas_talk.specs.Lines.{Item, text, bad, lines}
 use Rattle.gas_talk.specs.Private.{Keeps, EndsWith, Progress, AnswersLines}
-use Rattle.gas_talk.specs.Talk.{Put, no_put, Turn, Takes}
-use Rattle.gas_talk.specs.Ends.{is_quit, until_end, ending, line_of, replies, memory_line, taken_by, failed_by, failures_after, EndsAs, Place, Leads, Serves, IsSession}
+use Rattle.gas_talk.specs.Talk.{Put, no_put, TalkLine, Takes}
+use Rattle.gas_talk.specs.Ends.{is_quit, until_end, ending, line_of, replies, memory_line, bytes_put, failed_by, failures_after, EndsAs, Place, Leads, Serves, IsSession}
 use Rattle.gas_talk.proofs.Cutting.{lines_nil}
 use Rattle.gas_talk.proofs.Sending.{sent_whole}
-use Rattle.gas_talk.proofs.Steps.{items_of_turns, ending-append, until_end-append, items_push, replies_push, shelved_push, failed_push, failures_more, Gains-nil, Gains-trans}
+use Rattle.gas_talk.proofs.Steps.{items_of_talk_lines, ending-append, until_end-append, items_push, replies_push, shelved_push, failed_push, failures_more, Gains-nil, Gains-trans}
 
 module _ {D : Type 0} (size_of : D → Extent) (asks : D → Command → Result Answer Refusal → D → Type 0) (copies : D → Result Copied NoMemory → D → Type 0) where
-  -- one turn, whatever is written
-  pub record IsStep (now : Place D) (turn : Turn) (next : Place D) : Type 0 where
-    pub takes : Takes size_of asks copies now.door turn next.door
-    pub failures : next.failures ≡ failures_after now.failures (failed_by turn.put)
-    pub shelved : Gains now.shelved next.shelved (taken_by turn.put)
+  -- one talk line, whatever is written
+  pub record IsStep (now : Place D) (talk_line : TalkLine) (next : Place D) : Type 0 where
+    pub takes : Takes size_of asks copies now.door talk_line next.door
+    pub failures : next.failures ≡ failures_after now.failures (failed_by talk_line.put)
+    pub shelved : Gains now.shelved next.shelved (bytes_put talk_line.put)
 
   Leads-nil : (old : Place D) → Leads size_of asks copies old [] old
   Leads-nil old = record { talk = refl; failures = refl; shelved = Gains-nil old.shelved }
 
-  Leads-push : (old : Place D) (turns : List Turn) (now : Place D) (turn : Turn) (next : Place D) → Leads size_of asks copies old turns now → IsStep now turn next → Leads size_of asks copies old (turns ++ turn ∷ []) next
-  Leads-push old turns now turn next leads step = record {
-    talk = FoldsTo-push (Takes size_of asks copies) old.door turns now.door turn next.door leads.talk step.takes;
-    failures = step.failures ∙ ap (λ n. failures_after n (failed_by turn.put)) leads.failures ∙ failures_more old.failures _ turn.put ∙ ap (failures_after old.failures) (sym (failed_push turns turn));
-    shelved = subst (Gains old.shelved next.shelved) (sym (shelved_push turns turn)) (Gains-trans old.shelved now.shelved next.shelved _ _ leads.shelved step.shelved);
+  Leads-push : (old : Place D) (talk_lines : List TalkLine) (now : Place D) (talk_line : TalkLine) (next : Place D) → Leads size_of asks copies old talk_lines now → IsStep now talk_line next → Leads size_of asks copies old (talk_lines ++ talk_line ∷ []) next
+  Leads-push old talk_lines now talk_line next leads step = record {
+    talk = FoldsTo-push (Takes size_of asks copies) old.door talk_lines now.door talk_line next.door leads.talk step.takes;
+    failures = step.failures ∙ ap (λ n. failures_after n (failed_by talk_line.put)) leads.failures ∙ failures_more old.failures _ talk_line.put ∙ ap (failures_after old.failures) (sym (failed_push talk_lines talk_line));
+    shelved = subst (Gains old.shelved next.shelved) (sym (shelved_push talk_lines talk_line)) (Gains-trans old.shelved now.shelved next.shelved _ _ leads.shelved step.shelved);
   }
 
-  -- no turn changes the size
-  pub Leads-size : (old : D) (turns : List Turn) (new : D) → FoldsTo (Takes size_of asks copies) old turns new → size_of new ≡ size_of old
+  -- no talk line changes the size
+  pub Leads-size : (old : D) (talk_lines : List TalkLine) (new : D) → FoldsTo (Takes size_of asks copies) old talk_lines new → size_of new ≡ size_of old
   Leads-size old [] new h = ap size_of (sym h)
-  Leads-size old (turn ∷ turns) new h = Leads-size h.0 turns new h.2 ∙ h.1.1
+  Leads-size old (talk_line ∷ talk_lines) new h = Leads-size h.0 talk_lines new h.2 ∙ h.1.1
 
   -- before the first read
   pub Progress_start : (old : Place D) (reader : LineReader) → Keeps reader [] → AnswersLines size_of asks copies [] old None reader old
   Progress_start old reader keeps = (
     record {
-      turns = [];
+      talk_lines = [];
       unread = [];
       leads = Leads-nil old;
       keeps = keeps;
@@ -67,36 +67,36 @@ module _ {D : Type 0} (size_of : D → Extent) (asks : D → Command → Result 
   -- a read
   pub Progress_read : (input : List ℕ) (old : Place D) (reader : LineReader) (now : Place D) (bytes : List ℕ) (after : LineReader) → Progress size_of asks copies input old reader now → ((unread : List ℕ) → Keeps reader unread → Keeps after (unread ++ bytes)) → Progress size_of asks copies (input ++ bytes) old after now
   Progress_read input old reader now bytes after p reads = record {
-    turns = p.turns;
+    talk_lines = p.talk_lines;
     unread = p.unread ++ bytes;
     leads = p.leads;
     keeps = reads p.unread p.keeps;
-    items = λ more. ap lines (append_assoc input bytes more) ∙ p.items (bytes ++ more) ∙ ap (λ xs. items_of_turns p.turns ++ lines xs) (sym (append_assoc p.unread bytes more));
+    items = λ more. ap lines (append_assoc input bytes more) ∙ p.items (bytes ++ more) ∙ ap (λ xs. items_of_talk_lines p.talk_lines ++ lines xs) (sym (append_assoc p.unread bytes more));
     unended = p.unended;
     writes = p.writes;
   }
 
   -- the items of all the input so far
-  all_items : (input : List ℕ) (old : Place D) (reader : LineReader) (now : Place D) (p : Progress size_of asks copies input old reader now) → lines input ≡ items_of_turns p.turns ++ lines p.unread
-  all_items input old reader now p = ap lines (sym (append-nil input)) ∙ p.items [] ∙ ap (λ xs. items_of_turns p.turns ++ lines xs) (append-nil p.unread)
+  all_items : (input : List ℕ) (old : Place D) (reader : LineReader) (now : Place D) (p : Progress size_of asks copies input old reader now) → lines input ≡ items_of_talk_lines p.talk_lines ++ lines p.unread
+  all_items input old reader now p = ap lines (sym (append-nil input)) ∙ p.items [] ∙ ap (λ xs. items_of_talk_lines p.talk_lines ++ lines xs) (append-nil p.unread)
 
   -- what they are up to the end, by those of what is unread
-  items_until_end : (input : List ℕ) (old : Place D) (reader : LineReader) (now : Place D) (p : Progress size_of asks copies input old reader now) (items : List Item) → lines p.unread ≡ items → until_end (size_of old.door) (lines input) ≡ items_of_turns p.turns ++ until_end (size_of old.door) items
+  items_until_end : (input : List ℕ) (old : Place D) (reader : LineReader) (now : Place D) (p : Progress size_of asks copies input old reader now) (items : List Item) → lines p.unread ≡ items → until_end (size_of old.door) (lines input) ≡ items_of_talk_lines p.talk_lines ++ until_end (size_of old.door) items
   items_until_end input old reader now p items e =
-      ap (until_end (size_of old.door)) (all_items input old reader now p ∙ ap (λ xs. items_of_turns p.turns ++ xs) e)
-      ∙ until_end-append (size_of old.door) (items_of_turns p.turns) items p.unended
+      ap (until_end (size_of old.door)) (all_items input old reader now p ∙ ap (λ xs. items_of_talk_lines p.talk_lines ++ xs) e)
+      ∙ until_end-append (size_of old.door) (items_of_talk_lines p.talk_lines) items p.unended
 
   pub ending_is : (input : List ℕ) (old : Place D) (reader : LineReader) (now : Place D) (p : Progress size_of asks copies input old reader now) (items : List Item) → lines p.unread ≡ items → ending (size_of old.door) (lines input) ≡ ending (size_of old.door) items
   ending_is input old reader now p items e =
-      ap (ending (size_of old.door)) (all_items input old reader now p ∙ ap (λ xs. items_of_turns p.turns ++ xs) e)
-      ∙ ending-append (size_of old.door) (items_of_turns p.turns) items p.unended
+      ap (ending (size_of old.door)) (all_items input old reader now p ∙ ap (λ xs. items_of_talk_lines p.talk_lines ++ xs) e)
+      ∙ ending-append (size_of old.door) (items_of_talk_lines p.talk_lines) items p.unended
 
-  one_more : (turns : List Turn) (turn : Turn) (later : List Item) → items_of_turns turns ++ turn.item ∷ later ≡ items_of_turns (turns ++ turn ∷ []) ++ later
-  one_more turns turn later = sym (append_assoc (items_of_turns turns) (turn.item ∷ []) later) ∙ ap (λ xs. xs ++ later) (sym (items_push turns turn))
+  one_more : (talk_lines : List TalkLine) (talk_line : TalkLine) (later : List Item) → items_of_talk_lines talk_lines ++ talk_line.item ∷ later ≡ items_of_talk_lines (talk_lines ++ talk_line ∷ []) ++ later
+  one_more talk_lines talk_line later = sym (append_assoc (items_of_talk_lines talk_lines) (talk_line.item ∷ []) later) ∙ ap (λ xs. xs ++ later) (sym (items_push talk_lines talk_line))
 
   -- the lines so far, and a part of the next
-  writes_more : (old now next : Option (List ℕ)) (turns : List Turn) (part : List ℕ) → Appends old now (replies turns) → Appends now next part → Appends old next (replies turns ++ part)
-  writes_more old now next turns part first second = Appends-trans old now next (replies turns) part first second
+  writes_more : (old now next : Option (List ℕ)) (talk_lines : List TalkLine) (part : List ℕ) → Appends old now (replies talk_lines) → Appends now next part → Appends old next (replies talk_lines ++ part)
+  writes_more old now next talk_lines part first second = Appends-trans old now next (replies talk_lines) part first second
 
   abbrev wrote : Place D → Option (List ℕ) → Place D
   wrote now written = record { door = now.door; written = written; failures = now.failures; shelved = now.shelved }
@@ -107,8 +107,8 @@ module _ {D : Type 0} (size_of : D → Extent) (asks : D → Command → Result 
   head_bad : (unread : List ℕ) → ((more : List ℕ) → lines (unread ++ more) ≡ bad ∷ []) → lines unread ≡ bad ∷ []
   head_bad unread found = ap lines (sym (append-nil unread)) ∙ found []
 
-  push_writes : (old now next : Option (List ℕ)) (turns : List Turn) (turn : Turn) → Appends old now (replies turns) → Appends now next (line_of turn) → Appends old next (replies (turns ++ turn ∷ []))
-  push_writes old now next turns turn first second = subst (Appends old next) (sym (replies_push turns turn)) (writes_more old now next turns (line_of turn) first second)
+  push_writes : (old now next : Option (List ℕ)) (talk_lines : List TalkLine) (talk_line : TalkLine) → Appends old now (replies talk_lines) → Appends now next (line_of talk_line) → Appends old next (replies (talk_lines ++ talk_line ∷ []))
+  push_writes old now next talk_lines talk_line first second = subst (Appends old next) (sym (replies_push talk_lines talk_line)) (writes_more old now next talk_lines (line_of talk_line) first second)
 
   module _ (input : List ℕ) (old : Place D) (reader : LineReader) (now : Place D) (p : Progress size_of asks copies input old reader now) where
     -- a line that is answered, and the session goes on
@@ -119,15 +119,15 @@ module _ {D : Type 0} (size_of : D → Extent) (asks : D → Command → Result 
         → Appends now.written next.written (reply_line reply)
         → Progress size_of asks copies input old after next
     Progress_line bytes reply put after rest next keeps found goes_on step sent =
-        let turn : Turn = record { item = text bytes; reply = reply; put = put } in
+        let talk_line : TalkLine = record { item = text bytes; reply = reply; put = put } in
         record {
-          turns = p.turns ++ turn ∷ [];
+          talk_lines = p.talk_lines ++ talk_line ∷ [];
           unread = rest;
-          leads = Leads-push old p.turns now turn next p.leads step;
+          leads = Leads-push old p.talk_lines now talk_line next p.leads step;
           keeps = keeps;
-          items = λ more. p.items more ∙ ap (λ xs. items_of_turns p.turns ++ xs) (found more) ∙ one_more p.turns turn (lines (rest ++ more));
-          unended = ap (ending (size_of old.door)) (items_push p.turns turn) ∙ ending-append (size_of old.door) (items_of_turns p.turns) (text bytes ∷ []) p.unended ∙ ap (λ b. cond b (Some Quit) None) goes_on;
-          writes = push_writes old.written now.written next.written p.turns turn p.writes sent;
+          items = λ more. p.items more ∙ ap (λ xs. items_of_talk_lines p.talk_lines ++ xs) (found more) ∙ one_more p.talk_lines talk_line (lines (rest ++ more));
+          unended = ap (ending (size_of old.door)) (items_push p.talk_lines talk_line) ∙ ending-append (size_of old.door) (items_of_talk_lines p.talk_lines) (text bytes ∷ []) p.unended ∙ ap (λ b. cond b (Some Quit) None) goes_on;
+          writes = push_writes old.written now.written next.written p.talk_lines talk_line p.writes sent;
         }
 
     -- a line that asks to quit
@@ -138,15 +138,15 @@ module _ {D : Type 0} (size_of : D → Extent) (asks : D → Command → Result 
         → Appends now.written next.written (reply_line reply)
         → Serves size_of asks copies input old Quit next
     Serves_quit bytes reply put rest next found quits step sent =
-        let turn : Turn = record { item = text bytes; reply = reply; put = put } in
+        let talk_line : TalkLine = record { item = text bytes; reply = reply; put = put } in
         let e = head_line p.unread rest (text bytes) found in
         record {
-          turns = p.turns ++ turn ∷ [];
+          talk_lines = p.talk_lines ++ talk_line ∷ [];
           later = [];
-          output = replies (p.turns ++ turn ∷ []);
-          leads = Leads-push old p.turns now turn next p.leads step;
-          items = items_until_end input old reader now p _ e ∙ ap (λ b. items_of_turns p.turns ++ text bytes ∷ cond b [] (until_end (size_of old.door) (lines rest))) quits ∙ one_more p.turns turn [];
-          writes = push_writes old.written now.written next.written p.turns turn p.writes sent;
+          output = replies (p.talk_lines ++ talk_line ∷ []);
+          leads = Leads-push old p.talk_lines now talk_line next p.leads step;
+          items = items_until_end input old reader now p _ e ∙ ap (λ b. items_of_talk_lines p.talk_lines ++ text bytes ∷ cond b [] (until_end (size_of old.door) (lines rest))) quits ∙ one_more p.talk_lines talk_line [];
+          writes = push_writes old.written now.written next.written p.talk_lines talk_line p.writes sent;
           ended = (ending_is input old reader now p _ e ∙ ap (λ b. cond b (Some Quit) (ending (size_of old.door) (lines rest))) quits, refl, refl);
         }
 
@@ -157,17 +157,17 @@ module _ {D : Type 0} (size_of : D → Extent) (asks : D → Command → Result 
         → reply_line reply ≡ part ++ missing → Appends now.written next.written part
         → Serves size_of asks copies input old WriteFault next
     Serves_cut bytes reply put rest next part missing found step cut sent =
-        let turn : Turn = record { item = text bytes; reply = reply; put = put } in
+        let talk_line : TalkLine = record { item = text bytes; reply = reply; put = put } in
         let e = head_line p.unread rest (text bytes) found in
         let later : List Item = cond (is_quit (request_of (size_of old.door) bytes)) [] (until_end (size_of old.door) (lines rest)) in
         record {
-          turns = p.turns ++ turn ∷ [];
+          talk_lines = p.talk_lines ++ talk_line ∷ [];
           later = later;
-          output = replies p.turns ++ part;
-          leads = Leads-push old p.turns now turn next p.leads step;
-          items = items_until_end input old reader now p _ e ∙ one_more p.turns turn later;
-          writes = writes_more old.written now.written next.written p.turns part p.writes sent;
-          ended = inl (p.turns, turn, part, missing, refl, cut, refl);
+          output = replies p.talk_lines ++ part;
+          leads = Leads-push old p.talk_lines now talk_line next p.leads step;
+          items = items_until_end input old reader now p _ e ∙ one_more p.talk_lines talk_line later;
+          writes = writes_more old.written now.written next.written p.talk_lines part p.writes sent;
+          ended = inl (p.talk_lines, talk_line, part, missing, refl, cut, refl);
         }
 
     refused : (written : Option (List ℕ)) → IsStep now (record { item = bad; reply = Refused refusals.Line; put = no_put }) (wrote now written)
@@ -178,15 +178,15 @@ module _ {D : Type 0} (size_of : D → Extent) (asks : D → Command → Result 
         → Appends now.written written (reply_line (Refused refusals.Line))
         → Serves size_of asks copies input old BadLine (wrote now written)
     Serves_bad written found sent =
-        let turn : Turn = record { item = bad; reply = Refused refusals.Line; put = no_put } in
+        let talk_line : TalkLine = record { item = bad; reply = Refused refusals.Line; put = no_put } in
         let e = head_bad p.unread found in
         record {
-          turns = p.turns ++ turn ∷ [];
+          talk_lines = p.talk_lines ++ talk_line ∷ [];
           later = [];
-          output = replies (p.turns ++ turn ∷ []);
-          leads = Leads-push old p.turns now turn (wrote now written) p.leads (refused written);
-          items = items_until_end input old reader now p _ e ∙ one_more p.turns turn [];
-          writes = push_writes old.written now.written written p.turns turn p.writes sent;
+          output = replies (p.talk_lines ++ talk_line ∷ []);
+          leads = Leads-push old p.talk_lines now talk_line (wrote now written) p.leads (refused written);
+          items = items_until_end input old reader now p _ e ∙ one_more p.talk_lines talk_line [];
+          writes = push_writes old.written now.written written p.talk_lines talk_line p.writes sent;
           ended = (ending_is input old reader now p _ e, refl, refl);
         }
 
@@ -194,41 +194,41 @@ module _ {D : Type 0} (size_of : D → Extent) (asks : D → Command → Result 
         → reply_line (Refused refusals.Line) ≡ part ++ missing → Appends now.written written part
         → Serves size_of asks copies input old WriteFault (wrote now written)
     Serves_bad_cut written part missing found cut sent =
-        let turn : Turn = record { item = bad; reply = Refused refusals.Line; put = no_put } in
+        let talk_line : TalkLine = record { item = bad; reply = Refused refusals.Line; put = no_put } in
         let e = head_bad p.unread found in
         record {
-          turns = p.turns ++ turn ∷ [];
+          talk_lines = p.talk_lines ++ talk_line ∷ [];
           later = [];
-          output = replies p.turns ++ part;
-          leads = Leads-push old p.turns now turn (wrote now written) p.leads (refused written);
-          items = items_until_end input old reader now p _ e ∙ one_more p.turns turn [];
-          writes = writes_more old.written now.written written p.turns part p.writes sent;
-          ended = inl (p.turns, turn, part, missing, refl, cut, refl);
+          output = replies p.talk_lines ++ part;
+          leads = Leads-push old p.talk_lines now talk_line (wrote now written) p.leads (refused written);
+          items = items_until_end input old reader now p _ e ∙ one_more p.talk_lines talk_line [];
+          writes = writes_more old.written now.written written p.talk_lines part p.writes sent;
+          ended = inl (p.talk_lines, talk_line, part, missing, refl, cut, refl);
         }
 
-    moved : (written : Option (List ℕ)) → Leads size_of asks copies old p.turns (wrote now written)
+    moved : (written : Option (List ℕ)) → Leads size_of asks copies old p.talk_lines (wrote now written)
     moved written = record { talk = p.leads.talk; failures = p.leads.failures; shelved = p.leads.shelved }
 
     -- the line reader found no memory
     Serves_memory : (written : Option (List ℕ)) → Appends now.written written memory_line → Serves size_of asks copies input old Memory (wrote now written)
     Serves_memory written sent = record {
-      turns = p.turns;
+      talk_lines = p.talk_lines;
       later = until_end (size_of old.door) (lines p.unread);
-      output = replies p.turns ++ memory_line;
+      output = replies p.talk_lines ++ memory_line;
       leads = moved written;
       items = items_until_end input old reader now p _ refl;
-      writes = writes_more old.written now.written written p.turns memory_line p.writes sent;
+      writes = writes_more old.written now.written written p.talk_lines memory_line p.writes sent;
       ended = (refl, p.unended);
     }
 
     Serves_memory_cut : (written : Option (List ℕ)) (part missing : List ℕ) → memory_line ≡ part ++ missing → Appends now.written written part → Serves size_of asks copies input old WriteFault (wrote now written)
     Serves_memory_cut written part missing cut sent = record {
-      turns = p.turns;
+      talk_lines = p.talk_lines;
       later = until_end (size_of old.door) (lines p.unread);
-      output = replies p.turns ++ part;
+      output = replies p.talk_lines ++ part;
       leads = moved written;
       items = items_until_end input old reader now p _ refl;
-      writes = writes_more old.written now.written written p.turns part p.writes sent;
+      writes = writes_more old.written now.written written p.talk_lines part p.writes sent;
       ended = inr (part, missing, cut, refl, p.unended);
     }
 
@@ -250,7 +250,7 @@ module _ {D : Type 0} (size_of : D → Extent) (asks : D → Command → Result 
     pub lines_answered : (after : LineReader) → Keeps after p.unread → lines p.unread ≡ [] → AnswersLines size_of asks copies input old None after now
     lines_answered after keeps none = (
       record {
-        turns = p.turns;
+        talk_lines = p.talk_lines;
         unread = p.unread;
         leads = p.leads;
         keeps = keeps;
@@ -262,11 +262,11 @@ module _ {D : Type 0} (size_of : D → Extent) (asks : D → Command → Result 
     )
 
     -- an end at which each line of the input is answered
-    pub Serves_all : (end : SessionEnd) → lines p.unread ≡ [] → ((ending (size_of old.door) (lines input) ≡ None) × (◌≡◌ {A = List Item} [] []) × (replies p.turns ≡ replies p.turns) → EndsAs (size_of old.door) end (lines input) p.turns [] (replies p.turns)) → Serves size_of asks copies input old end now
+    pub Serves_all : (end : SessionEnd) → lines p.unread ≡ [] → ((ending (size_of old.door) (lines input) ≡ None) × (◌≡◌ {A = List Item} [] []) × (replies p.talk_lines ≡ replies p.talk_lines) → EndsAs (size_of old.door) end (lines input) p.talk_lines [] (replies p.talk_lines)) → Serves size_of asks copies input old end now
     Serves_all end none as_said = record {
-      turns = p.turns;
+      talk_lines = p.talk_lines;
       later = [];
-      output = replies p.turns;
+      output = replies p.talk_lines;
       leads = p.leads;
       items = items_until_end input old reader now p [] none;
       writes = p.writes;

@@ -1,4 +1,4 @@
--- Over a door to a laboratory that nobody else uses, turns are those of talk.
+-- Over a door to a laboratory that nobody else uses, talk lines are those of talk.
 use Rattle.std.proofs.Common.{◌≡◌, ℕ, Bool, true, false, cond, not, ◌&&◌, ◌||◌, List, [], ◌∷◌, ◌++◌, map, Option, None, is_some, Result, Ok, Err, refl, sym, ap, ◌∙◌, subst, inl, inr, append-nil, append_assoc}
 use Rattle.std.specs.List.{FoldsTo}
 use Rattle.std.specs.declared.alloc.AllocError.{AllocError as NoMemory}
@@ -20,7 +20,7 @@ use Rattle.gas_text.specs.declared.reply.Reply.TheVariants.{Refused}
 use Rattle.gas_talk.specs.declared.end.SessionEnd.{SessionEnd}
 use Rattle.gas_text.specs.Requests.{request_of, Reads, IsRow}
 use Rattle.gas_talk.specs.Lines.{Item, text, bad, lines}
-use Rattle.gas_talk.specs.Talk.{Put, no_put, Turn, Saves, Answers, Replies, Takes}
+use Rattle.gas_talk.specs.Talk.{Put, no_put, TalkLine, Saves, Answers, Replies, Takes}
 use Rattle.gas_talk.specs.Ends.{until_end, failed_puts, failures_after, shelved_by, EndsAs, StopsAtEnd, Place, IsSession}
 use Rattle.gas_lab.specs.Copying.{Copies}
 use Rattle.gas_talk.specs.LabTalk.{Outcome, plain, memory, shelf, wants_memory, told, answered, saved, requested, taken_at, talk, IsTalk}
@@ -34,9 +34,9 @@ pub start_stays : (old : Laboratory) (entry : Entry) (r : Result Answer Refusal)
 start_stays old entry r new (inl h) = ap (λ (l : Laboratory). l.start) h.1 ∙ start_of (is_change entry.command && not (is_some (cause old entry.command))) (accepted old entry) old refl
 start_stays old entry r new (inr h) = ap (λ (l : Laboratory). l.start) h.3
 
--- an item with this outcome gives the turn and the laboratory
-abbrev pub Gives : (Outcome → Turn × Laboratory) → Turn → Laboratory → Type 0
-Gives taken turn lab = (o : Outcome) × (taken o ≡ (turn, lab))
+-- an item with this outcome gives the talk line and the laboratory
+abbrev pub Gives : (Outcome → TalkLine × Laboratory) → TalkLine → Laboratory → Type 0
+Gives taken talk_line lab = (o : Outcome) × (taken o ≡ (talk_line, lab))
 
 or_true : (b : Bool) → (b || true) ≡ true
 or_true true = refl
@@ -62,12 +62,12 @@ module _ {D : Type 0} (size_of : D → Extent) (asks : D → Command → Result 
     item_stays d bad reply put e h = ap x_of h.2
     item_stays d (text line) reply put e h = answer_stays d h.0 reply put e h.2
 
-    pub turn_stays : (d : D) (turn : Turn) (e : D) → Takes size_of asks copies d turn e → x_of e ≡ x_of d
-    turn_stays d turn e h = item_stays d turn.item turn.reply turn.put e h.0
+    pub talk_line_stays : (d : D) (talk_line : TalkLine) (e : D) → Takes size_of asks copies d talk_line e → x_of e ≡ x_of d
+    talk_line_stays d talk_line e h = item_stays d talk_line.item talk_line.reply talk_line.put e h.0
 
-    pub stays : (d : D) (turns : List Turn) (e : D) → FoldsTo (Takes size_of asks copies) d turns e → x_of e ≡ x_of d
+    pub stays : (d : D) (talk_lines : List TalkLine) (e : D) → FoldsTo (Takes size_of asks copies) d talk_lines e → x_of e ≡ x_of d
     stays d [] e h = ap x_of (sym h)
-    stays d (turn ∷ turns) e h = stays h.0 turns e h.2 ∙ turn_stays d turn h.0 h.1
+    stays d (talk_line ∷ talk_lines) e h = stays h.0 talk_lines e h.2 ∙ talk_line_stays d talk_line h.0 h.1
 
   -- where each call leads, many lead
   module _ (leads : D → D → Type 0) (itself : (d : D) → leads d d) (further : (d e f : D) → leads d e → leads e f → leads d f)
@@ -82,17 +82,17 @@ module _ {D : Type 0} (size_of : D → Extent) (asks : D → Command → Result 
     item_leads d bad reply put e h = subst (leads d) (sym h.2) (itself d)
     item_leads d (text line) reply put e h = answer_leads d h.0 reply put e h.2
 
-    pub turns_lead : (d : D) (turns : List Turn) (e : D) → FoldsTo (Takes size_of asks copies) d turns e → leads d e
-    turns_lead d [] e h = subst (leads d) h (itself d)
-    turns_lead d (turn ∷ turns) e h = further d h.0 e (item_leads d turn.item turn.reply turn.put h.0 h.1.0) (turns_lead h.0 turns e h.2)
+    pub talk_lines_lead : (d : D) (talk_lines : List TalkLine) (e : D) → FoldsTo (Takes size_of asks copies) d talk_lines e → leads d e
+    talk_lines_lead d [] e h = subst (leads d) h (itself d)
+    talk_lines_lead d (talk_line ∷ talk_lines) e h = further d h.0 e (item_leads d talk_line.item talk_line.reply talk_line.put h.0 h.1.0) (talk_lines_lead h.0 talk_lines e h.2)
 
   -- a list that each call adds to is added to
   pub extended : {X : Type 0} (list : D → List X)
       → ((d : D) (command : Command) (r : Result Answer Refusal) (e : D) → asks d command r e → (more : List X) × (list e ≡ list d ++ more))
       → ((d : D) (r : Result Copied NoMemory) (e : D) → copies d r e → (more : List X) × (list e ≡ list d ++ more))
-      → (d : D) (turns : List Turn) (e : D) → FoldsTo (Takes size_of asks copies) d turns e → (more : List X) × (list e ≡ list d ++ more)
+      → (d : D) (talk_lines : List TalkLine) (e : D) → FoldsTo (Takes size_of asks copies) d talk_lines e → (more : List X) × (list e ≡ list d ++ more)
   extended list ask copy =
-      turns_lead (λ d e. (more : List _) × (list e ≡ list d ++ more)) (λ d. ([], sym (append-nil (list d))))
+      talk_lines_lead (λ d e. (more : List _) × (list e ≡ list d ++ more)) (λ d. ([], sym (append-nil (list d))))
       (λ d e f p q. (p.0 ++ q.0, q.1 ∙ ap (λ l. l ++ q.0) p.1 ∙ append_assoc (list d) p.0 q.0)) ask copy
 
   module _ (lab_of : D → Laboratory) (seat_of : D → ℕ)
@@ -131,19 +131,19 @@ module _ {D : Type 0} (size_of : D → Extent) (asks : D → Command → Result 
     of_item d (text line) reply put e h =
         of_read d (text line) h.0 (request_of (extent (lab_of d).start.particles) line) reply put e (subst (λ size. Reads h.0 (request_of size line)) (sizes d) h.1) h.2
 
-    turn_keeps : (d : D) (turn : Turn) (e : D) → Takes size_of asks copies d turn e → seat_of e ≡ seat_of d
-    turn_keeps d turn e h = turn_stays seat_of ask_keeps copy_keeps d turn e h
+    talk_line_keeps : (d : D) (talk_line : TalkLine) (e : D) → Takes size_of asks copies d talk_line e → seat_of e ≡ seat_of d
+    talk_line_keeps d talk_line e h = talk_line_stays seat_of ask_keeps copy_keeps d talk_line e h
 
-    -- the turns, with an outcome for each item
-    pub of_turns : (d : D) (turns : List Turn) (e : D) → FoldsTo (Takes size_of asks copies) d turns e
-        → (asked : List (Item × Outcome)) × (map (λ i. i.0) asked ≡ map (λ turn. turn.item) turns) × (talk (seat_of d) (lab_of d) asked ≡ (turns, lab_of e))
-    of_turns d [] e h = ([], refl, ap (λ l. ([], lab_of l)) h)
-    of_turns d (turn ∷ turns) e h =
-        let first = of_item d turn.item turn.reply turn.put h.0 h.1.0 in
-        let rest = of_turns h.0 turns e h.2 in
-        let told_rest : talk (seat_of d) (lab_of h.0) rest.0 ≡ (turns, lab_of e) = subst (λ seat. talk seat (lab_of h.0) rest.0 ≡ (turns, lab_of e)) (turn_keeps d turn h.0 h.1) rest.2 in (
-          (turn.item, first.0) ∷ rest.0,
-          ap (λ items. turn.item ∷ items) rest.1,
+    -- the talk lines, with an outcome for each item
+    pub of_talk_lines : (d : D) (talk_lines : List TalkLine) (e : D) → FoldsTo (Takes size_of asks copies) d talk_lines e
+        → (asked : List (Item × Outcome)) × (map (λ i. i.0) asked ≡ map (λ talk_line. talk_line.item) talk_lines) × (talk (seat_of d) (lab_of d) asked ≡ (talk_lines, lab_of e))
+    of_talk_lines d [] e h = ([], refl, ap (λ l. ([], lab_of l)) h)
+    of_talk_lines d (talk_line ∷ talk_lines) e h =
+        let first = of_item d talk_line.item talk_line.reply talk_line.put h.0 h.1.0 in
+        let rest = of_talk_lines h.0 talk_lines e h.2 in
+        let told_rest : talk (seat_of d) (lab_of h.0) rest.0 ≡ (talk_lines, lab_of e) = subst (λ seat. talk seat (lab_of h.0) rest.0 ≡ (talk_lines, lab_of e)) (talk_line_keeps d talk_line h.0 h.1) rest.2 in (
+          (talk_line.item, first.0) ∷ rest.0,
+          ap (λ items. talk_line.item ∷ items) rest.1,
           rw (first.1, told_rest),
         )
 
@@ -152,8 +152,8 @@ module _ {D : Type 0} (size_of : D → Extent) (asks : D → Command → Result 
         → (lab : Laboratory) → lab ≡ lab_of new.door
         → IsTalk (seat_of old.door) unread_old unread_new (record { door = lab_of old.door; written = old.written; failures = old.failures; shelved = old.shelved }) end (record { door = lab; written = new.written; failures = new.failures; shelved = new.shelved })
     talk_of_session reads unread_old unread_new old end new s lab same =
-        let t = of_turns old.door s.serves.turns new.door s.serves.leads.talk in
-        let turns : (talk (seat_of old.door) (lab_of old.door) t.0).0 ≡ s.serves.turns = ap (λ (p : List Turn × Laboratory). p.0) t.2 in
+        let t = of_talk_lines old.door s.serves.talk_lines new.door s.serves.leads.talk in
+        let talk_lines : (talk (seat_of old.door) (lab_of old.door) t.0).0 ≡ s.serves.talk_lines = ap (λ (p : List TalkLine × Laboratory). p.0) t.2 in
         record {
           input = s.input;
           asked = t.0;
@@ -161,11 +161,11 @@ module _ {D : Type 0} (size_of : D → Extent) (asks : D → Command → Result 
           output = s.serves.output;
           reads = s.given;
           items = ap (λ n. until_end n (lines s.input)) (sym (sizes old.door)) ∙ s.serves.items ∙ ap (λ xs. xs ++ s.serves.later) (sym t.1);
-          lab = same ∙ sym (ap (λ (p : List Turn × Laboratory). p.1) t.2);
-          failures = s.serves.leads.failures ∙ ap (λ ts. failures_after old.failures (failed_puts ts)) (sym turns);
-          shelved = subst (λ ts. Gains old.shelved new.shelved (shelved_by ts)) (sym turns) s.serves.leads.shelved;
+          lab = same ∙ sym (ap (λ (p : List TalkLine × Laboratory). p.1) t.2);
+          failures = s.serves.leads.failures ∙ ap (λ ts. failures_after old.failures (failed_puts ts)) (sym talk_lines);
+          shelved = subst (λ ts. Gains old.shelved new.shelved (shelved_by ts)) (sym talk_lines) s.serves.leads.shelved;
           writes = s.serves.writes;
-          ended = subst (λ ts. EndsAs (extent (lab_of old.door).start.particles) end (lines s.input) ts s.serves.later s.serves.output) (sym turns) (subst (λ n. EndsAs n end (lines s.input) s.serves.turns s.serves.later s.serves.output) (sizes old.door) s.serves.ended);
+          ended = subst (λ ts. EndsAs (extent (lab_of old.door).start.particles) end (lines s.input) ts s.serves.later s.serves.output) (sym talk_lines) (subst (λ n. EndsAs n end (lines s.input) s.serves.talk_lines s.serves.later s.serves.output) (sizes old.door) s.serves.ended);
           whole = s.whole;
           count = reads;
           counted = s.counted;

@@ -1,4 +1,4 @@
--- One more turn: items, endings, counts and what a shelf took.
+-- One more talk line: items, endings, counts and what a shelf took.
 use Rattle.std.proofs.Common.{◌≡◌, ◌+◌, ℕ, true, false, cond, List, [], ◌∷◌, ◌++◌, map, Option, Some, None, refl, sym, ap, ◌∙◌, append_assoc, append-nil, add-one, add-zero, zero-add}
 use Rattle.std.proofs.lemmas.List.{map-append}
 use Rattle.std.proofs.lemmas.Grind.{flat_map-append}
@@ -8,11 +8,11 @@ use Rattle.gas_snapshot.specs.Shelved.{Gains}
 use Rattle.gas_text.specs.Requests.{request_of}
 use Rattle.gas_talk.specs.declared.end.SessionEnd.TheVariants.{Quit}
 use Rattle.gas_talk.specs.Lines.{Item, text, bad}
-use Rattle.gas_talk.specs.Talk.{Put, no_put, put_taken, put_failed, Turn}
-use Rattle.gas_talk.specs.Ends.{is_quit, until_end, ending, line_of, replies, taken_by, failed_by, shelved_by, failed_puts, failures_after}
+use Rattle.gas_talk.specs.Talk.{Put, no_put, put_done, put_failed, TalkLine}
+use Rattle.gas_talk.specs.Ends.{is_quit, until_end, ending, line_of, replies, bytes_put, failed_by, shelved_by, failed_puts, failures_after}
 
-abbrev pub items_of_turns : List Turn → List Item
-items_of_turns turns = map (λ turn. turn.item) turns
+abbrev pub items_of_talk_lines : List TalkLine → List Item
+items_of_talk_lines talk_lines = map (λ talk_line. talk_line.item) talk_lines
 
 -- what ends nothing is passed over
 pub ending-append : (size : Extent) (xs ys : List Item) → ending size xs ≡ None → ending size (xs ++ ys) ≡ ending size ys
@@ -33,21 +33,21 @@ until_end-append size (text line ∷ xs) ys h =
       | false ↦ λ none. ap (λ items. text line ∷ items) (until_end-append size xs ys none)
     ] h
 
-pub items_push : (turns : List Turn) (turn : Turn) → items_of_turns (turns ++ turn ∷ []) ≡ items_of_turns turns ++ turn.item ∷ []
-items_push turns turn = map-append (λ t. t.item) turns (turn ∷ [])
+pub items_push : (talk_lines : List TalkLine) (talk_line : TalkLine) → items_of_talk_lines (talk_lines ++ talk_line ∷ []) ≡ items_of_talk_lines talk_lines ++ talk_line.item ∷ []
+items_push talk_lines talk_line = map-append (λ t. t.item) talk_lines (talk_line ∷ [])
 
-pub replies_push : (turns : List Turn) (turn : Turn) → replies (turns ++ turn ∷ []) ≡ replies turns ++ line_of turn
-replies_push turns turn = flat_map-append line_of turns (turn ∷ []) ∙ ap (λ xs. replies turns ++ xs) (append-nil (line_of turn))
+pub replies_push : (talk_lines : List TalkLine) (talk_line : TalkLine) → replies (talk_lines ++ talk_line ∷ []) ≡ replies talk_lines ++ line_of talk_line
+replies_push talk_lines talk_line = flat_map-append line_of talk_lines (talk_line ∷ []) ∙ ap (λ xs. replies talk_lines ++ xs) (append-nil (line_of talk_line))
 
-pub shelved_push : (turns : List Turn) (turn : Turn) → shelved_by (turns ++ turn ∷ []) ≡ shelved_by turns ++ taken_by turn.put
-shelved_push turns turn = flat_map-append (λ t. taken_by t.put) turns (turn ∷ []) ∙ ap (λ xs. shelved_by turns ++ xs) (append-nil (taken_by turn.put))
+pub shelved_push : (talk_lines : List TalkLine) (talk_line : TalkLine) → shelved_by (talk_lines ++ talk_line ∷ []) ≡ shelved_by talk_lines ++ bytes_put talk_line.put
+shelved_push talk_lines talk_line = flat_map-append (λ t. bytes_put t.put) talk_lines (talk_line ∷ []) ∙ ap (λ xs. shelved_by talk_lines ++ xs) (append-nil (bytes_put talk_line.put))
 
-pub failed_push : (turns : List Turn) (turn : Turn) → failed_puts (turns ++ turn ∷ []) ≡ failed_puts turns + failed_by turn.put
-failed_push turns turn = sum_by-append (λ t. failed_by t.put) turns (turn ∷ []) ∙ ap (λ n. failed_puts turns + n) (zero-add (failed_by turn.put))
+pub failed_push : (talk_lines : List TalkLine) (talk_line : TalkLine) → failed_puts (talk_lines ++ talk_line ∷ []) ≡ failed_puts talk_lines + failed_by talk_line.put
+failed_push talk_lines talk_line = sum_by-append (λ t. failed_by t.put) talk_lines (talk_line ∷ []) ∙ ap (λ n. failed_puts talk_lines + n) (zero-add (failed_by talk_line.put))
 
 pub failures_more : (old k : ℕ) (put : Put) → failures_after (failures_after old k) (failed_by put) ≡ failures_after old (k + failed_by put)
 failures_more old k no_put = ap (failures_after old) (sym (add-zero k))
-failures_more old k (put_taken bytes) = ap (failures_after old) (sym (add-zero k))
+failures_more old k (put_done bytes) = ap (failures_after old) (sym (add-zero k))
 failures_more old k put_failed = ap (failures_after old) (sym (add-one k))
 
 pub Gains-nil : (a : Option (List (List ℕ))) → Gains a a []

@@ -1,4 +1,4 @@
--- How a session goes: the turns it takes over its input, and how it ends.
+-- How a session goes: its lines with their replies, and how it ends.
 use Rattle.std.specs.Prelude.{◌≡◌, ℕ, zero, suc, ◌+◌, ◌*◌, ◌^◌, ◌≤◌, ◌⊎◌, Bool, true, false, if◌then◌else◌, List, [], ◌∷◌, ◌++◌, length, map, Option, Some, None, Result, Ok, Err}
 use Rattle.std.specs.List.{flat_map, sum_by, FoldsTo}
 use Rattle.std.specs.Io.KnownBytes.{Consumes, Appends, IsAtEnd}
@@ -18,7 +18,7 @@ use Rattle.gas_text.specs.Texts.{reply_line}
 use Rattle.gas_talk.specs.declared.end.SessionEnd.{SessionEnd}
 use Rattle.gas_talk.specs.declared.end.SessionEnd.TheVariants.{Quit, InputEnd, ReadFault, WriteFault, BadLine, Memory, TooManyReads}
 use Rattle.gas_talk.specs.Lines.{Item, text, bad, lines}
-use Rattle.gas_talk.specs.Talk.{Put, no_put, put_taken, put_failed, Turn, Takes}
+use Rattle.gas_talk.specs.Talk.{Put, no_put, put_done, put_failed, TalkLine, Takes}
 
 abbrev pub is_quit : Result Request Refusal → Bool
 is_quit (Ok (requests.Ask command)) = false
@@ -38,33 +38,33 @@ ending size [] = None
 ending size (text line ∷ items) = if is_quit (request_of size line) then Some Quit else ending size items
 ending size (bad ∷ items) = Some BadLine
 
-abbrev pub line_of : Turn → List ℕ
-line_of turn = reply_line turn.reply
+abbrev pub line_of : TalkLine → List ℕ
+line_of talk_line = reply_line talk_line.reply
 
 -- the lines of the replies
-abbrev pub replies : List Turn → List ℕ
-replies turns = flat_map line_of turns
+abbrev pub replies : List TalkLine → List ℕ
+replies talk_lines = flat_map line_of talk_lines
 
 abbrev pub memory_line : List ℕ
 memory_line = reply_line (Refused refusals.Memory)
 
-abbrev pub taken_by : Put → List (List ℕ)
-taken_by no_put = []
-taken_by (put_taken bytes) = bytes ∷ []
-taken_by put_failed = []
+abbrev pub bytes_put : Put → List (List ℕ)
+bytes_put no_put = []
+bytes_put (put_done bytes) = bytes ∷ []
+bytes_put put_failed = []
 
 abbrev pub failed_by : Put → ℕ
 failed_by no_put = 0
-failed_by (put_taken bytes) = 0
+failed_by (put_done bytes) = 0
 failed_by put_failed = 1
 
 -- what the shelf took, in order
-abbrev pub shelved_by : List Turn → List (List ℕ)
-shelved_by turns = flat_map (λ turn. taken_by turn.put) turns
+abbrev pub shelved_by : List TalkLine → List (List ℕ)
+shelved_by talk_lines = flat_map (λ talk_line. bytes_put talk_line.put) talk_lines
 
 -- how many puts failed
-abbrev pub failed_puts : List Turn → ℕ
-failed_puts turns = sum_by (λ turn. failed_by turn.put) turns
+abbrev pub failed_puts : List TalkLine → ℕ
+failed_puts talk_lines = sum_by (λ talk_line. failed_by talk_line.put) talk_lines
 
 -- the count of failures after more of them, which stops at its greatest value
 abbrev pub failures_after : ℕ → ℕ → ℕ
@@ -72,29 +72,29 @@ failures_after old zero = old
 failures_after old (suc more) = one_failure_more (failures_after old more)
 
 -- what was written: the lines of the replies, the last of them perhaps cut short
-abbrev pub IsCutShort : List Turn → List ℕ → Type 0
-IsCutShort turns written =
-    (front : List Turn) × (last : Turn) × (part : List ℕ) × (rest : List ℕ)
-    × (turns ≡ front ++ last ∷ []) × (line_of last ≡ part ++ rest) × (written ≡ replies front ++ part)
+abbrev pub IsCutShort : List TalkLine → List ℕ → Type 0
+IsCutShort talk_lines written =
+    (front : List TalkLine) × (last : TalkLine) × (part : List ℕ) × (rest : List ℕ)
+    × (talk_lines ≡ front ++ last ∷ []) × (line_of last ≡ part ++ rest) × (written ≡ replies front ++ part)
 
--- none of these turns ends a session
-abbrev pub AreUnended : Extent → List Turn → Type 0
-AreUnended size turns = ending size (map (λ turn. turn.item) turns) ≡ None
+-- none of these talk lines ends a session
+abbrev pub AreUnended : Extent → List TalkLine → Type 0
+AreUnended size talk_lines = ending size (map (λ talk_line. talk_line.item) talk_lines) ≡ None
 
 -- the lines of the replies, and a part, perhaps all, of the line that says that the line reader found no memory
-abbrev pub IsCutShortAtMemory : Extent → List Turn → List ℕ → Type 0
-IsCutShortAtMemory size turns written =
-    (part : List ℕ) × (rest : List ℕ) × (memory_line ≡ part ++ rest) × (written ≡ replies turns ++ part) × AreUnended size turns
+abbrev pub IsCutShortAtMemory : Extent → List TalkLine → List ℕ → Type 0
+IsCutShortAtMemory size talk_lines written =
+    (part : List ℕ) × (rest : List ℕ) × (memory_line ≡ part ++ rest) × (written ≡ replies talk_lines ++ part) × AreUnended size talk_lines
 
--- What holds at an end, of the items of the input, the turns taken, the items left and what was written.
-abbrev pub EndsAs : Extent → SessionEnd → List Item → List Turn → List Item → List ℕ → Type 0
-EndsAs size Quit items turns later written = (ending size items ≡ Some Quit) × (later ≡ []) × (written ≡ replies turns)
-EndsAs size BadLine items turns later written = (ending size items ≡ Some BadLine) × (later ≡ []) × (written ≡ replies turns)
-EndsAs size InputEnd items turns later written = (ending size items ≡ None) × (later ≡ []) × (written ≡ replies turns)
-EndsAs size ReadFault items turns later written = (ending size items ≡ None) × (later ≡ []) × (written ≡ replies turns)
-EndsAs size TooManyReads items turns later written = (ending size items ≡ None) × (later ≡ []) × (written ≡ replies turns)
-EndsAs size Memory items turns later written = (written ≡ replies turns ++ memory_line) × AreUnended size turns
-EndsAs size WriteFault items turns later written = IsCutShort turns written ⊎ IsCutShortAtMemory size turns written
+-- What holds at an end, of the items of the input, the talk lines, the items left and what was written.
+abbrev pub EndsAs : Extent → SessionEnd → List Item → List TalkLine → List Item → List ℕ → Type 0
+EndsAs size Quit items talk_lines later written = (ending size items ≡ Some Quit) × (later ≡ []) × (written ≡ replies talk_lines)
+EndsAs size BadLine items talk_lines later written = (ending size items ≡ Some BadLine) × (later ≡ []) × (written ≡ replies talk_lines)
+EndsAs size InputEnd items talk_lines later written = (ending size items ≡ None) × (later ≡ []) × (written ≡ replies talk_lines)
+EndsAs size ReadFault items talk_lines later written = (ending size items ≡ None) × (later ≡ []) × (written ≡ replies talk_lines)
+EndsAs size TooManyReads items talk_lines later written = (ending size items ≡ None) × (later ≡ []) × (written ≡ replies talk_lines)
+EndsAs size Memory items talk_lines later written = (written ≡ replies talk_lines ++ memory_line) × AreUnended size talk_lines
+EndsAs size WriteFault items talk_lines later written = IsCutShort talk_lines written ⊎ IsCutShortAtMemory size talk_lines written
 
 -- how many bytes a read asks for at most: `READ_LIMIT`
 abbrev pub read_limit : ℕ
@@ -152,21 +152,21 @@ pub record EachCall {D : Type 0} (asks : D → Command → Result Answer Refusal
   pub copied : (d : D) (copied : Result Copied NoMemory) (e : D) → copies d copied e → leads d e
 
 module _ {D : Type 0} (size_of : D → Extent) (asks : D → Command → Result Answer Refusal → D → Type 0) (copies : D → Result Copied NoMemory → D → Type 0) where
-  -- these turns lead from one place to the other, whatever is written
-  pub record Leads (old : Place D) (turns : List Turn) (new : Place D) : Type 0 where
-    pub talk : FoldsTo (Takes size_of asks copies) old.door turns new.door
-    pub failures : new.failures ≡ failures_after old.failures (failed_puts turns)
-    pub shelved : Gains old.shelved new.shelved (shelved_by turns)
+  -- these talk lines lead from one place to the other, whatever is written
+  pub record Leads (old : Place D) (talk_lines : List TalkLine) (new : Place D) : Type 0 where
+    pub talk : FoldsTo (Takes size_of asks copies) old.door talk_lines new.door
+    pub failures : new.failures ≡ failures_after old.failures (failed_puts talk_lines)
+    pub shelved : Gains old.shelved new.shelved (shelved_by talk_lines)
 
   -- A session over this input: its items, up to one that ends it, are asked in order, each once.
   pub record Serves (input : List ℕ) (old : Place D) (end : SessionEnd) (new : Place D) : Type 0 where
-    pub turns : List Turn
+    pub talk_lines : List TalkLine
     pub later : List Item
     pub output : List ℕ
-    pub leads : Leads old turns new
-    pub items : until_end (size_of old.door) (lines input) ≡ map (λ turn. turn.item) turns ++ later
+    pub leads : Leads old talk_lines new
+    pub items : until_end (size_of old.door) (lines input) ≡ map (λ talk_line. talk_line.item) talk_lines ++ later
     pub writes : Appends old.written new.written output
-    pub ended : EndsAs (size_of old.door) end (lines input) turns later output
+    pub ended : EndsAs (size_of old.door) end (lines input) talk_lines later output
 
   -- The whole of it: the input is what so many reads gave, and at its end nothing is left unread.
   pub record IsSession (reads : ℕ) (unread_old unread_new : Option (List ℕ)) (old : Place D) (end : SessionEnd) (new : Place D) : Type 0 where

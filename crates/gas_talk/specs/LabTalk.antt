@@ -21,7 +21,7 @@ use Rattle.gas_talk.specs.declared.end.SessionEnd.{SessionEnd}
 use Rattle.gas_talk.specs.declared.end.SessionEnd.TheVariants.{InputEnd}
 use Rattle.gas_text.specs.Requests.{request_of}
 use Rattle.gas_talk.specs.Lines.{Item, text, bad, lines}
-use Rattle.gas_talk.specs.Talk.{no_put, put_taken, put_failed, Turn, reply_to, snapshot}
+use Rattle.gas_talk.specs.Talk.{no_put, put_done, put_failed, TalkLine, reply_to, snapshot}
 use Rattle.gas_talk.specs.Ends.{until_end, EndsAs, AreReads, StopsAtEnd, Place, shelved_by, failed_puts, failures_after}
 
 -- whether an item finds what it needs: memory may be refused, or the shelf may fail
@@ -44,35 +44,35 @@ abbrev pub told : Laboratory → Entry → Bool → Result Answer Refusal × Lab
 told lab entry true = (Err refusals.Memory, lab)
 told lab entry false = (reply lab entry.command, event lab entry)
 
--- the turn of an item that was answered so, and the laboratory then
-abbrev pub answered : Item → Result Answer Refusal × Laboratory → Turn × Laboratory
+-- the talk line of an item that was answered so, and the laboratory then
+abbrev pub answered : Item → Result Answer Refusal × Laboratory → TalkLine × Laboratory
 answered item said = (record { item = item; reply = reply_to said.0; put = no_put }, said.1)
 
-abbrev pub saved : Item → Laboratory → Outcome → Turn × Laboratory
-saved item lab plain = (record { item = item; reply = Saved (length lab.journal) (length (snapshot (copy_of lab))); put = put_taken (snapshot (copy_of lab)) }, lab)
+abbrev pub saved : Item → Laboratory → Outcome → TalkLine × Laboratory
+saved item lab plain = (record { item = item; reply = Saved (length lab.journal) (length (snapshot (copy_of lab))); put = put_done (snapshot (copy_of lab)) }, lab)
 saved item lab memory = (record { item = item; reply = Refused refusals.Memory; put = no_put }, lab)
 saved item lab shelf = (record { item = item; reply = Refused refusals.Save; put = put_failed }, lab)
 
-abbrev pub requested : ℕ → Item → Laboratory → Result Request Refusal → Outcome → Turn × Laboratory
+abbrev pub requested : ℕ → Item → Laboratory → Result Request Refusal → Outcome → TalkLine × Laboratory
 requested seat item lab (Ok (Ask command)) outcome = answered item (told lab (entry_of seat command) (is_memory outcome && wants_memory lab command))
 requested seat item lab (Ok Save) outcome = saved item lab outcome
 requested seat item lab (Ok Quit) outcome = (record { item = item; reply = Bye; put = no_put }, lab)
 requested seat item lab (Err refusal) outcome = (record { item = item; reply = Refused refusal; put = no_put }, lab)
 
--- the turn of an item of the seat, and the laboratory after it
-abbrev pub taken_at : ℕ → Laboratory → Item → Outcome → Turn × Laboratory
+-- the talk line of an item of the seat, and the laboratory after it
+abbrev pub taken_at : ℕ → Laboratory → Item → Outcome → TalkLine × Laboratory
 taken_at seat lab (text line) outcome = requested seat (text line) lab (request_of (extent lab.start.particles) line) outcome
 taken_at seat lab bad outcome = (record { item = bad; reply = Refused refusals.Line; put = no_put }, lab)
 
--- the turns of items with their outcomes, and the laboratory after them
-abbrev pub talk : ℕ → Laboratory → List (Item × Outcome) → List Turn × Laboratory
+-- the talk lines of items with their outcomes, and the laboratory after them
+abbrev pub talk : ℕ → Laboratory → List (Item × Outcome) → List TalkLine × Laboratory
 talk seat lab [] = ([], lab)
 talk seat lab (i ∷ items) =
     let first = taken_at seat lab i.0 i.1 in
     let rest = talk seat first.1 items in
     (first.0 ∷ rest.0, rest.1)
 
--- A session of a seat with a laboratory alone: its turns and the laboratory after it are those of talk.
+-- A session of a seat with a laboratory alone: its talk lines and the laboratory after it are those of talk.
 pub record IsTalk (seat : ℕ) (unread_old unread_new : Option (List ℕ)) (old : Place Laboratory) (end : SessionEnd) (new : Place Laboratory) : Type 0 where
   -- what the reads gave
   pub input : List ℕ

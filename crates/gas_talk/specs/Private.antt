@@ -17,7 +17,7 @@ use Rattle.gas_talk.specs.declared.reader.Found.{Found}
 use Rattle.gas_talk.specs.declared.reader.Found.TheVariants.{Line, Bad, NoMemory as NoRoom, More}
 use Rattle.gas_talk.specs.Ends.{Place, replies, AreUnended, Leads, Serves}
 use Rattle.gas_talk.specs.Lines.{lines, text, bad, line_limit}
-use Rattle.gas_talk.specs.Talk.{Turn}
+use Rattle.gas_talk.specs.Talk.{TalkLine}
 
 -- whatever comes after them, what the reader keeps reads as these bytes at the start of a line
 abbrev pub Keeps : LineReader → List ℕ → Type 0
@@ -54,13 +54,13 @@ EndsWith missing wanted end = ((missing ≡ []) × (end ≡ wanted)) ⊎ (end �
 module _ {D : Type 0} (size_of : D → Extent) (asks : D → Command → Result Answer Refusal → D → Type 0) (copies : D → Result Copied NoMemory → D → Type 0) where
   -- Within a session: each item of the input so far is taken, or is an item of what is unread.
   pub record Progress (input : List ℕ) (old : Place D) (reader : LineReader) (new : Place D) : Type 0 where
-    pub turns : List Turn
+    pub talk_lines : List TalkLine
     pub unread : List ℕ
-    pub leads : Leads size_of asks copies old turns new
+    pub leads : Leads size_of asks copies old talk_lines new
     pub keeps : Keeps reader unread
-    pub items : (more : List ℕ) → lines (input ++ more) ≡ map (λ turn. turn.item) turns ++ lines (unread ++ more)
-    pub unended : AreUnended (size_of old.door) turns
-    pub writes : Appends old.written new.written (replies turns)
+    pub items : (more : List ℕ) → lines (input ++ more) ≡ map (λ talk_line. talk_line.item) talk_lines ++ lines (unread ++ more)
+    pub unended : AreUnended (size_of old.door) talk_lines
+    pub writes : Appends old.written new.written (replies talk_lines)
 
   -- each line so far is answered, or the session is over
   abbrev pub AnswersLines : List ℕ → Place D → Option SessionEnd → LineReader → Place D → Type 0

@@ -8,7 +8,7 @@ use Rattle.gas_terms.specs.declared.answer.Answer.TheVariants.{Taken}
 use Rattle.gas_text.specs.declared.reply.Reply.TheVariants.{Answered}
 use Rattle.gas_talk.specs.Ends.{until_end}
 use Rattle.gas_talk.specs.Lines.{Item, text, lines}
-use Rattle.gas_talk.specs.Talk.{no_put, Turn}
+use Rattle.gas_talk.specs.Talk.{no_put, TalkLine}
 use Rattle.gas_talk.specs.LabTalk.{Outcome, plain}
 use Rattle.gas_text.specs.Texts.{command_text}
 
@@ -24,8 +24,8 @@ all_plain items = map (λ i. (i, plain)) items
 abbrev pub asked_by_script : Extent → List Entry → List (Item × Outcome)
 asked_by_script size journal = all_plain (until_end size (lines (script journal)))
 
--- the turns of a script whose commands are taken, each with the next index from k on
-abbrev pub taken_from : ℕ → List Entry → List Turn
+-- the talk lines of a script whose commands are taken, each with the next index from k on
+abbrev pub taken_from : ℕ → List Entry → List TalkLine
 taken_from k [] = []
 taken_from k (entry ∷ journal) =
     record { item = text (command_text entry.command); reply = Answered (Taken k); put = no_put } ∷ taken_from (k + 1) journal

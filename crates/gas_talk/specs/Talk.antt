@@ -1,4 +1,4 @@
--- What a session does over a door, turn by turn.
+-- What a session does over a door, line by line.
 use Rattle.std.specs.Prelude.{◌≡◌, ℕ, ◌⊎◌, List, length, Result, Ok, Err}
 use Rattle.gas_terms.specs.Cells.{Extent}
 use Rattle.gas_snapshot.specs.Spelling.{spelling}
@@ -20,14 +20,14 @@ use Rattle.gas_talk.specs.Lines.{Item, text, bad}
 abbrev pub snapshot : Copied → List ℕ
 snapshot copied = spelling Two copied.gas
 
--- what a turn does to the shelf
+-- what a talk line does to the shelf
 pub data Put : Type 0 where
   no_put : Put
-  put_taken : List ℕ → Put
+  put_done : List ℕ → Put
   put_failed : Put
 
 -- an item, the reply to it, and what is put on the shelf for it
-pub record Turn : Type 0 where
+pub record TalkLine : Type 0 where
   pub item : Item
   pub reply : Reply
   pub put : Put
@@ -40,7 +40,7 @@ reply_to (Err refusal) = Refused refusal
 abbrev pub Saves : Result Copied NoMemory → Reply → Put → Type 0
 Saves (Err e) reply put = (reply ≡ Refused refusals.Memory) × (put ≡ no_put)
 Saves (Ok copied) reply put =
-    ((reply ≡ Saved copied.entries (length (snapshot copied))) × (put ≡ put_taken (snapshot copied)))
+    ((reply ≡ Saved copied.entries (length (snapshot copied))) × (put ≡ put_done (snapshot copied)))
     ⊎ ((reply ≡ Refused refusals.Save) × (put ≡ put_failed))
     ⊎ ((reply ≡ Refused refusals.Memory) × (put ≡ no_put))
 
@@ -62,6 +62,6 @@ module _ {D : Type 0} (size_of : D → Extent) (asks : D → Command → Result 
       (read : Result Request Refusal) × Reads read (request_of (size_of old) line) × Answers old read reply put new
   Replies old bad reply put new = (reply ≡ Refused refusals.Line) × (put ≡ no_put) × (new ≡ old)
 
-  -- one turn, which leaves the size
-  abbrev pub Takes : D → Turn → D → Type 0
-  Takes old turn new = Replies old turn.item turn.reply turn.put new × (size_of new ≡ size_of old)
+  -- one talk line, which leaves the size
+  abbrev pub Takes : D → TalkLine → D → Type 0
+  Takes old talk_line new = Replies old talk_line.item talk_line.reply talk_line.put new × (size_of new ≡ size_of old)

@@ -8,7 +8,7 @@ ghost use Rattle.gas_text.specs.Requests.{request_of};
 ghost use Rattle.gas_text.specs.Texts.{is_bye};
 ghost use Rattle.gas_talk.specs.Lines.{text};
 ghost use Rattle.gas_talk.specs.Talk.{Put, Takes, Saves};
-ghost use Rattle.gas_talk.specs.Ends.{is_quit, taken_by, failed_by, failures_after};
+ghost use Rattle.gas_talk.specs.Ends.{is_quit, bytes_put, failed_by, failures_after};
 
 use gas_lab::{Copied, Door};
 use gas_snapshot::{Shelf, encode};
@@ -21,7 +21,7 @@ fn save<D: Door, K: Shelf>(alloc: Global, door: &mut D, shelf: &mut K) -> Reply
     ensures saved { (copied : Result Copied NoMemory) × (put : Put)
         × D.copies door.old copied door.new × Saves copied result put
         × (K.failures shelf.new ≡ failures_after (K.failures shelf.old) (failed_by put))
-        × Gains (K.shelved shelf.old) (K.shelved shelf.new) (taken_by put) }
+        × Gains (K.shelved shelf.old) (K.shelved shelf.new) (bytes_put put) }
     ensures size { D.size_of door.new ≡ D.size_of door.old }
     ensures goes_on { is_bye result ≡ false }
 {
@@ -44,7 +44,7 @@ pub fn reply_of<D: Door, K: Shelf>(alloc: Global, line: &str, door: &mut D, shel
     ensures taken { (put : Put) × Takes D.size_of D.asks D.copies door.old
         (record { item = text line.now; reply = result; put = put }) door.new
         × (K.failures shelf.new ≡ failures_after (K.failures shelf.old) (failed_by put))
-        × Gains (K.shelved shelf.old) (K.shelved shelf.new) (taken_by put) }
+        × Gains (K.shelved shelf.old) (K.shelved shelf.new) (bytes_put put) }
     ensures quit { is_bye result ≡ is_quit (request_of (D.size_of door.old) line.now) }
 {
     match read_command(alloc, line, door.size()) {

@@ -1,13 +1,14 @@
 //! Worked examples of runs with an action after each phase, with values found by hand.
 
 use crate::expected::{expect_same, expect_that};
-use crate::gases::{Part, run, sums, tick};
+use crate::gases::{Piece, run, sums, tick};
 use crate::lattices::solids;
 use gas_ledger::{Flow, Sums, tally};
 use gas_plane::{Plane, Tile};
 use gas_terms::{Moved, Pair, Rect, Size, Took};
 use phase_step::{
-    Action, Change, Exchange, Few, Later, Listed, Run, Serial, Stepper, Still, act_on, change_of,
+    Action, Change, Exchange, Later, Listed, PortArray, Run, Serial, Stepper, Still, act_on,
+    change_of,
 };
 use std::process::Abort;
 
@@ -31,7 +32,7 @@ fn flow(took: Took, injected: Sums, drained: Sums) -> Flow {
 // the right.
 #[test]
 fn source_acts_at_each_tick_of_a_run(rt: HostRuntime) {
-    let source = [(Part::Source(1), 10, 10, 1, 1)];
+    let source = [(Piece::Source(1), 10, 10, 1, 1)];
     let cells = [(9, 9, true), (10, 10, true)];
     expect_same(
         &rt,
@@ -50,7 +51,7 @@ fn source_of_a_run_keeps_its_period(rt: HostRuntime) {
         (1, 3, 2),
         (-3, 3, 2),
     ] {
-        let source = [(Part::Source(2), 20, 30, 1, 1)];
+        let source = [(Piece::Source(2), 20, 30, 1, 1)];
         let moved = run(&rt, start, &source, n, &[], times).moved;
         expect_same(&rt, (n, start, moved.injected.count), (n, start, times));
     }
@@ -59,7 +60,7 @@ fn source_of_a_run_keeps_its_period(rt: HostRuntime) {
 // A particle crosses its block, is drained at tick 1, and is gone.
 #[test]
 fn drain_of_a_run_takes_once(rt: HostRuntime) {
-    let parts = [(Part::Drain, 1, 1, 1, 1), (Part::Particles, 0, 0, 1, 1)];
+    let parts = [(Piece::Drain, 1, 1, 1, 1), (Piece::Particles, 0, 0, 1, 1)];
     expect_same(
         &rt,
         run(&rt, 0, &parts, 3, &[], 0).moved,
@@ -71,9 +72,9 @@ fn drain_of_a_run_takes_once(rt: HostRuntime) {
 #[test]
 fn wall_takes_in_a_run_with_ports(rt: HostRuntime) {
     let parts = [
-        (Part::Drain, 100, 100, 1, 1),
-        (Part::Particles, 0, 0, 1, 1),
-        (Part::Wall, 1, 1, 1, 1),
+        (Piece::Drain, 100, 100, 1, 1),
+        (Piece::Particles, 0, 0, 1, 1),
+        (Piece::Wall, 1, 1, 1, 1),
     ];
     let found = run(&rt, 0, &parts, 1, &[(0, 0, true)], 1);
     expect_same(&rt, found.took, took(2, 2));
@@ -84,9 +85,9 @@ fn wall_takes_in_a_run_with_ports(rt: HostRuntime) {
 fn emptied(rt: &impl Abort, size: Size) -> Exchange {
     let (w, h) = (u32::from(size.width()), u32::from(size.height()));
     let all = Rect::within(size, 0, 0, w, h).expect(rt, "a rectangle");
-    let mut drains = Few::none(all);
+    let mut drains = PortArray::none(all);
     drains.push(all);
-    Exchange::new(drains, Few::none(all))
+    Exchange::new(drains, PortArray::none(all))
 }
 
 // two particles at tick 0, which both go right and down
@@ -117,8 +118,14 @@ fn act_thrice(rt: &(impl Abort + AllocGlobal), particles: &mut Plane, action: &L
 #[test]
 fn action_after_the_first_phase(rt: HostRuntime) {
     let mut particles = two(&rt);
-    let turns = [emptied(&rt, particles.size())];
-    let found = act_thrice(&rt, &mut particles, &Listed { turns: &turns });
+    let exchanges = [emptied(&rt, particles.size())];
+    let found = act_thrice(
+        &rt,
+        &mut particles,
+        &Listed {
+            exchanges: &exchanges,
+        },
+    );
     expect_same(&rt, found, flow(took(0, 0), sums(0, 0, 0), sums(2, 2, 2)));
     expect_same(&rt, count(&rt, &particles), 0);
 }
@@ -210,9 +217,9 @@ fn area(rt: &impl Abort, x: u32, w: u32) -> Rect {
 // Empties the first two cells of row 0, and fills the second of them and the third.
 fn shift(rt: &impl Abort) -> Exchange {
     let (two, next) = (area(rt, 0, 2), area(rt, 1, 2));
-    let mut drains = Few::none(two);
+    let mut drains = PortArray::none(two);
     drains.push(two);
-    let mut sources = Few::none(next);
+    let mut sources = PortArray::none(next);
     sources.push(next);
     Exchange::new(drains, sources)
 }
@@ -242,7 +249,7 @@ fn exchange_without_ports_is_still(rt: HostRuntime) {
 #[test]
 fn few_rectangles(rt: HostRuntime) {
     let (first, second) = (area(&rt, 3, 1), area(&rt, 5, 1));
-    let mut few = Few::none(first);
+    let mut few = PortArray::none(first);
     expect_that(&rt, few.len() == 0);
     few.push(second);
     let before = few.copy();
@@ -255,8 +262,10 @@ fn few_rectangles(rt: HostRuntime) {
 
 #[test]
 fn listed_exchanges_end(rt: HostRuntime) {
-    let turns = [Exchange::none(), shift(&rt)];
-    let listed = Listed { turns: &turns };
+    let exchanges = [Exchange::none(), shift(&rt)];
+    let listed = Listed {
+        exchanges: &exchanges,
+    };
     let later = Later {
         action: &listed,
         by: 1,

@@ -41,7 +41,7 @@ pub fn area(rt: &impl Abort, gas: &Gas, x: u32, y: u32, w: u32, h: u32) -> Rect
 
 /// What a rectangle of a gas is for. A source has a period.
 #[derive(Clone, Copy)]
-pub enum Part {
+pub enum Piece {
     Particles,
     Wall,
     Obstacle,
@@ -50,17 +50,17 @@ pub enum Part {
 }
 
 /// Adds a part to a gas. Particles are put where none are.
-pub fn add(rt: &impl Abort, gas: &mut Gas, part: Part, x: u32, y: u32, w: u32, h: u32) {
+pub fn add(rt: &impl Abort, gas: &mut Gas, part: Piece, x: u32, y: u32, w: u32, h: u32) {
     let area = area(rt, gas, x, y, w, h);
     match part {
-        Part::Particles => {
+        Piece::Particles => {
             let count = gas.fill_particles(area).injected.count;
             expect_same(&rt, count, i64::from(w.wrapping_mul(h)));
         }
-        Part::Wall => gas.add_walls(area),
-        Part::Obstacle => gas.add_obstacles(area),
-        Part::Drain => expect_that(&rt, gas.add_port(Port::Drain(area)).is_ok()),
-        Part::Source(period) => {
+        Piece::Wall => gas.add_walls(area),
+        Piece::Obstacle => gas.add_obstacles(area),
+        Piece::Drain => expect_that(&rt, gas.add_port(Port::Drain(area)).is_ok()),
+        Piece::Source(period) => {
             assert!(rt; 1 <= period);
             expect_that(&rt, gas.add_port(Port::Source(area, period)).is_ok());
         }
@@ -74,7 +74,7 @@ pub fn step_on(rt: &(impl Abort + AllocGlobal), gas: &mut Gas, n: u16) -> Flow {
 }
 
 /// A rectangle, and what it is for.
-pub type Placed = (Part, u32, u32, u32, u32);
+pub type Placed = (Piece, u32, u32, u32, u32);
 
 pub fn add_all(rt: &impl Abort, gas: &mut Gas, parts: &[Placed]) {
     for (part, x, y, w, h) in parts {

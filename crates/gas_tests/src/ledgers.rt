@@ -1,7 +1,7 @@
 //! Worked examples of gases, ports and sums, with values found by hand.
 
 use crate::expected::{expect_same, expect_that};
-use crate::gases::{Part, add, add_all, area, gas_at, run, step_on, sums, tick};
+use crate::gases::{Piece, add, add_all, area, gas_at, run, step_on, sums, tick};
 use crate::lattices::expect_cells;
 use gas_ledger::{Full, Gas, Port, Ports, Sums, apply_ports, probe, tally};
 use gas_plane::Plane;
@@ -40,9 +40,9 @@ fn seventeen_drains(rt: HostRuntime) {
 fn sixteen_sources(rt: &(impl Abort + AllocGlobal)) -> Gas {
     let mut gas = gas_at(rt, -1);
     for k in 1..17 {
-        add(rt, &mut gas, Part::Source(1), k, 0, 1, 1);
+        add(rt, &mut gas, Piece::Source(1), k, 0, 1, 1);
     }
-    add(rt, &mut gas, Part::Drain, 0, 0, 1, 1);
+    add(rt, &mut gas, Piece::Drain, 0, 0, 1, 1);
     gas
 }
 
@@ -71,7 +71,7 @@ fn full_says_which(rt: HostRuntime) {
 // a source of this period acts in the step from this tick on, or does nothing
 fn acts_after(rt: &(impl Abort + AllocGlobal), number: i64, period: u16, is_due: bool) {
     let count = if is_due { 1 } else { 0 };
-    let source = [(Part::Source(period), 10, 10, 1, 1)];
+    let source = [(Piece::Source(period), 10, 10, 1, 1)];
     let moved = run(rt, number, &source, 1, &[(10, 10, is_due)], count).moved;
     expect_same(
         &rt,
@@ -101,7 +101,7 @@ fn source_on_its_period(rt: HostRuntime) {
 
 #[test]
 fn source_refills_a_drain(rt: HostRuntime) {
-    let ports = [(Part::Source(1), 5, 6, 1, 1), (Part::Drain, 5, 6, 1, 1)];
+    let ports = [(Piece::Source(1), 5, 6, 1, 1), (Piece::Drain, 5, 6, 1, 1)];
     // an empty cell is filled
     let moved = run(&rt, 2, &ports, 1, &[(5, 6, true)], 1).moved;
     expect_same(
@@ -115,9 +115,9 @@ fn source_refills_a_drain(rt: HostRuntime) {
 fn drained_and_refilled_cancels(rt: HostRuntime) {
     let parts = [
         // it goes to (5, 6)
-        (Part::Particles, 4, 7, 1, 1),
-        (Part::Source(1), 5, 6, 1, 1),
-        (Part::Drain, 5, 6, 1, 1),
+        (Piece::Particles, 4, 7, 1, 1),
+        (Piece::Source(1), 5, 6, 1, 1),
+        (Piece::Drain, 5, 6, 1, 1),
     ];
     let moved = run(&rt, 2, &parts, 1, &[(5, 6, true)], 1).moved;
     expect_same(
@@ -160,12 +160,12 @@ fn ports_act_on_a_plane(rt: HostRuntime) {
 #[test]
 fn ports_across_tiles(rt: HostRuntime) {
     let parts = [
-        (Part::Drain, 63, 10, 2, 1),
-        (Part::Drain, 100, 0, 1, 128),
-        (Part::Source(7), 64, 10, 2, 1),
-        (Part::Source(5), 0, 127, 1, 1),
-        (Part::Particles, 63, 9, 2, 1),
-        (Part::Particles, 99, 0, 2, 1),
+        (Piece::Drain, 63, 10, 2, 1),
+        (Piece::Drain, 100, 0, 1, 128),
+        (Piece::Source(7), 64, 10, 2, 1),
+        (Piece::Source(5), 0, 127, 1, 1),
+        (Piece::Particles, 63, 9, 2, 1),
+        (Piece::Particles, 99, 0, 2, 1),
     ];
     // (63, 10) and (100, 127) are gone, (64, 10) has stayed, (65, 10) and (0, 127) are new
     let cells = [
@@ -199,9 +199,9 @@ fn sums_are(rt: &impl Abort, gas: &Gas, number: i64, all: Sums, row: Sums, far: 
 fn four_cells(rt: &(impl Abort + AllocGlobal)) -> Gas {
     let mut gas = gas_at(rt, 0);
     let cells = [
-        (Part::Particles, 0, 0, 2, 1),
-        (Part::Particles, 0, 1, 1, 1),
-        (Part::Particles, 65, 67, 1, 1),
+        (Piece::Particles, 0, 0, 2, 1),
+        (Piece::Particles, 0, 1, 1, 1),
+        (Piece::Particles, 65, 67, 1, 1),
     ];
     add_all(rt, &mut gas, &cells);
     gas
@@ -278,7 +278,7 @@ fn expect_solids(
 #[test]
 fn wall_removed_again(rt: HostRuntime) {
     let mut gas = gas_at(&rt, 0);
-    let both = [(Part::Wall, 1, 1, 3, 1), (Part::Obstacle, 1, 1, 3, 1)];
+    let both = [(Piece::Wall, 1, 1, 3, 1), (Piece::Obstacle, 1, 1, 3, 1)];
     add_all(&rt, &mut gas, &both);
     expect_solids(&rt, &gas, &[(1, 1, true), (1, 2, false)], &[(3, 1, true)]);
     let part = area(&rt, &gas, 1, 1, 2, 2);
@@ -291,10 +291,10 @@ fn wall_removed_again(rt: HostRuntime) {
 // A gas with a particle, a wall, an obstacle and a source.
 fn fill_in(rt: &impl Abort, gas: &mut Gas) {
     let parts = [
-        (Part::Particles, 2, 3, 1, 1),
-        (Part::Wall, 4, 5, 1, 1),
-        (Part::Obstacle, 6, 70, 1, 1),
-        (Part::Source(10), 8, 9, 1, 1),
+        (Piece::Particles, 2, 3, 1, 1),
+        (Piece::Wall, 4, 5, 1, 1),
+        (Piece::Obstacle, 6, 70, 1, 1),
+        (Piece::Source(10), 8, 9, 1, 1),
     ];
     add_all(rt, gas, &parts);
 }

@@ -1,4 +1,4 @@
-//! Tests of the crates from `gas_terms` up to `gas_ledger`, of `phase_team`, `claim_desk` and `turn_lock`, through their public
+//! Tests of the crates from `gas_terms` up to `gas_ledger`, of `phase_team`, `claim_desk` and `ticket_lock`, through their public
 //! calls.
 #![tactic(auto)]
 

@@ -1,7 +1,7 @@
 //! A list under a ticket lock that doors add their numbers to, by one thread and by two.
 
 ghost use Rattle.std.specs.Prelude.{◌≡◌, ◌++◌, ◌∷◌, [], ◌⊎◌, ◌↔◌, ⊤, IsTrue, Contains, vec_len};
-ghost use Rattle.turn_lock.specs.Doors.{Adds};
+ghost use Rattle.ticket_lock.specs.Doors.{Adds};
 
 use crate::expected::{expect_same, expect_that};
 use std::alloc::AllocGlobal;
@@ -9,8 +9,8 @@ use std::process::Abort;
 use std::sync::Wait;
 use std::thread;
 use std::thread::Threads;
-use turn_lock::rule::Journaled;
-use turn_lock::{Call, Door, TurnLock};
+use ticket_lock::rule::Journaled;
+use ticket_lock::{Call, LockDoor, TicketLock};
 
 // The numbers of those who signed, of at most so many.
 #[derive(Drop)]
@@ -75,11 +75,11 @@ impl Call<Roll> for HasSigned {
 fn two_doors(
     rt: &(impl Abort + AllocGlobal),
     most: usize,
-) -> (TurnLock<Roll>, Door<Roll>, Door<Roll>)
+) -> (TicketLock<Roll>, LockDoor<Roll>, LockDoor<Roll>)
     ensures { (result.1.lock ≡ result.0) × (result.2.lock ≡ result.0) }
 {
     let numbers = Vec::new(rt.alloc());
-    let Ok((lock, mut doors)) = TurnLock::open(rt.alloc(), Roll { most, numbers }, 2) else {
+    let Ok((lock, mut doors)) = TicketLock::open(rt.alloc(), Roll { most, numbers }, 2) else {
         panic!(rt; "no memory")
     };
     let zero = doors.remove(0);
@@ -88,7 +88,11 @@ fn two_doors(
 }
 
 // Signs a hundred times, and gives the last answer.
-fn sign_often<R: Wait>(rt: &R, lock: &TurnLock<Roll>, mut door: Door<Roll>) -> (Door<Roll>, usize)
+fn sign_often<R: Wait>(
+    rt: &R,
+    lock: &TicketLock<Roll>,
+    mut door: LockDoor<Roll>,
+) -> (LockDoor<Roll>, usize)
     requires { door.lock ≡ lock.now }
     ensures { result.0.lock ≡ lock.entry.now }
 {
@@ -103,9 +107,9 @@ fn sign_often<R: Wait>(rt: &R, lock: &TurnLock<Roll>, mut door: Door<Roll>) -> (
 // last answers.
 fn sign_both<R: Threads + Wait + Sync>(
     rt: &R,
-    lock: &TurnLock<Roll>,
-    mut one: Door<Roll>,
-    other: Door<Roll>,
+    lock: &TicketLock<Roll>,
+    mut one: LockDoor<Roll>,
+    other: LockDoor<Roll>,
 ) -> (usize, usize)
     requires { (one.lock ≡ lock.now) × (other.lock ≡ lock.now) }
 {
@@ -152,7 +156,7 @@ fn refused_memory_gives_the_value_back(rt: HostRuntime) {
     let Ok(numbers) = Vec::with_capacity(rt.alloc(), 1) else {
         return;
     };
-    match TurnLock::open(rt.alloc(), Roll { most: 5, numbers }, 3) {
+    match TicketLock::open(rt.alloc(), Roll { most: 5, numbers }, 3) {
         Ok((lock, mut doors)) => {
             expect_same(&rt, doors.len(), 3);
             let mut last = doors.remove(2);

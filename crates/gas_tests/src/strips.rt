@@ -5,14 +5,16 @@ use crate::lattices::{are_same, fit, holds, plane, scattered, solids};
 use crate::steppers::{add_taken, step, team};
 use gas_plane::Plane;
 use gas_terms::{Moved, Pair, Rect, Size, Sums, Took};
-use phase_step::{Action, Exchange, Few, Flow, Listed, Run, Serial, Stepper, Still, parity_at};
+use phase_step::{
+    Action, Exchange, Flow, Listed, PortArray, Run, Serial, Stepper, Still, parity_at,
+};
 use phase_team::{LeastRun, NoGate, Team};
 use std::process::Abort;
 use std::thread::Threads;
 
 // walls and obstacles of a run of n phases, the first of this parity
 #[derive(Clone, Copy)]
-struct Ground<'a> {
+struct Setting<'a> {
     walls: &'a Plane,
     obstacles: &'a Plane,
     parity: u8,
@@ -23,18 +25,18 @@ struct Ground<'a> {
 fn act_along<S: Stepper, A: Action>(
     rt: &(impl Abort + AllocGlobal),
     stepper: &mut S,
-    ground: Ground<'_>,
+    setting: Setting<'_>,
     action: &A,
     particles: &mut Plane,
     spare: &mut Plane,
 ) -> Flow {
-    expect_that(&rt, ground.parity < 2);
-    fit(rt, particles, ground.walls, ground.obstacles, spare);
-    let solids = solids(rt, ground.walls, ground.obstacles);
+    expect_that(&rt, setting.parity < 2);
+    fit(rt, particles, setting.walls, setting.obstacles, spare);
+    let solids = solids(rt, setting.walls, setting.obstacles);
     let run = Run {
         solids: &solids,
-        parity: ground.parity,
-        n: ground.n,
+        parity: setting.parity,
+        n: setting.n,
         action,
     };
     stepper.run_with(particles, run, spare)
@@ -44,7 +46,7 @@ fn act_along<S: Stepper, A: Action>(
 fn by_strips<R: Threads + Abort + AllocGlobal + Copy + Drop, A: Action>(
     rt: &R,
     workers: u8,
-    ground: Ground<'_>,
+    setting: Setting<'_>,
     action: &A,
     particles: &mut Plane,
     spare: &mut Plane,
@@ -55,11 +57,11 @@ fn by_strips<R: Threads + Abort + AllocGlobal + Copy + Drop, A: Action>(
         tiles: 0,
     };
     let mut team = Team::with_least_run(*rt, rt.alloc(), workers, NoGate, least);
-    act_along(rt, &mut team, ground, action, particles, spare)
+    act_along(rt, &mut team, setting, action, particles, spare)
 }
 
 // the same on one thread, phase by phase
-fn by_phases(rt: &impl Abort, run: Ground<'_>, particles: &mut Plane, spare: &mut Plane) -> Took {
+fn by_phases(rt: &impl Abort, run: Setting<'_>, particles: &mut Plane, spare: &mut Plane) -> Took {
     expect_that(&rt, run.parity < 2);
     let mut took = Took::ZERO;
     for k in 0..run.n {
@@ -88,7 +90,7 @@ fn strips_agree<R: Threads + Abort + AllocGlobal + Copy + Drop>(
 ) {
     let walls = seeded(rt, size, 77172645463325252, 7);
     let obstacles = seeded(rt, size, 66172645463325252, 8);
-    let run = Ground {
+    let run = Setting {
         walls: &walls,
         obstacles: &obstacles,
         parity: (n / 32 % 2) as u8,
@@ -122,12 +124,12 @@ fn long_and_high_runs_by_strips_are_the_phases(rt: HostRuntime) {
     strips_agree(&rt, high, 65, &[3, 16]);
 }
 
-// A stretch by strips leaves what it began with in the spare plane, one phase by phase what its last phase began with.
+// A batch by strips leaves what it began with in the spare plane, one phase by phase what its last phase began with.
 #[test]
 fn strips_are_put_together(rt: HostRuntime) {
     let size = Size::new(64, 4096).expect(&rt, "a size");
     let none = Plane::empty(rt.alloc(), size).expect(&rt, "memory");
-    let run = Ground {
+    let run = Setting {
         walls: &none,
         obstacles: &none,
         parity: 1,
@@ -166,7 +168,7 @@ fn run_of_sixty_five_by_two_strips(rt: HostRuntime) {
     let obstacles = scattered(&rt, 256, 128, 3, 700);
     let mut now = scattered(&rt, 256, 128, 1, 3);
     let mut spare = scattered(&rt, 256, 128, 4, 2);
-    let run = Ground {
+    let run = Setting {
         walls: &walls,
         obstacles: &obstacles,
         parity: 0,
@@ -180,25 +182,25 @@ fn run_of_sixty_five_by_two_strips(rt: HostRuntime) {
 
 // Empties one rectangle and fills another.
 fn stroke(drained: Rect, filled: Rect) -> Exchange {
-    let mut drains = Few::none(drained);
+    let mut drains = PortArray::none(drained);
     drains.push(drained);
-    let mut sources = Few::none(filled);
+    let mut sources = PortArray::none(filled);
     sources.push(filled);
     Exchange::new(drains, sources)
 }
 
 // That after each third phase of n, from the second on.
 fn strokes(rt: &(impl Abort + AllocGlobal), drained: Rect, filled: Rect, n: u16) -> Vec<Exchange> {
-    let mut turns = Vec::with_capacity(rt.alloc(), n as usize).expect(rt, "memory");
+    let mut exchanges = Vec::with_capacity(rt.alloc(), n as usize).expect(rt, "memory");
     for k in 0..n {
-        let turn = if k % 3 == 1 {
+        let exchange = if k % 3 == 1 {
             stroke(drained, filled)
         } else {
             Exchange::none()
         };
-        turns.push(turn).expect(rt, "memory");
+        exchanges.push(exchange).expect(rt, "memory");
     }
-    turns
+    exchanges
 }
 
 // the sums are those of tools/channel_gas.py, with such an action after its steps
@@ -211,17 +213,17 @@ fn strokes_in_a_run_by_two_strips(rt: HostRuntime) {
     let size = now.size();
     let drained = Rect::within(size, 60, 50, 10, 30).expect(&rt, "a rectangle");
     let filled = Rect::within(size, 120, 118, 20, 8).expect(&rt, "a rectangle");
-    let turns = strokes(&rt, drained, filled, 65);
+    let exchanges = strokes(&rt, drained, filled, 65);
     let action = Listed {
-        turns: turns.as_slice(),
+        exchanges: exchanges.as_slice(),
     };
-    let ground = Ground {
+    let setting = Setting {
         walls: &walls,
         obstacles: &obstacles,
         parity: 0,
         n: 65,
     };
-    let flow = by_strips(&rt, 2, ground, &action, &mut now, &mut spare);
+    let flow = by_strips(&rt, 2, setting, &action, &mut now, &mut spare);
     expect_that(&rt, flow.took.walls == Pair { x: -56, y: 80 });
     expect_that(&rt, flow.took.obstacles == Pair { x: -20, y: -52 });
     expect_that(
@@ -264,7 +266,7 @@ fn comes_to<R: Threads + Abort + AllocGlobal + Copy + Drop, A: Action>(
     let walls = plane(rt, 64, 128, walls);
     let obstacles = plane(rt, 64, 128, obstacles);
     let want = plane(rt, 64, 128, cells);
-    let run = Ground {
+    let run = Setting {
         walls: &walls,
         obstacles: &obstacles,
         parity: 0,
@@ -324,13 +326,15 @@ fn long_run_with_an_action_finds_both_accounts(rt: HostRuntime) {
     let size = Size::new(64, 128).expect(&rt, "a size");
     let drained = Rect::within(size, 12, 17, 1, 1).expect(&rt, "a cell");
     let filled = Rect::within(size, 50, 100, 1, 1).expect(&rt, "a cell");
-    let mut turns = Vec::new(rt.alloc());
+    let mut exchanges = Vec::new(rt.alloc());
     for _ in 0..12u8 {
-        turns.push(Exchange::none()).expect(&rt, "memory");
+        exchanges.push(Exchange::none()).expect(&rt, "memory");
     }
-    turns.push(stroke(drained, filled)).expect(&rt, "memory");
+    exchanges
+        .push(stroke(drained, filled))
+        .expect(&rt, "memory");
     let action = Listed {
-        turns: turns.as_slice(),
+        exchanges: exchanges.as_slice(),
     };
     let flow = Flow {
         took: Took {
@@ -389,9 +393,9 @@ fn team_runs_as_one_thread(rt: HostRuntime) {
     let mut alone = seeded(&rt, size, 88172645463325252, 1);
     let mut spare = seeded(&rt, size, 1, 1);
     let mut team = team(&rt, rt, rt.alloc(), 16, NoGate);
-    // the strips of the first run serve the second, of which the second stretch is of one phase
+    // the strips of the first run serve the second, of which the second batch is of one phase
     for (n, parity) in [(64, 0), (65, 1)] {
-        let run = Ground {
+        let run = Setting {
             walls: &walls,
             obstacles: &obstacles,
             parity,
@@ -408,7 +412,7 @@ fn team_runs_as_one_thread(rt: HostRuntime) {
 fn team_parts_large_runs_into_strips(rt: HostRuntime) {
     let size = Size::new(2048, 2048).expect(&rt, "a size");
     let none = Plane::empty(rt.alloc(), size).expect(&rt, "memory");
-    let run = Ground {
+    let run = Setting {
         walls: &none,
         obstacles: &none,
         parity: 0,
@@ -424,7 +428,7 @@ fn team_parts_large_runs_into_strips(rt: HostRuntime) {
     }
 }
 
-// Three rows of tiles. As in `strips_are_put_together`, the spare plane has what the last stretch began with: after 69 phases
+// Three rows of tiles. As in `strips_are_put_together`, the spare plane has what the last batch began with: after 69 phases
 // the particles after 64 of them.
 #[test]
 fn small_runs_by_strips_are_those_of_one_thread(rt: HostRuntime) {
@@ -433,29 +437,29 @@ fn small_runs_by_strips_are_those_of_one_thread(rt: HostRuntime) {
     let obstacles = seeded(&rt, size, 66172645463325252, 8);
     let drained = Rect::within(size, 30, 50, 60, 30).expect(&rt, "a rectangle");
     let filled = Rect::within(size, 20, 100, 70, 80).expect(&rt, "a rectangle");
-    let turns = strokes(&rt, drained, filled, 69);
+    let exchanges = strokes(&rt, drained, filled, 69);
     let action = Listed {
-        turns: turns.as_slice(),
+        exchanges: exchanges.as_slice(),
     };
     let mut spare = seeded(&rt, size, 1, 1);
     for (n, before) in [(1, 0), (5, 0), (69, 64)] {
-        let ground = Ground {
+        let setting = Setting {
             walls: &walls,
             obstacles: &obstacles,
             parity: 1,
             n,
         };
         let mut alone = seeded(&rt, size, 88172645463325252, 1);
-        let by_one = act_along(&rt, &mut Serial, ground, &action, &mut alone, &mut spare);
+        let by_one = act_along(&rt, &mut Serial, setting, &action, &mut alone, &mut spare);
         let mut began = seeded(&rt, size, 88172645463325252, 1);
-        let ahead = Ground {
+        let ahead = Setting {
             n: before,
-            ..ground
+            ..setting
         };
         act_along(&rt, &mut Serial, ahead, &action, &mut began, &mut spare);
         for workers in [2, 3, 7] {
             let mut now = seeded(&rt, size, 88172645463325252, 1);
-            let flow = by_strips(&rt, workers, ground, &action, &mut now, &mut spare);
+            let flow = by_strips(&rt, workers, setting, &action, &mut now, &mut spare);
             expect_that(&rt, flow == by_one && have_same_rows(&now, &alone));
             expect_that(&rt, have_same_rows(&spare, &began));
         }

@@ -3,7 +3,7 @@ use Rattle.std.specs.Prelude.{◌≡◌, ℕ, ◌+◌, ◌≤◌, ◌⊎◌, Lis
 use Rattle.std.specs.Fmt.{decimal}
 use Rattle.std.specs.Io.KnownBytes.{Appends}
 use Rattle.gas_terms.specs.Gas.{Gas}
-use Rattle.gas_seats.specs.TurnSeats.{SeatView, made_in_all}
+use Rattle.gas_seats.specs.TurnSeats.{TurnSeatView, made_in_all}
 use Rattle.gas_hall.specs.Busy.{busy_seats}
 use Rattle.gas_text.specs.Texts.{parted}
 use Rattle.gas_run.specs.declared.setup.Setup.{Setup}
@@ -16,9 +16,9 @@ abbrev pub served_line : ℕ → ℕ → ℕ → List ℕ
 served_line done failed entries = served_text done failed entries ++ 10 ∷ []
 
 -- These are so many seats with the numbers 0, 1, .. on a laboratory that opened with this gas and capacity.
-pub record AreSeats (start : Gas) (cap count : ℕ) (seats : List SeatView) : Type 0 where
+pub record AreSeats (start : Gas) (cap count : ℕ) (seats : List TurnSeatView) : Type 0 where
   pub all : length seats ≡ count
-  pub numbers : (i : ℕ) (seat : SeatView) → slice_get seats i ≡ Some seat → seat.number ≡ i
+  pub numbers : (i : ℕ) (seat : TurnSeatView) → slice_get seats i ≡ Some seat → seat.number ≡ i
   pub opened : All (λ seat. seat.opened ≡ Some (start, cap)) seats
 
 -- What is told: each seat was served or was not, and those that made entries were. The entries are those that the seats made
@@ -27,7 +27,7 @@ pub record IsTold (setup : Setup) (start : Gas) (count : ℕ) (old new : Option 
   pub done : ℕ
   pub failed : ℕ
   pub entries : ℕ
-  pub seats : List SeatView
+  pub seats : List TurnSeatView
   pub each : done + failed ≡ count
   pub busy : busy_seats seats ≤ done
   pub back : AreSeats start setup.cap count seats

@@ -1,6 +1,6 @@
 //! Steps, walls, obstacles, rows and the journal.
 
-use crate::script::{LARGE, Room, SMALL, gives, gives_by_teams, gives_on};
+use crate::script::{LARGE, LabShape, SMALL, gives, gives_by_teams, gives_on};
 
 #[test]
 fn one_particle_steps(rt: HostRuntime) {
@@ -102,7 +102,7 @@ fn wall_across_tiles_books_once(rt: HostRuntime) {
 fn full_journal_refuses_changes(rt: HostRuntime) {
     gives_on(
         &rt,
-        Room { cap: 2, ..SMALL },
+        LabShape { cap: 2, ..SMALL },
         "put 63 63 2 1; step 0; put 0 0 1 1; wall 1 1 1 1; erase 0 0 1 1; entry 1; entry 2; tally",
         "ERR 5 rect; ERR 6 steps; OK 0; OK 1; ERR 13 journal; ENTRY 0 wall 1 1 1 1; ERR 9 entry; TALLY 0 1 1 1",
     );
@@ -126,7 +126,7 @@ fn rows_and_hex(rt: HostRuntime) {
 fn row_into_a_full_journal(rt: HostRuntime) {
     gives_on(
         &rt,
-        Room { cap: 1, ..SMALL },
+        LabShape { cap: 1, ..SMALL },
         "row 0 FFFFFFFFFFFFFFFF; entry 0; row 1 ffffffffffffffff; read 1; quit; tally",
         "OK 0; ENTRY 0 row 0 ffffffffffffffff; ERR 13 journal; ROW 0000000000000000; BYE",
     );

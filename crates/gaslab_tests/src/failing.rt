@@ -23,13 +23,13 @@ const SAVING_REPLIES: &str = "OK 0; SAVED 1 1558; TALLY 0 1 1 1";
 
 // what a run reads, and what it writes if nothing fails
 #[derive(Drop)]
-struct Exchange {
+struct Dialogue {
     input: Vec<u8>,
     output: Vec<u8>,
 }
 
-fn exchange_of(rt: &(impl Abort + AllocGlobal + Threads), input: &str, output: &str) -> Exchange {
-    Exchange {
+fn dialogue_of(rt: &(impl Abort + AllocGlobal + Threads), input: &str, output: &str) -> Dialogue {
+    Dialogue {
         input: lines(rt, input),
         output: lines(rt, output),
     }
@@ -55,7 +55,7 @@ fn no_fault() -> Failing {
 
 // how many lines are asked, how many bytes are written, and how the session ends
 #[derive(Clone, Copy)]
-struct Outcome {
+struct FailingOutcome {
     asked: usize,
     written: usize,
     end: SessionEnd,
@@ -178,11 +178,11 @@ fn is_as_after(
 // the run goes like this
 fn runs(
     rt: &(impl Abort + AllocGlobal + Threads),
-    exchange: &Exchange,
+    dialogue: &Dialogue,
     failing: Failing,
-    wanted: Outcome,
+    wanted: FailingOutcome,
 ) {
-    let mut feed = Feed::new(exchange.input.as_slice(), failing.read_step, failing.reads);
+    let mut feed = Feed::new(dialogue.input.as_slice(), failing.read_step, failing.reads);
     let mut sink = Sink::new(rt.alloc(), failing.write_step, ALL, failing.writes);
     let mut store = Store::new(rt.alloc(), FaultAt::never());
     let status = status_on(rt, SMALL, None, &mut feed, &mut sink, &mut store);
@@ -190,35 +190,35 @@ fn runs(
     expect_same(
         &rt,
         sink.taken(),
-        front(exchange.output.as_slice(), wanted.written),
+        front(dialogue.output.as_slice(), wanted.written),
     );
 }
 
 // the run, and a session on a laboratory that is then looked at, go like this
 fn goes(
     rt: &(impl Abort + AllocGlobal + Threads),
-    exchange: &Exchange,
+    dialogue: &Dialogue,
     failing: Failing,
-    wanted: Outcome,
+    wanted: FailingOutcome,
 ) {
-    runs(rt, exchange, failing, wanted);
-    let (session, found) = session_and_view(rt, exchange.input.as_slice(), failing);
+    runs(rt, dialogue, failing, wanted);
+    let (session, found) = session_and_view(rt, dialogue.input.as_slice(), failing);
     expect_same(&rt, session.end, wanted.end);
     expect_same(
         &rt,
         session.sink.taken(),
-        front(exchange.output.as_slice(), wanted.written),
+        front(dialogue.output.as_slice(), wanted.written),
     );
-    let asked = first_lines(exchange.input.as_slice(), wanted.asked);
+    let asked = first_lines(dialogue.input.as_slice(), wanted.asked);
     is_as_after(rt, found.as_slice(), &session.store, asked);
 }
 
 // so many bytes were read
-fn after_bytes(exchange: &Exchange, len: usize, end: SessionEnd) -> Outcome {
-    let asked = count_lines(front(exchange.input.as_slice(), len));
-    Outcome {
+fn after_bytes(dialogue: &Dialogue, len: usize, end: SessionEnd) -> FailingOutcome {
+    let asked = count_lines(front(dialogue.input.as_slice(), len));
+    FailingOutcome {
         asked,
-        written: first_lines(exchange.output.as_slice(), asked).len(),
+        written: first_lines(dialogue.output.as_slice(), asked).len(),
         end,
     }
 }
@@ -242,27 +242,27 @@ fn writing_fails(writes: FaultAt, write_step: usize) -> Failing {
 }
 
 // how a session ends that fails at the read after so many, of which each gives a byte and one is for the end
-fn end_after(exchange: &Exchange, calls: usize) -> SessionEnd {
-    if calls <= exchange.input.len() {
+fn end_after(dialogue: &Dialogue, calls: usize) -> SessionEnd {
+    if calls <= dialogue.input.len() {
         SessionEnd::ReadFault
     } else {
         SessionEnd::InputEnd
     }
 }
 
-fn readers_fail(rt: &(impl Abort + AllocGlobal + Threads), exchange: &Exchange) {
-    for calls in 0..exchange.input.len().saturating_add(2) {
-        let cut = after_bytes(exchange, calls, end_after(exchange, calls));
+fn readers_fail(rt: &(impl Abort + AllocGlobal + Threads), dialogue: &Dialogue) {
+    for calls in 0..dialogue.input.len().saturating_add(2) {
+        let cut = after_bytes(dialogue, calls, end_after(dialogue, calls));
         goes(
             rt,
-            exchange,
+            dialogue,
             reading_fails(FaultAt::after(calls as u64)),
             cut,
         );
-        let ended = after_bytes(exchange, calls, SessionEnd::InputEnd);
+        let ended = after_bytes(dialogue, calls, SessionEnd::InputEnd);
         goes(
             rt,
-            exchange,
+            dialogue,
             reading_fails(FaultAt::nothing_after(calls as u64)),
             ended,
         );
@@ -270,7 +270,7 @@ fn readers_fail(rt: &(impl Abort + AllocGlobal + Threads), exchange: &Exchange) 
 }
 
 // one read gives all, and a second is the end
-fn whole_readers_fail(rt: &(impl Abort + AllocGlobal + Threads), exchange: &Exchange) {
+fn whole_readers_fail(rt: &(impl Abort + AllocGlobal + Threads), dialogue: &Dialogue) {
     let ends = [
         (0, SessionEnd::ReadFault),
         (ALL, SessionEnd::ReadFault),
@@ -282,23 +282,23 @@ fn whole_readers_fail(rt: &(impl Abort + AllocGlobal + Threads), exchange: &Exch
             reads: FaultAt::after(calls),
             ..no_fault()
         };
-        goes(rt, exchange, failing, after_bytes(exchange, len, end));
+        goes(rt, dialogue, failing, after_bytes(dialogue, len, end));
         calls = calls.saturating_add(1);
     }
 }
 
 // each reply is a write and a flush
-fn cut_by_replies(output: &[u8], calls: usize) -> Outcome {
+fn cut_by_replies(output: &[u8], calls: usize) -> FailingOutcome {
     let begun = (calls / 2).saturating_add(1);
     if begun > count_lines(output) {
-        return Outcome {
+        return FailingOutcome {
             asked: count_lines(output),
             written: output.len(),
             end: SessionEnd::InputEnd,
         };
     }
     let whole = if calls % 2 == 0 { calls / 2 } else { begun };
-    Outcome {
+    FailingOutcome {
         asked: begun,
         written: first_lines(output, whole).len(),
         end: SessionEnd::WriteFault,
@@ -306,13 +306,13 @@ fn cut_by_replies(output: &[u8], calls: usize) -> Outcome {
 }
 
 // each byte is a write, and after each newline there is a flush
-fn cut_by_bytes(output: &[u8], calls: usize) -> Outcome {
+fn cut_by_bytes(output: &[u8], calls: usize) -> FailingOutcome {
     let mut left = calls;
     let mut written = 0usize;
     let mut whole = 0usize;
     for byte in output {
         if left == 0 {
-            return Outcome {
+            return FailingOutcome {
                 asked: whole.saturating_add(1),
                 written,
                 end: SessionEnd::WriteFault,
@@ -323,7 +323,7 @@ fn cut_by_bytes(output: &[u8], calls: usize) -> Outcome {
         if *byte == b'\n' {
             whole = whole.saturating_add(1);
             if left == 0 {
-                return Outcome {
+                return FailingOutcome {
                     asked: whole,
                     written,
                     end: SessionEnd::WriteFault,
@@ -332,7 +332,7 @@ fn cut_by_bytes(output: &[u8], calls: usize) -> Outcome {
             left = left.saturating_sub(1);
         }
     }
-    Outcome {
+    FailingOutcome {
         asked: whole,
         written,
         end: SessionEnd::InputEnd,
@@ -342,32 +342,32 @@ fn cut_by_bytes(output: &[u8], calls: usize) -> Outcome {
 // a write or flush fails in this way, be replies written whole or byte by byte
 fn writer_fails(
     rt: &(impl Abort + AllocGlobal + Threads),
-    exchange: &Exchange,
+    dialogue: &Dialogue,
     writes: FaultAt,
     calls: usize,
 ) {
-    let output = exchange.output.as_slice();
+    let output = dialogue.output.as_slice();
     goes(
         rt,
-        exchange,
+        dialogue,
         writing_fails(writes, ALL),
         cut_by_replies(output, calls),
     );
     goes(
         rt,
-        exchange,
+        dialogue,
         writing_fails(writes, 1),
         cut_by_bytes(output, calls),
     );
 }
 
 // a write or flush fails, or takes nothing
-fn writers_fail(rt: &(impl Abort + AllocGlobal + Threads), exchange: &Exchange) {
-    let output = exchange.output.as_slice();
+fn writers_fail(rt: &(impl Abort + AllocGlobal + Threads), dialogue: &Dialogue) {
+    let output = dialogue.output.as_slice();
     let all_calls = output.len().saturating_add(count_lines(output));
     for calls in 0..all_calls.saturating_add(1) {
-        writer_fails(rt, exchange, FaultAt::after(calls as u64), calls);
-        writer_fails(rt, exchange, FaultAt::nothing_after(calls as u64), calls);
+        writer_fails(rt, dialogue, FaultAt::after(calls as u64), calls);
+        writer_fails(rt, dialogue, FaultAt::nothing_after(calls as u64), calls);
         let end = cut_by_bytes(output, calls).end;
         expect_same(&rt, end == SessionEnd::InputEnd, calls == all_calls);
     }
@@ -375,26 +375,26 @@ fn writers_fail(rt: &(impl Abort + AllocGlobal + Threads), exchange: &Exchange) 
 
 #[test]
 fn readers_fail_in_a_channel(rt: HostRuntime) {
-    let exchange = exchange_of(&rt, CHANNEL, CHANNEL_REPLIES);
-    readers_fail(&rt, &exchange);
-    whole_readers_fail(&rt, &exchange);
+    let dialogue = dialogue_of(&rt, CHANNEL, CHANNEL_REPLIES);
+    readers_fail(&rt, &dialogue);
+    whole_readers_fail(&rt, &dialogue);
 }
 
 #[test]
 fn readers_fail_before_a_save(rt: HostRuntime) {
-    let exchange = exchange_of(&rt, SAVING, SAVING_REPLIES);
-    readers_fail(&rt, &exchange);
-    whole_readers_fail(&rt, &exchange);
+    let dialogue = dialogue_of(&rt, SAVING, SAVING_REPLIES);
+    readers_fail(&rt, &dialogue);
+    whole_readers_fail(&rt, &dialogue);
 }
 
 #[test]
 fn writers_fail_in_a_channel(rt: HostRuntime) {
-    writers_fail(&rt, &exchange_of(&rt, CHANNEL, CHANNEL_REPLIES));
+    writers_fail(&rt, &dialogue_of(&rt, CHANNEL, CHANNEL_REPLIES));
 }
 
 #[test]
 fn writers_fail_at_a_save(rt: HostRuntime) {
-    writers_fail(&rt, &exchange_of(&rt, SAVING, SAVING_REPLIES));
+    writers_fail(&rt, &dialogue_of(&rt, SAVING, SAVING_REPLIES));
 }
 
 // the output where the put after so many fails, and how many puts fail

@@ -2,7 +2,7 @@
 
 use crate::expected::{expect_same, expect_that};
 use crate::loads::written_now;
-use crate::script::{Room, SMALL, gives_with};
+use crate::script::{LabShape, SMALL, gives_with};
 use crate::snapshots::goes_on;
 use gas_ledger::Gas;
 use gas_snapshot::{FileShelf, MaybeShelf, Shelf, encode};
@@ -74,13 +74,13 @@ fn load_from_a_file_of_seat_0(rt: HostRuntime) {
 fn runs_in(
     rt: &(impl Abort + AllocGlobal + HasFiles + Threads + Copy + Drop),
     folder: &str,
-    room: Room,
+    shape: LabShape,
     start: Option<Gas>,
     script: &str,
     output: &str,
 ) {
     let mut shelf = file_of(rt, folder, 0);
-    gives_with(rt, room, start, &mut shelf, script, output);
+    gives_with(rt, shape, start, &mut shelf, script, output);
 }
 
 /// What `--load` and `--save` ask of a run: it starts from the gas of a file, which has the size, and saves into the file. The
@@ -88,7 +88,7 @@ fn runs_in(
 #[test]
 fn run_goes_on_from_a_file(rt: HostRuntime) {
     let folder = new_folder(&rt, "continued", process::id(rt.process()));
-    let wide = Room {
+    let wide = LabShape {
         width: 128,
         ..SMALL
     };

@@ -1,7 +1,7 @@
 //! Lines that are refused, and inputs that end within a line, come in pieces, or never end.
 
 use crate::expected::{expect_same, expect_that};
-use crate::script::{ALL, Room, SMALL, answers, gives, lines, status_on};
+use crate::script::{ALL, LabShape, SMALL, answers, gives, lines, status_on};
 use std::process::Abort;
 use std::thread::Threads;
 use test_types::faults::{FaultAt, Feed, Sink, Store};
@@ -74,11 +74,11 @@ fn widest_lattice(rt: HostRuntime) {
     output.extend_from_slice(b"ROW ").expect(&rt, "memory");
     push_all(&rt, &mut output, b'f', 1024);
     output.push(b'\n').expect(&rt, "memory");
-    let room = Room {
+    let shape = LabShape {
         width: 4096,
         ..SMALL
     };
-    answers(&rt, room, input.as_slice(), ALL, output.as_slice(), 0);
+    answers(&rt, shape, input.as_slice(), ALL, output.as_slice(), 0);
 }
 
 // a line of 2,049 bytes, with a newline or without; and `tally` with spaces and a carriage return, of 2,048 bytes

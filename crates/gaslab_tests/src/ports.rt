@@ -1,6 +1,6 @@
 //! Sources and drains.
 
-use crate::script::{Room, SMALL, gives, gives_on};
+use crate::script::{LabShape, SMALL, gives, gives_on};
 
 #[test]
 fn drained_particle_is_booked(rt: HostRuntime) {
@@ -84,7 +84,7 @@ fn seventeen_drains(rt: HostRuntime) {
 fn ports_before_journal(rt: HostRuntime) {
     gives_on(
         &rt,
-        Room { cap: 1, ..SMALL },
+        LabShape { cap: 1, ..SMALL },
         "source 0 0 1 1 1; back 1; unport",
         "OK 0; ERR 11 ports; ERR 13 journal",
     );

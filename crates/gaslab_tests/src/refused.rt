@@ -2,22 +2,22 @@
 
 use crate::expected::{expect_same, expect_that};
 use crate::loads::{Padded, WITH_PORTS};
-use crate::script::{Room, SMALL, status_on};
+use crate::script::{LabShape, SMALL, status_on};
 use gas_snapshot::{Shelf, ShelfFault, SnapFault};
 use gaslab::{LoadFault, PlanFault, load_from, plan};
 use std::process::Abort;
 use std::thread::Threads;
 use test_types::faults::FaultAt;
-use test_types::pages::Page;
+use test_types::pages::OutputPage;
 
 // counts the snapshots of an empty gas, and of one with a particle in its first cell
 #[derive(Drop)]
-struct Counted {
+struct CountedShelf {
     empty: u64,
     filled: u64,
 }
 
-impl Shelf for Counted {
+impl Shelf for CountedShelf {
     ghost failures = { λ _. 0 };
 
     fn put(&mut self, bytes: &[u8]) -> Result<(), ShelfFault> {
@@ -60,15 +60,15 @@ fn stops_for_memory(found: &[u8], known: &[u8]) -> bool {
 // stops for want of memory.
 fn runs_with(
     rt: &(impl Abort + AllocGlobal + Threads),
-    room: Room,
+    shape: LabShape,
     input: &[u8],
     known: &[u8],
     others: &[&[u8]],
-    shelf: &mut Counted,
+    shelf: &mut CountedShelf,
 ) -> u8 {
     let mut reader = input;
-    let mut writer = Page::new();
-    let status = status_on(rt, room, None, &mut reader, &mut writer, shelf);
+    let mut writer = OutputPage::new();
+    let status = status_on(rt, shape, None, &mut reader, &mut writer, shelf);
     let found = writer.text();
     if status == 0 {
         expect_that(&rt, found == known || is_one_of(found, others));
@@ -79,8 +79,8 @@ fn runs_with(
     status
 }
 
-fn no_snapshots() -> Counted {
-    Counted {
+fn no_snapshots() -> CountedShelf {
+    CountedShelf {
         empty: 0,
         filled: 0,
     }
@@ -89,13 +89,13 @@ fn no_snapshots() -> Counted {
 // The same over an input that saves nothing: the run is done, or stops for want of memory.
 fn runs(
     rt: &(impl Abort + AllocGlobal + Threads),
-    room: Room,
+    shape: LabShape,
     input: &[u8],
     known: &[u8],
     others: &[&[u8]],
 ) {
     let mut shelf = no_snapshots();
-    let status = runs_with(rt, room, input, known, others, &mut shelf);
+    let status = runs_with(rt, shape, input, known, others, &mut shelf);
     expect_that(&rt, status == 0 || status == 4);
     expect_that(&rt, shelf.empty == 0);
     expect_that(&rt, shelf.filled == 0);
@@ -223,14 +223,14 @@ const CHANNEL_UNDONE: &[u8] =
 
 #[test]
 fn refused_channel_with_a_team(rt: HostRuntime) {
-    let room = Room {
+    let shape = LabShape {
         workers: 2,
         by_strips: true,
         ..SMALL
     };
     runs(
         &rt,
-        room,
+        shape,
         CHANNEL,
         CHANNEL_UNDONE,
         &[
@@ -249,7 +249,7 @@ fn refused_channel_with_a_team(rt: HostRuntime) {
 /// On the smallest lattice whose runs the program itself makes by strips: if these find no memory, the run is made without.
 #[test]
 fn refused_run_that_is_worth_strips(rt: HostRuntime) {
-    let room = Room {
+    let shape = LabShape {
         width: 576,
         height: 4096,
         workers: 16,
@@ -257,7 +257,7 @@ fn refused_run_that_is_worth_strips(rt: HostRuntime) {
     };
     runs(
         &rt,
-        room,
+        shape,
         b"put 40 250 200 12\nstep 64\nprobe 0 193 576 63\ntally\n",
         b"OK 0\nOK 1\nPROBE 600 0 -600\nTALLY 64 2400 0 0\n",
         &[

@@ -22,7 +22,7 @@ pub const ALL: usize = usize::MAX;
 
 /// A lattice's width and height, how many workers step it, whether they make every run by strips, and the journal's capacity.
 #[derive(Clone, Copy)]
-pub struct Room {
+pub struct LabShape {
     pub width: u32,
     pub height: u32,
     pub workers: u8,
@@ -31,7 +31,7 @@ pub struct Room {
 }
 
 /// The setup of a run whose command line says nothing.
-pub const SMALL: Room = Room {
+pub const SMALL: LabShape = LabShape {
     width: 64,
     height: 64,
     workers: 1,
@@ -40,7 +40,7 @@ pub const SMALL: Room = Room {
 };
 
 /// Four tiles.
-pub const LARGE: Room = Room {
+pub const LARGE: LabShape = LabShape {
     width: 128,
     height: 128,
     workers: 1,
@@ -66,17 +66,17 @@ pub fn lines(rt: &(impl Abort + AllocGlobal + Threads), text: &str) -> Vec<u8> {
     bytes
 }
 
-/// The setup of a room.
-pub fn setup_of(rt: &impl Abort, room: Room) -> Setup
+/// The setup of a test.
+pub fn setup_of(rt: &impl Abort, shape: LabShape) -> Setup
     ensures { IsInRange result }
 {
-    let Room {
+    let LabShape {
         width,
         height,
         workers,
         cap,
         ..
-    } = room;
+    } = shape;
     let size = Size::new(width, height).expect(rt, "a size");
     expect_that(rt, 1 <= cap);
     expect_that(rt, cap <= 65536);
@@ -139,17 +139,17 @@ fn status_by_strips<R: Read, W: Write, K: Shelf>(
     }
 }
 
-/// The status of a run. The program itself makes no small run by strips, so such a room has a laboratory of the test's own.
+/// The status of a run. The program itself makes no small run by strips, so such a shape has a laboratory of the test's own.
 pub fn status_on<R: Read, W: Write, K: Shelf>(
     rt: &(impl Abort + AllocGlobal + Threads),
-    room: Room,
+    shape: LabShape,
     start: Option<Gas>,
     reader: &mut R,
     writer: &mut W,
     shelf: &mut K,
 ) -> u8 {
-    let setup = setup_of(rt, room);
-    if room.by_strips {
+    let setup = setup_of(rt, shape);
+    if shape.by_strips {
         status_by_strips(rt, setup, start, reader, writer, shelf)
     } else {
         run_on(rt, rt.alloc(), setup, start, reader, writer, shelf)
@@ -159,7 +159,7 @@ pub fn status_on<R: Read, W: Write, K: Shelf>(
 /// The run over this feed writes these bytes, and has this status.
 pub fn writes<K: Shelf>(
     rt: &(impl Abort + AllocGlobal + Threads),
-    room: Room,
+    shape: LabShape,
     start: Option<Gas>,
     feed: &mut Feed<'_>,
     shelf: &mut K,
@@ -167,7 +167,7 @@ pub fn writes<K: Shelf>(
     status: u8,
 ) {
     let mut sink = Sink::new(rt.alloc(), ALL, ALL, FaultAt::never());
-    let found = status_on(rt, room, start, feed, &mut sink, shelf);
+    let found = status_on(rt, shape, start, feed, &mut sink, shelf);
     expect_same(&rt, sink.taken(), output);
     expect_same(&rt, found, status);
 }
@@ -175,7 +175,7 @@ pub fn writes<K: Shelf>(
 /// The same for these bytes, which are read at most `step` at once, on a lattice without anything.
 pub fn answers(
     rt: &(impl Abort + AllocGlobal + Threads),
-    room: Room,
+    shape: LabShape,
     input: &[u8],
     step: usize,
     output: &[u8],
@@ -183,13 +183,13 @@ pub fn answers(
 ) {
     let mut feed = Feed::new(input, step, FaultAt::never());
     let mut store = Store::new(rt.alloc(), FaultAt::never());
-    writes(rt, room, None, &mut feed, &mut store, output, status);
+    writes(rt, shape, None, &mut feed, &mut store, output, status);
 }
 
 /// The script gives this output, from this gas or on a lattice without anything, with this shelf.
 pub fn gives_with<K: Shelf>(
     rt: &(impl Abort + AllocGlobal + Threads),
-    room: Room,
+    shape: LabShape,
     start: Option<Gas>,
     shelf: &mut K,
     script: &str,
@@ -198,27 +198,32 @@ pub fn gives_with<K: Shelf>(
     let input = lines(rt, script);
     let output = lines(rt, output);
     let mut feed = Feed::new(input.as_slice(), ALL, FaultAt::never());
-    writes(rt, room, start, &mut feed, shelf, output.as_slice(), 0);
+    writes(rt, shape, start, &mut feed, shelf, output.as_slice(), 0);
 }
 
 /// The script gives this output, on a lattice without anything.
-pub fn gives_on(rt: &(impl Abort + AllocGlobal + Threads), room: Room, script: &str, output: &str) {
+pub fn gives_on(
+    rt: &(impl Abort + AllocGlobal + Threads),
+    shape: LabShape,
+    script: &str,
+    output: &str,
+) {
     let mut store = Store::new(rt.alloc(), FaultAt::never());
-    gives_with(rt, room, None, &mut store, script, output);
+    gives_with(rt, shape, None, &mut store, script, output);
 }
 
 /// The same on one thread, and by two, three and seven workers: as the program runs it, and all by strips.
 pub fn gives_by_teams(
     rt: &(impl Abort + AllocGlobal + Threads),
-    room: Room,
+    shape: LabShape,
     script: &str,
     output: &str,
 ) {
-    gives_on(rt, room, script, output);
+    gives_on(rt, shape, script, output);
     for workers in [2, 3, 7] {
-        let as_program = Room { workers, ..room };
+        let as_program = LabShape { workers, ..shape };
         gives_on(rt, as_program, script, output);
-        let by_strips = Room {
+        let by_strips = LabShape {
             by_strips: true,
             ..as_program
         };

@@ -2,7 +2,7 @@
 
 use crate::expected::{expect_same, expect_that};
 use crate::files::{Files, file_holds, file_of, new_folder};
-use crate::script::{LARGE, Room, SMALL, opened_by_strips, setup_of};
+use crate::script::{LARGE, LabShape, SMALL, opened_by_strips, setup_of};
 use crate::snapshots::snapshot;
 use gas_hall::serve_lab;
 use gas_ledger::Gas;
@@ -14,7 +14,7 @@ use std::sync::Wait;
 use std::thread::Threads;
 use std::time::Clock;
 use std::{fs, process};
-use test_types::pages::Page;
+use test_types::pages::OutputPage;
 use test_types::stage::{Speakers, Speech, Stage, Text, interleaved};
 
 // no shelf for each of so many sessions
@@ -32,14 +32,14 @@ fn status_of<
     K: Shelf + Drop + Send,
 >(
     rt: &R,
-    room: Room,
+    shape: LabShape,
     start: Option<Gas>,
     shelves: Vec<K>,
     stage: &Stage,
     speeches: &[Option<Speech<'_>>],
-    said: &mut Page,
+    said: &mut OutputPage,
 ) -> u8 {
-    let setup = setup_of(rt, room);
+    let setup = setup_of(rt, shape);
     assert!(rt; 1 <= shelves.len() && shelves.len() <= 64);
     let mut lobby = Speakers::new(*rt, stage, speeches);
     serve_on(rt, rt.alloc(), setup, start, &mut lobby, shelves, said)
@@ -51,7 +51,7 @@ pub fn serves<
     K: Shelf + Drop + Send,
 >(
     rt: &R,
-    room: Room,
+    shape: LabShape,
     start: Option<Gas>,
     shelves: Vec<K>,
     speeches: &[Option<Speech<'_>>],
@@ -59,8 +59,8 @@ pub fn serves<
     served: &[u8],
 ) {
     let stage = Stage::new();
-    let mut said = Page::new();
-    let status = status_of(rt, room, start, shelves, &stage, speeches, &mut said);
+    let mut said = OutputPage::new();
+    let status = status_of(rt, shape, start, shelves, &stage, speeches, &mut said);
     expect_same(&rt, (status, said.text()), (0, served));
     expect_that(rt, !stage.met_limit());
     expect_that(rt, stage.shows(0, shown[0]));
@@ -111,26 +111,26 @@ fn served_line_that_fails(rt: HostRuntime) {
         no_shelves(&rt, 1).expect(&rt, "memory"),
         &stage,
         &speeches,
-        &mut Page::full(),
+        &mut OutputPage::full(),
     );
     expect_same(&rt, status, 1);
     expect_that(&rt, stage.shows(0, b"OK 0\nBYE\n"));
 }
 
-// what two sessions on a laboratory of this room, whose workers make every run by strips, have done
+// what two sessions on a laboratory of this shape, whose workers make every run by strips, have done
 fn counts_by_strips<
     R: Abort + Threads + Wait + Sync + Clock + Copy + Drop + Send + AllocGlobal,
     K: Shelf + Drop + Send,
 >(
     rt: &R,
-    room: Room,
+    shape: LabShape,
     shelves: Vec<K>,
     stage: &Stage,
     speeches: &[Option<Speech<'_>>],
 ) -> (u32, u32, u32) {
     expect_that(rt, shelves.len() == 2);
     let mut lobby = Speakers::new(*rt, stage, speeches);
-    let lab = opened_by_strips(rt, setup_of(rt, room), None).expect(rt, "memory");
+    let lab = opened_by_strips(rt, setup_of(rt, shape), None).expect(rt, "memory");
     let served = serve_lab(rt, rt.alloc(), lab, &mut lobby, shelves).expect(rt, "memory");
     (served.done, served.failed, served.entries)
 }
@@ -149,13 +149,13 @@ fn workers_under_the_lock(rt: HostRuntime) {
         )),
     ];
     // a laboratory of four tiles
-    let room = Room {
+    let shape = LabShape {
         workers: 3,
         by_strips: true,
         ..LARGE
     };
     let shelves = no_shelves(&rt, 2).expect(&rt, "memory");
-    let counts = counts_by_strips(&rt, room, shelves, &stage, &speeches);
+    let counts = counts_by_strips(&rt, shape, shelves, &stage, &speeches);
     expect_same(&rt, counts, (2, 0, 6));
     expect_that(
         &rt,
@@ -259,7 +259,7 @@ fn refused_serve_on(rt: HostRuntime) {
         return;
     };
     let stage = Stage::new();
-    let mut said = Page::new();
+    let mut said = OutputPage::new();
     let speeches = [None, Some(Speech::of(ONE_PUT))];
     let status = status_of(&rt, SMALL, None, shelves, &stage, &speeches, &mut said);
     expect_that(&rt, status == 0 || status == 4);

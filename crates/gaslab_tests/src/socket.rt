@@ -1,7 +1,7 @@
 //! The program's server over sockets.
 
 use crate::expected::{expect_same, expect_that};
-use crate::script::{Room, SMALL, setup_of};
+use crate::script::{LabShape, SMALL, setup_of};
 use gas_hall::TcpLobby;
 use gas_snapshot::NoShelf;
 use gaslab::serve_on;
@@ -13,29 +13,29 @@ use std::sync::Wait;
 use std::thread::Threads;
 use std::time::{Clock, Duration, Instant};
 use std::{io, thread};
-use test_types::pages::Page;
+use test_types::pages::OutputPage;
 
 // What the server says after so many sessions of the listener, and its status.
 fn serve_some<R: Threads + Wait + Sync + Abort + AllocGlobal>(
     rt: &R,
     listener: TcpListener,
     seats: u32,
-    room: Room,
-) -> (u8, Page) {
+    shape: LabShape,
+) -> (u8, OutputPage) {
     let mut shelves = Vec::new(rt.alloc());
     for _ in 0..seats {
         shelves.push(NoShelf::new()).expect(rt, "memory");
     }
     assert!(rt; 1 <= shelves.len() && shelves.len() <= 64);
-    let setup = setup_of(rt, room);
+    let setup = setup_of(rt, shape);
     let mut lobby = TcpLobby::over(listener);
-    let mut said = Page::new();
+    let mut said = OutputPage::new();
     let status = serve_on(rt, rt.alloc(), setup, None, &mut lobby, shelves, &mut said);
     (status, said)
 }
 
 // The server ended well, and says this.
-fn says(rt: &impl Abort, served: (u8, Page), line: &[u8]) {
+fn says(rt: &impl Abort, served: (u8, OutputPage), line: &[u8]) {
     let (status, said) = served;
     expect_same(rt, (status, said.text()), (0, line));
 }
@@ -210,7 +210,7 @@ fn hears(rt: &(impl Abort + AllocGlobal), heard: &Heard) {
 fn clients_that_misbehave_beside_another(rt: HostRuntime) {
     let (listener, addr) = listen(&rt);
     let alloc = rt.alloc();
-    let wide = Room {
+    let wide = LabShape {
         width: 4096,
         ..SMALL
     };
@@ -268,13 +268,13 @@ fn many_replies(rt: &(impl Abort + AllocGlobal)) -> Vec<u8> {
 fn replies_before_unread_input_arrive(rt: HostRuntime) {
     let (listener, addr) = listen(&rt);
     let alloc = rt.alloc();
-    let room = Room {
+    let shape = LabShape {
         cap: 65536,
         ..SMALL
     };
     let (served, replies) = thread::join(
         &rt,
-        || serve_some(&rt, listener, 1, room),
+        || serve_some(&rt, listener, 1, shape),
         || reads_late(&rt, alloc, addr),
     );
     says(&rt, served, b"SERVED 1 0 40000\n");

@@ -2,7 +2,7 @@
 
 use crate::expected::{expect_same, expect_that};
 use crate::failing::are_same;
-use crate::script::{ALL, Room, SMALL, gives_on, status_on};
+use crate::script::{ALL, LabShape, SMALL, gives_on, status_on};
 use crate::serving::serves;
 use gas_snapshot::NoShelf;
 use std::io::Write;
@@ -41,7 +41,7 @@ const TOLD: &[u8] =
     b"SAVED 548 52246\nOK 548\nSAVED 549 52246\nTALLY 100 34636 62 102\nLEDGER 0 34636 0 0 38 0 -24 0 0 -42 0 -156 12\nOK 549\nSAVED 550 52246\nTALLY 0 34636 38 -42\nLEDGER 0 34636 0 0 38 0 0 0 0 -42 0 0 0\nOK 550\nOK 551\nOK 552\nOK 553\nOK 554\nSAVED 555 52282\nTALLY 100 17304 5272 230\nLEDGER 0 44864 27560 0 -294 4806 -12284 1912 0 -828 110 -1740 572\nOK 555\nOK 556\nSAVED 557 52246\nTALLY 30 17304 -3446 -232\nLEDGER 0 44864 27560 0 -294 4806 -1010 -644 0 -828 110 -930 224\n";
 
 // Seventeen rows of tiles: one and two for each of 16 workers, and two strips for one worker.
-const HIGH: Room = Room {
+const HIGH: LabShape = LabShape {
     width: 128,
     height: 1088,
     ..SMALL
@@ -66,11 +66,11 @@ struct Told {
     store: Store,
 }
 
-fn told_by(rt: &(impl Abort + AllocGlobal + Threads), script: &[u8], room: Room) -> Told {
+fn told_by(rt: &(impl Abort + AllocGlobal + Threads), script: &[u8], shape: LabShape) -> Told {
     let mut feed = Feed::new(script, ALL, FaultAt::never());
     let mut sink = Sink::new(rt.alloc(), ALL, ALL, FaultAt::never());
     let mut store = Store::new(rt.alloc(), FaultAt::never());
-    let status = status_on(rt, room, None, &mut feed, &mut sink, &mut store);
+    let status = status_on(rt, shape, None, &mut feed, &mut sink, &mut store);
     expect_same(&rt, status, 0);
     Told { sink, store }
 }
@@ -90,12 +90,12 @@ fn random_gas_by_any_number_of_workers(rt: HostRuntime) {
     expect_that(&rt, alone.sink.taken().ends_with(TOLD));
     is_back(&rt, alone.store.kept());
     for workers in 1..17u8 {
-        let room = Room {
+        let shape = LabShape {
             workers,
             by_strips: true,
             ..HIGH
         };
-        let by_team = told_by(&rt, script.as_slice(), room);
+        let by_team = told_by(&rt, script.as_slice(), shape);
         expect_same(&rt, by_team.sink.taken(), alone.sink.taken());
         are_same(&rt, by_team.store.kept(), alone.store.kept());
     }
@@ -105,7 +105,7 @@ fn random_gas_by_any_number_of_workers(rt: HostRuntime) {
 /// strips. The replies are those of `tools/channel_gas.py`.
 #[test]
 fn run_that_is_worth_strips(rt: HostRuntime) {
-    let room = Room {
+    let shape = LabShape {
         width: 576,
         height: 4096,
         workers: 16,
@@ -113,7 +113,7 @@ fn run_that_is_worth_strips(rt: HostRuntime) {
     };
     gives_on(
         &rt,
-        room,
+        shape,
         "put 30 250 200 12; put 300 4090 100 6; put 100 2040 60 20; wall 0 240 576 1; wall 0 270 576 1; block 240 250 8 12; source 0 244 4 20 2; drain 280 241 8 29; step 100; tally; ledger; probe 0 255 576 1; probe 0 256 576 1; probe 232 241 24 29; unport; back 100; tally; ledger; probe 0 255 576 1; probe 0 256 576 1",
         "OK 0; OK 1; OK 2; OK 3; OK 4; OK 5; OK 6; OK 7; OK 8; TALLY 100 6055 -591 -15; LEDGER 0 6174 119 0 262 119 298 436 0 -32 -27 6 4; PROBE 80 -12 -80; PROBE 82 -16 82; PROBE 104 34 8; OK 9; OK 10; TALLY 0 6055 113 -119; LEDGER 0 6174 119 0 262 119 0 30 0 -32 -27 104 10; PROBE 248 12 -248; PROBE 244 12 244",
     );
@@ -154,7 +154,7 @@ fn most_until(rt: &(impl Files + AllocGlobal), is_over: &AtomicBool) -> u32 {
 }
 
 // More steps than one look takes, by two workers.
-const LONG_STEPS: Room = Room {
+const LONG_STEPS: LabShape = LabShape {
     width: 4096,
     height: 2048,
     workers: 2,

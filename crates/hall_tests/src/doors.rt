@@ -19,7 +19,7 @@ use std::thread;
 use std::thread::Threads;
 use std::time::Clock;
 use test_types::gates::TestGate;
-use test_types::pages::{Page, PageWriter, shows};
+use test_types::pages::{OutputPage, PageWriter, shows};
 
 // One session over memory, which writes to the page.
 fn sit_down<N: HallName, S: Stepper, G: HallGate, R: Wait>(
@@ -28,7 +28,7 @@ fn sit_down<N: HallName, S: Stepper, G: HallGate, R: Wait>(
     hall: &Hall<N, S, G>,
     seat: HallSeat<N>,
     input: &[u8],
-    page: &Mutex<Page>,
+    page: &Mutex<OutputPage>,
 ) -> (HallSeat<N>, SessionEnd) {
     let mut reader = input;
     let mut writer = PageWriter::new(page);
@@ -82,7 +82,7 @@ fn put_by_turns<
     first: HallSeat<N>,
     second: HallSeat<N>,
 ) -> ((HallSeat<N>, SessionEnd), (HallSeat<N>, SessionEnd)) {
-    let (first_page, second_page) = (Mutex::new(Page::new()), Mutex::new(Page::new()));
+    let (first_page, second_page) = (Mutex::new(OutputPage::new()), Mutex::new(OutputPage::new()));
     let (on_first, on_second) = (&first_page, &second_page);
     let back = thread::join(
         rt,
@@ -198,7 +198,7 @@ fn copy_between<
     let (Some(second), Some(first)) = (seats.pop(), seats.pop()) else {
         panic!(rt; "no seats")
     };
-    let page = Mutex::new(Page::new());
+    let page = Mutex::new(OutputPage::new());
     let on_page = &page;
     let (_, (_, copied)) = thread::join(
         rt,

@@ -14,7 +14,7 @@ use std::thread::Threads;
 use std::time::Clock;
 use test_types::faults::{FaultAt, Feed};
 use test_types::gates::{TestGate, wait_for};
-use test_types::pages::{Page, PageWriter, shows};
+use test_types::pages::{OutputPage, PageWriter, shows};
 
 const FIRST: &[u8] = b"put 2 0 1 1\nput 6 0 1 1\n";
 
@@ -36,7 +36,7 @@ const SECOND_TOLD: [&[u8]; 3] = [
 struct Scene {
     reads: FaultAt,
     writes: FaultAt,
-    pages: [Mutex<Page>; 2],
+    pages: [Mutex<OutputPage>; 2],
     failed: AtomicBool,
     is_over: AtomicBool,
     met_limit: AtomicBool,
@@ -47,7 +47,7 @@ impl Scene {
         Scene {
             reads,
             writes,
-            pages: [Mutex::new(Page::new()), Mutex::new(Page::new())],
+            pages: [Mutex::new(OutputPage::new()), Mutex::new(OutputPage::new())],
             failed: AtomicBool::new(false),
             is_over: AtomicBool::new(false),
             met_limit: AtomicBool::new(false),
@@ -63,14 +63,14 @@ impl Scene {
 
 // Reads of at most nine bytes, so that some end within a line.
 #[derive(Drop)]
-struct Speaker<'a, C: Clock> {
+struct FaultySpeaker<'a, C: Clock> {
     clock: C,
     scene: &'a Scene,
     feed: Feed<'a>,
     waits: bool,
 }
 
-impl<'a, C: Clock> Read for Speaker<'a, C> {
+impl<'a, C: Clock> Read for FaultySpeaker<'a, C> {
     fn read(&mut self, buf: &mut [u8]) -> io::Result<usize> {
         if self.waits {
             wait_for(&self.clock, &self.scene.is_over, &self.scene.met_limit);
@@ -131,11 +131,11 @@ struct Two<'a, C: Clock> {
 }
 
 impl<'a, C: Clock + Copy + Drop + Send> Lobby for Two<'a, C> {
-    type R = Speaker<'a, C>;
+    type R = FaultySpeaker<'a, C>;
 
     type W = Writer<'a>;
 
-    fn accept(&mut self) -> Result<(Speaker<'a, C>, Writer<'a>), AcceptFault> {
+    fn accept(&mut self) -> Result<(FaultySpeaker<'a, C>, Writer<'a>), AcceptFault> {
         let Two { clock, scene, next } = self;
         let at = *next;
         *next = at.saturating_add(1);
@@ -148,7 +148,7 @@ impl<'a, C: Clock + Copy + Drop + Send> Lobby for Two<'a, C> {
         } else {
             (FIRST, scene.reads, scene.writes)
         };
-        let speaker = Speaker {
+        let speaker = FaultySpeaker {
             clock: *clock,
             scene: *scene,
             feed: Feed::new(text, 9, reads),
@@ -171,14 +171,14 @@ enum Server {
 }
 
 // How many seats were served and how many not, and the entries of all; then the entries of the first two seats.
-type Counts = ((u32, u32, u32), [u32; 2]);
+type ServedCounts = ((u32, u32, u32), [u32; 2]);
 
 // Serves the scene on an empty laboratory of 64 by 64.
 fn served<R: Threads + Wait + Sync + Abort + Clock + Copy + Drop + Send + AllocGlobal>(
     rt: &R,
     server: Server,
     scene: &Scene,
-) -> Counts {
+) -> ServedCounts {
     let mut lobby = Two {
         clock: *rt,
         scene,

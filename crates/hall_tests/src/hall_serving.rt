@@ -8,12 +8,12 @@ use std::sync::{Mutex, Wait};
 use std::thread::Threads;
 use std::time::Clock;
 use test_types::gates::TestGate;
-use test_types::pages::{Guests, Page, shows};
+use test_types::pages::{Guests, OutputPage, shows};
 
 // What is left of a hall: seats that were served and were not, and the entries of all; the entries of each seat; who put
 // into which column; count and momentum of the gas; how often each seat saved; what is on each page.
 #[derive(Clone, Copy)]
-struct Outcome<'a> {
+struct HallOutcome<'a> {
     counts: (u32, u32, u32),
     of_seats: [u32; 4],
     puts: &'a [(u16, u16)],
@@ -27,7 +27,7 @@ fn serve_guests<R: Threads + Wait + Clock + Sync + Abort + AllocGlobal>(
     rt: &R,
     gate: &TestGate<R>,
     inputs: &[Option<&[u8]>],
-    pages: &[Mutex<Page>],
+    pages: &[Mutex<OutputPage>],
     puts: &[(u16, u16)],
 ) -> (Left, [u32; 3]) {
     let mut lobby = Guests::new(inputs, pages);
@@ -41,8 +41,8 @@ fn serves<R: Threads + Wait + Clock + Sync + Abort + AllocGlobal>(
     rt: &R,
     gate: &TestGate<R>,
     inputs: &[Option<&[u8]>],
-    pages: &[Mutex<Page>],
-    wanted: Outcome<'_>,
+    pages: &[Mutex<OutputPage>],
+    wanted: HallOutcome<'_>,
 ) {
     let (left, saved) = serve_guests(rt, gate, inputs, pages, wanted.puts);
     expect_same(rt, left.counts, wanted.counts);
@@ -54,18 +54,18 @@ fn serves<R: Threads + Wait + Clock + Sync + Abort + AllocGlobal>(
 }
 
 // There is as much on each page as is wanted.
-fn show(rt: &impl Abort, pages: &[Mutex<Page>], wanted: &[&[u8]]) {
+fn show(rt: &impl Abort, pages: &[Mutex<OutputPage>], wanted: &[&[u8]]) {
     expect_same(rt, pages.len(), wanted.len());
     for (page, text) in pages.iter().zip(wanted) {
         expect_that(rt, shows(page, *text));
     }
 }
 
-fn empty_pages() -> [Mutex<Page>; 3] {
+fn empty_pages() -> [Mutex<OutputPage>; 3] {
     [
-        Mutex::new(Page::new()),
-        Mutex::new(Page::new()),
-        Mutex::new(Page::new()),
+        Mutex::new(OutputPage::new()),
+        Mutex::new(OutputPage::new()),
+        Mutex::new(OutputPage::new()),
     ]
 }
 
@@ -76,7 +76,7 @@ fn two_served_sessions_take_turns(rt: HostRuntime) {
     let turns = TestGate::turns(rt);
     let pages = empty_pages();
     let inputs: [Option<&[u8]>; 2] = [Some(b"put 0 0 1 1\nput 2 0 1 1\n"), Some(b"put 4 0 1 1\n")];
-    let wanted = Outcome {
+    let wanted = HallOutcome {
         counts: (2, 0, 3),
         of_seats: [2, 1, 0, 0],
         puts: &[(0, 0), (1, 4), (0, 2)],
@@ -92,7 +92,7 @@ fn two_served_sessions_take_turns(rt: HostRuntime) {
 fn failed_accept_is_counted(rt: HostRuntime) {
     let pages = empty_pages();
     let inputs: [Option<&[u8]>; 2] = [None, Some(b"put 0 0 1 1\nquit\n")];
-    let wanted = Outcome {
+    let wanted = HallOutcome {
         counts: (1, 1, 1),
         of_seats: [0, 1, 0, 0],
         puts: &[(1, 0)],
@@ -107,9 +107,9 @@ fn failed_accept_is_counted(rt: HostRuntime) {
 #[test]
 fn failed_writer_beside_others(rt: HostRuntime) {
     let pages = [
-        Mutex::new(Page::new()),
-        Mutex::new(Page::full()),
-        Mutex::new(Page::new()),
+        Mutex::new(OutputPage::new()),
+        Mutex::new(OutputPage::full()),
+        Mutex::new(OutputPage::new()),
     ];
     let inputs: [Option<&[u8]>; 3] = [
         Some(b"put 0 0 1 1\n"),
@@ -145,7 +145,7 @@ fn torn_and_long_lines_beside_others(rt: HostRuntime) {
         Some(long.as_slice()),
         Some(b"put 4 0 1 1\ntally\nquit\n"),
     ];
-    let wanted = Outcome {
+    let wanted = HallOutcome {
         counts: (3, 0, 1),
         of_seats: [0, 0, 1, 0],
         puts: &[(2, 4)],
@@ -164,7 +164,7 @@ fn each_session_saves_on_its_own_shelf(rt: HostRuntime) {
         Some(b"save\nquit\n"),
         Some(b"quit\n"),
     ];
-    let wanted = Outcome {
+    let wanted = HallOutcome {
         counts: (3, 0, 0),
         of_seats: [0, 0, 0, 0],
         puts: &[],

@@ -8,14 +8,16 @@ use std::sync::{Mutex, Wait};
 use std::thread::Threads;
 use std::time::Clock;
 use test_types::gates::TestGate;
-use test_types::pages::{Guests, Page};
+use test_types::pages::{Guests, OutputPage};
 
 const SEATS: usize = 64;
 
-fn pages(rt: &(impl Abort + AllocGlobal)) -> Vec<Mutex<Page>> {
+fn pages(rt: &(impl Abort + AllocGlobal)) -> Vec<Mutex<OutputPage>> {
     let mut pages = Vec::new(rt.alloc());
     for _ in 0..SEATS {
-        pages.push(Mutex::new(Page::new())).expect(rt, "memory");
+        pages
+            .push(Mutex::new(OutputPage::new()))
+            .expect(rt, "memory");
     }
     pages
 }
@@ -24,7 +26,7 @@ fn pages(rt: &(impl Abort + AllocGlobal)) -> Vec<Mutex<Page>> {
 fn serve_all<R: Threads + Wait + Clock + Sync + Abort + AllocGlobal>(
     rt: &R,
     gate: &TestGate<R>,
-    pages: &[Mutex<Page>],
+    pages: &[Mutex<OutputPage>],
 ) -> ((u32, u32, u32), [u32; 4], (i64, i64, i64)) {
     let line: &[u8] = b"put 6 0 1 1\n";
     let inputs = [Some(line); SEATS];

@@ -20,7 +20,7 @@ use std::sync::{Mutex, Wait};
 use std::thread::Threads;
 use std::time::Clock;
 use test_types::gates::TestGate;
-use test_types::pages::{Guests, Page, shows};
+use test_types::pages::{Guests, OutputPage, shows};
 
 /// One particle at the upper left cell.
 pub fn one_particle(rt: &impl Abort, size: Size) -> Command
@@ -169,7 +169,7 @@ fn refused_memory_leaves_the_laboratory(rt: HostRuntime) {
 // One session over the page, which puts a particle, if memory is not refused before.
 fn serve_one<R: Threads + Wait + Clock + Sync + Abort + AllocGlobal + Copy>(
     rt: &R,
-    page: &[Mutex<Page>],
+    page: &[Mutex<OutputPage>],
 ) -> Option<Left> {
     let line: &[u8] = b"put 0 0 1 1\n";
     let inputs = [Some(line)];
@@ -192,7 +192,7 @@ fn told(rt: &impl Abort, counts: (u32, u32, u32)) -> &'static [u8] {
 /// A seat whose thread was refused comes back unserved.
 #[test]
 fn refused_thread_serves_nobody(rt: HostRuntime) {
-    let page = [Mutex::new(Page::new())];
+    let page = [Mutex::new(OutputPage::new())];
     let Some(left) = serve_one(&rt, &page) else {
         return;
     };

@@ -16,7 +16,7 @@ use test_types::stage::{Speakers, Speech, Stage, Text, interleaved};
 /// What became of the seats: how many were served and how many not, and the entries of all; the entries of each, and how
 /// often each saved.
 #[derive(Clone, Copy, PartialEq)]
-struct Outcome {
+struct TurnHallOutcome {
     counts: (u32, u32, u32),
     of_seats: [u32; 3],
     saved: [u32; 3],
@@ -72,12 +72,12 @@ fn serve_speeches<R: Threads + Wait + Sync + Abort + Clock + Copy + Drop + Send 
     rt: &R,
     stage: &Stage,
     speeches: &[Option<Speech<'_>>],
-) -> Outcome {
+) -> TurnHallOutcome {
     let saved = no_puts();
     let shelves = counters(rt.alloc(), &saved, speeches.len()).expect(rt, "memory");
     let mut lobby = Speakers::new(*rt, stage, speeches);
     let (counts, of_seats) = serve_in_turn(rt, &mut lobby, shelves);
-    Outcome {
+    TurnHallOutcome {
         counts,
         of_seats,
         saved: counted(&saved),
@@ -85,8 +85,8 @@ fn serve_speeches<R: Threads + Wait + Sync + Abort + Clock + Copy + Drop + Send 
 }
 
 // none of them saved
-fn without_saves(counts: (u32, u32, u32), of_seats: [u32; 3]) -> Outcome {
-    Outcome {
+fn without_saves(counts: (u32, u32, u32), of_seats: [u32; 3]) -> TurnHallOutcome {
+    TurnHallOutcome {
         counts,
         of_seats,
         saved: [0, 0, 0],

@@ -17,8 +17,8 @@ use Rattle.phase_step.specs.Balance.{flow_counted}
 use Rattle.phase_step.specs.TileRuns.{tiles_move, tiles_flow}
 use Rattle.phase_step.specs.Parts.{own_rows, own_flow, own_take, own_moves, IsPartOf, IsTileOf, IsUnspoilt, HasRun, tile_in, whole_part}
 use Rattle.phase_step.specs.Turns.{IsTileAfter}
-use Rattle.phase_step.specs.SolidBlocks.{AreLent}
-use Rattle.phase_step.specs.declared.steps.solids.Lent.{Lent}
+use Rattle.phase_step.specs.SolidBlocks.{AreTileSolids}
+use Rattle.phase_step.specs.declared.steps.solids.TileSolids.{TileSolids}
 use Rattle.block_rule.specs.Windows.{taken_in}
 use Rattle.gas_terms.specs.declared.accounts.Took.{Took}
 use Rattle.phase_step.proofs.ActedTiles.{cell_within}
@@ -199,17 +199,17 @@ whole_unspoilt cells i is within =
     record { low = omega arith; high = omega (arith, tiles, row) }
 
 -- a step of a tile of it is the lattice's
-pub whole_turns : (p : ℕ) (old w o : Cells) (i : ℕ) (lent : Lent) (t : Tile) → IsLattice old → i < tile_count old → HasSidesOf w old → HasSidesOf o old → AreLent w o i lent
-    → (IsPartOf (whole_part old) w o old old 0 → AreLent w o (tile_in (whole_part old) (old.width / 64) i) lent → IsTileOf (whole_part old) p old old w o 1 i t) → IsTileAfter p old w o i t
-whole_turns p old w o i lent t is within of_walls of_obstacles known turned =
+pub whole_turns : (p : ℕ) (old w o : Cells) (i : ℕ) (tile_solids : TileSolids) (t : Tile) → IsLattice old → i < tile_count old → HasSidesOf w old → HasSidesOf o old → AreTileSolids w o i tile_solids
+    → (IsPartOf (whole_part old) w o old old 0 → AreTileSolids w o (tile_in (whole_part old) (old.width / 64) i) tile_solids → IsTileOf (whole_part old) p old old w o 1 i t) → IsTileAfter p old w o i t
+whole_turns p old w o i tile_solids t is within of_walls of_obstacles known turned =
     whole_turned p old w o i 1 t is within
-    (turned (whole_is (old.height / 64) w o old is.sized is.full of_walls of_obstacles refl) (subst (λ j. AreLent w o j lent) (sym (whole_tile old i is within)) known))
+    (turned (whole_is (old.height / 64) w o old is.sized is.full of_walls of_obstacles refl) (subst (λ j. AreTileSolids w o j tile_solids) (sym (whole_tile old i is within)) known))
 
-pub whole_takes : (p : ℕ) (old w o : Cells) (i : ℕ) (lent : Lent) (took : Took) → IsLattice old → i < tile_count old → HasSidesOf w old → HasSidesOf o old → AreLent w o i lent
-    → (IsPartOf (whole_part old) w o old old 0 → AreLent w o (tile_in (whole_part old) (old.width / 64) i) lent → IsUnspoilt (whole_part old) old i 0 → took ≡ taken_in (pos p) old w o (tile_rectangle old (tile_in (whole_part old) (old.width / 64) i)))
+pub whole_takes : (p : ℕ) (old w o : Cells) (i : ℕ) (tile_solids : TileSolids) (took : Took) → IsLattice old → i < tile_count old → HasSidesOf w old → HasSidesOf o old → AreTileSolids w o i tile_solids
+    → (IsPartOf (whole_part old) w o old old 0 → AreTileSolids w o (tile_in (whole_part old) (old.width / 64) i) tile_solids → IsUnspoilt (whole_part old) old i 0 → took ≡ taken_in (pos p) old w o (tile_rectangle old (tile_in (whole_part old) (old.width / 64) i)))
     → took ≡ taken_in (pos p) old w o (tile_rectangle old i)
-whole_takes p old w o i lent took is within of_walls of_obstacles known takes =
-    takes (whole_is (old.height / 64) w o old is.sized is.full of_walls of_obstacles refl) (subst (λ j. AreLent w o j lent) (sym (whole_tile old i is within)) known) (whole_unspoilt old i is within)
+whole_takes p old w o i tile_solids took is within of_walls of_obstacles known takes =
+    takes (whole_is (old.height / 64) w o old is.sized is.full of_walls of_obstacles refl) (subst (λ j. AreTileSolids w o j tile_solids) (sym (whole_tile old i is within)) known) (whole_unspoilt old i is within)
     ∙ ap (λ j. taken_in (pos p) old w o (tile_rectangle old j)) (whole_tile old i is within)
 
 -- A strip is a part with a margin.

@@ -29,7 +29,7 @@ nowhere = record { drains = []; sources = [] }
 
 -- what a list of them leaves after each phase: after phase k the one in place k of it, and none after its end
 abbrev pub listed : List Areas → ℕ → Leaves
-listed turns k = leaves_of (get_or turns k nowhere)
+listed exchanges k = leaves_of (get_or exchanges k nowhere)
 
 -- The set has each tile in which a rectangle has a cell: a cell of the set stands for one of the first 64 by 64 tiles.
 abbrev pub HasTilesOf : Tile → List Rectangle → Type 0

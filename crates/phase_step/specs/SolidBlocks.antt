@@ -5,7 +5,7 @@ use Rattle.gas_terms.specs.Gas.{site_of, is_walled}
 use Rattle.block_rule.specs.Lent.{HasNoCell}
 use Rattle.block_rule.specs.TileBlocks.{NamesBlocks, AreLentBlocks}
 use Rattle.block_rule.specs.declared.blocks_in_tile.TileBlocks.{TileBlocks}
-use Rattle.phase_step.specs.declared.steps.solids.Lent.{Lent}
+use Rattle.phase_step.specs.declared.steps.solids.TileSolids.{TileSolids}
 
 -- the words of tile i
 abbrev pub no_words : TileBlocks
@@ -29,9 +29,9 @@ pub record AreBlocksOf (set : Cells) (told : List ℕ) (words : List TileBlocks)
   pub each : (i : ℕ) → i < tile_count set → NamesBlocks (slice_index told i) (blocks_at words i) (is_walled_in set i)
 
 -- what is lent of the blocks of tile i that have a wall, and of those that have an obstacle
-pub record AreLent (walls obstacles : Cells) (i : ℕ) (lent : Lent) : Type 0 where
-  pub of_walls : AreLentBlocks lent.walls (is_walled_in walls i)
-  pub of_obstacles : AreLentBlocks lent.obstacles (is_walled_in obstacles i)
+pub record AreTileSolids (walls obstacles : Cells) (i : ℕ) (tile_solids : TileSolids) : Type 0 where
+  pub of_walls : AreLentBlocks tile_solids.walls (is_walled_in walls i)
+  pub of_obstacles : AreLentBlocks tile_solids.obstacles (is_walled_in obstacles i)
 
 -- no site has a cell of the set
 abbrev pub HasNoBlocks : Cells → Type 0

@@ -2,14 +2,14 @@
 
 mod action;
 mod exchange;
-mod few;
 mod later;
 mod listed;
+mod port_array;
 mod still;
 
 pub use action::{Action, change_of};
 pub use exchange::{Exchange, any_area};
-pub use few::Few;
 pub use later::Later;
 pub use listed::Listed;
+pub use port_array::PortArray;
 pub use still::Still;

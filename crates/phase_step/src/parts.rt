@@ -6,7 +6,7 @@ ghost use Rattle.gas_terms.specs.Cells.{Cells, joined, tile_count, tile_rectangl
 ghost use Rattle.gas_plane.specs.Planes.{IsLattice, IsTileFrom, IsPosition};
 ghost use Rattle.gas_plane.specs.Tiles.{AreRowsRound, AreFullRows, IsColumnOf};
 ghost use Rattle.block_rule.specs.Windows.{taken_in};
-ghost use Rattle.phase_step.specs.SolidBlocks.{AreLent, HasNoBlocks};
+ghost use Rattle.phase_step.specs.SolidBlocks.{AreTileSolids, HasNoBlocks};
 ghost use Rattle.gas_terms.specs.Gas.{streamed};
 ghost use Rattle.gas_terms.specs.Velocity.{parity as of_tick};
 ghost use Rattle.gas_terms.specs.Accounts.{moved_by};
@@ -17,7 +17,7 @@ ghost use Rattle.phase_step.specs.Parts.{own_take, own_moves, own_rows, tile_in,
 ghost use Rattle.phase_step.specs.WholeRuns.{dynamics, CanRun, HasRunWhole};
 
 use crate::exchanges::{Action, Exchange, change_of};
-use crate::steps::{Ground, Lent, Solids};
+use crate::steps::{Ground, Solids, TileSolids};
 use crate::sums::Flow;
 use crate::{Run, parity_at};
 use block_rule::{Counted, Window, turn_tile_even, turn_tile_odd};
@@ -37,13 +37,13 @@ pub struct Part {
 
 // Where a phase counts what is taken: of the particles in the tiles from `first` up to `end`, in the accounts that are kept.
 #[derive(Clone, Copy)]
-struct Own {
+struct CountedTiles {
     first: u32,
     end: u32,
     counted: Counted,
 }
 
-impl Own {
+impl CountedTiles {
     // Whether tile i is one of them.
     #[inline(always)]
     fn has(self, i: u32) -> bool
@@ -56,20 +56,20 @@ impl Own {
 
 /// A tile of a part at even parity, in place, among the walled blocks of the lattice's tile that it is.
 #[inline(always)]
-pub fn turn_even_in_part(lent: Lent<'_>, counted: Counted, tile: &mut Tile) -> Took
+pub fn turn_even_in_part(tile_solids: TileSolids<'_>, counted: Counted, tile: &mut Tile) -> Took
     ensures cells { (part : Part) (walls obstacles cells lattice : Cells) (i k : ℕ) →
         IsLattice cells → i < tile_count cells → IsPartOf part walls obstacles cells lattice k →
-        AreLent walls obstacles (tile_in part (lattice.width / 64) i) lent.entry →
+        AreTileSolids walls obstacles (tile_in part (lattice.width / 64) i) tile_solids.entry →
         IsTileFrom tile.old cells (tile_rectangle cells i).x (tile_rectangle cells i).y →
         IsTileOf part 0 cells lattice walls obstacles (k + 1) i tile.new }
     ensures took { (part : Part) (walls obstacles cells lattice : Cells) (i k : ℕ) →
         IsLattice cells → i < tile_count cells → IsPartOf part walls obstacles cells lattice k →
-        AreLent walls obstacles (tile_in part (lattice.width / 64) i) lent.entry →
+        AreTileSolids walls obstacles (tile_in part (lattice.width / 64) i) tile_solids.entry →
         IsTileFrom tile.old cells (tile_rectangle cells i).x (tile_rectangle cells i).y →
         IsUnspoilt part cells i k → result ≡ counted_of counted (taken_in (pos 0) lattice walls obstacles
         (tile_rectangle lattice (tile_in part (lattice.width / 64) i))) }
 {
-    turn_tile_even(tile, lent.walls, lent.obstacles, counted)
+    turn_tile_even(tile, tile_solids.walls, tile_solids.obstacles, counted)
 }
 
 /// The same at odd parity: its blocks reach into the part's tiles round it.
@@ -77,7 +77,7 @@ pub fn turn_even_in_part(lent: Lent<'_>, counted: Counted, tile: &mut Tile) -> T
 pub fn turn_odd_in_part(
     rows: TileRows<'_>,
     column: u32,
-    lent: Lent<'_>,
+    tile_solids: TileSolids<'_>,
     counted: Counted,
     out: &mut Tile,
 ) -> Took
@@ -85,11 +85,11 @@ pub fn turn_odd_in_part(
     requires column { column < rows.across }
     ensures cells { (part : Part) (walls obstacles cells lattice : Cells) (i k : ℕ) →
         IsColumnOf rows.entry column cells i → IsPartOf part walls obstacles cells lattice k →
-        AreLent walls obstacles (tile_in part (lattice.width / 64) i) lent.entry →
+        AreTileSolids walls obstacles (tile_in part (lattice.width / 64) i) tile_solids.entry →
         IsTileOf part 1 cells lattice walls obstacles (k + 1) i out.new }
     ensures took { (part : Part) (walls obstacles cells lattice : Cells) (i k : ℕ) →
         IsColumnOf rows.entry column cells i → IsPartOf part walls obstacles cells lattice k →
-        AreLent walls obstacles (tile_in part (lattice.width / 64) i) lent.entry →
+        AreTileSolids walls obstacles (tile_in part (lattice.width / 64) i) tile_solids.entry →
         IsUnspoilt part cells i k → result ≡ counted_of counted (taken_in (pos 1) lattice walls obstacles
         (tile_rectangle lattice (tile_in part (lattice.width / 64) i))) }
 {
@@ -97,7 +97,13 @@ pub fn turn_odd_in_part(
         tile: rows.tile(column),
         round: rows.round(column),
     };
-    turn_tile_odd(&particles, lent.walls, lent.obstacles, counted, out)
+    turn_tile_odd(
+        &particles,
+        tile_solids.walls,
+        tile_solids.obstacles,
+        counted,
+        out,
+    )
 }
 
 // The rows of tiles round the tile at this position, by those round the tile before it.
@@ -138,7 +144,7 @@ fn next_there(there: u32, tiles: u32) -> u32
 }
 
 // a part's own tiles
-fn own_of(part: Part, cells: &Plane, counted: Counted) -> Own
+fn counted_tiles(part: Part, cells: &Plane, counted: Counted) -> CountedTiles
     requires { (part.margin ≤ 1) × (2 * part.margin < cells.now.height / 64) }
     ensures first { result.first ≡ part.margin * (cells.now.width / 64) }
     ensures order { (result.first ≤ result.end) × (result.end ≤ tile_count cells.now) }
@@ -146,7 +152,7 @@ fn own_of(part: Part, cells: &Plane, counted: Counted) -> Own
     ensures counted { result.counted ≡ counted }
 {
     let margin = part.margin * cells.across();
-    Own {
+    CountedTiles {
         first: margin,
         end: cells.size().tiles() - margin,
         counted,
@@ -174,7 +180,7 @@ fn turn_odd_part(
         result ≡ counted_of counted (own_take part 1 old.now lattice s.walls s.obstacles) }
 {
     let across = old.across();
-    let own = own_of(part, old, counted);
+    let own = counted_tiles(part, old, counted);
     let tiles = part.down * across;
     let mut took = Took::ZERO;
     let mut at = old.position(0);
@@ -182,8 +188,8 @@ fn turn_odd_part(
     let mut there = tile_there(part, across, 0);
     for i in 0..out.size().tiles() {
         rows = rows_at(old, at, rows);
-        let lent = ground.in_tile(there);
-        let here = turn_odd_in_part(rows, at.column, lent, counted, out.tile_mut(i));
+        let tile_solids = ground.in_tile(there);
+        let here = turn_odd_in_part(rows, at.column, tile_solids, counted, out.tile_mut(i));
         if own.has(i) {
             took = took.plus(here);
         }
@@ -207,13 +213,13 @@ fn turn_even_part(particles: &mut Plane, ground: Ground<'_>, part: Part, counted
         result ≡ counted_of counted (own_take part 0 particles.old lattice s.walls s.obstacles) }
 {
     let across = particles.across();
-    let own = own_of(part, particles, counted);
+    let own = counted_tiles(part, particles, counted);
     let tiles = part.down * across;
     let mut took = Took::ZERO;
     let mut there = tile_there(part, across, 0);
     for i in 0..particles.size().tiles() {
-        let lent = ground.in_tile(there);
-        let here = turn_even_in_part(lent, counted, particles.tile_mut(i));
+        let tile_solids = ground.in_tile(there);
+        let here = turn_even_in_part(tile_solids, counted, particles.tile_mut(i));
         if own.has(i) {
             took = took.plus(here);
         }
@@ -266,7 +272,7 @@ fn act_on_part(particles: &mut Plane, exchange: &Exchange, part: Part, parity: u
         result ≡ own_moves part parity particles.old lattice (acted (leaves_of exchange.now) lattice) }
 {
     let across = particles.across();
-    let own = own_of(part, particles, Counted::BOTH);
+    let own = counted_tiles(part, particles, Counted::BOTH);
     let mut moved = Moved::ZERO;
     if exchange.is_still() {
         return moved;

@@ -8,6 +8,6 @@ mod tiles;
 
 pub use ground::Ground;
 pub use solid::Solid;
-pub use solids::{Lent, Solids};
+pub use solids::{Solids, TileSolids};
 pub use sweep::turn_each;
 pub use tiles::turn_tile_at;

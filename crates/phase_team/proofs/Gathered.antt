@@ -26,18 +26,18 @@ use Rattle.phase_step.proofs.RunTakes.{counted_none, counted_within}
 use Rattle.phase_team.specs.Work.{result_of, flow_of, tiles_give, RowsArePut, IsDone}
 use Rattle.phase_team.proofs.EachOnce.{IsFlowWithin, flow_less}
 use Rattle.phase_step.specs.TileRuns.{tiles_flow}
-use Rattle.phase_team.specs.declared.runs.course.Course.{Course}
+use Rattle.phase_team.specs.declared.runs.batch.BatchInput.{BatchInput}
 use Rattle.phase_team.specs.declared.runs.strip.Strip.{Strip}
 use Rattle.phase_step.proofs.RowPlaces.{row_turns}
 use Rattle.phase_step.proofs.ActionSums.{takes_split_with, moves_split_with, takes_within_with, takes_all_with, moves_all_with}
 use Rattle.phase_step.proofs.ActionBounds.{moves_within_with}
 
--- The strip's tile of row of tiles 1 + r is that of row `first` + r after the course, wherever that is put.
-tile_right : (course : Course) (s : Strip) (start : Cells) (i : ℕ) (t : Tile) → IsLattice start → HasSidesOf start course.cells.now → IsDone course s
-    → let a = course.cells.now.width / 64 in i < s.rows * a → IsTileFrom t s.cells (tile_rectangle s.cells (a + i)).x (tile_rectangle s.cells (a + i)).y
-    → (x y : ℕ) → x < 64 → y < 64 → tile.has t x y ≡ has (result_of course) (left_of start (s.first * a + i) + x) (top_of start (s.first * a + i) + y)
-tile_right course s start i t is same done within from x y xl yl =
-    let c = course.cells.now in
+-- The strip's tile of row of tiles 1 + r is that of row `first` + r after the batch, wherever that is put.
+tile_right : (input : BatchInput) (s : Strip) (start : Cells) (i : ℕ) (t : Tile) → IsLattice start → HasSidesOf start input.cells.now → IsDone input s
+    → let a = input.cells.now.width / 64 in i < s.rows * a → IsTileFrom t s.cells (tile_rectangle s.cells (a + i)).x (tile_rectangle s.cells (a + i)).y
+    → (x y : ℕ) → x < 64 → y < 64 → tile.has t x y ≡ has (result_of input) (left_of start (s.first * a + i) + x) (top_of start (s.first * a + i) + y)
+tile_right input s start i t is same done within from x y xl yl =
+    let c = input.cells.now in
     let a = c.width / 64 in
     let first = s.first in
     let rows = s.rows in
@@ -56,25 +56,25 @@ tile_right course s start i t is same done within from x y xl yl =
     let y_here : (a + i) / a ≡ 1 + r = ap (λ n. n / a) here ∙ div-mul-add (1 + r) a column column_less in
     let x_there : (first * a + i) % a ≡ column = ap (λ n. n % a) there ∙ mod-mul-add (first + r) a column column_less in
     let y_there : (first * a + i) / a ≡ first + r = ap (λ n. n / a) there ∙ div-mul-add (first + r) a column column_less in
-    let inside : first + rows ≤ d = done.of_course.inside in
+    let inside : first + rows ≤ d = done.of_input.inside in
     let turn : (first + d - 1 + (1 + r)) % d ≡ first + r = let e : first + d - 1 + (1 + r) ≡ 1 * d + (first + r) = omega arith in ap (λ n. n % d) e ∙ mod-mul-add 1 d (first + r) (omega arith) in
     let place : (j : ℕ) → j < 64 → (shift_of c first + ((1 + r) * 64 + j)) % c.height ≡ (first + r) * 64 + j = λ j jl.
     ap (λ h. (shift_of c first + ((1 + r) * 64 + j)) % h) (sym down.tiles) ∙ (row_turns (first + d - 1) (1 + r) d j down.some jl ∙ ap (λ n. n * 64 + j) turn) in
     from.cell x y xl yl
-    ∙ (ap₂ (λ m n. has s.cells (m * 64 + x) (n * 64 + y)) (ap (λ w. (a + i) % (w / 64)) done.of_course.wide ∙ x_here) (ap (λ w. (a + i) / (w / 64)) done.of_course.wide ∙ y_here)
-    ∙ (done.own.row (column * 64 + x) ((1 + r) * 64 + y) (subst (λ w. column * 64 + x < w) (sym (sides_with course.parity (joined course.solids.now.walls course.solids.now.obstacles) (listed course.turns.now) c course.phases).wide) (cell_below c.width column x across column_less xl)) (omega arith) (omega arith)
-    ∙ (ap (λ h. has (result_of course) (column * 64 + x) ((shift_of c first + ((1 + r) * 64 + y)) % h)) (sides_with course.parity (joined course.solids.now.walls course.solids.now.obstacles) (listed course.turns.now) c course.phases).high
-    ∙ (ap (has (result_of course) (column * 64 + x)) (place y yl)
-    ∙ sym (ap₂ (λ m n. has (result_of course) (m * 64 + x) (n * 64 + y)) (ap (λ w. (first * a + i) % (w / 64)) same.wide ∙ x_there) (ap (λ w. (first * a + i) / (w / 64)) same.wide ∙ y_there))))))
+    ∙ (ap₂ (λ m n. has s.cells (m * 64 + x) (n * 64 + y)) (ap (λ w. (a + i) % (w / 64)) done.of_input.wide ∙ x_here) (ap (λ w. (a + i) / (w / 64)) done.of_input.wide ∙ y_here)
+    ∙ (done.own.row (column * 64 + x) ((1 + r) * 64 + y) (subst (λ w. column * 64 + x < w) (sym (sides_with input.parity (joined input.solids.now.walls input.solids.now.obstacles) (listed input.exchanges.now) c input.phases).wide) (cell_below c.width column x across column_less xl)) (omega arith) (omega arith)
+    ∙ (ap (λ h. has (result_of input) (column * 64 + x) ((shift_of c first + ((1 + r) * 64 + y)) % h)) (sides_with input.parity (joined input.solids.now.walls input.solids.now.obstacles) (listed input.exchanges.now) c input.phases).high
+    ∙ (ap (has (result_of input) (column * 64 + x)) (place y yl)
+    ∙ sym (ap₂ (λ m n. has (result_of input) (m * 64 + x) (n * 64 + y)) (ap (λ w. (first * a + i) % (w / 64)) same.wide ∙ x_there) (ap (λ w. (first * a + i) / (w / 64)) same.wide ∙ y_there))))))
 
--- Tile i of a strip's own is put into a lattice: a cell is as after the course if it is in this tile, or was so before.
-pub put_more : (course : Course) (s : Strip) (now next : Cells) (i : ℕ) (t : Tile) → IsLattice now → HasSidesOf now course.cells.now → IsDone course s
-    → let a = course.cells.now.width / 64 in i < s.rows * a → IsTileFrom t s.cells (tile_rectangle s.cells (a + i)).x (tile_rectangle s.cells (a + i)).y
+-- Tile i of a strip's own is put into a lattice: a cell is as after the batch if it is in this tile, or was so before.
+pub put_more : (input : BatchInput) (s : Strip) (now next : Cells) (i : ℕ) (t : Tile) → IsLattice now → HasSidesOf now input.cells.now → IsDone input s
+    → let a = input.cells.now.width / 64 in i < s.rows * a → IsTileFrom t s.cells (tile_rectangle s.cells (a + i)).x (tile_rectangle s.cells (a + i)).y
     → next ≡ with_tile now (s.first * a + i) t
-    → (x y : ℕ) → x < course.cells.now.width → y < course.cells.now.height
-    → ((y / 64 * a + x / 64 ≡ s.first * a + i → ⊥) → has now x y ≡ has (result_of course) x y) → has next x y ≡ has (result_of course) x y
-put_more course s now next i t is same done within from put x y xl yl before =
-    let a = course.cells.now.width / 64 in
+    → (x y : ℕ) → x < input.cells.now.width → y < input.cells.now.height
+    → ((y / 64 * a + x / 64 ≡ s.first * a + i → ⊥) → has now x y ≡ has (result_of input) x y) → has next x y ≡ has (result_of input) x y
+put_more input s now next i t is same done within from put x y xl yl before =
+    let a = input.cells.now.width / 64 in
     let k = s.first * a + i in
     let xn : x < now.width = subst (λ w. x < w) (sym same.wide) xl in
     let yn : y < now.height = subst (λ h. y < h) (sym same.high) yl in
@@ -86,21 +86,21 @@ put_more course s now next i t is same done within from put x y xl yl before =
       | inl e ↦
           there
           ∙ (sym (choose_true _ _ _ _ (eq-eqb (tile_of now x y) k e) refl)
-          ∙ (tile_right course s now i t is same done within from (x % 64) (y % 64) (omega arith) (omega arith)
-          ∙ ap₂ (has (result_of course)) (cell_across now k x y across xn e) (cell_down now k x y across xn e)))
+          ∙ (tile_right input s now i t is same done within from (x % 64) (y % 64) (omega arith) (omega arith)
+          ∙ ap₂ (has (result_of input)) (cell_across now k x y across xn e) (cell_down now k x y across xn e)))
       | inr ne ↦ there ∙ (sym (choose_false _ _ _ _ (ne_eqb (tile_of now x y) k ne) refl) ∙ before (λ e. ne (place ∙ e)))
     ]
 
 -- the tiles of so many rows
-pub rows_put : (course : Course) (now : Cells) (first rows : ℕ) → is_size (extent course.cells.now) ≡ true → first + rows ≤ course.cells.now.height / 64
-    → let a = course.cells.now.width / 64 in
-    ((x y : ℕ) → x < course.cells.now.width → y < course.cells.now.height → first * a ≤ y / 64 * a + x / 64 → y / 64 * a + x / 64 < first * a + rows * a → has now x y ≡ has (result_of course) x y)
-    → RowsArePut course first rows now
-rows_put course now first rows sized inside each x y xl from to =
-    let a = course.cells.now.width / 64 in
-    let across = wide (extent course.cells.now) sized in
-    let down = high (extent course.cells.now) sized in
-    let column : x / 64 < a = tile_below course.cells.now.width x across xl in
+pub rows_put : (input : BatchInput) (now : Cells) (first rows : ℕ) → is_size (extent input.cells.now) ≡ true → first + rows ≤ input.cells.now.height / 64
+    → let a = input.cells.now.width / 64 in
+    ((x y : ℕ) → x < input.cells.now.width → y < input.cells.now.height → first * a ≤ y / 64 * a + x / 64 → y / 64 * a + x / 64 < first * a + rows * a → has now x y ≡ has (result_of input) x y)
+    → RowsArePut input first rows now
+rows_put input now first rows sized inside each x y xl from to =
+    let a = input.cells.now.width / 64 in
+    let across = wide (extent input.cells.now) sized in
+    let down = high (extent input.cells.now) sized in
+    let column : x / 64 < a = tile_below input.cells.now.width x across xl in
     let row : y / 64 < first + rows = omega arith in
     let begins : first * a ≤ y / 64 * a = mul-le first a (y / 64) a (omega arith) (let e : a ≤ a = omega arith in e) in
     let ends : y / 64 * a + x / 64 < (first + rows) * a = (let e : y / 64 * a + x / 64 < a * (first + rows) = mul-add-lt (y / 64) a (x / 64) (first + rows) row column in omega (arith, e)) in
@@ -114,12 +114,12 @@ full_with p solid leaves c (suc k) full =
     full-cells_where come.width come.height (λ x y. leaves k x y (has come x y))
 
 -- all of them
-pub all_put : (course : Course) (now : Cells) → IsLattice now → IsFull course.cells.now → HasSidesOf now course.cells.now
-    → ((x y : ℕ) → x < course.cells.now.width → y < course.cells.now.height → has now x y ≡ has (result_of course) x y) → now ≡ result_of course
-all_put course now is full same each =
-    let target = result_of course in
-    let sides = sides_with course.parity (joined course.solids.now.walls course.solids.now.obstacles) (listed course.turns.now) course.cells.now course.phases in
-    same_cells now target is.full (full_with course.parity (joined course.solids.now.walls course.solids.now.obstacles) (listed course.turns.now) course.cells.now course.phases full)
+pub all_put : (input : BatchInput) (now : Cells) → IsLattice now → IsFull input.cells.now → HasSidesOf now input.cells.now
+    → ((x y : ℕ) → x < input.cells.now.width → y < input.cells.now.height → has now x y ≡ has (result_of input) x y) → now ≡ result_of input
+all_put input now is full same each =
+    let target = result_of input in
+    let sides = sides_with input.parity (joined input.solids.now.walls input.solids.now.obstacles) (listed input.exchanges.now) input.cells.now input.phases in
+    same_cells now target is.full (full_with input.parity (joined input.solids.now.walls input.solids.now.obstacles) (listed input.exchanges.now) input.cells.now input.phases full)
     (same.wide ∙ sym sides.wide) (same.high ∙ sym sides.high)
     (λ x y xl yl. each x y (subst (λ w. x < w) same.wide xl) (subst (λ h. y < h) same.high yl))
 
@@ -130,19 +130,19 @@ none_flows p w o leaves c first (suc k) =
     let before = none_flows p w o leaves c first k in
     same_flow no_flow (tiles_flow p w o leaves c first 0 (suc k)) (ap (λ (f : Flow). took_plus f.took nothing) before) (moved_none unmoved ∙ ap (λ (f : Flow). moved_plus f.moved unmoved) before)
 
-pub none_give : (course : Course) (a : ℕ) → no_flow ≡ tiles_give course 0 (0 * a)
-none_give course a =
-    same_flow no_flow (flow_counted course.counted no_flow) (counted_none course.counted) refl
-    ∙ (ap (flow_counted course.counted) (none_flows course.parity course.solids.now.walls course.solids.now.obstacles (listed course.turns.now) course.cells.now 0 course.phases) ∙ ap (tiles_give course 0) (let e : 0 ≡ 0 * a = omega arith in e))
+pub none_give : (input : BatchInput) (a : ℕ) → no_flow ≡ tiles_give input 0 (0 * a)
+none_give input a =
+    same_flow no_flow (flow_counted input.counted no_flow) (counted_none input.counted) refl
+    ∙ (ap (flow_counted input.counted) (none_flows input.parity input.solids.now.walls input.solids.now.obstacles (listed input.exchanges.now) input.cells.now 0 input.phases) ∙ ap (tiles_give input 0) (let e : 0 ≡ 0 * a = omega arith in e))
 
 -- one strip more
-pub flows_split : (course : Course) (a b : ℕ) → tiles_give course 0 (a + b) ≡ flow_plus (tiles_give course 0 a) (tiles_give course (0 + a) b)
-flows_split course a b =
-    let some = tiles_flow course.parity course.solids.now.walls course.solids.now.obstacles (listed course.turns.now) course.cells.now in
-    ap (flow_counted course.counted)
-    (same_flow (some 0 (a + b) course.phases) (flow_plus (some 0 a course.phases) (some (0 + a) b course.phases)) (takes_split_with course.parity course.solids.now.walls course.solids.now.obstacles (listed course.turns.now) course.cells.now 0 a b course.phases)
-    (moves_split_with course.parity (joined course.solids.now.walls course.solids.now.obstacles) (listed course.turns.now) course.cells.now 0 a b course.phases))
-    ∙ sym (flows_counted course.counted (some 0 a course.phases) (some (0 + a) b course.phases))
+pub flows_split : (input : BatchInput) (a b : ℕ) → tiles_give input 0 (a + b) ≡ flow_plus (tiles_give input 0 a) (tiles_give input (0 + a) b)
+flows_split input a b =
+    let some = tiles_flow input.parity input.solids.now.walls input.solids.now.obstacles (listed input.exchanges.now) input.cells.now in
+    ap (flow_counted input.counted)
+    (same_flow (some 0 (a + b) input.phases) (flow_plus (some 0 a input.phases) (some (0 + a) b input.phases)) (takes_split_with input.parity input.solids.now.walls input.solids.now.obstacles (listed input.exchanges.now) input.cells.now 0 a b input.phases)
+    (moves_split_with input.parity (joined input.solids.now.walls input.solids.now.obstacles) (listed input.exchanges.now) input.cells.now 0 a b input.phases))
+    ∙ sym (flows_counted input.counted (some 0 a input.phases) (some (0 + a) b input.phases))
 
 few_cells : (rows a k : ℕ) → rows ≤ 128 → a ≤ 64 → k ≤ 64 → 16384 * (rows * a) * k ≤ 2 ^ 33
 few_cells rows a k few some short =
@@ -151,28 +151,28 @@ few_cells rows a k few some short =
     let f : 16384 * (rows * a) * k ≤ 2 ^ 27 * 64 = mul-le (16384 * (rows * a)) k (2 ^ 27) 64 e short in
     omega (arith, f)
 
--- what a course comes to in few rows of tiles
-pub rows_within : (course : Course) (first rows : ℕ) → rows ≤ 128 → is_size (extent course.cells.now) ≡ true
-    → let f = tiles_give course (first * (course.cells.now.width / 64)) (rows * (course.cells.now.width / 64)) in IsFlowWithin (2 ^ 33) f
-rows_within course first rows few sized =
-    let a = course.cells.now.width / 64 in
-    let p = course.parity in
-    let w = course.solids.now.walls in
-    let o = course.solids.now.obstacles in
-    let c = course.cells.now in
-    let k = course.phases in
-    let leaves = listed course.turns.now in
-    let most = few_cells rows a k few (wide (extent c) sized).few course.few in
-    flow_less (tiles_give course (first * a) (rows * a)) (16384 * (rows * a) * k) (2 ^ 33) most
-    (record { took = counted_within (16384 * (rows * a) * k) course.counted _ (takes_within_with p w o leaves c (first * a) (rows * a) k); moved = moves_within_with p (joined w o) leaves c (first * a) (rows * a) k })
+-- what a batch comes to in few rows of tiles
+pub rows_within : (input : BatchInput) (first rows : ℕ) → rows ≤ 128 → is_size (extent input.cells.now) ≡ true
+    → let f = tiles_give input (first * (input.cells.now.width / 64)) (rows * (input.cells.now.width / 64)) in IsFlowWithin (2 ^ 33) f
+rows_within input first rows few sized =
+    let a = input.cells.now.width / 64 in
+    let p = input.parity in
+    let w = input.solids.now.walls in
+    let o = input.solids.now.obstacles in
+    let c = input.cells.now in
+    let k = input.phases in
+    let leaves = listed input.exchanges.now in
+    let most = few_cells rows a k few (wide (extent c) sized).few input.few in
+    flow_less (tiles_give input (first * a) (rows * a)) (16384 * (rows * a) * k) (2 ^ 33) most
+    (record { took = counted_within (16384 * (rows * a) * k) input.counted _ (takes_within_with p w o leaves c (first * a) (rows * a) k); moved = moves_within_with p (joined w o) leaves c (first * a) (rows * a) k })
 
-pub all_flow : (course : Course) (n : ℕ) (flow : Flow) → is_size (extent course.cells.now) ≡ true → n ≡ tile_count course.cells.now → flow ≡ tiles_give course 0 n → flow ≡ flow_of course
-all_flow course n flow sized e so_far =
+pub all_flow : (input : BatchInput) (n : ℕ) (flow : Flow) → is_size (extent input.cells.now) ≡ true → n ≡ tile_count input.cells.now → flow ≡ tiles_give input 0 n → flow ≡ flow_of input
+all_flow input n flow sized e so_far =
     so_far
-    ∙ (ap (tiles_give course 0) e
-    ∙ ap (flow_counted course.counted)
-    (same_flow (tiles_flow course.parity course.solids.now.walls course.solids.now.obstacles (listed course.turns.now) course.cells.now 0 (tile_count course.cells.now) course.phases) _ (takes_all_with course.parity course.solids.now.walls course.solids.now.obstacles (listed course.turns.now) course.cells.now course.phases sized)
-    (moves_all_with course.parity (joined course.solids.now.walls course.solids.now.obstacles) (listed course.turns.now) course.cells.now course.phases sized)))
+    ∙ (ap (tiles_give input 0) e
+    ∙ ap (flow_counted input.counted)
+    (same_flow (tiles_flow input.parity input.solids.now.walls input.solids.now.obstacles (listed input.exchanges.now) input.cells.now 0 (tile_count input.cells.now) input.phases) _ (takes_all_with input.parity input.solids.now.walls input.solids.now.obstacles (listed input.exchanges.now) input.cells.now input.phases sized)
+    (moves_all_with input.parity (joined input.solids.now.walls input.solids.now.obstacles) (listed input.exchanges.now) input.cells.now input.phases sized)))
 
 pub unload_within : (first rows a d i : ℕ) → first + rows ≤ d → i < rows * a → first * a + i < a * d
 unload_within first rows a d i inside within =

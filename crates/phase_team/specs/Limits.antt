@@ -1,4 +1,4 @@
--- How large teams, stretches and lattices are.
+-- How large teams, batches and lattices are.
 use Rattle.std.specs.Prelude.{ℕ}
 
 -- how many workers a team has at most: `MOST_WORKERS`

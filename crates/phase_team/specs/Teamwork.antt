@@ -13,10 +13,10 @@ use Rattle.phase_step.specs.Turns.{IsTileAfter}
 use Rattle.phase_team.specs.Tiles.{IsTurnedAt, tile_takes, tiles_take}
 use Rattle.phase_team.specs.declared.phase.shift.Task.{Task}
 use Rattle.phase_team.specs.declared.phase.worker.Turned.{Turned}
-use Rattle.phase_team.specs.declared.phase.worker.Worker.{Worker}
+use Rattle.phase_team.specs.declared.phase.worker.TileWorker.{TileWorker}
 
 -- the worker has drawn nothing
-pub record IsReady (desk : DeskId) (w : Worker) : Type 0 where
+pub record IsFresh (desk : DeskId) (w : TileWorker) : Type 0 where
   pub same_desk : w.seat.desk ≡ desk
   pub no_number : w.seat.numbers ≡ []
   pub no_tile : w.turned.items ≡ []
@@ -62,7 +62,7 @@ abbrev pub StayTurned : Task → Cells → Cells → Type 0
 StayTurned task before now = (i : ℕ) → i < tile_count task.old.now → IsTurned task before i → IsTurned task now i
 
 -- the worker has turned each tile that it drew, and no other, and took what is taken in them
-pub record HasWorked (task : Task) (desk : DeskId) (w : Worker) : Type 0 where
+pub record HasWorked (task : Task) (desk : DeskId) (w : TileWorker) : Type 0 where
   pub same_desk : w.seat.desk ≡ desk
   pub all_turned : map (λ t. t.place) w.turned.items ≡ w.seat.numbers
   pub right : All (IsRight task desk.limit) w.turned.items

@@ -9,4 +9,4 @@ mod worker;
 pub use crew::{Crew, crew_of, hand_in, work_together};
 pub use gate::{Gate, NoGate};
 pub use shift::{Shift, Task};
-pub use worker::{Turned, Worker};
+pub use worker::{TileWorker, Turned};

@@ -1,4 +1,4 @@
-//! Runs: when they are worth strips, and how the strips of each stretch are drawn, made and put together.
+//! Runs: when they are worth strips, and how the strips of each batch are drawn, made and put together.
 
 ghost use Rattle.std.specs.Prelude.{◌≡◌, ◌+◌, ◌*◌, ◌/◌, ◌<◌, ◌≤◌, [], All, IfSome, map, length, vec_len};
 ghost use Rattle.std.specs.Vec.{vec_capacity};
@@ -11,20 +11,20 @@ ghost use Rattle.phase_team.specs.Work.{IsOut, StaysPut, RowsArePut, StripsArePu
 ghost use Rattle.phase_team.specs.Teamwork.{HaveDrawn, drawn};
 ghost use Rattle.phase_team.specs.Worth.{strips_each, is_worth_strips};
 
-mod course;
-mod hand;
+mod batch;
 mod strip;
+mod strip_worker;
 
+use batch::{Batch, BatchInput, Parts};
 use claim_desk::{Desk, DeskSeat};
-use course::{Course, Parts, Stretch};
 use gas_plane::Plane;
 use gas_terms::Size;
-use hand::{Hand, Room, make_all, room_of, seated};
 use phase_step::{Action, Counted, Exchange, Flow, Later, Run, parity_at, run_whole};
 use std::alloc::Global;
 use std::mem;
 use std::thread::Threads;
 use strip::Strip;
+use strip_worker::{StripRoom, StripWorker, make_all, room_of, seated};
 
 /// How many phases a strip can make alone: each phase spoils one more row of its margins.
 const AT_ONCE: u16 = 64;
@@ -37,7 +37,7 @@ pub struct LeastRun {
     pub tiles: u32,
 }
 
-/// Each stretch starts threads, fills strips and puts them together. That takes about a millisecond, so smaller runs stay on one
+/// Each batch starts threads, fills strips and puts them together. That takes about a millisecond, so smaller runs stay on one
 /// thread.
 pub const USUAL: LeastRun = LeastRun {
     phases: 16,
@@ -77,112 +77,112 @@ pub fn is_worth_strips(least: LeastRun, size: Size, workers: u8, n: u16) -> bool
 }
 
 // Puts a strip's own rows into `out`.
-fn unload(course: Course<'_>, strip: &Strip, out: &mut Plane)
-    requires done { IsDone course strip.now }
-    requires out { IsOut course out.old }
-    ensures out { IsOut course.entry out.new }
-    ensures kept { StaysPut course.entry out.old out.new }
-    ensures rows { RowsArePut course.entry strip.now.first strip.now.rows out.new }
+fn unload(input: BatchInput<'_>, strip: &Strip, out: &mut Plane)
+    requires done { IsDone input strip.now }
+    requires out { IsOut input out.old }
+    ensures out { IsOut input.entry out.new }
+    ensures kept { StaysPut input.entry out.old out.new }
+    ensures rows { RowsArePut input.entry strip.now.first strip.now.rows out.new }
 {
-    let across = u32::from(course.cells.size().width() / 64);
+    let across = u32::from(input.cells.size().width() / 64);
     for i in 0..strip.rows * across {
         *out.tile_mut(strip.first * across + i) = *strip.cells.tile(across + i);
     }
 }
 
-// Puts the strips that a worker made into `out`. Returns what the course comes to in them.
-fn put(stretch: Stretch<'_>, made: &[Strip], out: &mut Plane) -> Flow
-    requires made { All (IsPart stretch) made.now }
+// Puts the strips that a worker made into `out`. Returns what the batch comes to in them.
+fn put(batch: Batch<'_>, made: &[Strip], out: &mut Plane) -> Flow
+    requires made { All (IsPart batch) made.now }
     requires few { length made.now ≤ most_rows }
-    requires out { IsOut stretch.course out.old }
-    ensures out { IsOut stretch.entry.course out.new }
-    ensures kept { StaysPut stretch.entry.course out.old out.new }
-    ensures strips { StripsArePut stretch.entry (map (λ s. s.number) made.now) out.new }
-    ensures flow { result ≡ strips_give stretch.entry (map (λ s. s.number) made.now) }
+    requires out { IsOut batch.input out.old }
+    ensures out { IsOut batch.entry.input out.new }
+    ensures kept { StaysPut batch.entry.input out.old out.new }
+    ensures strips { StripsArePut batch.entry (map (λ s. s.number) made.now) out.new }
+    ensures flow { result ≡ strips_give batch.entry (map (λ s. s.number) made.now) }
 {
     let mut flow = Flow::ZERO;
     for strip in made {
-        unload(stretch.course, strip, out);
+        unload(batch.input, strip, out);
         flow = flow.plus(strip.flow);
     }
     flow
 }
 
 // Puts what the workers made together in `out`, takes their seats and keeps their room, as far as there is memory to list it.
-// Returns what the course comes to in their strips, or `None` if each worker stopped while numbers were left.
+// Returns what the batch comes to in their strips, or `None` if each worker stopped while numbers were left.
 fn hand_in(
-    stretch: Stretch<'_>,
-    mut team: Vec<Hand>,
+    batch: Batch<'_>,
+    mut team: Vec<StripWorker>,
     seats: &mut Vec<DeskSeat>,
-    rooms: &mut Vec<Room>,
+    rooms: &mut Vec<StripRoom>,
     out: &mut Plane,
 ) -> Option<Flow>
-    requires team { All (HasMade stretch) team.items }
+    requires team { All (HasMade batch) team.items }
     requires count { vec_len team ≤ most_workers }
     requires room { vec_len team ≤ vec_capacity seats.old }
     requires seats { seats.old.items ≡ [] }
-    requires rooms { let size = extent stretch.course.cells.now in
-        All (IsRoomFor size stretch.parts) rooms.old.items }
-    requires out { IsOut stretch.course out.old }
+    requires rooms { let size = extent batch.input.cells.now in
+        All (IsRoomFor size batch.parts) rooms.old.items }
+    requires out { IsOut batch.input out.old }
     ensures count { vec_len seats.new ≡ vec_len team }
-    ensures seats { IfSome result (λ _. HaveDrawn stretch.entry.desk.now.id seats.new.items) }
-    ensures rooms { let s = stretch.entry in
-        All (IsRoomFor (extent s.course.cells.now) s.parts) rooms.new.items }
-    ensures sides { HasSidesOf out.new stretch.entry.course.cells.now }
+    ensures seats { IfSome result (λ _. HaveDrawn batch.entry.desk.now.id seats.new.items) }
+    ensures rooms { let s = batch.entry in
+        All (IsRoomFor (extent s.input.cells.now) s.parts) rooms.new.items }
+    ensures sides { HasSidesOf out.new batch.entry.input.cells.now }
     ensures put { IfSome result (λ flow.
-        HasPut stretch.entry (drawn seats.new.items) flow out.new) }
+        HasPut batch.entry (drawn seats.new.items) flow out.new) }
 {
     let mut flow = Flow::ZERO;
     let mut ended = false;
-    while let Some(hand) = team.pop() {
-        let Hand {
+    while let Some(worker) = team.pop() {
+        let StripWorker {
             seat,
             room,
             made,
             ended: at_end,
-        } = hand;
-        let theirs = put(stretch, made.as_slice(), out);
+        } = worker;
+        let theirs = put(batch, made.as_slice(), out);
         flow = flow.plus(theirs);
         ended = ended || at_end;
         seats.push_reserved(seat);
-        rooms.push(room_of(stretch, room, made)).ok();
+        rooms.push(room_of(batch, room, made)).ok();
     }
     if ended { Some(flow) } else { None }
 }
 
-// Has the workers make the strips of a course, and puts these together in `out`. When the desk is closed, each strip was made
+// Has the workers make the strips of a batch, and puts these together in `out`. When the desk is closed, each strip was made
 // once.
 fn make_strips<R: Threads>(
     rt: &R,
-    course: Course<'_>,
+    input: BatchInput<'_>,
     workers: u32,
     parts: Parts,
-    rooms: &mut Vec<Room>,
+    rooms: &mut Vec<StripRoom>,
     out: &mut Plane,
 ) -> Option<Flow>
     requires workers { (0 < workers) × (workers ≤ most_workers) }
-    requires parts { parts.count * parts.low + parts.more ≡ course.cells.now.height / 64 }
-    requires rooms { All (IsRoomFor (extent course.cells.now) parts) rooms.old.items }
+    requires parts { parts.count * parts.low + parts.more ≡ input.cells.now.height / 64 }
+    requires rooms { All (IsRoomFor (extent input.cells.now) parts) rooms.old.items }
     requires lattice { IsLattice out.old }
-    requires out { HasSidesOf out.old course.cells.now }
-    ensures rooms { All (IsRoomFor (extent course.entry.cells.now) parts) rooms.new.items }
-    ensures out { IfSome result (λ _. out.new ≡ result_of course.entry) }
-    ensures sides { HasSidesOf out.new course.entry.cells.now }
-    ensures flow { IfSome result (λ flow. flow ≡ flow_of course.entry) }
+    requires out { HasSidesOf out.old input.cells.now }
+    ensures rooms { All (IsRoomFor (extent input.entry.cells.now) parts) rooms.new.items }
+    ensures out { IfSome result (λ _. out.new ≡ result_of input.entry) }
+    ensures sides { HasSidesOf out.new input.entry.cells.now }
+    ensures flow { IfSome result (λ flow. flow ≡ flow_of input.entry) }
 {
     let Ok((desk, mut seats)) = Desk::open(*rooms.allocator(), parts.count, workers) else {
         return None;
     };
-    let stretch = Stretch {
-        course,
+    let batch = Batch {
+        input,
         parts,
         desk: &desk,
     };
-    let Some(mut team) = seated(stretch, &mut seats, rooms) else {
+    let Some(mut team) = seated(batch, &mut seats, rooms) else {
         return None;
     };
-    make_all(rt, stretch, team.as_mut_slice());
-    let Some(flow) = hand_in(stretch, team, &mut seats, rooms, out) else {
+    make_all(rt, batch, team.as_mut_slice());
+    let Some(flow) = hand_in(batch, team, &mut seats, rooms, out) else {
         return None;
     };
     desk.close(seats);
@@ -195,9 +195,9 @@ pub struct Strips {
     pub size: Size,
     workers: u32,
     parts: Parts,
-    rooms: Vec<Room>,
-    // what acts after each phase of a stretch
-    turns: Vec<Exchange>,
+    rooms: Vec<StripRoom>,
+    // what acts after each phase of a batch
+    exchanges: Vec<Exchange>,
     pub ghost some: { 0 < workers },
     pub ghost few: { workers ≤ most_workers },
     pub ghost all: { parts.count * parts.low + parts.more ≡ size.height / 64 },
@@ -210,7 +210,7 @@ impl Strips {
         requires { (0 < workers) × (workers ≤ most_workers) }
         ensures { IfSome result (λ strips. strips.size ≡ size) }
     {
-        let turns = Vec::with_capacity(alloc, AT_ONCE as usize).ok()?;
+        let exchanges = Vec::with_capacity(alloc, AT_ONCE as usize).ok()?;
         let down = u32::from(size.height() / 64);
         let each = strips_each(down, workers);
         let workers = u32::from(workers);
@@ -219,7 +219,7 @@ impl Strips {
             workers,
             parts: Parts::of(down, each * workers),
             rooms: Vec::new(alloc),
-            turns,
+            exchanges,
         })
     }
 }
@@ -243,18 +243,18 @@ pub fn strips_for(
 }
 
 // Lists what an action does after each of so many phases.
-fn list<A: Action>(action: &A, n: u16, turns: &mut Vec<Exchange>) -> Option<()>
-    ensures { IfSome result (λ _. Lists turns.new.items (A.leaves action.now) n) }
+fn list<A: Action>(action: &A, n: u16, exchanges: &mut Vec<Exchange>) -> Option<()>
+    ensures { IfSome result (λ _. Lists exchanges.new.items (A.leaves action.now) n) }
 {
-    turns.clear();
+    exchanges.clear();
     for k in 0..n {
-        turns.push(action.after_phase(k)).ok()?;
+        exchanges.push(action.after_phase(k)).ok()?;
     }
     Some(())
 }
 
 // Up to 64 phases by the strips. The calling thread makes them if memory runs out or some strip was not made.
-fn stretch<R: Threads, A: Action>(
+fn run_batch<R: Threads, A: Action>(
     rt: &R,
     strips: &mut Strips,
     particles: &mut Plane,
@@ -273,20 +273,20 @@ fn stretch<R: Threads, A: Action>(
 {
     // both are lattices
     let _ = (particles.size(), spare.size());
-    if list(run.action, run.n, &mut strips.turns).is_none() {
+    if list(run.action, run.n, &mut strips.exchanges).is_none() {
         return run_whole(particles, run, counted, spare);
     }
-    let course = Course {
+    let input = BatchInput {
         cells: &*particles,
         solids: run.solids,
-        turns: strips.turns.as_slice(),
+        exchanges: strips.exchanges.as_slice(),
         parity: run.parity,
         phases: run.n,
         counted,
     };
     match make_strips(
         rt,
-        course,
+        input,
         strips.workers,
         strips.parts,
         &mut strips.rooms,
@@ -332,7 +332,7 @@ pub fn run_by<R: Threads, A: Action>(
             n: next,
             action: &later,
         };
-        let here = stretch(rt, strips, particles, part, counted, spare);
+        let here = run_batch(rt, strips, particles, part, counted, spare);
         flow = flow.plus(here);
         done += next;
     }

@@ -25,7 +25,7 @@ const LONG_RUN: u16 = 2;
 /// How many workers a team has at most.
 pub const MOST_WORKERS: u32 = 16;
 
-/// A team of 1 to 16 workers. The calling thread is worker 0; the others are threads that are started for each phase or stretch.
+/// A team of 1 to 16 workers. The calling thread is worker 0; the others are threads that are started for each phase or batch.
 /// A phase never fails: if memory runs out or a thread can't be started, the calling thread does the rest. In a single phase the
 /// workers draw tiles, never more workers than tiles; the tiles of the other workers are written to buffers, which the team
 /// keeps, and put in place when all are turned. Contracts see the number of workers.

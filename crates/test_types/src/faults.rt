@@ -11,7 +11,7 @@ use std::sync::atomic::{AtomicU32, Ordering};
 
 /// What becomes of a call.
 #[derive(Clone, Copy, Debug, PartialEq, Eq)]
-enum Call {
+enum CallResult {
     Succeeds,
     Fails,
     MovesNothing,
@@ -21,7 +21,7 @@ enum Call {
 #[derive(Clone, Copy, Debug)]
 pub struct FaultAt {
     calls: u64,
-    then: Call,
+    then: CallResult,
 }
 
 impl FaultAt {
@@ -29,7 +29,7 @@ impl FaultAt {
     pub fn never() -> FaultAt {
         FaultAt {
             calls: u64::MAX,
-            then: Call::Succeeds,
+            then: CallResult::Succeeds,
         }
     }
 
@@ -37,7 +37,7 @@ impl FaultAt {
     pub fn after(calls: u64) -> FaultAt {
         FaultAt {
             calls,
-            then: Call::Fails,
+            then: CallResult::Fails,
         }
     }
 
@@ -45,25 +45,25 @@ impl FaultAt {
     pub fn nothing_after(calls: u64) -> FaultAt {
         FaultAt {
             calls,
-            then: Call::MovesNothing,
+            then: CallResult::MovesNothing,
         }
     }
 
-    fn next(&mut self) -> Call {
+    fn next(&mut self) -> CallResult {
         if self.calls == 0 {
             self.calls = u64::MAX;
             return self.then;
         }
         self.calls -= 1;
-        Call::Succeeds
+        CallResult::Succeeds
     }
 
     /// How many bytes the next call moves, of so many.
     pub fn room(&mut self, most: usize) -> io::Result<usize> {
         match self.next() {
-            Call::Succeeds => Ok(most),
-            Call::Fails => Err(failure()),
-            Call::MovesNothing => Ok(0),
+            CallResult::Succeeds => Ok(most),
+            CallResult::Fails => Err(failure()),
+            CallResult::MovesNothing => Ok(0),
         }
     }
 }
@@ -171,9 +171,9 @@ impl Sink {
 impl Write for Sink {
     fn write(&mut self, buf: &[u8]) -> io::Result<usize> {
         match self.fault.next() {
-            Call::Succeeds => {}
-            Call::Fails => return Err(failure()),
-            Call::MovesNothing => return Ok(0),
+            CallResult::Succeeds => {}
+            CallResult::Fails => return Err(failure()),
+            CallResult::MovesNothing => return Ok(0),
         }
         if self.room == 0 {
             return Err(failure());
@@ -185,7 +185,7 @@ impl Write for Sink {
     }
 
     fn flush(&mut self) -> io::Result<()> {
-        if self.fault.next() != Call::Succeeds {
+        if self.fault.next() != CallResult::Succeeds {
             return Err(failure());
         }
         self.flushes = self.flushes.saturating_add(1);
@@ -220,7 +220,7 @@ impl Store {
         ensures ok { OnOk result (kept_by self.new ≡ kept_by self.old ++ bytes.now ∷ []) }
         ensures err { OnErr result (kept_by self.new ≡ kept_by self.old) }
     {
-        if self.fault.next() != Call::Succeeds {
+        if self.fault.next() != CallResult::Succeeds {
             return Err(ShelfFault);
         }
         let Ok(copy) = Vec::from_slice(*self.kept.allocator(), bytes) else {

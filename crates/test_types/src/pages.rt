@@ -9,15 +9,15 @@ const ROOM: usize = 512;
 
 /// Takes what fits.
 #[derive(Drop)]
-pub struct Page {
+pub struct OutputPage {
     bytes: [u8; ROOM],
     len: usize,
     room: usize,
 }
 
-impl Page {
-    pub fn new() -> Page {
-        Page {
+impl OutputPage {
+    pub fn new() -> OutputPage {
+        OutputPage {
             bytes: [0; ROOM],
             len: 0,
             room: ROOM,
@@ -25,8 +25,8 @@ impl Page {
     }
 
     /// A page that takes 0 bytes of each write.
-    pub fn full() -> Page {
-        Page {
+    pub fn full() -> OutputPage {
+        OutputPage {
             bytes: [0; ROOM],
             len: 0,
             room: 0,
@@ -38,7 +38,7 @@ impl Page {
     }
 }
 
-impl Write for Page {
+impl Write for OutputPage {
     fn write(&mut self, buf: &[u8]) -> io::Result<usize> {
         let room = self.room.min(ROOM);
         if self.len >= room {
@@ -59,11 +59,11 @@ impl Write for Page {
 /// Writes to a page that stays with the test.
 #[derive(Drop)]
 pub struct PageWriter<'a> {
-    page: &'a Mutex<Page>,
+    page: &'a Mutex<OutputPage>,
 }
 
 impl<'a> PageWriter<'a> {
-    pub fn new(page: &'a Mutex<Page>) -> PageWriter<'a> {
+    pub fn new(page: &'a Mutex<OutputPage>) -> PageWriter<'a> {
         PageWriter { page }
     }
 }
@@ -82,7 +82,7 @@ impl<'a> Write for PageWriter<'a> {
 }
 
 /// Whether just this was written.
-pub fn shows(page: &Mutex<Page>, text: &[u8]) -> bool {
+pub fn shows(page: &Mutex<OutputPage>, text: &[u8]) -> bool {
     match page.try_lock() {
         Some(page) => page.text() == text,
         None => false,
@@ -108,12 +108,12 @@ impl<'a> Read for Words<'a> {
 #[derive(Drop)]
 pub struct Guests<'a> {
     inputs: &'a [Option<&'a [u8]>],
-    pages: &'a [Mutex<Page>],
+    pages: &'a [Mutex<OutputPage>],
     next: usize,
 }
 
 impl<'a> Guests<'a> {
-    pub fn new(inputs: &'a [Option<&'a [u8]>], pages: &'a [Mutex<Page>]) -> Guests<'a> {
+    pub fn new(inputs: &'a [Option<&'a [u8]>], pages: &'a [Mutex<OutputPage>]) -> Guests<'a> {
         Guests {
             inputs,
             pages,

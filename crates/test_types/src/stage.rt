@@ -1,7 +1,7 @@
 //! Sessions in memory that wait for one another's replies.
 
 use crate::gates::wait_for;
-use crate::pages::{Page, PageWriter, shows};
+use crate::pages::{OutputPage, PageWriter, shows};
 use gas_hall::{AcceptFault, Lobby};
 use std::io;
 use std::io::{ErrorKind, Read};
@@ -12,12 +12,12 @@ use std::time::Clock;
 /// What a session writes, and whether its reader was asked again when just the first reply stood there.
 #[derive(Drop)]
 pub struct Spot {
-    pub page: Mutex<Page>,
+    pub page: Mutex<OutputPage>,
     told: AtomicBool,
 }
 
 impl Spot {
-    fn new(page: Page) -> Spot {
+    fn new(page: OutputPage) -> Spot {
         Spot {
             page: Mutex::new(page),
             told: AtomicBool::new(false),
@@ -34,19 +34,19 @@ pub struct Stage {
 
 impl Stage {
     pub fn new() -> Stage {
-        Stage::with_last(Page::new())
+        Stage::with_last(OutputPage::new())
     }
 
     /// The last session's page takes nothing.
     pub fn with_full_page() -> Stage {
-        Stage::with_last(Page::full())
+        Stage::with_last(OutputPage::full())
     }
 
-    fn with_last(last: Page) -> Stage {
+    fn with_last(last: OutputPage) -> Stage {
         Stage {
             spots: [
-                Spot::new(Page::new()),
-                Spot::new(Page::new()),
+                Spot::new(OutputPage::new()),
+                Spot::new(OutputPage::new()),
                 Spot::new(last),
             ],
             met_limit: AtomicBool::new(false),

@@ -7,7 +7,7 @@ ghost use Rattle.gas_terms.specs.Cells.{most_side};
 ghost use Rattle.phase_step.specs.Actions.{IsStill, IsTileCorner, IsLeftOf};
 ghost use Rattle.phase_step.specs.Exchanges.{leaves_of, nowhere, is_in_any, is_left, HasTilesOf};
 
-use crate::exchanges::Few;
+use crate::exchanges::PortArray;
 use gas_plane::{Tile, is_covered, part_of};
 use gas_terms::{Rect, Size};
 use std::marker::Model;
@@ -15,8 +15,8 @@ use std::marker::Model;
 /// Drains that empty their cells, and sources that fill theirs then. What is drained and filled again has stayed.
 #[derive(Drop)]
 pub struct Exchange {
-    drains: Few<Rect>,
-    sources: Few<Rect>,
+    drains: PortArray<Rect>,
+    sources: PortArray<Rect>,
     // the tiles that they meet: a cell here stands for a tile
     met: Tile,
 }
@@ -33,7 +33,7 @@ impl Model for Exchange {
 
 impl Exchange {
     /// The exchange by these drains and sources.
-    pub fn new(drains: Few<Rect>, sources: Few<Rect>) -> Exchange
+    pub fn new(drains: PortArray<Rect>, sources: PortArray<Rect>) -> Exchange
         ensures { result ≡ record { drains = drains; sources = sources } }
     {
         let met = tiles_met(drains.as_slice(), sources.as_slice());
@@ -48,7 +48,7 @@ impl Exchange {
     pub fn none() -> Exchange
         ensures { result ≡ nowhere }
     {
-        Exchange::new(Few::none(any_area()), Few::none(any_area()))
+        Exchange::new(PortArray::none(any_area()), PortArray::none(any_area()))
     }
 
     /// A clone.

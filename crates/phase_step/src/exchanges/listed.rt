@@ -7,15 +7,15 @@ use crate::exchanges::{Action, Exchange};
 /// After phase k the exchange in place k of a list; after its end nothing.
 #[derive(Clone, Copy, Drop)]
 pub struct Listed<'a> {
-    pub turns: &'a [Exchange],
+    pub exchanges: &'a [Exchange],
 }
 
 impl Action for Listed<'_> {
-    ghost leaves = { λ l k. listed l.turns.now k };
+    ghost leaves = { λ l k. listed l.exchanges.now k };
 
     fn after_phase(&self, k: u16) -> Exchange {
-        match self.turns.get(k as usize) {
-            Some(turn) => turn.copy(),
+        match self.exchanges.get(k as usize) {
+            Some(exchange) => exchange.copy(),
             None => Exchange::none(),
         }
     }

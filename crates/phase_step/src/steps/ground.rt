@@ -3,10 +3,10 @@
 ghost use Rattle.std.specs.Prelude.{◌≡◌, ◌<◌, IsTrue};
 ghost use Rattle.gas_terms.specs.Cells.{tile_count};
 ghost use Rattle.block_rule.specs.TileBlocks.{AreLentBlocks};
-ghost use Rattle.phase_step.specs.SolidBlocks.{is_walled_in, AreLent, HasNoBlocks};
+ghost use Rattle.phase_step.specs.SolidBlocks.{is_walled_in, AreTileSolids, HasNoBlocks};
 
 use crate::steps::solid::Solid;
-use crate::steps::solids::{Lent, Solids};
+use crate::steps::solids::{Solids, TileSolids};
 use block_rule::SetBlocks;
 
 /// Walls and obstacles, and of which it is known that there are none. A loop that is compiled for none asks no tile for them.
@@ -22,21 +22,21 @@ pub struct Ground<'a> {
 impl<'a> Ground<'a> {
     /// The walled blocks of tile i.
     #[inline(always)]
-    pub fn in_tile(self, i: u32) -> Lent<'a>
+    pub fn in_tile(self, i: u32) -> TileSolids<'a>
         requires walls { i < tile_count self.solids.now.walls }
         requires obstacles { i < tile_count self.solids.now.obstacles }
-        ensures { let s = self.entry.solids.now in AreLent s.walls s.obstacles i result }
+        ensures { let s = self.entry.solids.now in AreTileSolids s.walls s.obstacles i result }
     {
-        Lent {
-            walls: lent(&self.solids.walls, self.no_walls, i),
-            obstacles: lent(&self.solids.obstacles, self.no_obstacles, i),
+        TileSolids {
+            walls: set_in_tile(&self.solids.walls, self.no_walls, i),
+            obstacles: set_in_tile(&self.solids.obstacles, self.no_obstacles, i),
         }
     }
 }
 
 // the blocks of tile i that have a cell of the set
 #[inline(always)]
-fn lent(set: &Solid, none: bool, i: u32) -> Option<SetBlocks<'_>>
+fn set_in_tile(set: &Solid, none: bool, i: u32) -> Option<SetBlocks<'_>>
     requires none { IsTrue none → HasNoBlocks set.now }
     requires tile { i < tile_count set.now }
     ensures { AreLentBlocks result (is_walled_in set.now i) }

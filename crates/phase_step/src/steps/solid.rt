@@ -142,7 +142,7 @@ fn is_near(start: u32, len: u32, from: u32, size: u32) -> bool
         ≡ false }
 {
     let end = start + len;
-    let here = meet(start, end, from, from + 64);
+    let here = ranges_overlap(start, end, from, from + 64);
     let left = is_among(before(from, size), start, end);
     let right = is_among(after(from + 63, size), start, end);
     here | left | right
@@ -150,7 +150,7 @@ fn is_near(start: u32, len: u32, from: u32, size: u32) -> bool
 
 // whether the numbers from `start` up to `end` and those from `from` up to `to` begin before the others end
 #[inline]
-fn meet(start: u32, end: u32, from: u32, to: u32) -> bool
+fn ranges_overlap(start: u32, end: u32, from: u32, to: u32) -> bool
     ensures { result ≡ (nat_lt start to && nat_lt from end) }
 {
     start < to && from < end

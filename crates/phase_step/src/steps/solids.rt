@@ -18,7 +18,7 @@ pub struct Solids {
 
 /// What is lent of the blocks of a tile that have a wall, and of those that have an obstacle.
 #[derive(Clone, Copy)]
-pub struct Lent<'a> {
+pub struct TileSolids<'a> {
     pub walls: Option<SetBlocks<'a>>,
     pub obstacles: Option<SetBlocks<'a>>,
 }

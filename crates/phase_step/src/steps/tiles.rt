@@ -8,7 +8,7 @@ ghost use Rattle.phase_step.specs.Turns.{IsTileAfter};
 
 use crate::parts::{turn_even_in_part, turn_odd_in_part};
 use crate::steps::solid::window_in;
-use crate::steps::solids::Lent;
+use crate::steps::solids::TileSolids;
 use block_rule::{Counted, SetBlocks, tile_blocks};
 use gas_plane::{Plane, Position, Tile};
 use gas_terms::Took;
@@ -43,15 +43,15 @@ pub fn turn_tile_at(
         rows,
         blocks: &blocks,
     });
-    let lent = Lent {
+    let tile_solids = TileSolids {
         walls: of_walls,
         obstacles: of_obstacles,
     };
     if parity == 0 {
         *out = *old.tile(at.tile);
-        turn_even_in_part(lent, Counted::BOTH, out)
+        turn_even_in_part(tile_solids, Counted::BOTH, out)
     } else {
         let rows = old.rows_round(at.row);
-        turn_odd_in_part(rows, at.column, lent, Counted::BOTH, out)
+        turn_odd_in_part(rows, at.column, tile_solids, Counted::BOTH, out)
     }
 }

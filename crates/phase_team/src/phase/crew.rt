@@ -5,12 +5,12 @@ ghost use Rattle.std.specs.Vec.{vec_capacity};
 ghost use Rattle.gas_terms.specs.Cells.{tile_count};
 ghost use Rattle.claim_desk.specs.Desk.{fresh};
 ghost use Rattle.phase_team.specs.Limits.{most_workers};
-ghost use Rattle.phase_team.specs.Teamwork.{IsReady, HasWorked, HasTurned, IsRight, IsRoom, AreTurned, StayTurned};
+ghost use Rattle.phase_team.specs.Teamwork.{IsFresh, HasWorked, HasTurned, IsRight, IsRoom, AreTurned, StayTurned};
 ghost use Rattle.phase_team.specs.Teamwork.{HasDrawnAll, HaveDrawn, drawn};
 
 use crate::phase::gate::Gate;
 use crate::phase::shift::{Shift, Task};
-use crate::phase::worker::{Turned, Worker, work_on};
+use crate::phase::worker::{TileWorker, Turned, work_on};
 use claim_desk::{Desk, DeskSeat};
 use gas_plane::Plane;
 use gas_terms::Took;
@@ -37,10 +37,10 @@ fn seat_workers(
     desk: &Desk,
     seats: &mut Vec<DeskSeat>,
     rooms: &mut Vec<Vec<Turned>>,
-) -> Option<Vec<Worker>>
+) -> Option<Vec<TileWorker>>
     requires { All (λ s. s ≡ fresh desk.now.id) seats.old.items }
     ensures count { IfSome result (λ team. vec_len team ≡ vec_len seats.old) }
-    ensures ready { IfSome result (λ team. All (IsReady desk.now.id) team.items) }
+    ensures ready { IfSome result (λ team. All (IsFresh desk.now.id) team.items) }
     ensures seats { IfSome result (λ _. seats.new.items ≡ []) }
     ensures room { IfSome result (λ _. vec_capacity seats.new ≡ vec_capacity seats.old) }
 {
@@ -52,7 +52,7 @@ fn seat_workers(
         };
         turned.clear();
         let took = Took::ZERO;
-        team.push_reserved(Worker { seat, turned, took });
+        team.push_reserved(TileWorker { seat, turned, took });
     }
     Some(team)
 }
@@ -62,7 +62,7 @@ fn seat_workers(
 pub struct Crew {
     pub desk: Desk,
     pub own: DeskSeat,
-    pub team: Vec<Worker>,
+    pub team: Vec<TileWorker>,
     pub seats: Vec<DeskSeat>,
 }
 
@@ -78,7 +78,7 @@ pub fn crew_of(
     ensures desk { IfSome result (λ crew. crew.desk.seats ≡ workers) }
     ensures own { IfSome result (λ crew. crew.own ≡ fresh crew.desk.id) }
     ensures count { IfSome result (λ crew. vec_len crew.team + 1 ≡ workers) }
-    ensures ready { IfSome result (λ crew. All (IsReady crew.desk.id) crew.team.items) }
+    ensures ready { IfSome result (λ crew. All (IsFresh crew.desk.id) crew.team.items) }
     ensures seats { IfSome result (λ crew. crew.seats.items ≡ []) }
     ensures room { IfSome result (λ crew. workers ≤ vec_capacity crew.seats) }
 {
@@ -120,12 +120,12 @@ pub fn work_together<R: Threads, G: Gate>(
     rt: &R,
     shift: Shift<'_>,
     gate: &G,
-    team: &mut [Worker],
+    team: &mut [TileWorker],
     seat: &mut DeskSeat,
     out: &mut Plane,
 ) -> Took
     requires few { length team.old < most_workers }
-    requires ready { All (IsReady shift.desk.now.id) team.old }
+    requires ready { All (IsFresh shift.desk.now.id) team.old }
     requires out { IsRoom shift.task out.old }
     requires seat { seat.old ≡ fresh shift.desk.now.id }
     ensures worked { All (HasWorked shift.entry.task shift.entry.desk.now.id) team.new }
@@ -139,11 +139,11 @@ pub fn work_together<R: Threads, G: Gate>(
     let (_, took) = thread::join_mut(
         rt,
         &mut ||
-            requires { IsReady shift.desk.now.id last.now }
+            requires { IsFresh shift.desk.now.id last.now }
             ensures { HasWorked shift.entry.task shift.entry.desk.now.id last.exit.now }
         { work_on(last, number, shift, gate) },
         &mut || -> Took
-            requires { (length rest.now < most_workers) × All (IsReady shift.desk.now.id) rest.now
+            requires { (length rest.now < most_workers) × All (IsFresh shift.desk.now.id) rest.now
                 × IsRoom shift.task out.now × (seat.now ≡ fresh shift.desk.now.id) }
             ensures { All (HasWorked shift.entry.task shift.entry.desk.now.id) rest.exit.now
                 × HasDrawnAll shift.entry.desk.now.id seat.exit.now
@@ -161,7 +161,7 @@ fn keep(rooms: &mut Vec<Vec<Turned>>, room: Vec<Turned>) {
 /// Writes the tiles that the workers turned, takes their seats and keeps their room. Returns what was taken in all.
 pub fn hand_in(
     shift: Shift<'_>,
-    mut team: Vec<Worker>,
+    mut team: Vec<TileWorker>,
     seats: &mut Vec<DeskSeat>,
     rooms: &mut Vec<Vec<Turned>>,
     mut took: Took,
@@ -179,7 +179,7 @@ pub fn hand_in(
     ensures turned { HasTurned shift.entry.task (drawn seats.new.items) result out.new }
 {
     while let Some(worker) = team.pop() {
-        let Worker {
+        let TileWorker {
             seat,
             turned,
             took: here,

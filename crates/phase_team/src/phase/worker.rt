@@ -1,6 +1,6 @@
 //! A worker of a single phase: draws tiles and turns them.
 
-ghost use Rattle.phase_team.specs.Teamwork.{IsReady, HasWorked};
+ghost use Rattle.phase_team.specs.Teamwork.{IsFresh, HasWorked};
 
 use crate::phase::gate::Gate;
 use crate::phase::shift::Shift;
@@ -17,18 +17,18 @@ pub struct Turned {
 
 /// A seat of the desk, the tiles that it drew and turned, and what was taken of their particles.
 #[derive(Drop)]
-pub struct Worker {
+pub struct TileWorker {
     pub seat: DeskSeat,
     pub turned: Vec<Turned>,
     pub took: Took,
 }
 
 // Draws tiles and turns them, until no tile is left or one can't be kept.
-pub fn work_on<G: Gate>(worker: &mut Worker, number: u8, shift: Shift<'_>, gate: &G)
-    requires ready { IsReady shift.desk.now.id worker.old }
+pub fn work_on<G: Gate>(worker: &mut TileWorker, number: u8, shift: Shift<'_>, gate: &G)
+    requires ready { IsFresh shift.desk.now.id worker.old }
     ensures { HasWorked shift.entry.task shift.entry.desk.now.id worker.new }
 {
-    let Worker { seat, turned, took } = worker;
+    let TileWorker { seat, turned, took } = worker;
     while turned.reserve(1).is_ok() {
         let Some(place) = seat.draw(shift.desk) else {
             break;

@@ -7,7 +7,7 @@ ghost use Rattle.phase_team.specs.Limits.{most_rows};
 ghost use Rattle.phase_team.specs.Strips.{window, shift_of};
 ghost use Rattle.phase_team.specs.Work.{IsFor, IsDone};
 
-use crate::runs::course::Course;
+use crate::runs::batch::BatchInput;
 use gas_plane::Plane;
 use gas_terms::{NoMemory, Size};
 use phase_step::{Flow, Listed, Part, Run, run_part};
@@ -70,10 +70,10 @@ impl Strip {
         })
     }
 
-    /// Makes the course on the strip: its own rows become those of the lattice after it.
-    pub fn turn(&mut self, course: Course<'_>)
-        requires { IsFor course self.old }
-        ensures done { IsDone course.entry self.new }
+    /// Makes the phases of a batch on the strip: its own rows become those of the lattice after it.
+    pub fn run(&mut self, input: BatchInput<'_>)
+        requires { IsFor input self.old }
+        ensures done { IsDone input.entry self.new }
         ensures kept { (self.new.number ≡ self.old.number) × (self.new.first ≡ self.old.first)
             × (self.new.rows ≡ self.old.rows) }
     {
@@ -85,22 +85,22 @@ impl Strip {
             spare,
             flow,
         } = self;
-        load(cells, course.cells, *first);
-        let down = u32::from(course.cells.size().height() / 64);
+        load(cells, input.cells, *first);
+        let down = u32::from(input.cells.size().height() / 64);
         let part = Part {
             first: *first,
             down,
             margin: 1,
         };
         let action = Listed {
-            turns: course.turns,
+            exchanges: input.exchanges,
         };
         let run = Run {
-            solids: course.solids,
-            parity: course.parity,
-            n: course.phases,
+            solids: input.solids,
+            parity: input.parity,
+            n: input.phases,
             action: &action,
         };
-        *flow = run_part(cells, part, run, course.counted, spare);
+        *flow = run_part(cells, part, run, input.counted, spare);
     }
 }

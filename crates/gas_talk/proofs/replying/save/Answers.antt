@@ -1,7 +1,7 @@
 use Rattle.std.proofs.Common.{rules, ◌≡◌, ◌∷◌, [], ℕ, List, length, Ok, ap, sym, ◌∙◌, refl, inl, subst}
 use Rattle.gas_text.specs.declared.reply.Reply.TheVariants.{Saved}
 use Rattle.gas_snapshot.specs.Shelved.{Gains}
-use Rattle.gas_talk.specs.Talk.{put_taken, snapshot}
+use Rattle.gas_talk.specs.Talk.{put_done, snapshot}
 use Rattle.gas_talk.proofs.replying.save.Goals as goal
 
 pub returns-in-Ok-put-clause-saved : goal.returns-in-Ok-put-clause-saved
@@ -10,7 +10,7 @@ returns-in-Ok-put-clause-saved g c =
     let len : c.len.result ≡ length (snapshot c.in-Ok.copied) = c.len.ensures ∙ sym c.as_slice.ensures.len ∙ ap length bytes in
     let done = c.in-Ok-put.ensures.ok in (
       Ok c.in-Ok.copied,
-      put_taken (snapshot c.in-Ok.copied),
+      put_done (snapshot c.in-Ok.copied),
       c.in-Ok.ensures.copied,
       inl (ap (λ n. Saved c.in-Ok.copied.entries n) len, refl),
       done.0,

@@ -10,37 +10,37 @@ pub returns-then-not-is_sent-clause-answered : goal.returns-then-not-is_sent-cla
 returns-then-not-is_sent-clause-answered g c = λ input from before.
     let p = c.lines.invariant input from before in
     let found = c.in-Line.ensures.found p.unread p.keeps in
-    let turn = c.reply_of-reply.ensures.taken in
+    let talk_line = c.reply_of-reply.ensures.taken in
     let sent = c.send_reply-is_sent.ensures in
-    Serves_cut g.D.Door.size_of g.D.Door.asks g.D.Door.copies input from c.lines.lines _ p c.as_str.result.now _ turn.0 found.0 _ sent.0 sent.1
+    Serves_cut g.D.Door.size_of g.D.Door.asks g.D.Door.copies input from c.lines.lines _ p c.as_str.result.now _ talk_line.0 found.0 _ sent.0 sent.1
     (λ more. found.2 more ∙ ap (λ bytes. text bytes ∷ lines (found.0 ++ more)) (sym c.as_str.ensures.value))
-    (record { takes = turn.1; failures = turn.2; shelved = turn.3 })
+    (record { takes = talk_line.1; failures = talk_line.2; shelved = talk_line.3 })
     sent.2 sent.3
 
 pub returns-then-is_quit-clause-answered : goal.returns-then-is_quit-clause-answered
 returns-then-is_quit-clause-answered g c = λ input from before.
     let p = c.lines.invariant input from before in
     let found = c.in-Line.ensures.found p.unread p.keeps in
-    let turn = c.reply_of-reply.ensures.taken in
+    let talk_line = c.reply_of-reply.ensures.taken in
     let sent = c.send_reply-is_sent.ensures in
-    let size = Leads-size g.D.Door.size_of g.D.Door.asks g.D.Door.copies from.door p.turns c.lines.door p.leads.talk in
-    Serves_quit g.D.Door.size_of g.D.Door.asks g.D.Door.copies input from c.lines.lines _ p c.as_str.result.now _ turn.0 found.0 _
+    let size = Leads-size g.D.Door.size_of g.D.Door.asks g.D.Door.copies from.door p.talk_lines c.lines.door p.leads.talk in
+    Serves_quit g.D.Door.size_of g.D.Door.asks g.D.Door.copies input from c.lines.lines _ p c.as_str.result.now _ talk_line.0 found.0 _
     (λ more. found.2 more ∙ ap (λ bytes. text bytes ∷ lines (found.0 ++ more)) (sym c.as_str.ensures.value))
     (ap (λ n. is_quit (request_of n c.as_str.result.now)) (sym size) ∙ sym c.reply_of-reply.ensures.quit ∙ sym c.is_bye-is_quit.ensures ∙ c.if-is_quit.true)
-    (record { takes = turn.1; failures = turn.2; shelved = turn.3 })
+    (record { takes = talk_line.1; failures = talk_line.2; shelved = talk_line.3 })
     (sent_whole _ _ _ sent.0 sent.1 sent.2 (sent.4 c.if-not-is_sent.false) sent.3)
 
 pub lines-preserved : goal.lines-preserved
 lines-preserved g c = λ input from before.
     let p = c.lines.invariant input from before in
     let found = c.in-Line.ensures.found p.unread p.keeps in
-    let turn = c.reply_of-reply.ensures.taken in
+    let talk_line = c.reply_of-reply.ensures.taken in
     let sent = c.send_reply-is_sent.ensures in
-    let size = Leads-size g.D.Door.size_of g.D.Door.asks g.D.Door.copies from.door p.turns c.lines.door p.leads.talk in
-    Progress_line g.D.Door.size_of g.D.Door.asks g.D.Door.copies input from c.lines.lines _ p c.as_str.result.now _ turn.0 c.next_line.new.self found.0 _ found.1
+    let size = Leads-size g.D.Door.size_of g.D.Door.asks g.D.Door.copies from.door p.talk_lines c.lines.door p.leads.talk in
+    Progress_line g.D.Door.size_of g.D.Door.asks g.D.Door.copies input from c.lines.lines _ p c.as_str.result.now _ talk_line.0 c.next_line.new.self found.0 _ found.1
     (λ more. found.2 more ∙ ap (λ bytes. text bytes ∷ lines (found.0 ++ more)) (sym c.as_str.ensures.value))
     (ap (λ n. is_quit (request_of n c.as_str.result.now)) (sym size) ∙ sym c.reply_of-reply.ensures.quit ∙ sym c.is_bye-is_quit.ensures ∙ c.if-is_quit.false)
-    (record { takes = turn.1; failures = turn.2; shelved = turn.3 })
+    (record { takes = talk_line.1; failures = talk_line.2; shelved = talk_line.3 })
     (sent_whole _ _ _ sent.0 sent.1 sent.2 (sent.4 c.if-not-is_sent.false) sent.3)
 
 pub returns-in-Bad-clause-answered : goal.returns-in-Bad-clause-answered

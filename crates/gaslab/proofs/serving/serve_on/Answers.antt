@@ -1,6 +1,6 @@
 use Rattle.std.proofs.Common.{rules, ◌≡◌, ◌≤◌, All, Some, subst, inl}
 use Rattle.gas_terms.specs.Laboratory.{Laboratory}
-use Rattle.gas_seats.specs.TurnSeats.{SeatView}
+use Rattle.gas_seats.specs.TurnSeats.{TurnSeatView}
 use Rattle.gaslab.proofs.serving.serve_on.Goals as goal
 
 pub returns-in_default : goal.returns-in_default
@@ -22,7 +22,7 @@ returns-in-Some g c =
         back = record {
           all = search rules;
           numbers = c.in-Some.ensures.numbers;
-          opened = subst (λ (l : Laboratory). All (λ (s : SeatView). s.opened ≡ Some (l.start, l.cap)) served.seats.items) lab c.in-Some.ensures.opened;
+          opened = subst (λ (l : Laboratory). All (λ (s : TurnSeatView). s.opened ≡ Some (l.start, l.cap)) served.seats.items) lab c.in-Some.ensures.opened;
         };
         sum = c.in-Some.ensures.entries;
         room = subst (λ (l : Laboratory). served.entries ≤ l.cap) lab c.in-Some.ensures.room;

@@ -31,7 +31,7 @@ loop-i-init c =
     record {
       next = c.tile_there-next.ensures;
       cells = action_starts (there leaves c.args.part) c.args.particles.now c.size.ensures.lattice;
-      moved = λ w o lattice k is few. let e : 0 ≡ 0 - c.own_of-own.result.first - (0 - c.own_of-own.result.end) = omega arith in
+      moved = λ w o lattice k is few. let e : 0 ≡ 0 - c.counted_tiles-own.result.first - (0 - c.counted_tiles-own.result.end) = omega arith in
           ap (tiles_move (pos c.args.parity) lattice (acted leaves lattice) (c.args.part.first * (lattice.width / 64))) e;
     }
 
@@ -49,7 +49,7 @@ loop-i-preserved-in_default c =
     let old = c.tile-old.result.now in
     let ready = c.requires.held.held.ready in
     let down = down_some part cells ready.lattice ready.is.placed ready.is.sized in
-    let own = c.own_of-own in
+    let own = c.counted_tiles-own in
     let stays = same_tile (there leaves part) cells c.loop-i.particles i c.across-across.result old lattice_is across within c.loop-i.invariant.cells c.tile-old.ensures
     (left_in_part leaves part c.across-across.result i c.loop-i.next old old (omega (arith, across, (wide (extent cells) lattice_is.sized).some)) down c.loop-i.invariant.next c.in_default.ensures.left) in
     record {
@@ -66,8 +66,8 @@ loop-i-preserved-in_default c =
     }
 
 -- what an own tile moves
-is_moved : (c : After-moved-here) → (w o lattice : Cells) (k : ℕ) → IsPartOf c.args.part w o c.args.particles.now lattice k → c.args.part.margin * k ≤ 64 → c.own_of-own.result.first ≤ c.loop-i.i → c.loop-i.i < c.own_of-own.result.end
-    → c.moved-here.result ≡ tile_moves (pos c.args.parity) lattice (acted (leaves_of c.args.exchange.now) lattice) (c.args.part.first * (lattice.width / 64) + (c.loop-i.i - c.own_of-own.result.first))
+is_moved : (c : After-moved-here) → (w o lattice : Cells) (k : ℕ) → IsPartOf c.args.part w o c.args.particles.now lattice k → c.args.part.margin * k ≤ 64 → c.counted_tiles-own.result.first ≤ c.loop-i.i → c.loop-i.i < c.counted_tiles-own.result.end
+    → c.moved-here.result ≡ tile_moves (pos c.args.parity) lattice (acted (leaves_of c.args.exchange.now) lattice) (c.args.part.first * (lattice.width / 64) + (c.loop-i.i - c.counted_tiles-own.result.first))
 is_moved c w o lattice k is few low high =
     let cells = c.args.particles.now in
     let part = c.args.part in
@@ -76,7 +76,7 @@ is_moved c w o lattice k is few low high =
     let lattice_is = c.size.ensures.lattice in
     let all = tiles_are cells c.size.result c.tiles-i-end.result c.size.ensures.extent c.tiles-i-end.ensures.tiles in
     let within : i < tile_count cells = omega (arith, all) in
-    let own = c.own_of-own in
+    let own = c.counted_tiles-own in
     own_moved (pos c.args.parity) part cells lattice (acted leaves lattice) i own.result.first own.result.end _ lattice_is.sized is.placed own.ensures.first own.ensures.count low high
     (c.moved-here.ensures (pos c.args.parity) (let s = c.requires.parity in omega (arith, s))
     ∙ tile_acts (pos c.args.parity) leaves part w o cells lattice i k c.change_of.result c.tile-old.result.now c.in-Some.new lattice_is.sized (record { sized = is.sized; full = is.full }) is within
@@ -98,7 +98,7 @@ plus-moved-requires c =
     let h = c.requires.held in
     let r = h.held.ready in
     let inside = c.has.ensures.own c.if-has.true in
-    let n = c.loop-i.i - c.own_of-own.result.first - (c.loop-i.i - c.own_of-own.result.end) in
+    let n = c.loop-i.i - c.counted_tiles-own.result.first - (c.loop-i.i - c.counted_tiles-own.result.end) in
     let fits = moved_fits c.loop-i.moved c.moved-here.result (16384 * n) 16384
     (subst (IsMovedWithin (16384 * n)) (sym (c.loop-i.invariant.moved h.walls h.obstacles r.lattice h.held.made r.is r.few)) (tiles_move_within (pos c.args.parity) (leaves_of c.args.exchange.now) r.lattice (c.args.part.first * (r.lattice.width / 64)) n))
     (subst (IsMovedWithin 16384) (sym (is_moved (goal.at.plus-moved-requires c).After-moved-here h.walls h.obstacles r.lattice h.held.made r.is r.few inside.0 inside.1)) (tile_moves_within (pos c.args.parity) (leaves_of c.args.exchange.now) r.lattice _))
@@ -117,7 +117,7 @@ loop-i-preserved c =
     let within : i < tile_count cells = omega (arith, all) in
     let ready = c.requires.held.held.ready in
     let down = down_some part cells ready.lattice ready.is.placed ready.is.sized in
-    let own = c.own_of-own in
+    let own = c.counted_tiles-own in
     record {
       next = next_is part cells ready.lattice c.requires.held.walls c.requires.held.obstacles c.requires.held.held.made c.across-across.result i c.loop-i.next c.next_there-next.result ready.is across c.loop-i.invariant.next c.next_there-next.ensures;
       cells = sweep_next cells c.loop-i.particles c.set_tile.new.self (acting (there leaves part) cells) i c.tile-old.result.now c.in-Some.new lattice_is within c.loop-i.invariant.cells c.tile-old.ensures c.set_tile.ensures

@@ -25,19 +25,19 @@ returns c =
     let particles : Window = record { tile = c.tile.result; round = c.round.result } in
     let near = around t (border_near c.round.result).0 in
     record {
-      cells = λ part w o old lattice i k at is lent.
+      cells = λ part w o old lattice i k at is tile_solids.
           let j = tile_in part (lattice.width / 64) i in
           let r = tile_rectangle lattice j in
           let there = tile_place part old lattice w o i k is at.within in
           let here = place_is old old old i at.lattice.sized at.within (record { wide = refl; high = refl }) (record { wide = refl; high = refl }) in
           let view = window_view i old old particles refl refl here.right here.bottom (record { tile = tile_of_column c.args.rows c.args.column old i t at (c.tile.ensures old _ at.rows); round = λ b is. c.round.ensures.ring old i b at is }) in
           tile_turned 1 part old lattice w o i k near c.turn_tile_odd.new.out (omega arith) is at.within view
-          (c.turn_tile_odd.ensures.cells near (view_of w r.x r.y) (view_of o r.x r.y) (window_seen particles) (lent_in_view lattice w o w j c.args.lent.walls there is.of_walls lent.of_walls) (lent_in_view lattice w o o j c.args.lent.obstacles there is.of_obstacles lent.of_obstacles));
-      took = λ part w o old lattice i k at is lent unspoilt.
+          (c.turn_tile_odd.ensures.cells near (view_of w r.x r.y) (view_of o r.x r.y) (window_seen particles) (lent_in_view lattice w o w j c.args.tile_solids.walls there is.of_walls tile_solids.of_walls) (lent_in_view lattice w o o j c.args.tile_solids.obstacles there is.of_obstacles tile_solids.of_obstacles));
+      took = λ part w o old lattice i k at is tile_solids unspoilt.
           let j = tile_in part (lattice.width / 64) i in
           let r = tile_rectangle lattice j in
           let there = tile_place part old lattice w o i k is at.within in
           let from = tile_of_column c.args.rows c.args.column old i t at (c.tile.ensures old _ at.rows) in
-          c.turn_tile_odd.ensures.took (view_of w r.x r.y) (view_of o r.x r.y) (lent_in_view lattice w o w j c.args.lent.walls there is.of_walls lent.of_walls) (lent_in_view lattice w o o j c.args.lent.obstacles there is.of_obstacles lent.of_obstacles)
+          c.turn_tile_odd.ensures.took (view_of w r.x r.y) (view_of o r.x r.y) (lent_in_view lattice w o w j c.args.tile_solids.walls there is.of_walls tile_solids.of_walls) (lent_in_view lattice w o o j c.args.tile_solids.obstacles there is.of_obstacles tile_solids.of_obstacles)
           ∙ ap (counted_of c.args.counted) (tiles_took (pos 1) t lattice w o r.x r.y (view_of w r.x r.y) (view_of o r.x r.y) there (own_cells part old lattice w o i k t at.lattice.sized is at.within unspoilt.low unspoilt.high from) (record { cell = λ _ _ _ _. refl }) (record { cell = λ _ _ _ _. refl }));
     }

@@ -14,64 +14,64 @@ use Rattle.phase_team.proofs.runs.hand_in.Goals as goal
 
 pub put-theirs-requires-clause-made : goal.put-theirs-requires-clause-made
 put-theirs-requires-clause-made c =
-    let worked = all_last (HasMade c.args.stretch) _ _ _ c.in-Some.ensures.items c.loop-hand.invariant.team in
-    subst (All (IsPart c.args.stretch)) (sym c.as_slice.ensures.value) worked.made
+    let worked = all_last (HasMade c.args.batch) _ _ _ c.in-Some.ensures.items c.loop-worker.invariant.team in
+    subst (All (IsPart c.args.batch)) (sym c.as_slice.ensures.value) worked.made
 
 pub put-theirs-requires-clause-few : goal.put-theirs-requires-clause-few
 put-theirs-requires-clause-few c =
-    let worked = all_last (HasMade c.args.stretch) _ _ _ c.in-Some.ensures.items c.loop-hand.invariant.team in
-    omega (arith, ap length c.as_slice.ensures.value, ap length worked.all_made, length-map c.in-Some.hand.made.items (λ (s : Strip). s.number), worked.few, c.args.stretch.parts.few)
+    let worked = all_last (HasMade c.args.batch) _ _ _ c.in-Some.ensures.items c.loop-worker.invariant.team in
+    omega (arith, ap length c.as_slice.ensures.value, ap length worked.all_made, length-map c.in-Some.worker.made.items (λ (s : Strip). s.number), worked.few, c.args.batch.parts.few)
 
 pub plus-flow-requires : goal.plus-flow-requires
 plus-flow-requires c =
-    let stretch = c.args.stretch in
-    let was = c.loop-hand.invariant in
-    let worked = all_last (HasMade stretch) _ _ _ c.in-Some.ensures.items was.team in
-    let numbers : map (λ (s : Strip). s.number) c.as_slice.result.now ≡ c.in-Some.hand.seat.numbers = ap (map (λ (s : Strip). s.number)) c.as_slice.ensures.value ∙ worked.all_made in
-    both_fit stretch (drawn c.loop-hand.seats.items) c.in-Some.hand.seat.numbers c.loop-hand.flow c.put-theirs.result was.flow (c.put-theirs.ensures.flow ∙ ap (strips_give stretch) numbers)
-    (omega (arith, was.few, was.all_seats, c.requires.count, worked.few, stretch.parts.few))
+    let batch = c.args.batch in
+    let was = c.loop-worker.invariant in
+    let worked = all_last (HasMade batch) _ _ _ c.in-Some.ensures.items was.team in
+    let numbers : map (λ (s : Strip). s.number) c.as_slice.result.now ≡ c.in-Some.worker.seat.numbers = ap (map (λ (s : Strip). s.number)) c.as_slice.ensures.value ∙ worked.all_made in
+    both_fit batch (drawn c.loop-worker.seats.items) c.in-Some.worker.seat.numbers c.loop-worker.flow c.put-theirs.result was.flow (c.put-theirs.ensures.flow ∙ ap (strips_give batch) numbers)
+    (omega (arith, was.few, was.all_seats, c.requires.count, worked.few, batch.parts.few))
 
 pub room_of-requires-clause-room : goal.room_of-requires-clause-room
-room_of-requires-clause-room c = (all_last (HasMade c.args.stretch) _ _ _ c.in-Some.ensures.items c.loop-hand.invariant.team).room
+room_of-requires-clause-room c = (all_last (HasMade c.args.batch) _ _ _ c.in-Some.ensures.items c.loop-worker.invariant.team).room
 
 pub room_of-requires-clause-made : goal.room_of-requires-clause-made
-room_of-requires-clause-made c = (all_last (HasMade c.args.stretch) _ _ _ c.in-Some.ensures.items c.loop-hand.invariant.team).made
+room_of-requires-clause-made c = (all_last (HasMade c.args.batch) _ _ _ c.in-Some.ensures.items c.loop-worker.invariant.team).made
 
-pub loop-hand-preserved : goal.loop-hand-preserved
-loop-hand-preserved c =
-    let stretch = c.args.stretch in
-    let was = c.loop-hand.invariant in
+pub loop-worker-preserved : goal.loop-worker-preserved
+loop-worker-preserved c =
+    let batch = c.args.batch in
+    let was = c.loop-worker.invariant in
     let popped = c.in-Some.ensures.items in
     let pushed = c.push_reserved.ensures.items in
-    let seat = c.in-Some.hand.seat in
+    let seat = c.in-Some.worker.seat in
     let out = c.put-theirs.new.out in
-    let numbers = drawn c.loop-hand.seats.items in
+    let numbers = drawn c.loop-worker.seats.items in
     let others = seat.numbers in
-    let worked = all_last (HasMade stretch) _ _ _ popped was.team in
+    let worked = all_last (HasMade batch) _ _ _ popped was.team in
     let all : drawn c.push_reserved.new.self.items ≡ numbers ++ others = drawn_push _ _ seat pushed in
     let theirs : map (λ (s : Strip). s.number) c.as_slice.result.now ≡ others = ap (map (λ (s : Strip). s.number)) c.as_slice.ensures.value ∙ worked.all_made in
     record {
       all_seats = omega (arith, was.all_seats, c.push_reserved.ensures.len, c.in-Some.ensures.len);
       seats_room = c.push_reserved.ensures.capacity ∙ was.seats_room;
       same_desk =
-          let P : SeatView → Type 0 = λ s. s.desk ≡ stretch.desk.now.id in
+          let P : SeatView → Type 0 = λ s. s.desk ≡ batch.desk.now.id in
           subst (All P) (sym pushed) (all_push P _ _ was.same_desk worked.same_desk);
       some_ended = λ e.
           elim c.if-ended.branch [
             | then-ended w ↦ still_ended _ _ seat pushed (was.some_ended w.if-ended.true)
             | else-ended w ↦ last_ended _ _ seat pushed (worked.ended (sym w.ended-is ∙ e))
           ];
-      team = all_front (HasMade stretch) _ _ _ popped was.team;
-      rooms = all_either (IsRoomFor (extent stretch.course.cells.now) stretch.parts) _ _ _ c.room_of.result c.push.ensures.items was.rooms c.room_of.ensures;
-      few = let long = ap length all ∙ length-append numbers others in omega (arith, long, was.few, worked.few, stretch.parts.few, c.push_reserved.ensures.len);
+      team = all_front (HasMade batch) _ _ _ popped was.team;
+      rooms = all_either (IsRoomFor (extent batch.input.cells.now) batch.parts) _ _ _ c.room_of.result c.push.ensures.items was.rooms c.room_of.ensures;
+      few = let long = ap length all ∙ length-append numbers others in omega (arith, long, was.few, worked.few, batch.parts.few, c.push_reserved.ensures.len);
       lattice = c.put-theirs.ensures.out.0;
       sides = c.put-theirs.ensures.out.1;
-      strips = subst (λ ns. StripsArePut stretch ns out) (sym all)
-          (strips_both stretch numbers others out (strips_stay stretch numbers c.loop-hand.out out c.put-theirs.ensures.kept was.strips)
-          (subst (λ ns. StripsArePut stretch ns out) theirs c.put-theirs.ensures.strips));
+      strips = subst (λ ns. StripsArePut batch ns out) (sym all)
+          (strips_both batch numbers others out (strips_stay batch numbers c.loop-worker.out out c.put-theirs.ensures.kept was.strips)
+          (subst (λ ns. StripsArePut batch ns out) theirs c.put-theirs.ensures.strips));
       flow = c.plus-flow.ensures
-          ∙ (give_both stretch numbers others c.loop-hand.flow c.put-theirs.result was.flow (c.put-theirs.ensures.flow ∙ ap (strips_give stretch) theirs)
-          ∙ ap (strips_give stretch) (sym all));
+          ∙ (give_both batch numbers others c.loop-worker.flow c.put-theirs.result was.flow (c.put-theirs.ensures.flow ∙ ap (strips_give batch) theirs)
+          ∙ ap (strips_give batch) (sym all));
     }
 
 pub returns-clause-seats : goal.returns-clause-seats

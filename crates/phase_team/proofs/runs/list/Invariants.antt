@@ -4,6 +4,6 @@ use Rattle.phase_team.proofs.runs.list.Given as goal
 
 abbrev pub invariant-loop-k : goal.invariant-loop-k
 invariant-loop-k g l = record {
-  so_far : Lists l.turns.items (g.A.Action.leaves l.action) l.k;
-  len : length l.turns.items ≡ l.k;
+  so_far : Lists l.exchanges.items (g.A.Action.leaves l.action) l.k;
+  len : length l.exchanges.items ≡ l.k;
 }

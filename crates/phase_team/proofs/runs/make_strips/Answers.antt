@@ -7,17 +7,17 @@ use Rattle.phase_team.proofs.Places.{all_lent}
 use Rattle.phase_team.proofs.Parting.{closes_plane, closes_flow}
 use Rattle.phase_team.proofs.runs.make_strips.Goals as goal
 
--- the stretch of both calls has the same course, parts and desk
+-- the batch of both calls has the same input, parts and desk
 pub hand_in-requires-clause-team : goal.hand_in-requires-clause-team
 hand_in-requires-clause-team g c = λ k d less.
-    let hand = all_lent (HasMade _) c.in-Some.team.len c.make_all.new.team c.in-Some.team.items (search rules) c.make_all.ensures k d less in
+    let worker = all_lent (HasMade _) c.in-Some.team.len c.make_all.new.team c.in-Some.team.items (search rules) c.make_all.ensures k d less in
     record {
-      same_desk = hand.same_desk;
-      all_made = hand.all_made;
-      made = λ j e l. let part = hand.made j e l in record { below = part.below; first = part.first; rows = part.rows; done = part.done };
-      few = hand.few;
-      room = hand.room;
-      ended = hand.ended;
+      same_desk = worker.same_desk;
+      all_made = worker.all_made;
+      made = λ j e l. let part = worker.made j e l in record { below = part.below; first = part.first; rows = part.rows; done = part.done };
+      few = worker.few;
+      room = worker.room;
+      ended = worker.ended;
     }
 
 -- each strip was drawn once

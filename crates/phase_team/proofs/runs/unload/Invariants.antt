@@ -7,10 +7,10 @@ use Rattle.phase_team.proofs.runs.unload.Given as goal
 abbrev pub invariant-loop-i : goal.invariant-loop-i
 invariant-loop-i l = record {
   lattice : IsLattice l.out;
-  sides : HasSidesOf l.out l.course.cells.now;
-  kept : StaysPut l.course l.initial.out l.out;
-  tiles : (x y : ℕ) → x < l.course.cells.now.width → y < l.course.cells.now.height
-      → l.strip.first * (l.course.cells.now.width / 64) ≤ y / 64 * (l.course.cells.now.width / 64) + x / 64
-      → y / 64 * (l.course.cells.now.width / 64) + x / 64 < l.strip.first * (l.course.cells.now.width / 64) + l.i
-      → has l.out x y ≡ has (result_of l.course) x y;
+  sides : HasSidesOf l.out l.input.cells.now;
+  kept : StaysPut l.input l.initial.out l.out;
+  tiles : (x y : ℕ) → x < l.input.cells.now.width → y < l.input.cells.now.height
+      → l.strip.first * (l.input.cells.now.width / 64) ≤ y / 64 * (l.input.cells.now.width / 64) + x / 64
+      → y / 64 * (l.input.cells.now.width / 64) + x / 64 < l.strip.first * (l.input.cells.now.width / 64) + l.i
+      → has l.out x y ≡ has (result_of l.input) x y;
 }

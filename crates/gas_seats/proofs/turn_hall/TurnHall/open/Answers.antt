@@ -1,11 +1,11 @@
 use Rattle.std.proofs.Common.{◌≡◌, ℕ, ◌+◌, ◌<◌, ◌∙◌, ◌++◌, ◌∷◌, ap, sym, subst, refl, length, [], Some, slice_get, slice_index_or, vec_len, rules, arith}
 use Rattle.std.specs.Vec.Iter.{into_iter_items}
-use Rattle.turn_lock.specs.Doors.{DoorView}
+use Rattle.ticket_lock.specs.Doors.{DoorView}
 use Rattle.gas_terms.specs.Gas.{Gas}
 use Rattle.gas_terms.specs.Laboratory.{Laboratory}
 use Rattle.gas_terms.specs.declared.command.Entry.{Entry}
 use Rattle.atomic_table.specs.Seated.{TableId}
-use Rattle.gas_seats.specs.TurnSeats.{SeatView, opening_seat}
+use Rattle.gas_seats.specs.TurnSeats.{TurnSeatView, opening_seat}
 use Rattle.gas_seats.proofs.Numbered.{all_of_rule, first_is, one_more, rest_is}
 use Rattle.gas_seats.proofs.TurnSeats.{Keeps, seat_of}
 use Rattle.gas_seats.proofs.turn_hall.TurnHall.open.Goals as goal
@@ -44,5 +44,5 @@ loop-door-preserved g c =
 
 pub returns-in-None-clause-here : goal.returns-in-None-clause-here
 returns-in-None-clause-here g c =
-    all_of_rule (λ (s : SeatView). s.hall ≡ c.in-Ok-open.lock) (opening_seat c.in-Ok-open.lock c.args.lab) c.loop-door.all.items (λ i. refl)
+    all_of_rule (λ (s : TurnSeatView). s.hall ≡ c.in-Ok-open.lock) (opening_seat c.in-Ok-open.lock c.args.lab) c.loop-door.all.items (λ i. refl)
     (λ i below. c.loop-door.invariant.5 i (let long = c.loop-door.all.ok.0 in omega (arith, below, long)))

@@ -6,7 +6,7 @@ use Rattle.gas_plane.proofs.Places.{wide}
 use Rattle.gas_plane.proofs.Rings.{row_in}
 use Rattle.block_rule.specs.Windows.{taken_in}
 use Rattle.phase_step.specs.Parts.{whole_part}
-use Rattle.phase_step.specs.SolidBlocks.{AreLent}
+use Rattle.phase_step.specs.SolidBlocks.{AreTileSolids}
 use Rattle.phase_step.specs.Turns.{IsTileAfter}
 use Rattle.phase_step.proofs.RowRuns.{whole_turns, whole_takes}
 use Rattle.phase_step.proofs.SolidBlocks.{named_on}
@@ -26,18 +26,18 @@ returns-then-parity-eq0 c =
     let w = c.args.walls.now in
     let o = c.args.obstacles.now in
     let i = c.args.at.tile in
-    let lent : AreLent w o i _ = record {
+    let tile_solids : AreTileSolids w o i _ = record {
       of_walls = named_on w old i c.tile_blocks-rows.result.0 c.tile_blocks-rows.result.1 c.window_in.result c.requires.walls c.requires.lattice.sized c.requires.tile c.window_in.ensures c.tile_blocks-rows.ensures;
       of_obstacles = named_on o old i c.tile_blocks-rows-2.result.0 c.tile_blocks-rows-2.result.1 c.window_in-2.result c.requires.obstacles c.requires.lattice.sized c.requires.tile c.window_in-2.ensures c.tile_blocks-rows-2.ensures;
     } in
     record {
       cells =
           subst (λ p. IsTileAfter p old w o i c.turn_even_in_part.new.tile) (sym c.if-parity-eq0.true)
-          (whole_turns 0 old w o i _ c.turn_even_in_part.new.tile c.requires.lattice c.requires.tile c.requires.walls c.requires.obstacles lent
-          (λ is lent. c.turn_even_in_part.ensures.cells (whole_part old) w o old old i 0 c.requires.lattice c.requires.tile is lent c.tile.ensures));
+          (whole_turns 0 old w o i _ c.turn_even_in_part.new.tile c.requires.lattice c.requires.tile c.requires.walls c.requires.obstacles tile_solids
+          (λ is tile_solids. c.turn_even_in_part.ensures.cells (whole_part old) w o old old i 0 c.requires.lattice c.requires.tile is tile_solids c.tile.ensures));
       took =
-          whole_takes 0 old w o i _ c.turn_even_in_part.result c.requires.lattice c.requires.tile c.requires.walls c.requires.obstacles lent
-          (λ is lent unspoilt. c.turn_even_in_part.ensures.took (whole_part old) w o old old i 0 c.requires.lattice c.requires.tile is lent c.tile.ensures unspoilt)
+          whole_takes 0 old w o i _ c.turn_even_in_part.result c.requires.lattice c.requires.tile c.requires.walls c.requires.obstacles tile_solids
+          (λ is tile_solids unspoilt. c.turn_even_in_part.ensures.took (whole_part old) w o old old i 0 c.requires.lattice c.requires.tile is tile_solids c.tile.ensures unspoilt)
           ∙ ap (λ p. taken_in (pos p) old w o (tile_rectangle old i)) (sym c.if-parity-eq0.true);
     }
 
@@ -47,7 +47,7 @@ returns-else-parity-eq0 c =
     let w = c.args.walls.now in
     let o = c.args.obstacles.now in
     let i = c.args.at.tile in
-    let lent : AreLent w o i _ = record {
+    let tile_solids : AreTileSolids w o i _ = record {
       of_walls = named_on w old i c.tile_blocks-rows.result.0 c.tile_blocks-rows.result.1 c.window_in.result c.requires.walls c.requires.lattice.sized c.requires.tile c.window_in.ensures c.tile_blocks-rows.ensures;
       of_obstacles = named_on o old i c.tile_blocks-rows-2.result.0 c.tile_blocks-rows-2.result.1 c.window_in-2.result c.requires.obstacles c.requires.lattice.sized c.requires.tile c.window_in-2.ensures c.tile_blocks-rows-2.ensures;
     } in
@@ -62,10 +62,10 @@ returns-else-parity-eq0 c =
     record {
       cells =
           subst (λ p. IsTileAfter p old w o i c.turn_odd_in_part.new.out) e
-          (whole_turns 1 old w o i _ c.turn_odd_in_part.new.out c.requires.lattice c.requires.tile c.requires.walls c.requires.obstacles lent
-          (λ is lent. c.turn_odd_in_part.ensures.cells (whole_part old) w o old old i 0 column is lent));
+          (whole_turns 1 old w o i _ c.turn_odd_in_part.new.out c.requires.lattice c.requires.tile c.requires.walls c.requires.obstacles tile_solids
+          (λ is tile_solids. c.turn_odd_in_part.ensures.cells (whole_part old) w o old old i 0 column is tile_solids));
       took =
-          whole_takes 1 old w o i _ c.turn_odd_in_part.result c.requires.lattice c.requires.tile c.requires.walls c.requires.obstacles lent
-          (λ is lent unspoilt. c.turn_odd_in_part.ensures.took (whole_part old) w o old old i 0 column is lent unspoilt)
+          whole_takes 1 old w o i _ c.turn_odd_in_part.result c.requires.lattice c.requires.tile c.requires.walls c.requires.obstacles tile_solids
+          (λ is tile_solids unspoilt. c.turn_odd_in_part.ensures.took (whole_part old) w o old old i 0 column is tile_solids unspoilt)
           ∙ ap (λ p. taken_in (pos p) old w o (tile_rectangle old i)) e;
     }

@@ -1,5 +1,0 @@
-use Rattle.std.proofs.Common.{rules}
-use Rattle.phase_step.proofs.exchanges.few.Few.as_slice.Goals as goal
-
-pub returns-clause-items : goal.returns-clause-items
-returns-clause-items g c = search rules
