@@ -11,14 +11,14 @@ test_crates() {
     done | sort -rn | sed 's/.* //'
 }
 
-# Takes two tests out of this copy of the sources, which are left to the gate: with checks, one that makes 2^24 reads and one
-# that waits until it sees no thread but its own take many minutes.
+# Takes three tests out of this copy of the sources, which are left to the gate: with checks, one that makes 2^24 reads and two
+# that wait until they see no thread but their own take many minutes.
 without_long_tests() {
-    grep -rlE '^fn (too_many_reads|workers_are_threads)\(' src | while read -r file; do
+    grep -rlE '^fn (too_many_reads|(server_)?workers_are_threads)\(' src | while read -r file; do
         awk '
             skipped { skipped = $0 != "}"; next }
             /^(#\[test\]$|\/\/\/)/ { held = held $0 "\n"; next }
-            held && /^fn (too_many_reads|workers_are_threads)\(/ { held = ""; skipped = 1; next }
+            held && /^fn (too_many_reads|(server_)?workers_are_threads)\(/ { held = ""; skipped = 1; next }
             { printf "%s", held; held = ""; print }' "$file" >"$room/file" && mv "$room/file" "$file" || return
     done
 }
@@ -96,7 +96,7 @@ run_tests() {
     if ! { mkfifo "$rooms/ends" && exec 3<>"$rooms/ends"; }; then not_written "$rooms"; fi
     trap tests_cut_off INT TERM HUP
     say "compiling and running the tests of $*"
-    say "they are NOT PROVED, and run with checks. 'too_many_reads' and 'workers_are_threads' are left to the gate"
+    say "they are NOT PROVED, and run with checks. 'too_many_reads' and both 'workers_are_threads' are left to the gate"
     test_all "$@"
     trap - INT TERM HUP
     rm -rf "$rooms"
