@@ -333,6 +333,12 @@ class Style(unittest.TestCase):
                                env={**os.environ, "NODE_PATH": "/usr/share/nodejs"}, stdout=subprocess.PIPE)
         self.assertEqual((found.stdout, found.returncode), ("", 0))
 
+    def test_there_are_no_more_lines(self):
+        """See docs/DECISIONS.md. Where more are needed, some can go first."""
+        paths = [it for it in STATIC.iterdir() if it.suffix in (".js", ".css", ".html")]
+        ours = [it.read_text("utf-8") for it in paths if not it.name.startswith("dygraph")]
+        self.assertLessEqual(sum(len(it.splitlines()) for it in ours), 4430)
+
     def test_lines_are_short(self):
         for path in (STATIC / "page.css", STATIC / "index.html"):
             self.assertLessEqual(max(map(len, path.read_text("utf-8").splitlines())), 110, path.name)
