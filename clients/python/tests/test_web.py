@@ -51,7 +51,9 @@ class Served(unittest.IsolatedAsyncioTestCase):
         await self.client.close()
         self.task.cancel()
         await asyncio.wait([self.task])
-        self.assertNotIn("Desk", {type(it).__name__ for it in threading.enumerate()})
+        for desk in [it for it in threading.enumerate() if type(it).__name__ == "Desk"]:
+            desk.join(60)  # it has said that it ends, and may still be on its way out
+            self.assertFalse(desk.is_alive())
 
     async def status(self, path="", **headers):
         async with self.client.get(self.web.link("all") + path, headers=headers) as answer:
