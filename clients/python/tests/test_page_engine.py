@@ -16,7 +16,8 @@ from .test_lab import ROOT
 EXAMPLES = ROOT / "examples"
 PAGE = ROOT / "clients" / "python" / "gaslab" / "page"
 NODE = shutil.which("node")
-SIZES = {"5_sound": (256, 256), "5_empty": (256, 256), "9_light_cone": (128, 128), "7_kept": (128, 64)}
+SIZES = {"5_sound": (256, 256), "5_empty": (256, 256), "9_light_cone": (128, 128), "7_kept": (128, 64),
+         "clap": (128, 128)}
 SESSIONS = ["8_first", "8_second", "8_third"]
 OBSTACLES_X = 8  # its place in a LEDGER reply
 
@@ -153,6 +154,8 @@ class Claims(unittest.TestCase):
         if "drag" in claim:
             early, late = (int(replies[k].split(" ")[OBSTACLES_X]) for k in (-3, -1))
             self.assertEqual(late - early, 100 * claim["drag"], claim)
+        elif isinstance(claim["reply"], list):
+            self.assertEqual([it for it in replies if not it.startswith("OK")], claim["reply"], lesson)
         elif claim["lines"][-1] == "entropy":
             self.assertEqual(f"{entropy(replies[-64:]):.8f}", claim["reply"], claim)
         else:

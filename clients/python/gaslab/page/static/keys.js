@@ -36,4 +36,5 @@ document.addEventListener("keydown", (e) => {
   if (!(e.repeat && MOVES[e.key] && isTooSoon())) does();
 });
 
-for (const { button, shown, words } of KEYS) if (button) at(button).title = `${words} (${shown})`;
+for (const { button, shown, words: [first, ...rest] } of KEYS)
+  if (button) at(button).title = `${first.toUpperCase()}${rest.join("")} (${shown})`;

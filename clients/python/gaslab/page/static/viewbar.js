@@ -45,6 +45,11 @@ at("zoom-in").onclick = () => view.zoom(1.5, ...view.middle);
 at("zoom-out").onclick = () => view.zoom(1 / 1.5, ...view.middle);
 at("zoom-fit").onclick = () => view.fit();
 state.on(["mode"], showMode);
+state.on(["lesson"], () => {
+  const { range = "full", mean = false } = state.lesson;
+  at("range").value = view.range = range;
+  at("mean").checked = view.isMean = mean;
+});
 view.onDraw = () => { at("square").value = view.square; showKey(); };
 new ResizeObserver(() => {
   if (view.picture && view.fitted) view.fit(view.fitted === true ? null : view.fitted);
