@@ -5,8 +5,12 @@ import { encodePicture, encodeFile, isSide, NOBODY, UNDRAWN, PROBES } from "./fr
 export class Server {
   pages = new Map();
   probes = [];
-  seats = this.keys = this.number = this.due = 0;
-  play = this.timer = null;
+  seats = 0;               // how many came
+  keys = 0;                // of probes
+  number = 0;              // of the last picture
+  play = null;             // { seat, steps, rate, to }
+  due = 0;
+  timer = null;
   dirty = false;
   isNew = true;
   old = null;              // the gas before this one
