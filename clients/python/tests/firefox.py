@@ -46,6 +46,7 @@ class Firefox:
         return self
 
     def __exit__(self, *_: object) -> None:
+        self._stream.close()
         self._socket.close()
         self._process.terminate()
         self._process.wait()
