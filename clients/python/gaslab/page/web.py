@@ -205,21 +205,23 @@ class Web:
         self._sockets.add(socket)
         outbox = Outbox(asyncio.get_running_loop())
         tasks = [asyncio.ensure_future(it) for it in (outbox.send_to(socket), outbox.is_full.wait())]
+        code = 1008
         try:
             seat = await self._do(partial(self.hall.join, request["rights"], outbox.put))
             tasks.append(asyncio.ensure_future(self._listen(socket, seat)))
             done, _ = await asyncio.wait(tasks, return_when=asyncio.FIRST_COMPLETED)
-            for task in done:
-                task.exception()
-            with suppress(GaslabError):
+            faults = [task.exception() for task in done]
+            if any(isinstance(fault, _LOST) for fault in faults):
+                code = 1001
+            else:
                 await self._do(partial(self.hall.leave, seat))
         except GaslabError:
-            pass  # the laboratory is lost, and the server ends
+            code = 1001  # the laboratory is lost, and the server ends
         finally:
             self._sockets.discard(socket)
             for task in tasks:
                 task.cancel()
-            await _close(socket, 1008)
+            await _close(socket, code)
         return socket
 
     async def _listen(self, socket: Any, seat: Seat) -> None:
