@@ -96,7 +96,7 @@ run_tests() {
     if ! { mkfifo "$rooms/ends" && exec 3<>"$rooms/ends"; }; then not_written "$rooms"; fi
     trap tests_cut_off INT TERM HUP
     say "compiling and running the tests of $*"
-    say "they are NOT PROVED, and run with checks. 'too_many_reads' and both 'workers_are_threads' are left to the gate"
+    say "they are NOT PROVED, and run with checks. 'too_many_reads', 'workers_are_threads' and 'server_workers_are_threads' are left to the gate"
     test_all "$@"
     trap - INT TERM HUP
     rm -rf "$rooms"
