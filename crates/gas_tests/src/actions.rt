@@ -8,7 +8,6 @@ use gas_plane::{Plane, Tile};
 use gas_terms::{Moved, Pair, Rect, Size, Took};
 use phase_step::{
     Action, Change, Exchange, Later, Listed, PortArray, Run, Serial, Stepper, Still, act_on,
-    change_of,
 };
 use std::process::Abort;
 
@@ -199,16 +198,6 @@ fn flows_add_up(rt: HostRuntime) {
     expect_same(&rt, both.moved.drained, sums(907, 295, 699));
 }
 
-// The cells (0, 0) and (1, 0) give way to (1, 0), (2, 0) and (3, 0): one of each class of that row comes, and (0, 0) goes.
-#[test]
-fn change_of_a_tile(rt: HostRuntime) {
-    let old = Tile::rect(0, 0, 2, 1);
-    let new = Tile::rect(1, 0, 3, 1);
-    let change = change_of(&old, &new);
-    expect_same(&rt, change.gained, [1, 1, 0, 0]);
-    expect_same(&rt, change.lost, [1, 0, 0, 0]);
-}
-
 fn area(rt: &impl Abort, x: u32, w: u32) -> Rect {
     let size = Size::new(128, 64).expect(rt, "a size");
     Rect::within(size, x, 0, w, 1).expect(rt, "a rectangle")
@@ -231,11 +220,18 @@ fn exchange_of_a_tile(rt: HostRuntime) {
     want.join(&Tile::rect(0, 1, 2, 1));
     for exchange in [shift(&rt), shift(&rt).copy()] {
         expect_that(&rt, !exchange.is_still());
-        let new = exchange.on_tile(0, 0, &old).expect(&rt, "another tile");
-        expect_that(&rt, new.has_same_cells(&want));
-        // what is so already stays, and so does a tile that no rectangle meets
-        expect_that(&rt, exchange.on_tile(0, 0, &want).is_none());
-        expect_that(&rt, exchange.on_tile(64, 0, &old).is_none());
+        let mut tile = old;
+        let change = exchange.on_tile(0, 0, &mut tile);
+        expect_that(&rt, tile.has_same_cells(&want));
+        // (0, 0) goes and (2, 0) comes; (1, 0) is drained and filled again
+        expect_same(&rt, change.gained, [1, 0, 0, 0]);
+        expect_same(&rt, change.lost, [1, 0, 0, 0]);
+        let change = exchange.on_tile(0, 0, &mut tile);
+        expect_that(&rt, tile.has_same_cells(&want));
+        expect_same(&rt, change.gained, [0; 4]);
+        expect_same(&rt, change.lost, [0; 4]);
+        expect_that(&rt, exchange.meets(0, 0));
+        expect_that(&rt, !exchange.meets(64, 0));
     }
 }
 
@@ -243,7 +239,7 @@ fn exchange_of_a_tile(rt: HostRuntime) {
 fn exchange_without_ports_is_still(rt: HostRuntime) {
     let none = Exchange::none();
     expect_that(&rt, none.is_still());
-    expect_that(&rt, none.on_tile(0, 0, &Tile::full()).is_none());
+    expect_that(&rt, !none.meets(0, 0));
 }
 
 #[test]

@@ -63,10 +63,3 @@ pub still_acts : (leaves : Leaves) (cells : Cells) → IsFull cells → IsStill 
 still_acts leaves cells full still =
     same_cells cells (acted leaves cells) full (full-cells_where cells.width cells.height (acting leaves cells)) refl refl
     (λ x y p q. sym (has-cells_where cells.width cells.height (acting leaves cells) x y p q ∙ still x y (has cells x y)))
-
--- a tile of which is left what it has stays
-pub same_tile : (leaves : Leaves) (cells now : Cells) (i across : ℕ) (old : Tile) → IsLattice cells → across ≡ cells.width / 64 → i < tile_count cells
-    → now ≡ swept cells (acting leaves cells) i → IsTileFrom old now (left_of now i) (top_of now i) → IsLeftOf leaves (i % across * 64) (i / across * 64) old old → Stays leaves cells i
-same_tile leaves cells now i across old is e within so_far from left x y p q =
-    let was = action_was leaves cells now i old is within so_far from in
-    sym (action_makes leaves cells i across old old e left x y p q (was x y p q)) ∙ was x y p q

@@ -1,9 +1,14 @@
 -- What rectangles leave of a tile.
-use Rattle.std.proofs.Common.{◌≡◌, ℕ, ◌==◌, ◌&&◌, ◌||◌, not, Bool, true, false, List, [], ◌∷◌, length, refl, ◌∙◌, ap, arith}
+use Rattle.std.proofs.Common.{◌≡◌, ℕ, ◌+◌, ◌<◌, ◌==◌, ◌&&◌, ◌||◌, not, Bool, true, false, List, [], ◌∷◌, length, if◌then◌else◌, refl, sym, ◌∙◌, ap, arith}
 use Rattle.std.proofs.lemmas.Bool.Decides.{nat_tests}
+use Rattle.bit_tile.specs.Tile as tile
+use Rattle.bit_tile.specs.Tile.{HasCells}
+use Rattle.bit_tile.specs.declared.Tile.{Tile}
 use Rattle.gas_terms.specs.Cells.{Rectangle}
 use Rattle.phase_step.specs.Actions.{IsStill}
-use Rattle.phase_step.specs.Exchanges.{Areas, is_in_any, is_left, leaves_of, nowhere}
+use Rattle.phase_step.specs.Counts.{AreTileCounts}
+use Rattle.phase_step.specs.Exchanges.{Areas, is_in_any, is_left, is_set, leaves_of, nowhere}
+use Rattle.phase_step.proofs.TileChanges.{counts_as}
 
 as_before : (held : Bool) → ((held && true) || false) ≡ held
 as_before true = refl
@@ -22,3 +27,33 @@ still drains sources e f x y held = stays held (is_in_any drains x y) (is_in_any
 
 pub nowhere_is_still : (e : Areas) → e ≡ nowhere → IsStill (leaves_of e)
 nowhere_is_still e is x y held = ap (λ (e : Areas). leaves_of e x y held) is ∙ still [] [] refl refl x y held
+
+-- a cell that drains empty unless sources have it, and that sources fill then
+left_is : (was out come : Bool) → (if come && not false then true else if out && not come then false else was) ≡ ((was && not out) || come)
+left_is was out come = grind arith
+
+lost_is : (was out come : Bool) → ((out && not come) && was) ≡ (was && not ((was && not out) || come))
+lost_is was out come = grind arith
+
+gained_is : (was out come : Bool) → ((come && not false) && not (if out && not come then false else was)) ≡ (((was && not out) || come) && not was)
+gained_is was out come = grind arith
+
+module _ (old mid new : Tile) (drains sources : List Rectangle) (left top : ℕ)
+    (emptied : HasCells mid (λ x y. if is_set drains sources (left + x) (top + y) then false else tile.has old x y))
+    (filled : HasCells new (λ x y. if is_set sources [] (left + x) (top + y) then true else tile.has mid x y)) where
+  pub tile_left : HasCells new (λ x y. is_left (tile.has old x y) drains sources (left + x) (top + y))
+  tile_left x y h k =
+      filled x y h k
+      ∙ (ap (λ b. if is_in_any sources (left + x) (top + y) && not false then true else b) (emptied x y h k)
+      ∙ left_is (tile.has old x y) (is_in_any drains (left + x) (top + y)) (is_in_any sources (left + x) (top + y)))
+
+  pub tile_lost : (counts : List ℕ) → AreTileCounts counts (λ x y. is_set drains sources (left + x) (top + y) && tile.has old x y) → AreTileCounts counts (λ x y. tile.has old x y && not (tile.has new x y))
+  tile_lost counts are =
+      counts_as counts _ _ are (λ x y h k.
+      lost_is (tile.has old x y) (is_in_any drains (left + x) (top + y)) (is_in_any sources (left + x) (top + y)) ∙ ap (λ b. tile.has old x y && not b) (sym (tile_left x y h k)))
+
+  pub tile_gained : (counts : List ℕ) → AreTileCounts counts (λ x y. is_set sources [] (left + x) (top + y) && not (tile.has mid x y)) → AreTileCounts counts (λ x y. tile.has new x y && not (tile.has old x y))
+  tile_gained counts are =
+      counts_as counts _ _ are (λ x y h k.
+      ap (λ b. (is_in_any sources (left + x) (top + y) && not false) && not b) (emptied x y h k)
+      ∙ (gained_is (tile.has old x y) (is_in_any drains (left + x) (top + y)) (is_in_any sources (left + x) (top + y)) ∙ ap (λ b. b && not (tile.has old x y)) (sym (tile_left x y h k))))

@@ -1,6 +1,7 @@
 pub mod Rings
 pub mod Counting
 pub mod Exchanging
+pub mod SetCells
 pub mod ActedTiles
 pub mod TileChanges
 pub mod ActionRuns

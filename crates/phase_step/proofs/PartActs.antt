@@ -6,7 +6,7 @@ use Rattle.bit_tile.specs.declared.Tile.{Tile}
 use Rattle.gas_terms.specs.Cells.{Cells, has, extent, is_size, tile_count, tile_rectangle}
 use Rattle.gas_terms.proofs.Cells.{has-cells_where, full-cells_where}
 use Rattle.gas_plane.specs.Planes.{IsLattice, IsTileFrom, swept}
-use Rattle.phase_step.specs.Actions.{Leaves, IsLeftOf, IsStill, acted, unmoved}
+use Rattle.phase_step.specs.Actions.{Leaves, IsLeftOf, IsStill, KeepsTile, acted, unmoved}
 use Rattle.phase_step.specs.Counts.{AreTileCounts, moved_by_counts}
 use Rattle.phase_step.specs.Parts.{start_of, row_in, tile_in, own_rows, own_moves, IsPlaced, IsPartOf, IsUnspoilt}
 use Rattle.phase_step.specs.TileRuns.{tile_moves, tiles_move}
@@ -50,6 +50,11 @@ acted_rows leaves part walls obstacles cells lattice k is =
       };
     }
 
+lattice_tile : (part : Part) (walls obstacles cells lattice : Cells) (i k : ℕ) → IsPartOf part walls obstacles cells lattice k → tile_in part (lattice.width / 64) i < tile_count lattice
+lattice_tile part walls obstacles cells lattice i k is =
+    let rows : lattice.height / 64 ≡ part.down = let g = is.placed.down in omega arith in
+    subst (λ d. tile_in part (lattice.width / 64) i < lattice.width / 64 * d) (sym rows) (tile_there part (lattice.width / 64) i (wide (extent lattice) is.sized).some (down_some part cells lattice is.placed is.sized))
+
 -- what it moves in a tile of which no row is spoilt, it moves in the lattice's tile
 pub tile_acts : (tick : ℤ) (leaves : Leaves) (part : Part) (walls obstacles cells lattice : Cells) (i k : ℕ) (change : Change) (old new : Tile) → is_size (extent cells) ≡ true → IsLattice lattice → IsPartOf part walls obstacles cells lattice k → i < tile_count cells → IsUnspoilt part cells i k
     → IsTileFrom old cells (i % (cells.width / 64) * 64) (i / (cells.width / 64) * 64)
@@ -59,39 +64,46 @@ pub tile_acts : (tick : ℤ) (leaves : Leaves) (part : Part) (walls obstacles ce
 tile_acts tick leaves part walls obstacles cells lattice i k change old new sized full is within unspoilt from left gained lost =
     let j = tile_in part (lattice.width / 64) i in
     let r = tile_rectangle lattice j in
-    let down = down_some part cells lattice is.placed is.sized in
-    let rows : lattice.height / 64 ≡ part.down = let g = is.placed.down in omega arith in
-    let below : j < tile_count lattice = subst (λ d. j < lattice.width / 64 * d) (sym rows) (tile_there part (lattice.width / 64) i (wide (extent lattice) is.sized).some down) in
     let was = own_cells part cells lattice walls obstacles i k old sized is within unspoilt.low unspoilt.high from in
-    tile_moved tick leaves lattice j change old new r full below (record { left = refl; top = refl; wide = refl; high = refl }) gained lost was
+    tile_moved tick leaves lattice j change old new r full (lattice_tile part walls obstacles cells lattice i k is) (record { left = refl; top = refl; wide = refl; high = refl }) gained lost was
     (λ x y h q. left x y h q ∙ ap (leaves (r.x + x) (r.y + y)) (was x y h q))
+
+-- where a tile stands in the lattice, and row y of it
+place_there : (part : Part) (across i j y : ℕ) → 0 < across → 0 < part.down → j ≡ tile_in part across i → y < 64 → (j % across ≡ i % across) × (j / across * 64 + y ≡ row_in part (i / across * 64 + y))
+place_there part across i j y some down e q = (
+  ap (λ n. n % across) e ∙ column_there part across i some,
+  ap (λ n. n / across * 64 + y) e ∙ (ap (λ n. n * 64 + y) (row_there part across i some) ∙ sym (row_turns (start_of part) (i / across) part.down y down q)),
+)
 
 -- what is left of a tile at its place in the lattice: of the part's, and of the lattice's
 pub left_in_part : (leaves : Leaves) (part : Part) (across i j : ℕ) (old new : Tile) → 0 < across → 0 < part.down → j ≡ tile_in part across i → IsLeftOf leaves (j % across * 64) (j / across * 64) old new → IsLeftOf (there leaves part) (i % across * 64) (i / across * 64) old new
 left_in_part leaves part across i j old new some down e left x y h q =
-    let column : j % across ≡ i % across = ap (λ n. n % across) e ∙ column_there part across i some in
-    let row : j / across * 64 + y ≡ row_in part (i / across * 64 + y) = ap (λ n. n / across * 64 + y) e ∙ (ap (λ n. n * 64 + y) (row_there part across i some) ∙ sym (row_turns (start_of part) (i / across) part.down y down q)) in
-    left x y h q ∙ ap₂ (λ a b. leaves (a * 64 + x) b (tile.has old x y)) column row
+    let place = place_there part across i j y some down e q in
+    left x y h q ∙ ap₂ (λ a b. leaves (a * 64 + x) b (tile.has old x y)) place.0 place.1
 
 pub left_in_lattice : (leaves : Leaves) (part : Part) (lattice : Cells) (across i j : ℕ) (old new : Tile) → across ≡ lattice.width / 64 → j ≡ tile_in part across i → IsLeftOf leaves (j % across * 64) (j / across * 64) old new
     → (let r = tile_rectangle lattice (tile_in part (lattice.width / 64) i) in IsLeftOf leaves r.x r.y old new)
 left_in_lattice leaves part lattice across i j old new e f left =
     subst (λ a. IsLeftOf leaves (tile_in part a i % a * 64) (tile_in part a i / a * 64) old new) e (subst (λ j. IsLeftOf leaves (j % across * 64) (j / across * 64) old new) f left)
 
--- a tile that stays moves nothing
-pub tile_stays : (tick : ℤ) (leaves : Leaves) (part : Part) (walls obstacles cells lattice : Cells) (i k : ℕ) (old : Tile) → is_size (extent cells) ≡ true → IsPartOf part walls obstacles cells lattice k → i < tile_count cells → IsUnspoilt part cells i k
-    → IsTileFrom old cells (i % (cells.width / 64) * 64) (i / (cells.width / 64) * 64)
-    → (let r = tile_rectangle lattice (tile_in part (lattice.width / 64) i) in IsLeftOf leaves r.x r.y old old)
+-- a tile that stays, in the part and in the lattice
+pub kept_in_part : (leaves : Leaves) (part : Part) (across i j : ℕ) → 0 < across → 0 < part.down → j ≡ tile_in part across i → KeepsTile leaves (j % across * 64) (j / across * 64) → KeepsTile (there leaves part) (i % across * 64) (i / across * 64)
+kept_in_part leaves part across i j some down e kept x y held h q =
+    let place = place_there part across i j y some down e q in
+    sym (ap₂ (λ a b. leaves (a * 64 + x) b held) place.0 place.1) ∙ kept x y held h q
+
+pub kept_in_lattice : (leaves : Leaves) (part : Part) (lattice : Cells) (across i j : ℕ) → across ≡ lattice.width / 64 → j ≡ tile_in part across i → KeepsTile leaves (j % across * 64) (j / across * 64)
+    → (let r = tile_rectangle lattice (tile_in part (lattice.width / 64) i) in KeepsTile leaves r.x r.y)
+kept_in_lattice leaves part lattice across i j e f kept =
+    subst (λ a. KeepsTile leaves (tile_in part a i % a * 64) (tile_in part a i / a * 64)) e (subst (λ j. KeepsTile leaves (j % across * 64) (j / across * 64)) f kept)
+
+-- it moves nothing
+pub tile_stays : (tick : ℤ) (leaves : Leaves) (part : Part) (walls obstacles cells lattice : Cells) (i k : ℕ) → IsPartOf part walls obstacles cells lattice k
+    → (let r = tile_rectangle lattice (tile_in part (lattice.width / 64) i) in KeepsTile leaves r.x r.y)
     → unmoved ≡ tile_moves tick lattice (acted leaves lattice) (tile_in part (lattice.width / 64) i)
-tile_stays tick leaves part walls obstacles cells lattice i k old sized is within unspoilt from left =
+tile_stays tick leaves part walls obstacles cells lattice i k is kept =
     let j = tile_in part (lattice.width / 64) i in
-    let r = tile_rectangle lattice j in
-    let down = down_some part cells lattice is.placed is.sized in
-    let rows : lattice.height / 64 ≡ part.down = let g = is.placed.down in omega arith in
-    let below : j < tile_count lattice = subst (λ d. j < lattice.width / 64 * d) (sym rows) (tile_there part (lattice.width / 64) i (wide (extent lattice) is.sized).some down) in
-    let was = own_cells part cells lattice walls obstacles i k old sized is within unspoilt.low unspoilt.high from in
-    sym (none_moved tick leaves lattice j r (record { sized = is.sized; full = is.full }) below (record { left = refl; top = refl; wide = refl; high = refl })
-    (λ x y h q. sym (ap (leaves (r.x + x) (r.y + y)) (was x y h q)) ∙ (sym (left x y h q) ∙ was x y h q)))
+    sym (none_moved tick leaves lattice j (tile_rectangle lattice j) (record { sized = is.sized; full = is.full }) (lattice_tile part walls obstacles cells lattice i k is) (record { left = refl; top = refl; wide = refl; high = refl }) (λ x y h q. kept x y _ h q))
 
 -- one more own tile, of those of the lattice from tile `first` on
 pub own_moved : (tick : ℤ) (part : Part) (cells lattice next : Cells) (i from end : ℕ) (here : Moved) → is_size (extent cells) ≡ true → IsPlaced part cells lattice → from ≡ part.margin * (cells.width / 64) → end - from ≡ own_rows part cells * (cells.width / 64) → from ≤ i → i < end

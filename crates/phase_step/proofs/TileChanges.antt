@@ -1,10 +1,11 @@
 -- What comes and goes in one tile.
-use Rattle.std.proofs.Common.{◌≡◌, ℕ, ◌+◌, ◌*◌, ◌/◌, ◌%◌, ◌<◌, ◌≤◌, ◌==◌, ◌&&◌, not, Bool, cond, List, [], ◌∷◌, get_or, refl, sym, ◌∙◌, ap, ap₂, arith, ℤ}
+use Rattle.std.proofs.Common.{◌≡◌, ℕ, ◌+◌, ◌*◌, ◌/◌, ◌%◌, ◌<◌, ◌≤◌, ◌==◌, ◌&&◌, not, Bool, false, cond, List, [], ◌∷◌, get_or, refl, sym, ◌∙◌, ap, ap₂, arith, ℤ}
 use Rattle.bit_tile.specs.Tile as tile
 use Rattle.bit_tile.specs.Tile.{HasCells, count_cells}
 use Rattle.bit_tile.specs.declared.Tile.{Tile}
 use Rattle.bit_tile.proofs.Sums.{sum_below-same, count_below-same}
 use Rattle.bit_tile.proofs.Bits.{get_or-replicate_zero}
+use Rattle.bit_tile.proofs.Counts.{cells_counted-none}
 use Rattle.gas_terms.specs.Cells.{Cells, Rectangle, has, without, tile_count}
 use Rattle.gas_terms.specs.Accounts.{total_in, parity_count}
 use Rattle.gas_terms.specs.Accounts as accounts
@@ -29,15 +30,15 @@ pub count_same : (f g : ℕ → ℕ → Bool) (a b : ℕ) → ((x y : ℕ) → x
 count_same f g a b same =
     sum_below-same 64 _ _ (λ y q. count_below-same 64 _ _ (λ x p. ap (λ t. t && x % 2 == a && y % 2 == b) (same x y p q)))
 
--- four counts that were added to nothing
-pub added_to_none : (counts sums : List ℕ) (only : Tile) (test : ℕ → ℕ → Bool) → HasCells only test
-    → ((a b : ℕ) → a < 2 → b < 2 → get_or counts (2 * b + a) 0 ≡ count_cells (λ x y. tile.has only x y && x % 2 == a && y % 2 == b))
-    → ((k : ℕ) → get_or counts k 0 ≤ 2048) → ((k : ℕ) → k < 4 → get_or sums k 0 ≡ get_or (0 ∷ 0 ∷ 0 ∷ 0 ∷ []) k 0 + get_or counts k 0) → AreTileCounts sums test
-added_to_none counts sums only test has are few added =
-    let plain : (k : ℕ) → k < 4 → get_or sums k 0 ≡ get_or counts k 0 = λ k h. omega (arith, added k h, get_or-replicate_zero 4 k) in
+pub counts_as : (counts : List ℕ) (f g : ℕ → ℕ → Bool) → AreTileCounts counts f → ((x y : ℕ) → x < 64 → y < 64 → f x y ≡ g x y) → AreTileCounts counts g
+counts_as counts f g are same = record { count = λ a b p q. are.count a b p q ∙ count_same f g a b same; few = are.few }
+
+-- no cell passes
+pub no_counts : (test : ℕ → ℕ → Bool) → ((x y : ℕ) → x < 64 → y < 64 → test x y ≡ false) → AreTileCounts (0 ∷ 0 ∷ 0 ∷ 0 ∷ []) test
+no_counts test none =
     record {
-      count = λ a b p q. plain (2 * b + a) (omega arith) ∙ (are a b p q ∙ count_same (tile.has only) test a b has);
-      few = λ k h. omega (arith, plain k h, few k);
+      count = λ a b p q. get_or-replicate_zero 4 (2 * b + a) ∙ sym (count_same test (λ _ _. false) a b none ∙ cells_counted-none);
+      few = λ k h. omega (arith, get_or-replicate_zero 4 k);
     }
 
 -- the rectangle is that of tile i of a lattice of this width

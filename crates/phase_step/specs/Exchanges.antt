@@ -1,5 +1,5 @@
 -- Rectangles whose cells are emptied, and others whose cells are then filled.
-use Rattle.std.specs.Prelude.{◌≡◌, ℕ, ◌/◌, ◌<◌, Bool, true, not, ◌&&◌, ◌||◌, List, [], get_or}
+use Rattle.std.specs.Prelude.{◌≡◌, ℕ, ◌+◌, ◌/◌, ◌<◌, nat_le, nat_lt, Bool, true, not, ◌&&◌, ◌||◌, List, [], get_or}
 use Rattle.std.specs.List.{list_any}
 use Rattle.bit_tile.specs.Tile as tile
 use Rattle.bit_tile.specs.declared.Tile.{Tile}
@@ -11,9 +11,17 @@ pub record Areas : Type 0 where
   pub drains : List Rectangle
   pub sources : List Rectangle
 
+-- whether k is among the `len` numbers from `start` on
+abbrev pub is_among : ℕ → ℕ → ℕ → Bool
+is_among start len k = nat_le start k && nat_lt k (start + len)
+
 -- one of the rectangles has the cell
 abbrev pub is_in_any : List Rectangle → ℕ → ℕ → Bool
 is_in_any areas x y = list_any (λ r. is_inside r x y) areas
+
+-- rectangles have the cell, and those that are kept don't
+abbrev pub is_set : List Rectangle → List Rectangle → ℕ → ℕ → Bool
+is_set areas kept x y = is_in_any areas x y && not (is_in_any kept x y)
 
 -- whether the cell (x, y) is held when the drains have emptied their cells, and then the sources have filled theirs
 abbrev pub is_left : Bool → List Rectangle → List Rectangle → ℕ → ℕ → Bool

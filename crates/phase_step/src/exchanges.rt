@@ -5,9 +5,10 @@ mod exchange;
 mod later;
 mod listed;
 mod port_array;
+mod set_cells;
 mod still;
 
-pub use action::{Action, change_of};
+pub use action::Action;
 pub use exchange::{Exchange, any_area};
 pub use later::Later;
 pub use listed::Listed;

@@ -21,7 +21,7 @@ mod sums;
 
 pub use balance::{completed, one_account};
 pub use block_rule::Counted;
-pub use exchanges::{Action, Exchange, Later, Listed, PortArray, Still, any_area, change_of};
+pub use exchanges::{Action, Exchange, Later, Listed, PortArray, Still, any_area};
 use gas_plane::Plane;
 use gas_terms::Took;
 pub use parts::{Part, act_on, run_part, run_whole};

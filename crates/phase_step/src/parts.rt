@@ -16,7 +16,7 @@ ghost use Rattle.phase_step.specs.Exchanges.{leaves_of};
 ghost use Rattle.phase_step.specs.Parts.{own_take, own_moves, own_rows, tile_in, IsTileOf, IsUnspoilt, IsPartOf, IsReady, IsHeld, IsOfSome, HasRun, whole_part};
 ghost use Rattle.phase_step.specs.WholeRuns.{dynamics, CanRun, HasRunWhole};
 
-use crate::exchanges::{Action, Exchange, change_of};
+use crate::exchanges::{Action, Exchange};
 use crate::steps::{Ground, Solids, TileSolids};
 use crate::sums::Flow;
 use crate::{Run, parity_at};
@@ -280,14 +280,16 @@ fn act_on_part(particles: &mut Plane, exchange: &Exchange, part: Part, parity: u
     let tiles = part.down * across;
     let mut next = tile_there(part, across, 0);
     for i in 0..particles.size().tiles() {
-        let old = particles.tile(i);
         let there = next;
         next = next_there(there, tiles);
-        let Some(new) = exchange.on_tile(there % across * 64, there / across * 64, old) else {
+        let left = there % across * 64;
+        let top = there / across * 64;
+        if !exchange.meets(left, top) {
             continue;
-        };
-        let here = change_of(old, &new).moved(parity);
-        particles.set_tile(i, new);
+        }
+        let here = exchange
+            .on_tile(left, top, particles.tile_mut(i))
+            .moved(parity);
         if own.has(i) {
             moved = moved.plus(here);
         }

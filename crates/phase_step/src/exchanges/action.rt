@@ -1,15 +1,10 @@
 //! Actions: changes of the particles after each phase of a run.
 
-ghost use Rattle.std.specs.Prelude.{◌≡◌, ℕ, ◌&&◌, Bool, false, not};
-ghost use Rattle.bit_tile.specs.Tile.{HasCells};
-ghost use Rattle.bit_tile.specs.Tile as in_tile;
+ghost use Rattle.std.specs.Prelude.{◌≡◌, ℕ, Bool, false};
 ghost use Rattle.phase_step.specs.Actions.{IsStill};
-ghost use Rattle.phase_step.specs.Counts.{AreTileCounts};
 ghost use Rattle.phase_step.specs.Exchanges.{leaves_of};
 
 use crate::exchanges::Exchange;
-use crate::sums::Change;
-use gas_plane::{Tile, sums};
 
 /// What acts on the particles after each phase of a run.
 pub trait Action: Drop {
@@ -26,26 +21,4 @@ pub trait Action: Drop {
     {
         true
     }
-}
-
-/// What comes in and goes out if `new` replaces `old`.
-pub fn change_of(old: &Tile, new: &Tile) -> Change
-    ensures gained { AreTileCounts result.gained
-        (λ x y. in_tile.has new.now x y && not (in_tile.has old.now x y)) }
-    ensures lost { AreTileCounts result.lost
-        (λ x y. in_tile.has old.now x y && not (in_tile.has new.now x y)) }
-{
-    Change {
-        gained: sums([0; 4], only_in(new, old).count_by_parity()),
-        lost: sums([0; 4], only_in(old, new).count_by_parity()),
-    }
-}
-
-// the cells that one tile has and another lacks
-fn only_in(tile: &Tile, other: &Tile) -> Tile
-    ensures { HasCells result (λ x y. in_tile.has tile.now x y && not (in_tile.has other.now x y)) }
-{
-    let mut only = *tile;
-    only.cut(other);
-    only
 }

@@ -1,14 +1,17 @@
 //! Exchanges: rectangles that are emptied, and others that are then filled.
 
-ghost use Rattle.std.specs.Prelude.{◌↔◌, ◌≡◌, true, ℕ, ◌<◌, ◌≤◌, ◌/◌, ◌+◌, ◌||◌, ◌&&◌, not, IsTrue, IfSome, MatchOption};
+ghost use Rattle.std.specs.Prelude.{◌↔◌, ◌≡◌, ℕ, ◌<◌, ◌≤◌, ◌/◌, ◌+◌, ◌||◌, ◌&&◌, false, not, IsTrue, MatchOption};
 ghost use Rattle.bit_tile.specs.Tile.{HasCells};
 ghost use Rattle.bit_tile.specs.Tile as in_tile;
 ghost use Rattle.gas_terms.specs.Cells.{most_side};
-ghost use Rattle.phase_step.specs.Actions.{IsStill, IsTileCorner, IsLeftOf};
-ghost use Rattle.phase_step.specs.Exchanges.{leaves_of, nowhere, is_in_any, is_left, HasTilesOf};
+ghost use Rattle.phase_step.specs.Actions.{KeepsTile, IsTileCorner, IsLeftOf};
+ghost use Rattle.phase_step.specs.Counts.{AreTileCounts};
+ghost use Rattle.phase_step.specs.Exchanges.{leaves_of, nowhere, HasTilesOf};
 
 use crate::exchanges::PortArray;
-use gas_plane::{Tile, is_covered, part_of};
+use crate::exchanges::set_cells::set_areas;
+use crate::sums::Change;
+use gas_plane::Tile;
 use gas_terms::{Rect, Size};
 use std::marker::Model;
 
@@ -69,29 +72,29 @@ impl Exchange {
         self.drains.len() == 0 && self.sources.len() == 0
     }
 
-    /// The tile that begins at (left, top), after the exchange, or `None` if it stays as it is.
-    pub fn on_tile(&self, left: u32, top: u32, tile: &Tile) -> Option<Tile>
+    /// Whether a rectangle has cells of the tile that begins at (left, top). If not, all its cells stay.
+    #[inline]
+    pub fn meets(&self, left: u32, top: u32) -> bool
         requires { IsTileCorner left top }
-        ensures left { MatchOption result
-            (IsLeftOf (leaves_of self.now) left top tile.now tile.now)
-            (λ new. IsLeftOf (leaves_of self.now) left top tile.now new) }
-        ensures differs { IfSome result (λ new. HasCells new (in_tile.has tile.now) → ⊥) }
+        ensures { result ≡ false → KeepsTile (leaves_of self.now) left top }
     {
-        if !self.met.get(left / 64, top / 64) {
-            return None;
-        }
-        let new = exchanged_tile(
-            tile,
-            self.drains.as_slice(),
-            self.sources.as_slice(),
-            left,
-            top,
-        );
-        if new.has_same_cells(tile) {
-            None
-        } else {
-            Some(new)
-        }
+        self.met.get(left / 64, top / 64)
+    }
+
+    /// Acts on the tile that begins at (left, top). Returns how many cells came and went.
+    pub fn on_tile(&self, left: u32, top: u32, tile: &mut Tile) -> Change
+        requires { IsTileCorner left top }
+        ensures left { IsLeftOf (leaves_of self.now) left top tile.old tile.new }
+        ensures gained { AreTileCounts result.gained
+            (λ x y. in_tile.has tile.new x y && not (in_tile.has tile.old x y)) }
+        ensures lost { AreTileCounts result.lost
+            (λ x y. in_tile.has tile.old x y && not (in_tile.has tile.new x y)) }
+    {
+        let drains = self.drains.as_slice();
+        let sources = self.sources.as_slice();
+        let lost = set_areas(tile, drains, sources, left, top, false);
+        let gained = set_areas(tile, sources, &[], left, top, true);
+        Change { gained, lost }
     }
 }
 
@@ -133,59 +136,4 @@ fn tiles_along(start: u16, len: u16) -> (u32, u32)
 {
     let (first, end) = gas_plane::tiles_met(u32::from(start), u32::from(len), 64);
     (first, end - first)
-}
-
-// the tile after the exchange: if one rectangle has all of it, no other is looked at
-fn exchanged_tile(old: &Tile, drains: &[Rect], sources: &[Rect], left: u32, top: u32) -> Tile
-    ensures { HasCells result
-        (λ x y. is_left (in_tile.has old.now x y) drains.now sources.now (left + x) (top + y)) }
-{
-    if one_covers(sources, left, top) {
-        return Tile::full();
-    }
-    let mut new = drained(old, drains, left, top);
-    fill(&mut new, sources, left, top);
-    new
-}
-
-// the tile without the cells of any rectangle
-fn drained(old: &Tile, areas: &[Rect], left: u32, top: u32) -> Tile
-    ensures { HasCells result
-        (λ x y. in_tile.has old.now x y && not (is_in_any areas.now (left + x) (top + y))) }
-{
-    if one_covers(areas, left, top) {
-        return Tile::empty();
-    }
-    let mut new = *old;
-    for area in areas {
-        if let Some(part) = part_of(*area, left, top) {
-            new.cut(&part);
-        }
-    }
-    new
-}
-
-// puts the cells of all rectangles into a tile
-fn fill(tile: &mut Tile, areas: &[Rect], left: u32, top: u32)
-    ensures { HasCells tile.new
-        (λ x y. in_tile.has tile.old x y || is_in_any areas.now (left + x) (top + y)) }
-{
-    for area in areas {
-        if let Some(part) = part_of(*area, left, top) {
-            tile.join(&part);
-        }
-    }
-}
-
-// whether one of the rectangles has all the 64 by 64 cells from the place (left, top) on
-fn one_covers(areas: &[Rect], left: u32, top: u32) -> bool
-    ensures { IsTrue result →
-        (x y : ℕ) → x < 64 → y < 64 → is_in_any areas.now (left + x) (top + y) ≡ true }
-{
-    for area in areas {
-        if is_covered(*area, left, top) {
-            return true;
-        }
-    }
-    false
 }

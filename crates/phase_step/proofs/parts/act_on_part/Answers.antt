@@ -1,16 +1,16 @@
-use Rattle.std.proofs.Common.{◌≡◌, ℕ, ◌+◌, ◌-◌, ◌*◌, ◌/◌, ◌<◌, ◌≤◌, ◌∙◌, pos, sym, ap, subst, arith}
+use Rattle.std.proofs.Common.{◌≡◌, ℕ, ◌+◌, ◌-◌, ◌*◌, ◌/◌, ◌%◌, ◌<◌, ◌≤◌, ◌∙◌, pos, refl, sym, ap, subst, arith}
 use Rattle.gas_terms.specs.Cells.{Cells, extent, tile_count}
 use Rattle.gas_plane.proofs.Places.{wide}
 use Rattle.gas_plane.proofs.Sweeps.{sweep_next, sweep_past}
 use Rattle.gas_plane.proofs.PlaneCounts.{few_tiles}
-use Rattle.phase_step.specs.Actions.{acted}
+use Rattle.phase_step.specs.Actions.{KeepsTile, acted}
 use Rattle.phase_step.specs.Exchanges.{leaves_of}
 use Rattle.phase_step.specs.Parts.{IsPartOf}
 use Rattle.phase_step.specs.TileRuns.{tile_moves, tiles_move}
 use Rattle.phase_step.proofs.ActionBounds.{IsMovedWithin, moved_fits, tile_moves_within, tiles_move_within}
-use Rattle.phase_step.proofs.ActedTiles.{acting, action_starts, action_ends, action_makes, same_tile}
+use Rattle.phase_step.proofs.ActedTiles.{acting, action_starts, action_ends, action_makes}
 use Rattle.phase_step.proofs.Exchanging.{nowhere_is_still}
-use Rattle.phase_step.proofs.PartActs.{there, acted_rows, tile_acts, left_in_part, left_in_lattice, tile_stays, own_moved, unspoilt_own, moves_more_there, moves_past_there, still_rows, still_own, tile_from}
+use Rattle.phase_step.proofs.PartActs.{there, acted_rows, tile_acts, left_in_part, left_in_lattice, kept_in_part, kept_in_lattice, tile_stays, own_moved, unspoilt_own, moves_more_there, moves_past_there, still_rows, still_own, tile_from}
 use Rattle.phase_step.proofs.PartTurns.{down_some, next_is, there_below}
 use Rattle.phase_step.proofs.PhaseSweeps.{tiles_are}
 use Rattle.phase_step.proofs.RunTakes.{own_other}
@@ -35,33 +35,29 @@ loop-i-init c =
           ap (tiles_move (pos c.args.parity) lattice (acted leaves lattice) (c.args.part.first * (lattice.width / 64))) e;
     }
 
--- a tile of which nothing is said stays
-pub loop-i-preserved-in_default : goal.loop-i-preserved-in_default
-loop-i-preserved-in_default c =
+-- a tile that no rectangle meets stays
+pub loop-i-preserved-then-not-meets : goal.loop-i-preserved-then-not-meets
+loop-i-preserved-then-not-meets c =
     let cells = c.args.particles.now in
     let part = c.args.part in
     let i = c.loop-i.i in
     let leaves = leaves_of c.args.exchange.now in
     let lattice_is = c.size.ensures.lattice in
     let across = c.across-across.ensures.across in
-    let all = tiles_are cells c.size.result c.tiles-i-end.result c.size.ensures.extent c.tiles-i-end.ensures.tiles in
-    let within : i < tile_count cells = omega (arith, all) in
-    let old = c.tile-old.result.now in
     let ready = c.requires.held.held.ready in
     let down = down_some part cells ready.lattice ready.is.placed ready.is.sized in
     let own = c.counted_tiles-own in
-    let stays = same_tile (there leaves part) cells c.loop-i.particles i c.across-across.result old lattice_is across within c.loop-i.invariant.cells c.tile-old.ensures
-    (left_in_part leaves part c.across-across.result i c.loop-i.next old old (omega (arith, across, (wide (extent cells) lattice_is.sized).some)) down c.loop-i.invariant.next c.in_default.ensures.left) in
+    let kept = c.meets.ensures c.if-not-meets.true in
+    let stays = subst (λ a. KeepsTile (there leaves part) (i % a * 64) (i / a * 64)) across
+    (kept_in_part leaves part c.across-across.result i c.loop-i.next (omega (arith, across, (wide (extent cells) lattice_is.sized).some)) down c.loop-i.invariant.next kept) in
     record {
       next = next_is part cells ready.lattice c.requires.held.walls c.requires.held.obstacles c.requires.held.held.made c.across-across.result i c.loop-i.next c.next_there-next.result ready.is across c.loop-i.invariant.next c.next_there-next.ensures;
-      cells = c.loop-i.invariant.cells ∙ sweep_past cells (acting (there leaves part) cells) i lattice_is stays;
+      cells = c.loop-i.invariant.cells ∙ sweep_past cells (acting (there leaves part) cells) i lattice_is (λ x y p q. stays x y _ p q);
       moved = λ w o lattice k is few.
           moves_past_there (pos c.args.parity) lattice (acted leaves lattice) (part.first * (lattice.width / 64)) own.result.first own.result.end i c.loop-i.moved
           (λ low high.
           own_moved (pos c.args.parity) part cells lattice (acted leaves lattice) i own.result.first own.result.end _ lattice_is.sized is.placed own.ensures.first own.ensures.count low high
-          (tile_stays (pos c.args.parity) leaves part w o cells lattice i k old lattice_is.sized is within (unspoilt_own part cells lattice i k own.result.first own.result.end lattice_is.sized is.placed few own.ensures.first own.ensures.count low high)
-          (tile_from (there leaves part) cells c.loop-i.particles i old lattice_is within c.loop-i.invariant.cells c.tile-old.ensures)
-          (left_in_lattice leaves part lattice c.across-across.result i c.loop-i.next old old (across ∙ ap (λ w. w / 64) is.placed.wide) c.loop-i.invariant.next c.in_default.ensures.left)))
+          (tile_stays (pos c.args.parity) leaves part w o cells lattice i k is (kept_in_lattice leaves part lattice c.across-across.result i c.loop-i.next (across ∙ ap (λ w. w / 64) is.placed.wide) c.loop-i.invariant.next kept)))
           own.ensures.order.0 (c.loop-i.invariant.moved w o lattice k is few);
     }
 
@@ -79,11 +75,11 @@ is_moved c w o lattice k is few low high =
     let own = c.counted_tiles-own in
     own_moved (pos c.args.parity) part cells lattice (acted leaves lattice) i own.result.first own.result.end _ lattice_is.sized is.placed own.ensures.first own.ensures.count low high
     (c.moved-here.ensures (pos c.args.parity) (let s = c.requires.parity in omega (arith, s))
-    ∙ tile_acts (pos c.args.parity) leaves part w o cells lattice i k c.change_of.result c.tile-old.result.now c.in-Some.new lattice_is.sized (record { sized = is.sized; full = is.full }) is within
+    ∙ tile_acts (pos c.args.parity) leaves part w o cells lattice i k c.on_tile.result c.tile_mut.result.now c.on_tile.new.tile lattice_is.sized (record { sized = is.sized; full = is.full }) is within
     (unspoilt_own part cells lattice i k own.result.first own.result.end lattice_is.sized is.placed few own.ensures.first own.ensures.count low high)
-    (tile_from (there leaves part) cells c.loop-i.particles i c.tile-old.result.now lattice_is within c.loop-i.invariant.cells c.tile-old.ensures)
-    (left_in_lattice leaves part lattice c.across-across.result i c.loop-i.next c.tile-old.result.now c.in-Some.new (c.across-across.ensures.across ∙ ap (λ w. w / 64) is.placed.wide) c.loop-i.invariant.next c.in-Some.ensures.left)
-    c.change_of.ensures.gained c.change_of.ensures.lost)
+    (tile_from (there leaves part) cells c.loop-i.particles i c.tile_mut.result.now lattice_is within c.loop-i.invariant.cells c.tile_mut.ensures.tile)
+    (left_in_lattice leaves part lattice c.across-across.result i c.loop-i.next c.tile_mut.result.now c.on_tile.new.tile (c.across-across.ensures.across ∙ ap (λ w. w / 64) is.placed.wide) c.loop-i.invariant.next c.on_tile.ensures.left)
+    c.on_tile.ensures.gained c.on_tile.ensures.lost)
 
 pub next_there-next-requires : goal.next_there-next-requires
 next_there-next-requires c =
@@ -120,9 +116,9 @@ loop-i-preserved c =
     let own = c.counted_tiles-own in
     record {
       next = next_is part cells ready.lattice c.requires.held.walls c.requires.held.obstacles c.requires.held.held.made c.across-across.result i c.loop-i.next c.next_there-next.result ready.is across c.loop-i.invariant.next c.next_there-next.ensures;
-      cells = sweep_next cells c.loop-i.particles c.set_tile.new.self (acting (there leaves part) cells) i c.tile-old.result.now c.in-Some.new lattice_is within c.loop-i.invariant.cells c.tile-old.ensures c.set_tile.ensures
-          (action_makes (there leaves part) cells i c.across-across.result c.tile-old.result.now c.in-Some.new across
-          (left_in_part leaves part c.across-across.result i c.loop-i.next c.tile-old.result.now c.in-Some.new (omega (arith, across, (wide (extent cells) lattice_is.sized).some)) down c.loop-i.invariant.next c.in-Some.ensures.left));
+      cells = sweep_next cells c.loop-i.particles _ (acting (there leaves part) cells) i c.tile_mut.result.now c.on_tile.new.tile lattice_is within c.loop-i.invariant.cells c.tile_mut.ensures.tile refl
+          (action_makes (there leaves part) cells i c.across-across.result c.tile_mut.result.now c.on_tile.new.tile across
+          (left_in_part leaves part c.across-across.result i c.loop-i.next c.tile_mut.result.now c.on_tile.new.tile (omega (arith, across, (wide (extent cells) lattice_is.sized).some)) down c.loop-i.invariant.next c.on_tile.ensures.left));
       moved = λ w o lattice k is few.
           let so_far = c.loop-i.invariant.moved w o lattice k is few in
           elim c.if-has.branch [

@@ -1,5 +1,0 @@
-use Rattle.std.proofs.Common.{rules}
-use Rattle.phase_step.proofs.exchanges.exchange.exchanged_tile.Goals as goal
-
-pub returns : goal.returns
-returns c = search rules
