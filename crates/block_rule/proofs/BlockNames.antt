@@ -8,7 +8,7 @@ use Rattle.block_rule.specs.Around.{is_block_walled, is_walled_at}
 use Rattle.block_rule.specs.Rows.{IsMadeOdd}
 use Rattle.block_rule.specs.declared.blocks.Blocks.{Blocks}
 use Rattle.std.proofs.lemmas.Bool.{cases_eq}
-use Rattle.block_rule.specs.Lent.{TellsRows}
+use Rattle.block_rule.specs.Shown.{TellsRows}
 use Rattle.block_rule.specs.NamedBlocks.{AreOddBlocksOf}
 use Rattle.block_rule.specs.TileBlocks.{NamesBlocks}
 use Rattle.block_rule.specs.declared.collide_odd.OddBlocks.{OddBlocks}

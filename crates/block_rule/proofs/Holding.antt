@@ -23,7 +23,7 @@ use Rattle.block_rule.specs.Around.{block_start, turned, none, either, is_walled
 use Rattle.block_rule.specs.Cell.{turned_cell, turned_at, made}
 use Rattle.block_rule.specs.Classes.{class, AreCounts, TellsWords}
 use Rattle.block_rule.specs.Rows.{ShowsTile}
-use Rattle.block_rule.specs.Lent.{HasNoCell, TellsRows}
+use Rattle.block_rule.specs.Shown.{HasNoCell, TellsRows}
 use Rattle.block_rule.specs.declared.count.Classes.{Classes}
 use Rattle.block_rule.proofs.Around.{turned_by_cells, walled_from, walled_by_cells}
 use Rattle.block_rule.proofs.Blank.{walled_either}

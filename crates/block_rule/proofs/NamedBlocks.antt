@@ -9,11 +9,11 @@ use Rattle.block_rule.specs.Cell.{made, turned_cell}
 use Rattle.bit_tile.proofs.Bits.{bit-zero, bit-or}
 use Rattle.bit_tile.proofs.Classes.{IsClass, by_class, is_even_even, is_odd_even, is_even_odd, is_odd_odd}
 use Rattle.block_rule.specs.Classes.{AreCounts, TellsWords, particles_among}
-use Rattle.block_rule.specs.Lent.{HasNoCell, TellsRows}
+use Rattle.block_rule.specs.Shown.{HasNoCell, TellsRows}
 use Rattle.block_rule.proofs.Blank.{walled_either}
 use Rattle.block_rule.specs.NamedBlocks.{rule_among, AreMadeUpTo, NameBlocks, IsCollidedOdd, AreEvenBlocksOf, AreOddBlocksOf}
 use Rattle.block_rule.specs.declared.collide_odd.OddBlocks.{OddBlocks}
-use Rattle.block_rule.specs.TileBlocks.{NamesBlocks, AreLentBlocks}
+use Rattle.block_rule.specs.TileBlocks.{NamesBlocks, AreGivenBlocks}
 use Rattle.block_rule.specs.declared.blocks_in_tile.SetBlocks.{SetBlocks}
 use Rattle.block_rule.proofs.Holding.{same_block, class_among}
 use Rattle.block_rule.specs.Rows.{AreMadeOdd, AreUpper, AreLower, ShowsInnerRows, odd_row, eight_row}
@@ -129,12 +129,12 @@ tile_made n begins ends t left right out ul ur ll lr window solid all odd_long e
       | inr some ↦ lower_next rule window out _ _ j some refl refl (made window solid shown named (j - 1) (omega arith) (omega arith)).lower
     ]))
 
--- what is lent of the words of a set
-pub words_lent : (lent : Option SetBlocks) (s : SetBlocks) (test : ℕ → ℕ → ℕ → Bool) → lent ≡ Some s → AreLentBlocks lent test → NamesBlocks s.rows s.blocks.now test
-words_lent lent s test e is = subst (λ lent. AreLentBlocks lent test) e is
+-- what is given of the words of a set
+pub words_given : (given : Option SetBlocks) (s : SetBlocks) (test : ℕ → ℕ → ℕ → Bool) → given ≡ Some s → AreGivenBlocks given test → NamesBlocks s.rows s.blocks.now test
+words_given given s test e is = subst (λ given. AreGivenBlocks given test) e is
 
-pub nothing_lent : (lent : Option SetBlocks) (test : ℕ → ℕ → ℕ → Bool) → lent ≡ None → AreLentBlocks lent test → (p : ℕ) → p < 2 → HasNoCell (test p)
-nothing_lent lent test e is = subst (λ lent. AreLentBlocks lent test) e is
+pub nothing_given : (given : Option SetBlocks) (test : ℕ → ℕ → ℕ → Bool) → given ≡ None → AreGivenBlocks given test → (p : ℕ) → p < 2 → HasNoCell (test p)
+nothing_given given test e is = subst (λ given. AreGivenBlocks given test) e is
 
 pub for_walls_none : (p : ℕ) (walled obstructed : ℕ → ℕ → Bool) → HasNoCell (is_walled_at p walled) → HasNoCell (is_for_walls p walled obstructed)
 for_walls_none p walled obstructed none x y h k = ap (λ w. w && not (is_walled_at p obstructed x y)) (none x y h k)

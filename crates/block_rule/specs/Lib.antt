@@ -4,7 +4,7 @@ pub mod Windows
 pub mod Classes
 pub mod Cell
 pub mod Rows
-pub mod Lent
+pub mod Shown
 pub mod Accounts
 pub mod NamedBlocks
 pub mod TileBlocks

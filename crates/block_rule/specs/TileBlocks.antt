@@ -1,6 +1,6 @@
 use Rattle.std.specs.Prelude.{ℕ, ◌<◌, Bool, Option, MatchOption}
 use Rattle.block_rule.specs.Around.{is_walled_at}
-use Rattle.block_rule.specs.Lent.{HasNoCell, TellsRows}
+use Rattle.block_rule.specs.Shown.{HasNoCell, TellsRows}
 use Rattle.block_rule.specs.NamedBlocks.{AreEvenBlocksOf, AreOddBlocksOf}
 use Rattle.block_rule.specs.declared.blocks_in_tile.TileBlocks.{TileBlocks}
 use Rattle.block_rule.specs.declared.blocks_in_tile.SetBlocks.{SetBlocks}
@@ -11,9 +11,9 @@ pub record NamesBlocks (told : ℕ) (b : TileBlocks) (test : ℕ → ℕ → ℕ
   pub odd : AreOddBlocksOf b.odd (test 1)
   pub rows : (p : ℕ) → p < 2 → TellsRows told (test p)
 
--- what is lent of them: they, or nothing where no block is named
-abbrev pub AreLentBlocks : Option SetBlocks → (ℕ → ℕ → ℕ → Bool) → Type 0
-AreLentBlocks lent test = MatchOption lent ((p : ℕ) → p < 2 → HasNoCell (test p)) (λ s. NamesBlocks s.rows s.blocks.now test)
+-- the words that are given for a tile: none if no block is walled
+abbrev pub AreGivenBlocks : Option SetBlocks → (ℕ → ℕ → ℕ → Bool) → Type 0
+AreGivenBlocks given test = MatchOption given ((p : ℕ) → p < 2 → HasNoCell (test p)) (λ s. NamesBlocks s.rows s.blocks.now test)
 
 -- the test of the blocks that have one of a window's cells
 abbrev pub walled_by : (ℕ → ℕ → Bool) → ℕ → ℕ → ℕ → Bool

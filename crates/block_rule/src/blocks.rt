@@ -101,7 +101,7 @@ impl Rule for AnyCorner {
     }
 }
 
-/// The cells to the right of a class's cells, in the next class: the last comes from the tile to the right.
+/// The cells to the right of these cells of one parity class (`bit_tile::Tile`): the last comes from the tile to the right.
 #[inline]
 pub fn next(row: u32, right: u32) -> u32
     ensures { (i : ℕ) → i < 32 → bit result i ≡ (if i == 31 then bit right 0 else bit row (i + 1)) }

@@ -2,7 +2,7 @@
 
 ghost use Rattle.std.specs.Prelude.{◌≡◌, ℕ, Bool};
 ghost use Rattle.block_rule.specs.Around.{is_walled_at};
-ghost use Rattle.block_rule.specs.Lent.{IsSeenIn};
+ghost use Rattle.block_rule.specs.Shown.{IsSeenIn};
 ghost use Rattle.block_rule.specs.NamedBlocks.{AreOddBlocksOf};
 ghost use Rattle.block_rule.specs.TileBlocks.{NamesBlocks, walled_by};
 
@@ -32,8 +32,8 @@ impl TileBlocks {
     };
 }
 
-/// Such words, lent, with a word that tells in which of the tile's rows the blocks lie, of either parity: bit j is 0 only if rows
-/// 2 * j and 2 * j + 1 have none.
+/// A reference to such words, and a word with a bit for each pair of the tile's rows: bit j is 0 only if no block of either parity
+/// lies in rows 2 * j and 2 * j + 1.
 #[derive(Clone, Copy)]
 pub struct SetBlocks<'a> {
     pub rows: u32,

@@ -21,7 +21,7 @@ pub struct OddBlocks {
     pub end: [u32; 33],
 }
 
-/// Such words, or what stands for them.
+/// The walled blocks of a tile at odd parity, as words like those of `OddBlocks`: of no set, of one or of two.
 pub trait Walled: Copy {
     ghost begins: { Self → ℕ → ℕ };
 
@@ -167,7 +167,7 @@ fn collided_eight<W: Walled>(
     rows
 }
 
-// The same rows, into the tile.
+// Writes these eight rows to `out`.
 #[inline(always)]
 fn collide_eight<W: Walled>(walled: W, tile: &Tile, near: &Round, from: usize, out: &mut Tile)
     requires { from < 24 }

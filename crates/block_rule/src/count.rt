@@ -4,7 +4,7 @@ ghost use Rattle.std.specs.Prelude.{◌≡◌, ℕ, ◌+◌, ◌*◌, ◌<◌, �
 ghost use Rattle.bit_tile.specs.Bit.{bit};
 ghost use Rattle.bit_tile.specs.Tile.{has};
 ghost use Rattle.block_rule.specs.Around.{twice_momentum};
-ghost use Rattle.block_rule.specs.Lent.{TellsRows};
+ghost use Rattle.block_rule.specs.Shown.{TellsRows};
 ghost use Rattle.block_rule.specs.Classes.{HasAtMost, AreCounts, AreParticlesIn, TellsWords, particles_among};
 
 use crate::walled::{CellMask, bits_from};

@@ -89,7 +89,8 @@ pub fn made_inner<R: Rule>(rule: R, tile: &Tile, left: &Tile, right: &Tile, j: u
     made_odd(rule, inner_row(tile, left, right, j))
 }
 
-/// Writes them. All are made before the first is written, so that the compiler makes them as vectors, wherever `out` is.
+/// Writes eight rows of odd blocks. All are made before the first is written, so that the compiler makes them as vectors, wherever
+/// `out` is.
 #[inline(always)]
 pub fn write_eight(rows: &EightRows, from: usize, out: &mut Tile)
     requires { from + 8 < 32 }

@@ -1,13 +1,13 @@
-//! Tiles among walled blocks, which words name.
+//! A phase of one tile, at even and at odd parity, and what its walls and obstacles take.
 
 ghost use Rattle.std.specs.Prelude.{◌≡◌, ℕ, ◌+◌, ◌*◌, ◌<◌, Bool, ◌&&◌, slice_index};
 ghost use Rattle.bit_tile.specs.Tile.{has, HasCells};
 ghost use Rattle.block_rule.specs.Around.{turned, either, is_walled_at, is_for_walls, twice_momentum, taken};
 ghost use Rattle.block_rule.specs.Accounts.{if_counted, counted_of};
 ghost use Rattle.block_rule.specs.Rows.{ShowsTile};
-ghost use Rattle.block_rule.specs.Lent.{IsSeenIn, TellsRows};
+ghost use Rattle.block_rule.specs.Shown.{IsSeenIn, TellsRows};
 ghost use Rattle.block_rule.specs.NamedBlocks.{AreEvenBlocksOf, AreOddBlocksOf};
-ghost use Rattle.block_rule.specs.TileBlocks.{NamesBlocks, AreLentBlocks, walled_by};
+ghost use Rattle.block_rule.specs.TileBlocks.{NamesBlocks, AreGivenBlocks, walled_by};
 
 use crate::Window;
 use crate::blocks::Collision;
@@ -136,7 +136,7 @@ fn momentum_by_walls(
     requires { parity < 2 }
     ensures { (walled obstructed : ℕ → ℕ → Bool) →
         NamesBlocks walls.entry.rows walls.entry.blocks.now (walled_by walled) →
-        AreLentBlocks obstacles.entry (walled_by obstructed) →
+        AreGivenBlocks obstacles.entry (walled_by obstructed) →
         result ≡ twice_momentum parity (λ x y. has tile.now x y && is_for_walls parity walled obstructed x y) }
 {
     let cells = without(cells_in(walls, parity), obstacles, parity);
@@ -154,7 +154,7 @@ fn taken_by_obstacles(
     counted: bool,
 ) -> Pair
     requires { parity < 2 }
-    ensures { (obstructed : ℕ → ℕ → Bool) → AreLentBlocks obstacles.entry (walled_by obstructed) →
+    ensures { (obstructed : ℕ → ℕ → Bool) → AreGivenBlocks obstacles.entry (walled_by obstructed) →
         result ≡ if_counted counted
         (twice_momentum parity (λ x y. has tile.now x y && is_walled_at parity obstructed x y)) }
 {
@@ -176,8 +176,8 @@ fn taken_by_walls(
     counted: bool,
 ) -> Pair
     requires { parity < 2 }
-    ensures { (walled obstructed : ℕ → ℕ → Bool) → AreLentBlocks walls.entry (walled_by walled) →
-        AreLentBlocks obstacles.entry (walled_by obstructed) →
+    ensures { (walled obstructed : ℕ → ℕ → Bool) → AreGivenBlocks walls.entry (walled_by walled) →
+        AreGivenBlocks obstacles.entry (walled_by obstructed) →
         result ≡ if_counted counted
         (twice_momentum parity (λ x y. has tile.now x y && is_for_walls parity walled obstructed x y)) }
 {
@@ -194,7 +194,7 @@ fn taken_by_walls(
 fn without(cells: Tile, obstacles: Option<SetBlocks<'_>>, parity: u8) -> Tile
     requires { parity < 2 }
     ensures { (walled obstructed : ℕ → ℕ → Bool) → HasCells cells (is_walled_at parity walled) →
-        AreLentBlocks obstacles.entry (walled_by obstructed) →
+        AreGivenBlocks obstacles.entry (walled_by obstructed) →
         HasCells result (is_for_walls parity walled obstructed) }
 {
     match obstacles {
@@ -217,8 +217,8 @@ fn taken_among(
     counted: Counted,
 ) -> Took
     requires { parity < 2 }
-    ensures { (walled obstructed : ℕ → ℕ → Bool) → AreLentBlocks walls.entry (walled_by walled) →
-        AreLentBlocks obstacles.entry (walled_by obstructed) →
+    ensures { (walled obstructed : ℕ → ℕ → Bool) → AreGivenBlocks walls.entry (walled_by walled) →
+        AreGivenBlocks obstacles.entry (walled_by obstructed) →
         result ≡ counted_of counted (taken parity tile.now walled obstructed) }
 {
     Took {
@@ -262,11 +262,11 @@ pub fn turn_tile_even(
     counted: Counted,
 ) -> Took
     ensures cells { (window walled obstructed : ℕ → ℕ → Bool) → ShowsTile window tile.old →
-        AreLentBlocks walls.entry (walled_by walled) →
-        AreLentBlocks obstacles.entry (walled_by obstructed) →
+        AreGivenBlocks walls.entry (walled_by walled) →
+        AreGivenBlocks obstacles.entry (walled_by obstructed) →
         HasCells tile.new (turned 0 window (either walled obstructed)) }
-    ensures took { (walled obstructed : ℕ → ℕ → Bool) → AreLentBlocks walls.entry (walled_by walled) →
-        AreLentBlocks obstacles.entry (walled_by obstructed) →
+    ensures took { (walled obstructed : ℕ → ℕ → Bool) → AreGivenBlocks walls.entry (walled_by walled) →
+        AreGivenBlocks obstacles.entry (walled_by obstructed) →
         result ≡ counted_of counted (taken 0 tile.old walled obstructed) }
 {
     let took = taken_among(tile, walls, obstacles, 0, counted);
@@ -291,11 +291,11 @@ pub fn turn_tile_odd(
     out: &mut Tile,
 ) -> Took
     ensures cells { (window walled obstructed : ℕ → ℕ → Bool) → IsSeenIn particles.now window →
-        AreLentBlocks walls.entry (walled_by walled) →
-        AreLentBlocks obstacles.entry (walled_by obstructed) →
+        AreGivenBlocks walls.entry (walled_by walled) →
+        AreGivenBlocks obstacles.entry (walled_by obstructed) →
         HasCells out.new (turned 1 window (either walled obstructed)) }
-    ensures took { (walled obstructed : ℕ → ℕ → Bool) → AreLentBlocks walls.entry (walled_by walled) →
-        AreLentBlocks obstacles.entry (walled_by obstructed) →
+    ensures took { (walled obstructed : ℕ → ℕ → Bool) → AreGivenBlocks walls.entry (walled_by walled) →
+        AreGivenBlocks obstacles.entry (walled_by obstructed) →
         result ≡ counted_of counted (taken 1 particles.now.tile.now walled obstructed) }
 {
     let Window { tile, round } = particles;

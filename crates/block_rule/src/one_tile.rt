@@ -5,7 +5,7 @@ ghost use Rattle.bit_tile.specs.Tile.{has, HasCells};
 ghost use Rattle.gas_terms.specs.Velocity.{Velocity, opposite, outcome};
 ghost use Rattle.block_rule.specs.Block.{channels_of};
 ghost use Rattle.block_rule.specs.Around.{around, turned, either, is_walled_at, twice_momentum, taken, plus};
-ghost use Rattle.block_rule.specs.Lent.{IsSeenIn};
+ghost use Rattle.block_rule.specs.Shown.{IsSeenIn};
 ghost use Rattle.tile_border.specs.Ring.{IsBorderOf};
 ghost use Rattle.tile_border.specs.declared.border.Border.{Border as BorderValue};
 

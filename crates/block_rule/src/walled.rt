@@ -1,4 +1,4 @@
-//! Cells in walled blocks, and which accounts of them are kept.
+//! Which cells of a tile are counted, and in which accounts.
 
 ghost use Rattle.std.specs.Prelude.{◌≡◌, ℕ, ◌+◌, ◌<◌, ◌≤◌, false};
 ghost use Rattle.bit_tile.specs.Bit.{bit};
@@ -12,7 +12,7 @@ pub struct CellMask<'a> {
     pub rows: u32,
 }
 
-/// What such a word tells of n bits from `from` on: 0 only if there are no cells in their rows.
+/// Bits from..from+n of `rows`. 0 means that those rows are empty.
 #[inline(always)]
 pub fn bits_from(rows: u32, from: usize, n: u32) -> u32
     requires from { from < 32 }

@@ -19,14 +19,14 @@ use Rattle.block_rule.specs.Windows.{IsView, IsTilePlace}
 use Rattle.block_rule.specs.TileBlocks.{NamesBlocks}
 use Rattle.block_rule.specs.declared.blocks_in_tile.TileBlocks.{TileBlocks}
 use Rattle.block_rule.specs.Around.{around, none as none_there}
-use Rattle.block_rule.specs.Lent.{IsSeenIn}
+use Rattle.block_rule.specs.Shown.{IsSeenIn}
 use Rattle.block_rule.specs.declared.Window.{Window}
 use Rattle.block_rule.proofs.Torus.{walled_same, window_is_view}
 use Rattle.phase_step.specs.Turns.{IsWindowFrom}
 use Rattle.phase_step.proofs.TurnedTiles.{bare_view, bare_window, border_near, tile_window, window_seen}
 use Rattle.phase_step.specs.SolidBlocks.{no_words, blocks_at, is_walled_in, HaveAllTiles, AreBlocksOf, DifferIn, AreRenewedUpTo}
 use Rattle.phase_step.proofs.PhaseSweeps.{place_is, sized_as, tiles_as}
-use Rattle.block_rule.specs.TileBlocks.{AreLentBlocks, walled_by}
+use Rattle.block_rule.specs.TileBlocks.{AreGivenBlocks, walled_by}
 use Rattle.block_rule.specs.declared.blocks_in_tile.SetBlocks.{SetBlocks}
 use Rattle.gas_terms.specs.Gas.{site_of, is_walled}
 use Rattle.phase_step.specs.Turns.{IsPlaceOf}
@@ -300,14 +300,14 @@ pub zeros_are : (set : Cells) (n : ℕ) (told : List ℕ) (words : List TileBloc
 zeros_are set n told words lattice count of_told of_words =
     no_blocks_named (nothing_of set) (record { sized = lattice.sized; full = full-cells_where set.width set.height (λ _ _. false) }) (has_none (nothing_of set) set.width set.height refl) n told words count of_told of_words
 
--- what is lent of walls or obstacles is what the particles' tile needs
-lent_same : (lent : Option SetBlocks) (test other : ℕ → ℕ → ℕ → Bool) → ((p x y : ℕ) → p < 2 → x < 64 → y < 64 → test p x y ≡ other p x y) → AreLentBlocks lent test → AreLentBlocks lent other
-lent_same None test other same none = λ p two x y h k. sym (same p x y two h k) ∙ none p two x y h k
-lent_same (Some s) test other same are = names_same s.rows s.blocks.now test other same are
+-- what is given of walls or obstacles is what the particles' tile needs
+given_same : (given : Option SetBlocks) (test other : ℕ → ℕ → ℕ → Bool) → ((p x y : ℕ) → p < 2 → x < 64 → y < 64 → test p x y ≡ other p x y) → AreGivenBlocks given test → AreGivenBlocks given other
+given_same None test other same none = λ p two x y h k. sym (same p x y two h k) ∙ none p two x y h k
+given_same (Some s) test other same are = names_same s.rows s.blocks.now test other same are
 
-pub lent_in_view : (old walls obstacles set : Cells) (i : ℕ) (lent : Option SetBlocks) → IsPlaceOf old walls obstacles i → HasSidesOf set old → AreLentBlocks lent (is_walled_in set i) → AreLentBlocks lent (walled_by (view_of set (tile_rectangle old i).x (tile_rectangle old i).y))
-lent_in_view old walls obstacles set i lent place sides =
-    lent_same lent (is_walled_in set i) (walled_by (view_of set (tile_rectangle old i).x (tile_rectangle old i).y))
+pub given_in_view : (old walls obstacles set : Cells) (i : ℕ) (given : Option SetBlocks) → IsPlaceOf old walls obstacles i → HasSidesOf set old → AreGivenBlocks given (is_walled_in set i) → AreGivenBlocks given (walled_by (view_of set (tile_rectangle old i).x (tile_rectangle old i).y))
+given_in_view old walls obstacles set i given place sides =
+    given_same given (is_walled_in set i) (walled_by (view_of set (tile_rectangle old i).x (tile_rectangle old i).y))
     (λ p x y two h k.
     ap₂ (λ m n. is_walled set (site_of p m n (i % (m / 64) * 64 + x) (i / (m / 64) * 64 + y))) sides.wide sides.high
     ∙ sym (walled_same cell_walled p (view_of set (tile_rectangle old i).x (tile_rectangle old i).y) set old.width old.height (tile_rectangle old i).x (tile_rectangle old i).y x y two sides.wide sides.high (record { cell = λ _ _ _ _. refl }) place.even_column place.even_row h k (omega (arith, place.right)) (omega (arith, place.bottom))))

@@ -10,7 +10,7 @@ use Rattle.gas_plane.specs.Planes.{IsTileFrom, IsRingRound, IsBareRound, HasNone
 use Rattle.block_rule.specs.Around.{around, none}
 use Rattle.tile_border.specs.Ring.{IsBorderOfRound}
 use Rattle.block_rule.specs.Windows.{IsView, IsWindow}
-use Rattle.block_rule.specs.Lent.{IsSeenIn}
+use Rattle.block_rule.specs.Shown.{IsSeenIn}
 use Rattle.block_rule.specs.declared.Window.{Window}
 use Rattle.tile_border.specs.declared.Round.{Round}
 use Rattle.tile_border.proofs.Making.{border_of_tiles}

@@ -1,4 +1,4 @@
--- Runs of phases, one after another, whose parities take turns.
+-- Runs of phases, one after another, whose parities alternate.
 use Rattle.std.specs.Prelude.{ℕ, zero, suc, ◌+◌, ◌%◌, pos, ◌+ℤ◌, ◌-ℤ◌}
 use Rattle.gas_terms.specs.Velocity.{parity}
 use Rattle.gas_terms.specs.Cells.{Cells, joined, tile_rectangle}

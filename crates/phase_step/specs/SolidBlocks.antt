@@ -2,8 +2,8 @@
 use Rattle.std.specs.Prelude.{◌≡◌, ℕ, ◌+◌, ◌<◌, ◌≤◌, Bool, false, List, [], length, slice_index, slice_index_or}
 use Rattle.gas_terms.specs.Cells.{Cells, Rectangle, HasSidesOf, has, is_inside, tile_count, tile_rectangle}
 use Rattle.gas_terms.specs.Gas.{site_of, is_walled}
-use Rattle.block_rule.specs.Lent.{HasNoCell}
-use Rattle.block_rule.specs.TileBlocks.{NamesBlocks, AreLentBlocks}
+use Rattle.block_rule.specs.Shown.{HasNoCell}
+use Rattle.block_rule.specs.TileBlocks.{NamesBlocks, AreGivenBlocks}
 use Rattle.block_rule.specs.declared.blocks_in_tile.TileBlocks.{TileBlocks}
 use Rattle.phase_step.specs.declared.steps.solids.TileSolids.{TileSolids}
 
@@ -28,10 +28,10 @@ pub record AreBlocksOf (set : Cells) (told : List ℕ) (words : List TileBlocks)
   pub all : HaveAllTiles set told words
   pub each : (i : ℕ) → i < tile_count set → NamesBlocks (slice_index told i) (blocks_at words i) (is_walled_in set i)
 
--- what is lent of the blocks of tile i that have a wall, and of those that have an obstacle
+-- the walled blocks of tile i: those that have a wall, and those that have an obstacle
 pub record AreTileSolids (walls obstacles : Cells) (i : ℕ) (tile_solids : TileSolids) : Type 0 where
-  pub of_walls : AreLentBlocks tile_solids.walls (is_walled_in walls i)
-  pub of_obstacles : AreLentBlocks tile_solids.obstacles (is_walled_in obstacles i)
+  pub of_walls : AreGivenBlocks tile_solids.walls (is_walled_in walls i)
+  pub of_obstacles : AreGivenBlocks tile_solids.obstacles (is_walled_in obstacles i)
 
 -- no site has a cell of the set
 abbrev pub HasNoBlocks : Cells → Type 0

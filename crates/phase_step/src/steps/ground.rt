@@ -2,7 +2,7 @@
 
 ghost use Rattle.std.specs.Prelude.{◌≡◌, ◌<◌, IsTrue};
 ghost use Rattle.gas_terms.specs.Cells.{tile_count};
-ghost use Rattle.block_rule.specs.TileBlocks.{AreLentBlocks};
+ghost use Rattle.block_rule.specs.TileBlocks.{AreGivenBlocks};
 ghost use Rattle.phase_step.specs.SolidBlocks.{is_walled_in, AreTileSolids, HasNoBlocks};
 
 use crate::steps::solid::Solid;
@@ -39,7 +39,7 @@ impl<'a> Ground<'a> {
 fn set_in_tile(set: &Solid, none: bool, i: u32) -> Option<SetBlocks<'_>>
     requires none { IsTrue none → HasNoBlocks set.now }
     requires tile { i < tile_count set.now }
-    ensures { AreLentBlocks result (is_walled_in set.now i) }
+    ensures { AreGivenBlocks result (is_walled_in set.now i) }
 {
     if none { None } else { set.in_tile(i) }
 }

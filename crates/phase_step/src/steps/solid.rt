@@ -3,7 +3,7 @@
 ghost use Rattle.std.specs.Prelude.{◌↔◌, ◌≡◌, ℕ, ◌+◌, ◌*◌, ◌/◌, ◌-◌, ◌%◌, ◌<◌, ◌≤◌, ◌^◌, ◌&&◌, nat_le, nat_lt, IfOk, IsTrue, false};
 ghost use Rattle.gas_terms.specs.Cells.{Cells, cells_where, filled, cleared, tile_count, tile_rectangle};
 ghost use Rattle.gas_plane.specs.Planes.{IsLattice, HasNone};
-ghost use Rattle.block_rule.specs.TileBlocks.{AreLentBlocks};
+ghost use Rattle.block_rule.specs.TileBlocks.{AreGivenBlocks};
 ghost use Rattle.phase_step.specs.Turns.{IsWindowFrom};
 ghost use Rattle.phase_step.specs.SolidBlocks.{is_walled_in, HasNoBlocks, HaveAllTiles, AreBlocksOf, DifferIn, AreRenewedUpTo};
 
@@ -101,7 +101,7 @@ impl Solid {
     #[inline(always)]
     pub fn in_tile(&self, i: u32) -> Option<SetBlocks<'_>>
         requires { i < tile_count self.now }
-        ensures { AreLentBlocks result (is_walled_in self.now i) }
+        ensures { AreGivenBlocks result (is_walled_in self.now i) }
     {
         let rows = self.rows[i as usize];
         if rows == 0 {

@@ -16,7 +16,7 @@ pub struct Solids {
     pub obstacles: Solid,
 }
 
-/// What is lent of the blocks of a tile that have a wall, and of those that have an obstacle.
+/// The walled blocks of one tile: those that have a wall, and those that have an obstacle. `None` if there are none.
 #[derive(Clone, Copy)]
 pub struct TileSolids<'a> {
     pub walls: Option<SetBlocks<'a>>,
