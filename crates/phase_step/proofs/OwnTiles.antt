@@ -4,7 +4,7 @@ use Rattle.std.proofs.Math.Nat.{mod-lt}
 use Rattle.std.proofs.lemmas.Nat.{row-Below, div-add-mod', mod-mul-add}
 use Rattle.std.proofs.lemmas.Bool.{cases_lt}
 use Rattle.gas_terms.specs.Cells.{Cells, HasSidesOf, extent, is_size, tile_count, tile_rectangle}
-use Rattle.gas_terms.specs.Accounts.{took_plus}
+use Rattle.gas_terms.specs.Accounts.{took_plus, pair_plus, TakenFits}
 use Rattle.gas_terms.specs.declared.accounts.Took.{Took}
 use Rattle.gas_plane.proofs.Places.{wide, high}
 use Rattle.block_rule.specs.Accounts.{counted_of}
@@ -15,7 +15,7 @@ use Rattle.phase_step.specs.Parts.{start_of, own_rows, tile_in, IsPlaced, IsPart
 use Rattle.phase_step.specs.declared.parts.Part.{Part}
 use Rattle.phase_step.proofs.PartTurns.{tile_there, down_some}
 use Rattle.phase_step.proofs.PhaseSweeps.{tiles_as}
-use Rattle.phase_step.proofs.RunTakes.{counted_plus}
+use Rattle.phase_step.proofs.RunTakes.{counted_plus, own_fits}
 
 pub own_row : (a i m n : ℕ) → 0 < a → m * a ≤ i → i < m * a + n * a → (m ≤ i / a) × (i / a < m + n)
 own_row a i m n some low high =
@@ -62,30 +62,32 @@ module _ (part : Part) (cells lattice : Cells) (i k : ℕ) (sized : is_size (ext
       omega (arith, spread, e, f) in
       subst (λ b. (start_of part + i / b) % part.down * b + i % b ≡ part.first * b + (i - part.margin * a)) (ap (λ w. w / 64) placed.wide) (ap (λ n. n * a + i % a) there ∙ number)
 
--- one more own tile, of those of the lattice from tile `first` on
-pub own_more_there : (p : ℕ) (c w o : Cells) (kept : Counted) (first from end i : ℕ) (took here : Took) → from ≤ i → i < end → took ≡ counted_of kept (tiles_take p c w o first (i - from - (i - end)))
-    → here ≡ counted_of kept (taken_in (pos p) c w o (tile_rectangle c (first + (i - from)))) → took_plus took here ≡ counted_of kept (tiles_take p c w o first (i + 1 - from - (i + 1 - end)))
-own_more_there p c w o kept first from end i took here low high so_far e =
-    let n = i - from - (i - end) in
-    let place : i - from ≡ n = omega arith in
-    let next : suc n ≡ i + 1 - from - (i + 1 - end) = omega arith in
-    ap₂ took_plus so_far (e ∙ ap (λ m. counted_of kept (taken_in (pos p) c w o (tile_rectangle c (first + m)))) place)
-    ∙ (counted_plus kept (tiles_take p c w o first n) (taken_in (pos p) c w o (tile_rectangle c (first + n)))
-    ∙ ap (λ m. counted_of kept (tiles_take p c w o first m)) next)
+-- what is taken in tile i, when `took` was taken in the part's own tiles below it
+module _ (p : ℕ) (part : Part) (cells lattice w o : Cells) (kept : Counted) (i k from end : ℕ) (took here : Took) (sized : is_size (extent cells) ≡ true) (is : IsPartOf part w o cells lattice k) (few : part.margin * k ≤ 64) (e : from ≡ part.margin * (cells.width / 64)) (count : end - from ≡ own_rows part cells * (cells.width / 64))
+    (so_far : took ≡ counted_of kept (tiles_take p lattice w o (part.first * (lattice.width / 64)) (i - from - (i - end))))
+    (takes : IsUnspoilt part cells i k → here ≡ counted_of kept (taken_in (pos p) lattice w o (tile_rectangle lattice (tile_in part (lattice.width / 64) i)))) (low : from ≤ i) (high : i < end) where
+  here_is : here ≡ counted_of kept (taken_in (pos p) lattice w o (tile_rectangle lattice (part.first * (lattice.width / 64) + (i - from))))
+  here_is =
+      let low' : part.margin * (cells.width / 64) ≤ i = omega (arith, e, low) in
+      let high' : i < part.margin * (cells.width / 64) + own_rows part cells * (cells.width / 64) = omega (arith, e, count, low, high) in
+      takes (own_unspoilt part cells lattice i k sized is.placed low' high' few)
+      ∙ ap (λ j. counted_of kept (taken_in (pos p) lattice w o (tile_rectangle lattice j)))
+      (own_number part cells lattice i k sized is.placed low' high' ∙ ap (λ f. part.first * (lattice.width / 64) + (i - f)) (sym e))
 
--- what is taken in an own tile
-pub own_takes : (p : ℕ) (part : Part) (cells lattice w o : Cells) (kept : Counted) (i k from end : ℕ) (here : Took) → is_size (extent cells) ≡ true → IsPartOf part w o cells lattice k → part.margin * k ≤ 64
-    → from ≡ part.margin * (cells.width / 64) → end - from ≡ own_rows part cells * (cells.width / 64) → from ≤ i → i < end
-    → (IsUnspoilt part cells i k → here ≡ counted_of kept (taken_in (pos p) lattice w o (tile_rectangle lattice (tile_in part (lattice.width / 64) i))))
-    → here ≡ counted_of kept (taken_in (pos p) lattice w o (tile_rectangle lattice (part.first * (lattice.width / 64) + (i - from))))
-own_takes p part cells lattice w o kept i k from end here sized is few e count low high took =
-    let low' : part.margin * (cells.width / 64) ≤ i = omega (arith, e, low) in
-    let high' : i < part.margin * (cells.width / 64) + own_rows part cells * (cells.width / 64) = omega (arith, e, count, low, high) in
-    took (own_unspoilt part cells lattice i k sized is.placed low' high' few)
-    ∙ ap (λ j. counted_of kept (taken_in (pos p) lattice w o (tile_rectangle lattice j)))
-    (own_number part cells lattice i k sized is.placed low' high' ∙ ap (λ f. part.first * (lattice.width / 64) + (i - f)) (sym e))
+  pub own_more : took_plus took here ≡ counted_of kept (tiles_take p lattice w o (part.first * (lattice.width / 64)) (i + 1 - from - (i + 1 - end)))
+  own_more =
+      let first = part.first * (lattice.width / 64) in
+      let n = i - from - (i - end) in
+      let place : i - from ≡ n = omega arith in
+      let next : suc n ≡ i + 1 - from - (i + 1 - end) = omega arith in
+      ap₂ took_plus so_far (here_is ∙ ap (λ m. counted_of kept (taken_in (pos p) lattice w o (tile_rectangle lattice (first + m)))) place)
+      ∙ (counted_plus kept (tiles_take p lattice w o first n) (taken_in (pos p) lattice w o (tile_rectangle lattice (first + n)))
+      ∙ ap (λ m. counted_of kept (tiles_take p lattice w o first m)) next)
 
--- the lattice's tile whose walls and obstacles are lent
+  pub own_adds : i < 4096 → TakenFits (pair_plus took.walls here.walls) × TakenFits (pair_plus took.obstacles here.obstacles)
+  own_adds less = own_fits p lattice w o kept (part.first * (lattice.width / 64)) (i - from - (i - end)) (part.first * (lattice.width / 64) + (i - from)) took here (omega (arith, less)) so_far here_is
+
+-- the lattice's tile whose walls and obstacles are given
 pub source_is : (part : Part) (cells lattice w o : Cells) (k across i j result : ℕ) → IsPartOf part w o cells lattice k → across ≡ cells.width / 64 → j ≡ i → result ≡ tile_in part across i → result ≡ tile_in part (lattice.width / 64) j
 source_is part cells lattice w o k across i j result is e same f = f ∙ ap₂ (tile_in part) (e ∙ ap (λ w. w / 64) is.placed.wide) (sym same)
 

@@ -110,10 +110,6 @@ all_take p c w o small sized =
     ∙ took_all p c w o small sized (λ tick particles walls obstacles. taken-stopped tick particles (takes_for_walls walls obstacles))
     (λ tick particles walls obstacles. taken-stopped tick particles (takes_for_obstacles walls obstacles)) total-tiles
 
-pub own_take : (p : ℕ) (c w o : Cells) (kept is : Counted) (first end : ℕ) → p < 2 → is_size (extent c) ≡ true → (first ≡ 0) × (end ≡ tile_count c) → kept ≡ is → counted_of kept (tiles_take p c w o first (end - first)) ≡ counted_of is (taken p c w o)
-own_take p c w o kept is first end small sized (start, count) same =
-    let e : end - first ≡ tile_count c = omega arith in ap₂ counted_of same (ap₂ (tiles_take p c w o) start e ∙ all_take p c w o small sized)
-
 pub taken_within : (p : ℕ) (c w o : Cells) → p < 2 → is_size (extent c) ≡ true → tile_count c ≤ 4096 → IsWithin (2 ^ 26) (taken p c w o)
 taken_within p c w o small sized few =
     let all = subst (IsWithin (16384 * tile_count c)) (all_take p c w o small sized) (tiles_within p c w o 0 (tile_count c)) in

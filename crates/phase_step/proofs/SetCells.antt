@@ -58,25 +58,6 @@ few_counts counts test are =
           omega (arith, sym (ap (λ n. get_or counts n 0) e) ∙ are (k % 2) (k / 2) a b, class_few test (k % 2) (k / 2) a b);
     }
 
--- the places of a tile along one axis
-low_even : (start from k : ℕ) → k < 32 → nat_le ((min (start - from) 64 + 1) / 2) k ≡ nat_le start (from + (2 * k + 0))
-low_even start from k h = grind (arith, nat_tests)
-
-high_even : (end from k : ℕ) → k < 32 → nat_lt k ((min (end - from) 64 + 1) / 2) ≡ nat_lt (from + (2 * k + 0)) end
-high_even end from k h = grind (arith, nat_tests)
-
-low_odd : (start from k : ℕ) → k < 32 → nat_le (min (start - from) 64 / 2) k ≡ nat_le start (from + (2 * k + 1))
-low_odd start from k h = grind (arith, nat_tests)
-
-high_odd : (end from k : ℕ) → k < 32 → nat_lt k (min (end - from) 64 / 2) ≡ nat_lt (from + (2 * k + 1)) end
-high_odd end from k h = grind (arith, nat_tests)
-
-pub place_even : (start len from k : ℕ) → k < 32 → (nat_le ((min (start - from) 64 + 1) / 2) k && nat_lt k ((min (start + len - from) 64 + 1) / 2)) ≡ is_among start len (from + (2 * k + 0))
-place_even start len from k h = ap₂ (λ a b. a && b) (low_even start from k h) (high_even (start + len) from k h)
-
-pub place_odd : (start len from k : ℕ) → k < 32 → (nat_le (min (start - from) 64 / 2) k && nat_lt k (min (start + len - from) 64 / 2)) ≡ is_among start len (from + (2 * k + 1))
-place_odd start len from k h = ap₂ (λ a b. a && b) (low_odd start from k h) (high_odd (start + len) from k h)
-
 -- the cells of a rectangle in a class: those in its columns and rows
 in_both : (a b k : Bool) (left right low high : Bool) → a ≡ (left && right) → b ≡ (low && high) → ((a && b) && k) ≡ ((left && right && low && high) && k)
 in_both a b k left right low high e f = grind arith

@@ -35,12 +35,11 @@ pub struct Part {
     pub margin: u32,
 }
 
-// Where a phase counts what is taken: of the particles in the tiles from `first` up to `end`, in the accounts that are kept.
+// The tiles from `first` up to `end`: those of which a part counts what is taken and moved.
 #[derive(Clone, Copy)]
 struct CountedTiles {
     first: u32,
     end: u32,
-    counted: Counted,
 }
 
 impl CountedTiles {
@@ -144,18 +143,16 @@ fn next_there(there: u32, tiles: u32) -> u32
 }
 
 // a part's own tiles
-fn counted_tiles(part: Part, cells: &Plane, counted: Counted) -> CountedTiles
+fn counted_tiles(part: Part, cells: &Plane) -> CountedTiles
     requires { (part.margin ≤ 1) × (2 * part.margin < cells.now.height / 64) }
     ensures first { result.first ≡ part.margin * (cells.now.width / 64) }
     ensures order { (result.first ≤ result.end) × (result.end ≤ tile_count cells.now) }
     ensures count { result.end - result.first ≡ own_rows part cells.now * (cells.now.width / 64) }
-    ensures counted { result.counted ≡ counted }
 {
     let margin = part.margin * cells.across();
     CountedTiles {
         first: margin,
         end: cells.size().tiles() - margin,
-        counted,
     }
 }
 
@@ -180,7 +177,7 @@ fn turn_odd_part(
         result ≡ counted_of counted (own_take part 1 old.now lattice s.walls s.obstacles) }
 {
     let across = old.across();
-    let own = counted_tiles(part, old, counted);
+    let own = counted_tiles(part, old);
     let tiles = part.down * across;
     let mut took = Took::ZERO;
     let mut at = old.position(0);
@@ -213,7 +210,7 @@ fn turn_even_part(particles: &mut Plane, ground: Ground<'_>, part: Part, counted
         result ≡ counted_of counted (own_take part 0 particles.old lattice s.walls s.obstacles) }
 {
     let across = particles.across();
-    let own = counted_tiles(part, particles, counted);
+    let own = counted_tiles(part, particles);
     let tiles = part.down * across;
     let mut took = Took::ZERO;
     let mut there = tile_there(part, across, 0);
@@ -272,7 +269,7 @@ fn act_on_part(particles: &mut Plane, exchange: &Exchange, part: Part, parity: u
         result ≡ own_moves part parity particles.old lattice (acted (leaves_of exchange.now) lattice) }
 {
     let across = particles.across();
-    let own = counted_tiles(part, particles, Counted::BOTH);
+    let own = counted_tiles(part, particles);
     let mut moved = Moved::ZERO;
     if exchange.is_still() {
         return moved;

@@ -1,10 +1,12 @@
 use Rattle.std.proofs.Common.{◌≡◌, ◌+◌, sym, subst, arith, refl}
-use Rattle.gas_terms.specs.Cells.{joined}
+use Rattle.gas_terms.specs.Cells.{Cells, joined}
 use Rattle.gas_terms.specs.Gas.{streamed}
-use Rattle.phase_step.specs.Parts.{HasRun}
+use Rattle.phase_step.specs.Parts.{IsPartOf, HasRun}
 use Rattle.phase_step.specs.WholeRuns.{dynamics, after_all}
 use Rattle.phase_step.specs.declared.sums.flow.Flow.{Flow}
 use Rattle.phase_step.proofs.RowRuns.{IsPartPhase, run_begins, run_next, run_fits, own_few, sides_on, still_unspoilt}
+use Rattle.phase_step.proofs.parts.run_on.Given.{Over}
+use Rattle.phase_step.proofs.parts.run_on.Goals.{After-act_after-moved}
 use Rattle.phase_step.proofs.parts.run_on.Goals as goal
 
 pub loop-k-init : goal.loop-k-init
@@ -16,20 +18,15 @@ loop-k-init g c =
       run = λ lattice is. run_begins c.args.part c.args.counted (dynamics run.parity run.solids.now (g.A.Action.leaves run.action.now)) c.args.particles.now lattice is;
     }
 
-pub plus-flow-requires : goal.plus-flow-requires
-plus-flow-requires g c =
+-- the phase and the action after it
+phase_made : (g : Over) (c : After-act_after-moved g) (lattice : Cells) → IsPartOf c.args.part c.args.run.solids.now.walls c.args.run.solids.now.obstacles c.args.particles.now lattice 0
+    → IsPartPhase c.args.part c.args.counted (dynamics c.args.run.parity c.args.run.solids.now (g.A.Action.leaves c.args.run.action.now)) c.parity_at-now.result c.loop-k.k lattice c.args.particles.now c.loop-k.particles c.turn_part-took.new.particles c.act_after-moved.new.particles c.loop-k.flow (record { took = c.turn_part-took.result; moved = c.act_after-moved.result })
+phase_made g c lattice start =
     let run = c.args.run in
     let s = run.solids.now in
-    let d = dynamics run.parity s (g.A.Action.leaves run.action.now) in
-    let lattice = c.requires.part.lattice in
-    let start = c.requires.part.is in
     let so_far = c.loop-k.invariant.run lattice start in
-    let there = after_all d lattice c.loop-k.k in
-    let here : Flow = record { took = c.turn_part-took.result; moved = c.act_after-moved.result } in
+    let there = after_all (dynamics run.parity s (g.A.Action.leaves run.action.now)) lattice c.loop-k.k in
     let come = c.turn_part-took.ensures.rows there c.loop-k.k so_far.is in
-    let unspoilt = still_unspoilt c.args.part.margin c.loop-k.k run.n c.requires.few (omega arith) in
-    let unspoilt_next = still_unspoilt c.args.part.margin (c.loop-k.k + 1) run.n c.requires.few (omega arith) in
-    let made : IsPartPhase c.args.part c.args.counted d c.parity_at-now.result c.loop-k.k lattice c.args.particles.now c.loop-k.particles c.turn_part-took.new.particles c.act_after-moved.new.particles c.loop-k.flow here =
     record {
       small = c.requires.parity;
       parity = c.parity_at-now.ensures.parity;
@@ -37,41 +34,31 @@ plus-flow-requires g c =
       come_sides = sides_on _ _ _ c.turn_part-took.ensures.sides.0 c.loop-k.invariant.sides;
       so_far = so_far;
       action = c.act_after-moved.ensures.rows s.walls s.obstacles _ (c.loop-k.k + 1) come;
-      took = c.turn_part-took.ensures.took there c.loop-k.k so_far.is unspoilt;
-      moved = c.act_after-moved.ensures.moved s.walls s.obstacles _ (c.loop-k.k + 1) come unspoilt_next;
-    } in
-    run_fits c.args.part c.args.counted d c.parity_at-now.result c.loop-k.k lattice c.args.particles.now c.loop-k.particles c.turn_part-took.new.particles c.act_after-moved.new.particles c.loop-k.flow here made
+      took = c.turn_part-took.ensures.took there c.loop-k.k so_far.is (still_unspoilt c.args.part.margin c.loop-k.k run.n c.requires.few (omega arith));
+      moved = c.act_after-moved.ensures.moved s.walls s.obstacles _ (c.loop-k.k + 1) come (still_unspoilt c.args.part.margin (c.loop-k.k + 1) run.n c.requires.few (omega arith));
+    }
+
+pub plus-flow-requires : goal.plus-flow-requires
+plus-flow-requires g c =
+    let run = c.args.run in
+    let s = run.solids.now in
+    let lattice = c.requires.part.lattice in
+    let start = c.requires.part.is in
+    run_fits c.args.part c.args.counted (dynamics run.parity s (g.A.Action.leaves run.action.now)) c.parity_at-now.result c.loop-k.k lattice c.args.particles.now c.loop-k.particles c.turn_part-took.new.particles c.act_after-moved.new.particles c.loop-k.flow
+    (record { took = c.turn_part-took.result; moved = c.act_after-moved.result }) (phase_made g (goal.at.plus-flow-requires g c).After-act_after-moved lattice start)
     (omega arith) (own_few c.args.part s.walls s.obstacles c.args.particles.now lattice 0 start)
 
 pub loop-k-preserved : goal.loop-k-preserved
 loop-k-preserved g c =
     let run = c.args.run in
-    let s = run.solids.now in
-    let d = dynamics run.parity s (g.A.Action.leaves run.action.now) in
-    let here : Flow = record { took = c.turn_part-took.result; moved = c.act_after-moved.result } in
-    let unspoilt = still_unspoilt c.args.part.margin c.loop-k.k run.n c.requires.few (omega arith) in
-    let unspoilt_next = still_unspoilt c.args.part.margin (c.loop-k.k + 1) run.n c.requires.few (omega arith) in
-    let come_sides = sides_on _ _ _ c.turn_part-took.ensures.sides.0 c.loop-k.invariant.sides in
+    let d = dynamics run.parity run.solids.now (g.A.Action.leaves run.action.now) in
     record {
-      sides = sides_on _ _ _ c.act_after-moved.ensures.sides come_sides;
+      sides = sides_on _ _ _ c.act_after-moved.ensures.sides (sides_on _ _ _ c.turn_part-took.ensures.sides.0 c.loop-k.invariant.sides);
       spare = sides_on _ _ _ c.turn_part-took.ensures.sides.1 c.loop-k.invariant.sides;
       run = λ lattice start.
-          let so_far = c.loop-k.invariant.run lattice start in
-          let there = after_all d lattice c.loop-k.k in
-          let come = c.turn_part-took.ensures.rows there c.loop-k.k so_far.is in
-          let made : IsPartPhase c.args.part c.args.counted d c.parity_at-now.result c.loop-k.k lattice c.args.particles.now c.loop-k.particles c.turn_part-took.new.particles c.act_after-moved.new.particles c.loop-k.flow here =
-          record {
-            small = c.requires.parity;
-            parity = c.parity_at-now.ensures.parity;
-            now_sides = c.loop-k.invariant.sides;
-            come_sides = come_sides;
-            so_far = so_far;
-            action = c.act_after-moved.ensures.rows s.walls s.obstacles _ (c.loop-k.k + 1) come;
-            took = c.turn_part-took.ensures.took there c.loop-k.k so_far.is unspoilt;
-            moved = c.act_after-moved.ensures.moved s.walls s.obstacles _ (c.loop-k.k + 1) come unspoilt_next;
-          } in
           subst (λ (f : Flow). HasRun c.args.part c.args.counted d (c.loop-k.k + 1) c.args.particles.now lattice c.act_after-moved.new.particles f) (sym c.plus-flow.ensures)
-          (run_next c.args.part c.args.counted d c.parity_at-now.result c.loop-k.k lattice c.args.particles.now c.loop-k.particles c.turn_part-took.new.particles c.act_after-moved.new.particles c.loop-k.flow here made);
+          (run_next c.args.part c.args.counted d c.parity_at-now.result c.loop-k.k lattice c.args.particles.now c.loop-k.particles c.turn_part-took.new.particles c.act_after-moved.new.particles c.loop-k.flow
+          (record { took = c.turn_part-took.result; moved = c.act_after-moved.result }) (phase_made g (goal.at.loop-k-preserved g c).After-act_after-moved lattice start));
     }
 
 pub returns-clause-run : goal.returns-clause-run

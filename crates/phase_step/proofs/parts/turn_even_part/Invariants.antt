@@ -15,5 +15,5 @@ invariant-loop-i l =
       sides : HasSidesOf l.particles old;
       cells : (lattice : Cells) (k : ℕ) → IsPartOf l.fn.part w o old lattice k → AreTurnedUpTo l.i l.fn.part 0 old lattice w o l.particles (k + 1);
       rest : AreKeptFrom l.i old l.particles;
-      took : (lattice : Cells) (k : ℕ) → IsPartOf l.fn.part w o old lattice k → l.fn.part.margin * k ≤ 64 → l.took ≡ counted_of l.own.counted (tiles_take 0 lattice w o (l.fn.part.first * (lattice.width / 64)) (l.i - l.own.first - (l.i - l.own.end)));
+      took : (lattice : Cells) (k : ℕ) → IsPartOf l.fn.part w o old lattice k → l.fn.part.margin * k ≤ 64 → l.took ≡ counted_of l.fn.counted (tiles_take 0 lattice w o (l.fn.part.first * (lattice.width / 64)) (l.i - l.own.first - (l.i - l.own.end)));
     }

@@ -11,12 +11,12 @@ use Rattle.phase_step.specs.Parts.{own_rows, tile_in, IsPartOf, IsTileOf, IsUnsp
 use Rattle.phase_step.specs.Runs.{tiles_take}
 use Rattle.phase_step.specs.SolidBlocks.{AreTileSolids}
 use Rattle.phase_step.proofs.PhaseSweeps.{tiles_as, tiles_are}
-use Rattle.phase_step.proofs.RunTakes.{own_other, own_fits, counted_none}
+use Rattle.phase_step.proofs.RunTakes.{own_other, counted_none}
 use Rattle.phase_step.proofs.PartTurns.{next_is, there_below}
 use Rattle.phase_step.proofs.RowSweeps.{turned_next, all_turned}
-use Rattle.phase_step.proofs.OwnTiles.{own_takes, own_more_there, source_is, source_below}
+use Rattle.phase_step.proofs.OwnTiles.{own_adds, own_more, source_is, source_below}
 use Rattle.phase_step.proofs.parts.turn_odd_part.Goals as goal
-use Rattle.phase_step.proofs.parts.turn_odd_part.Goals.{then-has, else-has}
+use Rattle.phase_step.proofs.parts.turn_odd_part.Goals.{After-turn_odd_in_part-here, then-has, else-has}
 
 pub in_tile-tile_solids-requires-clause-walls : goal.in_tile-tile_solids-requires-clause-walls
 in_tile-tile_solids-requires-clause-walls c =
@@ -28,26 +28,32 @@ in_tile-tile_solids-requires-clause-obstacles c =
     let h = c.requires.held in
     source_below c.args.part c.args.old.now h.ready.lattice c.args.ground.solids.now.walls c.args.ground.solids.now.obstacles c.args.ground.solids.now.obstacles h.made c.across-across.result c.loop-i.i c.loop-i.there h.ready.is h.ready.is.of_obstacles c.across-across.ensures.across c.loop-i.invariant.there
 
+-- the walled blocks of the lattice's tile, and what is taken in it
+solids_there : (c : After-turn_odd_in_part-here) (lattice : Cells) (k : ℕ) → IsPartOf c.args.part c.args.ground.solids.now.walls c.args.ground.solids.now.obstacles c.args.old.now lattice k
+    → AreTileSolids c.args.ground.solids.now.walls c.args.ground.solids.now.obstacles (tile_in c.args.part (lattice.width / 64) c.loop-i.at.tile) c.in_tile-tile_solids.result
+solids_there c lattice k is =
+    let s = c.args.ground.solids.now in
+    subst (λ j. AreTileSolids s.walls s.obstacles j c.in_tile-tile_solids.result)
+    (source_is c.args.part c.args.old.now lattice s.walls s.obstacles k c.across-across.result c.loop-i.i c.loop-i.at.tile c.loop-i.there is c.across-across.ensures.across c.loop-i.invariant.tile c.loop-i.invariant.there) c.in_tile-tile_solids.ensures
+
+takes : (c : After-turn_odd_in_part-here) (lattice : Cells) (k : ℕ) → IsPartOf c.args.part c.args.ground.solids.now.walls c.args.ground.solids.now.obstacles c.args.old.now lattice k → IsUnspoilt c.args.part c.args.old.now c.loop-i.i k
+    → c.turn_odd_in_part-here.result ≡ counted_of c.args.counted (taken_in (pos 1) lattice c.args.ground.solids.now.walls c.args.ground.solids.now.obstacles (tile_rectangle lattice (tile_in c.args.part (lattice.width / 64) c.loop-i.i)))
+takes c lattice k is =
+    let s = c.args.ground.solids.now in
+    subst (λ j. IsUnspoilt c.args.part c.args.old.now j k → c.turn_odd_in_part-here.result ≡ counted_of c.args.counted (taken_in (pos 1) lattice s.walls s.obstacles (tile_rectangle lattice (tile_in c.args.part (lattice.width / 64) j)))) c.loop-i.invariant.tile
+    (c.turn_odd_in_part-here.ensures.took c.args.part s.walls s.obstacles c.args.old.now lattice c.loop-i.at.tile k c.rows_at-rows.ensures.column is (solids_there c lattice k is))
+
 pub plus-took-requires : goal.plus-took-requires
 plus-took-requires c =
-    let part = c.args.part in
-    let old = c.args.old.now in
-    let w = c.args.ground.solids.now.walls in
-    let o = c.args.ground.solids.now.obstacles in
-    let here = c.turn_odd_in_part-here.result in
+    let s = c.args.ground.solids.now in
     let h = c.requires.held in
-    let lattice = h.ready.lattice in
-    let k = h.made in
-    let is = h.ready.is in
-    let tile_solids = subst (λ j. AreTileSolids w o j c.in_tile-tile_solids.result) (source_is part old lattice w o k c.across-across.result c.loop-i.i c.loop-i.at.tile c.loop-i.there is c.across-across.ensures.across c.loop-i.invariant.tile c.loop-i.invariant.there) c.in_tile-tile_solids.ensures in
-    let took = subst (λ j. IsUnspoilt part old j k → here ≡ counted_of c.args.counted (taken_in (pos 1) lattice w o (tile_rectangle lattice (tile_in part (lattice.width / 64) j)))) c.loop-i.invariant.tile (c.turn_odd_in_part-here.ensures.took part w o old lattice c.loop-i.at.tile k c.rows_at-rows.ensures.column is tile_solids) in
+    let own = c.counted_tiles-own in
     let inside = c.has.ensures.own c.if-has.true in
-    let own = c.counted_tiles-own.result in
+    let after = (goal.at.plus-took-requires c).After-turn_odd_in_part-here in
     let few = few_tiles c.args.out.now (tile_count c.args.out.now) c.size.ensures.lattice (omega arith) in
     let all = tiles_are c.args.out.now c.size.result c.tiles-i-end.result c.size.ensures.extent c.tiles-i-end.ensures.tiles in
-    let e = own_takes 1 part old lattice w o c.args.counted c.loop-i.i k own.first own.end here c.across-across.ensures.lattice.sized is h.ready.few c.counted_tiles-own.ensures.first c.counted_tiles-own.ensures.count inside.0 inside.1 took in
-    let so_far = c.loop-i.invariant.took lattice k is h.ready.few ∙ ap (λ q. counted_of q (tiles_take 1 lattice w o (part.first * (lattice.width / 64)) (c.loop-i.i - own.first - (c.loop-i.i - own.end)))) c.counted_tiles-own.ensures.counted in
-    let fits = own_fits 1 lattice w o c.args.counted (part.first * (lattice.width / 64)) (c.loop-i.i - own.first - (c.loop-i.i - own.end)) (part.first * (lattice.width / 64) + (c.loop-i.i - own.first)) c.loop-i.took here (omega (arith, few, all)) so_far e in
+    let fits = own_adds 1 c.args.part c.args.old.now h.ready.lattice s.walls s.obstacles c.args.counted c.loop-i.i h.made own.result.first own.result.end c.loop-i.took c.turn_odd_in_part-here.result c.across-across.ensures.lattice.sized h.ready.is h.ready.few
+    own.ensures.first own.ensures.count (c.loop-i.invariant.took h.ready.lattice h.made h.ready.is h.ready.few) (takes after h.ready.lattice h.made h.ready.is) inside.0 inside.1 (omega (arith, few, all)) in
     record { walls = fits.0; obstacles = fits.1 }
 
 pub rows_round-rows-requires : goal.rows_round-rows-requires
@@ -61,7 +67,7 @@ loop-i-init c =
       there = c.tile_there-there.ensures;
       sides = c.requires.out;
       cells = λ lattice k is. record { tile = λ j below within x y h q low top. absurd (omega arith) };
-      took = λ lattice k is few. let e : 0 ≡ 0 - own.first - (0 - own.end) = omega arith in counted_none own.counted ∙ ap (λ n. counted_of own.counted (tiles_take 1 lattice s.walls s.obstacles (c.args.part.first * (lattice.width / 64)) n)) e;
+      took = λ lattice k is few. let e : 0 ≡ 0 - own.first - (0 - own.end) = omega arith in counted_none c.args.counted ∙ ap (λ n. counted_of c.args.counted (tiles_take 1 lattice s.walls s.obstacles (c.args.part.first * (lattice.width / 64)) n)) e;
       tile = c.position-at.ensures.tile;
       at = c.position-at.ensures.position;
       rows = subst (λ row. AreRowsRound c.rows_round-rows.result c.args.old.now row) (sym (zero-div (c.args.old.now.width / 64))) c.rows_round-rows.ensures.rows;
@@ -99,27 +105,24 @@ loop-i-preserved c =
     let old = c.args.old.now in
     let w = c.args.ground.solids.now.walls in
     let o = c.args.ground.solids.now.obstacles in
-    let here = c.turn_odd_in_part-here.result in
-    let own = c.counted_tiles-own.result in
-    let tile_solids : (lattice : Cells) (k : ℕ) → IsPartOf part w o old lattice k → AreTileSolids w o (tile_in part (lattice.width / 64) c.loop-i.at.tile) c.in_tile-tile_solids.result = λ lattice k is.
-    subst (λ j. AreTileSolids w o j c.in_tile-tile_solids.result) (source_is part old lattice w o k c.across-across.result c.loop-i.i c.loop-i.at.tile c.loop-i.there is c.across-across.ensures.across c.loop-i.invariant.tile c.loop-i.invariant.there) c.in_tile-tile_solids.ensures in
+    let own = c.counted_tiles-own in
     let h = c.requires.held.ready in
+    let after = (goal.at.loop-i-preserved c).After-turn_odd_in_part-here in
     record {
       there = next_is part old h.lattice w o c.requires.held.made c.across-across.result c.loop-i.i c.loop-i.there c.next_there-there.result h.is c.across-across.ensures.across c.loop-i.invariant.there c.next_there-there.ensures;
       sides = record { wide = c.loop-i.invariant.sides.wide; high = c.loop-i.invariant.sides.high };
       cells = λ lattice k is.
           turned_next part 1 old lattice w o c.loop-i.out c.loop-i.i (k + 1) c.turn_odd_in_part-here.new.out c.across-across.ensures.lattice.sized c.loop-i.invariant.sides (c.loop-i.invariant.cells lattice k is)
-          (subst (λ j. IsTileOf part 1 old lattice w o (k + 1) j c.turn_odd_in_part-here.new.out) c.loop-i.invariant.tile (c.turn_odd_in_part-here.ensures.cells part w o old lattice c.loop-i.at.tile k c.rows_at-rows.ensures.column is (tile_solids lattice k is)));
+          (subst (λ j. IsTileOf part 1 old lattice w o (k + 1) j c.turn_odd_in_part-here.new.out) c.loop-i.invariant.tile (c.turn_odd_in_part-here.ensures.cells part w o old lattice c.loop-i.at.tile k c.rows_at-rows.ensures.column is (solids_there after lattice k is)));
       took = λ lattice k is few.
-          let took = subst (λ j. IsUnspoilt part old j k → here ≡ counted_of c.args.counted (taken_in (pos 1) lattice w o (tile_rectangle lattice (tile_in part (lattice.width / 64) j)))) c.loop-i.invariant.tile (c.turn_odd_in_part-here.ensures.took part w o old lattice c.loop-i.at.tile k c.rows_at-rows.ensures.column is (tile_solids lattice k is)) in
           let so_far = c.loop-i.invariant.took lattice k is few in
           elim c.if-has.branch [
             | then-has v ↦
                 let inside = c.has.ensures.own v.if-has.true in
-                let e = own_takes 1 part old lattice w o c.args.counted c.loop-i.i k own.first own.end here c.across-across.ensures.lattice.sized is few c.counted_tiles-own.ensures.first c.counted_tiles-own.ensures.count inside.0 inside.1 took in
-                v.took-is ∙ (v.plus-took.ensures ∙ own_more_there 1 lattice w o own.counted (part.first * (lattice.width / 64)) own.first own.end c.loop-i.i c.loop-i.took here inside.0 inside.1 so_far
-                (e ∙ ap (λ q. counted_of q (taken_in (pos 1) lattice w o (tile_rectangle lattice (part.first * (lattice.width / 64) + (c.loop-i.i - own.first))))) (sym c.counted_tiles-own.ensures.counted)))
-            | else-has v ↦ v.took-is ∙ (so_far ∙ ap (λ n. counted_of own.counted (tiles_take 1 lattice w o (part.first * (lattice.width / 64)) n)) (sym (own_other own.first own.end c.loop-i.i c.counted_tiles-own.ensures.order.0 (c.has.ensures.other v.if-has.false))))
+                v.took-is
+                ∙ (v.plus-took.ensures
+                ∙ own_more 1 part old lattice w o c.args.counted c.loop-i.i k own.result.first own.result.end c.loop-i.took c.turn_odd_in_part-here.result c.across-across.ensures.lattice.sized is few own.ensures.first own.ensures.count so_far (takes after lattice k is) inside.0 inside.1)
+            | else-has v ↦ v.took-is ∙ (so_far ∙ ap (λ n. counted_of c.args.counted (tiles_take 1 lattice w o (part.first * (lattice.width / 64)) n)) (sym (own_other own.result.first own.result.end c.loop-i.i own.ensures.order.0 (c.has.ensures.other v.if-has.false))))
           ];
       tile = c.next-at.ensures.tile ∙ ap (λ i. i + 1) c.loop-i.invariant.tile;
       at = subst (λ n. IsPosition n c.next-at.result) c.across-across.ensures.across c.next-at.ensures.position;
@@ -141,4 +144,4 @@ returns-clause-took c = λ lattice k is few.
     let same = tiles_as c.args.out.now c.args.old.now c.requires.out in
     let n : c.loop-i.i - own.result.first - (c.loop-i.i - own.result.end) ≡ own.result.end - own.result.first = omega (arith, all, same, c.loop-i-test.false, own.ensures.order.0, own.ensures.order.1) in
     c.loop-i.invariant.took lattice k is few
-    ∙ ap₂ (λ q n. counted_of q (tiles_take 1 lattice s.walls s.obstacles (c.args.part.first * (lattice.width / 64)) n)) own.ensures.counted (n ∙ (own.ensures.count ∙ ap (λ w. own_rows c.args.part c.args.old.now * (w / 64)) is.placed.wide))
+    ∙ ap (λ n. counted_of c.args.counted (tiles_take 1 lattice s.walls s.obstacles (c.args.part.first * (lattice.width / 64)) n)) (n ∙ (own.ensures.count ∙ ap (λ w. own_rows c.args.part c.args.old.now * (w / 64)) is.placed.wide))

@@ -15,7 +15,7 @@ invariant-loop-i l =
       there : l.there ≡ tile_in l.fn.part l.across l.i;
       sides : HasSidesOf l.out l.old;
       cells : (lattice : Cells) (k : ℕ) → IsPartOf l.fn.part w o l.old lattice k → AreTurnedUpTo l.i l.fn.part 1 l.old lattice w o l.out (k + 1);
-      took : (lattice : Cells) (k : ℕ) → IsPartOf l.fn.part w o l.old lattice k → l.fn.part.margin * k ≤ 64 → l.took ≡ counted_of l.own.counted (tiles_take 1 lattice w o (l.fn.part.first * (lattice.width / 64)) (l.i - l.own.first - (l.i - l.own.end)));
+      took : (lattice : Cells) (k : ℕ) → IsPartOf l.fn.part w o l.old lattice k → l.fn.part.margin * k ≤ 64 → l.took ≡ counted_of l.fn.counted (tiles_take 1 lattice w o (l.fn.part.first * (lattice.width / 64)) (l.i - l.own.first - (l.i - l.own.end)));
       tile : l.at.tile ≡ l.i;
       at : IsPosition (l.old.width / 64) l.at;
       rows : AreRowsRound l.rows l.old ((l.i - 1) / (l.old.width / 64));
