@@ -86,9 +86,11 @@ pub struct OfBoth<'a> {
 }
 
 impl<'a> Walled for OfBoth<'a> {
-    ghost begins = { λ b k. bit_or (slice_index b.walls.now.begin k) (slice_index b.obstacles.now.begin k) };
+    ghost begins = { λ b k.
+        bit_or (slice_index b.walls.now.begin k) (slice_index b.obstacles.now.begin k) };
 
-    ghost ends = { λ b k. bit_or (slice_index b.walls.now.end k) (slice_index b.obstacles.now.end k) };
+    ghost ends = { λ b k.
+        bit_or (slice_index b.walls.now.end k) (slice_index b.obstacles.now.end k) };
 
     #[inline]
     fn begin(self, k: usize) -> u32 {
@@ -146,7 +148,8 @@ fn collided_eight<W: Walled>(
 ) -> EightRows
     requires { from + 8 < 32 }
     ensures { (window : ℕ → ℕ → Bool) → ShowsInnerRows window tile.now left.now right.now →
-        (k : ℕ) → k < 8 → IsCollidedOdd (W.begins walled (from + k + 1)) (W.ends walled (from + k + 1))
+        (k : ℕ) → k < 8 →
+        IsCollidedOdd (W.begins walled (from + k + 1)) (W.ends walled (from + k + 1))
         window (2 * (from + k) + 2) (eight_row result k) }
 {
     let mut rows = EightRows {
@@ -172,8 +175,10 @@ fn collided_eight<W: Walled>(
 fn collide_eight<W: Walled>(walled: W, tile: &Tile, near: &Round, from: usize, out: &mut Tile)
     requires { from < 24 }
     ensures made { (n to : ℕ) → from ≤ n → to ≤ 32 → (to ≡ from + 8) ⊎ (from ≡ 23) →
-        AreMadeUpTo n (W.begins walled) (W.ends walled) tile.now near.now.left.now near.now.right.now out.old →
-        AreMadeUpTo to (W.begins walled) (W.ends walled) tile.now near.now.left.now near.now.right.now out.new }
+        AreMadeUpTo n (W.begins walled) (W.ends walled) tile.now
+        near.now.left.now near.now.right.now out.old →
+        AreMadeUpTo to (W.begins walled) (W.ends walled) tile.now
+        near.now.left.now near.now.right.now out.new }
     ensures top { (slice_index out.new.odd_even 0 ≡ slice_index out.old.odd_even 0) ×
         (slice_index out.new.even_even 0 ≡ slice_index out.old.even_even 0) }
 {

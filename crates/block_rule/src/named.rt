@@ -70,7 +70,8 @@ pub fn odd_cells(words: &OddBlocks) -> Tile
 // the tile's cells in blocks of this parity
 fn cells_in(set: SetBlocks<'_>, parity: u8) -> Tile
     requires { parity < 2 }
-    ensures { (window : ℕ → ℕ → Bool) → NamesBlocks set.entry.rows set.entry.blocks.now (walled_by window) →
+    ensures { (window : ℕ → ℕ → Bool) →
+        NamesBlocks set.entry.rows set.entry.blocks.now (walled_by window) →
         HasCells result (is_walled_at parity window) }
 {
     if parity == 0 {
@@ -116,7 +117,8 @@ fn momentum_by_obstacles(tile: &Tile, obstacles: SetBlocks<'_>, parity: u8) -> P
     requires { parity < 2 }
     ensures { (obstructed : ℕ → ℕ → Bool) →
         NamesBlocks obstacles.entry.rows obstacles.entry.blocks.now (walled_by obstructed) →
-        result ≡ twice_momentum parity (λ x y. has tile.now x y && is_walled_at parity obstructed x y) }
+        result ≡ twice_momentum parity
+        (λ x y. has tile.now x y && is_walled_at parity obstructed x y) }
 {
     if parity == 0 {
         momentum_even(tile, obstacles.rows, &obstacles.blocks.even)
@@ -137,7 +139,8 @@ fn momentum_by_walls(
     ensures { (walled obstructed : ℕ → ℕ → Bool) →
         NamesBlocks walls.entry.rows walls.entry.blocks.now (walled_by walled) →
         AreGivenBlocks obstacles.entry (walled_by obstructed) →
-        result ≡ twice_momentum parity (λ x y. has tile.now x y && is_for_walls parity walled obstructed x y) }
+        result ≡ twice_momentum parity
+        (λ x y. has tile.now x y && is_for_walls parity walled obstructed x y) }
 {
     let cells = without(cells_in(walls, parity), obstacles, parity);
     let rows = walls.rows;
@@ -179,7 +182,8 @@ fn taken_by_walls(
     ensures { (walled obstructed : ℕ → ℕ → Bool) → AreGivenBlocks walls.entry (walled_by walled) →
         AreGivenBlocks obstacles.entry (walled_by obstructed) →
         result ≡ if_counted counted
-        (twice_momentum parity (λ x y. has tile.now x y && is_for_walls parity walled obstructed x y)) }
+        (twice_momentum parity
+        (λ x y. has tile.now x y && is_for_walls parity walled obstructed x y)) }
 {
     if !counted {
         return Pair::ZERO;
@@ -231,7 +235,8 @@ fn taken_among(
 #[inline(never)]
 fn collide_even_among(words: &[u32; 32], tile: &mut Tile)
     ensures { (window solid : ℕ → ℕ → Bool) → ShowsTile window tile.old →
-        AreEvenBlocksOf words.now (is_walled_at 0 solid) → HasCells tile.new (turned 0 window solid) }
+        AreEvenBlocksOf words.now (is_walled_at 0 solid) →
+        HasCells tile.new (turned 0 window solid) }
 {
     collide_even(words, tile);
 }
@@ -265,7 +270,8 @@ pub fn turn_tile_even(
         AreGivenBlocks walls.entry (walled_by walled) →
         AreGivenBlocks obstacles.entry (walled_by obstructed) →
         HasCells tile.new (turned 0 window (either walled obstructed)) }
-    ensures took { (walled obstructed : ℕ → ℕ → Bool) → AreGivenBlocks walls.entry (walled_by walled) →
+    ensures took { (walled obstructed : ℕ → ℕ → Bool) →
+        AreGivenBlocks walls.entry (walled_by walled) →
         AreGivenBlocks obstacles.entry (walled_by obstructed) →
         result ≡ counted_of counted (taken 0 tile.old walled obstructed) }
 {
@@ -294,7 +300,8 @@ pub fn turn_tile_odd(
         AreGivenBlocks walls.entry (walled_by walled) →
         AreGivenBlocks obstacles.entry (walled_by obstructed) →
         HasCells out.new (turned 1 window (either walled obstructed)) }
-    ensures took { (walled obstructed : ℕ → ℕ → Bool) → AreGivenBlocks walls.entry (walled_by walled) →
+    ensures took { (walled obstructed : ℕ → ℕ → Bool) →
+        AreGivenBlocks walls.entry (walled_by walled) →
         AreGivenBlocks obstacles.entry (walled_by obstructed) →
         result ≡ counted_of counted (taken 1 particles.now.tile.now walled obstructed) }
 {

@@ -67,7 +67,8 @@ pub trait Stepper: Drop {
         spare: &mut Plane,
     ) -> Flow
         requires { let r = run in
-            CanRun (dynamics r.parity r.solids.now (A.leaves r.action.now)) particles.old spare.old }
+            CanRun (dynamics r.parity r.solids.now (A.leaves r.action.now))
+            particles.old spare.old }
         ensures { let r = run.entry in
             HasRunWhole every (dynamics r.parity r.solids.now (A.leaves r.action.now)) r.n
             particles.old particles.new spare.new result };

@@ -65,7 +65,8 @@ pub fn turn_even_in_part(tile_solids: TileSolids<'_>, counted: Counted, tile: &m
         IsLattice cells → i < tile_count cells → IsPartOf part walls obstacles cells lattice k →
         AreTileSolids walls obstacles (tile_in part (lattice.width / 64) i) tile_solids.entry →
         IsTileFrom tile.old cells (tile_rectangle cells i).x (tile_rectangle cells i).y →
-        IsUnspoilt part cells i k → result ≡ counted_of counted (taken_in (pos 0) lattice walls obstacles
+        IsUnspoilt part cells i k →
+        result ≡ counted_of counted (taken_in (pos 0) lattice walls obstacles
         (tile_rectangle lattice (tile_in part (lattice.width / 64) i))) }
 {
     turn_tile_even(tile, tile_solids.walls, tile_solids.obstacles, counted)
@@ -89,7 +90,8 @@ pub fn turn_odd_in_part(
     ensures took { (part : Part) (walls obstacles cells lattice : Cells) (i k : ℕ) →
         IsColumnOf rows.entry column cells i → IsPartOf part walls obstacles cells lattice k →
         AreTileSolids walls obstacles (tile_in part (lattice.width / 64) i) tile_solids.entry →
-        IsUnspoilt part cells i k → result ≡ counted_of counted (taken_in (pos 1) lattice walls obstacles
+        IsUnspoilt part cells i k →
+        result ≡ counted_of counted (taken_in (pos 1) lattice walls obstacles
         (tile_rectangle lattice (tile_in part (lattice.width / 64) i))) }
 {
     let particles = Window {
@@ -245,7 +247,8 @@ fn turn_part(
         (streamed parity lattice (joined s.walls s.obstacles)) (k + 1) }
     ensures took { (lattice : Cells) (k : ℕ) → let s = ground.entry.solids.now in
         IsPartOf part s.walls s.obstacles particles.old lattice k → part.margin * k ≤ 64 →
-        result ≡ counted_of counted (own_take part parity particles.old lattice s.walls s.obstacles) }
+        result ≡ counted_of counted
+        (own_take part parity particles.old lattice s.walls s.obstacles) }
 {
     if parity == 0 {
         turn_even_part(particles, ground, part, counted)
@@ -266,7 +269,8 @@ fn act_on_part(particles: &mut Plane, exchange: &Exchange, part: Part, parity: u
         IsPartOf part walls obstacles particles.new (acted (leaves_of exchange.now) lattice) k }
     ensures moved { (walls obstacles lattice : Cells) (k : ℕ) →
         IsPartOf part walls obstacles particles.old lattice k → part.margin * k ≤ 64 →
-        result ≡ own_moves part parity particles.old lattice (acted (leaves_of exchange.now) lattice) }
+        result ≡ own_moves part parity particles.old lattice
+        (acted (leaves_of exchange.now) lattice) }
 {
     let across = particles.across();
     let own = counted_tiles(part, particles);
@@ -304,7 +308,8 @@ fn act_after<A: Action>(particles: &mut Plane, action: &A, k: u16, part: Part, p
         IsPartOf part walls obstacles particles.new (acted (A.leaves action.now k) lattice) m }
     ensures moved { (walls obstacles lattice : Cells) (m : ℕ) →
         IsPartOf part walls obstacles particles.old lattice m → part.margin * m ≤ 64 →
-        result ≡ own_moves part parity particles.old lattice (acted (A.leaves action.now k) lattice) }
+        result ≡ own_moves part parity particles.old lattice
+        (acted (A.leaves action.now k) lattice) }
 {
     // an exchange made for nothing would cost as much as a step of some tiles
     if !action.acts() {

@@ -53,7 +53,8 @@ fn places_of(start: u16, len: u16, from: u32) -> Places
 #[inline(always)]
 fn cells_in_row(columns: u32, rows: u32, j: usize, kept: u32) -> u32
     requires { j < 32 }
-    ensures { (i : ℕ) → i < 32 → bit result i ≡ ((bit columns i && bit rows j) && not (bit kept i)) }
+    ensures { (i : ℕ) → i < 32 →
+        bit result i ≡ ((bit columns i && bit rows j) && not (bit kept i)) }
 {
     if (rows >> j) & 1 == 1 {
         columns & !kept

@@ -138,8 +138,8 @@ fn is_near(start: u32, len: u32, from: u32, size: u32) -> bool
     requires from { from + 64 ≤ size }
     requires size { size < 2 ^ 31 }
     ensures { result ≡ false → (u : ℕ) → u ≤ 65 →
-        (nat_le start ((from + u + size - 1) % size) && nat_lt ((from + u + size - 1) % size) (start + len))
-        ≡ false }
+        (nat_le start ((from + u + size - 1) % size)
+        && nat_lt ((from + u + size - 1) % size) (start + len)) ≡ false }
 {
     let end = start + len;
     let here = ranges_overlap(start, end, from, from + 64);
@@ -170,7 +170,8 @@ fn renew_tile(set: &Plane, i: u32, rows: &mut Vec<u32>, blocks: &mut Vec<TileBlo
     requires tile { i < tile_count set.now }
     requires all { HaveAllTiles set.now rows.old.items blocks.old.items }
     ensures all { HaveAllTiles set.now rows.new.items blocks.new.items }
-    ensures words { (before : Cells) → AreRenewedUpTo i before set.now rows.old.items blocks.old.items →
+    ensures words { (before : Cells) →
+        AreRenewedUpTo i before set.now rows.old.items blocks.old.items →
         AreRenewedUpTo (i + 1) before set.now rows.new.items blocks.new.items }
 {
     let window = window_in(set, i);
@@ -185,8 +186,10 @@ fn renew_row(set: &Plane, area: Rect, row: u32, rows: &mut Vec<u32>, blocks: &mu
     requires all { HaveAllTiles set.now rows.old.items blocks.old.items }
     ensures all { HaveAllTiles set.now rows.new.items blocks.new.items }
     ensures words { (before : Cells) → DifferIn area before set.now →
-        AreRenewedUpTo (row * (set.now.width / 64)) before set.now rows.old.items blocks.old.items →
-        AreRenewedUpTo ((row + 1) * (set.now.width / 64)) before set.now rows.new.items blocks.new.items }
+        AreRenewedUpTo (row * (set.now.width / 64)) before set.now
+        rows.old.items blocks.old.items →
+        AreRenewedUpTo ((row + 1) * (set.now.width / 64)) before set.now
+        rows.new.items blocks.new.items }
 {
     let across = set.across();
     let width = set.size().width() as u32;
@@ -203,7 +206,8 @@ fn renew_row(set: &Plane, area: Rect, row: u32, rows: &mut Vec<u32>, blocks: &mu
 fn renew(set: &Plane, area: Rect, rows: &mut Vec<u32>, blocks: &mut Vec<TileBlocks>)
     requires { HaveAllTiles set.now rows.old.items blocks.old.items }
     ensures { (before : Cells) → DifferIn area before set.now →
-        AreBlocksOf before rows.old.items blocks.old.items → AreBlocksOf set.now rows.new.items blocks.new.items }
+        AreBlocksOf before rows.old.items blocks.old.items →
+        AreBlocksOf set.now rows.new.items blocks.new.items }
 {
     let height = set.size().height() as u32;
     for row in 0..height / 64 {
