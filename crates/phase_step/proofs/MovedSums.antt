@@ -15,7 +15,7 @@ plus_crossed a b c d = same_sums _ _ (ints_crossed a.count b.count c.count d.cou
 pub plus_regrouped : (a b c : Sums) → plus (plus a b) c ≡ plus a (plus b c)
 plus_regrouped a b c = same_sums _ _ (ints_regrouped a.count b.count c.count) (ints_regrouped a.px b.px c.px) (ints_regrouped a.py b.py c.py)
 
-plus_none : (a : Sums) → a ≡ plus a accounts.nothing
+pub plus_none : (a : Sums) → a ≡ plus a accounts.nothing
 plus_none a = same_sums _ _ (int_plus_zero a.count) (int_plus_zero a.px) (int_plus_zero a.py)
 
 pub moved_crossed : (a b c d : Moved) → moved_plus (moved_plus a b) (moved_plus c d) ≡ moved_plus (moved_plus a c) (moved_plus b d)

@@ -11,21 +11,17 @@ use Rattle.gas_terms.specs.declared.accounts.Ledger.{Ledger}
 use Rattle.gas_terms.specs.declared.accounts.Sums.{Sums}
 use Rattle.gas_terms.specs.declared.accounts.Took.{Took}
 use Rattle.gas_terms.proofs.Iterate.{iterate_last}
-use Rattle.gas_terms.proofs.Totals.{same_sums}
 use Rattle.phase_step.specs.Runs.{parity_at}
 use Rattle.phase_step.specs.Runs as runs
 use Rattle.gas_terms.specs.declared.accounts.Moved.{Moved}
 use Rattle.phase_step.specs.Actions.{acted, after_with, unmoved}
 use Rattle.phase_step.specs.PortedRuns.{left_by_ports, steps_take, steps_move, stepped_on}
 use Rattle.phase_step.proofs.RunSteps.{later, taken_twice, taken_none, at_same}
-use Rattle.phase_step.proofs.MovedSums.{plus_regrouped}
+use Rattle.phase_step.proofs.MovedSums.{plus_regrouped, plus_none}
 
 -- ledgers, by their accounts of what came and went
 booked : (l : Ledger) (a b c d : Sums) → a ≡ c → b ≡ d → record l { injected = a; drained = b } ≡ record l { injected = c; drained = d }
 booked l a b c d e f = ap₂ (λ i d. record l { injected = i; drained = d }) e f
-
-plus_none : (a : Sums) → a ≡ plus a nothing
-plus_none a = same_sums _ _ (omega (arith, ints)) (omega (arith, ints)) (omega (arith, ints))
 
 -- two parts of a run, in the ledger
 flows_twice : (l : Ledger) (t u : Took) (m n : Moved) → with_moved (with_taken (with_moved (with_taken l t) m) u) n ≡ with_moved (with_taken l (took_plus t u)) (moved_plus m n)

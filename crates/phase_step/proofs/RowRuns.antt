@@ -145,6 +145,10 @@ whole_is down walls obstacles cells sized full of_walls of_obstacles e =
       rows = record { row = λ x y l _ h. let less : y < cells.height = omega (arith, h) in ap (has cells x) (sym (whole_row down cells.height y f less)) };
     }
 
+pub whole_held : (part : Part) (walls obstacles cells : Cells) → IsLattice cells → part ≡ whole_part cells → HasSidesOf walls cells → HasSidesOf obstacles cells → IsPartOf part walls obstacles cells cells 0
+whole_held part walls obstacles cells is e of_walls of_obstacles =
+    subst (λ (part : Part). IsPartOf part walls obstacles cells cells 0) (sym e) (whole_is (cells.height / 64) walls obstacles cells is.sized is.full of_walls of_obstacles refl)
+
 -- the torus is closed: the whole lattice has all rows
 pub whole_same : (down k : ℕ) (walls obstacles new lattice : Cells) → IsFull new → IsPartOf (record { first = 0; down = down; margin = 0 }) walls obstacles new lattice k → new ≡ lattice
 whole_same down k walls obstacles new lattice full is =

@@ -1,17 +1,15 @@
 use Rattle.std.proofs.Common.{◌*◌, ◌/◌, ◌≤◌, sym, subst, refl, arith}
-use Rattle.phase_step.specs.Parts.{IsPartOf, IsReady, HasRun}
+use Rattle.phase_step.specs.Parts.{HasRun}
 use Rattle.phase_step.specs.WholeRuns.{dynamics}
 use Rattle.phase_step.specs.declared.parts.Part.{Part}
-use Rattle.phase_step.proofs.RowRuns.{whole_is, whole_same, whole_flow}
+use Rattle.phase_step.proofs.RowRuns.{whole_held, whole_same, whole_flow}
 use Rattle.phase_step.proofs.parts.run_whole.Goals as goal
 
 pub run_part-flow-requires-clause-part : goal.run_part-flow-requires-clause-part
 run_part-flow-requires-clause-part g c =
     let s = c.args.run.solids.now in
-    let cells = c.args.particles.now in
-    let lattice = c.whole-part.ensures.lattice in
-    subst (λ (part : Part). IsReady part s.walls s.obstacles cells 0) (sym c.whole-part.ensures.part)
-    (record { lattice = cells; is = whole_is (cells.height / 64) s.walls s.obstacles cells lattice.sized lattice.full c.requires.walls c.requires.obstacles refl; few = omega arith })
+    let none : c.whole-part.result.margin * 0 ≤ 64 = omega arith in
+    record { lattice = c.args.particles.now; is = whole_held c.whole-part.result s.walls s.obstacles c.args.particles.now c.whole-part.ensures.lattice c.whole-part.ensures.part c.requires.walls c.requires.obstacles; few = none }
 
 pub run_part-flow-requires-clause-few : goal.run_part-flow-requires-clause-few
 run_part-flow-requires-clause-few g c = subst (λ (part : Part). part.margin * c.args.run.n ≤ 64) (sym c.whole-part.ensures.part) (omega arith)
@@ -25,9 +23,9 @@ returns g c =
     let down = cells.height / 64 in
     let lattice = c.whole-part.ensures.lattice in
     let new = c.run_part-flow.new.particles in
-    let whole = whole_is down s.walls s.obstacles cells lattice.sized lattice.full c.requires.walls c.requires.obstacles refl in
+    let whole = whole_held c.whole-part.result s.walls s.obstacles cells lattice c.whole-part.ensures.part c.requires.walls c.requires.obstacles in
     let made : HasRun (record { first = 0; down = down; margin = 0 }) c.args.counted d run.n cells cells new c.run_part-flow.result =
-    subst (λ (part : Part). IsPartOf part s.walls s.obstacles cells cells 0 → HasRun part c.args.counted d run.n cells cells new c.run_part-flow.result) c.whole-part.ensures.part (c.run_part-flow.ensures.run cells) whole in
+    subst (λ (part : Part). HasRun part c.args.counted d run.n cells cells new c.run_part-flow.result) c.whole-part.ensures.part (c.run_part-flow.ensures.run cells whole) in
     record {
       particles = whole_same down run.n s.walls s.obstacles new _ c.size.ensures.lattice.full made.is;
       spare = c.run_part-flow.ensures.sides.1;
