@@ -6,6 +6,7 @@ use Rattle.gas_terms.specs.Cells.{Cells, HasSidesOf, has, joined, extent, is_siz
 use Rattle.gas_terms.specs.Gas.{streamed}
 use Rattle.gas_terms.specs.declared.accounts.Took.{Took}
 use Rattle.gas_terms.specs.declared.accounts.Moved.{Moved}
+use Rattle.block_rule.specs.Accounts.{counted_of}
 use Rattle.block_rule.specs.declared.walled.Counted.{Counted}
 use Rattle.phase_step.specs.Runs.{tiles_take}
 use Rattle.phase_step.specs.Balance.{flow_counted}
@@ -76,6 +77,11 @@ pub record IsPartOf (part : Part) (walls obstacles cells lattice : Cells) (k : �
   pub of_obstacles : HasSidesOf obstacles lattice
   pub placed : IsPlaced part cells lattice
   pub rows : HasRows part cells lattice k
+
+-- A phase of parity p turned a part of each lattice that it is a part of, and took this in its own tiles.
+pub record IsTurned (part : Part) (p : ℕ) (counted : Counted) (walls obstacles old new : Cells) (answer : Took) : Type 0 where
+  pub rows : (lattice : Cells) (k : ℕ) → IsPartOf part walls obstacles old lattice k → IsPartOf part walls obstacles new (streamed p lattice (joined walls obstacles)) (k + 1)
+  pub took : (lattice : Cells) (k : ℕ) → IsPartOf part walls obstacles old lattice k → part.margin * k ≤ 64 → answer ≡ counted_of counted (own_take part p old lattice walls obstacles)
 
 -- and of some lattice, so that the part's own rows are not spoilt
 pub record IsReady (part : Part) (walls obstacles cells : Cells) (k : ℕ) : Type 0 where

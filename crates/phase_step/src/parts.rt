@@ -2,18 +2,17 @@
 //! has of the lattice: a strip's run and that of the whole lattice are one.
 
 ghost use Rattle.std.specs.Prelude.{◌≡◌, ℕ, ℤ, ◌+◌, ◌-◌, ◌*◌, ◌/◌, ◌%◌, ◌<◌, ◌≤◌, ◌⊎◌, IsTrue, false, pos};
-ghost use Rattle.gas_terms.specs.Cells.{Cells, joined, tile_count, tile_rectangle, HasSidesOf};
+ghost use Rattle.gas_terms.specs.Cells.{Cells, tile_count, tile_rectangle, HasSidesOf};
 ghost use Rattle.gas_plane.specs.Planes.{IsLattice, IsTileFrom, IsPosition};
 ghost use Rattle.gas_plane.specs.Tiles.{AreRowsRound, AreFullRows, IsColumnOf};
 ghost use Rattle.block_rule.specs.Windows.{taken_in};
 ghost use Rattle.phase_step.specs.SolidBlocks.{AreTileSolids, HasNoBlocks};
-ghost use Rattle.gas_terms.specs.Gas.{streamed};
 ghost use Rattle.gas_terms.specs.Velocity.{parity as of_tick};
 ghost use Rattle.gas_terms.specs.Accounts.{moved_by};
 ghost use Rattle.block_rule.specs.Accounts.{counted_of};
 ghost use Rattle.phase_step.specs.Actions.{acted};
 ghost use Rattle.phase_step.specs.Exchanges.{leaves_of};
-ghost use Rattle.phase_step.specs.Parts.{own_take, own_moves, own_rows, tile_in, IsTileOf, IsUnspoilt, IsPartOf, IsReady, IsHeld, IsOfSome, HasRun, whole_part};
+ghost use Rattle.phase_step.specs.Parts.{own_moves, own_rows, tile_in, IsTileOf, IsUnspoilt, IsPartOf, IsTurned, IsReady, IsHeld, IsOfSome, HasRun, whole_part};
 ghost use Rattle.phase_step.specs.WholeRuns.{dynamics, CanRun, HasRunWhole};
 
 use crate::exchanges::{Action, Exchange};
@@ -170,13 +169,8 @@ fn turn_odd_part(
     requires held { IsHeld part ground.solids.now.walls ground.solids.now.obstacles old.now }
     requires out { HasSidesOf out.old old.now }
     ensures sides { HasSidesOf out.new old.now }
-    ensures rows { (lattice : Cells) (k : ℕ) → let s = ground.entry.solids.now in
-        IsPartOf part s.walls s.obstacles old.now lattice k →
-        IsPartOf part s.walls s.obstacles out.new
-        (streamed 1 lattice (joined s.walls s.obstacles)) (k + 1) }
-    ensures took { (lattice : Cells) (k : ℕ) → let s = ground.entry.solids.now in
-        IsPartOf part s.walls s.obstacles old.now lattice k → part.margin * k ≤ 64 →
-        result ≡ counted_of counted (own_take part 1 old.now lattice s.walls s.obstacles) }
+    ensures phase { let s = ground.entry.solids.now in
+        IsTurned part 1 counted s.walls s.obstacles old.now out.new result }
 {
     let across = old.across();
     let own = counted_tiles(part, old);
@@ -203,13 +197,8 @@ fn turn_odd_part(
 fn turn_even_part(particles: &mut Plane, ground: Ground<'_>, part: Part, counted: Counted) -> Took
     requires held { IsHeld part ground.solids.now.walls ground.solids.now.obstacles particles.old }
     ensures sides { HasSidesOf particles.new particles.old }
-    ensures rows { (lattice : Cells) (k : ℕ) → let s = ground.entry.solids.now in
-        IsPartOf part s.walls s.obstacles particles.old lattice k →
-        IsPartOf part s.walls s.obstacles particles.new
-        (streamed 0 lattice (joined s.walls s.obstacles)) (k + 1) }
-    ensures took { (lattice : Cells) (k : ℕ) → let s = ground.entry.solids.now in
-        IsPartOf part s.walls s.obstacles particles.old lattice k → part.margin * k ≤ 64 →
-        result ≡ counted_of counted (own_take part 0 particles.old lattice s.walls s.obstacles) }
+    ensures phase { let s = ground.entry.solids.now in
+        IsTurned part 0 counted s.walls s.obstacles particles.old particles.new result }
 {
     let across = particles.across();
     let own = counted_tiles(part, particles);
@@ -241,14 +230,8 @@ fn turn_part(
     requires held { IsHeld part ground.solids.now.walls ground.solids.now.obstacles particles.old }
     requires spare { HasSidesOf spare.old particles.old }
     ensures sides { HasSidesOf particles.new particles.old × HasSidesOf spare.new particles.old }
-    ensures rows { (lattice : Cells) (k : ℕ) → let s = ground.entry.solids.now in
-        IsPartOf part s.walls s.obstacles particles.old lattice k →
-        IsPartOf part s.walls s.obstacles particles.new
-        (streamed parity lattice (joined s.walls s.obstacles)) (k + 1) }
-    ensures took { (lattice : Cells) (k : ℕ) → let s = ground.entry.solids.now in
-        IsPartOf part s.walls s.obstacles particles.old lattice k → part.margin * k ≤ 64 →
-        result ≡ counted_of counted
-        (own_take part parity particles.old lattice s.walls s.obstacles) }
+    ensures phase { let s = ground.entry.solids.now in
+        IsTurned part parity counted s.walls s.obstacles particles.old particles.new result }
 {
     if parity == 0 {
         turn_even_part(particles, ground, part, counted)

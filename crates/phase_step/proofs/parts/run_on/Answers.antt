@@ -26,7 +26,7 @@ phase_made g c lattice start =
     let s = run.solids.now in
     let so_far = c.loop-k.invariant.run lattice start in
     let there = after_all (dynamics run.parity s (g.A.Action.leaves run.action.now)) lattice c.loop-k.k in
-    let come = c.turn_part-took.ensures.rows there c.loop-k.k so_far.is in
+    let come = c.turn_part-took.ensures.phase.rows there c.loop-k.k so_far.is in
     record {
       small = c.requires.parity;
       parity = c.parity_at-now.ensures.parity;
@@ -34,7 +34,7 @@ phase_made g c lattice start =
       come_sides = sides_on _ _ _ c.turn_part-took.ensures.sides.0 c.loop-k.invariant.sides;
       so_far = so_far;
       action = c.act_after-moved.ensures.rows s.walls s.obstacles _ (c.loop-k.k + 1) come;
-      took = c.turn_part-took.ensures.took there c.loop-k.k so_far.is (still_unspoilt c.args.part.margin c.loop-k.k run.n c.requires.few (omega arith));
+      took = c.turn_part-took.ensures.phase.took there c.loop-k.k so_far.is (still_unspoilt c.args.part.margin c.loop-k.k run.n c.requires.few (omega arith));
       moved = c.act_after-moved.ensures.moved s.walls s.obstacles _ (c.loop-k.k + 1) come (still_unspoilt c.args.part.margin (c.loop-k.k + 1) run.n c.requires.few (omega arith));
     }
 
@@ -95,7 +95,7 @@ act_after-moved-requires-clause-held g c =
         made = c.loop-k.k + 1;
         ready = record {
           lattice = streamed c.parity_at-now.result (after_all d lattice c.loop-k.k) (joined s.walls s.obstacles);
-          is = c.turn_part-took.ensures.rows (after_all d lattice c.loop-k.k) c.loop-k.k (c.loop-k.invariant.run lattice c.requires.part.is).is;
+          is = c.turn_part-took.ensures.phase.rows (after_all d lattice c.loop-k.k) c.loop-k.k (c.loop-k.invariant.run lattice c.requires.part.is).is;
           few = still_unspoilt c.args.part.margin (c.loop-k.k + 1) run.n c.requires.few (omega arith);
         };
       };

@@ -4,7 +4,7 @@ use Rattle.gas_plane.proofs.PlaneCounts.{few_tiles}
 use Rattle.block_rule.specs.Accounts.{counted_of}
 use Rattle.block_rule.specs.Windows.{taken_in}
 use Rattle.gas_plane.specs.Planes.{IsTileFrom}
-use Rattle.phase_step.specs.Parts.{tile_in, IsPartOf, IsUnspoilt}
+use Rattle.phase_step.specs.Parts.{own_rows, tile_in, IsPartOf, IsUnspoilt}
 use Rattle.phase_step.specs.Runs.{tiles_take}
 use Rattle.phase_step.specs.SolidBlocks.{AreTileSolids}
 use Rattle.phase_step.proofs.PhaseSweeps.{tiles_are}
@@ -90,7 +90,16 @@ loop-i-preserved c =
           ];
     }
 
-pub returns-clause-rows : goal.returns-clause-rows
-returns-clause-rows c = λ lattice k is.
+pub returns-clause-phase : goal.returns-clause-phase
+returns-clause-phase c =
+    let s = c.args.ground.solids.now in
+    let own = c.counted_tiles-own in
     let all = tiles_are c.args.particles.now c.size.result c.tiles-i-end.result c.size.ensures.extent c.tiles-i-end.ensures.tiles in
-    all_turned c.args.part 0 c.args.particles.now lattice c.args.ground.solids.now.walls c.args.ground.solids.now.obstacles c.loop-i.particles c.loop-i.i k c.across-across.ensures.lattice.sized c.loop-i.invariant.sides (omega (arith, all, c.loop-i-test.false)) is (c.loop-i.invariant.cells lattice k is)
+    let n : c.loop-i.i - own.result.first - (c.loop-i.i - own.result.end) ≡ own.result.end - own.result.first = omega (arith, all, c.loop-i-test.false, own.ensures.order.0, own.ensures.order.1) in
+    record {
+      rows = λ lattice k is.
+          all_turned c.args.part 0 c.args.particles.now lattice s.walls s.obstacles c.loop-i.particles c.loop-i.i k c.across-across.ensures.lattice.sized c.loop-i.invariant.sides (omega (arith, all, c.loop-i-test.false)) is (c.loop-i.invariant.cells lattice k is);
+      took = λ lattice k is few.
+          c.loop-i.invariant.took lattice k is few
+          ∙ ap (λ n. counted_of c.args.counted (tiles_take 0 lattice s.walls s.obstacles (c.args.part.first * (lattice.width / 64)) n)) (n ∙ (own.ensures.count ∙ ap (λ w. own_rows c.args.part c.args.particles.now * (w / 64)) is.placed.wide));
+    }

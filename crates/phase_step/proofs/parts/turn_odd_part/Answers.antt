@@ -130,18 +130,17 @@ loop-i-preserved c =
       full = c.rows_at-rows.ensures.full;
     }
 
-pub returns-clause-rows : goal.returns-clause-rows
-returns-clause-rows c = λ lattice k is.
-    let all = tiles_are c.args.out.now c.size.result c.tiles-i-end.result c.size.ensures.extent c.tiles-i-end.ensures.tiles in
-    let same = tiles_as c.args.out.now c.args.old.now c.requires.out in
-    all_turned c.args.part 1 c.args.old.now lattice c.args.ground.solids.now.walls c.args.ground.solids.now.obstacles c.loop-i.out c.loop-i.i k c.across-across.ensures.lattice.sized c.loop-i.invariant.sides (omega (arith, all, same, c.loop-i-test.false)) is (c.loop-i.invariant.cells lattice k is)
-
-pub returns-clause-took : goal.returns-clause-took
-returns-clause-took c = λ lattice k is few.
+pub returns-clause-phase : goal.returns-clause-phase
+returns-clause-phase c =
     let s = c.args.ground.solids.now in
     let own = c.counted_tiles-own in
     let all = tiles_are c.args.out.now c.size.result c.tiles-i-end.result c.size.ensures.extent c.tiles-i-end.ensures.tiles in
     let same = tiles_as c.args.out.now c.args.old.now c.requires.out in
     let n : c.loop-i.i - own.result.first - (c.loop-i.i - own.result.end) ≡ own.result.end - own.result.first = omega (arith, all, same, c.loop-i-test.false, own.ensures.order.0, own.ensures.order.1) in
-    c.loop-i.invariant.took lattice k is few
-    ∙ ap (λ n. counted_of c.args.counted (tiles_take 1 lattice s.walls s.obstacles (c.args.part.first * (lattice.width / 64)) n)) (n ∙ (own.ensures.count ∙ ap (λ w. own_rows c.args.part c.args.old.now * (w / 64)) is.placed.wide))
+    record {
+      rows = λ lattice k is.
+          all_turned c.args.part 1 c.args.old.now lattice s.walls s.obstacles c.loop-i.out c.loop-i.i k c.across-across.ensures.lattice.sized c.loop-i.invariant.sides (omega (arith, all, same, c.loop-i-test.false)) is (c.loop-i.invariant.cells lattice k is);
+      took = λ lattice k is few.
+          c.loop-i.invariant.took lattice k is few
+          ∙ ap (λ n. counted_of c.args.counted (tiles_take 1 lattice s.walls s.obstacles (c.args.part.first * (lattice.width / 64)) n)) (n ∙ (own.ensures.count ∙ ap (λ w. own_rows c.args.part c.args.old.now * (w / 64)) is.placed.wide));
+    }
