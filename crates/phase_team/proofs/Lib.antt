@@ -3,8 +3,8 @@ pub mod Takings
 pub mod Places
 pub mod DrawnNumbers
 pub mod Closing
-pub mod Windows
-pub mod EachOnce
-pub mod Gathered
-pub mod Parting
-pub mod StripRuns
+pub mod Copies
+pub mod LaidStrips
+pub mod Loads
+pub mod Batches
+pub mod Flows

@@ -1,16 +1,11 @@
 -- Which runs are made by strips.
-use Rattle.std.specs.Prelude.{ℕ, ◌+◌, ◌-◌, ◌*◌, ◌/◌, Bool, ◌&&◌, nat_le, min, if◌then◌else◌}
+use Rattle.std.specs.Prelude.{ℕ, ◌+◌, ◌-◌, ◌*◌, ◌/◌, Bool, ◌&&◌, nat_le, min}
 use Rattle.gas_terms.specs.Cells.{Extent}
 use Rattle.phase_team.specs.Limits.{most_phases}
 
--- how many strips of a lattice with so many rows of tiles each worker has: two if they are at least 8 rows high
-abbrev pub strips_each : ℕ → ℕ → ℕ
-strips_each down workers = if nat_le (2 * 8 * workers) down then 2 else 1
-
--- how many rows of tiles a worker turns: those of its strips, and one above and below each
+-- how many rows of tiles a worker turns: those of its strip, and one above and below
 abbrev pub rows_each : ℕ → ℕ → ℕ
-rows_each down workers =
-    strips_each down workers * ((down + strips_each down workers * workers - 1) / (strips_each down workers * workers) + 2)
+rows_each down workers = (down + workers - 1) / workers + 2
 
 -- how many tiles fewer a worker turns than one thread would, in n phases or as many of them as a strip makes alone
 abbrev pub tiles_saved : Extent → ℕ → ℕ → ℕ

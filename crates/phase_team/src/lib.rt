@@ -1,6 +1,6 @@
 //! Steps of a gas on 1 to 16 threads: a `Team` is a `Stepper` and gives the same results as `Serial`.
 //!
-//! In a run, the workers draw strips of whole rows of tiles and make up to 64 phases of a strip at a time. Short runs, small
+//! In a run, each worker has a strip of whole rows of tiles, and makes up to 64 phases of it at a time. Short runs, small
 //! lattices and a team of one stay on the calling thread. A single phase (`Team::phase`) is made by workers that draw its
 //! tiles one by one.
 //!

@@ -204,11 +204,13 @@ impl<R: Threads + Drop> Team<R, NoGate> {
         if !is_worth_strips(self.least, size, workers, run.n) {
             return run_whole(particles, run, counted, spare);
         }
-        let Some(mut strips) = strips_for(kept, alloc, size, workers) else {
-            return run_whole(particles, run, counted, spare);
-        };
-        let flow = run_by(rt, &mut strips, particles, run, counted, spare);
-        *kept = Some(strips);
-        flow
+        match strips_for(kept, alloc, size, workers) {
+            Some(mut strips) => {
+                let flow = run_by(rt, &mut strips, particles, run, counted);
+                *kept = Some(strips);
+                flow
+            }
+            None => run_whole(particles, run, counted, spare),
+        }
     }
 }

@@ -1,4 +1,5 @@
 use Rattle.std.proofs.Common.{◌≡◌, length}
+use Rattle.std.specs.Vec.{vec_capacity}
 use Rattle.phase_team.specs.Work.{Lists}
 use Rattle.phase_team.proofs.runs.list.Given as goal
 
@@ -6,4 +7,5 @@ abbrev pub invariant-loop-k : goal.invariant-loop-k
 invariant-loop-k g l = record {
   so_far : Lists l.exchanges.items (g.A.Action.leaves l.action) l.k;
   len : length l.exchanges.items ≡ l.k;
+  room : vec_capacity l.exchanges ≡ vec_capacity l.initial.exchanges;
 }

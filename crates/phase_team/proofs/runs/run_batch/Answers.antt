@@ -1,35 +1,57 @@
-use Rattle.std.proofs.Common.{rules, All, List, ◌∙◌, ap, sym, subst}
-use Rattle.gas_terms.specs.Cells.{Extent, joined}
-use Rattle.phase_step.specs.Balance.{flow_counted}
+use Rattle.std.proofs.Common.{rules, ◌≤◌, List, sym, ◌∙◌, subst}
+use Rattle.gas_terms.specs.Cells.{extent}
 use Rattle.phase_step.specs.Exchanges.{Areas, listed}
-use Rattle.phase_step.proofs.ActionParts.{after_same, flow_same}
-use Rattle.phase_team.specs.Work.{Lists, IsRoomFor}
+use Rattle.phase_step.specs.WholeRuns.{dynamics}
+use Rattle.phase_team.specs.Limits.{most_phases}
+use Rattle.phase_team.specs.Strips.{AreStrips}
+use Rattle.phase_team.specs.Work.{Batch, Lists}
+use Rattle.phase_team.proofs.Batches.{same_extent, after_is, flow_is, lent_is, each_ready, some_done, all_done, still_strips, next_ready}
 use Rattle.phase_team.proofs.runs.run_batch.Goals as goal
 
-pub returns-in-Some-clause-run : goal.returns-in-Some-clause-run
-returns-in-Some-clause-run g c =
+pub invariant_of-strips : goal.invariant_of-strips
+invariant_of-strips g c =
+    let strips = c.args.strips.now in
+    let new = c.make_all.new.strips in
+    let some = c.requires.ready in
+    let same = c.as_mut_slice.ensures.value in
+    let list = lent_is strips.strips.len new strips.strips.items (search rules) in
+    let done = c.make_all.ensures.done some.lattice (each_ready _ some.lattice strips.size strips.strips.items c.as_mut_slice.result.now same strips.laid c.requires.size some.ready) in
+    record {
+      laid = still_strips _ some.lattice strips.size c.as_mut_slice.result.now new _ list (subst (AreStrips strips.size) (sym same) strips.laid) (sym (same_extent _ _ some.ready.sides) ∙ sym c.requires.size) done c.make_all.ensures.own;
+      room = subst (λ n. most_phases ≤ n) (sym c.list.ensures.room) strips.room;
+    }
+
+pub share-requires-clause-done : goal.share-requires-clause-done
+share-requires-clause-done g c =
+    let strips = c.args.strips.now in
+    let new = c.make_all.new.strips in
+    let some = c.requires.ready in
+    let list = c.as_slice-2.ensures.value ∙ lent_is strips.strips.len new strips.strips.items (search rules) in
+    let done = c.make_all.ensures.done some.lattice (each_ready _ some.lattice strips.size strips.strips.items c.as_mut_slice.result.now c.as_mut_slice.ensures.value strips.laid c.requires.size some.ready) in
+    some_done _ some.lattice (extent c.args.cells.now) c.as_slice-2.result.now (sym (same_extent _ _ some.ready.sides)) (all_done _ some.lattice new c.as_slice-2.result.now list some.ready.is c.requires.few done)
+
+pub returns-clause-ready : goal.returns-clause-ready
+returns-clause-ready g c = λ lattice ready.
     let run = c.args.run in
-    let solids = run.solids.now in
     let leaves = g.A.Action.leaves run.action.now in
-    let all : Lists c.list.new.exchanges.items leaves run.n = search rules in
-    let same : Lists c.as_slice.result.now leaves run.n = subst (λ (exchanges : List Areas). Lists exchanges leaves run.n) (sym c.as_slice.ensures.value) all in
-    record {
-      particles = c.swap.ensures.x_after ∙ (c.in-Some.ensures.out ∙ after_same run.parity (joined solids.walls solids.obstacles) (listed c.as_slice.result.now) leaves c.args.particles.now run.n same);
-      spare = search rules;
-      flow = c.in-Some.ensures.flow ∙ ap (flow_counted c.args.counted) (flow_same run.parity solids.walls solids.obstacles (listed c.as_slice.result.now) leaves c.args.particles.now run.n same);
-    }
-
-pub make_strips-requires-clause-rooms : goal.make_strips-requires-clause-rooms
-make_strips-requires-clause-rooms g c =
     let strips = c.args.strips.now in
-    subst (λ (size : Extent). All (IsRoomFor size strips.parts) strips.rooms.items) c.requires.size strips.ready
+    let new = c.make_all.new.strips in
+    let lists : Lists c.as_slice.result.now leaves run.n = subst (λ (exchanges : List Areas). Lists exchanges leaves run.n) (sym c.as_slice.ensures.value) c.list.ensures.list in
+    let list = c.as_slice-2.ensures.value ∙ lent_is strips.strips.len new strips.strips.items (search rules) in
+    let done = c.make_all.ensures.done lattice (each_ready _ lattice strips.size strips.strips.items c.as_mut_slice.result.now c.as_mut_slice.ensures.value strips.laid c.requires.size ready) in
+    let batch : Batch = record { dynamics = dynamics run.parity run.solids.now (listed c.as_slice.result.now); phases = run.n; counted = c.args.counted } in
+    let all = all_done batch lattice new c.as_slice-2.result.now list ready.is c.requires.few done in
+    next_ready batch lattice _ c.args.cells.now c.share.new.cells c.as_slice-2.result.now _ ready.is ready.sides c.share.ensures.sides (after_is run.parity run.solids.now c.as_slice.result.now leaves lattice run.n lists) (sym c.as_slice-2.ensures.value) (c.share.ensures.shared batch lattice ready.sides all)
 
-pub invariant_of-strips-2 : goal.invariant_of-strips-2
-invariant_of-strips-2 g c =
+pub returns-clause-flow : goal.returns-clause-flow
+returns-clause-flow g c = λ lattice ready.
+    let run = c.args.run in
+    let leaves = g.A.Action.leaves run.action.now in
     let strips = c.args.strips.now in
-    record {
-      some = strips.some;
-      few = strips.few;
-      all = strips.all;
-      ready = subst (λ (size : Extent). All (IsRoomFor size strips.parts) c.make_strips.new.rooms.items) (sym c.requires.size) c.make_strips.ensures.rooms;
-    }
+    let new = c.make_all.new.strips in
+    let lists : Lists c.as_slice.result.now leaves run.n = subst (λ (exchanges : List Areas). Lists exchanges leaves run.n) (sym c.as_slice.ensures.value) c.list.ensures.list in
+    let list = c.as_slice-2.ensures.value ∙ lent_is strips.strips.len new strips.strips.items (search rules) in
+    let done = c.make_all.ensures.done lattice (each_ready _ lattice strips.size strips.strips.items c.as_mut_slice.result.now c.as_mut_slice.ensures.value strips.laid c.requires.size ready) in
+    let batch : Batch = record { dynamics = dynamics run.parity run.solids.now (listed c.as_slice.result.now); phases = run.n; counted = c.args.counted } in
+    let all = all_done batch lattice new c.as_slice-2.result.now list ready.is c.requires.few done in
+    c.share.ensures.flow batch lattice ready.sides all ∙ flow_is c.args.counted run.parity run.solids.now c.as_slice.result.now leaves lattice run.n lists

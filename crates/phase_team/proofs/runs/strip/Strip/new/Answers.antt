@@ -1,0 +1,13 @@
+use Rattle.std.proofs.Common.{rules, refl}
+use Rattle.phase_team.proofs.runs.strip.Strip.new.Goals as goal
+
+pub returns : goal.returns
+returns c = (
+  record {
+    inside = c.requires;
+    wide = search rules;
+    high = search rules;
+    spare = record { wide = search rules; high = search rules };
+  },
+  refl,
+)
