@@ -98,7 +98,7 @@ fn blocks_of(cells: &Tile) -> (u32, TileBlocks) {
     tile_blocks(&window(cells, &near))
 }
 
-fn lent(named: &(u32, TileBlocks)) -> Option<SetBlocks<'_>> {
+fn given(named: &(u32, TileBlocks)) -> Option<SetBlocks<'_>> {
     let (rows, blocks) = named;
     Some(SetBlocks {
         rows: *rows,
@@ -131,7 +131,7 @@ fn particles_cross_their_blocks(rt: HostRuntime) {
     expect_same(&rt, took, Took::ZERO);
     let mut among_none = old;
     let named = blocks_of(&none);
-    let took = turn_tile_even(&mut among_none, lent(&named), lent(&named), Counted::BOTH);
+    let took = turn_tile_even(&mut among_none, given(&named), given(&named), Counted::BOTH);
     expect_that(&rt, has_just(&among_none, even));
     expect_same(&rt, took, Took::ZERO);
 
@@ -152,7 +152,7 @@ fn particles_of_named_blocks_stay(rt: HostRuntime) {
     // blocks at even places have them in rows 10 and 11, those at odd places in rows 9 to 12: a bit for each pair of rows
     expect_same(&rt, named.0, 1 << 4 | 1 << 5 | 1 << 6);
     expect_same(&rt, named.1.even[5], 1 << 5);
-    let took = turn_tile_even(&mut tile, lent(&named), None, Counted::BOTH);
+    let took = turn_tile_even(&mut tile, given(&named), None, Counted::BOTH);
     expect_that(&rt, has_just(&tile, [(1, 1), (10, 10)].as_slice()));
     let twice = Pair { x: 2, y: 2 };
     expect_same(
@@ -176,8 +176,8 @@ fn accounts_that_are_not_kept_are_zero(rt: HostRuntime) {
         let counted = Counted { walls, obstacles };
 
         let mut tile = old;
-        let walled = lent(&even_walls);
-        let obstructed = lent(&even_obstacles);
+        let walled = given(&even_walls);
+        let obstructed = given(&even_obstacles);
         let took = turn_tile_even(&mut tile, walled, obstructed, counted);
         expect_that(&rt, tile.has_same_cells(&old));
         let of_walls = if walls { pair(2, 2) } else { pair(0, 0) };
@@ -185,8 +185,8 @@ fn accounts_that_are_not_kept_are_zero(rt: HostRuntime) {
         expect_same(&rt, (took.walls, took.obstacles), (of_walls, of_obstacles));
 
         let mut tile = Tile::full();
-        let walled = lent(&odd_walls);
-        let obstructed = lent(&odd_obstacles);
+        let walled = given(&odd_walls);
+        let obstructed = given(&odd_obstacles);
         let particles = window(&old, &near);
         let took = turn_tile_odd(&particles, walled, obstructed, counted, &mut tile);
         expect_that(&rt, tile.has_same_cells(&old));

@@ -66,7 +66,7 @@ pub fn lines(rt: &(impl Abort + AllocGlobal + Threads), text: &str) -> Vec<u8> {
     bytes
 }
 
-/// The setup of a test.
+/// The setup of a laboratory of this shape.
 pub fn setup_of(rt: &impl Abort, shape: LabShape) -> Setup
     ensures { IsInRange result }
 {
@@ -139,7 +139,8 @@ fn status_by_strips<R: Read, W: Write, K: Shelf>(
     }
 }
 
-/// The status of a run. The program itself makes no small run by strips, so such a shape has a laboratory of the test's own.
+/// The status of a run. The program itself makes no small run by strips, so a shape `by_strips` gets a laboratory of the
+/// test's own.
 pub fn status_on<R: Read, W: Write, K: Shelf>(
     rt: &(impl Abort + AllocGlobal + Threads),
     shape: LabShape,
