@@ -20,7 +20,7 @@ pub record IsTileFrom (t : Tile) (cells : Cells) (x0 y0 : ℕ) : Type 0 where
 -- the border has the torus's cells round the 64 by 64 cells from the place (x0, y0) on
 pub record IsRingRound (b : Border) (cells : Cells) (x0 y0 : ℕ) : Type 0 where
   pub cell : (i j : ℕ) → IsOnRing i j
-    → ring b i j ≡ has cells
+      → ring b i j ≡ has cells
       ((x0 + i + cells.width - 1) % cells.width)
       ((y0 + j + cells.height - 1) % cells.height)
 
@@ -40,7 +40,7 @@ pub record IsBare (cells : Cells) (x0 y0 : ℕ) : Type 0 where
 -- none of the 192 by 192 cells of the torus that have these in their midst
 pub record IsBareFarRound (cells : Cells) (x0 y0 : ℕ) : Type 0 where
   pub cell : (i j : ℕ) → i < 192 → j < 192
-    → has cells ((x0 + i + cells.width - 64) % cells.width)
+      → has cells ((x0 + i + cells.width - 64) % cells.width)
       ((y0 + j + cells.height - 64) % cells.height) ≡ false
 
 -- round a circle of n places, the one before place k, itself and the one after it, for d = 0, 1 and 2
@@ -73,7 +73,7 @@ pub record AreTilesRound (r : Round) (cells : Cells) (i : ℕ) : Type 0 where
 -- none of the 64 by 64 cells from the place (x0, y0) on, and none of the ring round them on the torus, is in the set
 pub record IsBareRound (cells : Cells) (x0 y0 : ℕ) : Type 0 where
   pub cell : (i j : ℕ) → i ≤ 65 → j ≤ 65
-    → has cells ((x0 + i + cells.width - 1) % cells.width)
+      → has cells ((x0 + i + cells.width - 1) % cells.width)
       ((y0 + j + cells.height - 1) % cells.height) ≡ false
 
 -- the number of the tile that a cell is in
