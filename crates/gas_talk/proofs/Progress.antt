@@ -1,16 +1,11 @@
 -- How a session comes on, line by line, and what holds at each of its ends.
-use Rattle.std.proofs.Common.{◌≡◌, ◌≢◌, ℕ, ◌+◌, true, false, cond, List, [], ◌∷◌, ◌++◌, Option, Some, None, Result, refl, sym, ap, ◌∙◌, subst, inl, inr, append_assoc, append-nil}
+use Rattle.std.proofs.Common.{◌≡◌, ◌≢◌, ℕ, ◌+◌, true, false, cond, List, [], ◌∷◌, ◌++◌, Option, Some, None, refl, sym, ap, ◌∙◌, subst, inl, inr, append_assoc, append-nil}
 use Rattle.std.proofs.lemmas.Fn.{FoldsTo-push}
 use Rattle.std.proofs.KnownBytes.{Appends-nil, Appends-trans}
 use Rattle.std.specs.List.{FoldsTo}
 use Rattle.std.specs.Io.KnownBytes.{Appends}
 use Rattle.gas_terms.specs.Cells.{Extent}
 use Rattle.gas_snapshot.specs.Shelved.{Gains}
-use Rattle.gas_lab.specs.declared.door.Copied.{Copied}
-use Rattle.std.specs.declared.alloc.AllocError.{AllocError as NoMemory}
-use Rattle.gas_terms.specs.declared.command.Command.{Command}
-use Rattle.gas_terms.specs.declared.answer.Answer.{Answer}
-use Rattle.gas_terms.specs.declared.refusal.Refusal.{Refusal}
 use Rattle.gas_terms.specs.declared.refusal.Refusal.TheVariants as refusals
 use Rattle.gas_text.specs.declared.reply.Reply.{Reply}
 use Rattle.gas_text.specs.declared.reply.Reply.TheVariants.{Refused}

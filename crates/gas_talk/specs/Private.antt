@@ -1,15 +1,10 @@
 -- Definitions that only contracts of private functions cite: what a line reader has of its input, what it finds there, and
 -- how far a session has come. Callers need not read them.
-use Rattle.std.specs.Prelude.{◌≡◌, ℕ, ◌<◌, ◌⊎◌, List, [], ◌∷◌, ◌++◌, length, map, Option, Some, None, Result, Bool, IsTrue, string_bytes}
+use Rattle.std.specs.Prelude.{◌≡◌, ℕ, ◌<◌, ◌⊎◌, List, [], ◌∷◌, ◌++◌, length, map, Option, Some, None, Bool, IsTrue, string_bytes}
 use Rattle.std.specs.Io.KnownBytes.{Appends}
-use Rattle.std.specs.declared.alloc.AllocError.{AllocError as NoMemory}
 use Rattle.tokio_util.specs.Codec.Next.{Resumes}
 use Rattle.tokio_util.specs.Codec.Lines.{at_line_start, gives_lines}
 use Rattle.gas_terms.specs.Cells.{Extent}
-use Rattle.gas_terms.specs.declared.command.Command.{Command}
-use Rattle.gas_terms.specs.declared.answer.Answer.{Answer}
-use Rattle.gas_terms.specs.declared.refusal.Refusal.{Refusal}
-use Rattle.gas_lab.specs.declared.door.Copied.{Copied}
 use Rattle.gas_talk.specs.declared.end.SessionEnd.{SessionEnd}
 use Rattle.gas_talk.specs.declared.end.SessionEnd.TheVariants.{WriteFault}
 use Rattle.gas_talk.specs.declared.reader.LineReader.{LineReader}
