@@ -81,7 +81,6 @@ fn wall_takes_in_a_run_with_ports(rt: HostRuntime) {
     expect_same(&rt, found.moved.drained, sums(0, 0, 0));
 }
 
-// Empties all cells of a lattice.
 fn emptied(rt: &impl Abort, size: Size) -> Exchange {
     let (w, h) = (u32::from(size.width()), u32::from(size.height()));
     let all = Rect::within(size, 0, 0, w, h).expect(rt, "a rectangle");

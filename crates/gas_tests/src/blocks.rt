@@ -86,7 +86,6 @@ fn has_just(tile: &Tile, cells: &[(u32, u32)]) -> bool {
     tile.has_same_cells(&tile_of(cells))
 }
 
-// the tile with these neighbors
 fn window<'a>(tile: &'a Tile, near: &'a Neighbors) -> Window<'a> {
     let round = near.round();
     Window { tile, round }
@@ -218,7 +217,6 @@ fn particles_come_in_over_the_corners(rt: HostRuntime) {
     expect_that(&rt, has_just(&out, [(0, 0)].as_slice()));
 }
 
-// the cells of a block that begins at (x, y)
 fn cells_at(cells: u8, x: u32, y: u32) -> Tile {
     let [upper_left, upper_right, lower_left, lower_right] = block(cells);
     let mut tile = Tile::empty();

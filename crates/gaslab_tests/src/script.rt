@@ -102,7 +102,6 @@ pub fn opened_by_strips<R: AllocGlobal + Threads>(
     opened(rt.alloc(), setup, start, team).ok()
 }
 
-// the program's status after a session
 fn status_after(end: SessionEnd) -> u8 {
     match end {
         SessionEnd::Quit | SessionEnd::InputEnd => Status::Done.number(),
@@ -111,7 +110,6 @@ fn status_after(end: SessionEnd) -> u8 {
     }
 }
 
-// how a session on this laboratory ends
 fn end_on<T: AllocGlobal + Threads, R: Read, W: Write, K: Shelf>(
     rt: &T,
     lab: &mut Lab<Team<&T, NoGate>>,
@@ -122,7 +120,6 @@ fn end_on<T: AllocGlobal + Threads, R: Read, W: Write, K: Shelf>(
     serve_alone(rt.alloc(), reader, writer, lab, 0, shelf)
 }
 
-// the status of a run all by strips
 fn status_by_strips<R: Read, W: Write, K: Shelf>(
     rt: &(impl AllocGlobal + Threads),
     setup: Setup,

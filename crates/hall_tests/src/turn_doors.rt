@@ -15,7 +15,6 @@ use std::sync::Wait;
 use std::thread;
 use std::thread::Threads;
 
-// A hall with its two seats.
 fn open_two(
     rt: &(impl Abort + AllocGlobal),
 ) -> (TurnHall<Serial>, TurnSeat<Serial>, TurnSeat<Serial>)
