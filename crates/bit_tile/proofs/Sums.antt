@@ -78,7 +78,7 @@ pub count_below-none : (n : ℕ) → count_below n (λ _. false) ≡ 0
 count_below-none zero = count_below-zero (λ _. false)
 count_below-none (suc n) = count_below-suc n (λ _. false) ∙ ap (λ m. m + 0) (count_below-none n)
 
--- a count in two stretches
+-- a count in two parts
 pub count_below-parts : (m n : ℕ) (test : ℕ → Bool) → count_below (m + n) test ≡ count_below m test + count_below n (λ i. test (m + i))
 count_below-parts m zero test = ap (λ k. count_below k test) (omega arith) ∙ (let e : count_below m test ≡ count_below m test + 0 = omega arith in e ∙ ap (λ k. count_below m test + k) (sym (count_below-zero (λ i. test (m + i)))))
 count_below-parts m (suc n) test =

@@ -16,7 +16,7 @@ use std::alloc::Global;
 use std::sync::Wait;
 use std::thread::Threads;
 
-// Lets the door meet a note of each seat.
+// Has the door take in a note of each seat.
 fn meet_each<S: Stepper, R>(
     rt: &R,
     hall: &TurnHall<S>,
@@ -42,8 +42,8 @@ fn meet_each<S: Stepper, R>(
     seats.push_reserved(seat);
 }
 
-// Shows that the journal has room for all that the seats made, once they are back. The last of them meets a note of each other
-// one, so that the journal that it then finds at its turn begins with what each has seen.
+// Shows that the journal has room for all that the seats made, once they are back. The last of them takes in a note of each
+// other one, so that the journal that it then finds at its turn begins with what each has seen.
 fn meet_all<S: Stepper, R: Wait>(rt: &R, hall: &TurnHall<S>, seats: &mut Vec<TurnSeat<S>>)
     requires some { 0 < vec_len seats.old }
     requires here { All (λ seat. seat.hall ≡ hall.now) seats.old.items }
@@ -61,7 +61,7 @@ fn meet_all<S: Stepper, R: Wait>(rt: &R, hall: &TurnHall<S>, seats: &mut Vec<Tur
     };
     let mut door = hall.door(rt, last);
     meet_each(rt, hall, &mut door, seats);
-    // a turn of its own finds a journal that has room for all that they made; this command takes constant time
+    // this call finds a journal that has room for all that they made; `ledger` takes constant time
     let _ = door.ask(Command::Ledger);
     seats.push_reserved(door.end());
 }

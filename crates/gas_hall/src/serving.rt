@@ -145,7 +145,7 @@ impl<T, R, H: Seating<T, R>> Promise<T> for SeatKept<H, T, R> {
         × IsPrefix (H.seen p.seat.value) (H.seen seat) };
 }
 
-// What a session's thread does. It serves nobody if the thread was refused.
+// Serves the guest and returns the seat. If its thread could not be started, the caller runs this, and nobody is served.
 pub(crate) fn sit<T, R, H: Seating<T, R>, In: Read + Drop, Out: Write + Drop, K: Shelf + Drop>(
     house: &House<'_, R, H>,
     guest: Guest<T, In, Out, K>,

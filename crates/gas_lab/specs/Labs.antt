@@ -14,7 +14,8 @@ use Rattle.gas_plane.specs.Planes.{IsLattice}
 
 -- a laboratory of these parts
 abbrev pub lab_of : Gas → ℕ → BookedGas → List Entry → Laboratory
-lab_of start cap b journal = record { start = start; cap = cap; gas = b.gas; ledger = b.ledger; journal = journal }
+lab_of start cap b journal =
+    record { start = start; cap = cap; gas = b.gas; ledger = b.ledger; journal = journal }
 
 -- What a laboratory's type keeps beside what the types of its parts keep.
 pub record IsKept (lab : Laboratory) (others : Cells) : Type 0 where
@@ -31,4 +32,5 @@ entry_of seat command = record { seat = seat; command = command }
 -- A change is accepted whole, or memory was refused and nothing is changed.
 abbrev pub Changes : Laboratory → Entry → Result Answer Refusal → Laboratory → Type 0
 Changes old entry result new =
-    ((result ≡ Ok (Taken (length old.journal))) × (new ≡ accepted old entry)) ⊎ ((result ≡ Err Memory) × (new ≡ old))
+    ((result ≡ Ok (Taken (length old.journal))) × (new ≡ accepted old entry))
+    ⊎ ((result ≡ Err Memory) × (new ≡ old))

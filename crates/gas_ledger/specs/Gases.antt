@@ -17,7 +17,14 @@ pub record FitTogether (particles walls obstacles : Cells) (ports : PortLists) :
 -- a gas of these parts
 abbrev pub gas_of : ℤ → Cells → Cells → Cells → PortLists → Gas
 gas_of tick particles walls obstacles ports =
-    record { tick = tick; particles = particles; walls = walls; obstacles = obstacles; drains = ports.drains; sources = ports.sources }
+    record {
+      tick = tick;
+      particles = particles;
+      walls = walls;
+      obstacles = obstacles;
+      drains = ports.drains;
+      sources = ports.sources;
+    }
 
 -- What is so of every gas that a program holds.
 pub record IsSoundGas (g : Gas) : Type 0 where

@@ -24,7 +24,8 @@ adding (SourceAt r period) = AddSource r period
 -- the ports with one more, at the end of its list
 abbrev pub with_port : PortLists → Port → PortLists
 with_port ports (DrainAt r) = record ports { drains = ports.drains ++ r ∷ [] }
-with_port ports (SourceAt r period) = record ports { sources = ports.sources ++ record { area = r; period = period } ∷ [] }
+with_port ports (SourceAt r period) =
+    record ports { sources = ports.sources ++ record { area = r; period = period } ∷ [] }
 
 -- whether there are as many ports of its kind as there may be
 abbrev pub has_all : PortLists → Port → Bool
@@ -54,9 +55,17 @@ due_areas tick sources = map (λ s. s.area) (filter (is_due tick) sources)
 -- what is left of the cell (x, y) when they have acted at the tick, by whether it is held
 abbrev pub left_by : PortLists → ℤ → ℕ → ℕ → Bool → Bool
 left_by ports tick x y held =
-    (held && not (list_any (λ r. is_inside r x y) ports.drains)) || list_any (λ s. is_due tick s && is_inside s.area x y) ports.sources
+    (held && not (list_any (λ r. is_inside r x y) ports.drains))
+    || list_any (λ s. is_due tick s && is_inside s.area x y) ports.sources
 
 -- the cells after the ports have acted at the tick
 abbrev pub ported_by : PortLists → ℤ → Cells → Cells
 ported_by ports tick cells =
-    ported (record { tick = tick; particles = cells; walls = cells; obstacles = cells; drains = ports.drains; sources = ports.sources })
+    ported (record {
+      tick = tick;
+      particles = cells;
+      walls = cells;
+      obstacles = cells;
+      drains = ports.drains;
+      sources = ports.sources;
+    })

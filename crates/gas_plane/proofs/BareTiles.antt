@@ -7,7 +7,7 @@ use Rattle.std.proofs.lemmas.Bool.{cases_eq}
 use Rattle.bit_tile.specs.declared.Tile.{Tile}
 use Rattle.gas_terms.specs.Cells.{Cells, Extent, has, tile_count}
 use Rattle.gas_plane.specs.Tiles.{no_cells, tile_at, IsMarked, Cover}
-use Rattle.gas_plane.specs.Marks.{mark_at, IsMarkOf}
+use Rattle.gas_plane.specs.Marks.{IsMarkOf}
 use Rattle.gas_plane.specs.declared.marks.Mark.{Mark}
 use Rattle.gas_plane.specs.declared.marks.Mark.TheVariants.{Lent}
 use Rattle.gas_plane.specs.Planes.{IsTileFrom, IsBare, IsBareRound, IsBareFarRound, AreThreeBare, HasNone, place_by}
@@ -20,20 +20,7 @@ not_both b h k = grind arith
 
 -- what is put in the place of tile i, with a mark of its own
 pub marked_set : (tiles : List Tile) (marks : List Mark) (i : ℕ) (t : Tile) (mark : Mark) (size : Extent) → IsMarked tiles marks size → i < length tiles → IsMarkOf t mark → IsMarked (set tiles i t) (set marks i mark) size
-marked_set tiles marks i t mark size was low is =
-    record {
-      cover = set_covers tiles size i t was.cover;
-      each = length-set marks i mark ∙ (was.each ∙ sym (length-set tiles i t));
-      mark = λ k.
-          elim (cases_eq k i) [
-            | inl is_i ↦
-                let own : mark_at (set marks i mark) k ≡ mark = ap (mark_at (set marks i mark)) is_i ∙ get_or-set_same marks i mark Lent (omega (arith, low, was.each)) in
-                let here : tile_at (set tiles i t) k ≡ t = ap (tile_at (set tiles i t)) is_i ∙ get_or-set_same tiles i t no_cells low in
-                subst (IsMarkOf (tile_at (set tiles i t) k)) (sym own) (subst (λ (t : Tile). IsMarkOf t mark) (sym here) is)
-            | inr other ↦
-                subst (IsMarkOf (tile_at (set tiles i t) k)) (sym (get_or-set_other marks i k mark Lent other)) (subst (λ (t : Tile). IsMarkOf t (mark_at marks k)) (sym (get_or-set_other tiles i k t no_cells other)) (was.mark k))
-          ];
-    }
+marked_set tiles marks i t mark size was low is = grind (arith, set_covers, length-set, cases_eq, set, get_or-set_same, subst, get_or-set_other)
 
 -- a lent tile may hold anything
 pub lent_is_mark : (t : Tile) → IsMarkOf t Lent
@@ -57,11 +44,7 @@ none_in_all tiles size cells cover e bare =
 
 pub one_more_bare : (cells : Cells) (n : ℕ) → ((k : ℕ) → k < n → IsBare cells (k % (cells.width / 64) * 64) (k / (cells.width / 64) * 64)) → IsBare cells (n % (cells.width / 64) * 64) (n / (cells.width / 64) * 64)
     → (k : ℕ) → k < n + 1 → IsBare cells (k % (cells.width / 64) * 64) (k / (cells.width / 64) * 64)
-one_more_bare cells n before bare k low =
-    elim (cases_eq k n) [
-      | inl e ↦ subst (λ k. IsBare cells (k % (cells.width / 64) * 64) (k / (cells.width / 64) * 64)) (sym e) bare
-      | inr other ↦ before k (omega arith)
-    ]
+one_more_bare cells n before bare k low = grind (arith, cases_eq, subst)
 
 pub is_true : (b : Bool) → b ≡ true → IsTrue b
 is_true b e = grind arith
@@ -74,16 +57,7 @@ pub by_one : (n k : ℕ) → k < n → place_by k 1 n ≡ k
 by_one n k less = let e : k + 1 + n - 1 ≡ k + n = omega arith in ap (λ m. m % n) e ∙ wraps n k less
 
 pub by_two : (n k : ℕ) → k < n → place_by k 2 n ≡ (k + 1) % n
-by_two n k less =
-    elim (cases_eq (k + 1) n) [
-      | inl e ↦
-          let twice : k + 2 + n - 1 ≡ 2 * n + 0 = omega arith in
-          let once : k + 1 ≡ 1 * n + 0 = omega arith in
-          ap (λ m. m % n) twice ∙ (mod-mul-add 2 n 0 (omega arith) ∙ sym (ap (λ m. m % n) once ∙ mod-mul-add 1 n 0 (omega arith)))
-      | inr ne ↦
-          let e : k + 2 + n - 1 ≡ (k + 1) + n = omega arith in
-          ap (λ m. m % n) e ∙ (wraps n (k + 1) (omega arith) ∙ sym (stays n (k + 1) (omega arith)))
-    ]
+by_two n k less = grind (arith, cases_eq, mod-mul-add, wraps, stays)
 
 by_zero : (n k : ℕ) → place_by k 0 n ≡ (k + n - 1) % n
 by_zero n k = let e : k + 0 + n - 1 ≡ k + n - 1 = omega arith in ap (λ m. m % n) e
@@ -116,15 +90,11 @@ three_all a b c h k l = grind arith
 -- a tile's place by its number, and by its column and row of tiles
 pub bare_there : (cells : Cells) (column row across : ℕ) → across ≡ cells.width / 64 → column < cells.width / 64
     → IsBare cells ((row * across + column) % (cells.width / 64) * 64) ((row * across + column) / (cells.width / 64) * 64) → IsBare cells (column * 64) (row * 64)
-bare_there cells column row across e p bare =
-    let k : row * across + column ≡ row * (cells.width / 64) + column = ap (λ a. row * a + column) e in
-    rw (k, mod-mul-add row (cells.width / 64) column p, div-mul-add row (cells.width / 64) column p) at bare
+bare_there cells column row across e p bare = grind (arith, mod-mul-add, div-mul-add)
 
 pub bare_numbered : (cells : Cells) (column row across : ℕ) → across ≡ cells.width / 64 → column < cells.width / 64
     → IsBare cells (column * 64) (row * 64) → IsBare cells ((row * across + column) % (cells.width / 64) * 64) ((row * across + column) / (cells.width / 64) * 64)
-bare_numbered cells column row across e p bare =
-    let k : row * across + column ≡ row * (cells.width / 64) + column = ap (λ a. row * a + column) e in
-    rw (k, mod-mul-add row (cells.width / 64) column p, div-mul-add row (cells.width / 64) column p) bare
+bare_numbered cells column row across e p bare = grind (arith, mod-mul-add, div-mul-add)
 
 -- three things in a row, by d = 0, 1 and 2
 pub by_places : (P : ℕ → Type 0) (n k before after : ℕ) → k < n → before ≡ (k + n - 1) % n → after ≡ (k + 1) % n → P before → P k → P after → (d : ℕ) → d ≤ 2 → P (place_by k d n)
@@ -138,11 +108,7 @@ by_places P n k before after less is_before is_after first own last d few =
     ]
 
 pub from_places : (P : ℕ → Type 0) (n k before after : ℕ) → k < n → before ≡ (k + n - 1) % n → after ≡ (k + 1) % n → ((d : ℕ) → d ≤ 2 → P (place_by k d n)) → (P before) × (P k) × (P after)
-from_places P n k before after less is_before is_after all = (
-  subst P (by_zero n k ∙ sym is_before) (all 0 (omega arith)),
-  subst P (by_one n k less) (all 1 (omega arith)),
-  subst P (by_two n k less ∙ sym is_after) (all 2 (omega arith)),
-)
+from_places P n k before after less is_before is_after all = grind (arith, subst, by_zero, by_one, by_two)
 
 -- round tile (column, row)
 module _ (cells : Cells) (column row : ℕ) (wide : IsWholeTiles cells.width) (high : IsWholeTiles cells.height) (in_row : column < cells.width / 64) (in_column : row < cells.height / 64) where

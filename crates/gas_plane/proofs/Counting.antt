@@ -1,5 +1,5 @@
 -- Particles that are counted in four classes of columns and rows.
-use Rattle.std.proofs.Common.{◌≡◌, ℕ, ◌+◌, ◌*◌, ◌/◌, ◌%◌, ◌^◌, ◌<◌, ◌≤◌, true, List, ℤ, get_or, sym, subst, ◌∙◌, mul-le-mul, arith}
+use Rattle.std.proofs.Common.{◌≡◌, ℕ, ◌^◌, ◌≤◌, true, List, ℤ, get_or, sym, subst, mul-le-mul, arith}
 use Rattle.gas_terms.specs.Cells.{Cells, Rectangle, extent, lies_within, within}
 use Rattle.gas_terms.specs.Accounts.{total_in, IsOfAtMost}
 use Rattle.gas_terms.specs.Counts.{AreSmall, sums_of_counts}
@@ -12,20 +12,10 @@ use Rattle.gas_plane.specs.Counts.{AreCounts}
 
 -- The four counts of a rectangle give its sums.
 pub counted_sums : (tick : ℤ) (counts : List ℕ) (cells : Cells) (r : Rectangle) → AreCounts counts cells r → sums_of_counts tick counts ≡ total_in tick cells r
-counted_sums tick counts cells r are =
-    same_counts tick _ _ _ _ _ _ _ _ (are.count 0 0 (omega arith) (omega arith)) (are.count 1 0 (omega arith) (omega arith)) (are.count 0 1 (omega arith) (omega arith)) (are.count 1 1 (omega arith) (omega arith))
-    ∙ sym (total_in-parities tick cells r)
+counted_sums tick counts cells r are = grind (arith, same_counts, total_in-parities)
 
 pub counts_small : (counts : List ℕ) (cells : Cells) (r : Rectangle) → AreCounts counts cells r → r.w ≤ 4096 → r.h ≤ 4096 → AreSmall counts
-counts_small counts cells r are w h =
-    record {
-      small = λ k less.
-          let most : r.w * r.h ≤ 4096 * 4096 = mul-le-mul w h in
-          let place : 2 * (k / 2) + k % 2 ≡ k = omega arith in
-          let few : get_or counts (2 * (k / 2) + k % 2) 0 ≤ r.w * r.h = omega (arith, are.count (k % 2) (k / 2) (omega arith) (omega arith), parity_count-small cells r (k % 2) (k / 2)) in
-          let P : ℕ → Type 0 = λ n. get_or counts n 0 < 2 ^ 32 in
-          subst P place (omega arith);
-    }
+counts_small counts cells r are w h = grind (arith, mul-le-mul, get_or, parity_count-small, subst)
 
 pub rectangle_counts_small : (counts : List ℕ) (cells : Cells) (r : Rectangle) → IsLattice cells → lies_within (extent cells) r ≡ true → AreCounts counts cells r → AreSmall counts
 rectangle_counts_small counts cells r is fits are =

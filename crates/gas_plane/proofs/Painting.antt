@@ -19,16 +19,10 @@ painted_lattice cells now test held is e =
     subst IsLattice (sym e) (record { sized = is.sized; full = full-cells_where cells.width cells.height (λ x y. if test x y then held else has cells x y) })
 
 pub none_painted : (cells : Cells) (test : ℕ → ℕ → Bool) (held : Bool) → IsFull cells → ((x y : ℕ) → x < cells.width → y < cells.height → test x y ≡ false) → cells ≡ painted_where cells test held
-none_painted cells test held full none =
-    same_cells cells (painted_where cells test held) full (full-cells_where cells.width cells.height (λ x y. if test x y then held else has cells x y)) refl refl
-    (λ x y p q.
-    choose_false _ _ _ _ (none x y p q) refl
-    ∙ sym (has-cells_where cells.width cells.height (λ x y. if test x y then held else has cells x y) x y p q))
+none_painted cells test held full none = grind (arith, same_cells, full-cells_where, choose_false, has-cells_where)
 
 pub same_painted : (cells : Cells) (test other : ℕ → ℕ → Bool) (held : Bool) → ((x y : ℕ) → x < cells.width → y < cells.height → test x y ≡ other x y) → painted_where cells test held ≡ painted_where cells other held
-same_painted cells test other held same =
-    same_cells_where cells.width cells.height (λ x y. if test x y then held else has cells x y) (λ x y. if other x y then held else has cells x y)
-    (λ x y p q. ap (λ b. if b then held else has cells x y) (same x y p q))
+same_painted cells test other held same = grind (arith, same_cells_where)
 
 two_choices : (a b held v : Bool) → (if b then held else (if a then held else v)) ≡ (if a || b then held else v)
 two_choices true true held v = refl
@@ -36,34 +30,12 @@ two_choices true false held v = refl
 two_choices false b held v = refl
 
 pub painted_more : (cells now next : Cells) (test more all : ℕ → ℕ → Bool) (held : Bool) → now ≡ painted_where cells test held → next ≡ painted_where now more held → ((x y : ℕ) → x < cells.width → y < cells.height → (test x y || more x y) ≡ all x y) → next ≡ painted_where cells all held
-painted_more cells now next test more all held so_far put same =
-    put
-    ∙ (ap (λ (now : Cells). painted_where now more held) so_far
-    ∙ same_cells_where cells.width cells.height (λ x y. if more x y then held else has (painted_where cells test held) x y) (λ x y. if all x y then held else has cells x y)
-    (λ x y p q.
-    ap (λ v. if more x y then held else v) (has-cells_where cells.width cells.height (λ x y. if test x y then held else has cells x y) x y p q)
-    ∙ (two_choices (test x y) (more x y) held (has cells x y)
-    ∙ ap (λ b. if b then held else has cells x y) (same x y p q))))
+painted_more cells now next test more all held so_far put same = grind (arith, same_cells_where, has-cells_where, two_choices)
 
 -- one tile
 pub tile_painted : (cells : Cells) (i : ℕ) (t part made : Tile) (held : Bool) → IsLattice cells → IsTileFrom t cells (left_of cells i) (top_of cells i) → HasCells made (λ x y. if tile.has part x y then held else tile.has t x y)
     → with_tile cells i made ≡ painted_where cells (λ x y. (tile_of cells x y == i) && tile.has part (x % 64) (y % 64)) held
-tile_painted cells i t part made held is from of_made =
-    same_cells_where cells.width cells.height (λ x y. if tile_of cells x y == i then tile.has made (x % 64) (y % 64) else has cells x y) (λ x y. if (tile_of cells x y == i) && tile.has part (x % 64) (y % 64) then held else has cells x y)
-    (λ x y p q.
-    elim (cases_eq (tile_of cells x y) i) [
-      | inl e ↦
-          let here = eq-eqb (tile_of cells x y) i e in
-          let across = wide (extent cells) is.sized in
-          let was : tile.has t (x % 64) (y % 64) ≡ has cells x y = from.cell (x % 64) (y % 64) (omega arith) (omega arith) ∙ ap₂ (has cells) (cell_across cells i x y across p e) (cell_down cells i x y across p e) in
-          sym (choose_true _ _ _ _ here refl)
-          ∙ (of_made (x % 64) (y % 64) (omega arith) (omega arith)
-          ∙ (ap (λ b. if tile.has part (x % 64) (y % 64) then held else b) was
-          ∙ ap (λ b. if b && tile.has part (x % 64) (y % 64) then held else has cells x y) (sym here)))
-      | inr ne ↦
-          let here = ne_eqb (tile_of cells x y) i ne in
-          sym (choose_false _ _ _ _ here refl) ∙ ap (λ b. if b && tile.has part (x % 64) (y % 64) then held else has cells x y) (sym here)
-    ])
+tile_painted cells i t part made held is from of_made = grind (arith, same_cells_where, cases_eq, eq-eqb, wide, cell_across, cell_down, choose_true, ne_eqb, choose_false)
 
 either : (a b : Bool) → (a || b) ≡ (if b then true else a)
 either true true = refl
@@ -128,18 +100,10 @@ before : (n c : ℕ) (a b : Bool) → n < c → (a && nat_lt n c && b) ≡ (a &&
 before n c a b h = grind (arith, nat_tests)
 
 pub row_starts : (r : Rectangle) (row first x y : ℕ) → (x / 64 < first → is_inside r x y ≡ false) → in_row r row first x y ≡ false
-row_starts r row first x y none =
-    elim (cases_lt (x / 64) first) [
-      | inl less ↦ and_false _ _ (none less)
-      | inr more ↦ not_before (x / 64) first (y / 64 == row) (is_inside r x y) more
-    ]
+row_starts r row first x y none = grind (arith, cases_lt, and_false, not_before)
 
 pub row_ends : (r : Rectangle) (row column x y : ℕ) → (column ≤ x / 64 → is_inside r x y ≡ false) → in_row r row column x y ≡ ((y / 64 == row) && is_inside r x y)
-row_ends r row column x y none =
-    elim (cases_lt (x / 64) column) [
-      | inl less ↦ before (x / 64) column (y / 64 == row) (is_inside r x y) less
-      | inr more ↦ and_false _ _ (none more) ∙ sym (and_false _ _ (none more))
-    ]
+row_ends r row column x y none = grind (arith, cases_lt, before, and_false)
 
 one_more : (n c : ℕ) (a b : Bool) → ((a && nat_lt n c && b) || (a && (n == c) && b)) ≡ (a && nat_lt n (c + 1) && b)
 one_more n c a b = grind (arith, nat_tests)
@@ -189,21 +153,13 @@ abbrev pub in_rows : Rectangle → ℕ → ℕ → ℕ → Bool
 in_rows r row x y = nat_lt (y / 64) row && is_inside r x y
 
 pub rows_start : (r : Rectangle) (first x y : ℕ) → (y / 64 < first → is_inside r x y ≡ false) → in_rows r first x y ≡ false
-rows_start r first x y none =
-    elim (cases_lt (y / 64) first) [
-      | inl less ↦ and_false _ _ (none less)
-      | inr more ↦ not_before (y / 64) first true (is_inside r x y) more
-    ]
+rows_start r first x y none = grind (arith, cases_lt, and_false, not_before)
 
 pub rows_next : (r : Rectangle) (row x y : ℕ) → (in_rows r row x y || ((y / 64 == row) && is_inside r x y)) ≡ in_rows r (row + 1) x y
 rows_next r row x y = one_more (y / 64) row true (is_inside r x y)
 
 pub rows_end : (r : Rectangle) (row x y : ℕ) → (row ≤ y / 64 → is_inside r x y ≡ false) → in_rows r row x y ≡ is_inside r x y
-rows_end r row x y none =
-    elim (cases_lt (y / 64) row) [
-      | inl less ↦ before (y / 64) row true (is_inside r x y) less
-      | inr more ↦ and_false _ _ (none more) ∙ sym (none more)
-    ]
+rows_end r row x y none = grind (arith, cases_lt, before, and_false)
 
 -- the sides stay
 pub same_wide : (cells now : Cells) (test : ℕ → ℕ → Bool) (held : Bool) → now ≡ painted_where cells test held → now.width ≡ cells.width

@@ -53,34 +53,13 @@ place_after k n e less = sym (stays n (k + 1) (omega arith))
 
 -- the places before, in and after the tile k of a circle of tiles
 pub ring_before : (n k : ℕ) → IsWholeTiles n → k < n / 64 → (k * 64 + 0 + n - 1) % n ≡ (k + n / 64 - 1) % (n / 64) * 64 + 63
-ring_before n k is less =
-    elim (cases_eq k 0) [
-      | inl e ↦
-          let a : (k * 64 + 0 + n - 1) % n ≡ n - 1 = ap (λ m. m % n) (omega arith) ∙ stays n (n - 1) (omega (arith, is.some)) in
-          omega (arith, a, last_place k (n / 64) e is.some, is.tiles, is.some)
-      | inr ne ↦
-          let f : k * 64 + 0 + n - 1 ≡ (k * 64 - 1) + n = omega arith in
-          let a : (k * 64 + 0 + n - 1) % n ≡ k * 64 - 1 = ap (λ m. m % n) f ∙ wraps n (k * 64 - 1) (omega (arith, is.tiles)) in
-          omega (arith, a, place_before k (n / 64) ne less)
-    ]
+ring_before n k is less = grind (arith, cases_eq, stays, last_place, wraps, place_before)
 
 pub ring_after : (n k : ℕ) → IsWholeTiles n → k < n / 64 → (k * 64 + 65 + n - 1) % n ≡ (k + 1) % (n / 64) * 64 + 0
-ring_after n k is less =
-    elim (cases_eq (k + 1) (n / 64)) [
-      | inl e ↦
-          let f : k * 64 + 65 + n - 1 ≡ 2 * n + 0 = omega (arith, is.tiles) in
-          let a : (k * 64 + 65 + n - 1) % n ≡ 0 = ap (λ m. m % n) f ∙ mod-mul-add 2 n 0 (omega (arith, is.tiles, is.some)) in
-          omega (arith, a, first_place k (n / 64) e)
-      | inr ne ↦
-          let f : k * 64 + 65 + n - 1 ≡ (k * 64 + 64) + n = omega arith in
-          let a : (k * 64 + 65 + n - 1) % n ≡ k * 64 + 64 = ap (λ m. m % n) f ∙ wraps n (k * 64 + 64) (omega (arith, is.tiles)) in
-          omega (arith, a, place_after k (n / 64) ne less)
-    ]
+ring_after n k is less = grind (arith, cases_eq, mod-mul-add, first_place, wraps, place_after)
 
 pub ring_in : (n k x : ℕ) → IsWholeTiles n → k < n / 64 → x < 64 → (k * 64 + (x + 1) + n - 1) % n ≡ k * 64 + x
-ring_in n k x is less in_tile =
-    let f : k * 64 + (x + 1) + n - 1 ≡ (k * 64 + x) + n = omega arith in
-    ap (λ m. m % n) f ∙ wraps n (k * 64 + x) (omega (arith, is.tiles))
+ring_in n k x is less in_tile = grind (arith, wraps)
 
 -- a place from 0 to 65 is before, after or in the tile
 pub ring_cases : (i : ℕ) → i ≤ 65 → (i ≡ 0) ⊎ ((i ≡ 65) ⊎ ((x : ℕ) × (x < 64) × (i ≡ x + 1)))

@@ -1,5 +1,5 @@
 -- The cells of a rectangle are counted tile by tile.
-use Rattle.std.proofs.Common.{◌≡◌, ℕ, zero, suc, ◌+◌, ◌-◌, ◌*◌, ◌/◌, ◌%◌, ◌<◌, ◌≤◌, ◌==◌, ◌&&◌, Bool, true, false, cond, refl, sym, ◌∙◌, ap, ap₂, arith, inl, inr, add-one, add_assoc, mul_comm}
+use Rattle.std.proofs.Common.{◌≡◌, ℕ, zero, suc, ◌+◌, ◌-◌, ◌*◌, ◌/◌, ◌%◌, ◌<◌, ◌≤◌, ◌==◌, ◌&&◌, Bool, true, false, cond, refl, sym, ◌∙◌, ap, ap₂, arith, add-one, add_assoc, mul_comm}
 use Rattle.std.proofs.Math.Nat.{mod-lt, add-mul}
 use Rattle.std.proofs.lemmas.Nat.{row-Below, mul-le, mod-mul-add, div-mul-add}
 use Rattle.std.proofs.lemmas.Bool.{cases_lt}
@@ -70,9 +70,7 @@ counted_over_cells cells r a b fits =
     ∙ sym (parity_count_is cells r a b)
 
 counted_over_tiles : (cells : Cells) (r : Rectangle) (a b : ℕ) → IsWholeTiles cells.width → IsWholeTiles cells.height → cell_sum cells.width cells.height (counted cells r a b) ≡ sum_below (cells.height / 64 * (cells.width / 64)) (tile_counted cells r a b)
-counted_over_tiles cells r a b is_wide is_high =
-    ap₂ (λ w h. cell_sum w h (counted cells r a b)) (sym is_wide.tiles) (sym is_high.tiles)
-    ∙ cell_sum_by_tile (cells.width / 64) (cells.height / 64) 64 (counted cells r a b)
+counted_over_tiles cells r a b is_wide is_high = grind (arith, cell_sum, cell_sum_by_tile)
 
 -- terms of zero at the end of a sum
 sum_below-tail : (m k : ℕ) (f : ℕ → ℕ) → ((t : ℕ) → m ≤ t → t < m + k → f t ≡ 0) → sum_below (m + k) f ≡ sum_below m f
@@ -125,9 +123,7 @@ row_sum n test = sum_by-range (λ x. cond (test x) 1 0) n
 
 pub tile_sum : (test : ℕ → ℕ → Bool) → count_cells test ≡ cell_sum 64 64 (λ x y. cond (test x y) 1 0)
 unfolding bits.sum_below
-tile_sum test =
-    sum_by-range (λ y. bits.count_below 64 (λ x. test x y)) 64
-    ∙ sum_below-cong 64 (λ y. bits.count_below 64 (λ x. test x y)) (λ y. sum_below 64 (λ x. cond (test x y) 1 0)) (λ y _. row_sum 64 (λ x. test x y))
+tile_sum test = grind (arith, sum_by-range, sum_below-cong, sum_below, row_sum)
 
 pub same_parity : (k x a : ℕ) → (x % 2 == a) ≡ ((k * 64 + x) % 2 == a)
 same_parity k x a = ap (λ n. n == a) (let e : x % 2 ≡ (k * 64 + x) % 2 = omega arith in e)
@@ -212,19 +208,10 @@ count_more cells r a b row column across count here next e so_far counted_here s
 
 -- rows of tiles above and below the rectangle
 pub above_rows : (cells : Cells) (first x y : ℕ) → tile_of cells x y < first * (cells.width / 64) → y / 64 < first
-above_rows cells first x y h =
-    elim (cases_lt (y / 64) first) [
-      | inl less ↦ less
-      | inr more ↦ (let k : first * (cells.width / 64) ≤ y / 64 * (cells.width / 64) = mul-le first (cells.width / 64) (y / 64) (cells.width / 64) more (omega arith) in absurd (omega arith))
-    ]
+above_rows cells first x y h = grind (arith, cases_lt, mul-le)
 
 pub below_rows : (cells : Cells) (last x y : ℕ) → x / 64 < cells.width / 64 → last * (cells.width / 64) ≤ tile_of cells x y → last ≤ y / 64
-below_rows cells last x y p h =
-    elim (cases_lt (y / 64) last) [
-      | inl less ↦ (let k : (y / 64 + 1) * (cells.width / 64) ≤ last * (cells.width / 64) = mul-le (y / 64 + 1) (cells.width / 64) last (cells.width / 64) (omega arith) (omega arith) in
-          let e : (y / 64 + 1) * (cells.width / 64) ≡ y / 64 * (cells.width / 64) + 1 * (cells.width / 64) = add-mul (y / 64) 1 (cells.width / 64) in absurd (omega arith))
-      | inr more ↦ more
-    ]
+below_rows cells last x y p h = grind (arith, cases_lt, mul-le, add-mul)
 
 -- the tiles of some rows, and of some columns of one more, are among the lattice's
 pub rows_within : (cells : Cells) (row : ℕ) → row ≤ cells.height / 64 → row * (cells.width / 64) ≤ tile_count cells
@@ -235,6 +222,4 @@ pub class_place : (a b : ℕ) → a < 2 → b < 2 → 2 * b + a < 4
 class_place a b p q = omega arith
 
 pub few_tiles : (cells : Cells) (i : ℕ) → IsLattice cells → i ≤ tile_count cells → i ≤ 4096
-few_tiles cells i is h =
-    let k : tile_count cells ≤ 64 * 64 = mul-le (cells.width / 64) (cells.height / 64) 64 64 (wide (extent cells) is.sized).few (high (extent cells) is.sized).few in
-    omega arith
+few_tiles cells i is h = grind (arith, mul-le, wide, high)

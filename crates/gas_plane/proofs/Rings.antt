@@ -100,9 +100,7 @@ module _ (b : Border) (cells : Cells) (k : ℕ) (p : TilePlaces) (is : IsLattice
       → IsTileFrom below_left cells (p.left * 64) (p.below * 64) → IsTileFrom below_right cells (p.right * 64) (p.below * 64)
       → IsBorderOf b above below left right above_left above_right below_left below_right
       → IsRingRound b cells (k % (cells.width / 64) * 64) (k / (cells.width / 64) * 64)
-  ring_of above below left right above_left above_right below_left below_right is_above is_below is_left is_right is_above_left is_above_right is_below_left is_below_right border =
-      rw (← places.column, ← places.row)
-      (ring_here above below left right above_left above_right below_left below_right is_above is_below is_left is_right is_above_left is_above_right is_below_left is_below_right border)
+  ring_of above below left right above_left above_right below_left below_right is_above is_below is_left is_right is_above_left is_above_right is_below_left is_below_right border = grind (arith, ring_here, above, below, left, right)
 
 place_before : (k n : ℕ) → (k + n - 1) % n ≡ place_by k 0 n
 place_before k n = ap (λ m. m % n) (omega arith)
@@ -135,17 +133,7 @@ module _ (cells : Cells) (i : ℕ) (p : TilePlaces) (places : ArePlacesRound cel
       → IsTileFrom r.above_left.now cells (p.left * 64) (p.above * 64) → IsTileFrom r.above_right.now cells (p.right * 64) (p.above * 64)
       → IsTileFrom r.below_left.now cells (p.left * 64) (p.below * 64) → IsTileFrom r.below_right.now cells (p.right * 64) (p.below * 64)
       → AreTilesRound r cells i
-  tiles_round r is_above is_below is_left is_right is_above_left is_above_right is_below_left is_below_right =
-      record {
-        above = moved r.above.now (p.column * 64) (p.above * 64) (column_by cells i 1) (row_by cells i 0) column above is_above;
-        below = moved r.below.now (p.column * 64) (p.below * 64) (column_by cells i 1) (row_by cells i 2) column below is_below;
-        left = moved r.left.now (p.left * 64) (p.row * 64) (column_by cells i 0) (row_by cells i 1) left row is_left;
-        right = moved r.right.now (p.right * 64) (p.row * 64) (column_by cells i 2) (row_by cells i 1) right row is_right;
-        above_left = moved r.above_left.now (p.left * 64) (p.above * 64) (column_by cells i 0) (row_by cells i 0) left above is_above_left;
-        above_right = moved r.above_right.now (p.right * 64) (p.above * 64) (column_by cells i 2) (row_by cells i 0) right above is_above_right;
-        below_left = moved r.below_left.now (p.left * 64) (p.below * 64) (column_by cells i 0) (row_by cells i 2) left below is_below_left;
-        below_right = moved r.below_right.now (p.right * 64) (p.below * 64) (column_by cells i 2) (row_by cells i 2) right below is_below_right;
-      }
+  tiles_round r is_above is_below is_left is_right is_above_left is_above_right is_below_left is_below_right = grind (arith, above, moved, column, below, left, row, right)
 
 pub row_in : (cells : Cells) (i : ℕ) → IsLattice cells → i < tile_count cells → i / (cells.width / 64) < cells.height / 64
 row_in cells i is within = (row-Below i (cells.width / 64) (cells.width / 64) (cells.height / 64) within (let e : cells.width / 64 ≤ cells.width / 64 = omega arith in e)).1

@@ -20,10 +20,7 @@ pub room_read : (rooms : List Room) (i : ℕ) (r : Room) → r ≡ get_or rooms 
 room_read rooms i r e = ap (λ (r : Room). r.tile) e ∙ sym (get_or-map (λ (r : Room). r.tile) rooms i r)
 
 place_in : (rooms : List Room) (size : Extent) (cells : Cells) (row column w : ℕ) → Cover (tiles_of rooms) size → tiled (tiles_of rooms) size ≡ cells → row < cells.height / 64 → column < cells.width / 64 → w ≡ size.width → row * (w / 64) + column < length rooms
-place_in rooms size cells row column w cover e below across same =
-    let a : column < size.width / 64 = subst (λ n. column < n / 64) (sym (ap (λ (c : Cells). c.width) e)) across in
-    let b : row < size.height / 64 = subst (λ n. row < n / 64) (sym (ap (λ (c : Cells). c.height) e)) below in
-    subst (λ v. row * (v / 64) + column < length rooms) (sym same) (subst (λ n. row * (size.width / 64) + column < n) (length-map rooms (λ (r : Room). r.tile)) (tile_place (tiles_of rooms) size column row cover a b))
+place_in rooms size cells row column w cover e below across same = grind (arith, subst, length-map, tile_place)
 
 -- the rooms from the first one of a row of tiles on
 pub row_read : (rooms : List Room) (size : Extent) (cells : Cells) (row w : ℕ) → Cover (tiles_of rooms) size → tiled (tiles_of rooms) size ≡ cells → row < cells.height / 64 → w ≡ size.width
@@ -65,9 +62,4 @@ each_marked t none (suc n) zero = record { bare = λ _. none; held = λ e. absur
 each_marked t none (suc n) (suc i) = each_marked t none n i
 
 pub empty_marked : (tiles : List Tile) (marks : List Mark) (n : ℕ) (t : Tile) (size : Extent) → tiles ≡ replicate n t → marks ≡ replicate n Bare → n ≡ size.width / 64 * (size.height / 64) → is_size size ≡ true → HasCells t (λ _ _. false) → IsMarked tiles marks size
-empty_marked tiles marks n t size e f enough sized none =
-    record {
-      cover = record { sized = sized; enough = ap length e ∙ (length-replicate n t ∙ enough) };
-      each = ap length f ∙ (length-replicate n Bare ∙ sym (ap length e ∙ length-replicate n t));
-      mark = λ i. subst (λ tiles. IsMarkOf (tile_at tiles i) (mark_at marks i)) (sym e) (subst (λ marks. IsMarkOf (tile_at (replicate n t) i) (mark_at marks i)) (sym f) (each_marked t none n i));
-    }
+empty_marked tiles marks n t size e f enough sized none = grind (arith, length-replicate, subst, replicate, each_marked)

@@ -28,12 +28,7 @@ second_of_two false false = refl
 
 -- neighbors of k bits change places: the mask has the lower of each two
 swapped_low : (w m k i : ℕ) → i < 64 → bit m i ≡ true → (k ≤ i → bit m (i - k) ≡ false) → bit (bit_or (bit_and (w / 2 ^ k) m) (bit_and w m * 2 ^ k % 2 ^ 64)) i ≡ bit w (k + i)
-swapped_low w m k i within here there =
-    rw (bit-or, bit-and, here, bit-shr)
-    (elim (cases_lt i k) [
-      | inl below ↦ rw (bit-shl_low (bit_and w m) k i within below) (first_alone (bit w (k + i)))
-      | inr above ↦ rw (bit-shl_high (bit_and w m) k i within above, bit-and, there above) (first_of_two (bit w (k + i)) (bit w (i - k)))
-    ])
+swapped_low w m k i within here there = grind (arith, bit-or, bit-and, bit-shr, cases_lt, bit-shl_low, bit_and, first_alone, bit-shl_high, first_of_two)
 
 swapped_high : (w m k i : ℕ) → i < 64 → k ≤ i → bit m i ≡ false → bit m (i - k) ≡ true → bit (bit_or (bit_and (w / 2 ^ k) m) (bit_and w m * 2 ^ k % 2 ^ 64)) i ≡ bit w (i - k)
 swapped_high w m k i within above here there =
@@ -158,9 +153,7 @@ before_part out part at k i within h =
     written out part at k i within (omega arith) ∙ (get_or_append_left (take at out) part 0 i (omega (arith, kept_len at out within)) ∙ get_or-take at out i 0 h)
 
 pub in_part : (out part : List ℕ) (at k i : ℕ) → at ≤ length out → i < length part → get_or (put_mid at k out part) (at + i) 0 ≡ get_or part i 0
-in_part out part at k i within h =
-    written out part at k (at + i) within (omega arith)
-    ∙ (get_or-append_right (take at out) part at (at + i) 0 (kept_len at out within) (omega arith) ∙ ap (λ n. get_or part n 0) (let e : at + i - at ≡ i = omega arith in e))
+in_part out part at k i within h = grind (arith, written, get_or-append_right, kept_len, get_or)
 
 pub part_filled : (out part : List ℕ) (at k : ℕ) (f : ℕ → ℕ) → at ≤ length out → ((i : ℕ) → i < at → get_or out i 0 ≡ f i) → ((i : ℕ) → i < length part → get_or part i 0 ≡ f (at + i))
     → (i : ℕ) → i < at + length part → get_or (put_mid at k out part) i 0 ≡ f i

@@ -1,5 +1,5 @@
 -- A row's words are replaced one after another.
-use Rattle.std.proofs.Common.{◌≡◌, ℕ, ◌+◌, ◌-◌, ◌*◌, ◌/◌, ◌%◌, ◌^◌, ◌<◌, ◌≤◌, ◌==◌, ◌&&◌, ◌≢◌, Bool, true, false, nat_lt, if◌then◌else◌, List, get_or, refl, sym, ◌∙◌, ap, ap₂, arith, inl, inr, get_or-take, get_or-drop, take, drop}
+use Rattle.std.proofs.Common.{◌≡◌, ℕ, ◌+◌, ◌-◌, ◌*◌, ◌/◌, ◌%◌, ◌<◌, ◌≤◌, ◌==◌, ◌&&◌, ◌≢◌, Bool, true, false, nat_lt, if◌then◌else◌, List, get_or, refl, sym, ◌∙◌, ap, ap₂, arith, inl, inr, get_or-take, get_or-drop, take, drop}
 use Rattle.std.proofs.lemmas.Nat.{same_from_place, mul-add-lt, div-mul-add, mod-mul-add}
 use Rattle.std.proofs.lemmas.Bool.{cases_eq, eq-eqb, ne_eqb}
 use Rattle.std.proofs.lemmas.Bool.Decides.{nat_tests, Decides-eqb}
@@ -64,17 +64,7 @@ word_set cells column row word t made is p makes from =
 
 -- a word is put where it stands
 pub word_same : (cells : Cells) (column row word : ℕ) → IsLattice cells → ((x : ℕ) → x < 64 → bit word x ≡ has cells (column * 64 + x) row) → cells ≡ with_word cells column row word
-word_same cells column row word is bits =
-    let test : ℕ → ℕ → Bool = λ x y. if (x / 64 == column) && (y == row) then bit word (x % 64) else has cells x y in
-    same_cells cells (cells_where cells.width cells.height test) is.full (full-cells_where cells.width cells.height test) refl refl
-    (λ x y p q.
-    choose_same ((x / 64 == column) && (y == row)) (bit word (x % 64)) (has cells x y) (has cells x y)
-    (λ both.
-    let at = both_true (x / 64) column y row both in
-    let across : x ≡ column * 64 + x % 64 = omega (arith, at.0) in
-    ap₂ (has cells) across at.1 ∙ sym (bits (x % 64) (omega arith)))
-    (λ neither. refl)
-    ∙ sym (has-cells_where cells.width cells.height test x y p q))
+word_same cells column row word is bits = grind (arith, same_cells, full-cells_where, choose_same, both_true, has-cells_where)
 
 -- the row's words before a column are replaced
 abbrev pub rowed : Cells → ℕ → List ℕ → ℕ → Cells
@@ -87,11 +77,7 @@ all_before : (n c : ℕ) (b : Bool) → n < c → (nat_lt n c && b) ≡ b
 all_before n c b h = grind (arith, nat_tests)
 
 pub row_starts : (cells : Cells) (row : ℕ) (bytes : List ℕ) → IsFull cells → cells ≡ rowed cells row bytes 0
-row_starts cells row bytes full =
-    same_cells cells (rowed cells row bytes 0) full (full-cells_where cells.width cells.height (λ x y. if nat_lt (x / 64) 0 && (y == row) then row_has bytes x else has cells x y)) refl refl
-    (λ x y p q.
-    choose_false _ _ _ _ (none_before (x / 64) (y == row)) refl
-    ∙ sym (has-cells_where cells.width cells.height (λ x y. if nat_lt (x / 64) 0 && (y == row) then row_has bytes x else has cells x y) x y p q))
+row_starts cells row bytes full = grind (arith, same_cells, full-cells_where, nat_lt, choose_false, none_before, has-cells_where)
 
 pub row_ends : (cells now : Cells) (row : ℕ) (bytes : List ℕ) (column : ℕ) → IsLattice cells → cells.width / 64 ≤ column → now ≡ rowed cells row bytes column → now ≡ row_replaced cells row bytes
 row_ends cells now row bytes column is past so_far =
@@ -101,10 +87,7 @@ row_ends cells now row bytes column is past so_far =
 
 -- eight bytes of the row
 pub chunk_has : (bytes chunk : List ℕ) (column x : ℕ) → x < 64 → ((k : ℕ) → k < 8 → get_or chunk k 0 ≡ get_or bytes (column * 8 + k) 0) → row_has chunk x ≡ row_has bytes (column * 64 + x)
-chunk_has bytes chunk column x h same =
-    let place : column * 8 + x / 8 ≡ (column * 64 + x) / 8 = omega arith in
-    let bit_place : x % 8 ≡ (column * 64 + x) % 8 = omega arith in
-    ap₂ (λ n i. n / 2 ^ (7 - i) % 2 == 1) (same (x / 8) (omega arith) ∙ ap (λ k. get_or bytes k 0) place) bit_place
+chunk_has bytes chunk column x h same = grind (arith, get_or)
 
 at_column : (n c : ℕ) (b word new old : Bool) → n ≡ c → word ≡ new → (if (n == c) && b then word else (if nat_lt n c && b then new else old)) ≡ (if nat_lt n (c + 1) && b then new else old)
 at_column n c b word new old e f = grind (arith, nat_tests)
@@ -127,9 +110,7 @@ row_next cells now next row bytes chunk column word is so_far put bits same =
     ]))
 
 pub chunk_at : (bytes : List ℕ) (column k : ℕ) → k < 8 → get_or (take (column * 8 + 8 - column * 8) (drop (column * 8) bytes)) k 0 ≡ get_or bytes (column * 8 + k) 0
-chunk_at bytes column k h =
-    let less : k < column * 8 + 8 - column * 8 = omega arith in
-    rw (get_or-take, get_or-drop)
+chunk_at bytes column k h = grind (arith, get_or-take, get_or-drop)
 
 -- the tile that a word is in
 pub word_tile : (cells : Cells) (column row across : ℕ) → IsLattice cells → across ≡ cells.width / 64 → column < cells.width / 64 → row < cells.height → row / 64 * across + column < tile_count cells
@@ -138,7 +119,4 @@ word_tile cells column row across is e p q =
 
 pub word_from : (cells : Cells) (column row across : ℕ) (t : Tile) → across ≡ cells.width / 64 → column < cells.width / 64
     → IsTileFrom t cells ((row / 64 * across + column) % (cells.width / 64) * 64) ((row / 64 * across + column) / (cells.width / 64) * 64) → IsTileFrom t cells (column * 64) (row / 64 * 64)
-word_from cells column row across t e p from =
-    let n : ℕ = cells.width / 64 in
-    let k : row / 64 * across + column ≡ row / 64 * n + column = ap (λ a. row / 64 * a + column) e in
-    rw (k, mod-mul-add (row / 64) (cells.width / 64) column p, div-mul-add (row / 64) (cells.width / 64) column p) at from
+word_from cells column row across t e p from = grind (arith, mod-mul-add, div-mul-add)

@@ -21,23 +21,10 @@ not_below n i h = grind (arith, nat_tests)
 
 -- no tile is done, and all tiles are
 pub sweep_starts : (cells : Cells) (test : ℕ → ℕ → Bool) (i : ℕ) → IsFull cells → ((x y : ℕ) → x < cells.width → y < cells.height → tile_of cells x y < i → test x y ≡ has cells x y) → cells ≡ swept cells test i
-sweep_starts cells test i full same =
-    same_cells cells (swept cells test i) full (full-cells_where cells.width cells.height (λ x y. if nat_lt (tile_of cells x y) i then test x y else has cells x y)) refl refl
-    (λ x y p q.
-    elim (cases_lt (tile_of cells x y) i) [
-      | inl less ↦ choose_true _ _ _ _ (is_below (tile_of cells x y) i less) (sym (same x y p q less))
-      | inr more ↦ choose_false _ _ _ _ (not_below (tile_of cells x y) i more) refl
-    ]
-    ∙ sym (has-cells_where cells.width cells.height (λ x y. if nat_lt (tile_of cells x y) i then test x y else has cells x y) x y p q))
+sweep_starts cells test i full same = grind (arith, same_cells, full-cells_where, nat_lt, cases_lt, choose_true, is_below, choose_false, not_below, has-cells_where)
 
 pub sweep_ends : (cells : Cells) (test : ℕ → ℕ → Bool) (i : ℕ) → ((x y : ℕ) → x < cells.width → y < cells.height → i ≤ tile_of cells x y → test x y ≡ has cells x y) → swept cells test i ≡ cells_where cells.width cells.height test
-sweep_ends cells test i same =
-    same_cells_where cells.width cells.height (λ x y. if nat_lt (tile_of cells x y) i then test x y else has cells x y) test
-    (λ x y p q.
-    elim (cases_lt (tile_of cells x y) i) [
-      | inl less ↦ sym (choose_true _ _ _ _ (is_below (tile_of cells x y) i less) refl)
-      | inr more ↦ sym (choose_false _ _ _ _ (not_below (tile_of cells x y) i more) (same x y p q more))
-    ])
+sweep_ends cells test i same = grind (arith, same_cells_where, nat_lt, cases_lt, choose_true, is_below, choose_false, not_below)
 
 -- the place of tile i
 abbrev pub left_of : Cells → ℕ → ℕ
@@ -48,14 +35,10 @@ top_of cells i = i / (cells.width / 64) * 64
 
 -- a cell stands in its tile
 pub cell_across : (cells : Cells) (i x y : ℕ) → IsWholeTiles cells.width → x < cells.width → tile_of cells x y ≡ i → left_of cells i + x % 64 ≡ x
-cell_across cells i x y is p e =
-    let k : i % (cells.width / 64) ≡ x / 64 = ap (λ i. i % (cells.width / 64)) (sym e) ∙ mod-mul-add (y / 64) (cells.width / 64) (x / 64) (tile_below cells.width x is p) in
-    omega arith
+cell_across cells i x y is p e = grind (arith, mod-mul-add, tile_below)
 
 pub cell_down : (cells : Cells) (i x y : ℕ) → IsWholeTiles cells.width → x < cells.width → tile_of cells x y ≡ i → top_of cells i + y % 64 ≡ y
-cell_down cells i x y is p e =
-    let k : i / (cells.width / 64) ≡ y / 64 = ap (λ i. i / (cells.width / 64)) (sym e) ∙ div-mul-add (y / 64) (cells.width / 64) (x / 64) (tile_below cells.width x is p) in
-    omega arith
+cell_down cells i x y is p e = grind (arith, div-mul-add, tile_below)
 
 step_cell : (b c : ℕ) (test before : Bool) → (b ≡ c → ⊥) → (if nat_lt b c then test else before) ≡ (if nat_lt b (c + 1) then test else before)
 step_cell b c test before other = grind (arith, nat_tests)
@@ -97,15 +80,7 @@ tile_column n i x y some p q = rw (div-mul-add (i / n) 64 y q, div-mul-add (i % 
 
 -- a tile that has not been replaced yet is as before
 pub sweep_reads : (cells : Cells) (test : ℕ → ℕ → Bool) (i : ℕ) (t : Tile) → IsLattice cells → i < tile_count cells → IsTileFrom t (swept cells test i) (left_of cells i) (top_of cells i) → (x y : ℕ) → x < 64 → y < 64 → tile.has t x y ≡ has cells (left_of cells i + x) (top_of cells i + y)
-sweep_reads cells test i t is within from x y p q =
-    let across = wide (extent cells) is.sized in
-    let down = high (extent cells) is.sized in
-    let place : tile_of cells (left_of cells i + x) (top_of cells i + y) ≡ i = tile_column (cells.width / 64) i x y across.some p q in
-    let a : i % (cells.width / 64) < cells.width / 64 = mod-lt i across.some in
-    let d : i / (cells.width / 64) < cells.height / 64 = (row-Below i (cells.width / 64) (cells.width / 64) (cells.height / 64) within (omega arith)).1 in
-    from.cell x y p q
-    ∙ (has-cells_where cells.width cells.height (λ x y. if nat_lt (tile_of cells x y) i then test x y else has cells x y) (left_of cells i + x) (top_of cells i + y) (cell_below cells.width (i % (cells.width / 64)) x across a p) (cell_below cells.height (i / (cells.width / 64)) y down d q)
-    ∙ sym (choose_false _ _ _ _ (not_below (tile_of cells (left_of cells i + x) (top_of cells i + y)) i (omega arith)) refl))
+sweep_reads cells test i t is within from x y p q = grind (arith, wide, high, tile_column, mod-lt, row-Below, has-cells_where, nat_lt, cell_below, choose_false, not_below)
 
 -- the next tile is read, and what is made of it is put in its place
 pub sweep_next : (cells now next : Cells) (test : ℕ → ℕ → Bool) (i : ℕ) (t made : Tile) → IsLattice cells → i < tile_count cells → now ≡ swept cells test i → IsTileFrom t now (left_of now i) (top_of now i) → next ≡ with_tile now i made

@@ -22,21 +22,14 @@ abbrev pub tiled : List Tile → Extent → Cells
 tiled tiles size = cells_where size.width size.height (tiles_have tiles (size.width / 64))
 
 pub lattice_of : (tiles : List Tile) (size : Extent) (cells : Cells) → Cover tiles size → tiled tiles size ≡ cells → IsLattice cells
-lattice_of tiles size cells cover e =
-    let is : IsLattice (tiled tiles size) = record { sized = cover.sized; full = full-cells_where size.width size.height (tiles_have tiles (size.width / 64)) } in
-    subst IsLattice e is
+lattice_of tiles size cells cover e = grind (arith, full-cells_where, subst)
 
 tile_has_cell : (tiles : List Tile) (across column row x y : ℕ) → x < 64 → y < 64 → tiles_have tiles across (column * 64 + x) (row * 64 + y) ≡ tile.has (tile_at tiles (row * across + column)) x y
 unfolding tiles_have
 tile_has_cell tiles across column row x y p q = rw (div-mul-add column 64 x p, div-mul-add row 64 y q, mod-mul-add column 64 x p, mod-mul-add row 64 y q)
 
 pub tiled_from : (tiles : List Tile) (size : Extent) (column row : ℕ) → Cover tiles size → column < size.width / 64 → row < size.height / 64 → IsTileFrom (tile_at tiles (row * (size.width / 64) + column)) (tiled tiles size) (column * 64) (row * 64)
-tiled_from tiles size column row cover p q =
-    record {
-      cell = λ x y a b.
-          sym (has-cells_where size.width size.height (tiles_have tiles (size.width / 64)) (column * 64 + x) (row * 64 + y) (cell_below size.width column x (wide size cover.sized) p a) (cell_below size.height row y (high size cover.sized) q b)
-          ∙ tile_has_cell tiles (size.width / 64) column row x y a b);
-    }
+tiled_from tiles size column row cover p q = grind (arith, has-cells_where, cell_below, wide, high, tile_has_cell)
 
 pub tile_place : (tiles : List Tile) (size : Extent) (column row : ℕ) → Cover tiles size → column < size.width / 64 → row < size.height / 64 → row * (size.width / 64) + column < length tiles
 tile_place tiles size column row cover p q = omega (arith, cover.enough, mul-add-lt row (size.width / 64) column (size.height / 64) q p)
@@ -64,14 +57,10 @@ tile_from tiles size i t cover within read =
     (tiled_from tiles size (i % (size.width / 64)) (i / (size.width / 64)) cover column row)
 
 pub tile_is : (tiles : List Tile) (size : Extent) (cells : Cells) (i : ℕ) (t : Tile) → Cover tiles size → tiled tiles size ≡ cells → i < tile_count cells → t ≡ get_or tiles i t → IsTileFrom t cells (i % (cells.width / 64) * 64) (i / (cells.width / 64) * 64)
-tile_is tiles size cells i t cover e within read =
-    let P : Cells → Type 0 = λ cells. i < tile_count cells → IsTileFrom t cells (i % (cells.width / 64) * 64) (i / (cells.width / 64) * 64) in
-    subst P e (λ h. tile_from tiles size i t cover h read) within
+tile_is tiles size cells i t cover e within read = grind (arith, subst, tile_from)
 
 pub tile_there : (tiles : List Tile) (size : Extent) (cells : Cells) (i : ℕ) → Cover tiles size → tiled tiles size ≡ cells → i < tile_count cells → i < length tiles
-tile_there tiles size cells i cover e within =
-    let P : Cells → Type 0 = λ cells. i < tile_count cells → i < length tiles in
-    subst P e (λ h. let k : i < length tiles = omega (arith, cover.enough) in k) within
+tile_there tiles size cells i cover e within = grind (arith, subst)
 
 -- the tiles of an empty set
 pub tiled_empty : (tiles : List Tile) (size : Extent) (t : Tile) (n : ℕ) → tiles ≡ replicate n t → n ≡ size.width / 64 * (size.height / 64) → is_size size ≡ true → ((x y : ℕ) → x < 64 → y < 64 → tile.has t x y ≡ false) → tiled tiles size ≡ cells_where size.width size.height (λ _ _. false)
@@ -88,14 +77,7 @@ tiled_empty tiles size t n all enough sized none =
 
 pub nothing_there : (tiles : List Tile) (size : Extent) (cells : Cells) → Cover tiles size → tiled tiles size ≡ cells → ((i : ℕ) → i < length tiles → (x y : ℕ) → x < 64 → y < 64 → tile.has (tile_at tiles i) x y ≡ false) → (x y : ℕ) → x < cells.width → y < cells.height → has cells x y ≡ false
 unfolding tiles_have
-nothing_there tiles size cells cover e none x y =
-    subst (λ (cells : Cells). x < cells.width → y < cells.height → has cells x y ≡ false) e
-    (λ p q.
-    let a = tile_below size.width x (wide size cover.sized) p in
-    let b = tile_below size.height y (high size cover.sized) q in
-    let i : ℕ = y / 64 * (size.width / 64) + x / 64 in
-    let k : i < length tiles = omega (arith, cover.enough, mul-add-lt (y / 64) (size.width / 64) (x / 64) (size.height / 64) b a) in
-    has-cells_where size.width size.height (tiles_have tiles (size.width / 64)) x y p q ∙ none i k (x % 64) (y % 64) (omega arith) (omega arith))
+nothing_there tiles size cells cover e none x y = grind (arith, subst, tile_below, wide, high, mul-add-lt, has-cells_where)
 
 -- a tile that is put in a place
 pub tiled_set : (tiles : List Tile) (size : Extent) (cells : Cells) (i : ℕ) (t : Tile) → i < tile_count cells → Cover tiles size → tiled tiles size ≡ cells → tiled (set tiles i t) size ≡ with_tile cells i t

@@ -19,7 +19,10 @@ pub record IsTileFrom (t : Tile) (cells : Cells) (x0 y0 : ℕ) : Type 0 where
 
 -- the border has the torus's cells round the 64 by 64 cells from the place (x0, y0) on
 pub record IsRingRound (b : Border) (cells : Cells) (x0 y0 : ℕ) : Type 0 where
-  pub cell : (i j : ℕ) → IsOnRing i j → ring b i j ≡ has cells ((x0 + i + cells.width - 1) % cells.width) ((y0 + j + cells.height - 1) % cells.height)
+  pub cell : (i j : ℕ) → IsOnRing i j
+      → ring b i j ≡ has cells
+      ((x0 + i + cells.width - 1) % cells.width)
+      ((y0 + j + cells.height - 1) % cells.height)
 
 -- where a row has so many tiles: the column and the row of tiles that a tile is in
 pub record IsPosition (across : ℕ) (p : Position) : Type 0 where
@@ -36,7 +39,9 @@ pub record IsBare (cells : Cells) (x0 y0 : ℕ) : Type 0 where
 
 -- none of the 192 by 192 cells of the torus that have these in their midst
 pub record IsBareFarRound (cells : Cells) (x0 y0 : ℕ) : Type 0 where
-  pub cell : (i j : ℕ) → i < 192 → j < 192 → has cells ((x0 + i + cells.width - 64) % cells.width) ((y0 + j + cells.height - 64) % cells.height) ≡ false
+  pub cell : (i j : ℕ) → i < 192 → j < 192
+      → has cells ((x0 + i + cells.width - 64) % cells.width)
+      ((y0 + j + cells.height - 64) % cells.height) ≡ false
 
 -- round a circle of n places, the one before place k, itself and the one after it, for d = 0, 1 and 2
 abbrev pub place_by : ℕ → ℕ → ℕ → ℕ
@@ -67,7 +72,9 @@ pub record AreTilesRound (r : Round) (cells : Cells) (i : ℕ) : Type 0 where
 
 -- none of the 64 by 64 cells from the place (x0, y0) on, and none of the ring round them on the torus, is in the set
 pub record IsBareRound (cells : Cells) (x0 y0 : ℕ) : Type 0 where
-  pub cell : (i j : ℕ) → i ≤ 65 → j ≤ 65 → has cells ((x0 + i + cells.width - 1) % cells.width) ((y0 + j + cells.height - 1) % cells.height) ≡ false
+  pub cell : (i j : ℕ) → i ≤ 65 → j ≤ 65
+      → has cells ((x0 + i + cells.width - 1) % cells.width)
+      ((y0 + j + cells.height - 1) % cells.height) ≡ false
 
 -- the number of the tile that a cell is in
 abbrev pub tile_of : Cells → ℕ → ℕ → ℕ
@@ -75,17 +82,23 @@ tile_of cells x y = y / 64 * (cells.width / 64) + x / 64
 
 -- the set with the cells of tile i replaced by those of another tile
 abbrev pub with_tile : Cells → ℕ → Tile → Cells
-with_tile cells i t = cells_where cells.width cells.height (λ x y. if tile_of cells x y == i then tile.has t (x % 64) (y % 64) else has cells x y)
+with_tile cells i t =
+    cells_where cells.width cells.height
+    (λ x y. if tile_of cells x y == i then tile.has t (x % 64) (y % 64) else has cells x y)
 
 -- the set with 64 cells of a row replaced, those from column 64 * column on
 abbrev pub with_word : Cells → ℕ → ℕ → ℕ → Cells
 with_word cells column row word =
-    cells_where cells.width cells.height (λ x y. if (x / 64 == column) && (y == row) then bit word (x % 64) else has cells x y)
+    cells_where cells.width cells.height
+    (λ x y. if (x / 64 == column) && (y == row) then bit word (x % 64) else has cells x y)
 
 -- the set with the cells that pass a test put in, or taken out
 abbrev pub painted_where : Cells → (ℕ → ℕ → Bool) → Bool → Cells
-painted_where cells test held = cells_where cells.width cells.height (λ x y. if test x y then held else has cells x y)
+painted_where cells test held =
+    cells_where cells.width cells.height (λ x y. if test x y then held else has cells x y)
 
 -- the set whose tiles below i have the cells that pass the test, and whose others are as before
 abbrev pub swept : Cells → (ℕ → ℕ → Bool) → ℕ → Cells
-swept cells test i = cells_where cells.width cells.height (λ x y. if nat_lt (tile_of cells x y) i then test x y else has cells x y)
+swept cells test i =
+    cells_where cells.width cells.height
+    (λ x y. if nat_lt (tile_of cells x y) i then test x y else has cells x y)

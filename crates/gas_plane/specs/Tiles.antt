@@ -22,12 +22,14 @@ tiles_have tiles across x y = tile.has (tile_at tiles (y / 64 * across + x / 64)
 
 -- the rooms begin with those of this row of tiles of a lattice
 pub record AreTilesInRow (rooms : List Room) (cells : Cells) (row : ℕ) : Type 0 where
-  pub tile : (column : ℕ) (d : Room) → column < cells.width / 64 → IsTileFrom (slice_index_or rooms column d).tile cells (column * 64) (row * 64)
+  pub tile : (column : ℕ) (d : Room) → column < cells.width / 64
+      → IsTileFrom (slice_index_or rooms column d).tile cells (column * 64) (row * 64)
 
 -- the rows are a row of tiles of a lattice and those above and below it, round the torus
 pub record AreRowsRound (rows : TileRows) (cells : Cells) (row : ℕ) : Type 0 where
   pub across : rows.across ≡ cells.width / 64
-  pub above : AreTilesInRow rows.above.now cells ((row + cells.height / 64 - 1) % (cells.height / 64))
+  pub above : AreTilesInRow rows.above.now cells
+      ((row + cells.height / 64 - 1) % (cells.height / 64))
   pub here : AreTilesInRow rows.here.now cells row
   pub below : AreTilesInRow rows.below.now cells ((row + 1) % (cells.height / 64))
 

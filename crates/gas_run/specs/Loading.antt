@@ -15,7 +15,8 @@ most = 6291767
 -- These bytes were read: the reader is at its end, or as many bytes are there as may be.
 abbrev pub IsRead : Option (List ℕ) → Option (List ℕ) → List ℕ → Type 0
 IsRead unread_old unread_new bytes =
-    Consumes unread_old unread_new bytes × (length bytes ≤ most) × (IsAtEnd unread_new ⊎ (length bytes ≡ most))
+    Consumes unread_old unread_new bytes × (length bytes ≤ most)
+    × (IsAtEnd unread_new ⊎ (length bytes ≡ most))
 
 abbrev pub loaded : Result Gas SnapFault → Result Gas LoadFault
 loaded (Ok gas) = Ok gas
@@ -25,4 +26,6 @@ loaded (Err fault) = Err (Snap fault)
 abbrev pub Loads : {R : Type 0} → (R → Option (List ℕ)) → R → R → Result Gas LoadFault → Type 0
 Loads remaining old new result =
     (result ≡ Err Read) ⊎ ((result ≡ Err (Snap Memory)) × (new ≡ old))
-    ⊎ ((bytes : List ℕ) × (decoded : Result Gas SnapFault) × IsRead (remaining old) (remaining new) bytes × Gives decoded (reading bytes) × (result ≡ loaded decoded))
+    ⊎ ((bytes : List ℕ) × (decoded : Result Gas SnapFault)
+    × IsRead (remaining old) (remaining new) bytes
+    × Gives decoded (reading bytes) × (result ≡ loaded decoded))

@@ -34,13 +34,25 @@ pub record Outside : Type 0 where
   pub shelved : Option (List (List ℕ))
 
 -- what a run has around it: this reader, this writer and this shelf
-abbrev pub outside : {R W K : Type 0} → (R → Option (List ℕ)) → (W → Option (List ℕ)) → (K → ℕ) → (K → Option (List (List ℕ))) → R → W → K → Outside
+abbrev pub outside : {R W K : Type 0} → (R → Option (List ℕ)) → (W → Option (List ℕ))
+    → (K → ℕ) → (K → Option (List (List ℕ))) → R → W → K → Outside
 outside remaining contents failures shelved reader writer shelf =
-    record { unread = remaining reader; written = contents writer; failures = failures shelf; shelved = shelved shelf }
+    record {
+      unread = remaining reader;
+      written = contents writer;
+      failures = failures shelf;
+      shelved = shelved shelf;
+    }
 
 -- a laboratory and what its sessions write to and put on
 abbrev pub place_of : Laboratory → Outside → Place Laboratory
-place_of lab outside = record { door = lab; written = outside.written; failures = outside.failures; shelved = outside.shelved }
+place_of lab outside =
+    record {
+      door = lab;
+      written = outside.written;
+      failures = outside.failures;
+      shelved = outside.shelved;
+    }
 
 -- A run is one session of seat 0 with the laboratory that opens with the start, and the status is that of its end; or
 -- memory was refused for the opening, and then nothing was read, written or put.
@@ -48,4 +60,5 @@ abbrev pub Runs : Setup → Option Gas → Outside → ℕ → Outside → Type 
 Runs setup start old status new =
     ((status ≡ 4) × (new ≡ old))
     ⊎ ((end : SessionEnd) × (lab : Laboratory) × (status ≡ status_of end)
-    × IsTalk 0 old.unread new.unread (place_of (opening (start_of setup.size start) setup.cap) old) end (place_of lab new))
+    × IsTalk 0 old.unread new.unread
+    (place_of (opening (start_of setup.size start) setup.cap) old) end (place_of lab new))

@@ -27,4 +27,5 @@ AppliesToSome size cap seat command reply =
 -- refused
 abbrev pub CopiesSome : Extent → ℕ → Seat → Result Copied NoMemory → Type 0
 CopiesSome size cap seat copied =
-    (lab : Laboratory) × IsNamed size cap lab × (seat.entries ≤ length lab.journal) × Copies lab copied lab
+    (lab : Laboratory) × IsNamed size cap lab
+    × (seat.entries ≤ length lab.journal) × Copies lab copied lab

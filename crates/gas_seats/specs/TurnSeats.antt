@@ -46,17 +46,25 @@ pub record Continues (seat : TurnSeatView) (lab : Laboratory) : Type 0 where
 abbrev pub AsksInTurn : TurnSeatView → Command → Result Answer Refusal → TurnSeatView → Type 0
 AsksInTurn old command reply new =
     (lab : Laboratory) × (next : Laboratory) × Continues old lab × IsSound next
-    × Applies lab (entry_of old.number command) reply next × (new ≡ record old { seen = next.journal })
+    × Applies lab (entry_of old.number command) reply next
+    × (new ≡ record old { seen = next.journal })
 
 -- such a laboratory was copied, unless memory was refused, and the seat then has seen its journal
 abbrev pub CopiesInTurn : TurnSeatView → Result Copied NoMemory → TurnSeatView → Type 0
 CopiesInTurn old copied new =
-    (lab : Laboratory) × Continues old lab × Copies lab copied lab × (new ≡ record old { seen = lab.journal })
+    (lab : Laboratory) × Continues old lab
+    × Copies lab copied lab × (new ≡ record old { seen = lab.journal })
 
 -- the seat of this number as a hall over the laboratory opens
 abbrev pub opening_seat : TableId → Laboratory → ℕ → TurnSeatView
 opening_seat hall lab number =
-    record { hall = hall; number = number; size = extent lab.start.particles; opened = Some (lab.start, lab.cap); seen = [] }
+    record {
+      hall = hall;
+      number = number;
+      size = extent lab.start.particles;
+      opened = Some (lab.start, lab.cap);
+      seen = [];
+    }
 
 -- which hall the note is of, and what its seat had seen
 pub record TurnNoteView : Type 0 where

@@ -1,5 +1,5 @@
 -- A field that is read is the field that was written, and what was written is read again.
-use Rattle.std.proofs.Common.{◌≡◌, ℕ, zero, suc, ◌+◌, ◌^◌, ◌<◌, ◌≤◌, Bool, true, false, cond, ltb, ◌&&◌, List, [], ◌∷◌, ◌++◌, length, get_or, take, drop, Result, Ok, Err, refl, sym, ap, subst, ◌∙◌, append_assoc, arith, inl, inr, ℤ}
+use Rattle.std.proofs.Common.{◌≡◌, ℕ, zero, suc, ◌+◌, ◌^◌, ◌<◌, ◌≤◌, Bool, true, false, cond, ltb, ◌&&◌, List, [], ◌∷◌, ◌++◌, length, get_or, take, drop, Result, Ok, Err, refl, sym, ap, subst, ◌∙◌, append_assoc, arith, ℤ}
 use Rattle.std.specs.List.{AllByRecursion, flat_map}
 use Rattle.std.specs.Prelude.{bytes_eq}
 use Rattle.std.specs.Bool.{Decides}
@@ -7,8 +7,8 @@ use Rattle.std.proofs.lemmas.Slice.Eq.{bytes_eq-Decides}
 use Rattle.std.proofs.Common.{FitsSigned, nat_abs}
 use mir.ValLaws as laws
 use Rattle.std.proofs.lemmas.Int.{of_z-to_z, to_z-of_z, fits_signed_from_abs}
-use Rattle.std.specs.Int.{w16, w64, from_be_bytes, to_be_bytes, cast_signed, cast_unsigned}
-use Rattle.std.proofs.lemmas.Bool.{leb-true, cases_lt, ltb-false, le-ltb, and_parts}
+use Rattle.std.specs.Int.{w16, w64, from_be_bytes, to_be_bytes, cast_unsigned}
+use Rattle.std.proofs.lemmas.Bool.{leb-true, cases_lt, ltb-false, le-ltb}
 use Rattle.std.proofs.lemmas.List.{take_at, drop_at, take-append-drop, length-append, length-take, length-drop, get_or-drop, get_or-take, get_or_past, append-nil, nil_from_length, drop-drop}
 use Rattle.std.proofs.lemmas.Nat.{be_bytes_2, be_bytes_8, from_be_bytes-to_be_bytes_2, from_be_bytes-to_be_bytes_8}
 use Rattle.gas_terms.specs.Cells.{Extent, Rectangle, lies_within}
@@ -28,11 +28,7 @@ pub IsBytes-drop : (n : ℕ) (bytes : List ℕ) → IsBytes bytes → IsBytes (d
 IsBytes-drop n bytes h i = rw get_or-drop (h (n + i))
 
 pub IsBytes-take : (n : ℕ) (bytes : List ℕ) → IsBytes bytes → IsBytes (take n bytes)
-IsBytes-take n bytes h i =
-    elim (cases_lt i n) [
-      | inl lt ↦ rw (get_or-take n bytes i 0 lt) (h i)
-      | inr le ↦ rw (get_or_past (take n bytes) i 0 (omega (arith, length-take n bytes))) (omega arith)
-    ]
+IsBytes-take n bytes h i = grind (arith, cases_lt, get_or-take, h, get_or_past, length-take)
 
 -- the value of a step that did not fail
 pub bind_ok : {A B : Type 0} (r : Result A SnapFault) (f : A → Result B SnapFault) (y : B) → (r >>= f) ≡ Ok y → (x : A) × (r ≡ Ok x) × (f x ≡ Ok y)
@@ -81,26 +77,19 @@ field_takes n bytes x fits e =
     })
 
 pub field_again : (n : ℕ) (field rest : List ℕ) → length field ≡ n → field_at n (field ++ rest) ≡ Ok (field, rest)
-field_again n field rest len =
-    let long : ltb (length (field ++ rest)) n ≡ false = le-ltb _ _ (omega (arith, length-append field rest)) in
-    rw (long, take_at field rest n len, drop_at field rest n len) refl
+field_again n field rest len = grind (arith, ltb, le-ltb, length-append, take_at, len, drop_at)
 
 -- ---- numbers of 16 bits
 
 pub word_front : (bytes : List ℕ) → IsBytes bytes → 2 ≤ length bytes → to_be_bytes w16 (from_be_bytes w16 (take 2 bytes)) ++ drop 2 bytes ≡ bytes
-word_front bytes fits long =
-    let front : to_be_bytes w16 (from_be_bytes w16 (take 2 bytes)) ≡ take 2 bytes = be_bytes_2 (take 2 bytes) _ (omega (arith, length-take 2 bytes)) (IsBytes-take 2 bytes fits) refl in
-    ap (λ (t : List ℕ). t ++ drop 2 bytes) front ∙ take-append-drop 2 bytes
+word_front bytes fits long = grind (arith, be_bytes_2, length-take, fits, take-append-drop)
 
 abbrev pub word : ℕ → List ℕ
 word n = to_be_bytes w16 n
 
 -- the last number of a field
 word_last : (bytes : List ℕ) → IsBytes bytes → length bytes ≡ 2 → word (from_be_bytes w16 (take 2 bytes)) ≡ bytes
-word_last bytes fits len =
-    let none : drop 2 bytes ≡ [] = nil_from_length (drop 2 bytes) (omega (arith, length-drop 2 bytes)) in
-    sym (append-nil (word (from_be_bytes w16 (take 2 bytes)))) ∙ ap (λ (t : List ℕ). word (from_be_bytes w16 (take 2 bytes)) ++ t) (sym none)
-    ∙ word_front bytes fits (omega arith)
+word_last bytes fits len = grind (arith, nil_from_length, length-drop, append-nil, word_front, fits)
 
 -- a number, and then what is known of the rest of the field
 word_then : (k : ℕ) (field text : List ℕ) → IsBytes field → k + 2 ≤ length field → text ≡ drop (k + 2) field → word (from_be_bytes w16 (take 2 (drop k field))) ++ text ≡ drop k field
@@ -138,10 +127,7 @@ source_of field fits len =
 
 pub moment_of : (field : List ℕ) → IsBytes field → length field ≡ 8 → moment (tick_in field) ≡ field
 unfolding moment
-moment_of field fits len =
-    let number = from_be_bytes w64 field in
-    let below : number < 2 ^ 64 = omega (arith, fits 0, fits 1, fits 2, fits 3, fits 4, fits 5, fits 6, fits 7) in
-    ap (λ (n : ℕ). to_be_bytes w64 n) (of_z-to_z w64 number below) ∙ be_bytes_8 field number len fits refl
+moment_of field fits len = grind (arith, fits, of_z-to_z, be_bytes_8, len)
 
 pub counts_of : (field : List ℕ) → length field ≡ 2 → counts (counts_in field).0 (counts_in field).1 ≡ field
 counts_of [] len = absurd (omega arith)
@@ -250,27 +236,18 @@ size_again version size rest ok wide high =
     ∙ ap (λ (b : Bool). cond b (Ok (size, rest)) (Err Size)) ok
 
 tick_fits : (tick : ℤ) → is_tick tick ≡ true → FitsSigned w64 tick
-tick_fits tick ok =
-    let small : nat_abs tick ≤ 2 ^ 40 = leb-true _ _ ok in
-    fits_signed_from_abs w64 tick (omega arith)
+tick_fits tick ok = grind (arith, nat_abs, leb-true, fits_signed_from_abs)
 
 unsigned_below : (tick : ℤ) → is_tick tick ≡ true → cast_unsigned w64 tick < 2 ^ 64
 unsigned_below tick ok = (laws.of_z_fits w64 tick (tick_fits tick ok)).fits
 
 pub tick_again : (tick : ℤ) (rest : List ℕ) → is_tick tick ≡ true → tick_at (moment tick ++ rest) ≡ Ok (tick, rest)
 unfolding tick_at moment
-tick_again tick rest ok =
-    let field = to_be_bytes w64 (cast_unsigned w64 tick) in
-    let same : tick_in field ≡ tick = ap (λ (n : ℕ). cast_signed w64 n) (from_be_bytes-to_be_bytes_8 (cast_unsigned w64 tick) (unsigned_below tick ok)) ∙ to_z-of_z w64 tick (tick_fits tick ok) in
-    ap (λ (r : Result (List ℕ × List ℕ) SnapFault). r >>= λ field. cond (is_tick (tick_in field.0)) (Ok (tick_in field.0, field.1)) (Err Tick)) (field_again 8 field rest refl)
-    ∙ ap (λ (t : ℤ). cond (is_tick t) (Ok (t, rest)) (Err Tick)) same
-    ∙ ap (λ (b : Bool). cond b (Ok (tick, rest)) (Err Tick)) ok
+tick_again tick rest ok = grind (arith, from_be_bytes-to_be_bytes_8, unsigned_below, to_z-of_z, tick_fits, field_again)
 
 pub counts_again : (drains sources : ℕ) (rest : List ℕ) → are_few (drains, sources) ≡ true → counts_at (counts drains sources ++ rest) ≡ Ok ((drains, sources), rest)
 unfolding counts_at
-counts_again drains sources rest ok =
-    ap (λ (r : Result (List ℕ × List ℕ) SnapFault). r >>= λ field. cond (are_few (counts_in field.0)) (Ok (counts_in field.0, field.1)) (Err Port)) (field_again 2 (counts drains sources) rest refl)
-    ∙ ap (λ (b : Bool). cond b (Ok ((drains, sources), rest)) (Err Port)) ok
+counts_again drains sources rest ok = grind (arith, field_again)
 
 -- a rectangle whose numbers have 16 bits
 pub record IsSmall (r : Rectangle) : Type 0 where
@@ -291,24 +268,14 @@ area_back r small =
 
 pub drain_again : (size : Extent) (r : Rectangle) (rest : List ℕ) → IsSmall r → lies_within size r ≡ true → drain_at size (drain r ++ rest) ≡ Ok (r, rest)
 unfolding drain_at drain
-drain_again size r rest small ok =
-    let field = word r.x ++ word r.y ++ word r.w ++ word r.h in
-    let same : area_in field ≡ r = area_back r small in
-    ap (λ (r : Result (List ℕ × List ℕ) SnapFault). r >>= λ field. cond (lies_within size (area_in field.0)) (Ok (area_in field.0, field.1)) (Err Port)) (field_again 8 field rest refl)
-    ∙ ap (λ (a : Rectangle). cond (lies_within size a) (Ok (a, rest)) (Err Port)) same
-    ∙ ap (λ (b : Bool). cond b (Ok (r, rest)) (Err Port)) ok
+drain_again size r rest small ok = grind (arith, area_back, field_again)
 
 abbrev made_source : Rectangle → ℕ → Source
 made_source area period = record { area = area; period = period }
 
 pub source_again : (size : Extent) (s : Source) (rest : List ℕ) → IsSmall s.area → s.period < 2 ^ 16 → suits size s ≡ true → source_at size (source s ++ rest) ≡ Ok (s, rest)
 unfolding source_at source drain
-source_again size s rest small low ok =
-    let field = (word s.area.x ++ word s.area.y ++ word s.area.w ++ word s.area.h) ++ word s.period in
-    let same : source_in field ≡ s = ap (λ (a : Rectangle). made_source a (from_be_bytes w16 (word s.period))) (area_back s.area small) ∙ ap (λ (p : ℕ). made_source s.area p) (word_back s.period low) in
-    ap (λ (r : Result (List ℕ × List ℕ) SnapFault). r >>= λ field. cond (suits size (source_in field.0)) (Ok (source_in field.0, field.1)) (Err Port)) (field_again 10 field rest refl)
-    ∙ ap (λ (t : Source). cond (suits size t) (Ok (t, rest)) (Err Port)) same
-    ∙ ap (λ (b : Bool). cond b (Ok (s, rest)) (Err Port)) ok
+source_again size s rest small low ok = grind (arith, area_back, word_back, field_again)
 
 pub magic_again : (version : Version) (rest : List ℕ) → magic_at (magic version ++ rest) ≡ Ok (version, rest)
 unfolding magic_at

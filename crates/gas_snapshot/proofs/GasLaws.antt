@@ -1,5 +1,5 @@
 -- The two laws: what is read is spelled so, and what is spelled so is read.
-use Rattle.std.proofs.Common.{◌≡◌, ℕ, ◌+◌, ◌-◌, ◌*◌, ◌/◌, ◌%◌, ◌<◌, ◌≤◌, Bool, true, false, cond, eqb, List, [], ◌∷◌, ◌++◌, length, take, drop, Result, Ok, Err, refl, sym, ap, subst, ◌∙◌, append_assoc, arith, ℤ, inl, inr}
+use Rattle.std.proofs.Common.{◌≡◌, ℕ, ◌+◌, ◌-◌, ◌*◌, ◌/◌, ◌%◌, ◌<◌, ◌≤◌, Bool, true, false, cond, eqb, List, [], ◌∷◌, ◌++◌, length, take, drop, Result, Ok, Err, refl, sym, ap, subst, ◌∙◌, append_assoc, arith, ℤ}
 use Rattle.std.specs.Prelude.{IsOk, IfOk, nat_le}
 use Rattle.std.specs.List.{AllByRecursion}
 use Rattle.std.proofs.lemmas.Bool.{lt-ltb, le-ltb, cases_lt, leb-true, le-leb, eq-eqb, and_parts, and_from}
@@ -20,7 +20,7 @@ use Rattle.gas_snapshot.specs.declared.version.Version.{Version}
 use Rattle.gas_snapshot.specs.declared.version.Version.TheVariants.{One, Two}
 use Rattle.gas_snapshot.specs.declared.fault.SnapFault.{SnapFault}
 use Rattle.gas_snapshot.specs.declared.fault.SnapFault.TheVariants.{Short, Trailing}
-use Rattle.gas_snapshot.specs.Spelling.{head, rows, obstacle_rows, spelling, most_old_side, HasSpelling, Spells, Allows}
+use Rattle.gas_snapshot.specs.Spelling.{head, rows, obstacle_rows, spelling, HasSpelling, Spells, Allows}
 use Rattle.gas_snapshot.specs.Reading.{◌>>=◌, Head, field_at, is_size_of, head_at, cells_in, cells_at, obstacles_at, obstacles_in, layers, body_at, reading, Gives}
 use Rattle.gas_snapshot.proofs.FieldLaws.{IsBytes, IsBytes-take, IsBytes-drop, bind_ok, done, ok_is, suits}
 use Rattle.gas_snapshot.proofs.HeadLaws.{head_text, made_head, HeadFits, PortsFit, head_takes, head_again, size_of}
@@ -67,9 +67,7 @@ is_zero n e = eq-eqb n 0 e
 obstacles_long : (v : Version) (h : Head) (p w : Cells) (bytes : List ℕ) → (layers v - 2) * part h.size < length bytes → (obstacles_at v h.size bytes >>= ended h p w) ≡ Err Trailing
 unfolding obstacles_at
 obstacles_long One h p w bytes lt = ap (λ (b : Bool). cond b (done (gas_of h.tick p w (no_cells h.size) h.ports)) (Err Trailing)) (pos_not_zero (length bytes) (omega arith))
-obstacles_long Two h p w bytes lt =
-    ap (λ (r : Result (Cells × List ℕ) SnapFault). r >>= ended h p w) (cells_there h.size bytes (omega arith))
-    ∙ ap (λ (b : Bool). cond b (done (gas_of h.tick p w (cells_in h.size (take (part h.size) bytes)) h.ports)) (Err Trailing)) (pos_not_zero (length (drop (part h.size) bytes)) (omega (arith, length-drop (part h.size) bytes)))
+obstacles_long Two h p w bytes lt = grind (arith, cells_there, done, pos_not_zero, length-drop)
 
 whole_taken : (n : ℕ) (bytes : List ℕ) → length bytes ≡ n → take n bytes ≡ bytes
 whole_taken n bytes e = ap (λ (i : ℕ). take i bytes) (sym e) ∙ take-length bytes
@@ -90,9 +88,7 @@ second_cells h bytes p = cells_at h.size p.1 >>= λ w. obstacles_at h.version h.
 two_there : (h : Head) (bytes : List ℕ) → 2 * part h.size ≤ length bytes
     → body_at h bytes ≡ (obstacles_at h.version h.size (drop (part h.size) (drop (part h.size) bytes)) >>= ended h (cells_in h.size (take (part h.size) bytes)) (cells_in h.size (take (part h.size) (drop (part h.size) bytes))))
 unfolding body_at
-two_there h bytes le =
-    ap (λ (r : Result (Cells × List ℕ) SnapFault). r >>= second_cells h bytes) (cells_there h.size bytes (omega arith))
-    ∙ ap (λ (r : Result (Cells × List ℕ) SnapFault). r >>= λ w. obstacles_at h.version h.size w.1 >>= ended h (cells_in h.size (take (part h.size) bytes)) w.0) (cells_there h.size (drop (part h.size) bytes) (omega (arith, length-drop (part h.size) bytes)))
+two_there h bytes le = grind (arith, cells_there, length-drop)
 
 two_layers : (v : Version) (n : ℕ) → layers v * n ≡ 2 * n + (layers v - 2) * n
 two_layers One n = omega arith
@@ -100,29 +96,14 @@ two_layers Two n = omega arith
 
 body_short_2 : (h : Head) (bytes : List ℕ) → length bytes < layers h.version * part h.size → part h.size ≤ length bytes → body_at h bytes ≡ Err Short
 unfolding body_at
-body_short_2 h bytes lt le =
-    elim (cases_lt (length bytes) (2 * part h.size)) [
-      | inl a ↦ ap (λ (r : Result (Cells × List ℕ) SnapFault). r >>= second_cells h bytes) (cells_there h.size bytes le)
-          ∙ ap (λ (r : Result (Cells × List ℕ) SnapFault). r >>= λ w. obstacles_at h.version h.size w.1 >>= ended h (cells_in h.size (take (part h.size) bytes)) w.0) (cells_short h.size (drop (part h.size) bytes) (omega (arith, length-drop (part h.size) bytes)))
-      | inr a ↦ two_there h bytes a
-          ∙ ap (λ (r : Result (Cells × List ℕ) SnapFault). r >>= ended h (cells_in h.size (take (part h.size) bytes)) (cells_in h.size (take (part h.size) (drop (part h.size) bytes))))
-          (obstacles_short h.version h.size (drop (part h.size) (drop (part h.size) bytes)) (omega (arith, two_layers h.version (part h.size), length-drop (part h.size) bytes, length-drop (part h.size) (drop (part h.size) bytes))))
-    ]
+body_short_2 h bytes lt le = grind (arith, cases_lt, cells_there, cells_short, length-drop, two_there, obstacles_short, two_layers)
 
 pub body_short : (h : Head) (bytes : List ℕ) → length bytes < layers h.version * part h.size → body_at h bytes ≡ Err Short
 unfolding body_at
-body_short h bytes lt =
-    elim (cases_lt (length bytes) (part h.size)) [
-      | inl a ↦ ap (λ (r : Result (Cells × List ℕ) SnapFault). r >>= second_cells h bytes) (cells_short h.size bytes a)
-      | inr a ↦ body_short_2 h bytes lt a
-    ]
+body_short h bytes lt = grind (arith, cases_lt, cells_short, body_short_2)
 
 pub body_long : (h : Head) (bytes : List ℕ) → layers h.version * part h.size < length bytes → body_at h bytes ≡ Err Trailing
-body_long h bytes lt =
-    let k = two_layers h.version (part h.size) in
-    two_there h bytes (omega arith)
-    ∙ obstacles_long h.version h (cells_in h.size (take (part h.size) bytes)) (cells_in h.size (take (part h.size) (drop (part h.size) bytes))) (drop (part h.size) (drop (part h.size) bytes))
-    (omega (arith, length-drop (part h.size) bytes, length-drop (part h.size) (drop (part h.size) bytes)))
+body_long h bytes lt = grind (arith, two_layers, two_there, obstacles_long, length-drop)
 
 -- the gas that the cells make with a head
 abbrev pub gas_with : Head → List ℕ → Gas
@@ -141,14 +122,7 @@ no_err : {P : Type 0} (f : SnapFault) (g : Gas) → failed f ≡ done g → P
 no_err f g e = absurd cc
 
 body_ok_long : (h : Head) (bytes : List ℕ) (g : Gas) → body_at h bytes ≡ Ok g → length bytes ≡ layers h.version * part h.size
-body_ok_long h bytes g e =
-    elim (cases_lt (length bytes) (layers h.version * part h.size)) [
-      | inl a ↦ no_err Short g (sym (body_short h bytes a) ∙ e)
-      | inr a ↦ elim (cases_lt (layers h.version * part h.size) (length bytes)) [
-        | inl b ↦ no_err Trailing g (sym (body_long h bytes b) ∙ e)
-        | inr b ↦ omega arith
-      ]
-    ]
+body_ok_long h bytes g e = grind (arith, cases_lt, no_err, body_short, body_long)
 
 -- ---- what was read is spelled so
 
@@ -158,9 +132,7 @@ layer_texts One size bytes even fits e = sym (nil_from_length bytes (omega arith
 layer_texts Two size bytes even fits e = written_again size bytes even (omega arith) fits
 
 joined : (n : ℕ) (bytes a b d : List ℕ) → a ≡ take n bytes → b ≡ take n (drop n bytes) → d ≡ drop n (drop n bytes) → a ++ (b ++ d) ≡ bytes
-joined n bytes a b d p q r =
-    ap (λ (x : List ℕ). x ++ (b ++ d)) p ∙ ap (λ (x : List ℕ). take n bytes ++ (x ++ d)) q ∙ ap (λ (x : List ℕ). take n bytes ++ (take n (drop n bytes) ++ x)) r
-    ∙ ap (λ (x : List ℕ). take n bytes ++ x) (take-append-drop n (drop n bytes)) ∙ take-append-drop n bytes
+joined n bytes a b d p q r = grind (arith, take-append-drop)
 
 body_text : (h : Head) (bytes : List ℕ) → h.size.width % 8 ≡ 0 → IsBytes bytes → length bytes ≡ layers h.version * part h.size
     → rows (gas_with h bytes).particles ++ (rows (gas_with h bytes).walls ++ obstacle_rows h.version (gas_with h bytes).obstacles) ≡ bytes
@@ -176,10 +148,7 @@ body_text h bytes even fits e =
 
 -- what the version allows
 allowed : (v : Version) (size : Extent) (g : Gas) (bytes : List ℕ) → is_size_of v size ≡ true → g.particles.width ≡ size.width → g.particles.height ≡ size.height → g.obstacles ≡ obstacles_in v size bytes → Allows v g
-allowed One size g bytes ok wide high e =
-    let narrow : size.width ≤ most_old_side = grind (arith, nat_tests) in
-    let low : size.height ≤ most_old_side = grind (arith, nat_tests) in
-    record { narrow = omega arith; low = omega arith; unobstructed = e ∙ ap (λ (w : ℕ). no_cells (made_extent w size.height)) (sym wide) ∙ ap (λ (h : ℕ). no_cells (made_extent g.particles.width h)) (sym high) }
+allowed One size g bytes ok wide high e = grind (arith, nat_tests)
 allowed Two size g bytes ok wide high e = tt
 
 obstacle_lattice : (v : Version) (size : Extent) (bytes : List ℕ) → is_size size ≡ true → IsLattice (obstacles_in v size bytes) × HasSidesOf (obstacles_in v size bytes) (cells_in size bytes)
@@ -273,10 +242,7 @@ gas_is {p = p} {q = q} {w = w} {x = x} {o = o} {n = n} tick ports a b e =
     ap (λ (c : Cells). gas_of tick c w o ports) a ∙ ap (λ (c : Cells). gas_of tick q c o ports) b ∙ ap (λ (c : Cells). gas_of tick q x c ports) e
 
 fitting_size : (v : Version) (g : Gas) → is_size (extent g.particles) ≡ true → Allows v g → is_size_of v (extent g.particles) ≡ true
-fitting_size One g ok allowed =
-    let narrow = allowed.narrow in
-    let low = allowed.low in
-    grind (arith, nat_tests)
+fitting_size One g ok allowed = grind (arith, nat_tests)
 fitting_size Two g ok allowed = grind (arith, nat_tests)
 
 suiting : (size : Extent) (ss : List Source) → AllByRecursion (λ s. lies_within size s.area ≡ true) ss → AllByRecursion (λ s. is_period s.period ≡ true) ss → AllByRecursion (λ s. suits size s ≡ true) ss
@@ -284,17 +250,7 @@ suiting size [] a b = tt
 suiting size (s ∷ ss) a b = (and_from (lies_within size s.area) (is_period s.period) a.0 b.0, suiting size ss a.1 b.1)
 
 fitting : (v : Version) (g : Gas) → HasSpelling v g → HeadFits (head_of v g)
-fitting v g has =
-    let sound = has.sound in
-    record {
-      sized = fitting_size v g sound.particles.sized has.allowed;
-      tick = sound.tick;
-      few = and_from (nat_le (length g.drains) 16) (nat_le (length g.sources) 16) (le-leb _ _ sound.ports.few_drains) (le-leb _ _ sound.ports.few_sources);
-      ports = record {
-        drains = recursion_from_All (λ r. lies_within (extent g.particles) r ≡ true) g.drains sound.fit.ports_inside.drains;
-        sources = suiting (extent g.particles) g.sources (recursion_from_All (λ s. lies_within (extent g.particles) s.area ≡ true) g.sources sound.fit.ports_inside.sources) (recursion_from_All (λ s. is_period s.period ≡ true) g.sources sound.ports.periods);
-      };
-    }
+fitting v g has = grind (arith, fitting_size, and_from, le-leb, recursion_from_All, suiting)
 
 body_again : (v : Version) (g : Gas) → HasSpelling v g → body_at (head_of v g) (rows g.particles ++ (rows g.walls ++ obstacle_rows v g.obstacles)) ≡ Ok g
 body_again v g has =
@@ -365,12 +321,7 @@ pub record ArePieces (size : Extent) (rest first after second third : List ℕ) 
 
 pub gas_read : (h : Head) (rest first after second third : List ℕ) (n : ℕ) (p w o : Cells) → ArePieces h.size rest first after second third n
     → p ≡ cells_in h.size first → w ≡ cells_in h.size second → o ≡ obstacles_in h.version h.size third → gas_of h.tick p w o h.ports ≡ gas_with h rest
-gas_read h rest first after second third n p w o a e f k =
-    let one : first ≡ take (part h.size) rest = a.first_is ∙ ap (λ (i : ℕ). take i rest) a.len in
-    let left : after ≡ drop (part h.size) rest = a.after_is ∙ ap (λ (i : ℕ). drop i rest) a.len in
-    let two : second ≡ take (part h.size) (drop (part h.size) rest) = a.second_is ∙ ap (λ (i : ℕ). take i after) a.len ∙ ap (take (part h.size)) left in
-    let three : third ≡ drop (part h.size) (drop (part h.size) rest) = a.third_is ∙ ap (λ (i : ℕ). drop i after) a.len ∙ ap (drop (part h.size)) left in
-    gas_is h.tick h.ports (e ∙ ap (cells_in h.size) one) (f ∙ ap (cells_in h.size) two) (k ∙ ap (obstacles_in h.version h.size) three)
+gas_read h rest first after second third n p w o a e f k = grind (arith, gas_is)
 
 pub fits_together : (bytes : List ℕ) (h : Head) (rest : List ℕ) (p w o : Cells) (first second third : List ℕ) → IsBytes bytes → head_at bytes ≡ Ok (h, rest)
     → p ≡ cells_in h.size first → w ≡ cells_in h.size second → o ≡ obstacles_in h.version h.size third → FitTogether p w o h.ports

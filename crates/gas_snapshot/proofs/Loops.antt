@@ -29,10 +29,7 @@ goes_on one_at front count i bytes n after total lt h so_far =
 pub ends : {A : Type 0} (one_at : List ℕ → Result (A × List ℕ) SnapFault) (f : SnapFault) (front : List A) (count i : ℕ) (bytes : List ℕ) (total : Result (List A × List ℕ) SnapFault) → i < count → one_at bytes ≡ Err f
     → with_front front (many one_at (count - i) bytes) ≡ total → total ≡ Err f
 unfolding many
-ends one_at f front count i bytes total lt h so_far =
-    let k : count - i ≡ suc (count - (i + 1)) = omega arith in
-    let one : with_front front (many one_at (count - i) bytes) ≡ Err f = rw (k, h) refl in
-    sym so_far ∙ one
+ends one_at f front count i bytes total lt h so_far = grind (arith)
 
 pub is_done : {A : Type 0} (one_at : List ℕ → Result (A × List ℕ) SnapFault) (front : List A) (count i : ℕ) (bytes : List ℕ) (total : Result (List A × List ℕ) SnapFault) → count ≤ i → with_front front (many one_at (count - i) bytes) ≡ total → total ≡ Ok (front, bytes)
 unfolding many
@@ -73,9 +70,7 @@ drain_refused size bytes field after e b = rw (e, b) refl
 pub drain_read : (size : Extent) (bytes field after : List ℕ) (area : Rectangle) → field_at 8 bytes ≡ Ok (field, after)
     → Some area ≡ cond (lies_within size (area_in field)) (Some (area_in field)) None → drain_at size bytes ≡ Ok (area, after)
 unfolding drain_at
-drain_read size bytes field after area e h =
-    let p = picked (lies_within size (area_in field)) area (area_in field) h in
-    rw (e, p.0) (ap (λ (a : Rectangle). Ok (a, after)) (sym p.1))
+drain_read size bytes field after area e h = grind (arith, picked)
 
 pub source_fails : (size : Extent) (bytes : List ℕ) (f : SnapFault) → field_at 10 bytes ≡ Err f → source_at size bytes ≡ Err f
 unfolding source_at
@@ -88,16 +83,12 @@ refused false y f g e = (refl, cc)
 pub source_refused : (size : Extent) (bytes field after : List ℕ) (f : SnapFault) → field_at 10 bytes ≡ Ok (field, after)
     → failed Source f ≡ cond (lies_within size (area_in field) && is_period (number 4 field)) (done (source_in field)) (Err Port) → source_at size bytes ≡ Err f
 unfolding source_at
-source_refused size bytes field after f e h =
-    let p = refused (lies_within size (area_in field) && is_period (number 4 field)) (source_in field) Port f h in
-    rw (e, p.0) (ap (λ (g : SnapFault). Err g) (sym p.1))
+source_refused size bytes field after f e h = grind (arith, refused)
 
 pub source_read : (size : Extent) (bytes field after : List ℕ) (s : Source) → field_at 10 bytes ≡ Ok (field, after)
     → done s ≡ cond (lies_within size (area_in field) && is_period (number 4 field)) (done (source_in field)) (Err Port) → source_at size bytes ≡ Ok (s, after)
 unfolding source_at
-source_read size bytes field after s e h =
-    let p = chosen (lies_within size (area_in field) && is_period (number 4 field)) s (source_in field) Port h in
-    rw (e, p.0) (ap (λ (t : Source). Ok (t, after)) (sym p.1))
+source_read size bytes field after s e h = grind (arith, chosen)
 
 -- a port is added where there are fewer than 16
 pub is_added : {X Y : Type 0} (r : Result X Y) (n : ℕ) (P : Type 0) → (IsErr r ↔ (leb 16 n ≡ true)) → OnOk r P → n < 16 → P

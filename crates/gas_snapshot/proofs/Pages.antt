@@ -28,9 +28,7 @@ one_more {A = A} text xs d i lt = flat_map_more text [] (take i xs) (get_or xs i
 -- one field more, each of one length
 pub fields_more : {A : Type 0} (text : A → List ℕ) (xs : List A) (d : A) (i : ℕ) (page old next : List ℕ) → i < length xs → page ≡ old ++ flat_map text (take i xs) → next ≡ page ++ text (get_or xs i d)
     → next ≡ old ++ flat_map text (take (i + 1) xs)
-fields_more text xs d i page old next lt so_far e =
-    e ∙ ap (λ (l : List ℕ). l ++ text (get_or xs i d)) so_far ∙ append_assoc old (flat_map text (take i xs)) (text (get_or xs i d))
-    ∙ ap (λ (l : List ℕ). old ++ l) (one_more text xs d i lt)
+fields_more text xs d i page old next lt so_far e = grind (arith, get_or, append_assoc, one_more)
 
 pub words_put : (page a b d e w x y z old : List ℕ) → a ≡ old ++ w → b ≡ a ++ x → d ≡ b ++ y → e ≡ d ++ z → e ≡ (((old ++ w) ++ x) ++ y) ++ z
 words_put page a b d e w x y z old p q r s = cc
@@ -42,15 +40,7 @@ pub head_chain : (g : Gas) (p0 p1 p2 p3 p4 p5 p6 p7 : List ℕ) (rs : List Recta
     → w ≡ g.particles.width → h ≡ g.particles.height → tick ≡ g.tick → rs ≡ g.drains → os ≡ g.sources
     → p0 ≡ [] → p1 ≡ p0 ++ magic Two → p2 ≡ p1 ++ to_be_bytes w16 w → p3 ≡ p2 ++ to_be_bytes w16 h → p4 ≡ p3 ++ moment tick → p5 ≡ p4 ++ counts (length rs) (length os)
     → p6 ≡ p5 ++ flat_map drain rs → p7 ≡ p6 ++ flat_map source os → p7 ≡ head Two g
-head_chain g p0 p1 p2 p3 p4 p5 p6 p7 rs os w h tick ew eh et er eo e0 e1 e2 e3 e4 e5 e6 e7 =
-    let f1 : p1 ≡ [] ++ magic Two = e1 ∙ ap (λ (l : List ℕ). l ++ magic Two) e0 in
-    let f2 : p2 ≡ p1 ++ to_be_bytes w16 g.particles.width = e2 ∙ ap (λ (n : ℕ). p1 ++ to_be_bytes w16 n) ew in
-    let f3 : p3 ≡ p2 ++ to_be_bytes w16 g.particles.height = e3 ∙ ap (λ (n : ℕ). p2 ++ to_be_bytes w16 n) eh in
-    let f4 : p4 ≡ p3 ++ moment g.tick = e4 ∙ ap (λ (t : ℤ). p3 ++ moment t) et in
-    let f5 : p5 ≡ p4 ++ counts (length g.drains) (length g.sources) = e5 ∙ ap (λ (l : List Rectangle). p4 ++ counts (length l) (length os)) er ∙ ap (λ (l : List Source). p4 ++ counts (length g.drains) (length l)) eo in
-    let f6 : p6 ≡ p5 ++ flat_map drain g.drains = e6 ∙ ap (λ (l : List Rectangle). p5 ++ flat_map drain l) er in
-    let f7 : p7 ≡ p6 ++ flat_map source g.sources = e7 ∙ ap (λ (l : List Source). p6 ++ flat_map source l) eo in
-    head_put g p7 (f7 ∙ ap (λ (l : List ℕ). l ++ flat_map source g.sources) (f6 ∙ ap (λ (l : List ℕ). l ++ flat_map drain g.drains) (f5 ∙ ap (λ (l : List ℕ). l ++ counts (length g.drains) (length g.sources)) (f4 ∙ ap (λ (l : List ℕ). l ++ moment g.tick) (f3 ∙ ap (λ (l : List ℕ). l ++ to_be_bytes w16 g.particles.height) (f2 ∙ ap (λ (l : List ℕ). l ++ to_be_bytes w16 g.particles.width) f1))))))
+head_chain g p0 p1 p2 p3 p4 p5 p6 p7 rs os w h tick ew eh et er eo e0 e1 e2 e3 e4 e5 e6 e7 = grind (arith, head_put)
 
 -- the three sets after a head
 pub three_put : (g : Gas) (b0 b1 b2 b3 h : List ℕ) (n : ℕ) → n ≡ g.particles.height * (g.particles.width / 8) → length b3 ≡ length h + 3 * n → h ≡ head Two g → take (length h) b0 ≡ h

@@ -26,9 +26,7 @@ abbrev pub first_rows : Extent → List ℕ → ℕ → Cells
 first_rows size field n = cells_where size.width size.height (λ x y. if nat_lt y n then row_has (drop (y * (size.width / 8)) field) x else false)
 
 pub all_rows : (size : Extent) (field : List ℕ) (n : ℕ) → size.height ≤ n → first_rows size field n ≡ cells_in size field
-all_rows size field n le =
-    same_cells_where size.width size.height (λ x y. if nat_lt y n then row_has (drop (y * (size.width / 8)) field) x else false) (λ x y. row_has (drop (y * (size.width / 8)) field) x)
-    (λ x y p q. grind (arith, nat_tests))
+all_rows size field n le = grind (arith, same_cells_where, nat_lt, nat_tests)
 
 -- a row is told by its own bytes
 pub row_has_front : (len x : ℕ) (bytes : List ℕ) → x / 8 < len → row_has (take len bytes) x ≡ row_has bytes x
@@ -77,10 +75,7 @@ length_rows f len a (suc n) h =
     whole ∙ ap (λ (i : ℕ). i + length (flat_map f (range_with_len (a + 1) n))) (h a) ∙ ap (λ (i : ℕ). len + i) (length_rows f len (a + 1) n h) ∙ sym k
 
 range_split : (a n m k b : ℕ) → n + m ≡ k → a + n ≡ b → range_with_len a k ≡ range_with_len a n ++ range_with_len b m
-range_split a zero m k b e h =
-    let i : k ≡ m = omega arith in
-    let j : a ≡ b = omega arith in
-    rw (i, j) refl
+range_split a zero m k b e h = grind (arith)
 range_split a (suc n) m k b e h =
     let i : k ≡ suc (n + m) = omega arith in
     rw i (ap (λ (l : List ℕ). a ∷ l) (range_split (a + 1) n m (n + m) b refl (omega arith)))
@@ -169,32 +164,17 @@ is_even size h = even_side size.width (and_parts (is_side size.width) (is_side s
 -- the step of the loop that reads rows
 pub row_is_read : (size : Extent) (field : List ℕ) (n len : ℕ) (cells : Cells) → is_size size ≡ true → len ≡ size.width / 8 → cells ≡ first_rows size field n
     → row_replaced cells n (take (n * len + len - n * len) (drop (n * len) field)) ≡ first_rows size field (n + 1)
-row_is_read size field n len cells sized wide e =
-    let k : n * len + len - n * len ≡ size.width / 8 = omega arith in
-    let bytes : take (n * len + len - n * len) (drop (n * len) field) ≡ take (size.width / 8) (drop (n * (size.width / 8)) field) =
-    ap (λ (i : ℕ). take i (drop (n * len) field)) k ∙ ap (λ (i : ℕ). take (size.width / 8) (drop (n * i) field)) wide in
-    ap (λ (l : List ℕ). row_replaced cells n l) bytes
-    ∙ ap (λ (c : Cells). row_replaced c n (take (size.width / 8) (drop (n * (size.width / 8)) field))) e
-    ∙ next_row size field n (is_even size sized)
+row_is_read size field n len cells sized wide e = grind (arith, next_row, is_even)
 
 -- the step of the loop that writes rows
 pub row_is_put : (cells : Cells) (out row : List ℕ) (n len k : ℕ) → row ≡ row_bytes cells n → len ≡ cells.width / 8 → k ≡ len → n < cells.height → length out ≡ cells.height * (cells.width / 8)
     → take (n * len) out ≡ flat_map (row_bytes cells) (range_with_len 0 n) → take ((n + 1) * len) (put_mid (n * len) k out row) ≡ flat_map (row_bytes cells) (range_with_len 0 (n + 1))
-row_is_put cells out row n len k e wide same lt fits so_far =
-    let next : (n + 1) * len ≡ n * len + k = grind arith in
-    let below : (n + 1) * len ≤ cells.height * len = mul-le-mul_right len (omega arith) in
-    let whole : cells.height * len ≡ length out = ap (λ (i : ℕ). cells.height * i) wide ∙ sym fits in
-    let own : length row ≡ k = ap (λ (l : List ℕ). length l) e ∙ length-row_bytes cells n ∙ sym wide ∙ sym same in
-    take-put_mid (n * len) k out row ((n + 1) * len) (next ∙ ap (λ (i : ℕ). n * len + i) (sym own)) (omega arith)
-    ∙ ap (λ (l : List ℕ). l ++ row) so_far ∙ ap (λ (l : List ℕ). flat_map (row_bytes cells) (range_with_len 0 n) ++ l) e ∙ sym (rows_more (row_bytes cells) n)
+row_is_put cells out row n len k e wide same lt fits so_far = grind (arith, mul-le-mul_right, length-row_bytes, take-put_mid, rows_more)
 
 pub all_put : (cells : Cells) (out : List ℕ) (n len h : ℕ) → len ≡ cells.width / 8 → h ≡ cells.height → h ≤ n → n ≤ h → length out ≡ cells.height * (cells.width / 8)
     → take (n * len) out ≡ flat_map (row_bytes cells) (range_with_len 0 n) → out ≡ rows cells
 unfolding rows
-all_put cells out n len h wide high le ge fits so_far =
-    let all : n ≡ cells.height = omega arith in
-    let whole : n * len ≡ length out = ap (λ (i : ℕ). n * i) wide ∙ ap (λ (i : ℕ). i * (cells.width / 8)) all ∙ sym fits in
-    sym (take-length out) ∙ ap (λ (i : ℕ). take i out) (sym whole) ∙ so_far ∙ ap (λ (i : ℕ). flat_map (row_bytes cells) (range_with_len 0 i)) all
+all_put cells out n len h wide high le ge fits so_far = grind (arith, take-length)
 
 -- the first n rows, and those below
 pub rows_cut : (cells : Cells) (n : ℕ) → n ≤ cells.height → rows cells ≡ flat_map (row_bytes cells) (range_with_len 0 n) ++ flat_map (row_bytes cells) (range_with_len n (cells.height - n))

@@ -35,10 +35,7 @@ more_of a b c bytes i n le p q =
     subst (λ (l : List ℕ). Appends a c l) (sym whole) (Appends-trans a b c (take i bytes) (take n (drop i bytes)) p q)
 
 pub more_written : (a b c : Option (List ℕ)) (bytes : List ℕ) (i n : ℕ) → i ≤ length bytes → Appends a b (take i bytes) → Appends b c (take n (take (length bytes - i) (drop i bytes))) → Appends a c (take (i + n) bytes)
-more_written a b c bytes i n le p q =
-    let len : length bytes - i ≡ length (drop i bytes) = sym (length-drop i bytes) in
-    let tail : take (length bytes - i) (drop i bytes) ≡ drop i bytes = ap (λ (k : ℕ). take k (drop i bytes)) len ∙ take-length (drop i bytes) in
-    more_of a b c bytes i n le p (subst (λ (l : List ℕ). Appends b c (take n l)) tail q)
+more_written a b c bytes i n le p q = grind (arith, length-drop, take-length, more_of, subst)
 
 pub row_written : (a b c : Option (List ℕ)) (cells : Cells) (row : List ℕ) (n : ℕ) → row ≡ row_bytes cells n → Appends a b (flat_map (row_bytes cells) (range_with_len 0 n)) → Appends b c row → Appends a c (flat_map (row_bytes cells) (range_with_len 0 (n + 1)))
 row_written a b c cells row n e p q =
@@ -78,13 +75,7 @@ pub row_there : (cells : Cells) (new rest : List ℕ) (len n : ℕ) → len ≡ 
 row_there cells new rest len n e f = take_at new rest len (ap (λ (l : List ℕ). length l) f ∙ length-row_bytes cells n ∙ sym e) ∙ f
 
 pub length_spelled : (g : Gas) (first : List ℕ) (n : ℕ) → IsSoundGas g → first ≡ head Two g → n ≡ g.particles.height * (g.particles.width / 8) → length first + 3 * n ≡ length (spelling Two g)
-length_spelled g first n sound e f =
-    let p = length_of_rows g.particles in
-    let w = length_of_rows g.walls ∙ ap part (same_extent g.walls g.particles sound.fit.walls_sides) in
-    let o = length_of_rows g.obstacles ∙ ap part (same_extent g.obstacles g.particles sound.fit.obstacles_sides) in
-    let whole : length (spelling Two g) ≡ length (((head Two g ++ rows g.particles) ++ rows g.walls) ++ rows g.obstacles) = ap (λ (l : List ℕ). length l) (spelling_two g) in
-    let first_len : length first ≡ length (head Two g) = ap (λ (l : List ℕ). length l) e in
-    omega (arith, length-append ((head Two g ++ rows g.particles) ++ rows g.walls) (rows g.obstacles), length-append (head Two g ++ rows g.particles) (rows g.walls), length-append (head Two g) (rows g.particles))
+length_spelled g first n sound e f = grind (arith, length_of_rows, part, same_extent, spelling_two, length-append)
 
 -- the same bytes under another name
 pub as_written : (a b : Option (List ℕ)) (x y : List ℕ) → x ≡ y → Appends a b x → Appends a b y

@@ -15,7 +15,8 @@ use Rattle.gas_snapshot.specs.declared.fields.Head.{Head as HeadOfCode}
 use Rattle.gas_snapshot.specs.Spelling.{magic, most_old_side}
 
 infixl 10 ◌>>=◌
-abbrev pub ◌>>=◌ : {A B : Type 0} → Result A SnapFault → (A → Result B SnapFault) → Result B SnapFault
+abbrev pub ◌>>=◌ : {A B : Type 0}
+    → Result A SnapFault → (A → Result B SnapFault) → Result B SnapFault
 (Ok x) >>= f = f x
 (Err e) >>= f = Err e
 
@@ -31,14 +32,17 @@ number k field = from_be_bytes w16 (take 2 (drop (2 * k) field))
 unfoldable pub magic_at : List ℕ → Result (Version × List ℕ) SnapFault
 magic_at bytes = do
   field ← field_at 8 bytes
-  if bytes_eq field.0 (magic One) then Ok (One, field.1) else if bytes_eq field.0 (magic Two) then Ok (Two, field.1) else Err Magic
+  if bytes_eq field.0 (magic One) then Ok (One, field.1)
+      else if bytes_eq field.0 (magic Two) then Ok (Two, field.1) else Err Magic
 
 abbrev pub greatest_side : Version → ℕ
 greatest_side One = most_old_side
 greatest_side Two = most_side
 
 abbrev pub is_size_of : Version → Extent → Bool
-is_size_of version size = is_size size && nat_le size.width (greatest_side version) && nat_le size.height (greatest_side version)
+is_size_of version size =
+    is_size size && nat_le size.width (greatest_side version)
+    && nat_le size.height (greatest_side version)
 
 abbrev pub size_in : List ℕ → Extent
 size_in field = record { width = number 0 field; height = number 1 field }
@@ -69,7 +73,8 @@ counts_at bytes = do
   if are_few (counts_in field.0) then Ok (counts_in field.0, field.1) else Err Port
 
 abbrev pub area_in : List ℕ → Rectangle
-area_in field = record { x = number 0 field; y = number 1 field; w = number 2 field; h = number 3 field }
+area_in field =
+    record { x = number 0 field; y = number 1 field; w = number 2 field; h = number 3 field }
 
 unfoldable pub drain_at : Extent → List ℕ → Result (Rectangle × List ℕ) SnapFault
 drain_at size bytes = do
@@ -82,10 +87,12 @@ source_in field = record { area = area_in field; period = number 4 field }
 unfoldable pub source_at : Extent → List ℕ → Result (Source × List ℕ) SnapFault
 source_at size bytes = do
   field ← field_at 10 bytes
-  if lies_within size (area_in field.0) && is_period (number 4 field.0) then Ok (source_in field.0, field.1) else Err Port
+  if lies_within size (area_in field.0) && is_period (number 4 field.0)
+      then Ok (source_in field.0, field.1) else Err Port
 
 -- so many fields of one kind
-unfoldable pub many : {A : Type 0} → (List ℕ → Result (A × List ℕ) SnapFault) → ℕ → List ℕ → Result (List A × List ℕ) SnapFault
+unfoldable pub many : {A : Type 0} → (List ℕ → Result (A × List ℕ) SnapFault)
+    → ℕ → List ℕ → Result (List A × List ℕ) SnapFault
 many one_at zero bytes = Ok ([], bytes)
 many one_at (suc n) bytes = do
   first ← one_at bytes
@@ -120,7 +127,8 @@ head_at bytes = do
 
 -- rows of whole bytes, the upper one first
 abbrev pub cells_in : Extent → List ℕ → Cells
-cells_in size field = cells_where size.width size.height (λ x y. row_has (drop (y * (size.width / 8)) field) x)
+cells_in size field =
+    cells_where size.width size.height (λ x y. row_has (drop (y * (size.width / 8)) field) x)
 
 unfoldable pub cells_at : Extent → List ℕ → Result (Cells × List ℕ) SnapFault
 cells_at size bytes = do
@@ -147,7 +155,8 @@ body_at head bytes = do
   particles ← cells_at head.size bytes
   walls ← cells_at head.size particles.1
   obstacles ← obstacles_at head.version head.size walls.1
-  if length obstacles.1 == 0 then Ok (gas_of head.tick particles.0 walls.0 obstacles.0 head.ports) else Err Trailing
+  if length obstacles.1 == 0
+      then Ok (gas_of head.tick particles.0 walls.0 obstacles.0 head.ports) else Err Trailing
 
 -- all of the bytes
 unfoldable pub reading : List ℕ → Result Gas SnapFault

@@ -33,7 +33,8 @@ source s = drain s.area ++ to_be_bytes w16 s.period
 -- all that stands before the cells
 unfoldable pub head : Version → Gas → List ℕ
 head version g =
-    magic version ++ sides (extent g.particles) ++ moment g.tick ++ counts (length g.drains) (length g.sources)
+    magic version ++ sides (extent g.particles) ++ moment g.tick
+    ++ counts (length g.drains) (length g.sources)
     ++ flat_map drain g.drains ++ flat_map source g.sources
 
 -- how many bytes that are at most: those of a gas with all the ports that there may be
@@ -50,7 +51,8 @@ obstacle_rows One cells = []
 obstacle_rows Two cells = rows cells
 
 unfoldable pub spelling : Version → Gas → List ℕ
-spelling version g = head version g ++ rows g.particles ++ rows g.walls ++ obstacle_rows version g.obstacles
+spelling version g =
+    head version g ++ rows g.particles ++ rows g.walls ++ obstacle_rows version g.obstacles
 
 -- how wide and how high a lattice of the first version is at most: `MOST_OLD_SIDE`
 abbrev pub most_old_side : ℕ

@@ -1,5 +1,5 @@
 -- What a `LinesCodec` finds are the items.
-use Rattle.std.proofs.Common.{◌≡◌, ◌≢◌, ℕ, suc, ◌+◌, ◌-◌, ◌<◌, ◌≤◌, nat_lt, nat_eq, Bool, true, false, cond, ◌&&◌, List, [], ◌∷◌, ◌++◌, length, get_or, take, drop, Ok, Err, String, string_bytes, Global, refl, sym, ap, ◌∙◌, subst, inl, inr, arith, length-take, length-drop}
+use Rattle.std.proofs.Common.{◌≡◌, ◌≢◌, ℕ, suc, ◌+◌, ◌<◌, ◌≤◌, nat_lt, nat_eq, Bool, true, false, cond, ◌&&◌, List, [], ◌∷◌, ◌++◌, length, get_or, take, drop, Ok, Err, String, string_bytes, Global, refl, sym, ap, ◌∙◌, subst, inl, inr, arith, length-take, length-drop}
 use Rattle.std.proofs.lemmas.Bool.{cases_lt, le-leb, lt-ltb}
 use Rattle.std.proofs.lemmas.Bool.Decides.{nat_tests}
 use Rattle.std.proofs.lemmas.Str.{is_utf8-from_IsUtf8, IsUtf8-from_is_utf8, IsUtf8-string_bytes}
@@ -24,10 +24,7 @@ onto false b xs ys = refl
 
 codec_text : (xs : List ℕ) (n : ℕ) → length xs ≡ suc n → without_carriage_return xs ≡ cond (nat_eq (get_or xs n 0) 13) (take n xs) xs
 unfolding without_carriage_return
-codec_text xs n len =
-    let some : nat_lt 0 (length xs) ≡ true = lt-ltb 0 (length xs) (omega arith) in
-    let last : length xs - 1 ≡ n = omega arith in
-    rw (some, last)
+codec_text xs n len = grind (arith, nat_lt, lt-ltb)
 
 same_text_more : (b c : ℕ) (bs : List ℕ) → without_carriage_return (b ∷ c ∷ bs) ≡ b ∷ without_carriage_return (c ∷ bs)
 same_text_more b c bs =
@@ -143,11 +140,7 @@ less_after_skip limit xs =
     ]
 
 less_after_scan : (c : LinesCodec) (xs : List ℕ) → LeavesLess (length xs) (scan c xs)
-less_after_scan c xs =
-    elim c.is_discarding as (λ b. LeavesLess (length xs) (scan (record c { is_discarding = b }) xs)) [
-      | true ↦ less_after_skip c.max_length xs
-      | false ↦ less_after_line c.max_length c.next_index xs
-    ]
+less_after_scan c xs = grind (arith, less_after_skip, less_after_line)
 
 less_after : (len : ℕ) (limit : ℕ) (s : Scan) (x : String Global) (t : LinesCodec) (zs : List ℕ) → LeavesLess len s → Answers limit s (Ok x) t zs → length zs < len
 less_after len limit (line front rest) x t zs less (inl h) = rw h.2 less

@@ -1,5 +1,5 @@
 -- A journal's script, asked of a laboratory that opens with the same start.
-use Rattle.std.proofs.Common.{◌≡◌, ℕ, ◌+◌, ◌<◌, ◌≤◌, nat_le, Bool, true, false, not, ◌&&◌, cond, List, [], ◌∷◌, length, map, All, Some, None, is_some, refl, sym, ap, ◌∙◌, arith, append_assoc, length-append}
+use Rattle.std.proofs.Common.{◌≡◌, ℕ, ◌+◌, ◌<◌, ◌≤◌, nat_le, Bool, true, false, ◌&&◌, cond, List, [], ◌∷◌, length, map, All, Some, None, is_some, refl, ap, ◌∙◌, arith, append_assoc, length-append}
 use Rattle.std.proofs.lemmas.Bool.Decides.{nat_tests}
 use Rattle.std.proofs.lemmas.List.{length-map, map-append}
 use Rattle.std.proofs.lemmas.List.Elements.{All-head, All-tail}
@@ -7,19 +7,18 @@ use Rattle.std.specs.List.{fold}
 use Rattle.gas_terms.proofs.Laboratories.{all_booked, whole_journal}
 use Rattle.gas_terms.specs.Cells.{extent, is_size}
 use Rattle.gas_terms.specs.Commands.{is_change}
-use Rattle.gas_terms.specs.Laboratory.{Laboratory, opening, cause, answer, judged, accepted, IsAcceptable, Admits, IsSound, lacks_entry, has_all_ports, bars_way_back, leaves_ticks, lacks_room}
+use Rattle.gas_terms.specs.Laboratory.{Laboratory, opening, cause, answer, accepted, IsAcceptable, Admits, IsSound, lacks_entry, has_all_ports, bars_way_back, leaves_ticks}
 use Rattle.gas_terms.specs.declared.command.Command.{Command}
 use Rattle.gas_terms.specs.declared.command.Command.TheVariants.{Source, Drain, Step, Back, Probe, Tally, Ledger, Read, Entry as EntryAt}
 use Rattle.gas_terms.specs.declared.command.Entry.{Entry}
 use Rattle.gas_terms.specs.declared.answer.Answer.TheVariants.{Taken}
 use Rattle.gas_terms.specs.declared.refusal.Refusal.{Refusal}
-use Rattle.gas_terms.specs.declared.refusal.Refusal.TheVariants.{Entry as NoEntry, Full, Ports, Tick, Journal}
 use Rattle.gas_text.proofs.CanonicalCommands.{command_again}
 use Rattle.gas_talk.proofs.Cutting.{lines_nil}
 use Rattle.gas_talk.proofs.ScriptLines.{line_first, command_is_line}
 use Rattle.gas_text.specs.declared.reply.Reply.TheVariants.{Answered}
 use Rattle.gas_talk.specs.Ends.{until_end}
-use Rattle.gas_talk.specs.LabTalk.{plain, answered, requested, taken_at, talk}
+use Rattle.gas_talk.specs.LabTalk.{plain, taken_at, talk}
 use Rattle.gas_talk.specs.Lines.{Item, text, lines}
 use Rattle.gas_talk.specs.Scripts.{script, all_plain, asked_by_script, taken_from, made_alone}
 use Rattle.gas_talk.specs.Talk.{no_put, TalkLine}
@@ -73,13 +72,7 @@ none_by_tests a b c d e f p q r s t none room = grind (arith)
 
 no_cause_there : (lab : Laboratory) (seat cap : ℕ) (command : Command) → is_change command ≡ true → cause lab command ≡ None → length lab.journal < cap →
     cause (made_alone seat cap lab) command ≡ None
-no_cause_there lab seat cap command change none room =
-    let there = made_alone seat cap lab in
-    let one : Entry → Entry = λ e. record { seat = seat; command = e.command } in
-    let spare : length there.journal < cap = omega (arith, length-map lab.journal one, room) in
-    rw (no_entry there command change, same_ports lab seat cap command, same_way lab seat cap command, same_ticks lab seat cap command)
-    (none_by_tests (lacks_entry lab command) (has_all_ports lab.gas command) (bars_way_back lab command) (leaves_ticks lab command) (lacks_room lab command) (lacks_room there command)
-    NoEntry Full Ports Tick Journal none (some_room (is_change command) cap (length there.journal) spare))
+no_cause_there lab seat cap command change none room = grind (arith, length-map, no_entry, same_ports, same_way, same_ticks, none_by_tests, some_room)
 
 taken_answer : (lab : Laboratory) (command : Command) → is_change command ≡ true → answer lab command ≡ Taken (length lab.journal)
 taken_answer lab (Probe r) change = cc
@@ -96,13 +89,7 @@ talk_line_of k entry = record { item = item_of entry; reply = Answered (Taken k)
 
 talk_line_there : (lab : Laboratory) (seat cap : ℕ) (entry : Entry) → is_size (extent lab.start.particles) ≡ true → IsAcceptable lab entry → Typed entry → length lab.journal < cap →
     taken_at seat (made_alone seat cap lab) (item_of entry) plain ≡ (talk_line_of (length lab.journal) entry, made_alone seat cap (accepted lab entry))
-talk_line_there lab seat cap entry sized stands typed room =
-    let there = made_alone seat cap lab in
-    let here : Entry = record { seat = seat; command = entry.command } in
-    let one : Entry → Entry = λ e. record { seat = seat; command = e.command } in
-    ap (λ r. requested seat (item_of entry) there r plain) (command_again (extent lab.start.particles) entry.command sized stands.in_order typed)
-    ∙ ap (λ why. answered (item_of entry) (judged why (answer there entry.command), cond (is_change entry.command && not (is_some why)) (accepted there here) there)) (no_cause_there lab seat cap entry.command stands.change stands.no_cause room)
-    ∙ rw (stands.change, taken_answer there entry.command stands.change, length-map lab.journal one) (ap (λ j. (talk_line_of (length lab.journal) entry, record (made_alone seat cap (accepted lab entry)) { journal = j })) (sym (map-append one lab.journal (entry ∷ []))))
+talk_line_there lab seat cap entry sized stands typed room = grind (arith, command_again, is_some, no_cause_there, taken_answer, length-map, map-append)
 
 talk_there : (journal : List Entry) (lab : Laboratory) (seat cap : ℕ) → is_size (extent lab.start.particles) ≡ true → Admits lab journal → All Typed journal → length lab.journal + length journal ≤ cap →
     talk seat (made_alone seat cap lab) (all_plain (map item_of journal)) ≡ (taken_from (length lab.journal) journal, made_alone seat cap (fold accepted lab journal))

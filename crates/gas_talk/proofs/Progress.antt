@@ -1,16 +1,11 @@
 -- How a session comes on, line by line, and what holds at each of its ends.
-use Rattle.std.proofs.Common.{◌≡◌, ◌≢◌, ℕ, ◌+◌, true, false, cond, List, [], ◌∷◌, ◌++◌, Option, Some, None, Result, refl, sym, ap, ◌∙◌, subst, inl, inr, append_assoc, append-nil}
+use Rattle.std.proofs.Common.{◌≡◌, ◌≢◌, ℕ, ◌+◌, true, false, cond, List, [], ◌∷◌, ◌++◌, Option, Some, None, refl, sym, ap, ◌∙◌, subst, inl, inr, append_assoc, append-nil}
 use Rattle.std.proofs.lemmas.Fn.{FoldsTo-push}
 use Rattle.std.proofs.KnownBytes.{Appends-nil, Appends-trans}
 use Rattle.std.specs.List.{FoldsTo}
 use Rattle.std.specs.Io.KnownBytes.{Appends}
 use Rattle.gas_terms.specs.Cells.{Extent}
 use Rattle.gas_snapshot.specs.Shelved.{Gains}
-use Rattle.gas_lab.specs.declared.door.Copied.{Copied}
-use Rattle.std.specs.declared.alloc.AllocError.{AllocError as NoMemory}
-use Rattle.gas_terms.specs.declared.command.Command.{Command}
-use Rattle.gas_terms.specs.declared.answer.Answer.{Answer}
-use Rattle.gas_terms.specs.declared.refusal.Refusal.{Refusal}
 use Rattle.gas_terms.specs.declared.refusal.Refusal.TheVariants as refusals
 use Rattle.gas_text.specs.declared.reply.Reply.{Reply}
 use Rattle.gas_text.specs.declared.reply.Reply.TheVariants.{Refused}
@@ -21,13 +16,13 @@ use Rattle.gas_talk.specs.declared.end.SessionEnd.TheVariants.{Quit, WriteFault,
 use Rattle.gas_talk.specs.declared.reader.LineReader.{LineReader}
 use Rattle.gas_talk.specs.Lines.{Item, text, bad, lines}
 use Rattle.gas_talk.specs.Private.{Keeps, EndsWith, Progress, AnswersLines}
-use Rattle.gas_talk.specs.Talk.{Put, no_put, TalkLine, Takes}
+use Rattle.gas_talk.specs.Talk.{Put, no_put, TalkLine, Takes, AskCalls, CopyCalls}
 use Rattle.gas_talk.specs.Ends.{is_quit, until_end, ending, line_of, replies, memory_line, bytes_put, failed_by, failures_after, EndsAs, Place, Leads, Serves, IsSession}
 use Rattle.gas_talk.proofs.Cutting.{lines_nil}
 use Rattle.gas_talk.proofs.Sending.{sent_whole}
 use Rattle.gas_talk.proofs.Steps.{items_of_talk_lines, ending-append, until_end-append, items_push, replies_push, shelved_push, failed_push, failures_more, Gains-nil, Gains-trans}
 
-module _ {D : Type 0} (size_of : D → Extent) (asks : D → Command → Result Answer Refusal → D → Type 0) (copies : D → Result Copied NoMemory → D → Type 0) where
+module _ {D : Type 0} (size_of : D → Extent) (asks : AskCalls D) (copies : CopyCalls D) where
   -- one talk line, whatever is written
   pub record IsStep (now : Place D) (talk_line : TalkLine) (next : Place D) : Type 0 where
     pub takes : Takes size_of asks copies now.door talk_line next.door
@@ -274,7 +269,7 @@ module _ {D : Type 0} (size_of : D → Extent) (asks : D → Command → Result 
     }
 
 -- a session over a reader and a count that end as these are
-pub session_by : {D X : Type 0} (size_of : D → Extent) (asks : D → Command → Result Answer Refusal → D → Type 0) (copies : D → Result Copied NoMemory → D → Type 0)
+pub session_by : {D X : Type 0} (size_of : D → Extent) (asks : AskCalls D) (copies : CopyCalls D)
     → (remaining : X → Option (List ℕ)) (unread : Option (List ℕ)) (now last : X) (old : Place D) (end : SessionEnd) (new : Place D) → last ≡ now
     → (reads before count counted : ℕ) → counted ≡ count → count ≡ before + reads
     → IsSession size_of asks copies reads unread (remaining now) old end new

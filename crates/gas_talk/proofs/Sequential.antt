@@ -20,7 +20,7 @@ use Rattle.gas_text.specs.declared.reply.Reply.TheVariants.{Refused}
 use Rattle.gas_talk.specs.declared.end.SessionEnd.{SessionEnd}
 use Rattle.gas_text.specs.Requests.{request_of, Reads, IsRow}
 use Rattle.gas_talk.specs.Lines.{Item, text, bad, lines}
-use Rattle.gas_talk.specs.Talk.{Put, no_put, TalkLine, Saves, Answers, Replies, Takes}
+use Rattle.gas_talk.specs.Talk.{Put, no_put, TalkLine, Saves, Answers, Replies, Takes, AskCalls, CopyCalls}
 use Rattle.gas_talk.specs.Ends.{until_end, failed_puts, failures_after, shelved_by, EndsAs, StopsAtEnd, Place, IsSession}
 use Rattle.gas_lab.specs.Copying.{Copies}
 use Rattle.gas_talk.specs.LabTalk.{Outcome, plain, memory, shelf, wants_memory, told, answered, saved, requested, taken_at, talk, IsTalk}
@@ -49,7 +49,7 @@ row_refused : (seat : ℕ) (item : Item) (lab : Laboratory) (read : Result Reque
 row_refused seat item lab (Ok (Ask (Row y bits))) h = refl
 row_refused seat item lab _ h = absurd h
 
-module _ {D : Type 0} (size_of : D → Extent) (asks : D → Command → Result Answer Refusal → D → Type 0) (copies : D → Result Copied NoMemory → D → Type 0) where
+module _ {D : Type 0} (size_of : D → Extent) (asks : AskCalls D) (copies : CopyCalls D) where
   -- what no call changes stays
   module _ {X : Type 0} (x_of : D → X) (ask : (d : D) (command : Command) (r : Result Answer Refusal) (e : D) → asks d command r e → x_of e ≡ x_of d) (copy : (d : D) (r : Result Copied NoMemory) (e : D) → copies d r e → x_of e ≡ x_of d) where
     answer_stays : (d : D) (r : Result Request Refusal) (reply : Reply) (put : Put) (e : D) → Answers size_of asks copies d r reply put e → x_of e ≡ x_of d

@@ -18,7 +18,7 @@ use Rattle.gas_text.specs.Texts.{reply_line}
 use Rattle.gas_talk.specs.declared.end.SessionEnd.{SessionEnd}
 use Rattle.gas_talk.specs.declared.end.SessionEnd.TheVariants.{Quit, InputEnd, ReadFault, WriteFault, BadLine, Memory, TooManyReads}
 use Rattle.gas_talk.specs.Lines.{Item, text, bad, lines}
-use Rattle.gas_talk.specs.Talk.{Put, no_put, put_done, put_failed, TalkLine, Takes}
+use Rattle.gas_talk.specs.Talk.{Put, no_put, put_done, put_failed, TalkLine, Takes, AskCalls, CopyCalls}
 
 abbrev pub is_quit : Result Request Refusal → Bool
 is_quit (Ok (requests.Ask command)) = false
@@ -29,13 +29,15 @@ is_quit (Err refusal) = false
 -- the items up to and with the first that is bad or asks to quit
 abbrev pub until_end : Extent → List Item → List Item
 until_end size [] = []
-until_end size (text line ∷ items) = text line ∷ (if is_quit (request_of size line) then [] else until_end size items)
+until_end size (text line ∷ items) =
+    text line ∷ (if is_quit (request_of size line) then [] else until_end size items)
 until_end size (bad ∷ items) = bad ∷ []
 
 -- how the first of these ends the session, if there is one
 abbrev pub ending : Extent → List Item → Option SessionEnd
 ending size [] = None
-ending size (text line ∷ items) = if is_quit (request_of size line) then Some Quit else ending size items
+ending size (text line ∷ items) =
+    if is_quit (request_of size line) then Some Quit else ending size items
 ending size (bad ∷ items) = Some BadLine
 
 abbrev pub line_of : TalkLine → List ℕ
@@ -75,7 +77,8 @@ failures_after old (suc more) = one_failure_more (failures_after old more)
 abbrev pub IsCutShort : List TalkLine → List ℕ → Type 0
 IsCutShort talk_lines written =
     (front : List TalkLine) × (last : TalkLine) × (part : List ℕ) × (rest : List ℕ)
-    × (talk_lines ≡ front ++ last ∷ []) × (line_of last ≡ part ++ rest) × (written ≡ replies front ++ part)
+    × (talk_lines ≡ front ++ last ∷ [])
+    × (line_of last ≡ part ++ rest) × (written ≡ replies front ++ part)
 
 -- none of these talk lines ends a session
 abbrev pub AreUnended : Extent → List TalkLine → Type 0
@@ -84,17 +87,31 @@ AreUnended size talk_lines = ending size (map (λ talk_line. talk_line.item) tal
 -- the lines of the replies, and a part, perhaps all, of the line that says that the line reader found no memory
 abbrev pub IsCutShortAtMemory : Extent → List TalkLine → List ℕ → Type 0
 IsCutShortAtMemory size talk_lines written =
-    (part : List ℕ) × (rest : List ℕ) × (memory_line ≡ part ++ rest) × (written ≡ replies talk_lines ++ part) × AreUnended size talk_lines
+    (part : List ℕ) × (rest : List ℕ) × (memory_line ≡ part ++ rest)
+    × (written ≡ replies talk_lines ++ part) × AreUnended size talk_lines
+
+-- all items up to an end of this kind were asked, and their replies were written
+abbrev pub AreAnswered : Extent → Option SessionEnd
+    → List Item → List TalkLine → List Item → List ℕ → Type 0
+AreAnswered size end items talk_lines later written =
+    (ending size items ≡ end) × (later ≡ []) × (written ≡ replies talk_lines)
 
 -- What holds at an end, of the items of the input, the talk lines, the items left and what was written.
 abbrev pub EndsAs : Extent → SessionEnd → List Item → List TalkLine → List Item → List ℕ → Type 0
-EndsAs size Quit items talk_lines later written = (ending size items ≡ Some Quit) × (later ≡ []) × (written ≡ replies talk_lines)
-EndsAs size BadLine items talk_lines later written = (ending size items ≡ Some BadLine) × (later ≡ []) × (written ≡ replies talk_lines)
-EndsAs size InputEnd items talk_lines later written = (ending size items ≡ None) × (later ≡ []) × (written ≡ replies talk_lines)
-EndsAs size ReadFault items talk_lines later written = (ending size items ≡ None) × (later ≡ []) × (written ≡ replies talk_lines)
-EndsAs size TooManyReads items talk_lines later written = (ending size items ≡ None) × (later ≡ []) × (written ≡ replies talk_lines)
-EndsAs size Memory items talk_lines later written = (written ≡ replies talk_lines ++ memory_line) × AreUnended size talk_lines
-EndsAs size WriteFault items talk_lines later written = IsCutShort talk_lines written ⊎ IsCutShortAtMemory size talk_lines written
+EndsAs size Quit items talk_lines later written =
+    AreAnswered size (Some Quit) items talk_lines later written
+EndsAs size BadLine items talk_lines later written =
+    AreAnswered size (Some BadLine) items talk_lines later written
+EndsAs size InputEnd items talk_lines later written =
+    AreAnswered size None items talk_lines later written
+EndsAs size ReadFault items talk_lines later written =
+    AreAnswered size None items talk_lines later written
+EndsAs size TooManyReads items talk_lines later written =
+    AreAnswered size None items talk_lines later written
+EndsAs size Memory items talk_lines later written =
+    (written ≡ replies talk_lines ++ memory_line) × AreUnended size talk_lines
+EndsAs size WriteFault items talk_lines later written =
+    IsCutShort talk_lines written ⊎ IsCutShortAtMemory size talk_lines written
 
 -- how many bytes a read asks for at most: `READ_LIMIT`
 abbrev pub read_limit : ℕ
@@ -142,16 +159,24 @@ pub record Place (D : Type 0) : Type 0 where
   pub shelved : Option (List (List ℕ))
 
 -- the place of a door, a writer and a shelf
-abbrev pub place : {D W K : Type 0} → (W → Option (List ℕ)) → (K → ℕ) → (K → Option (List (List ℕ))) → D → W → K → Place D
+abbrev pub place : {D W K : Type 0} → (W → Option (List ℕ))
+    → (K → ℕ) → (K → Option (List (List ℕ))) → D → W → K → Place D
 place contents failures shelved door writer shelf =
-    record { door = door; written = contents writer; failures = failures shelf; shelved = shelved shelf }
+    record {
+      door = door;
+      written = contents writer;
+      failures = failures shelf;
+      shelved = shelved shelf;
+    }
 
 -- This holds between the door before a call and the door after it, for every call.
-pub record EachCall {D : Type 0} (asks : D → Command → Result Answer Refusal → D → Type 0) (copies : D → Result Copied NoMemory → D → Type 0) (leads : D → D → Type 0) : Type 0 where
-  pub asked : (d : D) (command : Command) (reply : Result Answer Refusal) (e : D) → asks d command reply e → leads d e
+pub record EachCall {D : Type 0} (asks : AskCalls D) (copies : CopyCalls D)
+    (leads : D → D → Type 0) : Type 0 where
+  pub asked : (d : D) (command : Command) (reply : Result Answer Refusal) (e : D)
+      → asks d command reply e → leads d e
   pub copied : (d : D) (copied : Result Copied NoMemory) (e : D) → copies d copied e → leads d e
 
-module _ {D : Type 0} (size_of : D → Extent) (asks : D → Command → Result Answer Refusal → D → Type 0) (copies : D → Result Copied NoMemory → D → Type 0) where
+module _ {D : Type 0} (size_of : D → Extent) (asks : AskCalls D) (copies : CopyCalls D) where
   -- these talk lines lead from one place to the other, whatever is written
   pub record Leads (old : Place D) (talk_lines : List TalkLine) (new : Place D) : Type 0 where
     pub talk : FoldsTo (Takes size_of asks copies) old.door talk_lines new.door
@@ -159,17 +184,20 @@ module _ {D : Type 0} (size_of : D → Extent) (asks : D → Command → Result 
     pub shelved : Gains old.shelved new.shelved (shelved_by talk_lines)
 
   -- A session over this input: its items, up to one that ends it, are asked in order, each once.
-  pub record Serves (input : List ℕ) (old : Place D) (end : SessionEnd) (new : Place D) : Type 0 where
+  pub record Serves (input : List ℕ)
+      (old : Place D) (end : SessionEnd) (new : Place D) : Type 0 where
     pub talk_lines : List TalkLine
     pub later : List Item
     pub output : List ℕ
     pub leads : Leads old talk_lines new
-    pub items : until_end (size_of old.door) (lines input) ≡ map (λ talk_line. talk_line.item) talk_lines ++ later
+    pub items : until_end (size_of old.door) (lines input)
+        ≡ map (λ talk_line. talk_line.item) talk_lines ++ later
     pub writes : Appends old.written new.written output
     pub ended : EndsAs (size_of old.door) end (lines input) talk_lines later output
 
   -- The whole of it: the input is what so many reads gave, and at its end nothing is left unread.
-  pub record IsSession (reads : ℕ) (unread_old unread_new : Option (List ℕ)) (old : Place D) (end : SessionEnd) (new : Place D) : Type 0 where
+  pub record IsSession (reads : ℕ) (unread_old unread_new : Option (List ℕ))
+      (old : Place D) (end : SessionEnd) (new : Place D) : Type 0 where
     pub input : List ℕ
     pub given : Consumes unread_old unread_new input
     pub serves : Serves input old end new
@@ -180,5 +208,6 @@ module _ {D : Type 0} (size_of : D → Extent) (asks : D → Command → Result 
   -- This holds between the door before a session and the door after it, for every session.
   abbrev pub EachSession : (D → D → Type 0) → Type 0
   EachSession leads =
-      (reads : ℕ) (unread_old unread_new : Option (List ℕ)) (old : Place D) (end : SessionEnd) (new : Place D)
+      (reads : ℕ) (unread_old unread_new : Option (List ℕ))
+      (old : Place D) (end : SessionEnd) (new : Place D)
       → IsSession reads unread_old unread_new old end new → leads old.door new.door

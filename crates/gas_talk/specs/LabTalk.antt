@@ -21,7 +21,7 @@ use Rattle.gas_talk.specs.declared.end.SessionEnd.{SessionEnd}
 use Rattle.gas_talk.specs.declared.end.SessionEnd.TheVariants.{InputEnd}
 use Rattle.gas_text.specs.Requests.{request_of}
 use Rattle.gas_talk.specs.Lines.{Item, text, bad, lines}
-use Rattle.gas_talk.specs.Talk.{no_put, put_done, put_failed, TalkLine, reply_to, snapshot}
+use Rattle.gas_talk.specs.Talk.{no_put, put_done, put_failed, TalkLine, replied, reply_to, snapshot, AskCalls, CopyCalls}
 use Rattle.gas_talk.specs.Ends.{until_end, EndsAs, AreReads, StopsAtEnd, Place, shelved_by, failed_puts, failures_after}
 
 -- whether an item finds what it needs: memory may be refused, or the shelf may fail
@@ -37,7 +37,8 @@ is_memory shelf = false
 
 -- whether a command may want memory: a row as it is read, and any other where nothing else stands against it
 abbrev pub wants_memory : Laboratory → Command → Bool
-wants_memory lab command = is_row command || (takes_memory command && not (is_some (cause lab command)))
+wants_memory lab command =
+    is_row command || (takes_memory command && not (is_some (cause lab command)))
 
 -- the reply to a command of a seat, and the laboratory then: want of memory leaves it
 abbrev pub told : Laboratory → Entry → Bool → Result Answer Refusal × Laboratory
@@ -46,23 +47,29 @@ told lab entry false = (reply lab entry.command, event lab entry)
 
 -- the talk line of an item that was answered so, and the laboratory then
 abbrev pub answered : Item → Result Answer Refusal × Laboratory → TalkLine × Laboratory
-answered item said = (record { item = item; reply = reply_to said.0; put = no_put }, said.1)
+answered item said = (replied item (reply_to said.0) no_put, said.1)
 
 abbrev pub saved : Item → Laboratory → Outcome → TalkLine × Laboratory
-saved item lab plain = (record { item = item; reply = Saved (length lab.journal) (length (snapshot (copy_of lab))); put = put_done (snapshot (copy_of lab)) }, lab)
-saved item lab memory = (record { item = item; reply = Refused refusals.Memory; put = no_put }, lab)
-saved item lab shelf = (record { item = item; reply = Refused refusals.Save; put = put_failed }, lab)
+saved item lab plain =
+    let bytes = snapshot (copy_of lab) in
+    (replied item (Saved (length lab.journal) (length bytes)) (put_done bytes), lab)
+saved item lab memory = (replied item (Refused refusals.Memory) no_put, lab)
+saved item lab shelf = (replied item (Refused refusals.Save) put_failed, lab)
 
-abbrev pub requested : ℕ → Item → Laboratory → Result Request Refusal → Outcome → TalkLine × Laboratory
-requested seat item lab (Ok (Ask command)) outcome = answered item (told lab (entry_of seat command) (is_memory outcome && wants_memory lab command))
+abbrev pub requested : ℕ → Item → Laboratory → Result Request Refusal → Outcome
+    → TalkLine × Laboratory
+requested seat item lab (Ok (Ask command)) outcome =
+    let lacks_memory = is_memory outcome && wants_memory lab command in
+    answered item (told lab (entry_of seat command) lacks_memory)
 requested seat item lab (Ok Save) outcome = saved item lab outcome
-requested seat item lab (Ok Quit) outcome = (record { item = item; reply = Bye; put = no_put }, lab)
-requested seat item lab (Err refusal) outcome = (record { item = item; reply = Refused refusal; put = no_put }, lab)
+requested seat item lab (Ok Quit) outcome = (replied item Bye no_put, lab)
+requested seat item lab (Err refusal) outcome = (replied item (Refused refusal) no_put, lab)
 
 -- the talk line of an item of the seat, and the laboratory after it
 abbrev pub taken_at : ℕ → Laboratory → Item → Outcome → TalkLine × Laboratory
-taken_at seat lab (text line) outcome = requested seat (text line) lab (request_of (extent lab.start.particles) line) outcome
-taken_at seat lab bad outcome = (record { item = bad; reply = Refused refusals.Line; put = no_put }, lab)
+taken_at seat lab (text line) outcome =
+    requested seat (text line) lab (request_of (extent lab.start.particles) line) outcome
+taken_at seat lab bad outcome = (replied bad (Refused refusals.Line) no_put, lab)
 
 -- the talk lines of items with their outcomes, and the laboratory after them
 abbrev pub talk : ℕ → Laboratory → List (Item × Outcome) → List TalkLine × Laboratory
@@ -73,7 +80,8 @@ talk seat lab (i ∷ items) =
     (first.0 ∷ rest.0, rest.1)
 
 -- A session of a seat with a laboratory alone: its talk lines and the laboratory after it are those of talk.
-pub record IsTalk (seat : ℕ) (unread_old unread_new : Option (List ℕ)) (old : Place Laboratory) (end : SessionEnd) (new : Place Laboratory) : Type 0 where
+pub record IsTalk (seat : ℕ) (unread_old unread_new : Option (List ℕ))
+    (old : Place Laboratory) (end : SessionEnd) (new : Place Laboratory) : Type 0 where
   -- what the reads gave
   pub input : List ℕ
   -- the items that were asked, each with its outcome, and those that were not
@@ -81,12 +89,15 @@ pub record IsTalk (seat : ℕ) (unread_old unread_new : Option (List ℕ)) (old 
   pub later : List Item
   pub output : List ℕ
   pub reads : Consumes unread_old unread_new input
-  pub items : until_end (extent old.door.start.particles) (lines input) ≡ map (λ i. i.0) asked ++ later
+  pub items : until_end (extent old.door.start.particles) (lines input)
+      ≡ map (λ i. i.0) asked ++ later
   pub lab : new.door ≡ (talk seat old.door asked).1
-  pub failures : new.failures ≡ failures_after old.failures (failed_puts (talk seat old.door asked).0)
+  pub failures : new.failures
+      ≡ failures_after old.failures (failed_puts (talk seat old.door asked).0)
   pub shelved : Gains old.shelved new.shelved (shelved_by (talk seat old.door asked).0)
   pub writes : Appends old.written new.written output
-  pub ended : EndsAs (extent old.door.start.particles) end (lines input) (talk seat old.door asked).0 later output
+  pub ended : EndsAs (extent old.door.start.particles) end (lines input)
+      (talk seat old.door asked).0 later output
   pub whole : end ≡ InputEnd → IsAtEnd unread_new
   -- how many reads were made
   pub count : ℕ
@@ -94,11 +105,21 @@ pub record IsTalk (seat : ℕ) (unread_old unread_new : Option (List ℕ)) (old 
   pub stops : StopsAtEnd (extent old.door.start.particles) count input
 
 -- A door of a seat whose calls are those of a laboratory that nobody else uses.
-pub record IsAlone {D : Type 0} (size_of : D → Extent) (asks : D → Command → Result Answer Refusal → D → Type 0) (copies : D → Result Copied NoMemory → D → Type 0) (lab_of : D → Laboratory) (seat_of : D → ℕ) : Type 0 where
+pub record IsAlone {D : Type 0} (size_of : D → Extent) (asks : AskCalls D) (copies : CopyCalls D)
+    (lab_of : D → Laboratory) (seat_of : D → ℕ) : Type 0 where
   pub size : (d : D) → size_of d ≡ extent (lab_of d).start.particles
-  pub asked : (d : D) (command : Command) (reply : Result Answer Refusal) (e : D) → asks d command reply e → Applies (lab_of d) (entry_of (seat_of d) command) reply (lab_of e) × (seat_of e ≡ seat_of d)
-  pub copied : (d : D) (copied : Result Copied NoMemory) (e : D) → copies d copied e → Copies (lab_of d) copied (lab_of e) × (seat_of e ≡ seat_of d)
+  pub asked : (d : D) (command : Command) (reply : Result Answer Refusal) (e : D)
+      → asks d command reply e
+      → Applies (lab_of d) (entry_of (seat_of d) command) reply (lab_of e) × (seat_of e ≡ seat_of d)
+  pub copied : (d : D) (copied : Result Copied NoMemory) (e : D) → copies d copied e
+      → Copies (lab_of d) copied (lab_of e) × (seat_of e ≡ seat_of d)
 
 -- the same place, where a door stands for its laboratory
 abbrev pub lab_place : {D : Type 0} → (D → Laboratory) → Place D → Place Laboratory
-lab_place lab_of place = record { door = lab_of place.door; written = place.written; failures = place.failures; shelved = place.shelved }
+lab_place lab_of place =
+    record {
+      door = lab_of place.door;
+      written = place.written;
+      failures = place.failures;
+      shelved = place.shelved;
+    }

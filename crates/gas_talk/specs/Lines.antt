@@ -29,7 +29,8 @@ is_good line = nat_le (length line) line_limit && is_utf8 (line_text line)
 abbrev pub items_of : List (List ℕ) → List Item
 items_of [] = []
 items_of (rest ∷ []) = if nat_le (length rest) line_limit then [] else bad ∷ []
-items_of (line ∷ next ∷ parts) = if is_good line then text (line_text line) ∷ items_of (next ∷ parts) else bad ∷ []
+items_of (line ∷ next ∷ parts) =
+    if is_good line then text (line_text line) ∷ items_of (next ∷ parts) else bad ∷ []
 
 unfoldable pub lines : List ℕ → List Item
 lines input = items_of (slice_split is_newline input)

@@ -1,15 +1,10 @@
 -- Definitions that only contracts of private functions cite: what a line reader has of its input, what it finds there, and
 -- how far a session has come. Callers need not read them.
-use Rattle.std.specs.Prelude.{◌≡◌, ℕ, ◌<◌, ◌⊎◌, List, [], ◌∷◌, ◌++◌, length, map, Option, Some, None, Result, Bool, IsTrue, string_bytes}
+use Rattle.std.specs.Prelude.{◌≡◌, ℕ, ◌<◌, ◌⊎◌, List, [], ◌∷◌, ◌++◌, length, map, Option, Some, None, Bool, IsTrue, string_bytes}
 use Rattle.std.specs.Io.KnownBytes.{Appends}
-use Rattle.std.specs.declared.alloc.AllocError.{AllocError as NoMemory}
 use Rattle.tokio_util.specs.Codec.Next.{Resumes}
 use Rattle.tokio_util.specs.Codec.Lines.{at_line_start, gives_lines}
 use Rattle.gas_terms.specs.Cells.{Extent}
-use Rattle.gas_terms.specs.declared.command.Command.{Command}
-use Rattle.gas_terms.specs.declared.answer.Answer.{Answer}
-use Rattle.gas_terms.specs.declared.refusal.Refusal.{Refusal}
-use Rattle.gas_lab.specs.declared.door.Copied.{Copied}
 use Rattle.gas_talk.specs.declared.end.SessionEnd.{SessionEnd}
 use Rattle.gas_talk.specs.declared.end.SessionEnd.TheVariants.{WriteFault}
 use Rattle.gas_talk.specs.declared.reader.LineReader.{LineReader}
@@ -17,7 +12,7 @@ use Rattle.gas_talk.specs.declared.reader.Found.{Found}
 use Rattle.gas_talk.specs.declared.reader.Found.TheVariants.{Line, Bad, NoMemory as NoRoom, More}
 use Rattle.gas_talk.specs.Ends.{Place, replies, AreUnended, Leads, Serves}
 use Rattle.gas_talk.specs.Lines.{lines, text, bad, line_limit}
-use Rattle.gas_talk.specs.Talk.{TalkLine}
+use Rattle.gas_talk.specs.Talk.{TalkLine, AskCalls, CopyCalls}
 
 -- whatever comes after them, what the reader keeps reads as these bytes at the start of a line
 abbrev pub Keeps : LineReader → List ℕ → Type 0
@@ -30,7 +25,8 @@ kept_len r = length r.buffer.items
 -- what is found where these bytes are unread
 abbrev pub Finds : List ℕ → Found → LineReader → Type 0
 Finds unread (Line line) new =
-    (rest : List ℕ) × Keeps new rest × ((more : List ℕ) → lines (unread ++ more) ≡ text (string_bytes line) ∷ lines (rest ++ more))
+    (rest : List ℕ) × Keeps new rest
+    × ((more : List ℕ) → lines (unread ++ more) ≡ text (string_bytes line) ∷ lines (rest ++ more))
 Finds unread Bad new = (more : List ℕ) → lines (unread ++ more) ≡ bad ∷ []
 Finds unread NoRoom new = Unit {0}
 Finds unread More new = (lines unread ≡ []) × Keeps new unread
@@ -45,24 +41,28 @@ IsShorter More old new = Unit {0}
 -- A part of these bytes is written, and all of them if the flag is set.
 abbrev pub WritesPart : Option (List ℕ) → Option (List ℕ) → List ℕ → Bool → Type 0
 WritesPart old new bytes whole =
-    (part : List ℕ) × (rest : List ℕ) × (bytes ≡ part ++ rest) × Appends old new part × (IsTrue whole → rest ≡ [])
+    (part : List ℕ) × (rest : List ℕ) × (bytes ≡ part ++ rest)
+    × Appends old new part × (IsTrue whole → rest ≡ [])
 
 -- the end where the last reply is written whole, or a fault of the writer
 abbrev pub EndsWith : List ℕ → SessionEnd → SessionEnd → Type 0
 EndsWith missing wanted end = ((missing ≡ []) × (end ≡ wanted)) ⊎ (end ≡ WriteFault)
 
-module _ {D : Type 0} (size_of : D → Extent) (asks : D → Command → Result Answer Refusal → D → Type 0) (copies : D → Result Copied NoMemory → D → Type 0) where
+module _ {D : Type 0} (size_of : D → Extent) (asks : AskCalls D) (copies : CopyCalls D) where
   -- Within a session: each item of the input so far is taken, or is an item of what is unread.
-  pub record Progress (input : List ℕ) (old : Place D) (reader : LineReader) (new : Place D) : Type 0 where
+  pub record Progress (input : List ℕ)
+      (old : Place D) (reader : LineReader) (new : Place D) : Type 0 where
     pub talk_lines : List TalkLine
     pub unread : List ℕ
     pub leads : Leads size_of asks copies old talk_lines new
     pub keeps : Keeps reader unread
-    pub items : (more : List ℕ) → lines (input ++ more) ≡ map (λ talk_line. talk_line.item) talk_lines ++ lines (unread ++ more)
+    pub items : (more : List ℕ) → lines (input ++ more)
+        ≡ map (λ talk_line. talk_line.item) talk_lines ++ lines (unread ++ more)
     pub unended : AreUnended (size_of old.door) talk_lines
     pub writes : Appends old.written new.written (replies talk_lines)
 
   -- each line so far is answered, or the session is over
   abbrev pub AnswersLines : List ℕ → Place D → Option SessionEnd → LineReader → Place D → Type 0
-  AnswersLines input old None reader new = (p : Progress input old reader new) × (lines p.unread ≡ [])
+  AnswersLines input old None reader new =
+      (p : Progress input old reader new) × (lines p.unread ≡ [])
   AnswersLines input old (Some end) reader new = Serves size_of asks copies input old end new

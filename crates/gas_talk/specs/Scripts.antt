@@ -8,7 +8,7 @@ use Rattle.gas_terms.specs.declared.answer.Answer.TheVariants.{Taken}
 use Rattle.gas_text.specs.declared.reply.Reply.TheVariants.{Answered}
 use Rattle.gas_talk.specs.Ends.{until_end}
 use Rattle.gas_talk.specs.Lines.{Item, text, lines}
-use Rattle.gas_talk.specs.Talk.{no_put, TalkLine}
+use Rattle.gas_talk.specs.Talk.{no_put, TalkLine, replied}
 use Rattle.gas_talk.specs.LabTalk.{Outcome, plain}
 use Rattle.gas_text.specs.Texts.{command_text}
 
@@ -28,7 +28,8 @@ asked_by_script size journal = all_plain (until_end size (lines (script journal)
 abbrev pub taken_from : ℕ → List Entry → List TalkLine
 taken_from k [] = []
 taken_from k (entry ∷ journal) =
-    record { item = text (command_text entry.command); reply = Answered (Taken k); put = no_put } ∷ taken_from (k + 1) journal
+    replied (text (command_text entry.command)) (Answered (Taken k)) no_put
+    ∷ taken_from (k + 1) journal
 
 -- the entries, made by one seat
 abbrev pub with_seat : ℕ → List Entry → List Entry

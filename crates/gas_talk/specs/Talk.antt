@@ -32,6 +32,9 @@ pub record TalkLine : Type 0 where
   pub reply : Reply
   pub put : Put
 
+abbrev pub replied : Item → Reply → Put → TalkLine
+replied item reply put = record { item = item; reply = reply; put = put }
+
 abbrev pub reply_to : Result Answer Refusal → Reply
 reply_to (Ok answer) = Answered answer
 reply_to (Err refusal) = Refused refusal
@@ -44,11 +47,20 @@ Saves (Ok copied) reply put =
     ⊎ ((reply ≡ Refused refusals.Save) × (put ≡ put_failed))
     ⊎ ((reply ≡ Refused refusals.Memory) × (put ≡ no_put))
 
-module _ {D : Type 0} (size_of : D → Extent) (asks : D → Command → Result Answer Refusal → D → Type 0) (copies : D → Result Copied NoMemory → D → Type 0) where
+-- how a command may be answered, and how a copy may be made: which door leads to which door
+abbrev pub AskCalls : Type 0 → Type 1
+AskCalls D = D → Command → Result Answer Refusal → D → Type 0
+
+abbrev pub CopyCalls : Type 0 → Type 1
+CopyCalls D = D → Result Copied NoMemory → D → Type 0
+
+module _ {D : Type 0} (size_of : D → Extent) (asks : AskCalls D) (copies : CopyCalls D) where
   -- from the door old a request may be replied to so, and leave the door new
   abbrev pub Requests : D → Request → Reply → Put → D → Type 0
-  Requests old (Ask command) reply put new = (r : Result Answer Refusal) × asks old command r new × (reply ≡ reply_to r) × (put ≡ no_put)
-  Requests old Save reply put new = (copied : Result Copied NoMemory) × copies old copied new × Saves copied reply put
+  Requests old (Ask command) reply put new =
+      (r : Result Answer Refusal) × asks old command r new × (reply ≡ reply_to r) × (put ≡ no_put)
+  Requests old Save reply put new =
+      (copied : Result Copied NoMemory) × copies old copied new × Saves copied reply put
   Requests old Quit reply put new = (reply ≡ Bye) × (put ≡ no_put) × (new ≡ old)
 
   -- the same for what a line was read as
@@ -59,9 +71,11 @@ module _ {D : Type 0} (size_of : D → Extent) (asks : D → Command → Result 
   -- the same for an item: memory may be refused as a row is read
   abbrev pub Replies : D → Item → Reply → Put → D → Type 0
   Replies old (text line) reply put new =
-      (read : Result Request Refusal) × Reads read (request_of (size_of old) line) × Answers old read reply put new
+      (read : Result Request Refusal)
+      × Reads read (request_of (size_of old) line) × Answers old read reply put new
   Replies old bad reply put new = (reply ≡ Refused refusals.Line) × (put ≡ no_put) × (new ≡ old)
 
   -- one talk line, which leaves the size
   abbrev pub Takes : D → TalkLine → D → Type 0
-  Takes old talk_line new = Replies old talk_line.item talk_line.reply talk_line.put new × (size_of new ≡ size_of old)
+  Takes old talk_line new =
+      Replies old talk_line.item talk_line.reply talk_line.put new × (size_of new ≡ size_of old)

@@ -13,7 +13,7 @@ use std::sync::ledger::{Blank, Book, Ledger, Share};
 /// How many bytes a read asks for at most.
 pub const READ_LIMIT: usize = 4096;
 
-/// How many reads sessions made. It takes no bytes, and only a read changes it.
+/// A zero-sized counter of reads; only `SessionReads::read` advances it.
 #[derive(Drop)]
 pub struct ReadCount<L: Ledger> {
     book: Book<L>,

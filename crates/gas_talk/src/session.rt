@@ -32,7 +32,7 @@ fn send_reply<W: Write>(writer: &mut W, reply: &Reply, page: &mut ReplyPage) -> 
     send(writer, page.text())
 }
 
-// The last reply of a session, which ends so, or by a fault of the writer.
+// Sends the last reply. Returns `end`, or `WriteFault` if writing fails.
 fn last<W: Write>(
     writer: &mut W,
     page: &mut ReplyPage,

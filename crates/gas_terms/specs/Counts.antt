@@ -9,4 +9,6 @@ pub record AreSmall (counts : List ℕ) : Type 0 where
 
 -- the sums of particles that are so counted
 abbrev pub sums_of_counts : ℤ → List ℕ → Sums
-sums_of_counts tick counts = sums_by_parity tick (slice_index counts 0) (slice_index counts 1) (slice_index counts 2) (slice_index counts 3)
+sums_of_counts tick counts =
+    sums_by_parity tick
+    (slice_index counts 0) (slice_index counts 1) (slice_index counts 2) (slice_index counts 3)

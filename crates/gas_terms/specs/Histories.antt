@@ -38,9 +38,11 @@ goes forward component = if forward then component else not component
 -- how many particles of a column go to the right, or else to the left
 abbrev pub in_column : Bool → Gas → ℕ → ℕ
 in_column right g x =
-    count_by (λ y. has g.particles x y && goes right (velocity_at (parity g.tick) x y).right) (range_with_len 0 g.particles.height)
+    count_by (λ y. has g.particles x y && goes right (velocity_at (parity g.tick) x y).right)
+    (range_with_len 0 g.particles.height)
 
 -- how many particles of a row go down, or else up
 abbrev pub in_row : Bool → Gas → ℕ → ℕ
 in_row down g y =
-    count_by (λ x. has g.particles x y && goes down (velocity_at (parity g.tick) x y).down) (range_with_len 0 g.particles.width)
+    count_by (λ x. has g.particles x y && goes down (velocity_at (parity g.tick) x y).down)
+    (range_with_len 0 g.particles.width)

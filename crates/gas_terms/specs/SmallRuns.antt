@@ -17,7 +17,15 @@ abbrev pub cell : ℕ → ℕ → Rectangle
 cell x y = record { x = x; y = y; w = 1; h = 1 }
 
 abbrev pub empty_gas : ℤ → Gas
-empty_gas tick = record { tick = tick; particles = no_cells; walls = no_cells; obstacles = no_cells; drains = []; sources = [] }
+empty_gas tick =
+    record {
+      tick = tick;
+      particles = no_cells;
+      walls = no_cells;
+      obstacles = no_cells;
+      drains = [];
+      sources = [];
+    }
 
 abbrev pub after : List Command → BookedGas
 after commands = book_all (opened (empty_gas (pos 0))) commands
@@ -60,7 +68,8 @@ abbrev pub drain_on_a_particle : BookedGas
 drain_on_a_particle = after (Put (cell 0 0) ∷ Drain (cell 0 0) ∷ [])
 
 abbrev pub two_drains : BookedGas
-two_drains = after (Put (cell 0 0) ∷ Put (cell 2 2) ∷ Drain (cell 1 1) ∷ Drain (cell 3 3) ∷ Step 1 ∷ [])
+two_drains =
+    after (Put (cell 0 0) ∷ Put (cell 2 2) ∷ Drain (cell 1 1) ∷ Drain (cell 3 3) ∷ Step 1 ∷ [])
 
 abbrev pub drained_and_filled : BookedGas
 drained_and_filled = after (Put (cell 0 0) ∷ Drain (cell 1 1) ∷ Source (cell 1 1) 1 ∷ Step 1 ∷ [])
@@ -74,7 +83,9 @@ abbrev pub wall_and_obstacle : BookedGas
 wall_and_obstacle = after (Put (cell 0 0) ∷ Wall (cell 1 0) ∷ Block (cell 1 1) ∷ Step 1 ∷ [])
 
 abbrev pub wall_alone : BookedGas
-wall_alone = after (Put (cell 0 0) ∷ Wall (cell 1 0) ∷ Block (cell 1 1) ∷ Step 1 ∷ Back 1 ∷ Unwall (cell 1 1) ∷ Step 1 ∷ [])
+wall_alone =
+    after (Put (cell 0 0) ∷ Wall (cell 1 0) ∷ Block (cell 1 1) ∷ Step 1
+    ∷ Back 1 ∷ Unwall (cell 1 1) ∷ Step 1 ∷ [])
 
 -- a source acts at the ticks that its period divides, after the drains
 abbrev pub sourced : BookedGas
@@ -92,7 +103,9 @@ abbrev pub walled_pair : BookedGas
 walled_pair = after (Put (cell 0 0) ∷ Put (cell 2 2) ∷ Wall (cell 1 1) ∷ [])
 
 abbrev pub wall_removed : BookedGas
-wall_removed = after (Put (cell 0 0) ∷ Wall (record { x = 1; y = 1; w = 2; h = 2 }) ∷ Unwall (record { x = 1; y = 1; w = 2; h = 2 }) ∷ Step 1 ∷ [])
+wall_removed =
+    after (Put (cell 0 0) ∷ Wall (record { x = 1; y = 1; w = 2; h = 2 })
+    ∷ Unwall (record { x = 1; y = 1; w = 2; h = 2 }) ∷ Step 1 ∷ [])
 
 -- a particle shut in by walls, there and back
 abbrev pub shut_in : BookedGas
@@ -107,7 +120,8 @@ rows = after (Row 0 (128 ∷ []) ∷ Row 0 (192 ∷ []) ∷ Erase (cell 0 0) ∷
 
 -- a small laboratory, after commands of one seat
 abbrev pub lab_after : ℤ → ℕ → List Command → Laboratory
-lab_after tick cap commands = run (opening (empty_gas tick) cap) (map (λ c. record { seat = 0; command = c }) commands)
+lab_after tick cap commands =
+    run (opening (empty_gas tick) cap) (map (λ c. record { seat = 0; command = c }) commands)
 
 -- two particles after a step, at (1, 1) and (3, 3)
 abbrev pub two_in_a_lab : Laboratory

@@ -49,11 +49,13 @@ translated_from size by x = (x + size - by % size) % size
 -- the cells translated by so many columns to the right and rows down, over the seams
 abbrev pub translated : ℕ → ℕ → Cells → Cells
 translated right down cells =
-    cells_where cells.width cells.height (λ x y. has cells (translated_from cells.width right x) (translated_from cells.height down y))
+    cells_where cells.width cells.height
+    (λ x y. has cells (translated_from cells.width right x) (translated_from cells.height down y))
 
 -- a gas translated by so many columns to the right, rows down and ticks
 abbrev pub gas_translated : ℕ → ℕ → ℤ → Gas → Gas
-gas_translated right down ticks g = record (mapped (translated right down) g) { tick = g.tick +ℤ ticks }
+gas_translated right down ticks g =
+    record (mapped (translated right down) g) { tick = g.tick +ℤ ticks }
 
 -- the cells with left and right exchanged
 abbrev pub mirrored : Cells → Cells
@@ -74,7 +76,8 @@ distance size x a = min ((x + size - a) % size) ((a + size - x) % size)
 -- Two sets have the same cells within n columns and n rows of (x, y).
 abbrev pub AgreeWithin : ℕ → ℕ → ℕ → Cells → Cells → Type 0
 AgreeWithin n x y some others =
-    (a b : ℕ) → a < some.width → b < some.height → distance some.width x a ≤ n → distance some.height y b ≤ n
+    (a b : ℕ) → a < some.width → b < some.height
+    → distance some.width x a ≤ n → distance some.height y b ≤ n
     → has some a b ≡ has others a b
 
 -- Two gases agree where the light cone of (x, y) begins n steps before: on the cells within n columns and n rows.
@@ -86,7 +89,8 @@ pub record AgreeOnCone (n x y : ℕ) (g k : Gas) : Type 0 where
 abbrev pub AreApart : ℕ → Cells → Cells → Type 0
 AreApart n some others =
     (x y a b : ℕ) → x < some.width → y < some.height → a < others.width → b < others.height
-    → has some x y ≡ true → has others a b ≡ true → (n ≤ distance some.width x a) ⊎ (n ≤ distance some.height y b)
+    → has some x y ≡ true → has others a b ≡ true
+    → (n ≤ distance some.width x a) ⊎ (n ≤ distance some.height y b)
 
 -- the cells that have a particle, a wall or an obstacle
 abbrev pub occupied : Gas → Cells
@@ -94,16 +98,22 @@ occupied g = joined g.particles (solid g)
 
 -- Two gases never meet in n steps: before each of them, what one occupies is 2 cells away from what the other occupies.
 abbrev pub NeverMeet : ℕ → Gas → Gas → Type 0
-NeverMeet n g k = (m : ℕ) → m < n → AreApart 2 (occupied (iterate forward m g)) (occupied (iterate forward m k))
+NeverMeet n g k =
+    (m : ℕ) → m < n → AreApart 2 (occupied (iterate forward m g)) (occupied (iterate forward m k))
 
 -- The same for the particles of two gases alone.
 abbrev pub ParticlesNeverMeet : ℕ → Gas → Gas → Type 0
-ParticlesNeverMeet n g k = (m : ℕ) → m < n → AreApart 2 (iterate forward m g).particles (iterate forward m k).particles
+ParticlesNeverMeet n g k =
+    (m : ℕ) → m < n → AreApart 2 (iterate forward m g).particles (iterate forward m k).particles
 
 -- both gases in one, with the tick and the ports of the first
 abbrev pub superposed : Gas → Gas → Gas
 superposed g k =
-    record g { particles = joined g.particles k.particles; walls = joined g.walls k.walls; obstacles = joined g.obstacles k.obstacles }
+    record g {
+      particles = joined g.particles k.particles;
+      walls = joined g.walls k.walls;
+      obstacles = joined g.obstacles k.obstacles;
+    }
 
 -- a gas with other particles
 abbrev pub with_particles : Gas → Cells → Gas

@@ -80,7 +80,6 @@ fn wall_takes_in_a_run_with_ports(rt: HostRuntime) {
     expect_same(&rt, found.moved.drained, sums(0, 0, 0));
 }
 
-// Empties all cells of a lattice.
 fn emptied(rt: &impl Abort, size: Size) -> Exchange {
     let (w, h) = (u32::from(size.width()), u32::from(size.height()));
     let all = Rect::within(size, 0, 0, w, h).expect(rt, "a rectangle");
@@ -245,14 +244,14 @@ fn exchange_without_ports_is_still(rt: HostRuntime) {
 #[test]
 fn few_rectangles(rt: HostRuntime) {
     let (first, second) = (area(&rt, 3, 1), area(&rt, 5, 1));
-    let mut few = PortArray::none(first);
-    expect_that(&rt, few.len() == 0);
-    few.push(second);
-    let before = few.copy();
+    let mut array = PortArray::none(first);
+    expect_that(&rt, array.len() == 0);
+    array.push(second);
+    let before = array.copy();
     expect_that(&rt, before.len() == 1);
     expect_that(&rt, before.as_slice().iter().all(|area| area.x() == 5));
-    few.clear();
-    expect_that(&rt, few.len() == 0);
+    array.clear();
+    expect_that(&rt, array.len() == 0);
     expect_that(&rt, before.len() == 1);
 }
 

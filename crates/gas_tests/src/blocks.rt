@@ -86,7 +86,6 @@ fn has_just(tile: &Tile, cells: &[(u32, u32)]) -> bool {
     tile.has_same_cells(&tile_of(cells))
 }
 
-// the tile with these neighbors
 fn window<'a>(tile: &'a Tile, near: &'a Neighbors) -> Window<'a> {
     let round = near.round();
     Window { tile, round }
@@ -98,7 +97,7 @@ fn blocks_of(cells: &Tile) -> (u32, TileBlocks) {
     tile_blocks(&window(cells, &near))
 }
 
-fn lent(named: &(u32, TileBlocks)) -> Option<SetBlocks<'_>> {
+fn given(named: &(u32, TileBlocks)) -> Option<SetBlocks<'_>> {
     let (rows, blocks) = named;
     Some(SetBlocks {
         rows: *rows,
@@ -131,7 +130,7 @@ fn particles_cross_their_blocks(rt: HostRuntime) {
     expect_same(&rt, took, Took::ZERO);
     let mut among_none = old;
     let named = blocks_of(&none);
-    let took = turn_tile_even(&mut among_none, lent(&named), lent(&named), Counted::BOTH);
+    let took = turn_tile_even(&mut among_none, given(&named), given(&named), Counted::BOTH);
     expect_that(&rt, has_just(&among_none, even));
     expect_same(&rt, took, Took::ZERO);
 
@@ -152,7 +151,7 @@ fn particles_of_named_blocks_stay(rt: HostRuntime) {
     // blocks at even places have them in rows 10 and 11, those at odd places in rows 9 to 12: a bit for each pair of rows
     expect_same(&rt, named.0, 1 << 4 | 1 << 5 | 1 << 6);
     expect_same(&rt, named.1.even[5], 1 << 5);
-    let took = turn_tile_even(&mut tile, lent(&named), None, Counted::BOTH);
+    let took = turn_tile_even(&mut tile, given(&named), None, Counted::BOTH);
     expect_that(&rt, has_just(&tile, [(1, 1), (10, 10)].as_slice()));
     let twice = Pair { x: 2, y: 2 };
     expect_same(
@@ -176,8 +175,8 @@ fn accounts_that_are_not_kept_are_zero(rt: HostRuntime) {
         let counted = Counted { walls, obstacles };
 
         let mut tile = old;
-        let walled = lent(&even_walls);
-        let obstructed = lent(&even_obstacles);
+        let walled = given(&even_walls);
+        let obstructed = given(&even_obstacles);
         let took = turn_tile_even(&mut tile, walled, obstructed, counted);
         expect_that(&rt, tile.has_same_cells(&old));
         let of_walls = if walls { pair(2, 2) } else { pair(0, 0) };
@@ -185,8 +184,8 @@ fn accounts_that_are_not_kept_are_zero(rt: HostRuntime) {
         expect_same(&rt, (took.walls, took.obstacles), (of_walls, of_obstacles));
 
         let mut tile = Tile::full();
-        let walled = lent(&odd_walls);
-        let obstructed = lent(&odd_obstacles);
+        let walled = given(&odd_walls);
+        let obstructed = given(&odd_obstacles);
         let particles = window(&old, &near);
         let took = turn_tile_odd(&particles, walled, obstructed, counted, &mut tile);
         expect_that(&rt, tile.has_same_cells(&old));
@@ -218,7 +217,6 @@ fn particles_come_in_over_the_corners(rt: HostRuntime) {
     expect_that(&rt, has_just(&out, [(0, 0)].as_slice()));
 }
 
-// the cells of a block that begins at (x, y)
 fn cells_at(cells: u8, x: u32, y: u32) -> Tile {
     let [upper_left, upper_right, lower_left, lower_right] = block(cells);
     let mut tile = Tile::empty();

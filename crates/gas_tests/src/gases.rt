@@ -49,10 +49,10 @@ pub enum Piece {
     Source(u16),
 }
 
-/// Adds a part to a gas. Particles are put where none are.
-pub fn add(rt: &impl Abort, gas: &mut Gas, part: Piece, x: u32, y: u32, w: u32, h: u32) {
+/// Adds a piece to a gas. Particles are put where none are.
+pub fn add(rt: &impl Abort, gas: &mut Gas, piece: Piece, x: u32, y: u32, w: u32, h: u32) {
     let area = area(rt, gas, x, y, w, h);
-    match part {
+    match piece {
         Piece::Particles => {
             let count = gas.fill_particles(area).injected.count;
             expect_same(&rt, count, i64::from(w.wrapping_mul(h)));
@@ -76,23 +76,23 @@ pub fn step_on(rt: &(impl Abort + AllocGlobal), gas: &mut Gas, n: u16) -> Flow {
 /// A rectangle, and what it is for.
 pub type Placed = (Piece, u32, u32, u32, u32);
 
-pub fn add_all(rt: &impl Abort, gas: &mut Gas, parts: &[Placed]) {
-    for (part, x, y, w, h) in parts {
-        add(rt, gas, *part, *x, *y, *w, *h);
+pub fn add_all(rt: &impl Abort, gas: &mut Gas, pieces: &[Placed]) {
+    for (piece, x, y, w, h) in pieces {
+        add(rt, gas, *piece, *x, *y, *w, *h);
     }
 }
 
-/// Runs a gas with these parts for n phases. It then has these cells, so many in all.
+/// Runs a gas with these pieces for n phases. It then has these cells, so many in all.
 pub fn run(
     rt: &(impl Abort + AllocGlobal),
     number: i64,
-    parts: &[Placed],
+    pieces: &[Placed],
     n: u16,
     cells: &[(u32, u32, bool)],
     count: i64,
 ) -> Flow {
     let mut gas = gas_at(rt, number);
-    add_all(rt, &mut gas, parts);
+    add_all(rt, &mut gas, pieces);
     let flow = step_on(rt, &mut gas, n);
     let end = number.wrapping_add(i64::from(n));
     expect_stepped(rt, &gas, end, cells, count);

@@ -103,8 +103,8 @@ fn sign_often<R: Wait>(
     (door, last)
 }
 
-// Signs with one door, then with both in threads of their own, and then with the first, which has met the other: its first and
-// last answers.
+// Signs with one door, then with both in threads of their own, and then with the first, which has taken in a note of the
+// other: its first and last answers.
 fn sign_both<R: Threads + Wait + Sync>(
     rt: &R,
     lock: &TicketLock<Roll>,

@@ -11,7 +11,6 @@ use gas_terms::{Rect, Size};
 use std::process::Abort;
 use tile_border::Round;
 
-// An empty plane of 128 by 128: four tiles.
 fn four_tiles(rt: &(impl Abort + AllocGlobal)) -> Plane {
     let size = Size::new(128, 128).expect(rt, "a size");
     Plane::empty(rt.alloc(), size).expect(rt, "memory")
@@ -51,7 +50,6 @@ fn empty_tile(rt: &impl Abort, plane: &mut Plane, i: u32) {
     plane.set_tile(i, Tile::empty());
 }
 
-// stops a test if one of these cells round a tile is not full or empty as told
 fn expect_border(rt: &impl Abort, plane: &Plane, i: u32, cells: &[(Side, i32, bool)]) {
     expect_that(&rt, i < plane.size().tiles());
     expect_ring(rt, &plane.border(i), cells);

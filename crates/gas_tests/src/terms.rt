@@ -297,7 +297,6 @@ fn commands_fit_their_lattice(rt: HostRuntime) -> Result<(), Fail> {
     Ok(())
 }
 
-// the place and the period of a source
 fn source_of(command: &Command) -> Option<(u16, u16, u16, u16, u16)> {
     match command {
         Command::Source(area, period) => { Some((area.x(), area.y(), area.w(), area.h(), *period)) }

@@ -8,7 +8,6 @@ fn holds(tile: &Tile, x: u32, y: u32) -> bool {
     x < 64 && y < 64 && tile.get(x, y)
 }
 
-// stops a test if one of these cells is not full or empty as told
 fn expect_cells(rt: &impl Abort, tile: &Tile, cells: &[(u32, u32, bool)]) {
     for (x, y, held) in cells {
         expect_same(&rt, (*x, *y, holds(tile, *x, *y)), (*x, *y, *held));

@@ -34,7 +34,8 @@ first_word (word ∷ more) = Ok (word, more)
 -- What numbers mean, once each is in its range: a rectangle of the lattice,
 abbrev pub area : Extent → List ℕ → Result Rectangle Refusal
 area size (x ∷ y ∷ w ∷ h ∷ more) =
-    let r : Rectangle = record { x = x; y = y; w = w; h = h } in checked (lies_within size r) refusals.Rect r
+    let r : Rectangle = record { x = x; y = y; w = w; h = h } in
+    checked (lies_within size r) refusals.Rect r
 area size _ = Err refusals.Count
 
 -- a row of it,
@@ -75,8 +76,10 @@ verb_request size Block numbers more = asking commands.Block (area size numbers)
 verb_request size Unwall numbers more = asking commands.Unwall (area size numbers)
 verb_request size Drain numbers more = asking commands.Drain (area size numbers)
 verb_request size Probe numbers more = asking commands.Probe (area size numbers)
-verb_request size Source numbers more = area size numbers >>= λ r. asking (commands.Source r) (period (drop 4 numbers))
-verb_request size Row numbers more = row_number size numbers >>= λ y. asking (commands.Row y) (row_bits size more)
+verb_request size Source numbers more =
+    area size numbers >>= λ r. asking (commands.Source r) (period (drop 4 numbers))
+verb_request size Row numbers more =
+    row_number size numbers >>= λ y. asking (commands.Row y) (row_bits size more)
 verb_request size Step numbers more = asking commands.Step (step_count numbers)
 verb_request size Back numbers more = asking commands.Back (step_count numbers)
 verb_request size Read numbers more = asking commands.Read (row_number size numbers)

@@ -43,7 +43,8 @@ command_words (Wall r) = area_words verbs.Wall r
 command_words (Block r) = area_words verbs.Block r
 command_words (Unwall r) = area_words verbs.Unwall r
 command_words (Row y bits) = verb_word verbs.Row ∷ decimal y ∷ encode_lower bits ∷ []
-command_words (Source r period) = verb_word verbs.Source ∷ map decimal (area_numbers r ++ period ∷ [])
+command_words (Source r period) =
+    verb_word verbs.Source ∷ map decimal (area_numbers r ++ period ∷ [])
 command_words (Drain r) = area_words verbs.Drain r
 command_words Unport = verb_word verbs.Unport ∷ []
 command_words (Step n) = verb_word verbs.Step ∷ decimal n ∷ []
@@ -78,13 +79,17 @@ ledger_numbers l =
 abbrev pub reply_words : Reply → List (List ℕ)
 reply_words (Answered (Taken k)) = codes "OK" ∷ decimal k ∷ []
 reply_words (Answered (Probed sums)) = codes "PROBE" ∷ map signed_decimal (sums_numbers sums)
-reply_words (Answered (Tallied tick sums)) = codes "TALLY" ∷ map signed_decimal (tick ∷ sums_numbers sums)
-reply_words (Answered (Accounts ledger)) = codes "LEDGER" ∷ map signed_decimal (ledger_numbers ledger)
+reply_words (Answered (Tallied tick sums)) =
+    codes "TALLY" ∷ map signed_decimal (tick ∷ sums_numbers sums)
+reply_words (Answered (Accounts ledger)) =
+    codes "LEDGER" ∷ map signed_decimal (ledger_numbers ledger)
 reply_words (Answered (RowIs bits)) = codes "ROW" ∷ encode_lower bits ∷ []
-reply_words (Answered (EntryIs entry)) = codes "ENTRY" ∷ decimal entry.seat ∷ command_text entry.command ∷ []
+reply_words (Answered (EntryIs entry)) =
+    codes "ENTRY" ∷ decimal entry.seat ∷ command_text entry.command ∷ []
 reply_words (Saved k bytes) = codes "SAVED" ∷ decimal k ∷ decimal bytes ∷ []
 reply_words Bye = codes "BYE" ∷ []
-reply_words (Refused refusal) = codes "ERR" ∷ decimal (refusal_number refusal) ∷ refusal_word refusal ∷ []
+reply_words (Refused refusal) =
+    codes "ERR" ∷ decimal (refusal_number refusal) ∷ refusal_word refusal ∷ []
 
 -- whether a reply is the last of a session
 abbrev pub is_bye : Reply → Bool

@@ -27,7 +27,8 @@ verb_word Quit = codes "quit"
 
 abbrev pub verbs : List Verb
 verbs =
-    Put ∷ Erase ∷ Wall ∷ Block ∷ Unwall ∷ Drain ∷ Probe ∷ Source ∷ Row ∷ Step ∷ Back ∷ Read ∷ Entry ∷ Unport ∷ Tally
+    Put ∷ Erase ∷ Wall ∷ Block ∷ Unwall ∷ Drain ∷ Probe ∷ Source ∷ Row ∷ Step ∷ Back ∷ Read ∷ Entry
+    ∷ Unport ∷ Tally
     ∷ Ledger ∷ Save ∷ Quit ∷ []
 
 -- the verb whose word it is

@@ -29,7 +29,8 @@ value_of digits = value_after 0 digits
 -- 1 to 10 digits, of at most 4,294,967,295
 unfoldable pub number_of : List ℕ → Option ℕ
 number_of word =
-    if is_nonempty word && nat_le (length word) 10 && all_ascii_digits word && nat_lt (value_of word) (2 ^ 32)
+    if is_nonempty word && nat_le (length word) 10 && all_ascii_digits word
+    && nat_lt (value_of word) (2 ^ 32)
     then Some (value_of word)
     else None
 

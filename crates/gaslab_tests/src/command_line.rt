@@ -12,7 +12,6 @@ fn numbers(found: &Plan<'_>) -> [u32; 3] {
     [size.width() as u32, size.height() as u32, found.setup.cap]
 }
 
-// the plan of words that are understood
 fn planned<'a>(rt: &(impl Abort + AllocGlobal), words: &'a [&'a str]) -> Plan<'a> {
     match plan(rt.alloc(), words) {
         Ok(found) => found,
@@ -219,12 +218,10 @@ fn sizes_beside_a_snapshot(rt: HostRuntime) {
     }
 }
 
-// how many workers the words give
 fn workers_of(rt: &(impl Abort + AllocGlobal), words: &[&str]) -> u8 {
     planned(rt, words).setup.workers
 }
 
-// how many workers a run with this value has
 fn workers_with(rt: &(impl Abort + AllocGlobal), value: &str) -> u8 {
     workers_of(rt, &["gaslab", "run", "--workers", value])
 }

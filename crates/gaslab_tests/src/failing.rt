@@ -108,7 +108,6 @@ struct Session {
     end: SessionEnd,
 }
 
-// a session on this laboratory
 fn sits<R: Abort + AllocGlobal + Threads>(
     rt: &R,
     lab: &mut Lab<Team<&R, NoGate>>,
@@ -175,7 +174,6 @@ fn is_as_after(
     are_same(rt, store.kept(), session.store.kept());
 }
 
-// the run goes like this
 fn runs(
     rt: &(impl Abort + AllocGlobal + Threads),
     dialogue: &Dialogue,

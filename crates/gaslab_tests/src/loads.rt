@@ -15,7 +15,6 @@ pub const WITH_PORTS: [u8; 40] = [
     0xff, 0xff, 0xff, 1, 1, 0, 1, 0, 1, 0, 1, 0, 1, 0, 10, 0, 10, 0, 1, 0, 1, 0, 2,
 ];
 
-// an empty gas of the greatest size
 const GREATEST: [u8; 22] = [
     0x48, 0x50, 0x50, 0x47, 0x41, 0x53, 0x32, 0x0a, 0x10, 0, 0x10, 0, 0, 0, 0, 0, 0, 0, 0, 0, 0, 0,
 ];

@@ -31,7 +31,6 @@ fn numbers_of(lab: &Lab<Serial>) -> [i64; 6] {
     ]
 }
 
-// these numbers after an opening
 fn opening(rt: &(impl Abort + AllocGlobal), start: Option<Gas>) -> [i64; 6] {
     let lab = set_up(rt, start);
     numbers_of(&lab)

@@ -66,7 +66,7 @@ pub fn lines(rt: &(impl Abort + AllocGlobal + Threads), text: &str) -> Vec<u8> {
     bytes
 }
 
-/// The setup of a test.
+/// The setup of a laboratory of this shape.
 pub fn setup_of(rt: &impl Abort, shape: LabShape) -> Setup
     ensures { IsInRange result }
 {
@@ -102,7 +102,6 @@ pub fn opened_by_strips<R: AllocGlobal + Threads>(
     opened(rt.alloc(), setup, start, team).ok()
 }
 
-// the program's status after a session
 fn status_after(end: SessionEnd) -> u8 {
     match end {
         SessionEnd::Quit | SessionEnd::InputEnd => Status::Done.number(),
@@ -111,7 +110,6 @@ fn status_after(end: SessionEnd) -> u8 {
     }
 }
 
-// how a session on this laboratory ends
 fn end_on<T: AllocGlobal + Threads, R: Read, W: Write, K: Shelf>(
     rt: &T,
     lab: &mut Lab<Team<&T, NoGate>>,
@@ -122,7 +120,6 @@ fn end_on<T: AllocGlobal + Threads, R: Read, W: Write, K: Shelf>(
     serve_alone(rt.alloc(), reader, writer, lab, 0, shelf)
 }
 
-// the status of a run all by strips
 fn status_by_strips<R: Read, W: Write, K: Shelf>(
     rt: &(impl AllocGlobal + Threads),
     setup: Setup,
@@ -139,7 +136,8 @@ fn status_by_strips<R: Read, W: Write, K: Shelf>(
     }
 }
 
-/// The status of a run. The program itself makes no small run by strips, so such a shape has a laboratory of the test's own.
+/// The status of a run. The program itself makes no small run by strips, so a shape `by_strips` gets a laboratory of the
+/// test's own.
 pub fn status_on<R: Read, W: Write, K: Shelf>(
     rt: &(impl Abort + AllocGlobal + Threads),
     shape: LabShape,

@@ -40,7 +40,6 @@ fn says(rt: &impl Abort, served: (u8, OutputPage), line: &[u8]) {
     expect_same(rt, (status, said.text()), (0, line));
 }
 
-// A listener at a free port, and its address.
 fn listen<R: Net<Stream = TcpStream, Listener = TcpListener> + Abort>(
     rt: &R,
 ) -> (TcpListener, SocketAddr) {

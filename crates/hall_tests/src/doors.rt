@@ -70,7 +70,6 @@ fn take_turns<
     seats
 }
 
-// The two sessions, with their replies.
 fn put_by_turns<
     N: HallName + Send + Sync,
     G: HallGate + Sync,
@@ -118,7 +117,6 @@ fn come_back<N: HallName, G: HallGate, R: Wait + Abort>(
     expect_that(rt, seats.push(seat).is_ok());
 }
 
-// A hall with two seats, held by turns.
 fn open_two<'g, N: HallName, R: Wait + Clock + Abort>(
     rt: &R,
     alloc: Global,
@@ -136,7 +134,6 @@ fn open_two<'g, N: HallName, R: Wait + Clock + Abort>(
     }
 }
 
-// Closes the hall after the two sessions.
 fn close_two<N: HallName, G: HallGate>(
     rt: &impl Abort,
     hall: Hall<N, Serial, G>,

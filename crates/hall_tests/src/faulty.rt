@@ -18,7 +18,6 @@ use test_types::pages::{OutputPage, PageWriter, shows};
 
 const FIRST: &[u8] = b"put 2 0 1 1\nput 6 0 1 1\n";
 
-// The first session's replies.
 const FIRST_TOLD: &[u8] = b"OK 0\nOK 1\n";
 
 const SECOND: &[u8] = b"put 4 0 1 1\nentry 0\nentry 1\nentry 2\n";
@@ -122,7 +121,6 @@ impl<'a> Write for Writer<'a> {
     }
 }
 
-// The two sessions of a scene.
 #[derive(Drop)]
 struct Two<'a, C: Clock> {
     clock: C,
@@ -163,7 +161,6 @@ impl<'a, C: Clock + Copy + Drop + Send> Lobby for Two<'a, C> {
     }
 }
 
-// Who serves: `serve` or `serve_turn`.
 #[derive(Clone, Copy, PartialEq, Eq)]
 enum Server {
     Ledgered,

@@ -36,7 +36,6 @@ fn serve_guests<R: Threads + Wait + Clock + Sync + Abort + AllocGlobal>(
     (left.expect(rt, "memory"), counted(&saved))
 }
 
-// The sessions leave what is wanted.
 fn serves<R: Threads + Wait + Clock + Sync + Abort + AllocGlobal>(
     rt: &R,
     gate: &TestGate<R>,

@@ -33,7 +33,6 @@ fn first_counts<N: HallName>(seats: &[HallSeat<N>]) -> [u32; 4] {
     ]
 }
 
-// The entries that the seat at this place made, if there is one.
 fn entries_at<N: HallName>(seats: &[HallSeat<N>], place: usize) -> u32 {
     match seats.get(place) {
         Some(seat) => seat.entries(),

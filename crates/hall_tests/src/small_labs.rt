@@ -81,7 +81,6 @@ pub fn summed(rt: &impl Abort, reply: &Result<Answer, Refusal>) -> (i64, i64, i6
     }
 }
 
-// The count and momentum of a gas.
 fn tally(gas: &Gas) -> (i64, i64, i64) {
     let Sums { count, px, py } = gas.particles().total(gas.tick().parity());
     (count, px, py)

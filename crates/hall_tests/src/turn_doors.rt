@@ -15,7 +15,6 @@ use std::sync::Wait;
 use std::thread;
 use std::thread::Threads;
 
-// A hall with its two seats.
 fn open_two(
     rt: &(impl Abort + AllocGlobal),
 ) -> (TurnHall<Serial>, TurnSeat<Serial>, TurnSeat<Serial>)
@@ -55,7 +54,7 @@ fn putter(reply: &Result<Answer, Refusal>) -> Option<u16> {
     }
 }
 
-// The second seat meets the first's note. Tells who put the journal's first entry, what a copy holds, and how many entries each
+// The second seat takes in the first's note. Tells who put the journal's first entry, what a copy holds, and how many entries each
 // seat made.
 fn meet<R: Wait + Abort>(
     rt: &R,
@@ -115,7 +114,7 @@ fn both_put<R: Threads + Wait + Abort + Sync>(
     expect_same(rt, (copied, entries), (((1, 1, 1), 200), (100, 100)));
 }
 
-/// Two threads each make a hundred entries, and one seat meets the other's note.
+/// Two threads each make a hundred entries, and one seat takes in the other's note.
 #[test]
 fn turn_doors_take_turns(rt: HostRuntime) {
     let (hall, first, second) = open_two(&rt);

@@ -22,7 +22,6 @@ struct TurnHallOutcome {
     saved: [u32; 3],
 }
 
-// The entries that each of the seats made.
 fn counts_of(seats: &[TurnSeat<Serial>]) -> [u32; 3] {
     let mut counts = [0; 3];
     for (count, seat) in counts.iter_mut().zip(seats) {
@@ -84,7 +83,6 @@ fn serve_speeches<R: Threads + Wait + Sync + Abort + Clock + Copy + Drop + Send 
     }
 }
 
-// none of them saved
 fn without_saves(counts: (u32, u32, u32), of_seats: [u32; 3]) -> TurnHallOutcome {
     TurnHallOutcome {
         counts,

@@ -30,7 +30,6 @@ struct ShownEntry {
     row: [Option<u8>; 16],
 }
 
-// What a laboratory shows.
 #[derive(Clone, Copy, PartialEq, Eq)]
 struct Shown {
     start: ShownGas,
@@ -186,7 +185,6 @@ fn refused_changes_leave_the_laboratory(rt: HostRuntime) {
     }
 }
 
-// Puts a row, unless memory is refused.
 fn put_a_row(rt: &(impl Abort + AllocGlobal), lab: &mut Lab<Serial>) {
     if let Ok(row) = RowBits::zero(rt.alloc(), 8) {
         if let Err(refusal) = ask(rt, lab, 0, Command::Row(3, row)) {

@@ -24,11 +24,7 @@ module _ {E : Type 0} where
   shorter [] ys zs p q le = (ys, refl)
   shorter (x ∷ xs) [] zs p q le = absurd (omega arith)
   shorter (x ∷ xs) (y ∷ ys) [] p q le = absurd (cc (p.1))
-  shorter (x ∷ xs) (y ∷ ys) (z ∷ zs) p q le =
-      let xz : x ≡ z = cc (p.1) in
-      let yz : y ≡ z = cc (q.1) in
-      let r = shorter xs ys zs (p.0, cc (p.1)) (q.0, cc (q.1)) (omega arith) in
-      (r.0, λ i. (xz ∙ sym yz) i ∷ r.1 i)
+  shorter (x ∷ xs) (y ∷ ys) (z ∷ zs) p q le = grind (arith, shorter xs ys zs)
 
   pub longer_is : (xs ys : List E) (P : List E → Type 0) → (length xs < length ys → P ys) → (length ys ≤ length xs → P xs) → P (longer xs ys)
   longer_is xs ys P below above = grind (arith, lt-ltb, le-ltb)
