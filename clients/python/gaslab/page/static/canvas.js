@@ -35,6 +35,11 @@ export class View extends Painter {
   get size() { return [this.canvas.clientWidth, this.canvas.clientHeight]; }
   get middle() { return this.size.map((side) => side / 2); }
 
+  get middleCell() {
+    const { x0, y0, x1, y1 } = this.visible();
+    return [(x0 + x1) >> 1, (y0 + y1) >> 1];
+  }
+
   fit(rect = null) {
     if (!this.picture) return;
     const [x, y, w, h] = rect || [0, 0, this.picture.width, this.picture.height], [cw, ch] = this.size;
@@ -110,7 +115,7 @@ export class View extends Painter {
     if (!picture) return;
     const all = this.box([0, 0, picture.width, picture.height]), pixels = this.scale * ratio;
     const shown = isDensity ? this.paintDensity() : pixels <= .5 ? this.paintHalf()
-      : this.isCalm ? this.paintMean(this.visible()) : this.paintCells(this.visible());
+      : this.paintCells(this.visible());
     c.imageSmoothingEnabled = pixels < 1 && !isDensity;
     c.imageSmoothingQuality = "low";
     c.drawImage(shown, ...all);
@@ -150,7 +155,7 @@ export class View extends Painter {
   }
 
   drawGrid() {
-    const { scale } = this, t = this.parity(), { x0, y0, x1, y1 } = this.visible();
+    const { scale } = this, t = this.parity, { x0, y0, x1, y1 } = this.visible();
     const [left, top] = this.box([x0, y0, 0, 0]), [right, bottom] = this.box([x1, y1, 0, 0]);
     const at = (cells, from) => Math.round((cells - from) * scale) + .5;
     const lines = (x, y, step, ...look) => {

@@ -1,7 +1,6 @@
 // Elements of the page: found by id, or made from text without markup.
 export const at = (id) => document.getElementById(id);
 export const SANS = getComputedStyle(document.body).fontFamily;
-export const setting = (id) => JSON.parse(at(id)?.textContent ?? "null");
 
 /** An element. `tag` may have classes: "p.task". Strings of `props` are attributes, and so is what has a
     dash; all else are properties. Children are elements or text; null and false are left out. */

@@ -5,7 +5,7 @@ import { view } from "./canvas.js";
 import { hideNotice } from "./notices.js";
 import { preview, act } from "./drawing.js";
 import { showWords } from "./toolbar.js";
-import { leaveCursor } from "./cursor.js";
+import { leaveCursor } from "./keys.js";
 
 const HOLD = 150;          // milliseconds that a finger stays before it draws
 const FAR = 8;             // pixels that a finger moves before it scrolls
@@ -98,7 +98,7 @@ function move(e) {
 /** Says what is in a cell, and what its block does next. */
 function describe([x, y]) {
   if (!view.holds([x, y])) { showWords(null); return; }
-  const { width, height } = view.picture, t = view.parity(), [vx, vy] = view.way(x, y);
+  const { width, height } = view.picture, t = view.parity, [vx, vy] = view.way(x, y);
   const kind = KINDS[view.ground[y * width + x]];
   const way = `moves ${vx > 0 ? "right" : "left"} and ${vy > 0 ? "down" : "up"}`;
   const bx = (x - ((x + t) & 1) + width) % width, by = (y - ((y + t) & 1) + height) % height;

@@ -2,7 +2,6 @@
 import { at, h, say, setText } from "./dom.js";
 import { state } from "./state.js";
 import { plots } from "./plots.js";
-import { plotsOf } from "./lessons.js";
 import { send } from "./session.js";
 
 /** Each row of the ledger: its name, its sign in the sum, and its fields: particles, px, py. */
@@ -63,4 +62,4 @@ function showMini({ tick }) {
 
 state.on(["shown"], () => {
   for (const show of [showNumbers, showLedger, showProbes, showMini]) show(state.shown); });
-state.on(["lesson"], () => plots.choose(plotsOf(state.lesson)));
+state.on(["lesson"], () => plots.choose(state.lesson.plots));

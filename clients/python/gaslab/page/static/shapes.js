@@ -64,20 +64,16 @@ function largest(held, w, h, i, j) {
   return best;
 }
 
-export const hex = (bytes) => Array.from(bytes, (v) => v.toString(16).padStart(2, "0")).join("");
-
 /** `row` lines that lay a random gas into a rectangle, and keep what is outside it. Solid cells stay empty.
     Density and drifts are percents. */
-export function randomGas(view, [x, y, w, h], { density, right, down }, random = Math.random) {
-  const { width, particles } = view.picture, bytes = width / 8, out = [];
-  for (let j = y; j < y + h; j++) {
-    const row = particles.slice(j * bytes, (j + 1) * bytes);
-    for (let i = x; i < x + w; i++) {
-      const [vx, vy] = view.way(i, j), mask = 128 >> (i & 7);
-      const chance = density / 100 * (1 + right / 100 * vx) * (1 + down / 100 * vy);
-      if (!view.isSolidAt(i, j) && random() < chance) row[i >> 3] |= mask; else row[i >> 3] &= ~mask;
-    }
-    out.push(`row ${j} ${hex(row)}`);
-  }
-  return out;
+export function randomGas(view, [x, y, w, h], { density, right, down }) {
+  const isFull = (i, j) => {
+    if (i < x || i >= x + w) return view.has(i, j);
+    const [vx, vy] = view.way(i, j), chance = density / 100 * (1 + right / 100 * vx) * (1 + down / 100 * vy);
+    return !view.isSolidAt(i, j) && Math.random() < chance;
+  };
+  return Array.from({ length: h }, (_, k) => {
+    const bits = Array.from({ length: view.picture.width }, (_cell, i) => Number(isFull(i, y + k))).join("");
+    return `row ${y + k} ${bits.replace(/.{4}/g, (four) => parseInt(four, 2).toString(16))}`;
+  });
 }
