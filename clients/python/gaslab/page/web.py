@@ -31,36 +31,24 @@ class Desk(threading.Thread):
         super().__init__(daemon=True)
         self.hall, self.has_ended = hall, has_ended
         self.fault: Optional[Exception] = None
-        self._jobs: "queue.Queue[Optional[Callable[[], None]]]" = queue.Queue()
+        self._jobs: "queue.SimpleQueue[tuple[Future[Any], Callable[[], Any]]]" = queue.SimpleQueue()
+        self._is_ending = False
 
     def call(self, job: Callable[[], Any]) -> "Future[Any]":
         """Does a job. Its result, or what it raises, comes by the future."""
         future: "Future[Any]" = Future()
-
-        def run() -> None:
-            if not future.set_running_or_notify_cancel():
-                return
-            try:
-                future.set_result(job())
-            except BaseException as fault:
-                future.set_exception(fault)
-                if isinstance(fault, _LOST):
-                    raise
-        self._jobs.put(run)
+        self._jobs.put((future, job))
         return future
 
     def end(self) -> None:
         """Ends the thread, after the jobs before."""
-        self._jobs.put(None)
+        self.call(lambda: setattr(self, "_is_ending", True))
 
     def run(self) -> None:
         """Works until it is ended, or can't go on, as when the laboratory is lost."""
         try:
-            while True:
-                job = self._next()
-                if job is None:
-                    break
-                job()
+            while not self._is_ending:
+                self._work()
                 self.hall.beat()
         except Exception as fault:
             self.fault = fault
@@ -68,13 +56,22 @@ class Desk(threading.Thread):
             self.hall.close()
             self.has_ended()
 
-    def _next(self) -> Optional[Callable[[], None]]:
+    def _work(self) -> None:
+        """Does the next job, or looks for what others did if there is none in time."""
         player = self.hall.player
-        wait = max(0.0, player.due - time.monotonic()) if player.play else _POLL
+        wait = min(max(0.0, player.due - time.monotonic()), _POLL) if player.play else _POLL
         try:
-            return self._jobs.get(timeout=min(wait, _POLL)) if wait else self._jobs.get_nowait()
+            future, job = self._jobs.get(wait > 0, wait)
         except queue.Empty:
-            return self.hall.poll
+            self.hall.poll()
+            return
+        if future.set_running_or_notify_cancel():
+            try:
+                future.set_result(job())
+            except Exception as fault:
+                future.set_exception(fault)
+                if isinstance(fault, _LOST):
+                    raise
 
 
 class Outbox:
