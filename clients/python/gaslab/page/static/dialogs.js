@@ -1,6 +1,6 @@
 // The dialog that opens from the header and the readings, and what it shows: lessons, what is proved, seats,
 // keys, what is taken home, and truth tables.
-import { at, h, say } from "./dom.js";
+import { at, button, h, say } from "./dom.js";
 import { TRUTH, KEYS, ALWAYS, TOOLS } from "./facts.js";
 import { LESSONS, SCENES, EMPTY } from "./lessons.js";
 import { state } from "./state.js";
@@ -44,7 +44,6 @@ box.onpointerdown = ({ target, clientX: x, clientY: y }) => {
   if (target === box && (x < left || x > right || y < top || y > bottom)) box.close();
 };
 
-const button = (text, act) => h("button.plain", { onclick: act }, text);
 const number = (value, name, more = {}) => h("input", { type: "number", value, "aria-label": name, ...more });
 
 /** A form that does something in place of being sent. */
@@ -62,11 +61,11 @@ const closing = (act) => () => {
 
 function shelf(name, lessons, hasNumbers) {
   const act = (lesson) => closing(() => { load(lesson); showTab("lesson"); });
-  const item = (lesson) => h("li", {},
+  const item = (lesson) => h("li",
     h("button", { "aria-current": String(lesson === state.lesson), onclick: act(lesson) },
-      hasNumbers && h("span.n", {}, lesson.id),
-      h("span", {}, h("b", {}, lesson.name), h("small", {}, lesson.about))));
-  return h(hasNumbers ? "section" : "section.bare", {}, h("h3", {}, name), h("ul", {}, lessons.map(item)));
+      hasNumbers && h("span.n", lesson.id),
+      h("span", h("b", lesson.name), h("small", lesson.about))));
+  return h(hasNumbers ? "section" : "section.bare", h("h3", name), h("ul", lessons.map(item)));
 }
 
 /** Sends a script's lines, moved, into the gas that is there. */
@@ -81,9 +80,9 @@ function placeScript(by) {
 
 function own() {
   const sides = ["Width", "Height"].map((name) =>
-    h("select", { "aria-label": name }, SIDES.map((cells) => h("option", {}, String(cells)))));
+    h("select", { "aria-label": name }, SIDES.map((cells) => h("option", String(cells)))));
   const by = ["Columns to the right", "Rows downwards"].map((name) => number("0", name));
-  return h("div.own", {}, h("h3", {}, "Your own"),
+  return h("div.own", h("h3", "Your own"),
     form(closing(() => load(EMPTY, sides.map(({ value }) => Number(value)))),
       "Empty, ", sides[0], " by ", sides[1], button("Open")),
     button("Open a script or snapshot", closing(() => pickFile(({ name, bytes }) => openBytes(name, bytes)))),
@@ -92,25 +91,25 @@ function own() {
 }
 
 function lessons() {
-  return [h("h2.unseen", {}, "Lessons and scenes"), h("div.shelves", {}, shelf("Lessons", LESSONS, true),
-    h("div", {}, shelf("Scenes", SCENES, false), own()))];
+  return [h("h2.unseen", "Lessons and scenes"), h("div.shelves", shelf("Lessons", LESSONS, true),
+    h("div", shelf("Scenes", SCENES, false), own()))];
 }
 
 // ---- what runs, who is there, and keys
 
 function truth() {
   const [, title, texts] = TRUTH[state.program] ?? TRUTH.none;
-  return [h("h2", {}, title), ...texts.map((text) => h("p", {}, text)),
+  return [h("h2", title), ...texts.map((text) => h("p", text)),
     button("Save the script", () => saveFile(".script"))];
 }
 
 function seats() {
   const name = h("input", { type: "text", maxLength: 24, size: 14 });
-  const person = ([seat, called]) => h("li", {}, h("b", {}, `Seat ${seat}`),
+  const person = ([seat, called]) => h("li", h("b", `Seat ${seat}`),
     [called, seat === state.seat ? "you" : ""].filter(Boolean).join(", "));
-  return [h("h2", {}, "Who is on this gas"), h("ul.people", {}, [...state.people].map(person)),
+  return [h("h2", "Who is on this gas"), h("ul.people", [...state.people].map(person)),
     form(closing(() => send([`.name ${name.value.replace(/[\n\r]/g, " ")}`])),
-      h("label", {}, "Your name ", name), " ", button("Save"))];
+      h("label", "Your name ", name), " ", button("Save"))];
 }
 
 function help() {
@@ -118,10 +117,10 @@ function help() {
     onchange: () => setKeys(single.checked) });
   const all = [...Object.values(ALWAYS), ...KEYS,
     ...TOOLS.map(({ key, name }) => ({ shown: key, words: name.toLowerCase() }))];
-  return [h("h2", {}, "Keys"), h("label.switch", {}, single,
+  return [h("h2", "Keys"), h("label.switch", single,
     " Single keys act everywhere. Without this they act on the gas alone."),
-  h("div.keys", {}, all.flatMap(({ shown, words }) => [
-    h("span", {}, shown.split(" ").flatMap((key) => [h("kbd", {}, key), " "])), h("span", {}, words)]))];
+  h("div.keys", all.flatMap(({ shown, words }) => [
+    h("span", shown.split(" ").flatMap((key) => [h("kbd", key), " "])), h("span", words)]))];
 }
 
 // ---- share
@@ -129,7 +128,7 @@ function help() {
 /** A thing to take home: its name, what it is, and what its button does. */
 function give(name, text, act, label = "Save") {
   const does = button(label, () => act(does));
-  return h("div.give", {}, h("b", {}, name), h("p", {}, text), does);
+  return h("div.give", h("b", name), h("p", text), does);
 }
 
 function bytesIn(n) {
@@ -140,7 +139,7 @@ function bytesIn(n) {
 function share() {
   const { picture: { width, height, journal }, cap } = state, { drains, sources } = view.ports;
   const size = 22 + 3 * width * height / 8 + 8 * drains.length + 10 * sources.length;
-  return [h("h2", {}, "Take it home, or show it"),
+  return [h("h2", "Take it home, or show it"),
     give("Script", "gas.txt: the journal as command lines, with the size. "
       + `${say(journal)} of ${say(cap)} entries.`, () => saveFile(".script")),
     give("Snapshot", `day.gas: the gas as it is now, without ledger and journal. ${bytesIn(size)}.`,
@@ -185,10 +184,10 @@ function table() {
     catch (fault) { result.replaceChildren(fault.message); }
     place();
   };
-  return [h("h2", {}, "Truth table"),
-    h("p", {}, "Each input cell is full or empty. After the steps the probes are "
+  return [h("h2", "Truth table"),
+    h("p", "Each input cell is full or empty. After the steps the probes are "
     + "read, and the gas is stepped back. It is as before in the end."),
-  form(fill, h("label", {}, "Inputs ", inputs), h("label", {}, " Steps ", ticks), " ",
+  form(fill, h("label", "Inputs ", inputs), h("label", " Steps ", ticks), " ",
     button("Fill the table")), result];
 }
 
@@ -200,9 +199,9 @@ async function filled(text, ticks, probes) {
     throw new Error(`Inputs are 1 to ${INPUTS} cells: x y, x y.`);
   const rows = await truthTable(cells, ticks, probes.map(({ rect }) => rect));
   const heads = [...cells.map((cell) => cell.join(" ")), ...probes.map(({ key }) => `probe ${key}`)];
-  return h("table.truth", {},
-    h("thead", {}, h("tr", {}, heads.map((name) => h("th", { scope: "col" }, name)))),
-    h("tbody", {}, rows.map((row) => h("tr", {}, row.map((n) => h("td", {}, String(n)))))));
+  return h("table.truth",
+    h("thead", h("tr", heads.map((name) => h("th", { scope: "col" }, name)))),
+    h("tbody", rows.map((row) => h("tr", row.map((n) => h("td", String(n)))))));
 }
 
 for (const [id, fill, size] of [["lessons-open", lessons, "wide"], ["truth", truth, "middle"],

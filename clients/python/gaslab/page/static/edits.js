@@ -2,7 +2,7 @@
 import { view } from "./canvas.js";
 import { Lab, fromSnapshot, hexOf } from "./engine.js";
 import { snapshotOf } from "./keep.js";
-import { cover } from "./shapes.js";
+import { around, cover } from "./shapes.js";
 
 const MOST = 100, PLANES = ["particles", "walls", "obstacles"], SOLIDS = PLANES.slice(1);
 /** The planes that a command can change. Others change ports. */
@@ -145,12 +145,6 @@ class Edits {
     return Array.from({ length: rect[3] }, (_, k) =>
       `row ${rect[1] + k} ${hexOf(particles.subarray(k * words, (k + 1) * words))}`);
   }
-}
-
-/** The rectangle around two, or the first if there is no other. */
-function around([x, y, w, h], other) {
-  const [a, b, c, d] = other ?? [x, y, w, h], left = Math.min(x, a), top = Math.min(y, b);
-  return [left, top, Math.max(x + w, a + c) - left, Math.max(y + h, b + d) - top];
 }
 
 export const edits = new Edits();

@@ -8,9 +8,10 @@ export const { colours: COLOURS, curves: CURVES, ramp: RAMP, zoom: ZOOM, command
 export const toolOf = (id) => TOOLS.find((tool) => tool.id === id);
 export const isRefusal = (reply) => /^(NO|ERR|GONE)/.test(reply);
 
-/** A refusal in plain words: what is wrong, and what to do. `size` is [width, height]. */
-export function plainWords(reply, line = "", [width, height] = [64, 64]) {
+/** A refusal in plain words: what is wrong, and what to do. `picture` is that of the gas, if there is one. */
+export function plainWords(reply, line = "", picture = null) {
   const [kind, what] = reply.split(" "), word = line.trim().split(/ +/)[0];
+  const { width, height } = picture ?? { width: 64, height: 64 };
   if (kind === "GONE") return facts.refusals.gone;
   const isRow = what === "5" && ["row", "read"].includes(word);
   const text = facts.refusals[isRow ? "5 row" : what] ?? facts.refusals[""];

@@ -1,8 +1,8 @@
 // The lesson beside the gas: its text, question and buttons.
-import { at, h, words } from "./dom.js";
+import { at, fill, h, words } from "./dom.js";
 import { kindOf } from "./lessons.js";
 import { state } from "./state.js";
-import { doTry } from "./drawing.js";
+import { doTry } from "./tools.js";
 import { load } from "./opening.js";
 
 const LONG = 22;           // characters of a line that a button shows whole
@@ -15,23 +15,23 @@ function showLesson() {
   at("lesson-kind").textContent = kind;
   at("lesson-name").textContent = name;
   at("task").textContent = task ?? "";
-  const again = lesson.own ? [] : [h("button.plain.again", { onclick: () => load(lesson) }, "Start again")];
-  at("lesson").replaceChildren(h("p.kicker", {}, kind), h("h2", {}, name), ...again,
-    ...text.map((one) => h("p", {}, words(one))), ...task ? [h("p.task", {}, task)] : [],
-    ...expect ? [question(expect)] : [], ...tries?.length ? buttons(tries) : []);
+  fill(at("lesson"), h("p.kicker", kind), h("h2", name),
+    !lesson.own && h("button.plain.again", { onclick: () => load(lesson) }, "Start again"),
+    text.map((one) => h("p", words(one))), task && h("p.task", task), expect && question(expect),
+    tries?.length && buttons(tries));
   at("lesson").scrollTop = 0;
 }
 
 /** Buttons that show the lines they send. */
 function buttons(tries) {
-  const item = (one) => h("li", {}, h("button", { onclick: () => doTry(one) }, h("span", {}, one.say),
-    h("code", {}, one.lines.map(shown).join(" · "))));
-  return [h("h3", {}, "Try it"), h("ul.tries", {}, tries.map(item))];
+  return [h("h3", "Try it"), h("ul.tries", tries.map((one) => h("li",
+    h("button", { onclick: () => doTry(one) }, h("span", one.say),
+      h("code", one.lines.map(shown).join(" · "))))))];
 }
 
 /** A question with choices. The answer comes after a choice, and takes the focus. */
 function question({ ask, choices, right, answer }) {
-  const box = h("section.expect", {}, h("h3", {}, "What would you expect?"));
+  const box = h("section.expect", h("h3", "What would you expect?"));
   const buttons = choices.map((text, k) => h("button.choice", { onclick: () => choose(k) }, text));
   const choose = (mine) => {
     if (buttons[0].ariaDisabled) return;
@@ -40,12 +40,12 @@ function question({ ask, choices, right, answer }) {
       button.classList.toggle("right", k === right);
       button.classList.toggle("mine", k === mine);
     });
-    buttons[mine].append(h("em", {}, mine === right ? "Right" : "Your guess"));
+    buttons[mine].append(h("em", mine === right ? "Right" : "Your guess"));
     const said = h("p.answer", { tabIndex: -1 }, answer);
     box.append(said);
     said.focus();
   };
-  box.append(h("fieldset", {}, h("legend", {}, ask), buttons));
+  box.append(h("fieldset", h("legend", ask), buttons));
   return box;
 }
 

@@ -6,8 +6,7 @@ import { state } from "./state.js";
 import { view } from "./canvas.js";
 import { edits } from "./edits.js";
 import { keepForReload, takeKept, lessonOf } from "./keep.js";
-import { notice, banner, hideBanner, speak } from "./notices.js";
-import { note } from "./log.js";
+import { notice, banner, hideBanner, speak, note } from "./notices.js";
 import { play, send } from "./session.js";
 import { pickFile } from "./share.js";
 

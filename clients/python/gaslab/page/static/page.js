@@ -11,10 +11,8 @@ import { placed } from "./gates.js";
 import "./time.js";
 import "./viewbar.js";
 import "./readings.js";
-import "./toolbar.js";
 import "./console.js";
-import "./pointers.js";
-import "./keys.js";
+import "./gestures.js";
 import "./lesson.js";
 import "./dialogs.js";
 

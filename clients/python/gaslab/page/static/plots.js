@@ -65,7 +65,7 @@ class Plots {
   }
 
   /** The obstacles' account begins anew. */
-  newLedger() { this.recent = []; this.last = null; }
+  newLedger() { Object.assign(this, { recent: [], last: null }); }
 
   toggle(id) {
     const { shown } = this;
@@ -78,8 +78,8 @@ class Plots {
       chip.setAttribute("aria-pressed", ids.includes(chip.dataset.plot));
     for (const graph of Object.values(this.graphs)) graph.destroy();
     this.graphs = {};
-    at("plot-list").replaceChildren(...this.shown.map((id) => h("figure", {},
-      h("figcaption", {}, h("b", {}, PLOTS[id].name), h("span.unit", {}, PLOTS[id].unit), h("span.number")),
+    at("plot-list").replaceChildren(...this.shown.map((id) => h("figure",
+      h("figcaption", h("b", PLOTS[id].name), h("span.unit", PLOTS[id].unit), h("span.number")),
       h("div.plot", { id: `plot-${id}` }))));
     this.redraw(true);
   }
@@ -172,20 +172,21 @@ class Plots {
     const said = this.notes.map(({ tick, lines }) => `${tick} ${lines.length} ${lines[0]}`).join();
     if (at("notes").dataset.said === said) return;
     at("notes").dataset.said = said;
-    at("notes").replaceChildren(...this.notes.map(({ tick, lines }) => h("li", {}, `tick ${say(tick)}: `,
-      h("code", {}, lines[0].slice(0, 40)), lines.length > 1 ? ` and ${lines.length - 1} more` : "")));
+    at("notes").replaceChildren(...this.notes.map(({ tick, lines }) => h("li", `tick ${say(tick)}: `,
+      h("code", lines[0].slice(0, 40)), lines.length > 1 ? ` and ${lines.length - 1} more` : "")));
   }
 
   drawOne(id) {
     const box = at(`plot-${id}`), curves = this.curves(id), hasCurve = curves.rows.length > 1;
     setText(box.parentElement.querySelector(".number"), this.value(id));
     box.classList.toggle("empty", !hasCurve);
-    if (hasCurve) return this.drawCurve(id, box, curves);
-    this.graphs[id]?.destroy();
-    delete this.graphs[id];
-    const hasProbe = this.last?.probes.length > 0, { name, key } = toolOf("probe");
-    return setText(box, id === "probe" && !hasProbe ? `Choose ${name} (${key}) and draw a rectangle.`
-      : "Play, and the curve begins.");
+    if (hasCurve) this.drawCurve(id, box, curves);
+    else {
+      this.graphs[id]?.destroy();
+      delete this.graphs[id];
+      const isAsked = id === "probe" && !this.last?.probes.length, { name, key } = toolOf("probe");
+      setText(box, isAsked ? `Choose ${name} (${key}) and draw a rectangle.` : "Play, and the curve begins.");
+    }
   }
 
   /** The present value, if the plot has one: of several probes none is the value. */
@@ -202,14 +203,16 @@ class Plots {
     const dateWindow = [rows[0][0], Math.max(rows.at(-1)[0], rows[0][0] + 12)], isWide = max >= 1e5;
     const font = parseFloat(getComputedStyle(document.documentElement).fontSize) * .8;
     const kept = `${names.join()} ${isWide} ${this.run} ${font}`, axisLabelFormatter = (v) => say(v);
-    const ranges = { valueRange, dateWindow };
-    if (this.graphs[id]?.kept === kept) return this.graphs[id].updateOptions({ file: rows, ...ranges });
+    if (this.graphs[id]?.kept === kept) {
+      this.graphs[id].updateOptions({ file: rows, valueRange, dateWindow });
+      return;
+    }
     this.graphs[id]?.destroy();
     box.textContent = "";
     const x = { axisLabelWidth: 3.8 * font, pixelsPerLabel: 4.3 * font, axisLabelFormatter,
       valueFormatter: (tick) => `tick ${say(tick)}`, ticker: Dygraph.numericLinearTicks };
     const y = { axisLabelWidth: (isWide ? 4.8 : 3.3) * font, pixelsPerLabel: 2.8 * font, axisLabelFormatter };
-    this.graphs[id] = new Dygraph(box, rows, { ...LOOK, ...ranges, labels: ["tick", ...names],
+    this.graphs[id] = new Dygraph(box, rows, { ...LOOK, valueRange, dateWindow, labels: ["tick", ...names],
       series: Object.fromEntries(names.map((name) => [name, this.look(name)])), axes: { x, y },
       legend: names.length > 1 ? "always" : "onmouseover", axisLabelFontSize: font,
       underlayCallback: (c, area, graph) => this.drawNotes(c, area, graph, font) });

@@ -1,5 +1,5 @@
 // Readings beside the gas: tick, tally, the ledger as a sum, and the probes.
-import { at, h, say, setText } from "./dom.js";
+import { at, fill, h, say, setText } from "./dom.js";
 import { state } from "./state.js";
 import { plots } from "./plots.js";
 import { send } from "./session.js";
@@ -41,8 +41,7 @@ function showProbes({ probes, tally }) {
   const list = at("probes"), keys = probes.map(({ key }) => key).join();
   if (list.dataset.keys !== keys) {
     list.dataset.keys = keys;
-    list.replaceChildren(...probes.map(({ key, rect }) =>
-      h("li", {}, h("b", {}, `probe ${key} `), h("code", {}, rect.join(" ")),
+    fill(list, probes.map(({ key, rect }) => h("li", h("b", `probe ${key} `), h("code", rect.join(" ")),
       h("span.sums"), h("button.close", { "aria-label": `Close probe ${key}`, title: "Close this probe",
         onclick: () => send([`.unwatch ${key}`]) }, "×"))));
   }

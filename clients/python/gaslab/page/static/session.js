@@ -6,8 +6,7 @@ import { state, SPEEDS } from "./state.js";
 import { view } from "./canvas.js";
 import { edits } from "./edits.js";
 import { plots } from "./plots.js";
-import { notice, hideNotice, banner, hideBanner, speak } from "./notices.js";
-import { note, exchanges, entryOf } from "./log.js";
+import { notice, hideNotice, banner, hideBanner, speak, note, exchanges, entryOf } from "./notices.js";
 import { saveFile, savePicture } from "./share.js";
 
 let fresh = null;          // a picture that waits for the next frame
@@ -73,7 +72,7 @@ const events = {
     state.change({ status: "gone", playing: false });
     banner(isStrange ? "The server sent something that this page can't read. The connection is closed."
       : "The server has ended. This is its last picture.",
-        [["Connect again", join], ["Save the picture", savePicture]], true);
+        [["Connect again", join], ["Save the picture", () => savePicture()]], true);
   },
 };
 
@@ -158,9 +157,8 @@ function refuse(reply, line, where) {
   }
   const does = { "ERR 10": [["Remove all ports", () => send(["unport"])]],
     "ERR 13": [["Save script and snapshot, go on", () => goOn(where)]] }[reply.slice(0, 6)];
-  const { width = 64, height = 64 } = state.picture ?? {};
   const shown = line.length > 34 ? `${line.slice(0, 34)}…` : line;
-  notice({ title: "Not done", text: plainWords(reply, line, [width, height]), does, rect: where.rect,
+  notice({ title: "Not done", text: plainWords(reply, line, state.picture), does, rect: where.rect,
     code: line && `${shown}  →  ${reply}` });
 }
 

@@ -17,20 +17,20 @@ export function ellipse(rect) {
   return cover(rect, (i, j) => part(i, x, w) + part(j, y, h) <= 1);
 }
 
+/** The rectangle around two, or the first if there is no other. */
+export function around([x, y, w, h], other) {
+  const [a, b, c, d] = other ?? [x, y, w, h], left = Math.min(x, a), top = Math.min(y, b);
+  return [left, top, Math.max(x + w, a + c) - left, Math.max(y + h, b + d) - top];
+}
+
 /** The rectangles of a stroke through cells, with a pen of `snap` by `snap` cells. */
 export function stroke(cells, size, snap) {
-  const names = new Set(), squares = [];
-  const add = (cell) => {
-    const rect = rectangle(cell, cell, size, snap), name = rect.join();
-    if (!names.has(name)) { names.add(name); squares.push(rect); }
-  };
-  cells.forEach(([x, y], k) => {
+  const squares = cells.flatMap(([x, y], k) => {
     const [a, b] = cells[Math.max(0, k - 1)], n = Math.max(Math.abs(x - a), Math.abs(y - b), 1);
-    for (let s = 0; s <= n; s++) add([Math.round(a + (x - a) * s / n), Math.round(b + (y - b) * s / n)]);
-  });
-  const low = (k) => Math.min(...squares.map((r) => r[k])),
-    high = (k) => Math.max(...squares.map((r) => r[k] + r[k + 2]));
-  const [x, y, w, h] = [low(0), low(1), high(0) - low(0), high(1) - low(1)], held = new Uint8Array(w * h);
+    const way = (from, to, s) => Math.round(from + (to - from) * s / n);
+    return Array.from({ length: n + 1 }, (_, s) => [way(a, x, s), way(b, y, s)]);
+  }).map((cell) => rectangle(cell, cell, size, snap));
+  const [x, y, w, h] = squares.reduce((all, square) => around(square, all)), held = new Uint8Array(w * h);
   for (const [i, j, a, b] of squares) for (let q = j - y; q < j - y + b; q++)
     held.fill(1, q * w + i - x, q * w + i - x + a);
   return cover([x, y, w, h], (i, j) => held[(j - y) * w + i - x]);
