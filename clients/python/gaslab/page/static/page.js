@@ -13,8 +13,7 @@ import "./viewbar.js";
 import "./readings.js";
 import "./console.js";
 import "./gestures.js";
-import "./lesson.js";
-import "./dialogs.js";
+import "./header.js";
 
 join();
 

@@ -214,7 +214,7 @@ export class Painter {
     for (const { counts } of this.past) for (let k = 0; k < sums.length; k++) sums[k] += counts[k];
     const whole = q * q * this.past.length;
     this.shades = this.range === "middle" ? [.25, .75] : this.range === "full" ? [0, 1]
-      : [extreme(sums, -1), extreme(sums, 1)].map((sum) => sum / whole);
+      : [Math.min, Math.max].map((pick) => sums.reduce((a, b) => pick(a, b)) / whole);
     const [low, high] = this.shades, factor = 255 / ((high - low) * whole || 1);
     for (let k = 0; k < sums.length; k++)
       pixels[k] = SHADES[Math.max(0, Math.min(255, Math.round((sums[k] - low * whole) * factor)))];
@@ -235,11 +235,4 @@ export class Painter {
     }
     return counts;
   }
-}
-
-/** The greatest of many numbers, or with sign -1 the least. */
-function extreme(numbers, sign) {
-  let found = numbers[0];
-  for (const n of numbers) if (sign * n > sign * found) found = n;
-  return found;
 }

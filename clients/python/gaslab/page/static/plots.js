@@ -202,6 +202,7 @@ class Plots {
     const valueRange = [min < 0 ? min - room : 0, most ? most * 1.06 : max === min ? 1 : max + room];
     const dateWindow = [rows[0][0], Math.max(rows.at(-1)[0], rows[0][0] + 12)], isWide = max >= 1e5;
     const font = parseFloat(getComputedStyle(document.documentElement).fontSize) * .8;
+    // dygraphs keeps a legend and its axes' widths: with others it is made anew
     const kept = `${names.join()} ${isWide} ${this.run} ${font}`, axisLabelFormatter = (v) => say(v);
     if (this.graphs[id]?.kept === kept) {
       this.graphs[id].updateOptions({ file: rows, valueRange, dateWindow });
