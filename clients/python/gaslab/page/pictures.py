@@ -1,4 +1,4 @@
-"""Pictures and files as binary messages, by the layout that the page reads too: static/layout.js."""
+"""Pictures and files as binary messages, by the layout that the page reads too: static/layout.json."""
 import json
 import struct
 from typing import Any, NamedTuple, Optional
@@ -10,18 +10,12 @@ from .one_file import read
 _TYPES = {"u8": "B", "u16": "H", "u32": "I", "i64": "q"}
 
 
-def _layout() -> dict[str, Any]:
-    text = read("layout.js")
-    layout: dict[str, Any] = json.loads(text[text.index("{"):text.rindex("}") + 1])
-    return layout
-
-
 def _form(name: str) -> struct.Struct:
     """The fields of a part of the layout."""
     return struct.Struct(">" + "".join(f"{(*count, 1)[0]}{_TYPES[kind]}" for _, kind, *count in LAYOUT[name]))
 
 
-LAYOUT = _layout()
+LAYOUT: dict[str, Any] = json.loads(read("layout.json"))
 """Kinds, flags and fields of the messages."""
 NOBODY: int = LAYOUT["nobody"]
 """The seat that plays while nobody does."""

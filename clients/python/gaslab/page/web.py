@@ -12,8 +12,8 @@ from functools import partial
 from ipaddress import ip_address
 from typing import Any, Optional, Union
 
-from ..protocol.errors import GaslabError, Gone, Silent, Strange, library
-from .hall import Hall, Seat
+from ..protocol.errors import Gone, Silent, Strange, library
+from .hall import Hall, Send
 from .one_file import one_file, served_file
 
 _LONGEST = 8 << 20  # bytes of a message; the longest snapshot has 6.3 million
@@ -26,27 +26,15 @@ _HEADERS = {"Cache-Control": "no-store", "X-Content-Type-Options": "nosniff",
 
 
 class Desk(threading.Thread):
-    """The thread that asks the laboratory. It does jobs one after the other, and plays between them."""
-    def __init__(self, hall: Hall, has_ended: Callable[[], None]) -> None:
-        super().__init__(daemon=True)
-        self.hall, self.has_ended = hall, has_ended
-        self.fault: Optional[Exception] = None
-        self._jobs: "queue.Queue[Optional[Callable[[], None]]]" = queue.Queue()
+    """The thread that asks the laboratory. It does jobs one after the other."""
+    def __init__(self) -> None:
+        super().__init__(daemon=True)  # a job that takes long ends with the program
+        self._jobs: "queue.SimpleQueue[Any]" = queue.SimpleQueue()
 
     def call(self, job: Callable[[], Any]) -> "Future[Any]":
         """Does a job. Its result, or what it raises, comes by the future."""
         future: "Future[Any]" = Future()
-
-        def run() -> None:
-            if not future.set_running_or_notify_cancel():
-                return
-            try:
-                future.set_result(job())
-            except BaseException as fault:
-                future.set_exception(fault)
-                if isinstance(fault, _LOST):
-                    raise
-        self._jobs.put(run)
+        self._jobs.put((future, job))
         return future
 
     def end(self) -> None:
@@ -54,27 +42,13 @@ class Desk(threading.Thread):
         self._jobs.put(None)
 
     def run(self) -> None:
-        """Works until it is ended, or can't go on, as when the laboratory is lost."""
-        try:
-            while True:
-                job = self._next()
-                if job is None:
-                    break
-                job()
-                self.hall.beat()
-        except Exception as fault:
-            self.fault = fault
-        finally:
-            self.hall.close()
-            self.has_ended()
-
-    def _next(self) -> Optional[Callable[[], None]]:
-        player = self.hall.player
-        wait = max(0.0, player.due - time.monotonic()) if player.play else _POLL
-        try:
-            return self._jobs.get(timeout=min(wait, _POLL)) if wait else self._jobs.get_nowait()
-        except queue.Empty:
-            return self.hall.poll
+        """Works until it is ended."""
+        for future, job in iter(self._jobs.get, None):
+            if future.set_running_or_notify_cancel():
+                try:
+                    future.set_result(job())
+                except Exception as fault:
+                    future.set_exception(fault)
 
 
 class Outbox:
@@ -115,6 +89,7 @@ class Web:
         self.tokens = {rights: secrets.token_urlsafe(16) for rights in ("all", "watch")}
         self.hall = make_hall and make_hall((self.tokens["all"], self.tokens["watch"]))
         self.port = 0
+        self._desk = Desk()
         self._sockets: set[Any] = set()
 
     @property
@@ -131,36 +106,47 @@ class Web:
 
     async def run(self, port: int, ready: Callable[["Web"], None]) -> None:
         """Serves, as `serve` does, until it is cancelled."""
-        loop, ended = asyncio.get_running_loop(), asyncio.Event()
-
-        def has_ended() -> None:
-            with suppress(RuntimeError):  # the loop has ended before
-                loop.call_soon_threadsafe(ended.set)
-        self.desk = Desk(self.hall, has_ended) if self.hall else None
+        self._lost, self._wake = asyncio.get_running_loop().create_future(), asyncio.Event()
+        self._desk.start()
+        clock = asyncio.ensure_future(self._play())
         runner = self.http.AppRunner(self._app(), access_log=None)
         await runner.setup()
         try:
             await self.http.TCPSite(runner, self.host, port).start()
             self.port = runner.addresses[0][1]
-            if self.desk:
-                self.desk.start()
             ready(self)
-            await ended.wait()
+            await self._lost
         finally:
-            await self._end(runner, ended)
-        if self.desk and self.desk.fault:
-            raise self.desk.fault
+            clock.cancel()
+            await self._end(runner)
 
-    async def _end(self, runner: Any, ended: asyncio.Event) -> None:
+    async def _play(self) -> None:
+        """Lets the hall make the steps of play when it is time, and look for what others did."""
+        while self.hall:
+            player = self.hall.player
+            wait = player.due - time.monotonic() if player.play else _POLL
+            with suppress(asyncio.TimeoutError):
+                await asyncio.wait_for(self._wake.wait(), min(max(wait, 0.0), _POLL))
+            self._wake.clear()
+            await self._do(self.hall.beat)
+            await self._do(self.hall.poll)
+
+    async def _do(self, job: Callable[[], Any]) -> Any:
+        """What a job of the desk returns or raises. The server ends if the laboratory is lost."""
+        try:
+            return await asyncio.wrap_future(self._desk.call(job))
+        except _LOST as fault:
+            if not self._lost.done():
+                self._lost.set_exception(fault)
+            raise
+
+    async def _end(self, runner: Any) -> None:
         await asyncio.gather(*(_close(socket, 1001) for socket in self._sockets))
-        with suppress(asyncio.TimeoutError):  # a connection that was reset can take a minute
-            await asyncio.wait_for(runner.cleanup(), _PATIENCE)
-        if self.desk and self.desk.is_alive():
-            self.desk.end()
-            with suppress(asyncio.TimeoutError):  # a long job is left: the program ends with this one
-                await asyncio.wait_for(ended.wait(), _PATIENCE)
-        elif self.hall and not ended.is_set():
-            self.hall.close()
+        closed = self._desk.call(self.hall.close if self.hall else lambda: None)
+        self._desk.end()
+        for last in (runner.cleanup(), asyncio.wrap_future(closed)):
+            with suppress(asyncio.TimeoutError):  # a connection that was reset takes a minute, as a job can
+                await asyncio.wait_for(last, _PATIENCE)
 
     def _app(self) -> Any:
         """The addresses, with a look at each request before it is answered."""
@@ -198,45 +184,37 @@ class Web:
             "Content-Disposition": 'attachment; filename="gaslab.html"'})
 
     async def _socket(self, request: Any) -> Any:
-        if not self.hall or not self.desk or "Origin" not in request.headers:
+        if not self.hall or "Origin" not in request.headers:
             raise self.http.HTTPForbidden(text="This server answers its own pages alone.\n")
         socket = self.http.WebSocketResponse(max_msg_size=_LONGEST, heartbeat=30.0, compress=False)
         await socket.prepare(request)
         self._sockets.add(socket)
         outbox = Outbox(asyncio.get_running_loop())
-        tasks = [asyncio.ensure_future(it) for it in (outbox.send_to(socket), outbox.is_full.wait())]
-        code = 1008
+        work = (outbox.send_to(socket), outbox.is_full.wait(),
+                self._listen(socket, request["rights"], outbox.put))
+        tasks = [asyncio.ensure_future(it) for it in work]
         try:
-            seat = await self._do(partial(self.hall.join, request["rights"], outbox.put))
-            tasks.append(asyncio.ensure_future(self._listen(socket, seat)))
-            done, _ = await asyncio.wait(tasks, return_when=asyncio.FIRST_COMPLETED)
-            faults = [task.exception() for task in done]
-            if any(isinstance(fault, _LOST) for fault in faults):
-                code = 1001
-            else:
-                await self._do(partial(self.hall.leave, seat))
-        except GaslabError:
-            code = 1001  # the laboratory is lost, and the server ends
+            await asyncio.wait(tasks, return_when=asyncio.FIRST_COMPLETED)
         finally:
             self._sockets.discard(socket)
             for task in tasks:
                 task.cancel()
-            await _close(socket, code)
+            await asyncio.gather(*tasks, return_exceptions=True)
+            await _close(socket, 1001 if self._lost.done() else 1008)
         return socket
 
-    async def _listen(self, socket: Any, seat: Seat) -> None:
+    async def _listen(self, socket: Any, rights: str, send: Send) -> None:
         """Does what a page sends, a message at a time. What is none of a page's messages ends it."""
         assert self.hall
-        async for message in socket:
-            if message.type.name not in ("TEXT", "BINARY"):
-                break
-            await self._do(partial(self.hall.said, seat, message.data))
-
-    async def _do(self, job: Callable[[], Any]) -> Any:
-        assert self.desk
-        if not self.desk.is_alive():
-            raise Gone("the laboratory has ended")
-        return await asyncio.wrap_future(self.desk.call(job))
+        seat = await self._do(partial(self.hall.join, rights, send))
+        try:
+            async for message in socket:
+                if message.type.name not in ("TEXT", "BINARY"):
+                    break
+                await self._do(partial(self.hall.said, seat, message.data))
+                self._wake.set()
+        finally:
+            await self._do(partial(self.hall.leave, seat))
 
 
 async def _close(socket: Any, code: int) -> None:

@@ -35,6 +35,11 @@ export class View extends Painter {
   get size() { return [this.canvas.clientWidth, this.canvas.clientHeight]; }
   get middle() { return this.size.map((side) => side / 2); }
 
+  get middleCell() {
+    const { x0, y0, x1, y1 } = this.visible();
+    return [(x0 + x1) >> 1, (y0 + y1) >> 1];
+  }
+
   fit(rect = null) {
     if (!this.picture) return;
     const [x, y, w, h] = rect || [0, 0, this.picture.width, this.picture.height], [cw, ch] = this.size;
@@ -110,7 +115,7 @@ export class View extends Painter {
     if (!picture) return;
     const all = this.box([0, 0, picture.width, picture.height]), pixels = this.scale * ratio;
     const shown = isDensity ? this.paintDensity() : pixels <= .5 ? this.paintHalf()
-      : this.isCalm ? this.paintMean(this.visible()) : this.paintCells(this.visible());
+      : this.paintCells(this.visible());
     c.imageSmoothingEnabled = pixels < 1 && !isDensity;
     c.imageSmoothingQuality = "low";
     c.drawImage(shown, ...all);
@@ -150,15 +155,14 @@ export class View extends Painter {
   }
 
   drawGrid() {
-    const { scale } = this, t = this.parity(), { x0, y0, x1, y1 } = this.visible();
+    const { scale } = this, t = this.parity, { x0, y0, x1, y1 } = this.visible();
     const [left, top] = this.box([x0, y0, 0, 0]), [right, bottom] = this.box([x1, y1, 0, 0]);
     const at = (cells, from) => Math.round((cells - from) * scale) + .5;
     const lines = (x, y, step, ...look) => {
-      const path = new Path2D();
-      const line = (...ends) => { path.moveTo(...ends.slice(0, 2)); path.lineTo(...ends.slice(2)); };
-      for (; x <= x1; x += step) line(at(x, this.left), top, at(x, this.left), bottom);
-      for (; y <= y1; y += step) line(left, at(y, this.top), right, at(y, this.top));
-      this.stroke(path, look);
+      let path = "";
+      for (; x <= x1; x += step) path += `M${at(x, this.left)} ${top}V${bottom}`;
+      for (; y <= y1; y += step) path += `M${left} ${at(y, this.top)}H${right}`;
+      this.stroke(new Path2D(path), look);
     };
     lines(x0, y0, 1, COLOURS.grid, 1);
     // blocks change at each tick: they would flash
@@ -226,37 +230,36 @@ export class View extends Painter {
     const { context: c } = this, box = this.box(rect), [x, y, w, h] = box;
     this.frame(box, [COLOURS.white, 3.5, dash], [colour, 1.75, dash]);
     if (!name || h < 14 || w < 11) return;
-    c.font = `600 12px ${SANS}`;
-    const tw = c.measureText(name).width + 8, isTall = h > tw && w < tw + 8, isInside = w > tw + 4 && h > 24;
     c.save();
-    // narrow ports have their name upright
-    if (isTall) {
+    this.tag(name, colour, (wide) => {
+      if (h <= wide || w >= wide + 8)
+        return w > wide + 4 && h > 24 ? [x + 3, y + 3] : [x - .9, y < 18 ? y + 2 : y - 18];
+      // narrow ports have their name upright
       c.translate(x + w / 2, y + h / 2);
       c.rotate(-Math.PI / 2);
-      this.tag(name, -tw / 2, -8, tw, colour);
-    } else if (isInside) this.tag(name, x + 3, y + 3, tw, colour);
-    else this.tag(name, x - .9, y < 18 ? y + 2 : y - 18, tw, colour);
+      return [-wide / 2, -8];
+    });
     c.restore();
   }
 
-  tag(name, x, y, w, colour, h = 16, pad = 4) {
+  /** Writes a text on a ground. `place` tells the upper left corner when the width is known. */
+  tag(text, colour, place, { font = `600 12px ${SANS}`, height = 16, pad = 4 } = {}) {
     const { context: c } = this;
-    c.fillStyle = colour;
-    c.fill(rectangle([x, y, w, h], h / 5));
+    Object.assign(c, { font, textBaseline: "middle", fillStyle: colour });
+    const width = c.measureText(text).width + 2 * pad, [x, y] = place(width);
+    c.fill(rectangle([x, y, width, height], height / 5));
     c.fillStyle = COLOURS.white;
-    c.textBaseline = "middle";
-    c.fillText(name, x + pad, y + h / 2 + .5);
+    c.fillText(text, x + pad, y + height / 2 + .5);
   }
 
   /** Where a lesson asks for a first drawing; gone with the first gesture. */
   drawGhost() {
-    const { context: c } = this, box = this.box(this.ghost), [x, y, w, h] = box, name = "draw here";
+    const { context: c } = this, box = this.box(this.ghost), [x, y, w, h] = box;
     c.fillStyle = COLOURS.ghost;
     c.fillRect(...box);
     this.frame(box, [COLOURS.mark, 2, [6, 4]]);
-    c.font = `600 13px ${SANS}`;
-    const tw = c.measureText(name).width + 12;
-    this.tag(name, x + w / 2 - tw / 2, y + h + 6, tw, COLOURS.mark, 21, 6);
+    this.tag("draw here", COLOURS.mark, (wide) => [x + w / 2 - wide / 2, y + h + 6],
+      { font: `600 13px ${SANS}`, height: 21, pad: 6 });
   }
 
   /** What is being drawn. A dashed line shows where a wall stops particles: one cell more on each side. */
@@ -275,11 +278,10 @@ export class View extends Painter {
 
   /** The line that a gesture sends, beside it. */
   drawLine(line, [x, y, , h]) {
-    const { context: c } = this, [cw, ch] = this.size;
-    c.font = MONO;
-    const tw = c.measureText(line).width + 16, below = y + h + 12;
-    const top = below + 26 < ch ? below : y - 38 > 0 ? y - 38 : 6;
-    this.tag(line, Math.min(Math.max(x, 4), cw - tw - 4), top, tw, COLOURS.ink, 26, 8);
+    const [cw, ch] = this.size, below = y + h + 12, above = y - 38 > 0 ? y - 38 : 6;
+    this.tag(line, COLOURS.ink,
+      (wide) => [Math.min(Math.max(x, 4), cw - wide - 4), below + 26 < ch ? below : above],
+      { font: MONO, height: 26, pad: 8 });
   }
 }
 

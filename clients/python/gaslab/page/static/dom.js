@@ -1,20 +1,30 @@
 // Elements of the page: found by id, or made from text without markup.
 export const at = (id) => document.getElementById(id);
 export const SANS = getComputedStyle(document.body).fontFamily;
-export const setting = (id) => JSON.parse(at(id)?.textContent ?? "null");
 
-/** An element. `tag` may have classes: "p.task". Strings of `props` are attributes, and so is what has a
-    dash; all else are properties. Children are elements or text; null and false are left out. */
-export function h(tag, props = {}, ...children) {
+/** An element. `tag` may have classes: "p.task". Of an object's fields strings are attributes, and so is what
+    has a dash; all else are properties. Other parts are children, but for empty ones. */
+export function h(tag, ...parts) {
   const [name, ...classes] = tag.split("."), element = document.createElement(name);
   if (classes.length) element.className = classes.join(" ");
-  for (const [key, value] of Object.entries(props)) {
+  for (const part of parts.flat()) {
+    if (part?.constructor === Object) setAll(element, part);
+    else if (part) element.append(part);
+  }
+  return element;
+}
+
+function setAll(element, fields) {
+  for (const [key, value] of Object.entries(fields)) {
     if (typeof value === "string" || key.includes("-")) element.setAttribute(key, value);
     else element[key] = value;
   }
-  element.append(...children.flat().filter((child) => child !== null && child !== false));
-  return element;
 }
+
+/** Replaces the children of an element. Empty ones are left out. */
+export function fill(element, ...children) { element.replaceChildren(...children.flat().filter(Boolean)); }
+
+export const button = (text, act) => h("button.plain", { onclick: act }, text);
 
 /** An icon from its shapes: [tag, attributes] each. */
 export function icon(shapes) {
@@ -30,7 +40,7 @@ export function icon(shapes) {
 
 /** Text in which what is between backticks is code, or another element, as children of `h`. */
 export function words(text, tag = "code") {
-  return text.split("`").map((part, k) => k % 2 ? h(tag, {}, part) : part);
+  return text.split("`").map((part, k) => k % 2 ? h(tag, part) : part);
 }
 
 /** Writes text that has changed: an element that stays the same costs no layout. */

@@ -1,27 +1,17 @@
 // What the page and its server both know: facts.json, with the client's commands and colours. And refusals in
 // plain words.
-import { setting, say } from "./dom.js";
+import { say } from "./dom.js";
+import facts from "./facts.json";
 
-const facts = setting("facts");
-export const COLOURS = facts.colours;
-export const CURVES = facts.curves;
-export const RAMP = facts.ramp;
-export const ZOOM = facts.zoom;
-export const COMMANDS = facts.commands;
-export const KEYS = facts.keys;
-export const ALWAYS = facts.always;
-export const MOVES = facts.moves;
-export const CURSOR = facts.cursor;
-export const TOOLS = facts.tools;
-export const ICONS = facts.icons;
-export const TRUTH = facts.truth;
+export const { colours: COLOURS, curves: CURVES, ramp: RAMP, zoom: ZOOM, commands: COMMANDS, keys: KEYS,
+  always: ALWAYS, moves: MOVES, cursor: CURSOR, tools: TOOLS, icons: ICONS, truth: TRUTH } = facts;
 export const toolOf = (id) => TOOLS.find((tool) => tool.id === id);
-
 export const isRefusal = (reply) => /^(NO|ERR|GONE)/.test(reply);
 
-/** A refusal in plain words: what is wrong, and what to do. `size` is [width, height]. */
-export function plainWords(reply, line = "", [width, height] = [64, 64]) {
+/** A refusal in plain words: what is wrong, and what to do. `picture` is that of the gas, if there is one. */
+export function plainWords(reply, line = "", picture = null) {
   const [kind, what] = reply.split(" "), word = line.trim().split(/ +/)[0];
+  const { width, height } = picture ?? { width: 64, height: 64 };
   if (kind === "GONE") return facts.refusals.gone;
   const isRow = what === "5" && ["row", "read"].includes(word);
   const text = facts.refusals[isRow ? "5 row" : what] ?? facts.refusals[""];

@@ -52,7 +52,7 @@ export function followAt([x, y]) {
 export function nextCell(gas, [x, y], isBack) {
   const { width, height } = gas, t = isBack ? gas.tick - 1 : gas.tick, [u, v] = [(x + t) & 1, (y + t) & 1];
   const [bx, by] = [x - u, y - v], wrap = (i, j) => [(i + width) % width, (j + height) % height];
-  const has = (set, i, j) => { const [a, b] = wrap(bx + i, by + j); return gas.sums([a, b, 1, 1], set)[0]; };
+  const has = (set, i, j) => gas.has(...wrap(bx + i, by + j), set);
   const corners = [[0, 0], [1, 0], [0, 1], [1, 1]];
   if (corners.some(([i, j]) => has(gas.walls, i, j) || has(gas.obstacles, i, j))) return [x, y];
   const isLone = has(gas.particles, 1 - u, 1 - v) && !has(gas.particles, 1 - u, v)
@@ -67,7 +67,7 @@ function cellsOf(lab, cell, n) {
   for (let k = 0; k < Math.abs(n); k++) {
     const next = nextCell(gas, cells.at(-1) ?? cell, n < 0);
     if (n < 0) lab.back(); else lab.forward();
-    if (!gas.sums([...next, 1, 1])[0]) break;
+    if (!gas.has(...next)) break;
     cells.push(next);
   }
   return cells;
@@ -131,7 +131,7 @@ export async function truthTable(inputs, ticks, outputs) {
   if (bad) throw new Error(`The table can't be had: ${bad}.`);
   const counts = replies.filter((reply) => reply.startsWith("PROBE"))
     .map((reply) => Number(reply.split(" ")[1]));
-  return cases.map((isFull, n) => [isFull, counts.slice(n * asks.length, (n + 1) * asks.length)]);
+  return cases.map((isFull, n) => [...isFull, ...counts.slice(n * asks.length, (n + 1) * asks.length)]);
 }
 
 // ---- placing

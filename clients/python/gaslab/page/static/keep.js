@@ -1,12 +1,9 @@
 // What keeps a person's work: files are read whole before a gas is opened, and a reload finds the gas again.
-import { COMMANDS } from "./facts.js";
-import { isSide } from "./frame.js";
-import { readSnapshot, writeSnapshot } from "./snapshot.js";
+import { COUNTS } from "./engine.js";
+import { isSide, readSnapshot, writeSnapshot } from "./frame.js";
 
 const NAME = "gaslab-kept", NEITHER = "This file is neither a script nor a snapshot.";
 const AFTER_SNAPSHOT = /^# This (journal )?began from a snapshot/m;
-const COUNTS = Object.fromEntries(Object.entries(COMMANDS)
-  .map(([word, [shape]]) => [word, shape.split(" ").length]));
 
 /** A snapshot of what a view shows. */
 export function snapshotOf({ picture, walls, obstacles, ports }) {
@@ -48,7 +45,7 @@ function script(text) {
   if (!size.every(isSide))
     return { fault: `Line ${lines[0][1]}: sides are multiples of 64, from 64 to 4,096.` };
   const own = lines.slice(found ? 1 : 0), words = (line) => line.split(/ +/);
-  const wrong = own.find(([line]) => COUNTS[words(line)[0]] !== words(line).length);
+  const wrong = own.find(([line]) => COUNTS[words(line)[0]] !== words(line).length - 1);
   if (wrong)
     return { fault: `Line ${wrong[1]}, “${wrong[0].slice(0, 40)}”, is no command. Nothing was opened.` };
   return { size, lines: own.map(([line]) => line), numbers: own.map(([, k]) => k), count: rows.length,

@@ -1,17 +1,62 @@
-// The page's side of the messages: numbers the lines, pairs replies and files with them, hands out events and
-// pictures.
+// The page's side of the messages, over a WebSocket or to a worker that the page has with it: numbers the
+// lines, pairs replies and files with them, hands out events and pictures.
 import { PICTURE, decodePicture, decodeFile } from "./frame.js";
 
+const EVENTS = ["hello", "links", "open", "seat", "entry", "play", "pause"];
+const OPEN = 1, CLOSED = 3;
+let worker = null;
+
+/** The parts of a WebSocket that the page uses, to the worker. */
+class Local {
+  readyState = OPEN;
+
+  constructor(source) {
+    const { port1, port2 } = new MessageChannel();
+    // from the text that the page has: a module can't be read from a folder
+    worker ??= new Worker(URL.createObjectURL(new Blob([source], { type: "text/javascript" })));
+    worker.addEventListener("error", () => this.close());
+    worker.postMessage(null, [port2]);
+    this.port = port1;
+    port1.onmessage = (message) => this.onmessage?.(message);
+  }
+
+  send(message) { this.port.postMessage(message); }
+
+  close() {
+    if (this.readyState === CLOSED) return;
+    this.readyState = CLOSED;
+    this.onmessage = null;
+    this.send(null);
+    this.onclose?.();
+  }
+}
+
+/** Takes a seat. */
+export function connect() {
+  const source = document.getElementById("worker")?.textContent;
+  if (source) return new Local(source);
+  return new WebSocket(new URL("socket", location.href).href.replace(/^http/, "ws"));
+}
+
 export class Link {
-  /** `on` has: hello, open, seat, entry, play, pause, picture, gone. */
+  next = 1;
+  waiting = new Map();
+  undrawn = 0;
+
+  /** `on` has a function for each event, which gets its words, and `picture` and `gone`. */
   constructor(socket, on) {
-    Object.assign(this, { socket, on, next: 1, waiting: new Map(), links: null, undrawn: 0 });
+    Object.assign(this, { socket, on });
     socket.binaryType = "arraybuffer";
-    socket.onmessage = ({ data }) => this.guard(() => {
-      if (typeof data === "string") this.lines(data);
-      else this.bytes(data);
-    });
-    socket.onclose = () => { this.end(); on.gone(); };
+    socket.onmessage = ({ data }) => {
+      try {
+        if (typeof data === "string") data.split("\n").forEach((line) => this.take(line));
+        else this.takeBytes(data);
+      } catch (fault) { this.strange(fault); }
+    };
+    socket.onclose = () => {
+      this.end();
+      on.gone();
+    };
   }
 
   /** Answers all that waits: nothing comes any more. */
@@ -20,82 +65,61 @@ export class Link {
     this.waiting.clear();
   }
 
-  /** Sends lines in one message. Resolves to their replies, in order. */
-  send(lines) { return Promise.all(this.ask(lines).map(({ reply }) => reply)); }
-
-  /** Sends lines. Each has its reply as a promise, and the files that come before it. */
-  ask(lines) {
-    const asked = lines.map((line) => {
-      const one = { text: `${this.next} ${line}`, files: [] };
+  /** Sends a message whose lines have these numbers. Each has its reply as a promise, and its files. */
+  ask(numbers, message) {
+    const asked = numbers.map((number) => {
+      const one = { files: [] };
       one.reply = new Promise((done) => { one.done = done; });
-      this.waiting.set(this.next++, one);
+      this.waiting.set(number, one);
       return one;
     });
     // before it is open, and after its end
-    if (this.socket.readyState !== 1) this.end();
-    else this.socket.send(asked.map(({ text }) => text).join("\n"));
+    if (this.socket.readyState === OPEN) this.socket.send(message);
+    else this.end();
     return asked;
+  }
+
+  askLines(lines) {
+    const numbers = lines.map(() => this.next++);
+    return this.ask(numbers, lines.map((line, k) => `${numbers[k]} ${line}`).join("\n"));
+  }
+
+  /** Sends lines in one message. Resolves to their replies, in order. */
+  send(lines) { return Promise.all(this.askLines(lines).map(({ reply }) => reply)); }
+
+  /** Sends a snapshot to begin from. Resolves to the reply. */
+  upload(bytes) { return this.ask([0], bytes.slice().buffer)[0].reply; }
+
+  /** Asks for files: `.script` or `.snapshot`. Resolves to them, or to none if they are refused. */
+  async fetch(word) {
+    const [one] = this.askLines([word]);
+    return await one.reply === "DONE" ? one.files : [];
   }
 
   /** Says that the newest picture is drawn, and with it those that it has replaced. */
   drawn() {
     const lines = Array(this.undrawn).fill("0 .drawn");
     this.undrawn = 0;
-    if (lines.length && this.socket.readyState === 1) this.socket.send(lines.join("\n"));
+    if (lines.length && this.socket.readyState === OPEN) this.socket.send(lines.join("\n"));
   }
 
-  /** Sends a snapshot to begin from. */
-  upload(bytes) {
-    return new Promise((done) => {
-      this.waiting.set(0, { done, files: [] });
-      if (this.socket.readyState !== 1) this.end();
-      else this.socket.send(bytes.slice().buffer);
-    });
+  take(line) {
+    const [head, ...words] = line.split(" "), number = Number(head);
+    if (head !== "*") {
+      this.waiting.get(number)?.done(words.join(" "));
+      this.waiting.delete(number);
+    } else if (EVENTS.includes(words[0])) this.on[words[0]](words.slice(1));
   }
 
-  /** Asks for files: `.script` or `.snapshot`. Resolves to them, or to none if they are refused. */
-  async fetch(word) {
-    const [one] = this.ask([word]);
-    return await one.reply === "DONE" ? one.files : [];
-  }
-
-  /** Asks for one file. */
-  async file(word) { return (await this.fetch(word))[0]; }
-
-  lines(text) {
-    for (const line of text.split("\n")) {
-      const cut = line.indexOf(" "), head = line.slice(0, cut), rest = line.slice(cut + 1);
-      if (head === "*") this.event(rest);
-      else { this.waiting.get(Number(head))?.done(rest); this.waiting.delete(Number(head)); }
-    }
-  }
-
-  event(text) {
-    const [kind, ...words] = text.split(" "), n = words.map(Number), { on } = this;
-    switch (kind) {
-      case "hello":
-        on.hello({ seat: n[0], rights: words[1], program: words[2], cap: n[3], isNew: words[4] === "new" });
-        break;
-      case "links": this.links = { draw: words[0], watch: words[1] }; break;
-      case "open": on.open(n[0], n[1], words.slice(3).join(" ")); break;
-      case "seat": on.seat(n[0], words[1], words.slice(2).join(" ")); break;
-      case "entry": on.entry(n[0], n[1], words.slice(2).join(" ")); break;
-      case "play": on.play(n[0], n[1], n[2]); break;
-      case "pause": on.pause(n[0], words.slice(1).join(" ")); break;
-    }
-  }
-
-  bytes(buffer) {
+  takeBytes(buffer) {
     if (new Uint8Array(buffer)[0] === PICTURE) {
       this.undrawn += 1;
       this.on.picture(decodePicture(buffer));
-      return;
+    } else {
+      const { line, ...file } = decodeFile(buffer);
+      this.waiting.get(line)?.files.push(file);
     }
-    const { line, ...file } = decodeFile(buffer);
-    this.waiting.get(line)?.files.push(file);
   }
-
-  guard(act) { try { act(); } catch (fault) { this.strange(fault); } }
 
   /** Ends a connection whose server sends what the protocol forbids. */
   strange(fault) {

@@ -1,15 +1,16 @@
-// What opens a gas: lessons, files and what was kept over a reload. The gas before can be brought back.
-import { at } from "./dom.js";
+// What opens a gas: lessons, files and what was kept over a reload, and the text beside it. The gas before
+// can be brought back.
+import { at, fill, h, words } from "./dom.js";
 import { plainWords, isRefusal } from "./facts.js";
-import { EMPTY, find } from "./lessons.js";
+import { EMPTY, find, kindOf } from "./lessons.js";
 import { state } from "./state.js";
 import { view } from "./canvas.js";
 import { edits } from "./edits.js";
 import { keepForReload, takeKept, lessonOf } from "./keep.js";
-import { notice, banner, hideBanner, speak } from "./notices.js";
-import { note } from "./log.js";
+import { notice, banner, hideBanner, speak, note } from "./notices.js";
 import { play, send } from "./session.js";
 import { pickFile } from "./share.js";
+import { doTry } from "./tools.js";
 
 const asked = new URLSearchParams(location.search);
 const watches = (rects = []) => rects.map((rect) => `.watch ${rect.join(" ")}`);
@@ -101,5 +102,52 @@ async function begin() {
   } else await load(find(asked.get("lesson") || "4") ?? find("4"));
 }
 
+// ---- the lesson's text, question and buttons
+
+const LONG = 22;           // characters of a line that a button shows whole
+const shown = (line) => line.length > LONG ? `${line.split(" ").slice(0, 2).join(" ")} …`
+  : line.replace(/^\.goto (\d+).*/, "run to tick $1");
+
+function showLesson() {
+  const { lesson } = state, kind = kindOf(lesson), { name, text, task, expect, tries } = lesson;
+  document.body.dataset.lesson = kind === "Your own" ? "own" : "told";
+  at("lesson-kind").textContent = kind;
+  at("lesson-name").textContent = name;
+  at("task").textContent = task ?? "";
+  fill(at("lesson"), h("p.kicker", kind), h("h2", name),
+    !lesson.own && h("button.plain.again", { onclick: () => load(lesson) }, "Start again"),
+    text.map((one) => h("p", words(one))), task && h("p.task", task), expect && question(expect),
+    tries?.length && buttons(tries));
+  at("lesson").scrollTop = 0;
+}
+
+/** Buttons that show the lines they send. */
+function buttons(tries) {
+  return [h("h3", "Try it"), h("ul.tries", tries.map((one) => h("li",
+    h("button", { onclick: () => doTry(one) }, h("span", one.say),
+      h("code", one.lines.map(shown).join(" · "))))))];
+}
+
+/** A question with choices. The answer comes after a choice, and takes the focus. */
+function question({ ask, choices, right, answer }) {
+  const box = h("section.expect", h("h3", "What would you expect?"));
+  const buttons = choices.map((text, k) => h("button.choice", { onclick: () => choose(k) }, text));
+  const choose = (mine) => {
+    if (buttons[0].ariaDisabled) return;
+    buttons.forEach((button, k) => {
+      button.ariaDisabled = "true";
+      button.classList.toggle("right", k === right);
+      button.classList.toggle("mine", k === mine);
+    });
+    buttons[mine].append(h("em", mine === right ? "Right" : "Your guess"));
+    const said = h("p.answer", { tabIndex: -1 }, answer);
+    box.append(said);
+    said.focus();
+  };
+  box.append(h("fieldset", h("legend", ask), buttons));
+  return box;
+}
+
+state.on(["lesson"], showLesson);
 state.on(["isNew"], () => { if (state.isNew) begin(); });
 addEventListener("pagehide", () => { if (state.picture && state.worked) keepForReload(view, state.lesson); });

@@ -1,6 +1,7 @@
 // Pixels of a gas: packed bits into ImageData, one pixel a cell, 2 by 2 cells or a square.
 import { COLOURS, RAMP } from "./facts.js";
 import { h } from "./dom.js";
+import { cover } from "./shapes.js";
 
 const rgb = (r, g, b) => (255 << 24 | b << 16 | g << 8 | r) >>> 0;      // as ImageData has it, little-endian
 export const parts = (hex) => [1, 3, 5].map((k) => parseInt(hex.slice(k, k + 2), 16));
@@ -16,11 +17,6 @@ const MEAN = 8;            // pictures of a mean density
 export const POP = Uint8Array.from({ length: 256 },
   (_, v) => [1, 2, 4, 8, 16, 32, 64, 128].filter((b) => v & b).length);
 
-const SHADES = Uint32Array.from({ length: 256 }, (_, n) => {
-  const place = n / 255 * 3, low = Math.min(Math.floor(place), 2),
-    [a, b] = [parts(RAMP[low]), parts(RAMP[low + 1])];
-  return rgb(...a.map((v, k) => Math.round(v + (b[k] - v) * (place - low))));
-});
 
 /** The mean of pixels, each with its weight. */
 function mix(pixels, weights) {
@@ -28,6 +24,12 @@ function mix(pixels, weights) {
   return rgb(...[0, 8, 16].map((shift) =>
     Math.round(pixels.reduce((sum, pixel, k) => sum + weights[k] * (pixel >>> shift & 255), 0) / whole)));
 }
+
+const STOPS = RAMP.map((hex) => rgb(...parts(hex)));
+const SHADES = Uint32Array.from({ length: 256 }, (_, n) => {
+  const place = n / 85, low = Math.min(Math.floor(place), 2);
+  return mix(STOPS.slice(low, low + 2), [low + 1 - place, place - low]);
+});
 
 /** A canvas with its pixels as words. */
 class Sheet {
@@ -61,7 +63,6 @@ export class Painter {
   half = new Sheet();
   coarse = new Sheet();
 
-  get cells() { return this.full.canvas; }
   get hasPorts() { return this.ports.drains.length + this.ports.sources.length > 0; }
 
   setPicture(picture) {
@@ -70,8 +71,8 @@ export class Painter {
     if (resized && !(picture.walls && picture.ports)) throw new RangeError("walls and ports");
     this.picture = picture;
     this.remember(picture, resized);
-    if (picture.walls) { this.walls = picture.walls; this.obstacles = picture.obstacles; }
-    if (picture.ports) this.ports = picture.ports;
+    const { walls = this.walls, obstacles = this.obstacles, ports = this.ports } = picture;
+    Object.assign(this, { walls, obstacles, ports });
     if (resized) {
       this.full.resize(width, height);
       this.square = width * height <= 1 << 16 ? 4 : width * height <= BIG ? 8 : 16;
@@ -120,10 +121,10 @@ export class Painter {
     return set[at >> 3] >> (7 - (at & 7)) & 1;
   }
 
-  parity() { return ((this.picture.tick % 2) + 2) % 2; }
+  get parity() { return this.picture.tick & 1; }
 
   /** The way of a particle in a cell at the present tick: [1 right or -1 left, 1 down or -1 up]. */
-  way(x, y) { const t = this.parity(); return [(x + t) & 1 ? -1 : 1, (y + t) & 1 ? -1 : 1]; }
+  way(x, y) { const t = this.parity; return [(x + t) & 1 ? -1 : 1, (y + t) & 1 ? -1 : 1]; }
   isSolidAt(x, y) { return isSolid(this.ground[y * this.picture.width + x]); }
 
   /** What a block does in the next step: empty, passes, collides or bounces. */
@@ -138,84 +139,39 @@ export class Painter {
 
   /** Walls and obstacles as rectangles with their kind, found once after each edit. */
   solids() {
-    if (this.rectangles) return this.rectangles;
-    const { width, height } = this.picture, { ground } = this, open = new Map(), all = [];
-    const run = (x, y) => {
-      const kind = ground[y * width + x];
-      if (!isSolid(kind) || x && ground[y * width + x - 1] === kind) return;
-      let n = 1;
-      while (x + n < width && ground[y * width + x + n] === kind) n++;
-      const name = `${x} ${n} ${kind}`, above = open.get(name);
-      if (above && above[0][1] + above[0][3] === y) { above[0][3] += 1; return; }
-      const one = [[x, y, n, 1], kind];
-      open.set(name, one);
-      all.push(one);
-    };
-    for (let y = 0; y < height; y++) for (let k = 0; k < width / 8; k++)
-      if (this.special[y * width / 8 + k]) for (let x = 8 * k; x < 8 * k + 8; x++) run(x, y);
-    return (this.rectangles = all);
+    const { picture: { width, height }, ground } = this;
+    return this.rectangles ??= [1, 2].flatMap((kind) =>
+      cover([0, 0, width, height], (x, y) => ground[y * width + x] === kind).map((rect) => [rect, kind]));
   }
 
-  /** Packed bits to pixels, for the visible rows and bytes alone. */
-  paintCells({ x0, y0, x1, y1 }) {
-    const { picture: { width, particles }, special, ground, full: { pixels } } = this;
-    const bytes = width / 8, k0 = x0 >> 3, k1 = (x1 + 7) >> 3, { empty } = C;
-    for (let y = y0; y < y1; y++) {
-      const [even, odd] = this.looks(y);
-      let at = y * width + 8 * k0, b = y * bytes + k0;
-      for (let k = k0; k < k1; k++, b++, at += 8) {
-        const v = particles[b];
-        if (special[b]) {
-          for (let c = 0; c < 8; c++) {
-            const kind = ground[at + c];
-            pixels[at + c] = v >> (7 - c) & 1 ? isSolid(kind) ? C.hit : c & 1 ? odd : even : GROUNDS[kind];
-          }
-        } else if (v === 0) {
-          pixels[at] = pixels[at + 1] = pixels[at + 2] = pixels[at + 3] = empty;
-          pixels[at + 4] = pixels[at + 5] = pixels[at + 6] = pixels[at + 7] = empty;
-        } else {
-          pixels[at] = v & 128 ? even : empty; pixels[at + 1] = v & 64 ? odd : empty;
-          pixels[at + 2] = v & 32 ? even : empty; pixels[at + 3] = v & 16 ? odd : empty;
-          pixels[at + 4] = v & 8 ? even : empty; pixels[at + 5] = v & 4 ? odd : empty;
-          pixels[at + 6] = v & 2 ? even : empty; pixels[at + 7] = v & 1 ? odd : empty;
-        }
+  /** Packed bits to pixels for rows and bytes that are seen: the last picture, or the mean of the last. */
+  paintCells({ x0, y0, x1, y1 }, isMean = this.isCalm) {
+    const { picture: { width }, ground, full: { pixels } } = this, bytes = width / 8;
+    const shown = isMean ? this.recent : this.recent.slice(-1), colours = this.means(shown);
+    const [a, b, c, d] = [0, 1, 2, 3].map((k) => (shown[k] ?? shown[0]).particles);
+    const from = x0 >> 3, to = (x1 + 7) >> 3;
+    for (let y = y0; y < y1; y++) for (let k = from; k < to; k++) {
+      const at = y * bytes + k, row = (y & 1) << 5, [p, q, r, s] = [a[at], b[at], c[at], d[at]];
+      for (let bit = 7, cell = 8 * at; bit >= 0; bit--, cell++) {
+        const held = p >> bit & 1 | (q >> bit & 1) << 1 | (r >> bit & 1) << 2 | (s >> bit & 1) << 3;
+        pixels[cell] = colours[ground[cell] << 6 | row | (cell & 1) << 4 | held];
       }
     }
-    return this.full.put(8 * k0, y0, 8 * (k1 - k0), y1 - y0);
+    return this.full.put(8 * from, y0, 8 * (to - from), y1 - y0);
   }
 
-  /** The colours of particles in even and odd columns of a row. */
-  looks(y) {
-    if (this.mode !== "velocity") return [C.particle, C.particle];
-    const colour = (x) => this.colourOf(x, y, this.parity());
-    return [colour(0), colour(1)];
+  colourOf(x, y, tick) {
+    return this.mode !== "velocity" ? C.particle
+      : [C.rightDown, C.leftDown, C.rightUp, C.leftUp][(y + tick & 1) << 1 | x + tick & 1];
   }
 
-  colourOf(x, y, t) { return [C.rightDown, C.leftDown, C.rightUp, C.leftUp][(y + t & 1) << 1 | x + t & 1]; }
-
-  /** The mean of the last pictures, for the visible rows and bytes. */
-  paintMean({ x0, y0, x1, y1 }) {
-    const { picture: { width }, ground, full: { pixels } } = this, all = this.recent.map((p) => p.particles);
-    const bytes = width / 8, k0 = x0 >> 3, k1 = (x1 + 7) >> 3, colours = this.means();
-    const [a, b, c, d] = [0, 1, 2, 3].map((k) => all[k] ?? all[0]);
-    for (let y = y0; y < y1; y++) for (let k = k0; k < k1; k++) {
-      const at = y * bytes + k, low = (y & 1) << 5;
-      for (let bit = 7, x = 8 * k; bit >= 0; bit--, x++) {
-        const held = a[at] >> bit & 1 | (b[at] >> bit & 1) << 1 | (c[at] >> bit & 1) << 2
-          | (d[at] >> bit & 1) << 3;
-        pixels[y * width + x] = colours[ground[y * width + x] << 6 | low | (x & 1) << 4 | held];
-      }
-    }
-    return this.full.put(8 * k0, y0, 8 * (k1 - k0), y1 - y0);
-  }
-
-  /** The mean colours of each ground, parity of row and column, and pattern of the last pictures. */
-  means() {
-    const weights = WEIGHTS.slice(-this.recent.length);
+  /** The mean colours of each ground, parity of row and column, and pattern of pictures. */
+  means(pictures) {
+    const weights = WEIGHTS.slice(-pictures.length);
     const colour = (kind, y, x, tick, isFull) => !isFull ? GROUNDS[kind] : isSolid(kind) ? C.hit
-      : this.mode === "velocity" ? this.colourOf(x, y, tick) : C.particle;
-    return Uint32Array.from({ length: 320 }, (_, n) => mix(this.recent.map(({ tick }, k) =>
-      colour(n >> 6, n >> 5 & 1, n >> 4 & 1, ((tick % 2) + 2) % 2, n >> k & 1)), weights));
+      : this.colourOf(x, y, tick);
+    return Uint32Array.from({ length: 320 }, (_, n) => mix(pictures.map(({ tick }, k) =>
+      colour(n >> 6, n >> 5 & 1, n >> 4 & 1, tick, n >> k & 1)), weights));
   }
 
   /** Half as wide and high, for big lattices: a pixel is the mean of 2 by 2 cells, of 16 patterns. */
@@ -242,10 +198,9 @@ export class Painter {
 
   /** The mean colours of the patterns of 2 by 2 cells at an even column and row: upper left is bit 3. */
   patterns() {
-    const t = this.parity(), isVelocity = this.mode === "velocity";
-    const colour = (k) => isVelocity ? this.colourOf(k & 1, k >> 1, t) : C.particle;
-    return Uint32Array.from({ length: 16 }, (_, pattern) =>
-      mix([0, 1, 2, 3].map((k) => pattern >> (3 - k) & 1 ? colour(k) : C.empty), [1, 1, 1, 1]));
+    const { tick } = this.picture, all = [0, 1, 2, 3];
+    return Uint32Array.from({ length: 16 }, (_, pattern) => mix(all.map((k) =>
+      pattern >> (3 - k) & 1 ? this.colourOf(k & 1, k >> 1, tick) : C.empty), [1, 1, 1, 1]));
   }
 
   /** The density in squares, one pixel a square. */
@@ -259,7 +214,7 @@ export class Painter {
     for (const { counts } of this.past) for (let k = 0; k < sums.length; k++) sums[k] += counts[k];
     const whole = q * q * this.past.length;
     this.shades = this.range === "middle" ? [.25, .75] : this.range === "full" ? [0, 1]
-      : [extreme(sums, -1), extreme(sums, 1)].map((sum) => sum / whole);
+      : [Math.min, Math.max].map((pick) => sums.reduce((a, b) => pick(a, b)) / whole);
     const [low, high] = this.shades, factor = 255 / ((high - low) * whole || 1);
     for (let k = 0; k < sums.length; k++)
       pixels[k] = SHADES[Math.max(0, Math.min(255, Math.round((sums[k] - low * whole) * factor)))];
@@ -280,11 +235,4 @@ export class Painter {
     }
     return counts;
   }
-}
-
-/** The greatest of many numbers, or with sign -1 the least. */
-function extreme(numbers, sign) {
-  let found = numbers[0];
-  for (const n of numbers) if (sign * n > sign * found) found = n;
-  return found;
 }

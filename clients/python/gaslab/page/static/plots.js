@@ -1,7 +1,7 @@
 // The plots: values of each picture by tick, kept in runs, and drawn by dygraphs.
 import { at, h, say, setText, SANS } from "./dom.js";
 import { COLOURS, CURVES, toolOf } from "./facts.js";
-import { LEDGER_NAMES } from "./frame.js";
+import { LEDGER } from "./frame.js";
 import { parts, POP } from "./paint.js";
 
 const WINDOW = 20;         // ticks over which a rate is a mean
@@ -34,38 +34,20 @@ const PLOTS = {
   entropy: { name: "Entropy", most: Math.LN2, unit: "coarse-grained, in squares of 8 by 8 cells, per cell" },
 };
 
-/** The kept values of one plot by tick. Each run, forward or back, has a column of its own for each value. */
-class Series {
-  constructor() { this.clear(); }
-  clear() { this.rows = []; this.names = []; }
+const halved = (list) => list.filter((_, k) => k % 2 === 0 || k === list.length - 1);
 
-  /** Takes the columns of old runs out. */
-  keep(isKept) {
-    const kept = this.names.map(isKept);
-    if (kept.every((is) => is)) return;
-    this.names = this.names.filter((_, k) => kept[k]);
-    this.rows = this.rows.map(([tick, ...values]) => [tick, ...values.filter((_, k) => kept[k])])
-      .filter(([, ...values]) => values.some((v) => v !== null));
-  }
-
-  add(tick, column, value) {
-    const { rows } = this;
-    const low = rows.findLastIndex((row) => row[0] < tick) + 1;
-    let k = this.names.indexOf(column);
-    if (k < 0) { k = this.names.push(column) - 1; for (const row of rows) row.push(null); }
-    if (rows[low]?.[0] !== tick) rows.splice(low, 0, [tick, ...this.names.map(() => null)]);
-    rows[low][k + 1] = value;
-    if (rows.length > POINTS) this.rows = halved(rows);
-  }
+/** The values of a plot in a record, [name of its column, value] each. */
+function valuesOf(id, record) {
+  const { run, way, probes, [id]: value } = record, column = `run ${run}${way}`;
+  if (id !== "probe") return value === null ? [] : [[column, value]];
+  return probes.map(({ key, rect, sums }) => [`probe ${key}, ${column}`, sums[0] / (rect[2] * rect[3])]);
 }
 
-const halved = (list) => list.filter((_, k) => k % 2 === 0 || k === list.length - 1);
 const runOf = (name) => Number(/run (\d+)/.exec(name)[1]);
 const probeOf = (name) => Number(/^probe (\d+)/.exec(name)?.[1] ?? 0);
 const paler = (hex) => `rgb(${parts(hex).map((v) => Math.round(255 - (255 - v) * .4)).join()})`;
 
 class Plots {
-  series = Object.fromEntries(Object.keys(PLOTS).map((id) => [id, new Series()]));
   shown = [];
   graphs = {};
   drawn = 0;
@@ -78,13 +60,12 @@ class Plots {
   }
 
   clear() {
-    for (const series of Object.values(this.series)) series.clear();
-    Object.assign(this, { recent: [], records: [], notes: [], last: null, run: 1, way: "forward" });
+    Object.assign(this, { recent: [], records: [], notes: [], last: null, run: 1, way: "" });
     this.redraw(true);
   }
 
   /** The obstacles' account begins anew. */
-  newLedger() { this.recent = []; this.last = null; }
+  newLedger() { Object.assign(this, { recent: [], last: null }); }
 
   toggle(id) {
     const { shown } = this;
@@ -97,8 +78,8 @@ class Plots {
       chip.setAttribute("aria-pressed", ids.includes(chip.dataset.plot));
     for (const graph of Object.values(this.graphs)) graph.destroy();
     this.graphs = {};
-    at("plot-list").replaceChildren(...this.shown.map((id) => h("figure", {},
-      h("figcaption", {}, h("b", {}, PLOTS[id].name), h("span.unit", {}, PLOTS[id].unit), h("span.number")),
+    at("plot-list").replaceChildren(...this.shown.map((id) => h("figure",
+      h("figcaption", h("b", PLOTS[id].name), h("span.unit", PLOTS[id].unit), h("span.number")),
       h("div.plot", { id: `plot-${id}` }))));
     this.redraw(true);
   }
@@ -107,7 +88,7 @@ class Plots {
   add(p) {
     const { last } = this;
     if (last?.tick !== p.tick) {
-      const way = last && p.tick < last.tick ? "back" : "forward";
+      const way = last && p.tick < last.tick ? ", back" : "";
       if (way !== this.way) this.beginRun(way);
       this.recent.push({ tick: p.tick, sum: p.ledger[7] });
       while (this.recent.length > 2 && Math.abs(p.tick - this.recent[1].tick) >= 2 * WINDOW)
@@ -122,7 +103,6 @@ class Plots {
     this.run += 1;
     this.way = way;
     this.recent = this.last ? [{ tick: this.last.tick, sum: this.last.ledger[7] }] : [];
-    for (const series of Object.values(this.series)) series.keep((name) => runOf(name) > this.run - KEPT);
     if (this.last) this.putValues(this.last);
   }
 
@@ -135,29 +115,33 @@ class Plots {
     return Math.abs(span) >= 4 ? (ledger[7] - first.sum) / span : null;
   }
 
-  /** The name of the present run's column, for a probe's key or for the plot's own value. */
-  column(key = 0) {
-    return `${key ? `probe ${key}, ` : ""}run ${this.run}${this.way === "back" ? ", back" : ""}`;
-  }
-
   putValues(p) {
-    const values = { drag: this.drag(p), flux: p.tally[1] / p.width, count: p.tally[0],
-      entropy: this.shown.includes("entropy") ? entropy(p) : null };
-    for (const [id, value] of Object.entries(values))
-      if (value !== null) this.series[id].add(p.tick, this.column(), value);
-    for (const { key, rect, sums } of p.probes)
-      this.series.probe.add(p.tick, this.column(key), sums[0] / (rect[2] * rect[3]));
-    this.records.push({ ...values, run: this.run, tick: p.tick, tally: p.tally, ledger: p.ledger,
-      probes: p.probes });
+    const { tick, tally, ledger, probes } = p, { run, way } = this;
+    this.records.push({ run, way, tick, tally, ledger, probes, drag: this.drag(p), flux: tally[1] / p.width,
+      count: tally[0], entropy: this.shown.includes("entropy") ? entropy(p) : null });
     if (this.records.length > RECORDS) this.records = halved(this.records);
     this.redraw();
+  }
+
+  /** The values of the last runs: names of columns, and rows of a tick with its values. Each run, forward or
+      back, has a column of its own for each value. */
+  curves(id) {
+    let kept = this.records.filter(({ run }) => run > this.run - KEPT);
+    while (kept.length > POINTS) kept = halved(kept);
+    const rows = new Map(), all = kept.map((record) => [record.tick, valuesOf(id, record)]);
+    const names = [...new Set(all.flatMap(([, values]) => values.map(([name]) => name)))];
+    for (const [tick, values] of all) for (const [name, value] of values) {
+      if (!rows.has(tick)) rows.set(tick, [tick, ...names.map(() => null)]);
+      rows.get(tick)[names.indexOf(name) + 1] = value;
+    }
+    return { names, rows: [...rows.values()].sort(([a], [b]) => a - b) };
   }
 
   /** The readings of all pictures as a table of comma-separated values, oldest first. */
   table() {
     const all = this.records.flatMap(({ probes }) => probes.map(({ key }) => key));
     const keys = [...new Set(all)].sort((a, b) => a - b);
-    const head = ["run", "tick", "count", "px", "py", ...LEDGER_NAMES, "drag", "entropy",
+    const head = ["run", "tick", "count", "px", "py", ...LEDGER, "drag", "entropy",
       ...keys.flatMap((key) => ["count", "px", "py"].map((name) => `probe_${key}_${name}`))];
     const rows = this.records.map(({ run, tick, tally, ledger, drag, entropy: e, probes }) => {
       const sums = keys.flatMap((key) => probes.find((one) => one.key === key)?.sums ?? ["", "", ""]);
@@ -188,29 +172,28 @@ class Plots {
     const said = this.notes.map(({ tick, lines }) => `${tick} ${lines.length} ${lines[0]}`).join();
     if (at("notes").dataset.said === said) return;
     at("notes").dataset.said = said;
-    at("notes").replaceChildren(...this.notes.map(({ tick, lines }) => h("li", {}, `tick ${say(tick)}: `,
-      h("code", {}, lines[0].slice(0, 40)), lines.length > 1 ? ` and ${lines.length - 1} more` : "")));
+    at("notes").replaceChildren(...this.notes.map(({ tick, lines }) => h("li", `tick ${say(tick)}: `,
+      h("code", lines[0].slice(0, 40)), lines.length > 1 ? ` and ${lines.length - 1} more` : "")));
   }
 
   drawOne(id) {
-    const box = at(`plot-${id}`), series = this.series[id];
-    const value = this.value(series), hasCurve = series.rows.length > 1;
-    setText(box.parentElement.querySelector(".number"), value === null ? "" : say(value));
+    const box = at(`plot-${id}`), curves = this.curves(id), hasCurve = curves.rows.length > 1;
+    setText(box.parentElement.querySelector(".number"), this.value(id));
     box.classList.toggle("empty", !hasCurve);
-    if (hasCurve) { this.drawCurve(id, box, series); return; }
-    this.graphs[id]?.destroy();
-    delete this.graphs[id];
-    const hasProbe = this.last?.probes.length > 0, { name, key } = toolOf("probe");
-    setText(box, id === "probe" && !hasProbe ? `Choose ${name} (${key}) and draw a rectangle.`
-      : "Play, and the curve begins.");
+    if (hasCurve) this.drawCurve(id, box, curves);
+    else {
+      this.graphs[id]?.destroy();
+      delete this.graphs[id];
+      const isAsked = id === "probe" && !this.last?.probes.length, { name, key } = toolOf("probe");
+      setText(box, isAsked ? `Choose ${name} (${key}) and draw a rectangle.` : "Play, and the curve begins.");
+    }
   }
 
   /** The present value, if the plot has one: of several probes none is the value. */
-  value({ rows, names }) {
-    if (!this.last) return null;
-    const own = names.flatMap((name, k) => runOf(name) === this.run ? [k + 1] : []);
-    const row = rows.findLast(([tick]) => tick <= this.last.tick) ?? rows.at(-1);
-    return own.length === 1 && row ? row[own[0]] : null;
+  value(id) {
+    const record = this.records.findLast((one) => one.run === this.run && valuesOf(id, one).length);
+    const values = record && this.last ? valuesOf(id, record) : [];
+    return values.length === 1 ? say(values[0][1]) : "";
   }
 
   drawCurve(id, box, { rows, names }) {
@@ -219,15 +202,18 @@ class Plots {
     const valueRange = [min < 0 ? min - room : 0, most ? most * 1.06 : max === min ? 1 : max + room];
     const dateWindow = [rows[0][0], Math.max(rows.at(-1)[0], rows[0][0] + 12)], isWide = max >= 1e5;
     const font = parseFloat(getComputedStyle(document.documentElement).fontSize) * .8;
+    // dygraphs keeps a legend and its axes' widths: with others it is made anew
     const kept = `${names.join()} ${isWide} ${this.run} ${font}`, axisLabelFormatter = (v) => say(v);
-    const ranges = { valueRange, dateWindow };
-    if (this.graphs[id]?.kept === kept) return this.graphs[id].updateOptions({ file: rows, ...ranges });
+    if (this.graphs[id]?.kept === kept) {
+      this.graphs[id].updateOptions({ file: rows, valueRange, dateWindow });
+      return;
+    }
     this.graphs[id]?.destroy();
     box.textContent = "";
     const x = { axisLabelWidth: 3.8 * font, pixelsPerLabel: 4.3 * font, axisLabelFormatter,
       valueFormatter: (tick) => `tick ${say(tick)}`, ticker: Dygraph.numericLinearTicks };
     const y = { axisLabelWidth: (isWide ? 4.8 : 3.3) * font, pixelsPerLabel: 2.8 * font, axisLabelFormatter };
-    this.graphs[id] = new Dygraph(box, rows, { ...LOOK, ...ranges, labels: ["tick", ...names],
+    this.graphs[id] = new Dygraph(box, rows, { ...LOOK, valueRange, dateWindow, labels: ["tick", ...names],
       series: Object.fromEntries(names.map((name) => [name, this.look(name)])), axes: { x, y },
       legend: names.length > 1 ? "always" : "onmouseover", axisLabelFontSize: font,
       underlayCallback: (c, area, graph) => this.drawNotes(c, area, graph, font) });

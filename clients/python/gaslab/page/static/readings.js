@@ -1,8 +1,7 @@
 // Readings beside the gas: tick, tally, the ledger as a sum, and the probes.
-import { at, h, say, setText } from "./dom.js";
+import { at, fill, h, say, setText } from "./dom.js";
 import { state } from "./state.js";
 import { plots } from "./plots.js";
-import { plotsOf } from "./lessons.js";
 import { send } from "./session.js";
 
 /** Each row of the ledger: its name, its sign in the sum, and its fields: particles, px, py. */
@@ -42,8 +41,7 @@ function showProbes({ probes, tally }) {
   const list = at("probes"), keys = probes.map(({ key }) => key).join();
   if (list.dataset.keys !== keys) {
     list.dataset.keys = keys;
-    list.replaceChildren(...probes.map(({ key, rect }) =>
-      h("li", {}, h("b", {}, `probe ${key} `), h("code", {}, rect.join(" ")),
+    fill(list, probes.map(({ key, rect }) => h("li", h("b", `probe ${key} `), h("code", rect.join(" ")),
       h("span.sums"), h("button.close", { "aria-label": `Close probe ${key}`, title: "Close this probe",
         onclick: () => send([`.unwatch ${key}`]) }, "×"))));
   }
@@ -63,4 +61,4 @@ function showMini({ tick }) {
 
 state.on(["shown"], () => {
   for (const show of [showNumbers, showLedger, showProbes, showMini]) show(state.shown); });
-state.on(["lesson"], () => plots.choose(plotsOf(state.lesson)));
+state.on(["lesson"], () => plots.choose(state.lesson.plots));

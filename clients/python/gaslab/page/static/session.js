@@ -1,14 +1,12 @@
 // The page's seat at a server: joins, sends lines, takes events and pictures in.
-import { connect } from "./local.js";
-import { Link } from "./link.js";
+import { connect, Link } from "./link.js";
 import { plainWords, isRefusal } from "./facts.js";
-import { EMPTY, named, shared } from "./lessons.js";
+import { EMPTY, otherLesson } from "./lessons.js";
 import { state, SPEEDS } from "./state.js";
 import { view } from "./canvas.js";
 import { edits } from "./edits.js";
 import { plots } from "./plots.js";
-import { notice, hideNotice, banner, hideBanner, speak } from "./notices.js";
-import { note, exchanges, entryOf } from "./log.js";
+import { notice, hideNotice, banner, hideBanner, speak, note, exchanges, entryOf } from "./notices.js";
 import { saveFile, savePicture } from "./share.js";
 
 let fresh = null;          // a picture that waits for the next frame
@@ -16,13 +14,16 @@ let isJoining = false, keepsPlots = false;
 const seen = { since: performance.now(), drawn: 0, made: 0, number: 0, tick: 0 };
 
 const events = {
-  hello({ seat, rights, program, cap, isNew }) {
+  hello([number, rights, program, cap, age]) {
+    const seat = Number(number);
     isJoining = true;
     state.people.set(seat, "");
-    state.change({ status: "open", seat, rights, program, cap, isNew, people: state.people });
+    state.change({ status: "open", seat, rights, program, cap: Number(cap), isNew: age === "new",
+      people: state.people });
     if (rights === "watch") banner("You are watching. Another seat drives this gas.");
   },
-  open(width, height, name) {
+  links([draw, watch]) { state.links = { draw, watch }; },
+  open([,,, ...name]) {
     edits.clear();
     view.select();
     hideNotice();
@@ -30,17 +31,19 @@ const events = {
     else plots.clear();
     state.change({ least: 0, furthest: 0, acted: -Infinity, picture: null });
     const isOwn = state.loading || keepsPlots || isJoining && state.lesson !== EMPTY;
-    if (!isOwn) state.change({ lesson: named(name) ?? shared(name, isJoining ? "joined" : "opened") });
+    if (!isOwn) state.change({ lesson: otherLesson(name.join(" "), isJoining) });
     isJoining = false;
   },
-  seat(seat, what, name) {
+  seat([number, what, ...name]) {
+    const seat = Number(number);
     if (what === "left") state.people.delete(seat);
-    else state.people.set(seat, name || state.people.get(seat) || "");
+    else state.people.set(seat, name.join(" ") || state.people.get(seat) || "");
     if (what !== "name" && seat !== state.seat)
       note(`seat ${seat} ${what === "came" ? "has joined" : "has left"}`);
     state.change({ people: state.people });
   },
-  entry(k, seat, line) {
+  entry([k, number, ...words]) {
+    const seat = Number(number), line = words.join(" ");
     edits.entry(line, seat === state.seat ? null : seat);
     if (seat !== state.seat) entryOf(state.people.get(seat) || `seat ${seat}`, line, `OK ${k}`);
     if (state.loading) return;
@@ -49,9 +52,9 @@ const events = {
     state.change({ tried: true });
     if (state.picture.tick !== 0) plots.note(state.picture.tick, line);
   },
-  play(seat, steps, rate) { takePlay(true, steps, rate); },
-  pause(seat, why) {
-    const wasPlaying = state.playing;
+  play([, steps, rate]) { takePlay(true, Number(steps), Number(rate)); },
+  pause([, ...words]) {
+    const wasPlaying = state.playing, why = words.join(" ");
     state.change({ playing: false });
     if (why.startsWith("ERR")) refuse(why, "step 1", { isTime: true, wasPlaying });
     else if (why !== "opened" && state.picture)
@@ -69,7 +72,7 @@ const events = {
     state.change({ status: "gone", playing: false });
     banner(isStrange ? "The server sent something that this page can't read. The connection is closed."
       : "The server has ended. This is its last picture.",
-        [["Connect again", join], ["Save the picture", savePicture]], true);
+        [["Connect again", join], ["Save the picture", () => savePicture()]], true);
   },
 };
 
@@ -77,7 +80,7 @@ const events = {
 export function join() {
   hideBanner();
   state.people.clear();
-  state.change({ link: new Link(connect(), events) });
+  state.change({ link: new Link(connect(), events), links: {} });
 }
 
 /** Takes a picture in. It is drawn with the next frame. */
@@ -88,7 +91,7 @@ function take(p) {
   fresh = p;
   takePlay(p.playing, p.steps, p.rate);
   const isResized = view.setPicture(p), { hasPorts } = view;
-  edits.picture(p, view);
+  edits.picture(p);
   state.change({ picture: p, acted: hasPorts ? p.tick : state.acted, least: Math.min(state.least, p.tick),
     furthest: hasPorts ? 0 : Math.max(state.furthest, p.tick) });
   plots.add(p);
@@ -154,9 +157,8 @@ function refuse(reply, line, where) {
   }
   const does = { "ERR 10": [["Remove all ports", () => send(["unport"])]],
     "ERR 13": [["Save script and snapshot, go on", () => goOn(where)]] }[reply.slice(0, 6)];
-  const { width = 64, height = 64 } = state.picture ?? {};
   const shown = line.length > 34 ? `${line.slice(0, 34)}…` : line;
-  notice({ title: "Not done", text: plainWords(reply, line, [width, height]), does, rect: where.rect,
+  notice({ title: "Not done", text: plainWords(reply, line, state.picture), does, rect: where.rect,
     code: line && `${shown}  →  ${reply}` });
 }
 

@@ -17,20 +17,20 @@ export function ellipse(rect) {
   return cover(rect, (i, j) => part(i, x, w) + part(j, y, h) <= 1);
 }
 
+/** The rectangle around two, or the first if there is no other. */
+export function around([x, y, w, h], other) {
+  const [a, b, c, d] = other ?? [x, y, w, h], left = Math.min(x, a), top = Math.min(y, b);
+  return [left, top, Math.max(x + w, a + c) - left, Math.max(y + h, b + d) - top];
+}
+
 /** The rectangles of a stroke through cells, with a pen of `snap` by `snap` cells. */
 export function stroke(cells, size, snap) {
-  const names = new Set(), squares = [];
-  const add = (cell) => {
-    const rect = rectangle(cell, cell, size, snap), name = rect.join();
-    if (!names.has(name)) { names.add(name); squares.push(rect); }
-  };
-  cells.forEach(([x, y], k) => {
+  const squares = cells.flatMap(([x, y], k) => {
     const [a, b] = cells[Math.max(0, k - 1)], n = Math.max(Math.abs(x - a), Math.abs(y - b), 1);
-    for (let s = 0; s <= n; s++) add([Math.round(a + (x - a) * s / n), Math.round(b + (y - b) * s / n)]);
-  });
-  const low = (k) => Math.min(...squares.map((r) => r[k])),
-    high = (k) => Math.max(...squares.map((r) => r[k] + r[k + 2]));
-  const [x, y, w, h] = [low(0), low(1), high(0) - low(0), high(1) - low(1)], held = new Uint8Array(w * h);
+    const way = (from, to, s) => Math.round(from + (to - from) * s / n);
+    return Array.from({ length: n + 1 }, (_, s) => [way(a, x, s), way(b, y, s)]);
+  }).map((cell) => rectangle(cell, cell, size, snap));
+  const [x, y, w, h] = squares.reduce((all, square) => around(square, all)), held = new Uint8Array(w * h);
   for (const [i, j, a, b] of squares) for (let q = j - y; q < j - y + b; q++)
     held.fill(1, q * w + i - x, q * w + i - x + a);
   return cover([x, y, w, h], (i, j) => held[(j - y) * w + i - x]);
@@ -64,20 +64,16 @@ function largest(held, w, h, i, j) {
   return best;
 }
 
-export const hex = (bytes) => Array.from(bytes, (v) => v.toString(16).padStart(2, "0")).join("");
-
 /** `row` lines that lay a random gas into a rectangle, and keep what is outside it. Solid cells stay empty.
     Density and drifts are percents. */
-export function randomGas(view, [x, y, w, h], { density, right, down }, random = Math.random) {
-  const { width, particles } = view.picture, bytes = width / 8, out = [];
-  for (let j = y; j < y + h; j++) {
-    const row = particles.slice(j * bytes, (j + 1) * bytes);
-    for (let i = x; i < x + w; i++) {
-      const [vx, vy] = view.way(i, j), mask = 128 >> (i & 7);
-      const chance = density / 100 * (1 + right / 100 * vx) * (1 + down / 100 * vy);
-      if (!view.isSolidAt(i, j) && random() < chance) row[i >> 3] |= mask; else row[i >> 3] &= ~mask;
-    }
-    out.push(`row ${j} ${hex(row)}`);
-  }
-  return out;
+export function randomGas(view, [x, y, w, h], { density, right, down }) {
+  const isFull = (i, j) => {
+    if (i < x || i >= x + w) return view.has(i, j);
+    const [vx, vy] = view.way(i, j), chance = density / 100 * (1 + right / 100 * vx) * (1 + down / 100 * vy);
+    return !view.isSolidAt(i, j) && Math.random() < chance;
+  };
+  return Array.from({ length: h }, (_, k) => {
+    const bits = Array.from({ length: view.picture.width }, (_cell, i) => Number(isFull(i, y + k))).join("");
+    return `row ${y + k} ${bits.replace(/.{4}/g, (four) => parseInt(four, 2).toString(16))}`;
+  });
 }

@@ -13,6 +13,7 @@ class State extends EventTarget {
   cap = 0;                     // entries that a journal holds
   people = new Map();          // seat to name
   link = null;
+  links = {};                  // what follows the address in a link, for pages that draw
   isNew = false;               // the server's gas waits for a lesson
   picture = null;              // the last one that came
   shown = null;                // the last one that was drawn

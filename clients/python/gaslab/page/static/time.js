@@ -98,7 +98,7 @@ function showReason() {
   box.dataset.text = text;
   box.replaceChildren(h("span", { role: "status" }, text));
   if (isPorts)
-    box.append(h("button", { onclick: () => send(["unport"]) }, "Remove them: ", h("code", {}, "unport")));
+    box.append(h("button", { onclick: () => send(["unport"]) }, "Remove them: ", h("code", "unport")));
 }
 
 for (const id of ["step", "back", "rewind"]) at(id).append(icon(ICONS[id]));

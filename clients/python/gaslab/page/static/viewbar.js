@@ -1,5 +1,5 @@
 // What is shown: particles, velocities or density, zoom, and the key of colours.
-import { at, h, setText } from "./dom.js";
+import { at, fill, h, setText } from "./dom.js";
 import { COLOURS, ZOOM } from "./facts.js";
 import { choose, rove } from "./buttons.js";
 import { state } from "./state.js";
@@ -19,21 +19,20 @@ function showMode() {
 /** What the colours mean. It says nothing that isn't drawn. */
 function showKey() {
   const isNear = view.scale >= ZOOM.grid && view.mode !== "density", hasArrows = view.scale >= ZOOM.arrows;
-  const [low, high] = view.shades.map((share) => `${Math.round(share * 100)} %`),
-    swatch = (look) => h("i", { style: look });
+  const [low, high] = view.shades.map((share) => `${Math.round(share * 100)} %`);
+  const entry = (look, text) => h("span", h("i", { style: look }), text);
   const name = [view.mode, isNear, hasArrows, low, high, view.square, view.isMean].join();
   if (at("key").dataset.name === name) return;
-  const marks = isNear ? [h("span", {}, h("i.ring"), "collides next"),
-    h("span", {}, h("i.ring.dashed"), "bounces")] : [];
+  const marks = [h("span", h("i.ring"), "collides next"), h("span", h("i.ring.dashed"), "bounces")];
   at("key").dataset.name = name;
   if (view.mode === "density") {
-    at("key").replaceChildren(h("span", {}, low), h("span.ramp"), h("span", {}, high));
+    fill(at("key"), h("span", low), h("span.ramp"), h("span", high));
     setText(at("density-text"),
       `Squares of ${view.square} by ${view.square} cells${view.isMean ? ", mean of 8 pictures" : ""}`);
-  } else if (view.mode === "velocity" && !hasArrows) at("key").replaceChildren(...WAYS.map(([way, arrow]) =>
-      h("span", {}, swatch(`background:${COLOURS[way]}`), arrow)), ...marks);
-  else at("key").replaceChildren(...isNear ? marks
-    : [h("span", {}, swatch("background:var(--hit);outline:var(--strong)"), "particle on a wall")]);
+  } else if (view.mode === "velocity" && !hasArrows)
+    fill(at("key"), WAYS.map(([way, arrow]) => entry(`background:${COLOURS[way]}`, arrow)), isNear && marks);
+  else fill(at("key"), isNear ? marks
+    : entry("background:var(--hit);outline:var(--strong)", "particle on a wall"));
 }
 
 for (const button of modes) button.onclick = () => state.change({ mode: button.id });
