@@ -4,11 +4,13 @@ use Rattle.std.proofs.lemmas.Nat.{row-Below}
 use Rattle.std.proofs.Math.Nat.{mod-lt}
 use Rattle.bit_tile.specs.Tile.{HasCells}
 use Rattle.bit_tile.specs.declared.Tile.{Tile}
-use Rattle.gas_terms.specs.Cells.{Cells, Extent, HasSidesOf, HasEvenSides, IsFull, cells_where, has, joined, extent, is_size, tile_count, tile_rectangle}
+use Rattle.gas_terms.specs.Cells.{Cells, Extent, HasSidesOf, HasEvenSides, cells_where, has, joined, extent, is_size, tile_count, tile_rectangle}
 use Rattle.gas_terms.specs.Gas.{streamed, arrived, site_of}
 use Rattle.gas_terms.specs.Velocity.{velocity_at}
 use Rattle.gas_plane.specs.Planes.{IsLattice, with_tile, swept}
 use Rattle.gas_plane.proofs.Places.{IsWholeTiles, wide, high, cell_below}
+use Rattle.gas_plane.proofs.Sweeps.{sweep_tile, sweep_is_whole}
+use Rattle.gas_terms.proofs.Cells.{has-cells_where, same_cells_where}
 use Rattle.block_rule.specs.Windows.{IsTilePlace}
 use Rattle.phase_step.specs.Turns.{IsTileAfter}
 
@@ -59,33 +61,20 @@ abbrev pub phased : ℕ → Cells → Cells → Cells → ℕ → ℕ → Bool
 phased p particles walls obstacles x y = has (streamed p particles (joined walls obstacles)) x y
 
 pub phase_next : (p : ℕ) (particles walls obstacles start now next : Cells) (i : ℕ) (t : Tile) → IsLattice start → HasSidesOf start particles → now ≡ swept start (phased p particles walls obstacles) i → IsTileAfter p particles walls obstacles i t → next ≡ with_tile now i t
-    → ((cells : Cells) (test : ℕ → ℕ → Bool) (i : ℕ) (t : Tile) → IsLattice cells → HasCells t (λ x y. test ((tile_rectangle cells i).x + x) ((tile_rectangle cells i).y + y)) → with_tile (swept cells test i) i t ≡ swept cells test (i + 1))
     → next ≡ swept start (phased p particles walls obstacles) (i + 1)
-phase_next p particles walls obstacles start now next i t is same so_far after put law =
+phase_next p particles walls obstacles start now next i t is same so_far after put =
     put
     ∙ (ap (λ (now : Cells). with_tile now i t) so_far
-    ∙ law start (phased p particles walls obstacles) i t is
+    ∙ sweep_tile start (phased p particles walls obstacles) i t is
     (subst (λ w. HasCells t (λ x y. phased p particles walls obstacles (i % (w / 64) * 64 + x) (i / (w / 64) * 64 + y))) (sym same.wide) after))
-
--- a set is made of its own cells
-remade : (width height : ℕ) (test : ℕ → ℕ → Bool) → ((width height : ℕ) (test : ℕ → ℕ → Bool) (x y : ℕ) → x < width → y < height → has (cells_where width height test) x y ≡ test x y) → ((width height : ℕ) (test : ℕ → ℕ → Bool) → IsFull (cells_where width height test))
-    → ((some others : Cells) → IsFull some → IsFull others → some.width ≡ others.width → some.height ≡ others.height → ((x y : ℕ) → x < some.width → y < some.height → has some x y ≡ has others x y) → some ≡ others)
-    → cells_where width height (λ x y. has (cells_where width height test) x y) ≡ cells_where width height test
-remade width height test held full agree =
-    agree (cells_where width height (λ x y. has (cells_where width height test) x y)) (cells_where width height test) (full width height (λ x y. has (cells_where width height test) x y)) (full width height test) refl refl
-    (held width height (λ x y. has (cells_where width height test) x y))
 
 -- the last plane
 pub phase_ends : (p : ℕ) (particles walls obstacles start now : Cells) (i end : ℕ) → IsLattice start → HasSidesOf start particles → end ≡ tile_count start → end ≤ i → i ≤ end → now ≡ swept start (phased p particles walls obstacles) i
-    → ((cells : Cells) (test : ℕ → ℕ → Bool) → IsLattice cells → swept cells test (tile_count cells) ≡ cells_where cells.width cells.height test)
-    → ((width height : ℕ) (test : ℕ → ℕ → Bool) (x y : ℕ) → x < width → y < height → has (cells_where width height test) x y ≡ test x y)
-    → ((width height : ℕ) (test : ℕ → ℕ → Bool) → IsFull (cells_where width height test))
-    → ((some others : Cells) → IsFull some → IsFull others → some.width ≡ others.width → some.height ≡ others.height → ((x y : ℕ) → x < some.width → y < some.height → has some x y ≡ has others x y) → some ≡ others)
     → now ≡ streamed p particles (joined walls obstacles)
-phase_ends p particles walls obstacles start now i end is same count past reach so_far law held full agree =
+phase_ends p particles walls obstacles start now i end is same count past reach so_far =
     let all : i ≡ tile_count start = omega arith in
     so_far
     ∙ (ap (swept start (phased p particles walls obstacles)) all
-    ∙ (law start (phased p particles walls obstacles) is
+    ∙ (sweep_is_whole start (phased p particles walls obstacles) is
     ∙ (ap₂ (λ w h. cells_where w h (phased p particles walls obstacles)) same.wide same.high
-    ∙ remade particles.width particles.height (λ x y. arrived particles (joined walls obstacles) (site_of (p + 1) particles.width particles.height x y) (velocity_at (p + 1) x y)) held full agree)))
+    ∙ same_cells_where particles.width particles.height _ _ (has-cells_where particles.width particles.height (λ x y. arrived particles (joined walls obstacles) (site_of (p + 1) particles.width particles.height x y) (velocity_at (p + 1) x y))))))

@@ -94,7 +94,8 @@ fn set_class(class: &mut [u32; 32], columns: u32, rows: u32, kept: &[u32; 32], h
     n
 }
 
-// The same of the cells that a rectangle has of the tile that begins at (left, top), by their classes.
+// Fills or empties the cells that a rectangle has of the tile that begins at (left, top), without those that are kept. Returns how
+// many change, by their classes.
 #[inline(always)]
 fn set_area(tile: &mut Tile, area: Rect, left: u32, top: u32, kept: &Tile, held: bool) -> [u32; 4]
     ensures cells { HasCells tile.new (λ x y.
@@ -151,7 +152,7 @@ fn cells_of(areas: &[Rect], left: u32, top: u32) -> Option<Tile>
     cells
 }
 
-// The same, without the cells that other rectangles have.
+// Fills or empties the cells that a rectangle has of that tile, without those of other rectangles.
 #[inline(always)]
 fn set_but(tile: &mut Tile, area: Rect, kept: &[Rect], left: u32, top: u32, held: bool) -> [u32; 4]
     ensures cells { HasCells tile.new (λ x y.

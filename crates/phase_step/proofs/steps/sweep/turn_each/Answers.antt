@@ -1,9 +1,8 @@
 use Rattle.std.proofs.Common.{◌≡◌, ◌+◌, ◌∙◌, ap, ap₂, sym, subst, refl, pos, arith, add-one}
 use Rattle.gas_terms.specs.Accounts.{took_plus}
 use Rattle.gas_terms.specs.Cells.{tile_count, tile_rectangle}
-use Rattle.gas_terms.proofs.Cells.{has-cells_where, full-cells_where, same_cells}
 use Rattle.gas_plane.proofs.PlaneCounts.{few_tiles}
-use Rattle.gas_plane.proofs.Sweeps.{sweep_begins, sweep_tile, sweep_is_whole}
+use Rattle.gas_plane.proofs.Sweeps.{sweep_begins}
 use Rattle.gas_plane.specs.Planes.{with_tile, IsPosition}
 use Rattle.block_rule.specs.Windows.{taken_in}
 use Rattle.phase_step.specs.Runs.{tiles_take}
@@ -36,7 +35,7 @@ loop-i-preserved c =
     let after = subst (λ i. IsTileAfter c.args.parity c.args.old.now c.args.walls.now c.args.obstacles.now i c.turn_tile_at-here.new.out) c.loop-i.invariant.tile c.turn_tile_at-here.ensures.cells in
     let e : c.loop-i.i ≡ 0 + c.loop-i.i = omega arith in
     record {
-      cells = phase_next c.args.parity c.args.old.now c.args.walls.now c.args.obstacles.now c.args.out.now c.loop-i.out (with_tile c.loop-i.out c.loop-i.i c.turn_tile_at-here.new.out) c.loop-i.i c.turn_tile_at-here.new.out c.size.ensures.lattice c.requires.out c.loop-i.invariant.cells after refl sweep_tile;
+      cells = phase_next c.args.parity c.args.old.now c.args.walls.now c.args.obstacles.now c.args.out.now c.loop-i.out (with_tile c.loop-i.out c.loop-i.i c.turn_tile_at-here.new.out) c.loop-i.i c.turn_tile_at-here.new.out c.size.ensures.lattice c.requires.out c.loop-i.invariant.cells after refl;
       took =
           c.plus-took.ensures
           ∙ (ap₂ took_plus c.loop-i.invariant.took (took ∙ ap (λ i. taken_in (pos c.args.parity) c.args.old.now c.args.walls.now c.args.obstacles.now (tile_rectangle c.args.old.now i)) e)
@@ -49,7 +48,6 @@ pub returns-clause-out : goal.returns-clause-out
 returns-clause-out c =
     phase_ends c.args.parity c.args.old.now c.args.walls.now c.args.obstacles.now c.args.out.now c.loop-i.out c.loop-i.i c.tiles-i-end.result c.size.ensures.lattice c.requires.out
     (tiles_are c.args.out.now c.size.result c.tiles-i-end.result c.size.ensures.extent c.tiles-i-end.ensures.tiles) c.loop-i-test.false c.loop-i.auto.i-end c.loop-i.invariant.cells
-    sweep_is_whole has-cells_where full-cells_where same_cells
 
 pub returns-clause-took : goal.returns-clause-took
 returns-clause-took c =
