@@ -1,6 +1,6 @@
 //! A work queue: a `Desk` hands out the numbers below a limit to several threads, each number exactly once.
 //!
-//! The program uses all of it, through `phase_team`.
+//! It is there for callers of the library, through `Team::phase` (`phase_team`). The program does not call it.
 #![tactic(auto)]
 
 ghost use Rattle.std.specs.Prelude.{ℕ, ◌+◌, ◌≤◌, List};

@@ -68,7 +68,7 @@ pub struct Strips {
 }
 
 impl Strips {
-    /// `None` if memory runs out.
+    /// `None` if memory runs out, or if a strip would be too high for a plane.
     pub fn new(alloc: Global, size: Size, workers: u8) -> Option<Strips>
         requires { (0 < workers) × (workers ≤ most_workers) }
         ensures { IfSome result (λ strips. strips.size ≡ size) }
