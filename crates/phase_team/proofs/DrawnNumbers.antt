@@ -1,5 +1,5 @@
 -- The numbers that seats drew, all together.
-use Rattle.std.proofs.Common.{◌≡◌, ℕ, ◌<◌, Bool, true, cond, arith, List, [], ◌∷◌, ◌++◌, append-nil, ap, ◌∙◌}
+use Rattle.std.proofs.Common.{◌≡◌, ℕ, ◌<◌, cond, arith, List, [], ◌∷◌, ◌++◌, append-nil, ap, ◌∙◌}
 use Rattle.std.specs.List.{sum_by, count_by}
 use Rattle.claim_desk.proofs.Sums.{sum_pop}
 use Rattle.std.proofs.lemmas.Grind.{flat_map-append}
@@ -17,12 +17,6 @@ drawn_push seats all s e =
 
 pub times-drawn : (x : ℕ) (seats : List SeatView) → times x (drawn seats) ≡ sum_by (λ (s : SeatView). times x s.numbers) seats
 times-drawn x seats = sum_by-flat_map _ (λ (s : SeatView). s.numbers) seats
-
-pub last_ended : (all seats : List SeatView) (s : SeatView) → all ≡ seats ++ s ∷ [] → s.ended ≡ true → 0 < count_by (λ (s : SeatView). s.ended) all
-last_ended all seats s e is =
-    let sum = sum_pop (λ (s : SeatView). cond {A = ℕ} s.ended 1 0) all seats s e in
-    let one : cond {A = ℕ} s.ended 1 0 ≡ 1 = ap (λ (b : Bool). cond {A = ℕ} b 1 0) is in
-    omega arith
 
 pub still_ended : (all seats : List SeatView) (s : SeatView) → all ≡ seats ++ s ∷ [] → 0 < count_by (λ (s : SeatView). s.ended) seats → 0 < count_by (λ (s : SeatView). s.ended) all
 still_ended all seats s e some = let sum = sum_pop (λ (s : SeatView). cond {A = ℕ} s.ended 1 0) all seats s e in omega arith

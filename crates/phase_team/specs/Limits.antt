@@ -1,4 +1,4 @@
--- How large teams, batches and lattices are.
+-- How large teams and batches are.
 use Rattle.std.specs.Prelude.{ℕ}
 
 -- how many workers a team has at most: `MOST_WORKERS`
@@ -8,7 +8,3 @@ most_workers = 16
 -- how many phases a strip can make alone: `AT_ONCE`
 abbrev pub most_phases : ℕ
 most_phases = 64
-
--- how many rows of tiles a lattice has at most
-abbrev pub most_rows : ℕ
-most_rows = 64

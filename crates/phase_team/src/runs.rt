@@ -160,7 +160,8 @@ fn share(strips: &[Strip], cells: &mut Plane) -> Flow
     ensures sides { HasSidesOf cells.new cells.old }
     ensures lattice { IsLattice cells.new }
     ensures shared { (batch : Batch) (lattice : Cells) → HasSidesOf cells.old lattice →
-        AreDone batch lattice strips.now → All (λ s. IsAhead (after_batch batch lattice) cells.new s.own s.cells) strips.now }
+        AreDone batch lattice strips.now →
+        All (λ s. IsAhead (after_batch batch lattice) cells.new s.own s.cells) strips.now }
     ensures flow { (batch : Batch) (lattice : Cells) → HasSidesOf cells.old lattice →
         AreDone batch lattice strips.now → result ≡ flow_of batch lattice }
 {
@@ -253,9 +254,11 @@ pub fn run_by<R: Threads, A: Action>(
     requires walls { HasSidesOf run.solids.now.walls particles.old }
     requires obstacles { HasSidesOf run.solids.now.obstacles particles.old }
     ensures particles { let r = run.entry in
-        particles.new ≡ after_all (dynamics r.parity r.solids.now (A.leaves r.action.now)) particles.old r.n }
+        let d = dynamics r.parity r.solids.now (A.leaves r.action.now) in
+        particles.new ≡ after_all d particles.old r.n }
     ensures flow { let r = run.entry in
-        result ≡ flow_counted counted (flow_all (dynamics r.parity r.solids.now (A.leaves r.action.now)) particles.old r.n) }
+        let d = dynamics r.parity r.solids.now (A.leaves r.action.now) in
+        result ≡ flow_counted counted (flow_all d particles.old r.n) }
 {
     let mut flow = Flow::ZERO;
     let mut done = 0;
