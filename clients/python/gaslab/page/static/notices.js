@@ -52,8 +52,7 @@ let rows = null;           // rows of one seat that came one after the other: { 
 
 export function addRow(kind, ...cells) {
   const log = at("log"), stays = log.scrollHeight - log.scrollTop - log.clientHeight < 40;
-  const row = h("div", { className: kind },
-    cells.map(([text, name]) => h("span", { className: name }, text)));
+  const row = h(`div.${kind}`, cells.map(([text, name]) => h(`span.${name}`, text)));
   rows = null;
   log.append(row);
   while (log.childElementCount > KEPT) log.firstChild.remove();
@@ -83,8 +82,8 @@ export function entryOf(who, line, reply) {
 }
 
 export function last(who, line, reply) {
-  fill(at("last"), h("span.label", who), h("span.sent", line),
-    h("span", { className: isRefusal(reply) ? "err" : "ok" }, short(reply, 46)));
+  const kind = isRefusal(reply) ? "err" : "ok";
+  fill(at("last"), h("span.label", who), h("span.sent", line), h(`span.${kind}`, short(reply, 46)));
 }
 
 /** Shows lines that were sent together: of many the first two and the last. */

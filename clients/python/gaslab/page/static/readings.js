@@ -11,7 +11,7 @@ const GATE = 64;           // particles up to which a gas may be a gate
 const signed = (n) => n > 0 ? `+${say(n)}` : say(n);
 
 for (const name of [...ROWS.map(([it]) => it), "balance"])
-  at("ledger").append(h("tr", { className: name === "balance" ? "sum" : "" }, h("th", { scope: "row" }, name),
+  at("ledger").append(h(name === "balance" ? "tr.sum" : "tr", h("th", { scope: "row" }, name),
     h("td"), h("td"), h("td")));
 
 function showNumbers({ tick, tally }) {
