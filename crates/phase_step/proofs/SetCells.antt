@@ -1,6 +1,5 @@
 -- Cells of a tile that are filled or emptied, and how many change.
-use Rattle.std.proofs.Common.{◌≡◌, ℕ, zero, suc, ◌+◌, ◌-◌, ◌*◌, ◌/◌, ◌%◌, ◌^◌, ◌<◌, ◌≤◌, ◌==◌, ◌&&◌, not, ◌||◌, min, nat_le, nat_lt, Bool, true, false, List, get_or, if◌then◌else◌, refl, sym, ◌∙◌, ap, ap₂, arith}
-use Rattle.std.proofs.lemmas.Bool.Decides.{nat_tests}
+use Rattle.std.proofs.Common.{◌≡◌, ℕ, zero, suc, ◌+◌, ◌*◌, ◌/◌, ◌%◌, ◌^◌, ◌<◌, ◌≤◌, ◌==◌, ◌&&◌, not, ◌||◌, nat_le, nat_lt, Bool, true, false, List, get_or, if◌then◌else◌, refl, sym, ◌∙◌, ap, ap₂, arith}
 use Rattle.std.specs.Int.RustNames.{count_ones}
 use Rattle.bit_tile.specs.Bit.{bit}
 use Rattle.bit_tile.specs.Sums.{sum_below, count_below}

@@ -1,5 +1,5 @@
 -- What comes and goes in one tile.
-use Rattle.std.proofs.Common.{◌≡◌, ℕ, ◌+◌, ◌*◌, ◌/◌, ◌%◌, ◌<◌, ◌≤◌, ◌==◌, ◌&&◌, not, Bool, false, cond, List, [], ◌∷◌, get_or, refl, sym, ◌∙◌, ap, ap₂, arith, ℤ}
+use Rattle.std.proofs.Common.{◌≡◌, ℕ, ◌+◌, ◌*◌, ◌/◌, ◌%◌, ◌<◌, ◌==◌, ◌&&◌, not, Bool, false, cond, List, [], ◌∷◌, refl, sym, ◌∙◌, ap, ap₂, arith, ℤ}
 use Rattle.bit_tile.specs.Tile as tile
 use Rattle.bit_tile.specs.Tile.{HasCells, count_cells}
 use Rattle.bit_tile.specs.declared.Tile.{Tile}

@@ -1,4 +1,4 @@
-use Rattle.std.proofs.Common.{◌*◌, ◌/◌, ◌≤◌, sym, subst, refl, arith}
+use Rattle.std.proofs.Common.{◌*◌, ◌/◌, ◌≤◌, sym, subst, arith}
 use Rattle.phase_step.specs.Parts.{HasRun}
 use Rattle.phase_step.specs.WholeRuns.{dynamics}
 use Rattle.phase_step.specs.declared.parts.Part.{Part}

@@ -1,4 +1,4 @@
-use Rattle.std.proofs.Common.{◌≡◌, ℕ, ◌+◌, ◌-◌, ◌*◌, ◌/◌, ◌∙◌, ap, ap₂, sym, subst, pos, arith}
+use Rattle.std.proofs.Common.{◌≡◌, ℕ, ◌+◌, ◌-◌, ◌*◌, ◌/◌, ◌∙◌, ap, sym, subst, pos, arith}
 use Rattle.gas_terms.specs.Cells.{Cells, extent, tile_count, tile_rectangle}
 use Rattle.gas_plane.proofs.PlaneCounts.{few_tiles}
 use Rattle.std.proofs.Math.Nat.{mod-lt, zero-div}

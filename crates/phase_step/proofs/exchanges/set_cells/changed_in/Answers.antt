@@ -1,4 +1,4 @@
-use Rattle.std.proofs.Common.{◌&&◌, not, ◌∙◌, ap, arith}
+use Rattle.std.proofs.Common.{◌&&◌, ◌∙◌, ap, arith}
 use Rattle.bit_tile.specs.Bit.{bit}
 use Rattle.bit_tile.proofs.Bits.{bit-and}
 use Rattle.bit_tile.proofs.Words32.{bit-not}

@@ -1,4 +1,4 @@
-use Rattle.std.proofs.Common.{◌≡◌, ℕ, ◌+◌, ◌<◌, ◌&&◌, if◌then◌else◌, take}
+use Rattle.std.proofs.Common.{◌+◌, ◌&&◌, if◌then◌else◌, take}
 use Rattle.bit_tile.specs.Tile.{has, HasCells}
 use Rattle.phase_step.specs.Counts.{AreTileCounts, changes}
 use Rattle.phase_step.specs.Exchanges.{is_set}

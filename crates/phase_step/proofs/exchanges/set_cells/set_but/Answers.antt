@@ -1,4 +1,4 @@
-use Rattle.std.proofs.Common.{◌+◌, ◌&&◌, not, if◌then◌else◌, ap, sym, ◌∙◌}
+use Rattle.std.proofs.Common.{◌+◌, ◌&&◌, not, ap, sym, ◌∙◌}
 use Rattle.bit_tile.specs.Tile.{has}
 use Rattle.gas_terms.specs.Cells.{is_inside}
 use Rattle.phase_step.specs.Counts.{changes}

@@ -1,4 +1,4 @@
-use Rattle.std.proofs.Common.{◌≡◌, ℕ, Bool, false, not, ◌&&◌, ◌<◌, ◌+◌, ◌^◌, ◌∙◌, if◌then◌else◌, refl, sym, ap, ap₂, get_or, length, length-set, arith}
+use Rattle.std.proofs.Common.{◌≡◌, ℕ, Bool, false, not, ◌&&◌, ◌<◌, ◌^◌, ◌∙◌, if◌then◌else◌, refl, sym, ap, ap₂, get_or, length-set, arith}
 use Rattle.std.proofs.lemmas.Grind.{common_steps}
 use Rattle.std.proofs.lemmas.Nat.{ones-le}
 use Rattle.bit_tile.specs.Bit.{bit}
