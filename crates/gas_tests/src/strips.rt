@@ -144,7 +144,10 @@ fn strips_are_put_together(rt: HostRuntime) {
         let mut now = seeded(&rt, size, 88172645463325252, 1);
         let mut spare = seeded(&rt, size, 1, 1);
         by_strips(&rt, workers, run, &Still, &mut now, &mut spare);
-        expect_that(&rt, have_same_rows(&spare, &left) && have_same_rows(&now, &alone));
+        expect_that(
+            &rt,
+            have_same_rows(&spare, &left) && have_same_rows(&now, &alone),
+        );
     }
 }
 

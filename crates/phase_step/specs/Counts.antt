@@ -6,7 +6,8 @@ use Rattle.phase_step.specs.declared.sums.change.Change.{Change}
 
 -- the counts of a tile's cells that pass the test: even column and even row, odd and even, even and odd, odd and odd
 pub record AreTileCounts (counts : List ℕ) (test : ℕ → ℕ → Bool) : Type 0 where
-  pub count : (a b : ℕ) → a < 2 → b < 2 → slice_index counts (2 * b + a) ≡ count_cells (λ x y. test x y && x % 2 == a && y % 2 == b)
+  pub count : (a b : ℕ) → a < 2 → b < 2 → slice_index counts (2 * b + a)
+      ≡ count_cells (λ x y. test x y && x % 2 == a && y % 2 == b)
   pub few : (k : ℕ) → k < 4 → slice_index counts k ≤ 2048
 
 -- the sums of particles that come in and go out, by such counts

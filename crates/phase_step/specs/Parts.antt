@@ -42,7 +42,8 @@ pub record IsPlaced (part : Part) (cells lattice : Cells) : Type 0 where
 
 -- The part's rows are the lattice's, but for k rows at either end if it has margins.
 pub record HasRows (part : Part) (cells lattice : Cells) (k : ℕ) : Type 0 where
-  pub row : (x y : ℕ) → x < lattice.width → part.margin * k ≤ y → y + part.margin * k < cells.height → has cells x y ≡ has lattice x (row_in part y)
+  pub row : (x y : ℕ) → x < lattice.width → part.margin * k ≤ y
+      → y + part.margin * k < cells.height → has cells x y ≡ has lattice x (row_in part y)
 
 -- the same of one tile of a part of this size, and of the lattice after a phase of parity p
 abbrev pub IsTileOf : Part → ℕ → Cells → Cells → Cells → Cells → ℕ → ℕ → Tile → Type 0
@@ -80,7 +81,8 @@ pub record IsPartOf (part : Part) (walls obstacles cells lattice : Cells) (k : �
 
 -- A phase of parity p turned a part of each lattice that it is a part of, and took this in its own tiles.
 pub record IsTurned (part : Part) (p : ℕ) (counted : Counted) (walls obstacles old new : Cells) (answer : Took) : Type 0 where
-  pub rows : (lattice : Cells) (k : ℕ) → IsPartOf part walls obstacles old lattice k → IsPartOf part walls obstacles new (streamed p lattice (joined walls obstacles)) (k + 1)
+  pub rows : (lattice : Cells) (k : ℕ) → IsPartOf part walls obstacles old lattice k
+      → IsPartOf part walls obstacles new (streamed p lattice (joined walls obstacles)) (k + 1)
   pub took : (lattice : Cells) (k : ℕ) → IsPartOf part walls obstacles old lattice k → part.margin * k ≤ 64 → answer ≡ counted_of counted (own_take part p old lattice walls obstacles)
 
 -- and of some lattice, so that the part's own rows are not spoilt

@@ -26,7 +26,8 @@ pub record HaveAllTiles (set : Cells) (told : List ℕ) (words : List TileBlocks
 -- and they name the blocks that have a cell of the set
 pub record AreBlocksOf (set : Cells) (told : List ℕ) (words : List TileBlocks) : Type 0 where
   pub all : HaveAllTiles set told words
-  pub each : (i : ℕ) → i < tile_count set → NamesBlocks (slice_index told i) (blocks_at words i) (is_walled_in set i)
+  pub each : (i : ℕ) → i < tile_count set
+      → NamesBlocks (slice_index told i) (blocks_at words i) (is_walled_in set i)
 
 -- the walled blocks of tile i: those that have a wall, and those that have an obstacle
 pub record AreTileSolids (walls obstacles : Cells) (i : ℕ) (tile_solids : TileSolids) : Type 0 where
@@ -42,9 +43,12 @@ HasNoBlocks set = (i : ℕ) → i < tile_count set → (p : ℕ) → p < 2 → H
 -- the sets differ in a rectangle alone
 pub record DifferIn (area : Rectangle) (before now : Cells) : Type 0 where
   pub sides : HasSidesOf before now
-  pub outside : (x y : ℕ) → x < now.width → y < now.height → is_inside area x y ≡ false → has before x y ≡ has now x y
+  pub outside : (x y : ℕ) → x < now.width → y < now.height → is_inside area x y ≡ false
+      → has before x y ≡ has now x y
 
 -- the words of the tiles below n are those of the set as it is now, and the others those of the set as it was before
 pub record AreRenewedUpTo (n : ℕ) (before now : Cells) (told : List ℕ) (words : List TileBlocks) : Type 0 where
-  pub done : (i : ℕ) → i < n → i < tile_count now → NamesBlocks (slice_index told i) (blocks_at words i) (is_walled_in now i)
-  pub rest : (i : ℕ) → n ≤ i → i < tile_count now → NamesBlocks (slice_index told i) (blocks_at words i) (is_walled_in before i)
+  pub done : (i : ℕ) → i < n → i < tile_count now
+      → NamesBlocks (slice_index told i) (blocks_at words i) (is_walled_in now i)
+  pub rest : (i : ℕ) → n ≤ i → i < tile_count now
+      → NamesBlocks (slice_index told i) (blocks_at words i) (is_walled_in before i)
