@@ -11,7 +11,7 @@ use Rattle.std.proofs.lemmas.Bool.{cases_eq}
 use Rattle.block_rule.specs.Shown.{TellsRows}
 use Rattle.block_rule.specs.NamedBlocks.{AreOddBlocksOf}
 use Rattle.block_rule.specs.TileBlocks.{NamesBlocks}
-use Rattle.block_rule.specs.declared.collide_odd.OddBlocks.{OddBlocks}
+use Rattle.block_rule.specs.declared.blocks_in_tile.OddBlocks.{OddBlocks}
 use Rattle.block_rule.proofs.NamedBlocks.{even_blocks_are, odd_start, even_start, row_start}
 
 -- a word that tells of the rows of two sets of cells

@@ -1,9 +1,9 @@
 -- What is put back in walled blocks, and what it gives.
-use Rattle.std.proofs.Common.{◌≡◌, ℕ, zero, suc, ◌+◌, ◌-◌, ◌*◌, ◌/◌, ◌%◌, ◌^◌, ◌<◌, ◌≤◌, Bool, true, false, not, ◌&&◌, ◌||◌, if◌then◌else◌, List, get_or, sym, ◌∙◌, ap, ap₂, arith, bit_and, bit_or}
+use Rattle.std.proofs.Common.{◌≡◌, ℕ, ◌+◌, ◌-◌, ◌*◌, ◌/◌, ◌%◌, ◌^◌, ◌<◌, ◌≤◌, Bool, true, false, not, ◌&&◌, ◌||◌, if◌then◌else◌, List, get_or, sym, ◌∙◌, ap, ap₂, arith, bit_and}
 use Rattle.std.specs.Prelude.{pos, ◌-ℤ◌, ℤ}
 use Rattle.std.proofs.lemmas.Int.{ints}
 use mir.Val.{to_z, of_z}
-use Rattle.std.specs.Int.{bit_not, w32, w64}
+use Rattle.std.specs.Int.{w64}
 use Rattle.std.specs.Int.RustNames.{count_ones}
 use Rattle.std.proofs.lemmas.Nat.{and_le_l}
 use Rattle.std.proofs.lemmas.Bool.{cases_eq, eq-eqb, ne_eqb, and_right}
@@ -11,32 +11,23 @@ use Rattle.bit_tile.specs.Bit.{bit}
 use Rattle.bit_tile.specs.Sums.{sum_below, count_below}
 use Rattle.bit_tile.specs.Tile.{has, HasCells}
 use Rattle.bit_tile.specs.declared.Tile.{Tile}
-use Rattle.bit_tile.proofs.Bits.{bit-zero, bit-and, bit-or, bit-shr, bit_of_low}
-use Rattle.bit_tile.proofs.Words32.{bit-not}
-use Rattle.bit_tile.proofs.Sums.{sum_below-more, sum_below-same, count_below-same, count_below-none}
+use Rattle.bit_tile.proofs.Bits.{bit-zero, bit-and, bit-shr, bit_of_low}
+use Rattle.bit_tile.proofs.Sums.{sum_below-more, sum_below-same, count_below-same}
 use Rattle.bit_tile.proofs.Counts.{class_count, ones_of_two}
-use Rattle.bit_tile.proofs.Classes.{IsClass, is_even_even, is_odd_even, is_even_odd, is_odd_odd}
+use Rattle.bit_tile.proofs.Classes.{IsClass}
 use Rattle.gas_terms.specs.declared.accounts.Pair.{Pair}
 use Rattle.block_rule.specs.Accounts.{if_counted, counted_of}
 use Rattle.block_rule.specs.declared.walled.Counted.{Counted}
 use Rattle.block_rule.specs.Around.{block_start, turned, none, either, is_walled_at, is_for_walls, twice_momentum, taken}
 use Rattle.block_rule.specs.Cell.{turned_cell, turned_at, made}
-use Rattle.block_rule.specs.Classes.{class, AreCounts, TellsWords}
+use Rattle.block_rule.specs.Classes.{class, AreCounts}
 use Rattle.block_rule.specs.Rows.{ShowsTile}
-use Rattle.block_rule.specs.Shown.{HasNoCell, TellsRows}
+use Rattle.block_rule.specs.Shown.{HasNoCell}
 use Rattle.block_rule.specs.declared.count.Classes.{Classes}
 use Rattle.block_rule.proofs.Around.{turned_by_cells, walled_from, walled_by_cells}
 use Rattle.block_rule.proofs.Blank.{walled_either}
 use Rattle.gas_terms.specs.declared.accounts.Took.{Took}
 use Rattle.block_rule.proofs.Took.{pair, twice_momentum-same, twice_momentum-none, pair_same, accounts_same, right_count, left_count, down_count, up_count}
-
--- `(old & solid) | (new & !solid)`
-pub held_word : (old new solid i : ℕ) → solid < 2 ^ 32 → i < 32 → bit (bit_or (bit_and old solid) (bit_and new (bit_not w32 solid))) i ≡ (if bit solid i then bit old i else bit new i)
-held_word old new solid i fits within = grind (arith, bit-or, bit-and, bit-not)
-
--- a row without places
-none_among : (row places : ℕ) → ((i : ℕ) → i < 32 → bit places i ≡ false) → count_below 32 (λ i. bit row i && bit places i) ≡ 0
-none_among row places none = count_below-same 32 _ (λ _. false) (λ i h. and_right (bit row i) (bit places i) (none i h)) ∙ count_below-none 32
 
 -- how many of a row's cells are in places
 abbrev pub among : List ℕ → List ℕ → ℕ → ℕ
@@ -48,18 +39,8 @@ pub ones_among : (cells there : ℕ) (old places : List ℕ) (j : ℕ) → cells
 ones_among cells there old places j fits first second first_there second_there = grind (arith, ones_of_two, and_le_l, bit-and)
 
 -- those of two rows more
-pub rows_more : (old places : List ℕ) (n more j next before : ℕ) → n + before ≡ sum_below j (among old places) → more ≡ among old places j + among old places (j + 1) → next ≡ j + 1 + 1 → n + more + before ≡ sum_below next (among old places)
-rows_more old places n more j next before so_far here e = grind (arith, sum_below-more)
-
-no_row_more : (old places : List ℕ) (j : ℕ) → ((i : ℕ) → i < 32 → bit (get_or places j 0) i ≡ false) → sum_below (j + 1) (among old places) ≡ sum_below j (among old places)
-no_row_more old places j e = omega (arith, none_among (get_or old j 0) (get_or places j 0) e, sum_below-more j (among old places))
-
--- rows without places
-pub no_rows_more : (old places : List ℕ) (from n : ℕ) → ((i k : ℕ) → i < 32 → from ≤ k → k < from + n → bit (get_or places k 0) i ≡ false) → sum_below (from + n) (among old places) ≡ sum_below from (among old places)
-no_rows_more old places from zero none = ap (λ m. sum_below m (among old places)) (omega arith)
-no_rows_more old places from (suc n) none =
-    ap (λ m. sum_below m (among old places)) (let e : from + suc n ≡ from + n + 1 = omega arith in e)
-    ∙ (no_row_more old places (from + n) (λ i h. none i (from + n) h (omega arith) (omega arith)) ∙ no_rows_more old places from n (λ i k h low high. none i k h low (omega arith)))
+pub rows_more : (old places : List ℕ) (n more j : ℕ) → n ≡ sum_below j (among old places) → more ≡ among old places j + among old places (j + 1) → n + more ≡ sum_below (j + 1 + 1) (among old places)
+rows_more old places n more j so_far here = grind (arith, sum_below-more)
 
 -- rows of which a word tells nothing
 pub not_told : (rows from n : ℕ) → rows / 2 ^ from % 2 ^ n ≡ 0 → (j : ℕ) → from ≤ j → j < from + n → bit rows j ≡ false
@@ -110,23 +91,6 @@ turned_of_both p tile free out window walls obstacles shows is_free is_out = gri
 pub walled_places : (p : ℕ) (t : Tile) (window : ℕ → ℕ → Bool) → HasCells t (λ x y. walled_from p window x y) → HasCells t (is_walled_at p window)
 walled_places p t window is x y h k = is x y h k ∙ sym (walled_by_cells p window x y)
 
--- a word that tells of a tile's rows tells of those of its classes
-module _ (t : Tile) (rows : ℕ) (told : TellsRows rows (has t)) where
-  untold : (p q i j : ℕ) → p < 2 → q < 2 → i < 32 → j < 32 → bit rows j ≡ false → has t (2 * i + p) (2 * j + q) ≡ false
-  untold p q i j p_two q_two h k e = grind arith
-
-  pub told_even_even : TellsWords rows t.even_even
-  told_even_even i j h k e = is_even_even t i j h k ∙ untold 0 0 i j (omega arith) (omega arith) h k e
-
-  pub told_odd_even : TellsWords rows t.odd_even
-  told_odd_even i j h k e = is_odd_even t i j h k ∙ untold 1 0 i j (omega arith) (omega arith) h k e
-
-  pub told_even_odd : TellsWords rows t.even_odd
-  told_even_odd i j h k e = is_even_odd t i j h k ∙ untold 0 1 i j (omega arith) (omega arith) h k e
-
-  pub told_odd_odd : TellsWords rows t.odd_odd
-  told_odd_odd i j h k e = is_odd_odd t i j h k ∙ untold 1 1 i j (omega arith) (omega arith) h k e
-
 -- what is put back of them, and what is taken
 pub took_at : (p : ℕ) (tile places : Tile) (test : ℕ → ℕ → Bool) → HasCells places test → twice_momentum p (λ x y. has tile x y && has places x y) ≡ twice_momentum p (λ x y. has tile x y && test x y)
 took_at p tile places test is_places = twice_momentum-same p _ _ (λ x y h k. ap (λ b. has tile x y && b) (is_places x y h k))
@@ -165,7 +129,6 @@ block_begins x = grind (arith, cases_eq, eq-eqb, ne_eqb)
 pub same_block : (x : ℕ) → block_start 0 (2 * (x / 2)) ≡ block_start 0 x
 same_block x = block_begins (2 * (x / 2)) ∙ (let e : 2 * (2 * (x / 2) / 2) + 1 ≡ 2 * (x / 2) + 1 = omega arith in e ∙ sym (block_begins x))
 
--- a tile of which the rule spares the blocks that these words name
-pub turned_of_spared : (window solid : ℕ → ℕ → Bool) (words : List ℕ) (out : Tile) → ((i j : ℕ) → i < 32 → j < 32 → bit (get_or words j 0) i ≡ is_walled_at 0 solid (2 * i) (2 * j))
-    → HasCells out (λ x y. turned_at 0 window (bit (get_or words (y / 2) 0) (x / 2)) x y) → HasCells out (turned 0 window solid)
-turned_of_spared window solid words out named is x y h k = grind (arith, same_block, turned_by_cells)
+-- a tile of which the rule spares walled blocks
+pub turned_of_spared : (window solid : ℕ → ℕ → Bool) (out : Tile) → HasCells out (λ x y. turned_at 0 window (is_walled_at 0 solid (2 * (x / 2)) (2 * (y / 2))) x y) → HasCells out (turned 0 window solid)
+turned_of_spared window solid out is x y h k = grind (arith, same_block, turned_by_cells)

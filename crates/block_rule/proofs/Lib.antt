@@ -1,6 +1,7 @@
 pub mod Words
 pub mod Around
 pub mod Windows
+pub mod EvenRows
 pub mod Took
 pub mod Blank
 pub mod Holding

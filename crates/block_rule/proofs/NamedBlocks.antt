@@ -1,5 +1,5 @@
 -- The walled blocks of a tile at odd parity.
-use Rattle.std.proofs.Common.{◌≡◌, refl, ◌⊎◌, ℕ, ◌+◌, ◌-◌, ◌*◌, ◌/◌, ◌%◌, ◌<◌, ◌≤◌, Bool, true, false, not, ◌&&◌, ◌||◌, length, get_or, set, sym, subst, ◌∙◌, ap, ap₂, arith, inl, inr, List, Option, Some, None, bit_or, rules}
+use Rattle.std.proofs.Common.{◌≡◌, refl, ◌⊎◌, ℕ, ◌+◌, ◌-◌, ◌*◌, ◌/◌, ◌%◌, ◌<◌, ◌≤◌, Bool, true, false, not, ◌&&◌, ◌||◌, length, get_or, set, sym, subst, ◌∙◌, ap, ap₂, arith, inl, inr, List, Option, Some, None, bit_or}
 use Rattle.std.proofs.lemmas.Bool.{cases_eq, eq-eqb, ne_eqb}
 use Rattle.bit_tile.specs.Bit.{bit}
 use Rattle.bit_tile.specs.Tile.{has, HasCells}
@@ -8,11 +8,11 @@ use Rattle.block_rule.specs.Around.{block_start, either, is_block_walled, is_for
 use Rattle.block_rule.specs.Cell.{made, turned_cell}
 use Rattle.bit_tile.proofs.Bits.{bit-zero, bit-or}
 use Rattle.bit_tile.proofs.Classes.{IsClass, by_class, is_even_even, is_odd_even, is_even_odd, is_odd_odd}
-use Rattle.block_rule.specs.Classes.{AreCounts, TellsWords, particles_among}
+use Rattle.block_rule.specs.Classes.{AreCounts, particles_among}
 use Rattle.block_rule.specs.Shown.{HasNoCell, TellsRows}
 use Rattle.block_rule.proofs.Blank.{walled_either}
-use Rattle.block_rule.specs.NamedBlocks.{rule_among, AreMadeUpTo, NameBlocks, IsCollidedOdd, AreEvenBlocksOf, AreOddBlocksOf}
-use Rattle.block_rule.specs.declared.collide_odd.OddBlocks.{OddBlocks}
+use Rattle.block_rule.specs.NamedBlocks.{rule_among, AreMadeUpTo, NameBlocks, NameEvenBlocks, IsCollidedOdd, AreEvenBlocksOf, AreOddBlocksOf}
+use Rattle.block_rule.specs.declared.blocks_in_tile.OddBlocks.{OddBlocks}
 use Rattle.block_rule.specs.TileBlocks.{NamesBlocks, AreGivenBlocks}
 use Rattle.block_rule.specs.declared.blocks_in_tile.SetBlocks.{SetBlocks}
 use Rattle.block_rule.proofs.Holding.{same_block, class_among}
@@ -45,12 +45,13 @@ neither : (w o : Bool) → (w && not o) ≡ false → o ≡ false → false ≡ 
 neither w o h3 h4 = grind arith
 
 -- where no block is walled
-pub none_named : (out : Tile) (window walled obstructed : ℕ → ℕ → Bool) → HasNoCell (is_for_walls 1 walled obstructed) → HasNoCell (is_walled_at 1 obstructed) → ((solid : ℕ → ℕ → Bool) → NameBlocks (λ _. 0) (λ _. 0) solid → HasCells out (turned 1 window solid))
+pub none_named : (out : Tile) (window walled obstructed : ℕ → ℕ → Bool) → HasNoCell (is_for_walls 1 walled obstructed) → HasNoCell (is_walled_at 1 obstructed) → ((solid : ℕ → ℕ → Bool) → NameBlocks (λ _. 0) (λ _. 0) solid → TellsRows 0 (is_walled_at 1 solid) → HasCells out (turned 1 window solid))
     → HasCells out (turned 1 window (either walled obstructed))
 none_named out window walled obstructed no_walls no_obstacles is =
     let none : (x y : ℕ) → x < 64 → y < 64 → false ≡ is_walled_at 1 (either walled obstructed) x y = λ x y h k. neither (is_walled_at 1 walled x y) (is_walled_at 1 obstructed x y) (no_walls x y h k) (no_obstacles x y h k) ∙ sym (walled_either 1 walled obstructed x y) in
     is (either walled obstructed)
     (named_by_cells (λ _. 0) (λ _. 0) (either walled obstructed) (λ i k h below. bit-zero i ∙ none (2 * i + 1) (2 * k - 1) (omega arith) (omega arith)) (λ i k h below. bit-zero i ∙ none (2 * i + 0) (2 * k - 1) (omega arith) (omega arith)))
+    (λ x y h k e. sym (none x y h k))
 
 module _ (begins ends : ℕ → ℕ) (solid : ℕ → ℕ → Bool) (are : NameBlocks begins ends solid) where
   begin_at : (i k x y : ℕ) → i < 32 → k < 33 → block_start 1 x ≡ 2 * i + 2 → block_start 1 y ≡ 2 * k → bit (begins k) i ≡ is_walled_at 1 solid x y
@@ -82,36 +83,48 @@ pub turned_of_rows : (window solid : ℕ → ℕ → Bool) (out : Tile) → HasC
 turned_of_rows window solid out is x y h k = is x y h k ∙ sym (turned_by_cells 1 window (is_walled_at 1 solid x y) x y)
 
 -- before the first
-pub none_made : (begins ends : ℕ → ℕ) (t left right out : Tile) → AreMadeUpTo 0 begins ends t left right out
-none_made begins ends t left right out window solid shown named j below inside = absurd (omega arith)
+pub none_made : (told : ℕ) (begins ends : ℕ → ℕ) (t left right out : Tile) → AreMadeUpTo 0 told begins ends t left right out
+none_made told begins ends t left right out window solid shown named tells j below inside = absurd (omega arith)
+
+-- rows of which a word tells that no block is walled
+collided_alike : (a b c d : ℕ) (window : ℕ → ℕ → Bool) (y : ℕ) (new : Blocks) → ((i : ℕ) → i < 32 → bit a i ≡ bit c i) → ((i : ℕ) → i < 32 → bit b i ≡ bit d i) → IsCollidedOdd a b window y new → IsCollidedOdd c d window y new
+collided_alike a b c d window y new first last is = grind arith
+
+pub free_odd : (told j : ℕ) (begins ends : ℕ → ℕ) (solid window : ℕ → ℕ → Bool) (new : Blocks) → j < 32 → bit told j ≡ false → NameBlocks begins ends solid → TellsRows told (is_walled_at 1 solid) → IsCollidedOdd 0 0 window (2 * j + 2) new → IsCollidedOdd (begins (j + 1)) (ends (j + 1)) window (2 * j + 2) new
+free_odd told j begins ends solid window new below none named tells =
+    let half : (2 * j + 1) / 2 ≡ j = omega arith in
+    let free : (x : ℕ) → x < 64 → is_walled_at 1 solid x (2 * j + 1) ≡ false = λ x h. tells x (2 * j + 1) h (omega arith) (ap (bit told) half ∙ none) in
+    collided_alike 0 0 (begins (j + 1)) (ends (j + 1)) window (2 * j + 2) new
+    (λ i h. bit-zero i ∙ sym (begin_at begins ends solid named i (j + 1) (2 * i + 1) (2 * j + 1) h (omega arith) (odd_start i) (odd_start j ∙ omega arith) ∙ free (2 * i + 1) (omega arith)))
+    (λ i h. bit-zero i ∙ sym (end_at begins ends solid named i (j + 1) (2 * i + 0) (2 * j + 1) h (omega arith) (even_start i) (odd_start j ∙ omega arith) ∙ free (2 * i + 0) (omega arith)))
 
 -- eight rows more
-pub eight_made : (n from to : ℕ) (begins ends : ℕ → ℕ) (t left right old new : Tile) (rows : EightRows) → from ≤ n → from ≤ 23 → to ≤ 32 → (to ≡ from + 8) ⊎ (from ≡ 23)
-    → ((window : ℕ → ℕ → Bool) → ShowsInnerRows window t left right → (k : ℕ) → k < 8 → IsCollidedOdd (begins (from + k + 1)) (ends (from + k + 1)) window (2 * (from + k) + 2) (eight_row rows k))
+pub eight_made : (n from to told : ℕ) (begins ends : ℕ → ℕ) (t left right old new : Tile) (rows : EightRows) → from ≤ n → from ≤ 23 → to ≤ 32 → (to ≡ from + 8) ⊎ (from ≡ 23)
+    → ((window solid : ℕ → ℕ → Bool) → ShowsInnerRows window t left right → NameBlocks begins ends solid → TellsRows told (is_walled_at 1 solid) → (k : ℕ) → k < 8 → IsCollidedOdd (begins (from + k + 1)) (ends (from + k + 1)) window (2 * (from + k) + 2) (eight_row rows k))
     → ((k : ℕ) → k < 8 → odd_row new (from + k) ≡ eight_row rows k)
     → ((j : ℕ) → (j < from) ⊎ (from + 8 ≤ j) → (get_or new.odd_odd j 0 ≡ get_or old.odd_odd j 0) × (get_or new.even_odd j 0 ≡ get_or old.even_odd j 0))
     → ((j : ℕ) → (j ≤ from) ⊎ (from + 8 < j) → (get_or new.odd_even j 0 ≡ get_or old.odd_even j 0) × (get_or new.even_even j 0 ≡ get_or old.even_even j 0))
-    → AreMadeUpTo n begins ends t left right old → AreMadeUpTo to begins ends t left right new
-eight_made n from to begins ends t left right old new rows low few small reach made written upper_rest lower_rest before window solid shown named j below inside =
+    → AreMadeUpTo n told begins ends t left right old → AreMadeUpTo to told begins ends t left right new
+eight_made n from to told begins ends t left right old new rows low few small reach made written upper_rest lower_rest before window solid shown named tells j below inside =
     let rule = rule_among solid in
     let here : j < from + 8 = elim reach [ inl e ↦ omega arith | inr e ↦ omega arith ] in
     let row : (m : ℕ) → from ≤ m → m < from + 8 → AreMadeOdd rule window m (odd_row new m) =
     λ m h k.
     let at : from + (m - from) ≡ m = omega arith in
-    let is = row_named begins ends solid named window (from + (m - from)) (eight_row rows (m - from)) (omega arith) (made window shown (m - from) (omega arith)) in
+    let is = row_named begins ends solid named window (from + (m - from)) (eight_row rows (m - from)) (omega arith) (made window solid shown named tells (m - from) (omega arith)) in
     subst (λ x. AreMadeOdd rule window x (odd_row new x)) at (subst (AreMadeOdd rule window (from + (m - from))) (sym (written (m - from) (omega arith))) is)
     in
     record {
-      upper = uppers_more rule window old new from (from + 8) (λ m h. (before window solid shown named m (omega arith) (omega arith)).upper) row upper_rest j here;
-      lower = lowers_more rule window old new from (from + 8) (λ m h. (before window solid shown named m (omega arith) (omega arith)).lower) row lower_rest j here;
+      upper = uppers_more rule window old new from (from + 8) (λ m h. (before window solid shown named tells m (omega arith) (omega arith)).upper) row upper_rest j here;
+      lower = lowers_more rule window old new from (from + 8) (λ m h. (before window solid shown named tells m (omega arith) (omega arith)).lower) row lower_rest j here;
     }
 
 -- a tile of whose rows all are made
-pub tile_made : (n : ℕ) (begins ends : ℕ → ℕ) (t left right out : Tile) (ul ur ll lr : ℕ) (window solid : ℕ → ℕ → Bool) → 31 ≤ n → 31 < length out.odd_odd → 31 < length out.even_odd → AreMadeUpTo n begins ends t left right out → ShowsInnerRows window t left right
-    → NameBlocks begins ends solid → get_or out.odd_even 0 0 ≡ ll → get_or out.even_even 0 0 ≡ lr
+pub tile_made : (n told : ℕ) (begins ends : ℕ → ℕ) (t left right out : Tile) (ul ur ll lr : ℕ) (window solid : ℕ → ℕ → Bool) → 31 ≤ n → 31 < length out.odd_odd → 31 < length out.even_odd → AreMadeUpTo n told begins ends t left right out → ShowsInnerRows window t left right
+    → NameBlocks begins ends solid → TellsRows told (is_walled_at 1 solid) → get_or out.odd_even 0 0 ≡ ll → get_or out.even_even 0 0 ≡ lr
     → AreLower (λ i. turned_cell (bit (begins 0) i)) (λ i. turned_cell (bit (ends 0) i)) window 0 ll lr → AreUpper (λ i. turned_cell (bit (begins 32) i)) (λ i. turned_cell (bit (ends 32) i)) window 64 ul ur
     → HasCells (record { even_even = out.even_even; odd_even = out.odd_even; even_odd = set out.even_odd 31 ur; odd_odd = set out.odd_odd 31 ul }) (turned 1 window solid)
-tile_made n begins ends t left right out ul ur ll lr window solid all odd_long even_long made shown named odd_top even_top at_top at_bottom =
+tile_made n told begins ends t left right out ul ur ll lr window solid all odd_long even_long made shown named tells odd_top even_top at_top at_bottom =
     let rule = rule_among solid in
     let top = lower_named begins ends solid named window 0 (2 * 0 + 0) 0 ll lr (omega arith) (even_start 0) at_top in
     let last : block_start 1 (2 * 31 + 1) ≡ 2 * 32 = odd_start 31 in
@@ -121,12 +134,12 @@ tile_made n begins ends t left right out ul ur ll lr window solid all odd_long e
     (λ j h.
     elim (cases_eq j 31) [
       | inl e ↦ upper_end rule window out.odd_odd out.even_odd ul ur j e odd_long even_long bottom
-      | inr ne ↦ upper_inner _ _ window (2 * j + 2) out.odd_odd out.even_odd ul ur j ne (made window solid shown named j (omega arith) (omega arith)).upper
+      | inr ne ↦ upper_inner _ _ window (2 * j + 2) out.odd_odd out.even_odd ul ur j ne (made window solid shown named tells j (omega arith) (omega arith)).upper
     ])
     (λ j h.
     elim (cases_eq j 0) [
       | inl e ↦ rw (e, odd_top, even_top) top
-      | inr some ↦ lower_next rule window out _ _ j some refl refl (made window solid shown named (j - 1) (omega arith) (omega arith)).lower
+      | inr some ↦ lower_next rule window out _ _ j some refl refl (made window solid shown named tells (j - 1) (omega arith) (omega arith)).lower
     ]))
 
 -- what is given of the words of a set
@@ -146,10 +159,6 @@ for_walls_all p walled obstructed x y none = and_true (is_walled_at p walled x y
     and_true true o e = ap not (sym e)
     and_true false o e = refl
 
--- a word that tells of a set's rows tells of those of a part of it
-pub tells_cells : (rows : ℕ) (t : Tile) (all part : ℕ → ℕ → Bool) → TellsRows rows all → ((x y : ℕ) → x < 64 → y < 64 → all x y ≡ false → part x y ≡ false) → HasCells t part → TellsRows rows (has t)
-tells_cells rows t all part told within are x y h k e = are x y h k ∙ within x y h k (told x y h k e)
-
 -- the cells in blocks that words name
 even_begins : (i p : ℕ) → p < 2 → block_start 0 (2 * i) ≡ block_start 0 (2 * i + p)
 even_begins i p h = let half : (2 * i + p) / 2 ≡ i = omega arith in ap (λ i. block_start 0 (2 * i)) (sym half) ∙ same_block (2 * i + p)
@@ -157,21 +166,17 @@ even_begins i p h = let half : (2 * i + p) / 2 ≡ i = omega arith in ap (λ i. 
 pub even_class : (words : List ℕ) (window : ℕ → ℕ → Bool) → AreEvenBlocksOf words (is_walled_at 0 window) → (p q : ℕ) → p < 2 → q < 2 → IsClass words p q (is_walled_at 0 window)
 even_class words window are p q p_two q_two i j h k = are i j h k ∙ ap₂ (is_block_walled window) (even_begins i p p_two) (even_begins j q q_two)
 
--- the words of a class, of which rows are told
-pub tells_class : (rows : ℕ) (words : List ℕ) (p q : ℕ) (test : ℕ → ℕ → Bool) → p < 2 → q < 2 → TellsRows rows test → IsClass words p q test → TellsWords rows words
-tells_class rows words p q test p_two q_two told is i j h k e = grind arith
-
-pub counted_among : (t : Tile) (rows : ℕ) (ee oe eo oo : List ℕ) (test : ℕ → ℕ → Bool) (a b c d : ℕ) → TellsRows rows test → IsClass ee 0 0 test → IsClass oe 1 0 test → IsClass eo 0 1 test → IsClass oo 1 1 test
-    → (TellsWords rows ee → a ≡ particles_among t.even_even ee 32) → (TellsWords rows oe → b ≡ particles_among t.odd_even oe 32) → (TellsWords rows eo → c ≡ particles_among t.even_odd eo 32) → (TellsWords rows oo → d ≡ particles_among t.odd_odd oo 32)
+pub counted_among : (t : Tile) (ee oe eo oo : List ℕ) (test : ℕ → ℕ → Bool) (a b c d : ℕ) → IsClass ee 0 0 test → IsClass oe 1 0 test → IsClass eo 0 1 test → IsClass oo 1 1 test
+    → a ≡ particles_among t.even_even ee 32 → b ≡ particles_among t.odd_even oe 32 → c ≡ particles_among t.even_odd eo 32 → d ≡ particles_among t.odd_odd oo 32
     → AreCounts (record { even_even = a; odd_even = b; even_odd = c; odd_odd = d }) (λ x y. has t x y && test x y)
-counted_among t rows ee oe eo oo test a b c d told is_ee is_oe is_eo is_oo count_ee count_oe count_eo count_oo =
+counted_among t ee oe eo oo test a b c d is_ee is_oe is_eo is_oo count_ee count_oe count_eo count_oo =
     let zero : 0 < 2 = omega arith in
     let one : 1 < 2 = omega arith in
     record {
-      even_even = class_among t.even_even ee 0 0 a (has t) test zero zero (is_even_even t) is_ee (count_ee (tells_class rows ee 0 0 test zero zero told is_ee));
-      odd_even = class_among t.odd_even oe 1 0 b (has t) test one zero (is_odd_even t) is_oe (count_oe (tells_class rows oe 1 0 test one zero told is_oe));
-      even_odd = class_among t.even_odd eo 0 1 c (has t) test zero one (is_even_odd t) is_eo (count_eo (tells_class rows eo 0 1 test zero one told is_eo));
-      odd_odd = class_among t.odd_odd oo 1 1 d (has t) test one one (is_odd_odd t) is_oo (count_oo (tells_class rows oo 1 1 test one one told is_oo));
+      even_even = class_among t.even_even ee 0 0 a (has t) test zero zero (is_even_even t) is_ee count_ee;
+      odd_even = class_among t.odd_even oe 1 0 b (has t) test one zero (is_odd_even t) is_oe count_oe;
+      even_odd = class_among t.even_odd eo 0 1 c (has t) test zero one (is_even_odd t) is_eo count_eo;
+      odd_odd = class_among t.odd_odd oo 1 1 d (has t) test one one (is_odd_odd t) is_oo count_oo;
     }
 
 -- the words of the classes at odd parity
@@ -209,9 +214,27 @@ pub both_named : (walls obstacles : OddBlocks) (walled obstructed : ℕ → ℕ 
     → NameBlocks (λ k. bit_or (get_or walls.begin k 0) (get_or obstacles.begin k 0)) (λ k. bit_or (get_or walls.end k 0) (get_or obstacles.end k 0)) (either walled obstructed)
 both_named walls obstacles walled obstructed of_walls of_obstacles = grind (arith, named_by_cells, either_named)
 
-pub both_even : (walls obstacles words : List ℕ) (walled obstructed : ℕ → ℕ → Bool) → ((j : ℕ) → j < 32 → get_or words j 0 ≡ bit_or (get_or walls j 0) (get_or obstacles j 0)) → AreEvenBlocksOf walls (is_walled_at 0 walled) → AreEvenBlocksOf obstacles (is_walled_at 0 obstructed)
-    → AreEvenBlocksOf words (is_walled_at 0 (either walled obstructed))
-both_even walls obstacles words walled obstructed are of_walls of_obstacles i j h k = grind (arith, either_named)
+pub both_even : (walls obstacles : List ℕ) (walled obstructed : ℕ → ℕ → Bool) → AreEvenBlocksOf walls (is_walled_at 0 walled) → AreEvenBlocksOf obstacles (is_walled_at 0 obstructed)
+    → NameEvenBlocks (λ j. bit_or (get_or walls j 0) (get_or obstacles j 0)) (either walled obstructed)
+both_even walls obstacles walled obstructed of_walls of_obstacles i j h k = grind (arith, either_named)
+
+-- a word that tells in which rows blocks lie
+pub tells_alike : (rows : ℕ) (some other : ℕ → ℕ → Bool) → ((x y : ℕ) → x < 64 → y < 64 → some x y ≡ other x y) → TellsRows rows some → TellsRows rows other
+tells_alike rows some other same told x y h k e = sym (same x y h k) ∙ told x y h k e
+
+-- and those of two sets
+pub tells_either : (p rows others : ℕ) (walled obstructed : ℕ → ℕ → Bool) → TellsRows rows (is_walled_at p walled) → TellsRows others (is_walled_at p obstructed) → TellsRows (bit_or rows others) (is_walled_at p (either walled obstructed))
+tells_either p rows others walled obstructed first second x y h k e =
+    walled_either p walled obstructed x y ∙ both_false _ _ (first x y h k (or_false_left _ _ (sym (bit-or rows others (y / 2)) ∙ e))) (second x y h k (or_false_right _ _ (sym (bit-or rows others (y / 2)) ∙ e)))
+  where
+    both_false : (a b : Bool) → a ≡ false → b ≡ false → (a || b) ≡ false
+    both_false a b e f = grind arith
+
+    or_false_left : (a b : Bool) → (a || b) ≡ false → a ≡ false
+    or_false_left a b e = grind arith
+
+    or_false_right : (a b : Bool) → (a || b) ≡ false → b ≡ false
+    or_false_right a b e = grind arith
 
 -- the words of cells for even parity
 pub even_blocks_are : (cells : Tile) (test : ℕ → ℕ → Bool) → HasCells cells test → AreEvenBlocksOf cells.even_even test

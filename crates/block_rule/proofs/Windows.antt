@@ -48,17 +48,6 @@ module _ (window : ℕ → ℕ → Bool) (t : Tile) (shows : ShowsTile window t)
 pub same_blocks : (a b c d e f g h : ℕ) → a ≡ e → b ≡ f → c ≡ g → d ≡ h → (let r : Blocks = record { upper_left = a; upper_right = b; lower_left = c; lower_right = d } in r) ≡ record { upper_left = e; upper_right = f; lower_left = g; lower_right = h }
 same_blocks a b c d e f g h p q r s = rw (p, q, r, s)
 
--- a loop writes row j of even blocks
-pub even_row_more : (cell : ℕ → ℕ → Bool → Bool → Bool → Bool → Bool) (tile out : Tile) (new : Blocks) (j : ℕ) → j < length out.even_even → j < length out.odd_even → j < length out.even_odd → j < length out.odd_odd →
-    ((k : ℕ) → k < j → IsMade (cell k) (even_row tile k) (even_row out k)) → IsMade (cell j) (even_row tile j) new → (k : ℕ) → k < j + 1 →
-    IsMade (cell k) (even_row tile k) (even_row (record { even_even = set out.even_even j new.upper_left; odd_even = set out.odd_even j new.upper_right; even_odd = set out.even_odd j new.lower_left; odd_odd = set out.odd_odd j new.lower_right }) k)
-even_row_more cell tile out new j ee oe eo oo before here k below = grind (arith, cases_eq, get_or-set_same, get_or-set_other)
-
--- and leaves the rows after it
-pub even_row_rest : (tile : Tile) (new : Blocks) (j k : ℕ) → j + 1 ≤ k →
-    even_row (record { even_even = set tile.even_even j new.upper_left; odd_even = set tile.odd_even j new.upper_right; even_odd = set tile.even_odd j new.lower_left; odd_odd = set tile.odd_odd j new.lower_right }) k ≡ even_row tile k
-even_row_rest tile new j k later = grind (arith, same_blocks, get_or-set_other)
-
 -- the even blocks' cells: the rule is that of block x / 2 of row y / 2
 pub even_cells : (cell : ℕ → ℕ → Bool → Bool → Bool → Bool → Bool) (window : ℕ → ℕ → Bool) (tile out : Tile) → ShowsTile window tile → ((k : ℕ) → k < 32 → IsMade (cell k) (even_row tile k) (even_row out k)) → HasCells out (λ x y. made (cell (y / 2) (x / 2)) 0 window x y)
 even_cells cell window tile out shows done =

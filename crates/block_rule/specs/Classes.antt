@@ -1,4 +1,4 @@
-use Rattle.std.specs.Prelude.{false, ◌≡◌, ℕ, ◌+◌, ◌%◌, ◌<◌, ◌≤◌, ◌==◌, Bool, ◌&&◌, List, slice_index}
+use Rattle.std.specs.Prelude.{◌≡◌, ℕ, ◌%◌, ◌≤◌, ◌==◌, Bool, ◌&&◌, List, slice_index}
 use Rattle.bit_tile.specs.Bit.{bit}
 use Rattle.bit_tile.specs.Sums.{sum_below, count_below}
 use Rattle.bit_tile.specs.Tile.{count_cells}
@@ -25,11 +25,3 @@ pub record AreCounts (c : Classes) (cells : ℕ → ℕ → Bool) : Type 0 where
 -- how many of a class's cells in its first n rows are in places
 abbrev pub particles_among : List ℕ → List ℕ → ℕ → ℕ
 particles_among old places n = sum_below n (λ j. count_below 32 (λ i. bit (slice_index old j) i && bit (slice_index places j) i))
-
--- there are n of them in the rows from `from` up to `to`
-abbrev pub AreParticlesIn : ℕ → ℕ → List ℕ → List ℕ → ℕ → Type 0
-AreParticlesIn from to old places n = n + particles_among old places from ≡ particles_among old places to
-
--- a word tells in which rows of a class its cells lie
-abbrev pub TellsWords : ℕ → List ℕ → Type 0
-TellsWords rows class = (i j : ℕ) → i < 32 → j < 32 → bit rows j ≡ false → bit (slice_index class j) i ≡ false

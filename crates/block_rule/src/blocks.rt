@@ -39,15 +39,6 @@ pub trait Rule: Copy {
         ensures { IsMade (λ _. cell self) old result };
 }
 
-/// The new cells of a row, but the old ones in these places.
-#[inline(always)]
-pub fn kept(old: u32, places: u32, new: u32) -> u32
-    ensures { (i : ℕ) → i < 32 →
-        bit result i ≡ (if bit places i then bit old i else bit new i) }
-{
-    (old & places) | (new & !places)
-}
-
 /// The collision of HPP's four channels in a row of blocks. Blocks whose bit is set in `walled` keep their cells.
 #[inline]
 pub fn collided(old: Blocks, walled: u32) -> Blocks

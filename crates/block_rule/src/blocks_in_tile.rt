@@ -8,10 +8,17 @@ ghost use Rattle.block_rule.specs.TileBlocks.{NamesBlocks, walled_by};
 
 use crate::Window;
 use crate::blocks::AnyCorner;
-use crate::collide_odd::OddBlocks;
 use crate::made::{made_inner, made_odd, make_even};
 use crate::named::odd_cells;
 use crate::odd_rows::{bottom_row, top_row};
+
+/// Blocks of a tile at odd parity: words for the row of blocks at its top, those that begin in its odd rows 0 to 30, and the one at
+/// its bottom. Bit i of a word stands for the block that begins in odd column i, or that ends in even column i.
+#[derive(Clone, Copy)]
+pub struct OddBlocks {
+    pub begin: [u32; 33],
+    pub end: [u32; 33],
+}
 
 /// Words that name blocks of a tile, of both parities. Bit i of word k of `even` stands for the block at its columns 2 * i and
 /// 2 * i + 1 and its rows 2 * k and 2 * k + 1.

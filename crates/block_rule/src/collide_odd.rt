@@ -1,107 +1,18 @@
 //! The collision at odd parity, among walled blocks or where there are none.
 
 ghost use Rattle.std.specs.Prelude.{◌≡◌, ℕ, ◌+◌, ◌*◌, ◌<◌, ◌≤◌, ◌⊎◌, Bool, slice_index};
-ghost use Rattle.std.specs.Int.Bits.{bit_or};
 ghost use Rattle.bit_tile.specs.Tile.{HasCells};
-ghost use Rattle.block_rule.specs.Around.{turned};
+ghost use Rattle.block_rule.specs.Around.{turned, is_walled_at};
+ghost use Rattle.block_rule.specs.Shown.{TellsRows};
 ghost use Rattle.block_rule.specs.NamedBlocks.{NameBlocks, IsCollidedOdd, AreMadeUpTo};
 ghost use Rattle.block_rule.specs.Rows.{ShowsTile, ShowsAllRound, ShowsInnerRows, ShowsOddRow, eight_row};
 
 use crate::blocks::{Blocks, EightRows, collided, next, previous};
 use crate::made::write_eight;
 use crate::odd_rows::{OddRow, bottom_row, inner_row, top_row};
+use crate::walled::{NoBlocks, Walled, bits_from};
 use bit_tile::Tile;
 use tile_border::Round;
-
-/// Blocks of a tile at odd parity: words for the row of blocks at its top, those that begin in its odd rows 0 to 30, and the one at
-/// its bottom. Bit i of a word stands for the block that begins in odd column i, or that ends in even column i.
-#[derive(Clone, Copy)]
-pub struct OddBlocks {
-    pub begin: [u32; 33],
-    pub end: [u32; 33],
-}
-
-/// The walled blocks of a tile at odd parity, as words like those of `OddBlocks`: of no set, of one or of two.
-pub trait Walled: Copy {
-    ghost begins: { Self → ℕ → ℕ };
-
-    ghost ends: { Self → ℕ → ℕ };
-
-    fn begin(self, k: usize) -> u32
-        requires { k < 33 }
-        ensures { result ≡ begins self k };
-
-    fn end(self, k: usize) -> u32
-        requires { k < 33 }
-        ensures { result ≡ ends self k };
-}
-
-/// No block is walled.
-#[derive(Clone, Copy)]
-pub struct NoBlocks;
-
-impl Walled for NoBlocks {
-    ghost begins = { λ _ _. 0 };
-
-    ghost ends = { λ _ _. 0 };
-
-    #[inline]
-    fn begin(self, _k: usize) -> u32 {
-        0
-    }
-
-    #[inline]
-    fn end(self, _k: usize) -> u32 {
-        0
-    }
-}
-
-/// The blocks of one set are walled.
-#[derive(Clone, Copy)]
-pub struct OfOne<'a> {
-    pub set: &'a OddBlocks,
-}
-
-impl<'a> Walled for OfOne<'a> {
-    ghost begins = { λ b k. slice_index b.set.now.begin k };
-
-    ghost ends = { λ b k. slice_index b.set.now.end k };
-
-    #[inline]
-    fn begin(self, k: usize) -> u32 {
-        self.set.begin[k]
-    }
-
-    #[inline]
-    fn end(self, k: usize) -> u32 {
-        self.set.end[k]
-    }
-}
-
-/// The blocks of two sets are walled.
-#[derive(Clone, Copy)]
-pub struct OfBoth<'a> {
-    pub walls: &'a OddBlocks,
-    pub obstacles: &'a OddBlocks,
-}
-
-impl<'a> Walled for OfBoth<'a> {
-    ghost begins = { λ b k.
-        bit_or (slice_index b.walls.now.begin k) (slice_index b.obstacles.now.begin k) };
-
-    ghost ends = { λ b k.
-        bit_or (slice_index b.walls.now.end k) (slice_index b.obstacles.now.end k) };
-
-    #[inline]
-    fn begin(self, k: usize) -> u32 {
-        self.walls.begin[k] | self.obstacles.begin[k]
-    }
-
-    #[inline]
-    fn end(self, k: usize) -> u32 {
-        self.walls.end[k] | self.obstacles.end[k]
-    }
-}
 
 // A row of odd blocks. Bit i of `begin` and `end` is set if the block is walled that begins in odd column i, or that ends in even
 // column i.
@@ -138,7 +49,7 @@ fn collided_odd(row: OddRow, begin: u32, end: u32) -> Blocks
 }
 
 // The eight rows of odd blocks that begin in the tile's odd rows from `from` on.
-#[inline]
+#[inline(always)]
 fn collided_eight<W: Walled>(
     walled: W,
     tile: &Tile,
@@ -160,8 +71,10 @@ fn collided_eight<W: Walled>(
     };
     for k in 0..8usize {
         let j = from + k;
+        let begin = walled.begin(j + 1);
+        let end = walled.end(j + 1);
         let row = inner_row(tile, left, right, j);
-        let made = collided_odd(row, walled.begin(j + 1), walled.end(j + 1));
+        let made = collided_odd(row, begin, end);
         rows.upper_left[k] = made.upper_left;
         rows.upper_right[k] = made.upper_right;
         rows.lower_left[k] = made.lower_left;
@@ -175,14 +88,18 @@ fn collided_eight<W: Walled>(
 fn collide_eight<W: Walled>(walled: W, tile: &Tile, near: &Round, from: usize, out: &mut Tile)
     requires { from < 24 }
     ensures made { (n to : ℕ) → from ≤ n → to ≤ 32 → (to ≡ from + 8) ⊎ (from ≡ 23) →
-        AreMadeUpTo n (W.begins walled) (W.ends walled) tile.now
+        AreMadeUpTo n (W.told walled) (W.begins walled) (W.ends walled) tile.now
         near.now.left.now near.now.right.now out.old →
-        AreMadeUpTo to (W.begins walled) (W.ends walled) tile.now
+        AreMadeUpTo to (W.told walled) (W.begins walled) (W.ends walled) tile.now
         near.now.left.now near.now.right.now out.new }
     ensures top { (slice_index out.new.odd_even 0 ≡ slice_index out.old.odd_even 0) ×
         (slice_index out.new.even_even 0 ≡ slice_index out.old.even_even 0) }
 {
-    let rows = collided_eight(walled, tile, near.left, near.right, from);
+    let rows = if bits_from(walled.rows(), from, 8) == 0 {
+        collided_eight(NoBlocks, tile, near.left, near.right, from)
+    } else {
+        collided_eight(walled, tile, near.left, near.right, from)
+    };
     write_eight(&rows, from, out);
 }
 
@@ -192,6 +109,7 @@ fn collide_eight<W: Walled>(walled: W, tile: &Tile, near: &Round, from: usize, o
 pub fn collide_odd<W: Walled>(walled: W, tile: &Tile, round: &Round, out: &mut Tile)
     ensures { (window solid : ℕ → ℕ → Bool) → ShowsTile window tile.now →
         ShowsAllRound window round.now → NameBlocks (W.begins walled) (W.ends walled) solid →
+        TellsRows (W.told walled) (is_walled_at 1 solid) →
         HasCells out.new (turned 1 window solid) }
 {
     // the references are read once

@@ -1,47 +1,23 @@
 //! The momentum of particles in given places, by their counts.
 
 ghost use Rattle.std.specs.Prelude.{◌≡◌, ℕ, ◌+◌, ◌*◌, ◌<◌, ◌≤◌, ◌&&◌, Bool, false, slice_index, pos, ◌-ℤ◌};
-ghost use Rattle.bit_tile.specs.Bit.{bit};
 ghost use Rattle.bit_tile.specs.Tile.{has};
 ghost use Rattle.block_rule.specs.Around.{twice_momentum};
-ghost use Rattle.block_rule.specs.Shown.{TellsRows};
-ghost use Rattle.block_rule.specs.Classes.{HasAtMost, AreCounts, AreParticlesIn, TellsWords, particles_among};
+ghost use Rattle.block_rule.specs.Classes.{HasAtMost, AreCounts, particles_among};
 
-use crate::walled::{CellMask, bits_from};
 use bit_tile::{Tile, joined};
 use gas_terms::Pair;
 
-// rows of a class that are looked at together
-const TOGETHER: usize = 8;
-
-// How many old cells there are in these places, two rows at a time.
-#[inline]
-fn count_rows(old: &[u32; 32], places: &[u32; 32], from: usize) -> u32
-    requires { from + 8 ≤ 32 }
-    ensures count { AreParticlesIn from (from + 8) old.now places.now result }
-    ensures bound { result ≤ 256 }
-{
-    let mut n = 0;
-    for k in 0..TOGETHER / 2 {
-        let j = from + 2 * k;
-        n += (joined(old[j], old[j + 1]) & joined(places[j], places[j + 1])).count_ones();
-    }
-    n
-}
-
-/// How many of a class's cells there are in these places, in the rows that the word tells of.
-#[inline]
-pub fn count_class(cells: &[u32; 32], places: &[u32; 32], rows: u32) -> u32
-    ensures count { TellsWords rows places.now →
-        result ≡ particles_among cells.now places.now 32 }
+/// How many of a class's cells there are in these places.
+pub fn count_class(cells: &[u32; 32], places: &[u32; 32]) -> u32
+    ensures count { result ≡ particles_among cells.now places.now 32 }
     ensures bound { result ≤ 1024 }
 {
     let mut n = 0;
-    for k in 0..4usize {
-        let from = k * TOGETHER;
-        if bits_from(rows, from, TOGETHER as u32) != 0 {
-            n += count_rows(cells, places, from);
-        }
+    // two rows at a time
+    for k in 0..16usize {
+        let j = 2 * k;
+        n += (joined(cells[j], cells[j + 1]) & joined(places[j], places[j + 1])).count_ones();
     }
     n
 }
@@ -89,17 +65,15 @@ pub fn momentum(counts: Classes, parity: u8) -> Pair
 }
 
 /// Twice the momentum of a tile's particles in these places.
-pub fn momentum_in(tile: &Tile, places: CellMask<'_>, parity: u8) -> Pair
+pub fn momentum_in(tile: &Tile, places: &Tile, parity: u8) -> Pair
     requires { parity < 2 }
-    ensures { let p = places.entry in TellsRows p.rows (has p.cells.now) →
-        result ≡ twice_momentum parity (λ x y. has tile.now x y && has p.cells.now x y) }
+    ensures { result ≡ twice_momentum parity (λ x y. has tile.now x y && has places.now x y) }
 {
-    let CellMask { cells, rows } = places;
     let counts = Classes {
-        even_even: count_class(&tile.even_even, &cells.even_even, rows),
-        odd_even: count_class(&tile.odd_even, &cells.odd_even, rows),
-        even_odd: count_class(&tile.even_odd, &cells.even_odd, rows),
-        odd_odd: count_class(&tile.odd_odd, &cells.odd_odd, rows),
+        even_even: count_class(&tile.even_even, &places.even_even),
+        odd_even: count_class(&tile.odd_even, &places.odd_even),
+        even_odd: count_class(&tile.even_odd, &places.even_odd),
+        odd_odd: count_class(&tile.odd_odd, &places.odd_odd),
     };
     momentum(counts, parity)
 }

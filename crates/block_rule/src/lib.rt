@@ -6,6 +6,7 @@
 
 mod blocks;
 mod blocks_in_tile;
+mod collide_even;
 mod collide_odd;
 mod count;
 pub mod laws;
@@ -16,8 +17,7 @@ mod one_tile;
 mod walled;
 
 use bit_tile::Tile;
-pub use blocks_in_tile::{SetBlocks, TileBlocks, tile_blocks};
-pub use collide_odd::OddBlocks;
+pub use blocks_in_tile::{OddBlocks, SetBlocks, TileBlocks, tile_blocks};
 pub use named::{turn_tile_even, turn_tile_odd};
 pub use one_tile::{turn_block, turn_tile};
 use tile_border::Round;

@@ -1,12 +1,11 @@
 //! Applies a rule to all blocks of a tile, at even and at odd parity.
 
 ghost use Rattle.std.specs.Prelude.{◌≡◌, ℕ, ◌+◌, ◌*◌, ◌/◌, ◌<◌, ◌≤◌, ◌⊎◌, Bool, slice_index};
-ghost use Rattle.bit_tile.specs.Bit.{bit};
 ghost use Rattle.bit_tile.specs.Tile.{HasCells};
-ghost use Rattle.block_rule.specs.Cell.{made, turned_at};
+ghost use Rattle.block_rule.specs.Cell.{made};
 ghost use Rattle.block_rule.specs.Rows.{ShowsTile, ShowsAllRound, ShowsOddRow, ShowsInnerRows, IsMadeOdd, AreMadeOdd, odd_row, eight_row};
 
-use crate::blocks::{Blocks, EightRows, Rule, collided, next, previous};
+use crate::blocks::{Blocks, EightRows, Rule, next, previous};
 use crate::odd_rows::{OddRow, inner_row};
 use bit_tile::Tile;
 
@@ -23,27 +22,6 @@ pub fn make_even<R: Rule>(rule: R, tile: &mut Tile)
             lower_left: tile.even_odd[j],
             lower_right: tile.odd_odd[j],
         });
-        tile.even_even[j] = new.upper_left;
-        tile.odd_even[j] = new.upper_right;
-        tile.even_odd[j] = new.lower_left;
-        tile.odd_odd[j] = new.lower_right;
-    }
-}
-
-/// The collision at even parity. Bit i of word j of `walled` stands for block i of row j. Walled blocks keep their cells.
-#[inline(always)]
-pub fn collide_even(walled: &[u32; 32], tile: &mut Tile)
-    ensures { (window : ℕ → ℕ → Bool) → ShowsTile window tile.old → HasCells tile.new (λ x y.
-        turned_at 0 window (bit (slice_index walled.now (y / 2)) (x / 2)) x y) }
-{
-    for j in 0..32usize {
-        let old = Blocks {
-            upper_left: tile.even_even[j],
-            upper_right: tile.odd_even[j],
-            lower_left: tile.even_odd[j],
-            lower_right: tile.odd_odd[j],
-        };
-        let new = collided(old, walled[j]);
         tile.even_even[j] = new.upper_left;
         tile.odd_even[j] = new.upper_right;
         tile.even_odd[j] = new.lower_left;

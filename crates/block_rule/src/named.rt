@@ -11,34 +11,27 @@ ghost use Rattle.block_rule.specs.TileBlocks.{NamesBlocks, AreGivenBlocks, walle
 
 use crate::Window;
 use crate::blocks::Collision;
-use crate::blocks_in_tile::SetBlocks;
-use crate::collide_odd::{NoBlocks, OddBlocks, OfBoth, OfOne, collide_odd};
+use crate::blocks_in_tile::{OddBlocks, SetBlocks};
+use crate::collide_even::collide_even;
+use crate::collide_odd::collide_odd;
 use crate::count::{Classes, count_class, momentum, momentum_in};
-use crate::made::{collide_even, make_even};
-use crate::walled::{CellMask, Counted};
+use crate::made::make_even;
+use crate::walled::{Counted, NoBlocks, OfBoth, OfOne};
 use bit_tile::Tile;
 use gas_terms::{Pair, Took};
 
 // the first 32 of these words
-fn first_words(words: &[u32; 33]) -> [u32; 32]
-    ensures { (j : ℕ) → j < 32 → slice_index result j ≡ slice_index words.now j }
+fn first_words(words: &[u32; 33]) -> &[u32; 32]
+    ensures { (j : ℕ) → j < 32 → slice_index result.now j ≡ slice_index words.now j }
 {
-    let mut first = [0; 32];
-    for j in 0..32usize {
-        first[j] = words[j];
-    }
-    first
+    words.first_chunk().unwrap()
 }
 
 // and the last 32
-fn last_words(words: &[u32; 33]) -> [u32; 32]
-    ensures { (j : ℕ) → j < 32 → slice_index result j ≡ slice_index words.now (j + 1) }
+fn last_words(words: &[u32; 33]) -> &[u32; 32]
+    ensures { (j : ℕ) → j < 32 → slice_index result.now j ≡ slice_index words.now (j + 1) }
 {
-    let mut last = [0; 32];
-    for j in 0..32usize {
-        last[j] = words[j + 1];
-    }
-    last
+    words.last_chunk().unwrap()
 }
 
 // the tile's cells in the blocks of even parity
@@ -60,10 +53,10 @@ pub fn odd_cells(words: &OddBlocks) -> Tile
         HasCells result (is_walled_at 1 window) }
 {
     Tile {
-        even_even: first_words(&words.end),
-        odd_even: first_words(&words.begin),
-        even_odd: last_words(&words.end),
-        odd_odd: last_words(&words.begin),
+        even_even: *first_words(&words.end),
+        odd_even: *first_words(&words.begin),
+        even_odd: *last_words(&words.end),
+        odd_odd: *last_words(&words.begin),
     }
 }
 
@@ -82,48 +75,45 @@ fn cells_in(set: SetBlocks<'_>, parity: u8) -> Tile
 }
 
 // Twice the momentum of a tile's particles in blocks that words name, of even parity.
-fn momentum_even(tile: &Tile, rows: u32, words: &[u32; 32]) -> Pair
+fn momentum_even(tile: &Tile, words: &[u32; 32]) -> Pair
     ensures { (window : ℕ → ℕ → Bool) → AreEvenBlocksOf words.now (is_walled_at 0 window) →
-        TellsRows rows (is_walled_at 0 window) →
         result ≡ twice_momentum 0 (λ x y. has tile.now x y && is_walled_at 0 window x y) }
 {
     let counts = Classes {
-        even_even: count_class(&tile.even_even, words, rows),
-        odd_even: count_class(&tile.odd_even, words, rows),
-        even_odd: count_class(&tile.even_odd, words, rows),
-        odd_odd: count_class(&tile.odd_odd, words, rows),
+        even_even: count_class(&tile.even_even, words),
+        odd_even: count_class(&tile.odd_even, words),
+        even_odd: count_class(&tile.even_odd, words),
+        odd_odd: count_class(&tile.odd_odd, words),
     };
     momentum(counts, 0)
 }
 
 // and of odd parity
-fn momentum_odd(tile: &Tile, rows: u32, words: &OddBlocks) -> Pair
+fn momentum_odd(tile: &Tile, words: &OddBlocks) -> Pair
     ensures { (window : ℕ → ℕ → Bool) → AreOddBlocksOf words.now (is_walled_at 1 window) →
-        TellsRows rows (is_walled_at 1 window) →
         result ≡ twice_momentum 1 (λ x y. has tile.now x y && is_walled_at 1 window x y) }
 {
     let counts = Classes {
-        even_even: count_class(&tile.even_even, &first_words(&words.end), rows),
-        odd_even: count_class(&tile.odd_even, &first_words(&words.begin), rows),
-        even_odd: count_class(&tile.even_odd, &last_words(&words.end), rows),
-        odd_odd: count_class(&tile.odd_odd, &last_words(&words.begin), rows),
+        even_even: count_class(&tile.even_even, first_words(&words.end)),
+        odd_even: count_class(&tile.odd_even, first_words(&words.begin)),
+        even_odd: count_class(&tile.even_odd, last_words(&words.end)),
+        odd_odd: count_class(&tile.odd_odd, last_words(&words.begin)),
     };
     momentum(counts, 1)
 }
 
-// Twice the momentum of a tile's particles in blocks with an obstacle.
+// Twice the momentum of a tile's particles in blocks with a cell of the set.
 #[inline(never)]
-fn momentum_by_obstacles(tile: &Tile, obstacles: SetBlocks<'_>, parity: u8) -> Pair
+fn momentum_by_set(tile: &Tile, set: SetBlocks<'_>, parity: u8) -> Pair
     requires { parity < 2 }
-    ensures { (obstructed : ℕ → ℕ → Bool) →
-        NamesBlocks obstacles.entry.rows obstacles.entry.blocks.now (walled_by obstructed) →
-        result ≡ twice_momentum parity
-        (λ x y. has tile.now x y && is_walled_at parity obstructed x y) }
+    ensures { (window : ℕ → ℕ → Bool) →
+        NamesBlocks set.entry.rows set.entry.blocks.now (walled_by window) →
+        result ≡ twice_momentum parity (λ x y. has tile.now x y && is_walled_at parity window x y) }
 {
     if parity == 0 {
-        momentum_even(tile, obstacles.rows, &obstacles.blocks.even)
+        momentum_even(tile, &set.blocks.even)
     } else {
-        momentum_odd(tile, obstacles.rows, &obstacles.blocks.odd)
+        momentum_odd(tile, &set.blocks.odd)
     }
 }
 
@@ -132,20 +122,19 @@ fn momentum_by_obstacles(tile: &Tile, obstacles: SetBlocks<'_>, parity: u8) -> P
 fn momentum_by_walls(
     tile: &Tile,
     walls: SetBlocks<'_>,
-    obstacles: Option<SetBlocks<'_>>,
+    obstacles: SetBlocks<'_>,
     parity: u8,
 ) -> Pair
     requires { parity < 2 }
     ensures { (walled obstructed : ℕ → ℕ → Bool) →
         NamesBlocks walls.entry.rows walls.entry.blocks.now (walled_by walled) →
-        AreGivenBlocks obstacles.entry (walled_by obstructed) →
+        NamesBlocks obstacles.entry.rows obstacles.entry.blocks.now (walled_by obstructed) →
         result ≡ twice_momentum parity
         (λ x y. has tile.now x y && is_for_walls parity walled obstructed x y) }
 {
-    let cells = without(cells_in(walls, parity), obstacles, parity);
-    let rows = walls.rows;
-    let cells = &cells;
-    momentum_in(tile, CellMask { cells, rows }, parity)
+    let mut cells = cells_in(walls, parity);
+    cells.cut(&cells_in(obstacles, parity));
+    momentum_in(tile, &cells, parity)
 }
 
 // These, if they are counted.
@@ -165,7 +154,7 @@ fn taken_by_obstacles(
         return Pair::ZERO;
     }
     match obstacles {
-        Some(obstacles) => momentum_by_obstacles(tile, obstacles, parity),
+        Some(obstacles) => momentum_by_set(tile, obstacles, parity),
         None => Pair::ZERO,
     }
 }
@@ -188,26 +177,10 @@ fn taken_by_walls(
     if !counted {
         return Pair::ZERO;
     }
-    match walls {
-        Some(walls) => momentum_by_walls(tile, walls, obstacles, parity),
-        None => Pair::ZERO,
-    }
-}
-
-// the cells that are in no block with an obstacle
-fn without(cells: Tile, obstacles: Option<SetBlocks<'_>>, parity: u8) -> Tile
-    requires { parity < 2 }
-    ensures { (walled obstructed : ℕ → ℕ → Bool) → HasCells cells (is_walled_at parity walled) →
-        AreGivenBlocks obstacles.entry (walled_by obstructed) →
-        HasCells result (is_for_walls parity walled obstructed) }
-{
-    match obstacles {
-        Some(obstacles) => {
-            let mut left = cells;
-            left.cut(&cells_in(obstacles, parity));
-            left
-        }
-        None => cells,
+    match (walls, obstacles) {
+        (None, _) => Pair::ZERO,
+        (Some(walls), None) => momentum_by_set(tile, walls, parity),
+        (Some(walls), Some(obstacles)) => momentum_by_walls(tile, walls, obstacles, parity),
     }
 }
 
@@ -229,31 +202,6 @@ fn taken_among(
         walls: taken_by_walls(tile, walls, obstacles, parity, counted.walls),
         obstacles: taken_by_obstacles(tile, obstacles, parity, counted.obstacles),
     }
-}
-
-// The collision at even parity among the blocks of one set.
-#[inline(never)]
-fn collide_even_among(words: &[u32; 32], tile: &mut Tile)
-    ensures { (window solid : ℕ → ℕ → Bool) → ShowsTile window tile.old →
-        AreEvenBlocksOf words.now (is_walled_at 0 solid) →
-        HasCells tile.new (turned 0 window solid) }
-{
-    collide_even(words, tile);
-}
-
-// and of two
-#[inline(never)]
-fn collide_even_of_both(walls: &[u32; 32], obstacles: &[u32; 32], tile: &mut Tile)
-    ensures { (window walled obstructed : ℕ → ℕ → Bool) → ShowsTile window tile.old →
-        AreEvenBlocksOf walls.now (is_walled_at 0 walled) →
-        AreEvenBlocksOf obstacles.now (is_walled_at 0 obstructed) →
-        HasCells tile.new (turned 0 window (either walled obstructed)) }
-{
-    let mut words = [0; 32];
-    for j in 0..32usize {
-        words[j] = walls[j] | obstacles[j];
-    }
-    collide_even(&words, tile);
 }
 
 /// Turns the blocks of a tile in place, at even parity, among the blocks that have a wall and those that have an obstacle. Returns
@@ -278,11 +226,9 @@ pub fn turn_tile_even(
     let took = taken_among(tile, walls, obstacles, 0, counted);
     match (walls, obstacles) {
         (None, None) => make_even(Collision, tile),
-        (Some(walls), None) => collide_even_among(&walls.blocks.even, tile),
-        (None, Some(obstacles)) => collide_even_among(&obstacles.blocks.even, tile),
-        (Some(walls), Some(obstacles)) => {
-            collide_even_of_both(&walls.blocks.even, &obstacles.blocks.even, tile);
-        }
+        (Some(set), None) => collide_even(OfOne { set }, tile),
+        (None, Some(set)) => collide_even(OfOne { set }, tile),
+        (Some(walls), Some(obstacles)) => collide_even(OfBoth { walls, obstacles }, tile),
     }
     took
 }
@@ -309,20 +255,10 @@ pub fn turn_tile_odd(
     let took = taken_among(tile, walls, obstacles, 1, counted);
     match (walls, obstacles) {
         (None, None) => collide_odd(NoBlocks, tile, round, out),
-        (Some(walls), None) => {
-            let set = &walls.blocks.odd;
-            collide_odd(OfOne { set }, tile, round, out);
-        }
-        (None, Some(obstacles)) => {
-            let set = &obstacles.blocks.odd;
-            collide_odd(OfOne { set }, tile, round, out);
-        }
+        (Some(set), None) => collide_odd(OfOne { set }, tile, round, out),
+        (None, Some(set)) => collide_odd(OfOne { set }, tile, round, out),
         (Some(walls), Some(obstacles)) => {
-            let both = OfBoth {
-                walls: &walls.blocks.odd,
-                obstacles: &obstacles.blocks.odd,
-            };
-            collide_odd(both, tile, round, out);
+            collide_odd(OfBoth { walls, obstacles }, tile, round, out);
         }
     }
     took

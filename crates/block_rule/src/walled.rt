@@ -1,16 +1,10 @@
-//! Which cells of a tile are counted, and in which accounts.
+//! The walled blocks of a tile, and which accounts are kept of what they take.
 
-ghost use Rattle.std.specs.Prelude.{◌≡◌, ℕ, ◌+◌, ◌<◌, ◌≤◌, false};
+ghost use Rattle.std.specs.Prelude.{◌≡◌, ℕ, ◌+◌, ◌<◌, ◌≤◌, false, slice_index};
+ghost use Rattle.std.specs.Int.Bits.{bit_or};
 ghost use Rattle.bit_tile.specs.Bit.{bit};
 
-use bit_tile::Tile;
-
-/// Cells of a tile, and a word that tells in which rows they lie: bit j is 0 only if rows 2 * j and 2 * j + 1 have none.
-#[derive(Clone, Copy)]
-pub struct CellMask<'a> {
-    pub cells: &'a Tile,
-    pub rows: u32,
-}
+use crate::blocks_in_tile::SetBlocks;
 
 /// Bits from..from+n of `rows`. 0 means that those rows are empty.
 #[inline(always)]
@@ -20,6 +14,145 @@ pub fn bits_from(rows: u32, from: usize, n: u32) -> u32
     ensures { result ≡ 0 → (j : ℕ) → from ≤ j → j < from + n → bit rows j ≡ false }
 {
     (rows >> from) % (1 << n)
+}
+
+/// The walled blocks of a tile, as words like those of `TileBlocks`: of no set, of one or of two. Bit j of `rows` is 0 only if no
+/// walled block lies in the tile's rows 2 * j and 2 * j + 1.
+pub trait Walled: Copy {
+    ghost told: { Self → ℕ };
+
+    ghost evens: { Self → ℕ → ℕ };
+
+    ghost begins: { Self → ℕ → ℕ };
+
+    ghost ends: { Self → ℕ → ℕ };
+
+    fn rows(self) -> u32
+        ensures { result ≡ told self };
+
+    fn even(self, k: usize) -> u32
+        requires { k < 32 }
+        ensures { result ≡ evens self k };
+
+    fn begin(self, k: usize) -> u32
+        requires { k < 33 }
+        ensures { result ≡ begins self k };
+
+    fn end(self, k: usize) -> u32
+        requires { k < 33 }
+        ensures { result ≡ ends self k };
+}
+
+/// No block is walled.
+#[derive(Clone, Copy)]
+pub struct NoBlocks;
+
+impl Walled for NoBlocks {
+    ghost told = { λ _. 0 };
+
+    ghost evens = { λ _ _. 0 };
+
+    ghost begins = { λ _ _. 0 };
+
+    ghost ends = { λ _ _. 0 };
+
+    #[inline]
+    fn rows(self) -> u32 {
+        0
+    }
+
+    #[inline]
+    fn even(self, _k: usize) -> u32 {
+        0
+    }
+
+    #[inline]
+    fn begin(self, _k: usize) -> u32 {
+        0
+    }
+
+    #[inline]
+    fn end(self, _k: usize) -> u32 {
+        0
+    }
+}
+
+/// The blocks of one set are walled.
+#[derive(Clone, Copy)]
+pub struct OfOne<'a> {
+    pub set: SetBlocks<'a>,
+}
+
+impl<'a> Walled for OfOne<'a> {
+    ghost told = { λ b. b.set.rows };
+
+    ghost evens = { λ b k. slice_index b.set.blocks.now.even k };
+
+    ghost begins = { λ b k. slice_index b.set.blocks.now.odd.begin k };
+
+    ghost ends = { λ b k. slice_index b.set.blocks.now.odd.end k };
+
+    #[inline]
+    fn rows(self) -> u32 {
+        self.set.rows
+    }
+
+    #[inline]
+    fn even(self, k: usize) -> u32 {
+        self.set.blocks.even[k]
+    }
+
+    #[inline]
+    fn begin(self, k: usize) -> u32 {
+        self.set.blocks.odd.begin[k]
+    }
+
+    #[inline]
+    fn end(self, k: usize) -> u32 {
+        self.set.blocks.odd.end[k]
+    }
+}
+
+/// The blocks of two sets are walled.
+#[derive(Clone, Copy)]
+pub struct OfBoth<'a> {
+    pub walls: SetBlocks<'a>,
+    pub obstacles: SetBlocks<'a>,
+}
+
+impl<'a> Walled for OfBoth<'a> {
+    ghost told = { λ b. bit_or b.walls.rows b.obstacles.rows };
+
+    ghost evens = { λ b k.
+        bit_or (slice_index b.walls.blocks.now.even k) (slice_index b.obstacles.blocks.now.even k) };
+
+    ghost begins = { λ b k.
+        bit_or (slice_index b.walls.blocks.now.odd.begin k)
+        (slice_index b.obstacles.blocks.now.odd.begin k) };
+
+    ghost ends = { λ b k.
+        bit_or (slice_index b.walls.blocks.now.odd.end k)
+        (slice_index b.obstacles.blocks.now.odd.end k) };
+
+    #[inline]
+    fn rows(self) -> u32 {
+        self.walls.rows | self.obstacles.rows
+    }
+
+    #[inline]
+    fn even(self, k: usize) -> u32 {
+        self.walls.blocks.even[k] | self.obstacles.blocks.even[k]
+    }
+
+    #[inline]
+    fn begin(self, k: usize) -> u32 {
+        self.walls.blocks.odd.begin[k] | self.obstacles.blocks.odd.begin[k]
+    }
+
+    #[inline]
+    fn end(self, k: usize) -> u32 {
+        self.walls.blocks.odd.end[k] | self.obstacles.blocks.odd.end[k]
+    }
 }
 
 /// Which of two accounts are kept: of what the walls take, and of what the obstacles take.

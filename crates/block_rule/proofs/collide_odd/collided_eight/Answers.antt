@@ -14,5 +14,5 @@ loop-k-preserved g c =
       done = λ window shown.
           eight_more (λ m. IsCollidedOdd (g.W.Walled.begins c.args.walled (c.args.from + m + 1)) (g.W.Walled.ends c.args.walled (c.args.from + m + 1)) window (2 * (c.args.from + m) + 2)) c.loop-k.rows c.collided_odd-made.result c.loop-k.k (omega arith) (omega arith) (omega arith) (omega arith)
           (c.loop-k.invariant.done window shown)
-          (collided_by _ _ _ _ window _ c.collided_odd-made.result c.begin.ensures c.end.ensures (c.collided_odd-made.ensures window _ (c.inner_row-row.ensures window shown)));
+          (collided_by _ _ _ _ window _ c.collided_odd-made.result c.begin-begin.ensures c.end-end.ensures (c.collided_odd-made.ensures window _ (c.inner_row-row.ensures window shown)));
     }

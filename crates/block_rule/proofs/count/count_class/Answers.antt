@@ -1,31 +1,25 @@
-use Rattle.std.proofs.Common.{◌≡◌, ◌+◌, ◌*◌, sym, ◌∙◌, arith}
+use Rattle.std.proofs.Common.{◌≡◌, ◌+◌, ◌*◌, ◌^◌, ◌<◌, ◌∙◌, sym, ap, arith, bit_and}
+use Rattle.std.proofs.lemmas.Nat.{ones-le, and_le_l}
 use Rattle.bit_tile.proofs.Sums.{sum_below-zero}
-use Rattle.block_rule.proofs.Holding.{among, no_rows_more}
+use Rattle.block_rule.specs.Classes.{particles_among}
+use Rattle.block_rule.proofs.Holding.{among, ones_among, rows_more}
 use Rattle.block_rule.proofs.count.count_class.Goals as goal
-use Rattle.block_rule.proofs.count.count_class.Goals.{then-bits_from-ne0, else-bits_from-ne0}
 
 pub loop-k-init : goal.loop-k-init
-loop-k-init c = record { count = λ _. sym (sum_below-zero (among c.args.cells.now c.args.places.now)); few = omega arith }
+loop-k-init c = record { count = sym (sum_below-zero (among c.args.cells.now c.args.places.now)); bound = omega arith }
 
 pub loop-k-preserved : goal.loop-k-preserved
 loop-k-preserved c =
-    let cells = c.args.cells.now in
+    let j = 2 * c.loop-k.k in
+    let next : j + 1 + 1 ≡ 2 * (c.loop-k.k + 1) = omega arith in
+    let old = c.args.cells.now in
     let places = c.args.places.now in
-    let was = c.loop-k.invariant in
-    let k = c.loop-k.k in
-    let next : (c.loop-k.k + 1) * 8 ≡ c.loop-k.k * 8 + 8 = omega arith in
-    elim c.if-bits_from-ne0.branch [
-      | then-bits_from-ne0 w ↦
-          rw w.n-is
-          record {
-            count = λ told. rw next (let so_far = was.count told in let here = w.count_rows-n.ensures.count in omega (arith, so_far, here));
-            few = omega (arith, was.few, w.count_rows-n.ensures.bound);
-          }
-      | else-bits_from-ne0 w ↦
-          let none = c.bits_from.ensures (omega (arith, w.if-bits_from-ne0.false)) in
-          rw w.n-is
-          record {
-            count = λ told. rw next (was.count told ∙ sym (no_rows_more cells places (k * 8) 8 (λ i j h low high. told i j h (omega arith) (none j (omega arith) (omega arith)))));
-            few = omega (arith, was.few);
-          }
-    ]
+    let cells = c.joined.result in
+    let there = c.joined-in-loop-k.result in
+    let fits : cells < 2 ^ 64 = omega arith in
+    let both_fit : bit_and cells there < 2 ^ 64 = omega (arith, and_le_l cells there) in
+    let here = ones_among cells there old places j fits c.joined.ensures.first c.joined.ensures.second c.joined-in-loop-k.ensures.first c.joined-in-loop-k.ensures.second in
+    record {
+      count = rows_more old places c.loop-k.n _ j c.loop-k.invariant.count here ∙ ap (particles_among old places) next;
+      bound = omega (arith, ones-le 64 (bit_and cells there) both_fit, c.loop-k.invariant.bound);
+    }

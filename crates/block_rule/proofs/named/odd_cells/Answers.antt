@@ -3,4 +3,4 @@ use Rattle.block_rule.proofs.named.odd_cells.Goals as goal
 
 pub returns : goal.returns
 returns c = λ window.
-    odd_filled c.args.words.now c.first_words.result c.first_words-2.result c.last_words.result c.last_words-2.result window c.first_words.ensures c.first_words-2.ensures c.last_words.ensures c.last_words-2.ensures
+    odd_filled c.args.words.now c.first_words.result.now c.first_words-2.result.now c.last_words.result.now c.last_words-2.result.now window c.first_words.ensures c.first_words-2.ensures c.last_words.ensures c.last_words-2.ensures
