@@ -359,12 +359,63 @@ pub fn run_part<A: Action>(
     ensures sides { HasSidesOf particles.new particles.old × HasSidesOf spare.new particles.old }
 {
     let Solids { walls, obstacles } = run.solids;
-    // four loops: each asks its tiles for the sets that have cells
-    match (walls.has_no_blocks(), obstacles.has_no_blocks()) {
-        (true, true) => run_on(particles, part, run, (true, true), counted, spare),
-        (true, false) => run_on(particles, part, run, (true, false), counted, spare),
-        (false, true) => run_on(particles, part, run, (false, true), counted, spare),
-        (false, false) => run_on(particles, part, run, (false, false), counted, spare),
+    let absent = (walls.has_no_blocks(), obstacles.has_no_blocks());
+    // six loops: each asks its tiles for the sets that have cells, and a single set is counted or not
+    match (absent, counted) {
+        ((true, true), _) => run_on(particles, part, run, (true, true), counted, spare),
+        (
+            (true, false),
+            Counted {
+                walls,
+                obstacles: true,
+            },
+        ) => {
+            let counted = Counted {
+                walls,
+                obstacles: true,
+            };
+            run_on(particles, part, run, (true, false), counted, spare)
+        }
+        (
+            (true, false),
+            Counted {
+                walls,
+                obstacles: false,
+            },
+        ) => {
+            let counted = Counted {
+                walls,
+                obstacles: false,
+            };
+            run_on(particles, part, run, (true, false), counted, spare)
+        }
+        (
+            (false, true),
+            Counted {
+                walls: true,
+                obstacles,
+            },
+        ) => {
+            let counted = Counted {
+                walls: true,
+                obstacles,
+            };
+            run_on(particles, part, run, (false, true), counted, spare)
+        }
+        (
+            (false, true),
+            Counted {
+                walls: false,
+                obstacles,
+            },
+        ) => {
+            let counted = Counted {
+                walls: false,
+                obstacles,
+            };
+            run_on(particles, part, run, (false, true), counted, spare)
+        }
+        ((false, false), _) => run_on(particles, part, run, (false, false), counted, spare),
     }
 }
 
