@@ -9,6 +9,7 @@ use bit_tile::{Tile, joined};
 use gas_terms::Pair;
 
 /// How many of a class's cells there are in these places.
+#[inline(always)]
 pub fn count_class(cells: &[u32; 32], places: &[u32; 32]) -> u32
     ensures count { result ≡ particles_among cells.now places.now 32 }
     ensures bound { result ≤ 1024 }

@@ -360,63 +360,40 @@ pub fn run_part<A: Action>(
 {
     let Solids { walls, obstacles } = run.solids;
     let absent = (walls.has_no_blocks(), obstacles.has_no_blocks());
-    // six loops: each asks its tiles for the sets that have cells, and a single set is counted or not
-    match (absent, counted) {
-        ((true, true), _) => run_on(particles, part, run, (true, true), counted, spare),
-        (
-            (true, false),
-            Counted {
-                walls,
-                obstacles: true,
-            },
-        ) => {
-            let counted = Counted {
-                walls,
-                obstacles: true,
-            };
+    let Counted { walls, obstacles } = counted;
+    // seven loops: each asks its tiles for the sets that have cells, and knows which accounts it keeps
+    match (absent, walls, obstacles) {
+        ((true, true), ..) => run_on(particles, part, run, (true, true), counted, spare),
+        ((true, false), _, true) => {
+            let counted = keeping(walls, true);
             run_on(particles, part, run, (true, false), counted, spare)
         }
-        (
-            (true, false),
-            Counted {
-                walls,
-                obstacles: false,
-            },
-        ) => {
-            let counted = Counted {
-                walls,
-                obstacles: false,
-            };
+        ((true, false), _, false) => {
+            let counted = keeping(walls, false);
             run_on(particles, part, run, (true, false), counted, spare)
         }
-        (
-            (false, true),
-            Counted {
-                walls: true,
-                obstacles,
-            },
-        ) => {
-            let counted = Counted {
-                walls: true,
-                obstacles,
-            };
+        ((false, true), true, _) => {
+            let counted = keeping(true, obstacles);
             run_on(particles, part, run, (false, true), counted, spare)
         }
-        (
-            (false, true),
-            Counted {
-                walls: false,
-                obstacles,
-            },
-        ) => {
-            let counted = Counted {
-                walls: false,
-                obstacles,
-            };
+        ((false, true), false, _) => {
+            let counted = keeping(false, obstacles);
             run_on(particles, part, run, (false, true), counted, spare)
         }
-        ((false, false), _) => run_on(particles, part, run, (false, false), counted, spare),
+        ((false, false), false, true) => {
+            let counted = keeping(false, true);
+            run_on(particles, part, run, (false, false), counted, spare)
+        }
+        ((false, false), ..) => run_on(particles, part, run, (false, false), counted, spare),
     }
+}
+
+// Keeps these accounts.
+#[inline(always)]
+fn keeping(walls: bool, obstacles: bool) -> Counted
+    ensures { result ≡ record { walls = walls; obstacles = obstacles } }
+{
+    Counted { walls, obstacles }
 }
 
 // the whole lattice, which is a part of itself
