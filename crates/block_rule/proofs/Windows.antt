@@ -44,10 +44,6 @@ module _ (window : ℕ → ℕ → Bool) (t : Tile) (shows : ShowsTile window t)
   pub oo_shown : window (2 * i + 2) (2 * j + 2) ≡ bit (get_or t.odd_odd j 0) i
   oo_shown = ap₂ window (omega arith) (omega arith) ∙ (shows (2 * i + 1) (2 * j + 1) (omega arith) (omega arith) ∙ odd_odd_at t i j)
 
--- four words in one record
-pub same_blocks : (a b c d e f g h : ℕ) → a ≡ e → b ≡ f → c ≡ g → d ≡ h → (let r : Blocks = record { upper_left = a; upper_right = b; lower_left = c; lower_right = d } in r) ≡ record { upper_left = e; upper_right = f; lower_left = g; lower_right = h }
-same_blocks a b c d e f g h p q r s = rw (p, q, r, s)
-
 -- the even blocks' cells: the rule is that of block x / 2 of row y / 2
 pub even_cells : (cell : ℕ → ℕ → Bool → Bool → Bool → Bool → Bool) (window : ℕ → ℕ → Bool) (tile out : Tile) → ShowsTile window tile → ((k : ℕ) → k < 32 → IsMade (cell k) (even_row tile k) (even_row out k)) → HasCells out (λ x y. made (cell (y / 2) (x / 2)) 0 window x y)
 even_cells cell window tile out shows done =

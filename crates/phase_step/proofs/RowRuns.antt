@@ -230,13 +230,6 @@ strip_is first down rows walls obstacles strip lattice sized full of_walls of_ob
       rows = record { row = λ x y l _ h. row x y l (omega (arith, h)) };
     }
 
--- what a strip has after a run: its own rows, and the flow of its own tiles
-pub strip_done : (first down rows n : ℕ) (counted : Counted) (d : Dynamics) (strip lattice new : Cells) (answer : Flow) → n ≤ 64 → new.height ≡ (rows + 2) * 64 → HasRun (record { first = first; down = down; margin = 1 }) counted d n strip lattice new answer
-    → (x y : ℕ) → x < lattice.width → 64 ≤ y → y < 64 + rows * 64 → has new x y ≡ has (after_all d lattice n) x (((first + down - 1) * 64 + y) % (down * 64))
-strip_done first down rows n counted d strip lattice new answer few high_is run x y l low high =
-    let same = (sides_with d.parity (joined d.walls d.obstacles) d.leaves lattice n).wide in
-    run.is.rows.row x y (subst (λ w. x < w) (sym same) l) (omega (arith, few, low)) (omega (arith, few, high, high_is))
-
 pub strip_flow : (first down rows n : ℕ) (counted : Counted) (d : Dynamics) (strip lattice new : Cells) (answer : Flow) → strip.height ≡ (rows + 2) * 64 → HasRun (record { first = first; down = down; margin = 1 }) counted d n strip lattice new answer
     → answer ≡ flow_counted counted (tiles_flow d.parity d.walls d.obstacles d.leaves lattice (first * (lattice.width / 64)) (rows * (lattice.width / 64)) n)
 strip_flow first down rows n counted d strip lattice new answer high_is run =
