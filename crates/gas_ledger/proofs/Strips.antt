@@ -1,5 +1,5 @@
 -- Counts of the cells of a row, 64 at a time from the left.
-use Rattle.std.proofs.Common.{◌≡◌, ℕ, ◌+◌, ◌*◌, ◌%◌, ◌^◌, ◌<◌, ◌≤◌, ◌==◌, ◌&&◌, not, cond, List, [], get_or, sym, ap, ap₂, ◌∙◌, arith, bit_and, w64}
+use Rattle.std.proofs.Common.{◌≡◌, ℕ, ◌+◌, ◌*◌, ◌%◌, ◌^◌, ◌<◌, ◌≤◌, ◌==◌, ◌&&◌, not, cond, List, get_or, sym, ap, ap₂, ◌∙◌, arith, bit_and, w64}
 use Rattle.std.specs.Int.{bit_not}
 use Rattle.bit_tile.specs.Bit.{bit}
 use Rattle.bit_tile.specs.Sums.{count_below}

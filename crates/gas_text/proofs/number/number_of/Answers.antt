@@ -1,4 +1,4 @@
-use Rattle.std.proofs.Common.{[], length-drop, arith}
+use Rattle.std.proofs.Common.{length-drop, arith}
 use Rattle.std.proofs.lemmas.List.{nil_from_length}
 use Rattle.std.proofs.lemmas.Grind.{common_steps}
 use Rattle.gas_text.proofs.LineWords.{value_after-le, value_step, digits_step, number_is, not_digits, too_great, no_digit, too_many_digits}
