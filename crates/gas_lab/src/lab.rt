@@ -11,9 +11,9 @@ ghost use Rattle.gas_terms.specs.declared.answer.Answer.TheVariants.{RowIs};
 ghost use Rattle.gas_terms.specs.Symmetry.{IsOnOneTorus};
 ghost use Rattle.gas_lab.specs.Labs.{Changes, entry_of};
 
-use gas_ledger::{Books, Gas, probe, tally};
+use gas_ledger::{Books, Gas, Port, probe, tally};
 use gas_plane::Plane;
-use gas_terms::{Answer, Command, Entry, Ledger, MOST_PORTS, NoMemory, Refusal, RowBits, Size};
+use gas_terms::{Answer, Command, Entry, Ledger, NoMemory, Refusal, RowBits, Size};
 use phase_step::Stepper;
 use std::alloc::Global;
 use std::marker::Model;
@@ -195,9 +195,10 @@ impl<S: Stepper> Lab<S> {
     fn has_all_ports(&self, command: &Command) -> bool
         ensures { result ≡ has_all_ports self.now.gas command.now }
     {
+        let ports = self.books.gas.ports();
         match command {
-            Command::Source(_, _) => MOST_PORTS <= self.books.gas.ports().sources().len(),
-            Command::Drain(_) => MOST_PORTS <= self.books.gas.ports().drains().len(),
+            Command::Source(area, period) => ports.has_all(&Port::Source(*area, *period)),
+            Command::Drain(area) => ports.has_all(&Port::Drain(*area)),
             _ => false,
         }
     }

@@ -7,8 +7,6 @@ ghost use Rattle.gas_terms.specs.Accounts.{FitsI64, moved_by};
 ghost use Rattle.gas_terms.specs.Commands.{enact, fits, is_change, is_move, is_tick};
 ghost use Rattle.gas_terms.specs.BookedGas.{opened, stepped, stepped_back, book};
 ghost use Rattle.gas_terms.specs.Laboratory.{has_all_ports};
-ghost use Rattle.gas_ledger.specs.Gases.{ports_of};
-ghost use Rattle.gas_ledger.specs.PortLists.{adding, has_all};
 ghost use Rattle.gas_ledger.specs.Books.{books_of, TickHolds, Affords};
 
 use crate::gas::Gas;
@@ -108,21 +106,10 @@ fn edited(gas: &mut Gas, command: &Command) -> Moved
         Command::Wall(area) => gas.add_walls(*area),
         Command::Block(area) => gas.add_obstacles(*area),
         Command::Unwall(area) => gas.remove_walls_and_obstacles(*area),
-        Command::Source(area, period) => add_port(gas, Port::Source(*area, *period)),
-        Command::Drain(area) => add_port(gas, Port::Drain(*area)),
+        Command::Source(area, period) => gas.add_port(Port::Source(*area, *period)),
+        Command::Drain(area) => gas.add_port(Port::Drain(*area)),
         Command::Unport => gas.remove_ports(),
         _ => unreachable!(),
     }
     Moved::ZERO
-}
-
-// adds a port, for which there is room
-fn add_port(gas: &mut Gas, port: Port)
-    requires in_order { fits (extent gas.old.particles) (adding port) ≡ true }
-    requires place { has_all (ports_of gas.old) port ≡ false }
-    ensures { gas.new ≡ enact gas.old (adding port) }
-{
-    if gas.add_port(port).is_err() {
-        unreachable!()
-    }
 }

@@ -1,6 +1,6 @@
 //! The gas: its edits, its runs, and the port action.
 
-ghost use Rattle.std.specs.Prelude.{◌≡◌, ◌↔◌, true, pos, ◌+ℤ◌, ◌-ℤ◌, IfOk, IsErr, OnOk, OnErr};
+ghost use Rattle.std.specs.Prelude.{◌≡◌, true, false, pos, ◌+ℤ◌, ◌-ℤ◌, IfOk};
 ghost use Rattle.gas_terms.specs.Cells.{extent, lies_within, HasSidesOf};
 ghost use Rattle.gas_terms.specs.Commands.{enact, fits, is_tick};
 ghost use Rattle.gas_terms.specs.declared.command.Command.TheVariants.{Put, Erase, Row, Wall, Block, Unwall, Unport};
@@ -11,7 +11,7 @@ ghost use Rattle.gas_terms.specs.Accounts.{moved_by};
 ghost use Rattle.phase_step.specs.PortedRuns.{gas_stepped, steps_take, steps_move};
 
 use crate::change::row_change;
-use crate::port::{Full, Port};
+use crate::port::Port;
 use crate::ports::Ports;
 use crate::ports_from::PortsFrom;
 use crate::sums::probe;
@@ -203,14 +203,13 @@ impl Gas {
         self.solids.remove(area);
     }
 
-    /// Adds a port at the end of its list. Fails if there are `MOST_PORTS` of the kind already. The port does not act yet.
-    pub fn add_port(&mut self, port: Port) -> Result<(), Full>
-        requires { fits (extent self.old.particles) (adding port) ≡ true }
-        ensures full { IsErr result ↔ (has_all (ports_of self.old) port ≡ true) }
-        ensures ok { OnOk result (self.new ≡ enact self.old (adding port)) }
-        ensures err { OnErr result (self.new ≡ self.old) }
+    /// Adds a port at the end of its list, in which there must be room (`Ports::has_all`). The port does not act yet.
+    pub fn add_port(&mut self, port: Port)
+        requires in_order { fits (extent self.old.particles) (adding port) ≡ true }
+        requires room { has_all (ports_of self.old) port ≡ false }
+        ensures { self.new ≡ enact self.old (adding port) }
     {
-        self.ports.add(port)
+        self.ports.push(port);
     }
 
     /// Removes all drains and sources.

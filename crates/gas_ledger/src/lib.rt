@@ -2,7 +2,7 @@
 //! `tally` sum its particles. `Books` are a gas with its ledger: `Books::enact` makes a change and books it.
 //!
 //! The program changes a gas by `Books::enact` alone. That steps forward by `Gas::step_on`, with ports or without, and back by
-//! `Gas::run_back`. `apply_ports` is there for callers of the library.
+//! `Gas::run_back`. `apply_ports` and `Ports::add` are there for callers of the library.
 #![tactic(auto)]
 
 pub mod apply;

@@ -47,27 +47,39 @@ impl Ports {
         }
     }
 
-    /// Adds a port at the end of its list. Fails if there are `MOST_PORTS` of the kind already.
+    /// Whether there are `MOST_PORTS` ports of the kind already.
+    pub fn has_all(&self, port: &Port) -> bool
+        ensures { result ≡ has_all self.now port.now }
+    {
+        match port {
+            Port::Drain(_) => self.drains.len() >= MOST_PORTS,
+            Port::Source(_, _) => self.sources.len() >= MOST_PORTS,
+        }
+    }
+
+    /// Adds a port at the end of its list, in which there must be room.
+    pub fn push(&mut self, port: Port)
+        requires period { has_period port ≡ true }
+        requires room { has_all self.old port ≡ false }
+        ensures { self.new ≡ with_port self.old port }
+    {
+        match port {
+            Port::Drain(area) => self.drains.push(area),
+            Port::Source(area, period) => self.sources.push(Source { area, period }),
+        }
+    }
+
+    /// Adds a port, or fails if there are `MOST_PORTS` of the kind already.
     pub fn add(&mut self, port: Port) -> Result<(), Full>
         requires period { has_period port ≡ true }
         ensures full { IsErr result ↔ (has_all self.old port ≡ true) }
         ensures ok { OnOk result (self.new ≡ with_port self.old port) }
         ensures err { OnErr result (self.new ≡ self.old) }
     {
-        match port {
-            Port::Drain(area) => {
-                if self.drains.len() >= MOST_PORTS {
-                    return Err(Full);
-                }
-                self.drains.push(area);
-            }
-            Port::Source(area, period) => {
-                if self.sources.len() >= MOST_PORTS {
-                    return Err(Full);
-                }
-                self.sources.push(Source { area, period });
-            }
+        if self.has_all(&port) {
+            return Err(Full);
         }
+        self.push(port);
         Ok(())
     }
 

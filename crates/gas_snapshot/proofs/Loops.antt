@@ -1,7 +1,5 @@
 -- Reading fields of one kind one after the other, as a loop does.
-use Rattle.std.proofs.Common.{◌≡◌, ℕ, suc, ◌-◌, ◌+◌, ◌≤◌, ◌<◌, Bool, true, false, cond, leb, ◌&&◌, List, [], ◌∷◌, ◌++◌, Option, Some, None, Result, Ok, Err, refl, sym, ap, ◌∙◌, append_assoc, arith}
-use Rattle.std.specs.Prelude.{◌↔◌, IsErr, OnOk}
-use Rattle.std.proofs.lemmas.Bool.{leb-true}
+use Rattle.std.proofs.Common.{◌≡◌, ℕ, suc, ◌-◌, ◌+◌, ◌≤◌, ◌<◌, Bool, true, false, cond, ◌&&◌, List, [], ◌∷◌, ◌++◌, Option, Some, None, Result, Ok, Err, refl, sym, ap, ◌∙◌, append_assoc, arith}
 use Rattle.std.proofs.lemmas.List.{append-nil}
 use Rattle.gas_terms.specs.Cells.{Extent, Rectangle, lies_within}
 use Rattle.gas_terms.specs.Gas.{Source}
@@ -89,11 +87,6 @@ pub source_read : (size : Extent) (bytes field after : List ℕ) (s : Source) �
     → done s ≡ cond (lies_within size (area_in field) && is_period (number 4 field)) (done (source_in field)) (Err Port) → source_at size bytes ≡ Ok (s, after)
 unfolding source_at
 source_read size bytes field after s e h = grind (arith, chosen)
-
--- a port is added where there are fewer than 16
-pub is_added : {X Y : Type 0} (r : Result X Y) (n : ℕ) (P : Type 0) → (IsErr r ↔ (leb 16 n ≡ true)) → OnOk r P → n < 16 → P
-is_added (Ok x) n P full ok lt = ok
-is_added (Err y) n P full ok lt = let k : 16 ≤ n = leb-true 16 n (full.0 refl) in absurd (omega arith)
 
 pub drain_none : (size : Extent) (bytes field after : List ℕ) → field_at 8 bytes ≡ Ok (field, after)
     → no_area ≡ cond (lies_within size (area_in field)) (Some (area_in field)) None → drain_at size bytes ≡ Err Port

@@ -152,7 +152,7 @@ fn drains<'a>(
         let Some(area) = area(size, drain) else {
             return Err(SnapFault::Port);
         };
-        ports.add(Port::Drain(area)).unwrap();
+        ports.push(Port::Drain(area));
         rest = after;
     }
     Ok(rest)
@@ -174,7 +174,7 @@ fn sources<'a>(
     'sources: for _ in 0..count {
         let (bytes, after) = field(10, rest)?;
         let Source { area, period } = source(size, bytes)?;
-        ports.add(Port::Source(area, period)).unwrap();
+        ports.push(Port::Source(area, period));
         rest = after;
     }
     Ok(rest)

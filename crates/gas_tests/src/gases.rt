@@ -59,10 +59,14 @@ pub fn add(rt: &impl Abort, gas: &mut Gas, piece: Piece, x: u32, y: u32, w: u32,
         }
         Piece::Wall => gas.add_walls(area),
         Piece::Obstacle => gas.add_obstacles(area),
-        Piece::Drain => expect_that(&rt, gas.add_port(Port::Drain(area)).is_ok()),
+        Piece::Drain => {
+            expect_that(&rt, !gas.ports().has_all(&Port::Drain(area)));
+            gas.add_port(Port::Drain(area));
+        }
         Piece::Source(period) => {
             assert!(rt; 1 <= period);
-            expect_that(&rt, gas.add_port(Port::Source(area, period)).is_ok());
+            expect_that(&rt, !gas.ports().has_all(&Port::Source(area, period)));
+            gas.add_port(Port::Source(area, period));
         }
     }
 }

@@ -50,7 +50,7 @@ fn sixteen_sources(rt: &(impl Abort + AllocGlobal)) -> Gas {
 fn seventeen_sources(rt: HostRuntime) {
     let mut gas = sixteen_sources(&rt);
     let area = area(&rt, &gas, 0, 0, 1, 1);
-    expect_same(&rt, gas.add_port(Port::Source(area, 1)), Err(Full));
+    expect_that(&rt, gas.ports().has_all(&Port::Source(area, 1)));
     expect_same(&rt, kinds(gas.ports()), (1, 16, Some((1, 1))));
     let moved = step_on(&rt, &mut gas, 1).moved;
     expect_same(&rt, moved.injected, sums(16, 0, 16));

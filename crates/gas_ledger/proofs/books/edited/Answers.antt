@@ -12,13 +12,13 @@ pub returns-in-Unwall-clause-moved : goal.returns-in-Unwall-clause-moved
 returns-in-Unwall-clause-moved c = quiet_moves c.args.gas.now c.remove_walls_and_obstacles.new.self _ c.requires.torus c.remove_walls_and_obstacles.ensures refl
 
 pub returns-in-Source-clause-moved : goal.returns-in-Source-clause-moved
-returns-in-Source-clause-moved c = quiet_moves c.args.gas.now c.add_port.new.gas _ c.requires.torus c.add_port.ensures refl
+returns-in-Source-clause-moved c = quiet_moves c.args.gas.now c.add_port.new.self _ c.requires.torus c.add_port.ensures refl
 
 pub returns-in-Drain-clause-moved : goal.returns-in-Drain-clause-moved
-returns-in-Drain-clause-moved c = quiet_moves c.args.gas.now c.add_port-in-Drain.new.gas _ c.requires.torus c.add_port-in-Drain.ensures refl
+returns-in-Drain-clause-moved c = quiet_moves c.args.gas.now c.add_port-in-Drain.new.self _ c.requires.torus c.add_port-in-Drain.ensures refl
 
 pub returns-in-Unport-clause-moved : goal.returns-in-Unport-clause-moved
 returns-in-Unport-clause-moved c = quiet_moves c.args.gas.now c.remove_ports.new.self _ c.requires.torus c.remove_ports.ensures refl
 
-pub add_port-requires-in-Drain-clause-place : goal.add_port-requires-in-Drain-clause-place
-add_port-requires-in-Drain-clause-place c = search rules
+pub add_port-requires-in-Drain-clause-room : goal.add_port-requires-in-Drain-clause-room
+add_port-requires-in-Drain-clause-room c = search rules

@@ -1,11 +1,10 @@
-use Rattle.std.proofs.Common.{◌≡◌, ◌++◌, ◌∷◌, [], length, sym, ◌∙◌, ap, arith}
+use Rattle.std.proofs.Common.{◌≡◌, ◌++◌, ◌∷◌, [], sym, ◌∙◌, ap, arith}
 use Rattle.std.proofs.lemmas.List.{length-append}
 use Rattle.std.proofs.lemmas.Result.{err_from_is_err_and}
 use Rattle.gas_snapshot.specs.declared.fault.SnapFault.TheVariants.{Port}
-use Rattle.gas_ledger.specs.PortLists.{PortLists, with_port}
-use Rattle.gas_ledger.specs.declared.port.Port.TheVariants.{Drain}
+use Rattle.gas_ledger.specs.PortLists.{PortLists}
 use Rattle.gas_snapshot.specs.Reading.{many, drain_at}
-use Rattle.gas_snapshot.proofs.Loops.{goes_on, ends, is_done, drain_fails, drain_none, drain_read, is_added}
+use Rattle.gas_snapshot.proofs.Loops.{goes_on, ends, is_done, drain_fails, drain_none, drain_read}
 use Rattle.gas_snapshot.proofs.fields.drains.Goals as goal
 
 pub returns-in_err-drain-clause-drains : goal.returns-in_err-drain-clause-drains
@@ -22,12 +21,11 @@ returns-in_default-clause-drains c =
 pub drains-preserved : goal.drains-preserved
 drains-preserved c =
     let a = c.in-Some.area in
-    let added : c.add.new.self ≡ with_port c.drains.ports (Drain a) = is_added c.add.result (length c.drains.ports.drains) (c.add.new.self ≡ with_port c.drains.ports (Drain a)) c.add.ensures.full c.add.ensures.ok (omega (arith, c.requires.few, c.drains.invariant.1, c.drains-test.true)) in
-    let e : c.add.new.self.drains ≡ c.drains.ports.drains ++ a ∷ [] = ap (λ (p : PortLists). p.drains) added in (
+    let e : c.push.new.self.drains ≡ c.drains.ports.drains ++ a ∷ [] = ap (λ (p : PortLists). p.drains) c.push.ensures in (
       rw e (goes_on (drain_at c.args.size) c.drains.ports.drains c.args.count c.drains.counter c.drains.rest.now a c.in_ok-drain.after.now (many (drain_at c.args.size) c.args.count c.args.bytes.now) c.drains-test.true
           (drain_read c.args.size c.drains.rest.now c.in_ok-drain.drain.now c.in_ok-drain.after.now a c.in_ok-drain.ensures.field (sym c.in-Some.is ∙ c.area.ensures)) c.drains.invariant.0),
       rw e (omega (arith, length-append c.drains.ports.drains (a ∷ []), c.drains.invariant.1)),
-      ap (λ (p : PortLists). p.sources) added ∙ c.drains.invariant.2,
+      ap (λ (p : PortLists). p.sources) c.push.ensures ∙ c.drains.invariant.2,
     )
 
 pub returns-clause-drains : goal.returns-clause-drains

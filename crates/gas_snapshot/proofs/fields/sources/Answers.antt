@@ -1,11 +1,10 @@
-use Rattle.std.proofs.Common.{◌≡◌, ◌++◌, ◌∷◌, [], length, ◌∙◌, ap, arith}
+use Rattle.std.proofs.Common.{◌≡◌, ◌++◌, ◌∷◌, [], ◌∙◌, ap, arith}
 use Rattle.std.proofs.lemmas.List.{length-append}
 use Rattle.std.proofs.lemmas.Result.{err_from_is_err_and}
 use Rattle.gas_terms.specs.Gas.{Source}
-use Rattle.gas_ledger.specs.PortLists.{PortLists, with_port}
-use Rattle.gas_ledger.specs.declared.port.Port.TheVariants.{Source as SourceAt}
+use Rattle.gas_ledger.specs.PortLists.{PortLists}
 use Rattle.gas_snapshot.specs.Reading.{many, source_at}
-use Rattle.gas_snapshot.proofs.Loops.{goes_on, ends, is_done, source_fails, source_refused, source_read, is_added, done}
+use Rattle.gas_snapshot.proofs.Loops.{goes_on, ends, is_done, source_fails, source_refused, source_read, done}
 use Rattle.gas_snapshot.proofs.fields.sources.Goals as goal
 
 pub returns-in_err-bytes-clause-sources : goal.returns-in_err-bytes-clause-sources
@@ -23,12 +22,11 @@ returns-in_err-area-clause-sources c =
 pub sources-preserved : goal.sources-preserved
 sources-preserved c =
     let s : Source = record { area = c.area.inside.area; period = c.area.inside.period } in
-    let added : c.add.new.self ≡ with_port c.sources.ports (SourceAt s.area s.period) = is_added c.add.result (length c.sources.ports.sources) (c.add.new.self ≡ with_port c.sources.ports (SourceAt s.area s.period)) c.add.ensures.full c.add.ensures.ok (omega (arith, c.requires.few, c.sources.invariant.1, c.sources-test.true)) in
-    let e : c.add.new.self.sources ≡ c.sources.ports.sources ++ s ∷ [] = ap (λ (p : PortLists). p.sources) added in (
+    let e : c.push.new.self.sources ≡ c.sources.ports.sources ++ s ∷ [] = ap (λ (p : PortLists). p.sources) c.push.ensures in (
       rw e (goes_on (source_at c.args.size) c.sources.ports.sources c.args.count c.sources.counter c.sources.rest.now s c.in_ok-bytes.after.now (many (source_at c.args.size) c.args.count c.args.bytes.now) c.sources-test.true
           (source_read c.args.size c.sources.rest.now c.in_ok-bytes.bytes.now c.in_ok-bytes.after.now s c.in_ok-bytes.ensures.field (ap (λ (t : Source). done t) c.area.view_is ∙ c.in_ok-area.ensures)) c.sources.invariant.0),
       rw e (omega (arith, length-append c.sources.ports.sources (s ∷ []), c.sources.invariant.1)),
-      ap (λ (p : PortLists). p.drains) added ∙ c.sources.invariant.2,
+      ap (λ (p : PortLists). p.drains) c.push.ensures ∙ c.sources.invariant.2,
     )
 
 pub returns-clause-sources : goal.returns-clause-sources
