@@ -4,7 +4,7 @@ ghost use Rattle.std.specs.Prelude.{◌≡◌, true, false, ◌+ℤ◌, ◌-ℤ�
 ghost use Rattle.std.specs.Fn.{iterate};
 ghost use Rattle.gas_terms.specs.Cells.{extent, HasSidesOf, IsEvenTorus};
 ghost use Rattle.gas_terms.specs.Accounts.{FitsI64, moved_by};
-ghost use Rattle.gas_terms.specs.Commands.{enact, fits, is_change, is_move, is_tick};
+ghost use Rattle.gas_terms.specs.Commands.{enact, fits, is_move, is_tick};
 ghost use Rattle.gas_terms.specs.BookedGas.{opened, stepped, stepped_back, book};
 ghost use Rattle.gas_terms.specs.Laboratory.{has_all_ports};
 ghost use Rattle.gas_ledger.specs.Books.{books_of, TickHolds, Affords};
@@ -66,9 +66,9 @@ impl Books {
         self.ledger = self.ledger.with_given_back(took);
     }
 
-    /// A change: steps, or an edit, which is booked as one change of the particles. The spare plane is for steps alone.
+    /// Does a command: steps, or an edit, which is booked as one change of the particles. A reading leaves gas and ledger. The
+    /// spare plane is for steps alone.
     pub fn enact<S: Stepper>(&mut self, command: &Command, spare: &mut Plane, stepper: &mut S)
-        requires change { is_change command.now ≡ true }
         requires in_order { fits (extent self.old.gas.particles) command.now ≡ true }
         requires place { has_all_ports self.old.gas command.now ≡ false }
         requires torus { IsEvenTorus self.old.gas.particles }
@@ -89,9 +89,8 @@ impl Books {
     }
 }
 
-// an edit of the gas, and what it brings in and takes out
+// an edit or a reading of the gas, and what it brings in and takes out
 fn edited(gas: &mut Gas, command: &Command) -> Moved
-    requires change { is_change command.now ≡ true }
     requires still { is_move command.now ≡ false }
     requires in_order { fits (extent gas.old.particles) command.now ≡ true }
     requires place { has_all_ports gas.old command.now ≡ false }
@@ -109,7 +108,8 @@ fn edited(gas: &mut Gas, command: &Command) -> Moved
         Command::Source(area, period) => gas.add_port(Port::Source(*area, *period)),
         Command::Drain(area) => gas.add_port(Port::Drain(*area)),
         Command::Unport => gas.remove_ports(),
-        _ => unreachable!(),
+        // a reading leaves the gas
+        _ => {}
     }
     Moved::ZERO
 }

@@ -22,3 +22,6 @@ returns-in-Unport-clause-moved c = quiet_moves c.args.gas.now c.remove_ports.new
 
 pub add_port-requires-in-Drain-clause-room : goal.add_port-requires-in-Drain-clause-room
 add_port-requires-in-Drain-clause-room c = search rules
+
+pub returns-in_default-clause-moved : goal.returns-in_default-clause-moved
+returns-in_default-clause-moved c = quiet_moves c.args.gas.now c.args.gas.now c.args.gas.now c.requires.torus refl refl
