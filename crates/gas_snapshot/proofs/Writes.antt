@@ -1,9 +1,9 @@
 -- Writing one list after another.
-use Rattle.std.proofs.Common.{◌≡◌, ℕ, ◌+◌, ◌-◌, ◌<◌, ◌≤◌, List, ◌++◌, length, take, drop, Option, ◌*◌, ◌/◌, refl, sym, ap, subst, ◌∙◌, append_assoc, arith}
+use Rattle.std.proofs.Common.{◌≡◌, ℕ, ◌+◌, ◌-◌, ◌<◌, List, ◌++◌, length, take, drop, Option, ◌*◌, ◌/◌, refl, sym, ap, subst, ◌∙◌, append_assoc, arith}
 use Rattle.std.proofs.KnownBytes.{Appends-trans}
 use Rattle.std.specs.Io.KnownBytes.{Appends}
-use Rattle.std.proofs.lemmas.List.{take-append-drop, length-append, length-drop, length-take, take_at}
-use Rattle.std.proofs.Math.Seq.{take-append-add, take-length}
+use Rattle.std.proofs.lemmas.List.{take-append-drop, length-append, take_at}
+use Rattle.std.proofs.Math.Seq.{take-append-add}
 use Rattle.std.specs.List.{flat_map, range_with_len}
 use Rattle.gas_terms.specs.Cells.{Cells}
 use Rattle.gas_terms.specs.Rows.{row_bytes}
@@ -14,7 +14,7 @@ use Rattle.gas_snapshot.specs.declared.version.Version.TheVariants.{Two}
 use Rattle.gas_snapshot.specs.Spelling.{head, rows, spelling}
 use Rattle.gas_snapshot.proofs.Rows.{rows_cut, rows_more}
 use Rattle.gas_snapshot.proofs.GasLaws.{spelling_two, length_of_rows, same_extent, part}
-use Rattle.gas_snapshot.specs.Written.{WritesFront}
+use Rattle.byte_page.specs.Written.{WritesFront}
 
 -- the same front of a longer list
 front_of : (k : ℕ) (x y : List ℕ) → take (length (take k x)) (x ++ y) ≡ take k x
@@ -25,17 +25,6 @@ front_more a b x y w = (length (take w.0 x), subst (λ (l : List ℕ). Appends a
 
 pub then_front : (a b c : Option (List ℕ)) (x y : List ℕ) → Appends a b x → WritesFront b c y → WritesFront a c (x ++ y)
 then_front a b c x y p w = (length x + w.0, subst (λ (l : List ℕ). Appends a c l) (sym (take-append-add x y w.0)) (Appends-trans a b c x (take w.0 y) p w.1))
-
--- so many bytes more
-more_of : (a b c : Option (List ℕ)) (bytes : List ℕ) (i n : ℕ) → i ≤ length bytes → Appends a b (take i bytes) → Appends b c (take n (drop i bytes)) → Appends a c (take (i + n) bytes)
-more_of a b c bytes i n le p q =
-    let len : length (take i bytes) ≡ i = omega (arith, length-take i bytes) in
-    let whole : take (i + n) bytes ≡ take i bytes ++ take n (drop i bytes) =
-    ap (λ (l : List ℕ). take (i + n) l) (sym (take-append-drop i bytes)) ∙ ap (λ (k : ℕ). take (k + n) (take i bytes ++ drop i bytes)) (sym len) ∙ take-append-add (take i bytes) (drop i bytes) n in
-    subst (λ (l : List ℕ). Appends a c l) (sym whole) (Appends-trans a b c (take i bytes) (take n (drop i bytes)) p q)
-
-pub more_written : (a b c : Option (List ℕ)) (bytes : List ℕ) (i n : ℕ) → i ≤ length bytes → Appends a b (take i bytes) → Appends b c (take n (take (length bytes - i) (drop i bytes))) → Appends a c (take (i + n) bytes)
-more_written a b c bytes i n le p q = grind (arith, length-drop, take-length, more_of, subst)
 
 pub row_written : (a b c : Option (List ℕ)) (cells : Cells) (row : List ℕ) (n : ℕ) → row ≡ row_bytes cells n → Appends a b (flat_map (row_bytes cells) (range_with_len 0 n)) → Appends b c row → Appends a c (flat_map (row_bytes cells) (range_with_len 0 (n + 1)))
 row_written a b c cells row n e p q =

@@ -1,4 +1,3 @@
 pub mod Spelling
 pub mod Reading
 pub mod Shelved
-pub mod Written

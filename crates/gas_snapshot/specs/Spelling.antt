@@ -1,10 +1,10 @@
 -- The one spelling of each gas in each version, field by field. Numbers have their highest byte first.
-use Rattle.std.specs.Prelude.{◌≡◌, ℕ, ◌+◌, ◌*◌, ◌≤◌, ℤ, List, [], ◌∷◌, ◌++◌, length, codes}
+use Rattle.std.specs.Prelude.{◌≡◌, ℕ, ◌≤◌, ℤ, List, [], ◌∷◌, ◌++◌, length, codes}
 use Rattle.std.specs.List.{flat_map, range_with_len}
 use Rattle.std.specs.Int.{w16, w64, to_be_bytes, cast_unsigned}
 use Rattle.gas_terms.specs.Cells.{Cells, Extent, Rectangle, extent}
 use Rattle.gas_terms.specs.Rows.{row_bytes}
-use Rattle.gas_terms.specs.Gas.{Gas, Source, most_ports}
+use Rattle.gas_terms.specs.Gas.{Gas, Source}
 use Rattle.gas_ledger.specs.Gases.{IsSoundGas, no_cells}
 use Rattle.gas_snapshot.specs.declared.version.Version.{Version}
 use Rattle.gas_snapshot.specs.declared.version.Version.TheVariants.{One, Two}
@@ -36,10 +36,6 @@ head version g =
     magic version ++ sides (extent g.particles) ++ moment g.tick
     ++ counts (length g.drains) (length g.sources)
     ++ flat_map drain g.drains ++ flat_map source g.sources
-
--- how many bytes that are at most: those of a gas with all the ports that there may be
-abbrev pub most_head : ℕ
-most_head = 22 + most_ports * (8 + 10)
 
 -- the rows from the upper one on
 unfoldable pub rows : Cells → List ℕ

@@ -10,16 +10,15 @@ mod fields;
 pub mod file_shelf;
 pub mod laws;
 mod page;
-mod put;
 mod reading;
 pub mod shelf;
 mod version;
 mod writer;
 mod writing;
 
+pub use byte_page::WriteFault;
 pub use fault::SnapFault;
 pub use file_shelf::FileShelf;
-pub use put::{WriteFault, put_all};
 pub use reading::decode;
 pub use shelf::{MaybeShelf, NoShelf, Shelf, ShelfFault};
 pub use version::Version;

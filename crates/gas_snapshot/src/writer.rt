@@ -4,10 +4,10 @@ ghost use Rattle.std.specs.Prelude.{◌≡◌, length, IfOk, OnOk, OnErr};
 ghost use Rattle.std.specs.Io.KnownBytes.{Appends};
 ghost use Rattle.gas_snapshot.specs.declared.version.Version.TheVariants.{Two};
 ghost use Rattle.gas_snapshot.specs.Spelling.{rows, spelling};
-ghost use Rattle.gas_snapshot.specs.Written.{WritesFront};
+ghost use Rattle.byte_page.specs.Written.{WritesFront};
 
 use crate::page::head_of;
-use crate::put::{WriteFault, put_all};
+use byte_page::{WriteFault, put_all};
 use gas_ledger::Gas;
 use gas_plane::Plane;
 use gas_terms::MOST_ROW_BYTES;
@@ -39,7 +39,7 @@ pub fn write_to<W: Write>(gas: &Gas, writer: &mut W) -> Result<u64, WriteFault>
         (WritesFront (W.contents writer.old) (W.contents writer.new) (spelling Two gas.now)) }
 {
     let page = head_of(gas);
-    let head = page.as_slice();
+    let head = page.text();
     let size = gas.size();
     let part = size.height() as u64 * (size.width() as u64 / 8);
     put_all(writer, head)?;

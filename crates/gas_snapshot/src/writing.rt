@@ -41,7 +41,7 @@ pub fn encode(alloc: Global, gas: &Gas) -> Result<Vec<u8>, NoMemory>
     ensures { IfOk result (λ bytes. bytes.items ≡ spelling Two gas.now) }
 {
     let page = head_of(gas);
-    let head = page.as_slice();
+    let head = page.text();
     let size = gas.size();
     let part = size.height() as usize * (size.width() as usize / 8);
     let mut out = vec![in alloc; 0; head.len() + 3 * part]?;

@@ -2,7 +2,7 @@
 
 ghost use Rattle.gas_talk.specs.Private.{WritesPart};
 
-use gas_snapshot::put_all;
+use byte_page::put_all;
 use std::io::Write;
 
 /// Writes the text and flushes. If that fails, a part of the text is written.

@@ -16,10 +16,6 @@ use Rattle.gas_text.specs.declared.verb.Verb.{Verb}
 use Rattle.gas_text.specs.declared.verb.Verb.TheVariants as verbs
 use Rattle.gas_text.specs.Verbs.{verb_word}
 
--- how many bytes a reply's line may have: `REPLY_LIMIT`
-abbrev pub reply_limit : ℕ
-reply_limit = 2048
-
 -- words parted by one space
 abbrev pub parted : List (List ℕ) → List ℕ
 parted words = join_with_byte 32 words

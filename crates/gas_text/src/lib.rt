@@ -12,7 +12,9 @@ pub mod request;
 mod verb;
 mod word;
 
-pub use page::{ReplyPage, reply_text};
+/// The page that a reply's line is written to.
+pub use byte_page::BytePage as ReplyPage;
+pub use page::reply_text;
 pub use reading::read_command;
 pub use reply::Reply;
 pub use request::Request;

@@ -6,8 +6,8 @@ use Rattle.gas_snapshot.proofs.page.head_of.Goals as goal
 
 pub returns : goal.returns
 returns c =
-    head_chain c.args.gas.now c.empty-page.result c.put_bytes.new.self c.put_u16.new.self c.put_u16-2.new.self c.put_tick.new.self c.put_bytes-2.new.self c.put_drains.new.self c.put_sources.new.self
+    head_chain c.args.gas.now c.empty-page.result c.push.new.self c.put_u16.new.page c.put_u16-2.new.page c.put_tick.new.page c.push-2.new.self c.put_drains.new.page c.put_sources.new.page
     c.drains-drains.result.now c.sources-sources.result.now c.width.result c.height.result c.tick.result
     (c.width.ensures ∙ ap (λ (e : Extent). e.width) c.size-size.ensures.extent) (c.height.ensures ∙ ap (λ (e : Extent). e.height) c.size-size.ensures.extent) c.tick.ensures
     (c.drains-drains.ensures.drains ∙ ap (λ (p : PortLists). p.drains) c.ports.ensures) (c.sources-sources.ensures.sources ∙ ap (λ (p : PortLists). p.sources) c.ports-2.ensures)
-    c.empty-page.ensures c.put_bytes.ensures.bytes c.put_u16.ensures.bytes c.put_u16-2.ensures.bytes c.put_tick.ensures.bytes c.put_bytes-2.ensures.bytes c.put_drains.ensures.bytes c.put_sources.ensures.bytes
+    c.empty-page.ensures c.push.ensures.bytes c.put_u16.ensures.bytes c.put_u16-2.ensures.bytes c.put_tick.ensures.bytes c.push-2.ensures.bytes c.put_drains.ensures.bytes c.put_sources.ensures.bytes

@@ -2,7 +2,7 @@
 
 ghost use Rattle.std.specs.Prelude.{OnOk, OnErr};
 ghost use Rattle.std.specs.Io.KnownBytes.{Appends};
-ghost use Rattle.gas_snapshot.specs.Written.{WritesFront};
+ghost use Rattle.byte_page.specs.Written.{WritesFront};
 
 use std::error::Error;
 use std::fmt;
@@ -15,10 +15,10 @@ pub struct WriteFault;
 impl fmt::Display for WriteFault {
     ghost use Rattle.std.specs.Prelude.{codes, Some};
 
-    ghost output = { λ _. Some (codes "the snapshot was not written whole") };
+    ghost output = { λ _. Some (codes "the bytes were not written whole") };
 
     fn fmt<W: fmt::Write>(&self, f: &mut fmt::Formatter<W>) -> fmt::Result {
-        write!(f, "the snapshot was not written whole")
+        write!(f, "the bytes were not written whole")
     }
 }
 

@@ -1,6 +1,6 @@
 use Rattle.std.proofs.Common.{◌≤◌, ◌-◌, length, take}
 use Rattle.std.specs.Io.KnownBytes.{Appends}
-use Rattle.gas_snapshot.proofs.put.put_all.Given as goal
+use Rattle.byte_page.proofs.put.put_all.Given as goal
 
 abbrev pub invariant-loop-from : goal.invariant-loop-from
 invariant-loop-from g l = Appends (g.W.Write.contents l.fn.writer) (g.W.Write.contents l.writer) (take l.from l.bytes) × (l.from ≤ length l.bytes)

@@ -1,6 +1,6 @@
 use Rattle.std.proofs.Common.{arith, length-drop}
-use Rattle.gas_snapshot.proofs.Writes.{more_written}
-use Rattle.gas_snapshot.proofs.put.put_all.Goals as goal
+use Rattle.byte_page.proofs.Writes.{more_written}
+use Rattle.byte_page.proofs.put.put_all.Goals as goal
 
 pub loop-from-preserved : goal.loop-from-preserved
 loop-from-preserved g c = (

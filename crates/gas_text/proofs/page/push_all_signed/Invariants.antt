@@ -1,11 +1,11 @@
 use Rattle.std.proofs.Common.{◌≡◌, ◌≤◌, ◌+◌, ◌*◌, ◌++◌, length, map, drop}
 use Rattle.std.specs.Fmt.{signed_decimal}
 use Rattle.gas_text.specs.Texts.{spaced}
-use Rattle.gas_text.proofs.page.ReplyPage.push_all_signed.Given as goal
+use Rattle.gas_text.proofs.page.push_all_signed.Given as goal
 
 -- what is there and what is left to write are the whole
 abbrev pub invariant-loop-n : goal.invariant-loop-n
 invariant-loop-n l = record {
-  text : l.self ++ spaced (map signed_decimal (drop l.n-index l.numbers)) ≡ l.fn.self ++ spaced (map signed_decimal l.numbers);
-  short : length l.self ≤ length l.fn.self + 21 * l.n-index;
+  text : l.page ++ spaced (map signed_decimal (drop l.n-index l.numbers)) ≡ l.fn.page ++ spaced (map signed_decimal l.numbers);
+  short : length l.page ≤ length l.fn.page + 21 * l.n-index;
 }
