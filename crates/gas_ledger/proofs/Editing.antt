@@ -1,5 +1,5 @@
 -- Edits of a gas with its ledger.
-use Rattle.std.proofs.Common.{◌≡◌, ◌≢◌, ℕ, false, ℤ, refl, sym, ap, subst, ◌∙◌}
+use Rattle.std.proofs.Common.{◌≡◌, false, ℤ, refl, sym, ap, subst, ◌∙◌}
 use Rattle.gas_terms.specs.Cells.{IsEvenTorus}
 use Rattle.gas_terms.specs.Gas.{Gas}
 use Rattle.gas_terms.specs.Accounts.{nothing, gained, FitsI64, moved_by, with_moved}
@@ -7,67 +7,22 @@ use Rattle.gas_terms.specs.Commands.{enact, is_move}
 use Rattle.gas_terms.specs.BookedGas.{BookedGas, changed, book}
 use Rattle.gas_terms.specs.declared.accounts.Ledger.{Ledger}
 use Rattle.gas_terms.specs.declared.command.Command.{Command}
-use Rattle.gas_terms.specs.declared.command.Command.TheVariants.{Put, Erase, Wall, Block, Unwall, Row, Source, Drain, Unport, Step, Back, Probe, Tally, Ledger as Accounting, Read, Entry as EntryAt}
+use Rattle.gas_terms.specs.declared.command.Command.TheVariants.{Step, Back}
 use Rattle.gas_terms.proofs.Stretches.{total-without_itself}
 use Rattle.phase_step.specs.Actions.{unmoved}
 use Rattle.gas_terms.specs.declared.accounts.Moved.{Moved}
 use Rattle.gas_ledger.proofs.Stepping.{pair}
 
--- What is neither of the moves is no move.
-pub no_move : (command : Command) → ((n : ℕ) → command ≢ Step n) → ((n : ℕ) → command ≢ Back n) → is_move command ≡ false
-no_move (Step n) forth back = absurd (forth n refl)
-no_move (Back n) forth back = absurd (back n refl)
-no_move (Put r) forth back = refl
-no_move (Erase r) forth back = refl
-no_move (Wall r) forth back = refl
-no_move (Block r) forth back = refl
-no_move (Unwall r) forth back = refl
-no_move (Row y bits) forth back = refl
-no_move (Source r n) forth back = refl
-no_move (Drain r) forth back = refl
-no_move Unport forth back = refl
-no_move (Probe r) forth back = refl
-no_move Tally forth back = refl
-no_move Accounting forth back = refl
-no_move (Read y) forth back = refl
-no_move (EntryAt k) forth back = refl
-
 -- What is no move is booked as one change.
 book_edit : (b : BookedGas) (command : Command) → is_move command ≡ false → book b command ≡ changed b (enact b.gas command)
-book_edit b (Put r) still = refl
-book_edit b (Erase r) still = refl
-book_edit b (Wall r) still = refl
-book_edit b (Block r) still = refl
-book_edit b (Unwall r) still = refl
-book_edit b (Row y bits) still = refl
-book_edit b (Source r n) still = refl
-book_edit b (Drain r) still = refl
-book_edit b Unport still = refl
 book_edit b (Step n) still = cc
 book_edit b (Back n) still = cc
-book_edit b (Probe r) still = refl
-book_edit b Tally still = refl
-book_edit b Accounting still = refl
-book_edit b (Read y) still = refl
-book_edit b (EntryAt k) still = refl
+book_edit b _ still = refl
 
 edit_tick : (g : Gas) (command : Command) → is_move command ≡ false → (enact g command).tick ≡ g.tick
-edit_tick g (Put r) still = refl
-edit_tick g (Erase r) still = refl
-edit_tick g (Wall r) still = refl
-edit_tick g (Block r) still = refl
-edit_tick g (Unwall r) still = refl
-edit_tick g (Row y bits) still = refl
-edit_tick g (Source r n) still = refl
-edit_tick g (Drain r) still = refl
-edit_tick g Unport still = refl
 edit_tick g (Step n) still = cc
 edit_tick g (Back n) still = cc
-edit_tick g (Probe r) still = refl
-edit_tick g Tally still = refl
-edit_tick g Accounting still = refl
-edit_tick g (Read y) still = refl
-edit_tick g (EntryAt k) still = refl
+edit_tick g _ still = refl
 
 -- What leaves the particles moves none.
 pub quiet_moves : (g g' h : Gas) → IsEvenTorus g.particles → g' ≡ h → h.particles ≡ g.particles → unmoved ≡ moved_by g.tick g.particles g'.particles

@@ -10,7 +10,7 @@ use Rattle.gas_terms.specs.BookedGas.{BookedGas, stepped, stepped_back, book}
 use Rattle.gas_terms.specs.declared.accounts.Ledger.{Ledger}
 use Rattle.gas_terms.specs.declared.accounts.Took.{Took}
 use Rattle.gas_terms.specs.declared.command.Command.{Command}
-use Rattle.gas_terms.specs.declared.command.Command.TheVariants.{Put, Erase, Wall, Block, Unwall, Row, Source, Drain, Unport, Step, Back, Probe, Tally, Ledger as Accounting, Read, Entry as EntryAt}
+use Rattle.gas_terms.specs.declared.command.Command.TheVariants.{Step, Back}
 use Rattle.gas_terms.proofs.AccountBounds.{size-even}
 use Rattle.gas_plane.specs.Planes.{IsLattice}
 use Rattle.phase_step.proofs.RunSteps.{back_run}
@@ -66,17 +66,4 @@ stepped_back_tick (suc n) b =
 pub book_tick : (b : BookedGas) (command : Command) → TickHolds b.gas.tick command → is_tick b.gas.tick ≡ true → is_tick (book b command).gas.tick ≡ true
 book_tick b (Step n) holds tick = subst (λ t. is_tick t ≡ true) (sym (stepped_tick n b)) (holds)
 book_tick b (Back n) holds tick = subst (λ t. is_tick t ≡ true) (sym (stepped_back_tick n b)) (holds)
-book_tick b (Put r) holds tick = tick
-book_tick b (Erase r) holds tick = tick
-book_tick b (Wall r) holds tick = tick
-book_tick b (Block r) holds tick = tick
-book_tick b (Unwall r) holds tick = tick
-book_tick b (Row y bits) holds tick = tick
-book_tick b (Source r n) holds tick = tick
-book_tick b (Drain r) holds tick = tick
-book_tick b Unport holds tick = tick
-book_tick b (Probe r) holds tick = tick
-book_tick b Tally holds tick = tick
-book_tick b Accounting holds tick = tick
-book_tick b (Read y) holds tick = tick
-book_tick b (EntryAt k) holds tick = tick
+book_tick b _ holds tick = tick

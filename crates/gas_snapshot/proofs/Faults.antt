@@ -5,30 +5,19 @@ use Rattle.gas_terms.specs.Cells.{Extent, lies_within}
 use Rattle.gas_terms.specs.Commands.{is_period, is_tick}
 use Rattle.gas_snapshot.specs.declared.version.Version.TheVariants.{One, Two}
 use Rattle.gas_snapshot.specs.declared.fault.SnapFault.{SnapFault}
-use Rattle.gas_snapshot.specs.declared.fault.SnapFault.TheVariants.{Short, Magic, Size, Tick, Port, Trailing, Memory}
+use Rattle.gas_snapshot.specs.declared.fault.SnapFault.TheVariants.{Short, Port, Memory}
 use Rattle.gas_snapshot.specs.Spelling.{magic}
 use Rattle.gas_snapshot.specs.Reading.{◌>>=◌, field_at, number, magic_at, is_size_of, size_in, size_at, tick_in, tick_at, counts_in, are_few, counts_at, area_in, source_in, drain_at, source_at, many, ports_at, Head, head_at, body_at, reading, Fails}
 
 -- a fault of the bytes, or none
 abbrev pub IsHonest : {A : Type 0} → Result A SnapFault → Type 0
-IsHonest (Ok x) = Unit {0}
-IsHonest (Err Short) = Unit {0}
-IsHonest (Err Magic) = Unit {0}
-IsHonest (Err Size) = Unit {0}
-IsHonest (Err Tick) = Unit {0}
-IsHonest (Err Port) = Unit {0}
-IsHonest (Err Trailing) = Unit {0}
 IsHonest (Err Memory) = ⊥
+IsHonest _ = Unit {0}
 
 then_honest : {A B : Type 0} (r : Result A SnapFault) (f : A → Result B SnapFault) → IsHonest r → ((x : A) → IsHonest (f x)) → IsHonest (r >>= f)
 then_honest (Ok x) f h k = k x
-then_honest (Err Short) f h k = tt
-then_honest (Err Magic) f h k = tt
-then_honest (Err Size) f h k = tt
-then_honest (Err Tick) f h k = tt
-then_honest (Err Port) f h k = tt
-then_honest (Err Trailing) f h k = tt
 then_honest (Err Memory) f h k = h
+then_honest (Err _) f h k = tt
 
 test_honest : {A : Type 0} (b : Bool) (x y : Result A SnapFault) → IsHonest x → IsHonest y → IsHonest (cond b x y)
 test_honest true x y h k = h
@@ -67,10 +56,5 @@ head_honest bytes =
 -- a fault of the head is a fault of the whole
 pub head_fails : (bytes : List ℕ) (f : SnapFault) → head_at bytes ≡ Err f → Fails f (reading bytes)
 unfolding reading
-head_fails bytes Short e = ap (λ (r : Result (Head × List ℕ) SnapFault). r >>= λ h. body_at h.0 h.1) e
-head_fails bytes Magic e = ap (λ (r : Result (Head × List ℕ) SnapFault). r >>= λ h. body_at h.0 h.1) e
-head_fails bytes Size e = ap (λ (r : Result (Head × List ℕ) SnapFault). r >>= λ h. body_at h.0 h.1) e
-head_fails bytes Tick e = ap (λ (r : Result (Head × List ℕ) SnapFault). r >>= λ h. body_at h.0 h.1) e
-head_fails bytes Port e = ap (λ (r : Result (Head × List ℕ) SnapFault). r >>= λ h. body_at h.0 h.1) e
-head_fails bytes Trailing e = ap (λ (r : Result (Head × List ℕ) SnapFault). r >>= λ h. body_at h.0 h.1) e
 head_fails bytes Memory e = absurd (subst (λ (r : Result (Head × List ℕ) SnapFault). IsHonest r) e (head_honest bytes))
+head_fails bytes _ e = ap (λ (r : Result (Head × List ℕ) SnapFault). r >>= λ h. body_at h.0 h.1) e

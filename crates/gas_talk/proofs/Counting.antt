@@ -2,7 +2,7 @@
 use Rattle.std.proofs.Common.{◌≡◌, ◌≢◌, ℕ, ◌+◌, ◌*◌, ◌<◌, ◌≤◌, nat_lt, true, false, List, [], ◌++◌, length, None, refl, sym, append-nil, arith, length-append}
 use Rattle.std.proofs.lemmas.Bool.Decides.{nat_tests}
 use Rattle.gas_talk.specs.declared.end.SessionEnd.{SessionEnd}
-use Rattle.gas_talk.specs.declared.end.SessionEnd.TheVariants.{Quit, InputEnd, ReadFault, WriteFault, BadLine, Memory, TooManyReads}
+use Rattle.gas_talk.specs.declared.end.SessionEnd.TheVariants.{InputEnd, ReadFault, TooManyReads}
 use Rattle.gas_terms.specs.Cells.{Extent}
 use Rattle.gas_talk.specs.Lines.{lines}
 use Rattle.gas_talk.specs.Ends.{ending, read_limit, most_reads, empty_reads, AreReads, StopsAtEnd}
@@ -28,11 +28,7 @@ one_more count left left' n input more c spent len few some = record {
 none_empty : (end : SessionEnd) → end ≢ InputEnd → end ≢ ReadFault → empty_reads end ≡ 0
 none_empty InputEnd h f = absurd (h refl)
 none_empty ReadFault h f = absurd (f refl)
-none_empty Quit h f = refl
-none_empty WriteFault h f = refl
-none_empty BadLine h f = refl
-none_empty Memory h f = refl
-none_empty TooManyReads h f = refl
+none_empty _ h f = refl
 
 -- an end at which each read gave something
 pub after_read : (count left : ℕ) (input : List ℕ) (end : SessionEnd) → Counts count left input

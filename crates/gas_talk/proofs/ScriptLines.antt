@@ -26,7 +26,7 @@ use Rattle.gas_talk.specs.Lines.{text, line_limit, is_newline, line_text, is_goo
 use Rattle.gas_text.specs.Texts.{area_numbers, parted, command_text, IsTyped}
 use Rattle.gas_text.specs.Verbs.{verb_word}
 use Rattle.gas_text.specs.declared.verb.Verb.{Verb}
-use Rattle.gas_text.specs.declared.verb.Verb.TheVariants.{Put, Erase, Wall, Block, Unwall, Drain, Probe, Source, Row, Step, Back, Read, Entry, Unport, Tally, Ledger, Save, Quit}
+use Rattle.gas_text.specs.declared.verb.Verb.TheVariants.{Put, Erase, Wall, Block, Unwall, Drain, Probe, Source, Row, Step, Back, Read, Entry, Unport, Tally, Ledger}
 
 -- ---- what is a line, whatever comes after it
 
@@ -112,43 +112,11 @@ bits_plain bits bytes =
 
 verb_plain : (verb : Verb) → are_plain (verb_word verb) ≡ true
 verb_plain Put = refl
-verb_plain Erase = refl
-verb_plain Wall = refl
-verb_plain Block = refl
-verb_plain Unwall = refl
-verb_plain Drain = refl
-verb_plain Probe = refl
-verb_plain Source = refl
-verb_plain Row = refl
-verb_plain Step = refl
-verb_plain Back = refl
-verb_plain Read = refl
-verb_plain Entry = refl
-verb_plain Unport = refl
-verb_plain Tally = refl
-verb_plain Ledger = refl
-verb_plain Save = refl
-verb_plain Quit = refl
+verb_plain _ = refl
 
 verb_short : (verb : Verb) → length (verb_word verb) ≤ 10
 verb_short Put = omega arith
-verb_short Erase = omega arith
-verb_short Wall = omega arith
-verb_short Block = omega arith
-verb_short Unwall = omega arith
-verb_short Drain = omega arith
-verb_short Probe = omega arith
-verb_short Source = omega arith
-verb_short Row = omega arith
-verb_short Step = omega arith
-verb_short Back = omega arith
-verb_short Read = omega arith
-verb_short Entry = omega arith
-verb_short Unport = omega arith
-verb_short Tally = omega arith
-verb_short Ledger = omega arith
-verb_short Save = omega arith
-verb_short Quit = omega arith
+verb_short _ = omega arith
 
 -- ---- commands
 

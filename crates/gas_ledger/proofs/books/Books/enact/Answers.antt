@@ -1,4 +1,4 @@
-use Rattle.std.proofs.Common.{◌≡◌, ◌≤◌, ◌∙◌, false, ap, subst}
+use Rattle.std.proofs.Common.{◌≡◌, ◌≤◌, ◌∙◌, false, ap, subst, rules}
 use Rattle.gas_terms.specs.BookedGas.{changes}
 use Rattle.gas_terms.specs.declared.command.Command.TheVariants.{Step, Back}
 use Rattle.gas_terms.specs.Commands.{is_move}
@@ -6,7 +6,7 @@ use Rattle.gas_terms.proofs.LabBounds.{few_changes}
 use Rattle.gas_terms.specs.Accounts.{with_moved}
 use Rattle.gas_ledger.specs.Books.{books_of}
 use Rattle.gas_ledger.proofs.Stepping.{pair}
-use Rattle.gas_ledger.proofs.Editing.{no_move, edit_booked, edit_fits}
+use Rattle.gas_ledger.proofs.Editing.{edit_booked, edit_fits}
 use Rattle.gas_ledger.proofs.books.Books.enact.Goals as goal
 
 pub steps-requires-clause-fits : goal.steps-requires-clause-fits
@@ -22,7 +22,7 @@ steps_back-requires-clause-fits g c =
 pub with_moved-self-requires : goal.with_moved-self-requires
 with_moved-self-requires g c =
     let b = books_of c.args.self.now in
-    let still : is_move c.args.command.now ≡ false = no_move c.args.command.now c.in_default.not-Step c.in_default.not-Back in
+    let still : is_move c.args.command.now ≡ false = search rules in
     let same = edit_booked b.gas c.edited-moved.new.gas b.ledger c.edited-moved.result c.args.command.now still c.edited-moved.ensures.gas c.edited-moved.ensures.moved in
     let fits = edit_fits (pair c.edited-moved.new.gas (with_moved b.ledger c.edited-moved.result)) _ same (c.requires.fits c.args.command.now (few_changes _ c.args.command.now c.requires.in_order)) in
     record { injected = fits.injected; drained = fits.drained }
@@ -30,6 +30,6 @@ with_moved-self-requires g c =
 pub returns-in_default-clause-booked : goal.returns-in_default-clause-booked
 returns-in_default-clause-booked g c =
     let b = books_of c.args.self.now in
-    let still : is_move c.args.command.now ≡ false = no_move c.args.command.now c.in_default.not-Step c.in_default.not-Back in
+    let still : is_move c.args.command.now ≡ false = search rules in
     ap (pair c.edited-moved.new.gas) c.with_moved-self.ensures
     ∙ edit_booked b.gas c.edited-moved.new.gas b.ledger c.edited-moved.result c.args.command.now still c.edited-moved.ensures.gas c.edited-moved.ensures.moved
