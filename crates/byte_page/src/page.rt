@@ -51,6 +51,7 @@ impl BytePage {
     }
 
     /// Adds bytes, for which there must be room.
+    #[inline]
     pub fn push(&mut self, bytes: &[u8])
         requires { length self.old + length bytes.now ≤ page_limit }
         ensures bytes { self.new ≡ self.old ++ bytes.now }
