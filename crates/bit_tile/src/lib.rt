@@ -93,7 +93,7 @@ impl Tile {
         (self.class_of(x, y)[(y / 2) as usize] >> (x / 2)) & 1 == 1
     }
 
-    // the class that has the cell in column x of row y
+    // The class that has the cell in column x of row y.
     fn class_of(&self, x: u32, y: u32) -> &[u32; 32]
         ensures { result.now ≡ class_of self.now x y }
     {
@@ -203,7 +203,7 @@ impl Tile {
         true
     }
 
-    // 0 exactly if rows 2 * j and 2 * j + 1 have no cells
+    // 0 exactly if rows 2 * j and 2 * j + 1 have no cells.
     #[inline]
     fn any_in_rows(&self, j: usize) -> u32
         requires { j < 32 }

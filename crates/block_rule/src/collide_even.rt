@@ -29,7 +29,7 @@ fn collided_eight<W: Walled>(walled: W, from: usize, tile: &Tile) -> EightRows
     };
     for k in 0..8usize {
         let j = from + k;
-        // read first, so that the compiler shares no read of cells with rows of no walled block
+        // Read first, so that the compiler shares no read of cells with rows of no walled block.
         let kept = walled.even(j);
         let old = Blocks {
             upper_left: tile.even_even[j],

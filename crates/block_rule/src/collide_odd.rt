@@ -112,12 +112,12 @@ pub fn collide_odd<W: Walled>(walled: W, tile: &Tile, round: &Round, out: &mut T
         TellsRows (W.told walled) (is_walled_at 1 solid) →
         HasCells out.new (turned 1 window solid) }
 {
-    // the references are read once
+    // The references are read once.
     let near = *round;
     let top = collided_odd(top_row(tile, &near), walled.begin(0), walled.end(0));
     out.odd_even[0] = top.lower_left;
     out.even_even[0] = top.lower_right;
-    // four times eight rows: row 23 comes twice
+    // Four times eight rows: row 23 comes twice.
     collide_eight(walled, tile, &near, 0, out);
     collide_eight(walled, tile, &near, 8, out);
     collide_eight(walled, tile, &near, 16, out);

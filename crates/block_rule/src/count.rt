@@ -15,7 +15,7 @@ pub fn count_class(cells: &[u32; 32], places: &[u32; 32]) -> u32
     ensures bound { result ≤ 1024 }
 {
     let mut n = 0;
-    // two rows at a time
+    // Two rows at a time.
     for k in 0..16usize {
         let j = 2 * k;
         n += (joined(cells[j], cells[j + 1]) & joined(places[j], places[j + 1])).count_ones();
@@ -32,7 +32,7 @@ pub struct Classes {
     pub odd_odd: u32,
 }
 
-// twice the difference
+// Twice the difference.
 fn twice(forward: u32, back: u32) -> i64
     requires forward { forward ≤ 2048 }
     requires back { back ≤ 2048 }

@@ -20,21 +20,21 @@ use crate::walled::{Counted, NoBlocks, OfBoth, OfOne};
 use bit_tile::Tile;
 use gas_terms::{Pair, Took};
 
-// the first 32 of these words
+// The first 32 of these words.
 fn first_words(words: &[u32; 33]) -> &[u32; 32]
     ensures { (j : ℕ) → j < 32 → slice_index result.now j ≡ slice_index words.now j }
 {
     words.first_chunk().unwrap()
 }
 
-// and the last 32
+// And the last 32.
 fn last_words(words: &[u32; 33]) -> &[u32; 32]
     ensures { (j : ℕ) → j < 32 → slice_index result.now j ≡ slice_index words.now (j + 1) }
 {
     words.last_chunk().unwrap()
 }
 
-// the tile's cells in the blocks of even parity
+// The tile's cells in the blocks of even parity.
 fn even_cells(words: &[u32; 32]) -> Tile
     ensures { (window : ℕ → ℕ → Bool) → AreEvenBlocksOf words.now (is_walled_at 0 window) →
         HasCells result (is_walled_at 0 window) }
@@ -60,7 +60,7 @@ pub fn odd_cells(words: &OddBlocks) -> Tile
     }
 }
 
-// the tile's cells in blocks of this parity
+// The tile's cells in blocks of this parity.
 fn cells_in(set: SetBlocks<'_>, parity: u8) -> Tile
     requires { parity < 2 }
     ensures { (window : ℕ → ℕ → Bool) →
@@ -88,7 +88,7 @@ fn momentum_even(tile: &Tile, words: &[u32; 32]) -> Pair
     momentum(counts, 0)
 }
 
-// and of odd parity
+// And of odd parity.
 fn momentum_odd(tile: &Tile, words: &OddBlocks) -> Pair
     ensures { (window : ℕ → ℕ → Bool) → AreOddBlocksOf words.now (is_walled_at 1 window) →
         result ≡ twice_momentum 1 (λ x y. has tile.now x y && is_walled_at 1 window x y) }

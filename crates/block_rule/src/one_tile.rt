@@ -34,7 +34,7 @@ pub fn turn_block(cells: [bool; 4], walled: bool) -> [bool; 4]
     }
 }
 
-// a tile with neighbors that were made from its border
+// A tile with neighbors that were made from its border.
 fn window_of<'a>(tile: &'a Tile, near: &'a Neighbors) -> Window<'a>
     ensures tile { result.tile.now ≡ tile.now }
     ensures seen { (b : BorderValue) →

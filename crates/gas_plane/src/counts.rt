@@ -35,7 +35,7 @@ impl Plane {
     }
 }
 
-// how many cells of the tile that begins at (left, top) the rectangle has in each class
+// How many cells of the tile that begins at (left, top) the rectangle has in each class.
 fn counts_of(tile: &Tile, area: Rect, left: u32, top: u32) -> [u32; 4]
     ensures counts { (a b : ℕ) → a < 2 → b < 2 → slice_index result (2 * b + a) ≡
         count_cells (λ x y. (in_tile.has tile.now x y && is_inside area (left + x) (top + y))

@@ -38,7 +38,7 @@ use std::marker::Model;
 #[derive(Drop)]
 pub struct Plane {
     size: Size,
-    // row by row
+    // Row by row.
     tiles: Vec<Room>,
     marks: Vec<Mark>,
 }
@@ -181,7 +181,7 @@ impl Plane {
     {
         let across = self.across();
         let down = self.down();
-        // a tile that has cells needs no look round it
+        // A tile that has cells needs no look round it.
         if !self.is_bare(i) {
             return false;
         }
@@ -193,7 +193,7 @@ impl Plane {
         above & here & below
     }
 
-    // whether the tile in this column and row of tiles has no cell, nor one of the two beside it
+    // Whether the tile in this column and row of tiles has no cell, nor one of the two beside it.
     #[inline]
     fn are_three_bare(&self, column: u32, row: u32) -> bool
         requires column { column < self.now.width / 64 }
@@ -217,7 +217,7 @@ impl Plane {
         (self.size.width() / 64) as u32
     }
 
-    // how many rows of tiles there are
+    // How many rows of tiles there are.
     fn down(&self) -> u32
         ensures down { result ≡ self.now.height / 64 }
         ensures lattice { IsLattice self.now }
@@ -226,7 +226,7 @@ impl Plane {
         (self.size.height() / 64) as u32
     }
 
-    // the rooms from the one that has the first tile of this row of tiles
+    // The rooms from the one that has the first tile of this row of tiles.
     #[inline]
     fn rooms_from(&self, row: u32) -> &[Room]
         requires { row < self.now.height / 64 }

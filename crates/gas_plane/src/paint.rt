@@ -34,7 +34,7 @@ impl Plane {
         }
     }
 
-    // the same in one row of tiles
+    // The same in one row of tiles.
     fn paint_row(&mut self, row: u32, area: Rect, held: bool)
         requires { row < self.old.height / 64 }
         ensures { self.new ≡
@@ -52,7 +52,7 @@ impl Plane {
         }
     }
 
-    // puts all cells into tile i, or takes them out
+    // Puts all cells into tile i, or takes them out.
     fn paint_whole_tile(&mut self, i: u32, held: bool)
         requires { i < tile_count self.old }
         ensures { self.new ≡ painted_where self.old (λ x y. tile_of self.old x y == i) held }
@@ -61,7 +61,7 @@ impl Plane {
         self.set_tile(i, tile);
     }
 
-    // puts the part's cells into tile i, or takes them out
+    // Puts the part's cells into tile i, or takes them out.
     fn paint_tile(&mut self, i: u32, part: &Tile, held: bool)
         requires lattice { IsLattice self.old }
         requires i { i < tile_count self.old }

@@ -45,7 +45,7 @@ pub fn is_covered(area: Rect, left: u32, top: u32) -> bool
     spans(area.x(), area.w(), left) && spans(area.y(), area.h(), top)
 }
 
-// whether the `len` places from `start` on have all 64 from `from` on
+// Whether the `len` places from `start` on have all 64 from `from` on.
 fn spans(start: u16, len: u16, from: u32) -> bool
     ensures { IsTrue result ↔ (start ≤ from) × (from + 64 ≤ start + len) }
 {
@@ -53,7 +53,7 @@ fn spans(start: u16, len: u16, from: u32) -> bool
     start <= from && 64 <= (start + u32::from(len)).saturating_sub(from)
 }
 
-// what `len` places from `start` on have in common with the 64 from `from` on: where that begins there, and how many
+// What `len` places from `start` on have in common with the 64 from `from` on: where that begins there, and how many.
 pub fn overlap(start: u32, len: u32, from: u32) -> (u32, u32)
     requires { start + len < 2 ^ 32 }
     ensures within { result.0 + result.1 ≤ 64 }

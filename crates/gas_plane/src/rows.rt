@@ -57,7 +57,7 @@ impl Plane {
         ensures { self.new ≡ with_word self.old column y word }
     {
         let across = self.across();
-        // most rows that are loaded have not changed, and then the tile is not lent
+        // Most rows that are loaded have not changed, and then the tile is not lent.
         if self.word(column, y) != word {
             let tile = self.tile_mut(y / 64 * across + column);
             tile.set_row((y % 64) as usize, word);
@@ -65,7 +65,7 @@ impl Plane {
     }
 }
 
-// the cells of a word, eight in a byte: the leftmost is the highest bit of the first
+// The cells of a word, eight in a byte: the leftmost is the highest bit of the first.
 fn bytes_of(word: u64) -> [u8; 8]
     ensures { (k i : ℕ) → k < 8 → i < 8 →
         bit (slice_index result k) (7 - i) ≡ bit word (8 * k + i) }
@@ -83,7 +83,7 @@ pub fn word_of(bytes: &[u8]) -> u64
     ]))
 }
 
-// the word with the bits of each byte in reverse
+// The word with the bits of each byte in reverse.
 fn mirrored(word: u64) -> u64
     ensures { (i : ℕ) → i < 64 → bit result i ≡ bit word (i / 8 * 8 + (7 - i % 8)) }
 {

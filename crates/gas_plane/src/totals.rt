@@ -18,7 +18,7 @@ impl Plane {
         ensures sums { (tick : ℤ) → of_tick tick ≡ parity → result ≡ total_in tick self.now area }
         ensures bounded { IsOfAtMost (2 ^ 24) result }
     {
-        // no side of it is longer than a lattice's
+        // No side of it is longer than a lattice's.
         let _ = self.size();
         Sums::of_counts(self.counts_in(area), parity)
     }

@@ -10,11 +10,11 @@ use bit_tile::Tile;
 /// The ring of cells that touch a tile: cells of the eight tiles round it.
 #[derive(Clone, Copy)]
 pub struct Border {
-    // the row above the tile and the row below it
+    // The row above the tile and the row below it.
     above: u64,
     below: u64,
-    // for each row from the one above to the one below: the cell to the left of the tile's columns is the lowest bit,
-    // the cell to their right is the highest
+    // For each row from the one above to the one below: the cell to the left of the tile's columns is the lowest bit,
+    // the cell to their right is the highest.
     sides: [u64; 66],
 }
 
@@ -66,7 +66,7 @@ impl Border {
     pub fn surround(&mut self, round: &Round)
         ensures { IsBorderOfRound self.new round.now }
     {
-        // the references are read once
+        // The references are read once.
         let near = *round;
         let sides = &mut self.sides;
         for y in 0..64usize {
@@ -100,7 +100,7 @@ impl Border {
         }
     }
 
-    // the tile on the left and the one on the right
+    // The tile on the left and the one on the right.
     fn beside(&self) -> (Tile, Tile)
         ensures left { (y : ℕ) → y < 64 → ring self.now 0 (y + 1) ≡ has result.0 63 y }
         ensures right { (y : ℕ) → y < 64 → ring self.now 65 (y + 1) ≡ has result.1 0 y }
@@ -179,7 +179,7 @@ impl Neighbors {
     }
 }
 
-// a tile with the cell in column x of row y, or without cells
+// A tile with the cell in column x of row y, or without cells.
 fn one_cell(x: u32, y: u32, held: bool) -> Tile
     requires x { x < 64 }
     requires y { y < 64 }
@@ -190,7 +190,7 @@ fn one_cell(x: u32, y: u32, held: bool) -> Tile
     tile
 }
 
-// the last cell of one row and the first of another, as the lowest and the highest bit
+// The last cell of one row and the first of another, as the lowest and the highest bit.
 fn side(left: u64, right: u64) -> u64
     ensures low { bit result 0 ≡ bit left 63 }
     ensures high { bit result 63 ≡ bit right 0 }
