@@ -7,7 +7,8 @@ ghost use Rattle.bit_tile.specs.Tile.{in_class};
 
 use crate::word::joined;
 
-/// The columns from `first` up to `end`.
+/// The bits from `first` up to `end`.
+#[inline(always)]
 pub fn span(first: u32, end: u32) -> u32
     requires order { first ≤ end }
     requires within { end ≤ 32 }

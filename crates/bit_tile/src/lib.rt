@@ -10,7 +10,8 @@ mod class;
 mod row;
 mod word;
 
-use class::{add, both, ones, put, remove, rows_of, same, span};
+pub use class::span;
+use class::{add, both, ones, put, remove, rows_of, same};
 pub use row::counts_in_row;
 pub use word::joined;
 use word::{gather, in_turn};

@@ -23,6 +23,16 @@ pub struct EightRows {
     pub lower_right: [u32; 8],
 }
 
+impl EightRows {
+    /// Rows without cells.
+    pub const ZERO: EightRows = EightRows {
+        upper_left: [0; 8],
+        upper_right: [0; 8],
+        lower_left: [0; 8],
+        lower_right: [0; 8],
+    };
+}
+
 /// The corners that a row of blocks has in the tile beside its own: in its upper and in its lower row.
 #[derive(Clone, Copy)]
 pub struct Beside {

@@ -21,12 +21,7 @@ fn collided_eight<W: Walled>(walled: W, from: usize, tile: &Tile) -> EightRows
         IsMade (λ i. turned_cell (bit (W.evens walled (from + k)) i))
         (even_row tile.now (from + k)) (eight_row result k) }
 {
-    let mut rows = EightRows {
-        upper_left: [0; 8],
-        upper_right: [0; 8],
-        lower_left: [0; 8],
-        lower_right: [0; 8],
-    };
+    let mut rows = EightRows::ZERO;
     for k in 0..8usize {
         let j = from + k;
         // Read first, so that the compiler shares no read of cells with rows of no walled block.

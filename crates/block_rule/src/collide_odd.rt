@@ -63,12 +63,7 @@ fn collided_eight<W: Walled>(
         IsCollidedOdd (W.begins walled (from + k + 1)) (W.ends walled (from + k + 1))
         window (2 * (from + k) + 2) (eight_row result k) }
 {
-    let mut rows = EightRows {
-        upper_left: [0; 8],
-        upper_right: [0; 8],
-        lower_left: [0; 8],
-        lower_right: [0; 8],
-    };
+    let mut rows = EightRows::ZERO;
     for k in 0..8usize {
         let j = from + k;
         let begin = walled.begin(j + 1);

@@ -124,7 +124,8 @@ impl<'a> Walled for OfBoth<'a> {
     ghost told = { λ b. bit_or b.walls.rows b.obstacles.rows };
 
     ghost evens = { λ b k.
-        bit_or (slice_index b.walls.blocks.now.even k) (slice_index b.obstacles.blocks.now.even k) };
+        bit_or (slice_index b.walls.blocks.now.even k)
+        (slice_index b.obstacles.blocks.now.even k) };
 
     ghost begins = { λ b k.
         bit_or (slice_index b.walls.blocks.now.odd.begin k)

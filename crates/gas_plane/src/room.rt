@@ -34,7 +34,8 @@ impl Room {
 
 /// n rooms that have the same tile. Fails if memory runs out.
 pub fn rooms(alloc: Global, tile: Tile, n: usize) -> Result<Vec<Room>, NoMemory>
-    ensures { IfOk result (λ v. (room : RoomOf) × (room.tile ≡ tile) × (v.items ≡ replicate n room)) }
+    ensures { IfOk result (λ v.
+        (room : RoomOf) × (room.tile ≡ tile) × (v.items ≡ replicate n room)) }
 {
     let mut rooms = Vec::with_capacity(alloc, n.max(LEAST))?;
     rooms.resize(n, Room::of(tile))?;

@@ -124,7 +124,7 @@ fn rows_at<'a>(old: &'a Plane, at: Position, before: TileRows<'a>) -> TileRows<'
     }
 }
 
-// the tile of the lattice that tile i of a part is
+// The tile of the lattice that tile i of a part is.
 fn tile_there(part: Part, across: u32, i: u32) -> u32
     requires part { (part.first < part.down) × (part.down ≤ 64) × (part.margin ≤ 1) }
     requires across { (0 < across) × (across ≤ 64) }
@@ -134,7 +134,7 @@ fn tile_there(part: Part, across: u32, i: u32) -> u32
     (part.first + part.down - part.margin + i / across) % part.down * across + i % across
 }
 
-// the one after it, round the lattice's torus
+// The one after it, round the lattice's torus.
 #[inline(always)]
 fn next_there(there: u32, tiles: u32) -> u32
     requires { (there < tiles) × (tiles ≤ 4096) }
@@ -143,7 +143,7 @@ fn next_there(there: u32, tiles: u32) -> u32
     if there + 1 == tiles { 0 } else { there + 1 }
 }
 
-// a part's own tiles
+// A part's own tiles.
 fn counted_tiles(part: Part, cells: &Plane) -> CountedTiles
     requires { (part.margin ≤ 1) × (2 * part.margin < cells.now.height / 64) }
     ensures first { result.first ≡ part.margin * (cells.now.width / 64) }
@@ -294,7 +294,7 @@ fn act_after<A: Action>(particles: &mut Plane, action: &A, k: u16, part: Part, p
         result ≡ own_moves part parity particles.old lattice
         (acted (A.leaves action.now k) lattice) }
 {
-    // an exchange made for nothing would cost as much as a step of some tiles
+    // An exchange made for nothing would cost as much as a step of some tiles.
     if !action.acts() {
         return Moved::ZERO;
     }
@@ -361,7 +361,7 @@ pub fn run_part<A: Action>(
     let Solids { walls, obstacles } = run.solids;
     let absent = (walls.has_no_blocks(), obstacles.has_no_blocks());
     let Counted { walls, obstacles } = counted;
-    // seven loops: each asks its tiles for the sets that have cells, and knows which accounts it keeps
+    // Seven loops: each asks its tiles for the sets that have cells, and knows which accounts it keeps.
     match (absent, walls, obstacles) {
         ((true, true), ..) => run_on(particles, part, run, (true, true), counted, spare),
         ((true, false), _, true) => {
@@ -396,7 +396,7 @@ fn keeping(walls: bool, obstacles: bool) -> Counted
     Counted { walls, obstacles }
 }
 
-// the whole lattice, which is a part of itself
+// The whole lattice, which is a part of itself.
 fn whole(cells: &Plane) -> Part
     ensures part { result ≡ whole_part cells.now }
     ensures lattice { IsLattice cells.now }
@@ -423,7 +423,7 @@ pub fn run_whole<A: Action>(
 {
     let part = whole(particles);
     let flow = run_part(particles, part, run, counted, spare);
-    // what is made is a lattice too
+    // What is made is a lattice too.
     let _ = particles.size();
     flow
 }

@@ -20,7 +20,7 @@ use std::marker::Model;
 pub struct Exchange {
     drains: PortArray<Rect>,
     sources: PortArray<Rect>,
-    // the tiles that they meet: a cell here stands for a tile
+    // The tiles that they meet: a cell here stands for a tile.
     met: Tile,
 }
 
@@ -106,7 +106,7 @@ pub fn any_area() -> Rect
     Rect::within(size, 0, 0, 1, 1).unwrap()
 }
 
-// which tiles have a cell of some rectangle: a cell here stands for a tile
+// Which tiles have a cell of some rectangle: a cell here stands for a tile.
 fn tiles_met(drains: &[Rect], sources: &[Rect]) -> Tile
     ensures drains { HasTilesOf result drains.now }
     ensures sources { HasTilesOf result sources.now }
@@ -128,7 +128,7 @@ fn tiles_of(areas: &[Rect]) -> Tile
     met
 }
 
-// of the first 64 tiles along an axis, the first that has one of the `len` places from `start` on, and how many have
+// Of the first 64 tiles along an axis, the first that has one of the `len` places from `start` on, and how many have.
 fn tiles_along(start: u16, len: u16) -> (u32, u32)
     ensures within { result.0 + result.1 ≤ 64 }
     ensures met { (k : ℕ) → k < most_side → start ≤ k → k < start + len →

@@ -9,7 +9,7 @@ use std::marker::Model;
 /// A value for each port of a kind, at most.
 #[derive(Drop)]
 pub struct PortArray<T: Copy> {
-    // those from `count` on stand for nothing
+    // Those from `count` on stand for nothing.
     values: [T; MOST_PORTS],
     count: usize,
 }

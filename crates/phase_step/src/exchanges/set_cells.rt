@@ -10,6 +10,7 @@ ghost use Rattle.phase_step.specs.Actions.{IsTileCorner};
 ghost use Rattle.phase_step.specs.Counts.{AreTileCounts, changes};
 ghost use Rattle.phase_step.specs.Exchanges.{is_among, is_in_any, is_set};
 
+use bit_tile::span;
 use gas_plane::{Tile, part_of, sums};
 use gas_terms::Rect;
 
@@ -20,21 +21,7 @@ struct Places {
     odd: u32,
 }
 
-// the bits from `first` up to `end`
-#[inline(always)]
-fn span(first: u32, end: u32) -> u32
-    requires order { first ≤ end }
-    requires within { end ≤ 32 }
-    ensures { (i : ℕ) → i < 32 → bit result i ≡ (nat_le first i && nat_lt i end) }
-{
-    if first == end {
-        0
-    } else {
-        (u32::MAX >> (32 - (end - first))) << first
-    }
-}
-
-// which of the 64 places from `from` on are among the `len` from `start` on
+// Which of the 64 places from `from` on are among the `len` from `start` on.
 #[inline(always)]
 fn places_of(start: u16, len: u16, from: u32) -> Places
     ensures even { (k : ℕ) → k < 32 → bit result.even k ≡ is_among start len (from + (2 * k + 0)) }
@@ -49,7 +36,7 @@ fn places_of(start: u16, len: u16, from: u32) -> Places
     }
 }
 
-// the cells of row j of a class that are in these columns and rows, without those that are kept
+// The cells of row j of a class that are in these columns and rows, without those that are kept.
 #[inline(always)]
 fn cells_in_row(columns: u32, rows: u32, j: usize, kept: u32) -> u32
     requires { j < 32 }
@@ -63,7 +50,7 @@ fn cells_in_row(columns: u32, rows: u32, j: usize, kept: u32) -> u32
     }
 }
 
-// which of these cells of a row change if they are filled or emptied
+// Which of these cells of a row change if they are filled or emptied.
 #[inline(always)]
 fn changed_in(row: u32, cells: u32, held: bool) -> u32
     ensures { (i : ℕ) → i < 32 → bit result i ≡ (bit cells i && changes held (bit row i)) }
@@ -122,7 +109,7 @@ fn set_area(tile: &mut Tile, area: Rect, left: u32, top: u32, kept: &Tile, held:
     ]
 }
 
-// whether the rectangle has a cell of the tile that begins at (left, top)
+// Whether the rectangle has a cell of the tile that begins at (left, top).
 #[inline(always)]
 fn meets_tile(area: Rect, left: u32, top: u32) -> bool
     requires { IsTileCorner left top }
@@ -134,7 +121,7 @@ fn meets_tile(area: Rect, left: u32, top: u32) -> bool
     x < left + 64 && left < right && y < top + 64 && top < bottom
 }
 
-// the cells that the rectangles have of the tile that begins at (left, top), if there are any
+// The cells that the rectangles have of the tile that begins at (left, top), if there are any.
 fn cells_of(areas: &[Rect], left: u32, top: u32) -> Option<Tile>
     ensures { MatchOption result
         ((x y : ℕ) → x < 64 → y < 64 → is_in_any areas.now (left + x) (top + y) ≡ false)

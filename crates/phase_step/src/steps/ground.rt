@@ -34,7 +34,7 @@ impl<'a> Ground<'a> {
     }
 }
 
-// the blocks of tile i that have a cell of the set
+// The blocks of tile i that have a cell of the set.
 #[inline(always)]
 fn set_in_tile(set: &Solid, none: bool, i: u32) -> Option<SetBlocks<'_>>
     requires none { IsTrue none → HasNoBlocks set.now }

@@ -92,7 +92,7 @@ impl Solid {
         ensures cells { IsTrue result ↔ HasNone self.now }
         ensures blocks { IsTrue result → HasNoBlocks self.now }
     {
-        // it is a lattice
+        // It is a lattice.
         let _ = self.cells.size();
         self.cells.is_empty()
     }
@@ -148,7 +148,7 @@ fn is_near(start: u32, len: u32, from: u32, size: u32) -> bool
     here | left | right
 }
 
-// whether the numbers from `start` up to `end` and those from `from` up to `to` begin before the others end
+// Whether the numbers from `start` up to `end` and those from `from` up to `to` begin before the others end.
 #[inline]
 fn ranges_overlap(start: u32, end: u32, from: u32, to: u32) -> bool
     ensures { result ≡ (nat_lt start to && nat_lt from end) }
@@ -156,7 +156,7 @@ fn ranges_overlap(start: u32, end: u32, from: u32, to: u32) -> bool
     start < to && from < end
 }
 
-// whether k is one of the numbers from `start` up to `end`
+// Whether k is one of the numbers from `start` up to `end`.
 #[inline]
 fn is_among(k: u32, start: u32, end: u32) -> bool
     ensures { result ≡ (nat_le start k && nat_lt k end) }
