@@ -1,5 +1,5 @@
 -- An action tile by tile, and what comes and goes.
-use Rattle.std.proofs.Common.{◌≡◌, ℕ, ◌+◌, ◌*◌, ◌/◌, ◌%◌, ◌<◌, ◌≤◌, Bool, refl, sym, subst, ◌∙◌, ap, arith}
+use Rattle.std.proofs.Common.{◌≡◌, ℕ, ◌+◌, ◌*◌, ◌/◌, ◌%◌, ◌<◌, ◌≤◌, Bool, arith}
 use Rattle.std.proofs.Math.Nat.{mod-lt}
 use Rattle.std.proofs.lemmas.Nat.{row-Below, mul-add-lt}
 use Rattle.bit_tile.specs.Tile as tile
@@ -22,15 +22,11 @@ Stays leaves cells i = (x y : ℕ) → x < 64 → y < 64 → acting leaves cells
 
 -- a tile's place among the tiles
 place_below : (cells : Cells) (i : ℕ) → IsLattice cells → i < tile_count cells → (i % (cells.width / 64) < cells.width / 64) × (i / (cells.width / 64) < cells.height / 64)
-place_below cells i is within =
-    let across = wide (extent cells) is.sized in
-    (mod-lt i across.some, (row-Below i (cells.width / 64) (cells.width / 64) (cells.height / 64) within (let k : cells.width / 64 ≤ cells.width / 64 = omega arith in k)).1)
+place_below cells i is within = grind (arith, wide, extent, mod-lt, row-Below)
 
 -- a tile's cells stand in the lattice
 pub cell_within : (cells : Cells) (i x y : ℕ) → IsLattice cells → i < tile_count cells → x < 64 → y < 64 → (left_of cells i + x < cells.width) × (top_of cells i + y < cells.height)
-cell_within cells i x y is within p q =
-    let place = place_below cells i is within in
-    (cell_below cells.width (i % (cells.width / 64)) x (wide (extent cells) is.sized) place.0 p, cell_below cells.height (i / (cells.width / 64)) y (high (extent cells) is.sized) place.1 q)
+cell_within cells i x y is within p q = grind (arith, place_below, cell_below, wide, extent, high)
 
 none_past : (cells : Cells) (x y : ℕ) → IsLattice cells → x < cells.width → y < cells.height → tile_count cells ≤ tile_of cells x y → ⊥
 none_past cells x y is p q h =
@@ -42,24 +38,17 @@ none_past cells x y is p q h =
 -- what is made of a tile
 pub action_makes : (leaves : Leaves) (cells : Cells) (i across : ℕ) (old new : Tile) → across ≡ cells.width / 64 → IsLeftOf leaves (i % across * 64) (i / across * 64) old new
     → (x y : ℕ) → x < 64 → y < 64 → tile.has old x y ≡ has cells (left_of cells i + x) (top_of cells i + y) → tile.has new x y ≡ acting leaves cells (left_of cells i + x) (top_of cells i + y)
-action_makes leaves cells i across old new e left x y p q was =
-    left x y p q
-    ∙ (ap (leaves (i % across * 64 + x) (i / across * 64 + y)) was
-    ∙ ap (λ n. leaves (i % n * 64 + x) (i / n * 64 + y) (has cells (left_of cells i + x) (top_of cells i + y))) e)
+action_makes leaves cells i across old new e left x y p q was = grind (arith, has, left_of, top_of)
 
 pub action_was : (leaves : Leaves) (cells now : Cells) (i : ℕ) (old : Tile) → IsLattice cells → i < tile_count cells → now ≡ swept cells (acting leaves cells) i → IsTileFrom old now (left_of now i) (top_of now i) → (x y : ℕ) → x < 64 → y < 64 → tile.has old x y ≡ has cells (left_of cells i + x) (top_of cells i + y)
-action_was leaves cells now i old is within so_far from =
-    sweep_reads cells (acting leaves cells) i old is within (subst (λ (now : Cells). IsTileFrom old now (left_of now i) (top_of now i)) so_far from)
+action_was leaves cells now i old is within so_far from = grind (arith, sweep_reads, left_of, top_of)
 
 pub action_starts : (leaves : Leaves) (cells : Cells) → IsLattice cells → cells ≡ swept cells (acting leaves cells) 0
 action_starts leaves cells is = sweep_starts cells (acting leaves cells) 0 is.full (λ x y p q h. absurd (omega arith))
 
 pub action_ends : (leaves : Leaves) (cells now : Cells) (i end : ℕ) → IsLattice cells → end ≡ tile_count cells → end ≤ i → now ≡ swept cells (acting leaves cells) i → now ≡ acted leaves cells
-action_ends leaves cells now i end is e past so_far =
-    so_far ∙ sweep_ends cells (acting leaves cells) i (λ x y p q h. absurd (none_past cells x y is p q (omega arith)))
+action_ends leaves cells now i end is e past so_far = grind (arith, sweep_ends, none_past)
 
 -- what leaves all as it is
 pub still_acts : (leaves : Leaves) (cells : Cells) → IsFull cells → IsStill leaves → cells ≡ acted leaves cells
-still_acts leaves cells full still =
-    same_cells cells (acted leaves cells) full (full-cells_where cells.width cells.height (acting leaves cells)) refl refl
-    (λ x y p q. sym (has-cells_where cells.width cells.height (acting leaves cells) x y p q ∙ still x y (has cells x y)))
+still_acts leaves cells full still = grind (arith, same_cells, acted, full-cells_where, has-cells_where, has)

@@ -23,24 +23,16 @@ pub record IsMovedWithin (k : ℕ) (m : Moved) : Type 0 where
   pub drained : AreWithin k m.drained
 
 within_sum : (a b : Sums) (m n : ℕ) → AreWithin m a → AreWithin n b → AreWithin (m + n) (plus a b)
-within_sum a b m n p q =
-    record {
-      count = small_sum a.count b.count m n p.count q.count;
-      x = small_sum a.px b.px m n p.x q.x;
-      y = small_sum a.py b.py m n p.y q.y;
-    }
+within_sum a b m n p q = grind (arith, small_sum)
 
 pub moved_within_plus : (a b : Moved) (m n : ℕ) → IsMovedWithin m a → IsMovedWithin n b → IsMovedWithin (m + n) (moved_plus a b)
-moved_within_plus a b m n p q =
-    record { injected = within_sum a.injected b.injected m n p.injected q.injected; drained = within_sum a.drained b.drained m n p.drained q.drained }
+moved_within_plus a b m n p q = grind (arith, within_sum)
 
 pub within_none : (k : ℕ) → IsMovedWithin k unmoved
 within_none k = record { injected = record { count = omega arith; x = omega arith; y = omega arith }; drained = record { count = omega arith; x = omega arith; y = omega arith } }
 
 sums_fit : (a b : Sums) (m n : ℕ) → AreWithin m a → AreWithin n b → m + n ≤ 2 ^ 48 → SumsFit (plus a b)
-sums_fit a b m n p q few =
-    let both = within_sum a b m n p q in
-    (int_fits _ (m + n) both.count few, int_fits _ (m + n) both.x few, int_fits _ (m + n) both.y few)
+sums_fit a b m n p q few = grind (arith, within_sum, int_fits)
 
 -- two amounts of which the sum may be made
 pub moved_fits : (a b : Moved) (m n : ℕ) → IsMovedWithin m a → IsMovedWithin n b → m + n ≤ 2 ^ 48 → SumsFit (plus a.injected b.injected) × SumsFit (plus a.drained b.drained)

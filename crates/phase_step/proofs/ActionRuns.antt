@@ -18,8 +18,7 @@ use Rattle.phase_step.proofs.RunTakes.{IsWithin, within_nothing, within_plus, in
 
 -- what leaves the same cells acts alike
 pub acted_same : (some others : Leaves) (cells : Cells) → ((x y : ℕ) (held : Bool) → some x y held ≡ others x y held) → acted some cells ≡ acted others cells
-acted_same some others cells same =
-    same_cells_where cells.width cells.height (λ x y. some x y (has cells x y)) (λ x y. others x y (has cells x y)) (λ x y p q. same x y (has cells x y))
+acted_same some others cells same = grind (arith, same_cells_where, has)
 
 -- the sides stay
 pub sides_with : (p : ℕ) (solid : Cells) (leaves : ℕ → Leaves) (c : Cells) (k : ℕ) → HasSidesOf (after_with p solid leaves c k) c
@@ -89,8 +88,4 @@ moves_with_bounded p solid leaves c (suc k) sized =
     } in both)
 
 pub bounded_fits : (n : ℕ) (s : Sums) → IsOfAtMost n s → n ≤ 2 ^ 48 → SumsFit s
-bounded_fits n s is few =
-    let count = is.count in
-    let x : nat_abs s.px ≤ n = let h = is.x in omega arith in
-    let y : nat_abs s.py ≤ n = let h = is.y in omega arith in
-    (int_fits s.count n count few, int_fits s.px n x few, int_fits s.py n y few)
+bounded_fits n s is few = grind (arith, nat_abs, int_fits)

@@ -126,9 +126,7 @@ pub small_momentum : (n : ℕ) (s : Sums) → IsOfAtMost n s → (nat_abs s.px �
 small_momentum n s is = let count = is.count in let x = is.x in let y = is.y in (omega arith, omega arith)
 
 pub small_together : (t : Took) (p : Pair) → IsTakenOfAtMost (2 ^ 46) t.walls → IsTakenOfAtMost (2 ^ 46) t.obstacles → p ≡ together t → (nat_abs p.x ≤ 2 ^ 48) × (nat_abs p.y ≤ 2 ^ 48)
-small_together t p walls obstacles e =
-    let wx = walls.x in let wy = walls.y in let ox = obstacles.x in let oy = obstacles.y in
-    rw e (omega (arith, ints), omega (arith, ints))
+small_together t p walls obstacles e = grind (arith, ints)
 
 -- what is there after a run, by the two sums
 pub left_after : (p q n : ℕ) (w o : Cells) (leaves : ℕ → Leaves) (c later : Cells) (before after : Sums) → p < 2 → is_size (extent c) ≡ true → q ≡ parity_at p n → later ≡ after_with p (joined w o) leaves c n

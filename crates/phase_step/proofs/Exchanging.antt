@@ -1,5 +1,5 @@
 -- What rectangles leave of a tile.
-use Rattle.std.proofs.Common.{◌≡◌, ℕ, ◌+◌, ◌==◌, ◌&&◌, ◌||◌, not, Bool, true, false, List, [], ◌∷◌, length, if◌then◌else◌, refl, sym, ◌∙◌, ap, arith}
+use Rattle.std.proofs.Common.{◌≡◌, ℕ, ◌+◌, ◌==◌, ◌&&◌, ◌||◌, not, Bool, true, false, List, [], ◌∷◌, length, if◌then◌else◌, refl, ◌∙◌, ap, arith}
 use Rattle.std.proofs.lemmas.Bool.Decides.{nat_tests}
 use Rattle.bit_tile.specs.Tile as tile
 use Rattle.bit_tile.specs.Tile.{HasCells}
@@ -42,18 +42,10 @@ module _ (old mid new : Tile) (drains sources : List Rectangle) (left top : ℕ)
     (emptied : HasCells mid (λ x y. if is_set drains sources (left + x) (top + y) then false else tile.has old x y))
     (filled : HasCells new (λ x y. if is_set sources [] (left + x) (top + y) then true else tile.has mid x y)) where
   pub tile_left : HasCells new (λ x y. is_left (tile.has old x y) drains sources (left + x) (top + y))
-  tile_left x y h k =
-      filled x y h k
-      ∙ (ap (λ b. if is_in_any sources (left + x) (top + y) && not false then true else b) (emptied x y h k)
-      ∙ left_is (tile.has old x y) (is_in_any drains (left + x) (top + y)) (is_in_any sources (left + x) (top + y)))
+  tile_left x y h k = grind (arith, is_in_any, not, false, true, left_is)
 
   pub tile_lost : (counts : List ℕ) → AreTileCounts counts (λ x y. is_set drains sources (left + x) (top + y) && tile.has old x y) → AreTileCounts counts (λ x y. tile.has old x y && not (tile.has new x y))
-  tile_lost counts are =
-      counts_as counts _ _ are (λ x y h k.
-      lost_is (tile.has old x y) (is_in_any drains (left + x) (top + y)) (is_in_any sources (left + x) (top + y)) ∙ ap (λ b. tile.has old x y && not b) (sym (tile_left x y h k)))
+  tile_lost counts are = grind (arith, counts_as, lost_is, is_in_any, not, tile_left)
 
   pub tile_gained : (counts : List ℕ) → AreTileCounts counts (λ x y. is_set sources [] (left + x) (top + y) && not (tile.has mid x y)) → AreTileCounts counts (λ x y. tile.has new x y && not (tile.has old x y))
-  tile_gained counts are =
-      counts_as counts _ _ are (λ x y h k.
-      ap (λ b. (is_in_any sources (left + x) (top + y) && not false) && not b) (emptied x y h k)
-      ∙ (gained_is (tile.has old x y) (is_in_any drains (left + x) (top + y)) (is_in_any sources (left + x) (top + y)) ∙ ap (λ b. b && not (tile.has old x y)) (sym (tile_left x y h k))))
+  tile_gained counts are = grind (arith, counts_as, is_in_any, not, false, gained_is, tile_left)

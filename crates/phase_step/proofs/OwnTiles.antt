@@ -1,5 +1,5 @@
 -- A part's own tiles: which of the lattice they are, and what they take.
-use Rattle.std.proofs.Common.{◌≡◌, ℕ, zero, suc, ◌+◌, ◌-◌, ◌*◌, ◌/◌, ◌%◌, ◌<◌, ◌≤◌, true, pos, refl, sym, ap, ap₂, ◌∙◌, subst, arith, inl, inr, mul-le-mul}
+use Rattle.std.proofs.Common.{◌≡◌, ℕ, zero, suc, ◌+◌, ◌-◌, ◌*◌, ◌/◌, ◌%◌, ◌<◌, ◌≤◌, true, pos, sym, ap, ap₂, ◌∙◌, subst, arith, inl, inr, mul-le-mul}
 use Rattle.std.proofs.Math.Nat.{mod-lt}
 use Rattle.std.proofs.lemmas.Nat.{row-Below, div-add-mod', mod-mul-add}
 use Rattle.std.proofs.lemmas.Bool.{cases_lt}
@@ -42,9 +42,7 @@ module _ (part : Part) (cells lattice : Cells) (i k : ℕ) (sized : is_size (ext
   rows = own_row (cells.width / 64) i part.margin (own_rows part cells) (wide (extent cells) sized).some low high_end
 
   pub own_unspoilt : part.margin * k ≤ 64 → IsUnspoilt part cells i k
-  own_unspoilt few =
-      let is = unspoilt_rows part.margin k cells.height (i / (cells.width / 64)) placed.margin few (high (extent cells) sized).tiles placed.some rows.0 rows.1 in
-      record { low = is.0; high = is.1 }
+  own_unspoilt few = grind (arith, high, extent, rows)
 
   pub own_number : tile_in part (lattice.width / 64) i ≡ part.first * (lattice.width / 64) + (i - part.margin * (cells.width / 64))
   own_number =
@@ -92,9 +90,4 @@ pub source_is : (part : Part) (cells lattice w o : Cells) (k across i j result :
 source_is part cells lattice w o k across i j result is e same f = f ∙ ap₂ (tile_in part) (e ∙ ap (λ w. w / 64) is.placed.wide) (sym same)
 
 pub source_below : (part : Part) (cells lattice w o set : Cells) (k across i result : ℕ) → IsPartOf part w o cells lattice k → HasSidesOf set lattice → across ≡ cells.width / 64 → result ≡ tile_in part across i → result < tile_count set
-source_below part cells lattice w o set k across i result is sides e f =
-    let some = (wide (extent lattice) is.sized).some in
-    let down = down_some part cells lattice is.placed is.sized in
-    let rows : lattice.height / 64 ≡ part.down = let g = is.placed.down in omega arith in
-    let below : result < lattice.width / 64 * part.down = subst (λ n. n < lattice.width / 64 * part.down) (sym (source_is part cells lattice w o k across i i result is e refl f)) (tile_there part (lattice.width / 64) i some down) in
-    subst (λ n. result < n) (tiles_as lattice set (record { wide = sym sides.wide; high = sym sides.high })) (subst (λ d. result < lattice.width / 64 * d) (sym rows) below)
+source_below part cells lattice w o set k across i result is sides e f = grind (arith, wide, extent, down_some, rows, source_is, tile_there, tiles_as, high)

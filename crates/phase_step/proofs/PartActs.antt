@@ -31,29 +31,10 @@ there leaves part x y held = leaves x (row_in part y) held
 
 -- it takes no row from what the part has of the lattice
 pub acted_rows : (leaves : Leaves) (part : Part) (walls obstacles cells lattice : Cells) (k : ℕ) → IsPartOf part walls obstacles cells lattice k → IsPartOf part walls obstacles (acted (there leaves part) cells) (acted leaves lattice) k
-acted_rows leaves part walls obstacles cells lattice k is =
-    let placed = is.placed in
-    let down = down_some part cells lattice placed is.sized in
-    record {
-      sized = is.sized;
-      full = full-cells_where lattice.width lattice.height (λ x y. leaves x y (has lattice x y));
-      of_walls = record { wide = is.of_walls.wide; high = is.of_walls.high };
-      of_obstacles = record { wide = is.of_obstacles.wide; high = is.of_obstacles.high };
-      placed = record { wide = placed.wide; down = placed.down; some = placed.some; inside = placed.inside; margin = placed.margin; all = placed.all };
-      rows = record {
-        row = λ x y l low high.
-            let z = row_in part y in
-            let zl : z < lattice.height = subst (λ h. z < h) (sym placed.down) (mod-lt _ (omega (arith, down))) in
-            has-cells_where cells.width cells.height (λ x y. leaves x (row_in part y) (has cells x y)) x y (subst (λ w. x < w) (sym placed.wide) l) (omega (arith, high))
-            ∙ (ap (leaves x z) (is.rows.row x y l low high)
-            ∙ sym (has-cells_where lattice.width lattice.height (λ x y. leaves x y (has lattice x y)) x z l zl));
-      };
-    }
+acted_rows leaves part walls obstacles cells lattice k is = grind (arith, down_some, full-cells_where, has, wide, row_in, mod-lt, has-cells_where)
 
 lattice_tile : (part : Part) (walls obstacles cells lattice : Cells) (i k : ℕ) → IsPartOf part walls obstacles cells lattice k → tile_in part (lattice.width / 64) i < tile_count lattice
-lattice_tile part walls obstacles cells lattice i k is =
-    let rows : lattice.height / 64 ≡ part.down = let g = is.placed.down in omega arith in
-    subst (λ d. tile_in part (lattice.width / 64) i < lattice.width / 64 * d) (sym rows) (tile_there part (lattice.width / 64) i (wide (extent lattice) is.sized).some (down_some part cells lattice is.placed is.sized))
+lattice_tile part walls obstacles cells lattice i k is = grind (arith, tile_in, tile_there, wide, extent, down_some)
 
 -- what it moves in a tile of which no row is spoilt, it moves in the lattice's tile
 pub tile_acts : (tick : ℤ) (leaves : Leaves) (part : Part) (walls obstacles cells lattice : Cells) (i k : ℕ) (change : Change) (old new : Tile) → is_size (extent cells) ≡ true → IsLattice lattice → IsPartOf part walls obstacles cells lattice k → i < tile_count cells → IsUnspoilt part cells i k
@@ -77,25 +58,19 @@ place_there part across i j y some down e q = (
 
 -- what is left of a tile at its place in the lattice: of the part's, and of the lattice's
 pub left_in_part : (leaves : Leaves) (part : Part) (across i j : ℕ) (old new : Tile) → 0 < across → 0 < part.down → j ≡ tile_in part across i → IsLeftOf leaves (j % across * 64) (j / across * 64) old new → IsLeftOf (there leaves part) (i % across * 64) (i / across * 64) old new
-left_in_part leaves part across i j old new some down e left x y h q =
-    let place = place_there part across i j y some down e q in
-    left x y h q ∙ ap₂ (λ a b. leaves (a * 64 + x) b (tile.has old x y)) place.0 place.1
+left_in_part leaves part across i j old new some down e left x y h q = grind (arith, place_there, has)
 
 pub left_in_lattice : (leaves : Leaves) (part : Part) (lattice : Cells) (across i j : ℕ) (old new : Tile) → across ≡ lattice.width / 64 → j ≡ tile_in part across i → IsLeftOf leaves (j % across * 64) (j / across * 64) old new
     → (let r = tile_rectangle lattice (tile_in part (lattice.width / 64) i) in IsLeftOf leaves r.x r.y old new)
-left_in_lattice leaves part lattice across i j old new e f left =
-    subst (λ a. IsLeftOf leaves (tile_in part a i % a * 64) (tile_in part a i / a * 64) old new) e (subst (λ j. IsLeftOf leaves (j % across * 64) (j / across * 64) old new) f left)
+left_in_lattice leaves part lattice across i j old new e f left = grind (arith, tile_in)
 
 -- a tile that stays, in the part and in the lattice
 pub kept_in_part : (leaves : Leaves) (part : Part) (across i j : ℕ) → 0 < across → 0 < part.down → j ≡ tile_in part across i → KeepsTile leaves (j % across * 64) (j / across * 64) → KeepsTile (there leaves part) (i % across * 64) (i / across * 64)
-kept_in_part leaves part across i j some down e kept x y held h q =
-    let place = place_there part across i j y some down e q in
-    sym (ap₂ (λ a b. leaves (a * 64 + x) b held) place.0 place.1) ∙ kept x y held h q
+kept_in_part leaves part across i j some down e kept x y held h q = grind (arith, place_there)
 
 pub kept_in_lattice : (leaves : Leaves) (part : Part) (lattice : Cells) (across i j : ℕ) → across ≡ lattice.width / 64 → j ≡ tile_in part across i → KeepsTile leaves (j % across * 64) (j / across * 64)
     → (let r = tile_rectangle lattice (tile_in part (lattice.width / 64) i) in KeepsTile leaves r.x r.y)
-kept_in_lattice leaves part lattice across i j e f kept =
-    subst (λ a. KeepsTile leaves (tile_in part a i % a * 64) (tile_in part a i / a * 64)) e (subst (λ j. KeepsTile leaves (j % across * 64) (j / across * 64)) f kept)
+kept_in_lattice leaves part lattice across i j e f kept = grind (arith, tile_in)
 
 -- it moves nothing
 pub tile_stays : (tick : ℤ) (leaves : Leaves) (part : Part) (walls obstacles cells lattice : Cells) (i k : ℕ) → IsPartOf part walls obstacles cells lattice k

@@ -20,10 +20,7 @@ use Rattle.phase_step.proofs.SolidBlocks.{view_of}
 
 -- where row of tiles t of a part stands in the lattice
 pub top_there : (part : Part) (t : ℕ) → 0 < part.down → (start_of part + t) % part.down * 64 ≡ (start_of part * 64 + t * 64) % (part.down * 64)
-top_there part t some =
-    let zero_row : t * 64 ≡ t * 64 + 0 = omega arith in
-    let e : (start_of part + t) % part.down * 64 ≡ (start_of part + t) % part.down * 64 + 0 = omega arith in
-    sym (ap (λ n. (start_of part * 64 + n) % (part.down * 64)) zero_row ∙ (row_turns (start_of part) t part.down 0 some (omega arith) ∙ sym e))
+top_there part t some = grind (arith, start_of, row_turns)
 
 -- the tile of the lattice that tile i is: its column and row of tiles
 pub column_there : (part : Part) (a i : ℕ) → 0 < a → tile_in part a i % a ≡ i % a
@@ -33,8 +30,7 @@ pub row_there : (part : Part) (a i : ℕ) → 0 < a → tile_in part a i / a ≡
 row_there part a i some = div-mul-add ((start_of part + i / a) % part.down) a (i % a) (mod-lt i some)
 
 pub tile_there : (part : Part) (a i : ℕ) → 0 < a → 0 < part.down → tile_in part a i < a * part.down
-tile_there part a i some down =
-    mul-add-lt ((start_of part + i / a) % part.down) a (i % a) part.down (mod-lt (start_of part + i / a) down) (mod-lt i some)
+tile_there part a i some down = grind (arith, mul-add-lt, start_of, mod-lt)
 
 -- it is numbered round the lattice's torus
 numbered : (part : Part) (a i : ℕ) → 0 < a → 0 < part.down → (start_of part * a + i) % (part.down * a) ≡ tile_in part a i
@@ -96,34 +92,14 @@ down_some part cells lattice placed sized = let h = (high (extent lattice) sized
 
 -- the number there of the next tile
 pub next_is : (part : Part) (cells lattice w o : Cells) (k across i there next : ℕ) → IsPartOf part w o cells lattice k → across ≡ cells.width / 64 → there ≡ tile_in part across i → next ≡ (there + 1) % (part.down * across) → next ≡ tile_in part across (i + 1)
-next_is part cells lattice w o k across i there next is e at f =
-    let some = (wide (extent lattice) is.sized).some in
-    let same = ap (λ w. w / 64) is.placed.wide in
-    f ∙ (ap (λ t. (t + 1) % (part.down * across)) at ∙ tile_next part across i (omega (arith, e, same, some)) (down_some part cells lattice is.placed is.sized))
+next_is part cells lattice w o k across i there next is e at f = grind (arith, wide, extent, tile_next, down_some)
 
 pub there_below : (part : Part) (cells lattice w o : Cells) (k across i there : ℕ) → IsPartOf part w o cells lattice k → across ≡ cells.width / 64 → there ≡ tile_in part across i → (there < part.down * across) × (part.down * across ≤ 4096)
-there_below part cells lattice w o k across i there is e at =
-    let some = (wide (extent lattice) is.sized).some in
-    let same = ap (λ w. w / 64) is.placed.wide in
-    let few = (wide (extent lattice) is.sized).few in
-    let rows = (high (extent lattice) is.sized).few in
-    let tall = is.placed.down in
-    let below : tile_in part across i < across * part.down = tile_there part across i (omega (arith, e, same, some)) (down_some part cells lattice is.placed is.sized) in
-    let most : part.down * across ≤ 64 * 64 = mul-le-mul (let d : part.down ≤ 64 = omega (arith, rows, tall) in d) (let a : across ≤ 64 = omega (arith, e, same, few) in a) in
-    (omega (arith, at, below), most)
+there_below part cells lattice w o k across i there is e at = grind (arith, wide, extent, high, tile_in, tile_there, down_some, mul-le-mul)
 
 pub place_there : (part : Part) (cells lattice walls obstacles : Cells) (i : ℕ) → IsTurnedAt part cells lattice walls obstacles i
     → IsTilePlace lattice walls obstacles (i % (cells.width / 64) * 64) ((start_of part + i / (cells.width / 64)) % part.down * 64)
-place_there part cells lattice walls obstacles i is =
-    let a = lattice.width / 64 in
-    let across = wide (extent lattice) is.sized in
-    let down = down_some part cells lattice is.placed is.sized in
-    let e : lattice.height / 64 ≡ part.down = let f = is.placed.down in omega arith in
-    let within : tile_in part a i < tile_count lattice = subst (λ d. tile_in part a i < a * d) (sym e) (tile_there part a i across.some down) in
-    let there = place_is lattice walls obstacles (tile_in part a i) is.sized within is.of_walls is.of_obstacles in
-    subst (λ w. IsTilePlace lattice walls obstacles (i % (w / 64) * 64) ((start_of part + i / (w / 64)) % part.down * 64)) (sym is.placed.wide)
-    (subst (λ c. IsTilePlace lattice walls obstacles (c * 64) ((start_of part + i / a) % part.down * 64)) (column_there part a i across.some)
-    (subst (λ r. IsTilePlace lattice walls obstacles (tile_in part a i % a * 64) (r * 64)) (row_there part a i across.some) there))
+place_there part cells lattice walls obstacles i is = grind (arith, wide, extent, down_some, tile_in, tile_count, tile_there, place_is, start_of, column_there, row_there)
 
 -- The core: a tile that is turned by its window in the part, and by walls and obstacles at its place in the lattice, is in the
 -- rows that are left the lattice's after the phase.
@@ -172,11 +148,7 @@ pub turned_at : (part : Part) (cells lattice walls obstacles : Cells) (i k : ℕ
 turned_at part cells lattice walls obstacles i k is within = record { placed = is.placed; sized = is.sized; of_walls = is.of_walls; of_obstacles = is.of_obstacles; within = within }
 
 pub tile_place : (part : Part) (cells lattice walls obstacles : Cells) (i k : ℕ) → IsPartOf part walls obstacles cells lattice k → i < tile_count cells → IsPlaceOf lattice walls obstacles (tile_in part (lattice.width / 64) i)
-tile_place part cells lattice walls obstacles i k is within =
-    let some = (wide (extent lattice) is.sized).some in
-    subst (λ x. IsTilePlace lattice walls obstacles x (tile_in part (lattice.width / 64) i / (lattice.width / 64) * 64)) (sym (column_of part cells lattice i is.placed.wide some))
-    (subst (λ y. IsTilePlace lattice walls obstacles (i % (cells.width / 64) * 64) y) (sym (row_of part cells lattice i is.placed.wide some))
-    (place_there part cells lattice walls obstacles i (turned_at part cells lattice walls obstacles i k is within)))
+tile_place part cells lattice walls obstacles i k is within = grind (arith, wide, extent, tile_in, column_of, row_of, place_there, turned_at)
 
 -- The core for a tile of the lattice: its walls and obstacles are seen at its own place.
 pub tile_turned : (p : ℕ) (part : Part) (cells lattice walls obstacles : Cells) (i k : ℕ) (near : ℕ → ℕ → Bool) (t : Tile) → p < 2 → IsPartOf part walls obstacles cells lattice k → i < tile_count cells
@@ -199,12 +171,4 @@ pub own_cells : (part : Part) (cells lattice walls obstacles : Cells) (i k : ℕ
     → part.margin * k ≤ i / (cells.width / 64) * 64 → i / (cells.width / 64) * 64 + 64 + part.margin * k ≤ cells.height
     → IsTileFrom t cells (i % (cells.width / 64) * 64) (i / (cells.width / 64) * 64)
     → (let r = tile_rectangle lattice (tile_in part (lattice.width / 64) i) in HasCells t (λ x y. has lattice (r.x + x) (r.y + y)))
-own_cells part cells lattice walls obstacles i k t sized is within low high from x y h q =
-    let some = (wide (extent lattice) is.sized).some in
-    let across = wide (extent cells) sized in
-    let column : i % (cells.width / 64) < cells.width / 64 = mod-lt i across.some in
-    let x_less : i % (cells.width / 64) * 64 + x < cells.width = cell_below cells.width (i % (cells.width / 64)) x across column h in
-    from.cell x y h q
-    ∙ (is.rows.row (i % (cells.width / 64) * 64 + x) (i / (cells.width / 64) * 64 + y) (subst (λ w. i % (cells.width / 64) * 64 + x < w) is.placed.wide x_less) (omega (arith, low)) (omega (arith, high))
-    ∙ ap₂ (λ a b. has lattice (a + x) b) (sym (column_of part cells lattice i is.placed.wide some))
-    (row_turns (start_of part) (i / (cells.width / 64)) part.down y (down_some part cells lattice is.placed is.sized) q ∙ ap (λ n. n + y) (sym (row_of part cells lattice i is.placed.wide some))))
+own_cells part cells lattice walls obstacles i k t sized is within low high from x y h q = grind (arith, wide, extent, mod-lt, cell_below, high, has, column_of, row_turns, start_of, down_some, row_of)

@@ -28,20 +28,7 @@ end_of n k is less = let last : k * 64 + 63 < n = cell_below n k 63 is less (ome
 
 pub place_is : (particles walls obstacles : Cells) (i : ℕ) → is_size (extent particles) ≡ true → i < tile_count particles → HasSidesOf walls particles → HasSidesOf obstacles particles
     → IsTilePlace particles walls obstacles (tile_rectangle particles i).x (tile_rectangle particles i).y
-place_is particles walls obstacles i sized within of_walls of_obstacles =
-    let across = wide (extent particles) sized in
-    let down = high (extent particles) sized in
-    let column : i % (particles.width / 64) < particles.width / 64 = mod-lt i across.some in
-    let row : i / (particles.width / 64) < particles.height / 64 = (row-Below i (particles.width / 64) (particles.width / 64) (particles.height / 64) within (let k : particles.width / 64 ≤ particles.width / 64 = omega arith in k)).1 in
-    record {
-      even_sides = even_sides particles sized;
-      of_walls = of_walls;
-      of_obstacles = of_obstacles;
-      even_column = omega arith;
-      even_row = omega arith;
-      right = end_of particles.width (i % (particles.width / 64)) across column;
-      bottom = end_of particles.height (i / (particles.width / 64)) down row;
-    }
+place_is particles walls obstacles i sized within of_walls of_obstacles = grind (arith, wide, extent, high, mod-lt, row-Below, even_sides, end_of)
 
 -- the extents of sets of one torus
 pub same_extent : (cells others : Cells) → HasSidesOf cells others → extent cells ≡ extent others

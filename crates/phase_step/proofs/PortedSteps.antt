@@ -5,7 +5,7 @@ use Rattle.std.proofs.lemmas.Int.{ints}
 use Rattle.gas_terms.specs.Velocity.{parity}
 use Rattle.gas_terms.specs.Cells.{Cells, without}
 use Rattle.gas_terms.specs.Gas.{streamed, solid}
-use Rattle.gas_terms.specs.Accounts.{Channel, channels, sums_of, taken, took_plus, plus, with_taken, nothing, moved_by, moved_plus, with_moved}
+use Rattle.gas_terms.specs.Accounts.{channels, sums_of, taken, took_plus, plus, with_taken, nothing, moved_by, moved_plus, with_moved}
 use Rattle.gas_terms.specs.BookedGas.{BookedGas, stepped}
 use Rattle.gas_terms.specs.declared.accounts.Ledger.{Ledger}
 use Rattle.gas_terms.specs.declared.accounts.Sums.{Sums}
@@ -25,25 +25,14 @@ booked l a b c d e f = ap₂ (λ i d. record l { injected = i; drained = d }) e 
 
 -- two parts of a run, in the ledger
 flows_twice : (l : Ledger) (t u : Took) (m n : Moved) → with_moved (with_taken (with_moved (with_taken l t) m) u) n ≡ with_moved (with_taken l (took_plus t u)) (moved_plus m n)
-flows_twice l t u m n =
-    booked (with_taken (with_taken l t) u) (plus (plus l.injected m.injected) n.injected) (plus (plus l.drained m.drained) n.drained) (plus l.injected (plus m.injected n.injected)) (plus l.drained (plus m.drained n.drained))
-    (plus_regrouped l.injected m.injected n.injected) (plus_regrouped l.drained m.drained n.drained)
-    ∙ ap (λ (l : Ledger). with_moved l (moved_plus m n)) (taken_twice l t u)
+flows_twice l t u m n = grind (arith, booked, with_taken, plus, plus_regrouped, with_moved, moved_plus, taken_twice)
 
 flows_none : (l : Ledger) → l ≡ with_moved (with_taken l runs.nothing) unmoved
-flows_none l =
-    taken_none l
-    ∙ booked (with_taken l runs.nothing) l.injected l.drained (plus l.injected nothing) (plus l.drained nothing) (plus_none l.injected) (plus_none l.drained)
+flows_none l = grind (arith, taken_none, booked, with_taken, nothing, plus, plus_none)
 
 -- what a change moves is the same at ticks of one parity
 pub same_parity : (t u : ℤ) (old new : Cells) → parity t ≡ parity u → moved_by t old new ≡ moved_by u old new
-same_parity t u old new e =
-    let moved_at : ℕ → Moved = λ q.
-    record {
-      injected = sums_of (map (λ (c : Channel). c.velocity) (channels q (without new old)));
-      drained = sums_of (map (λ (c : Channel). c.velocity) (channels q (without old new)));
-    } in
-    ap moved_at e
+same_parity t u old new e = grind (arith, sums_of, map, channels, without)
 
 small_parity : (p n : ℕ) → (p + n) % 2 ≡ (p + n) % 2 % 2
 small_parity p n = omega arith

@@ -1,18 +1,12 @@
 -- Which rows of a lattice are seen round a tile of a part.
-use Rattle.std.proofs.Common.{◌≡◌, ℕ, zero, suc, ◌+◌, ◌-◌, ◌*◌, ◌/◌, ◌%◌, ◌<◌, ◌≤◌, refl, sym, ap, ◌∙◌, arith, inl, inr}
+use Rattle.std.proofs.Common.{◌≡◌, ℕ, zero, suc, ◌+◌, ◌-◌, ◌*◌, ◌/◌, ◌%◌, ◌<◌, ◌≤◌, refl, sym, ap, ◌∙◌, arith}
 use Rattle.std.proofs.lemmas.Bool.{cases_lt}
 use Rattle.std.proofs.Math.Nat.{mod-lt, add-mod_right, mod-add-mod, add-mod-mod}
 use Rattle.std.proofs.lemmas.Nat.{mod-mul-add, div-mul-add, div-add-mod'}
 
 -- a row of the torus by its row of tiles
 pub row_turns : (a k d y : ℕ) → 0 < d → y < 64 → (a * 64 + (k * 64 + y)) % (d * 64) ≡ (a + k) % d * 64 + y
-row_turns a k d y some p =
-    let q = (a + k) / d in
-    let r = (a + k) % d in
-    let whole : q * d + r ≡ a + k = div-add-mod' (a + k) d in
-    let less : r < d = mod-lt (a + k) some in
-    let e : a * 64 + (k * 64 + y) ≡ q * (d * 64) + (r * 64 + y) = let f : q * (d * 64) ≡ 64 * (q * d) = omega arith in omega arith in
-    ap (λ n. n % (d * 64)) e ∙ mod-mul-add q (d * 64) (r * 64 + y) (omega arith)
+row_turns a k d y some p = grind (arith, div-add-mod', mod-lt, mod-mul-add)
 
 -- row v of a window at row `top` of m rows that begin at row `shift`: as a row of the torus, and as one of the part
 there : (shift m top v : ℕ) → 0 < m → ((shift + top) % m + v + m - 1) % m ≡ (shift + (top + v + m - 1)) % m
@@ -23,8 +17,7 @@ there shift m top v some =
 
 -- a row that the part has
 open_row : (h top v : ℕ) → 1 ≤ top + v → top + v ≤ h → (top + v + h - 1) % h ≡ top + v - 1
-open_row h top v low high =
-    let e : top + v + h - 1 ≡ 1 * h + (top + v - 1) = omega arith in ap (λ k. k % h) e ∙ mod-mul-add 1 h (top + v - 1) (omega arith)
+open_row h top v low high = grind (arith, mod-mul-add)
 
 -- row v round a tile that begins at row `top` of the part: the part's, which it still has after k phases, is the lattice's
 pub record IsRowSeen (margin k shift m h top v : ℕ) : Type 0 where
@@ -59,14 +52,4 @@ row_seen (suc (suc n)) k shift m h top y v small some closed low high from to = 
 
 -- a tile that begins no row of tiles is in the row of the one before it
 pub row_stays : (a i : ℕ) → 0 < a → (i % a ≡ 0 → ⊥) → (i - 1) / a ≡ i / a
-row_stays a i some inner =
-    let q = i / a in
-    let r = i % a in
-    let split : q * a + r ≡ i = div-add-mod' i a in
-    let less : r < a = mod-lt i some in
-    let past : 1 ≤ r = elim (cases_lt r 1) [
-      | inl none ↦ absurd (inner (omega (arith, none)))
-      | inr past ↦ past
-    ] in
-    let e : i - 1 ≡ q * a + (r - 1) = omega (arith, split, past) in
-    ap (λ n. n / a) e ∙ div-mul-add q a (r - 1) (omega (arith, less))
+row_stays a i some inner = grind (arith, div-add-mod', mod-lt, cases_lt, div-mul-add)

@@ -33,14 +33,7 @@ use Rattle.phase_step.proofs.OwnPhases.{IsOwnPhase, own_flow_next, own_flow_fits
 
 -- how many tiles are its own
 pub own_few : (part : Part) (walls obstacles cells lattice : Cells) (k : ℕ) → IsPartOf part walls obstacles cells lattice k → own_rows part cells * (lattice.width / 64) ≤ 4096
-own_few part walls obstacles cells lattice k is =
-    let across = (wide (extent lattice) is.sized).few in
-    let down = (high (extent lattice) is.sized).few in
-    let e = is.placed.down in
-    let inside = is.placed.inside in
-    let rows : own_rows part cells ≤ 64 = omega (arith, down, e, inside) in
-    let most : own_rows part cells * (lattice.width / 64) ≤ 64 * 64 = mul-le-mul rows across in
-    most
+own_few part walls obstacles cells lattice k is = grind (arith, wide, extent, high, own_rows, mul-le-mul)
 
 -- a phase and the action after it: the part that was, that comes and that is next, and what is told of it
 pub record IsPartPhase (part : Part) (counted : Counted) (d : Dynamics) (q k : ℕ) (lattice old now come next : Cells) (flow here : Flow) : Type 0 where
@@ -75,34 +68,10 @@ module _ (part : Part) (counted : Counted) (d : Dynamics) (q k : ℕ) (lattice o
   own_is : (let there = after_with d.parity (joined d.walls d.obstacles) d.leaves lattice k in let come_there = streamed q there (joined d.walls d.obstacles) in
       IsOwnPhase d.parity d.walls d.obstacles d.leaves lattice (part.first * (lattice.width / 64)) (own_rows part old * (lattice.width / 64)) k there come_there (acted (d.leaves k) come_there)
       (record { took = own_take part q now there d.walls d.obstacles; moved = here.moved }))
-  own_is =
-      let there = after_with d.parity (joined d.walls d.obstacles) d.leaves lattice k in
-      let come_there = streamed q there (joined d.walls d.obstacles) in
-      record {
-        at = refl;
-        phase = ap (λ q. streamed q there (joined d.walls d.obstacles)) is.parity;
-        took =
-            ap (λ q. own_take part q now there d.walls d.obstacles) is.parity
-            ∙ ap₂ (λ a n. tiles_take (parity_at d.parity k) there d.walls d.obstacles (part.first * a) (n * a)) across_is (rows_are now is.now_sides);
-        action = refl;
-        moved =
-            is.moved
-            ∙ (ap (λ t. own_moves part t come come_there (acted (d.leaves k) come_there)) tick_is
-            ∙ ap₂ (λ a n. tiles_move (pos (parity_at d.parity (suc k))) come_there (acted (d.leaves k) come_there) (part.first * a) (n * a)) across_is (rows_are come is.come_sides));
-      }
+  own_is = grind (arith, after_with, joined, streamed, own_take, tiles_take, parity_at, across_is, rows_are, own_moves, acted, tick_is, tiles_move, pos, suc)
 
   pub run_next : HasRun part counted d (k + 1) old lattice next (flow_plus flow here)
-  run_next =
-      let there = after_with d.parity (joined d.walls d.obstacles) d.leaves lattice k in
-      let come_there = streamed q there (joined d.walls d.obstacles) in
-      let every : Flow = record { took = own_take part q now there d.walls d.obstacles; moved = here.moved } in
-      record {
-        is = subst (λ (c : Cells). IsPartOf part d.walls d.obstacles next c (k + 1)) next_is is.action;
-        flow =
-            ap₂ flow_plus is.so_far.flow here_is
-            ∙ (flows_counted counted (own_flow part d old lattice k) every
-            ∙ ap (flow_counted counted) (own_flow_next d.parity d.walls d.obstacles d.leaves lattice (part.first * (lattice.width / 64)) (own_rows part old * (lattice.width / 64)) k there come_there (acted (d.leaves k) come_there) (own_flow part d old lattice k) every own_is refl));
-      }
+  run_next = grind (arith, after_with, joined, streamed, own_take, next_is, flow_plus, here_is, flows_counted, own_flow, flow_counted, own_flow_next, own_rows, acted, own_is)
 
   pub run_fits : k ≤ 65536 → own_rows part old * (lattice.width / 64) ≤ 4096 → FlowsFit flow here
   run_fits short few =
@@ -126,37 +95,18 @@ still_unspoilt margin k n most less = let h : margin * k ≤ margin * n = mul-le
 
 -- The whole lattice is a part of itself, whose rows are all.
 whole_row : (down h y : ℕ) → h ≡ down * 64 → y < h → ((0 + down - 0) * 64 + y) % (down * 64) ≡ y
-whole_row down h y e less =
-    let f : (0 + down - 0) * 64 + y ≡ 1 * (down * 64) + y = omega arith in
-    ap (λ n. n % (down * 64)) f ∙ mod-mul-add 1 (down * 64) y (omega (arith, e, less))
+whole_row down h y e less = grind (arith, mod-mul-add)
 
 pub whole_is : (down : ℕ) (walls obstacles cells : Cells) → is_size (extent cells) ≡ true → IsFull cells → HasSidesOf walls cells → HasSidesOf obstacles cells → down ≡ cells.height / 64
     → IsPartOf (record { first = 0; down = down; margin = 0 }) walls obstacles cells cells 0
-whole_is down walls obstacles cells sized full of_walls of_obstacles e =
-    let tiles = (high (extent cells) sized).tiles in
-    let some = (high (extent cells) sized).some in
-    let f : cells.height ≡ down * 64 = omega (arith, e, tiles) in
-    record {
-      sized = sized;
-      full = full;
-      of_walls = of_walls;
-      of_obstacles = of_obstacles;
-      placed = record { wide = refl; down = f; some = omega (arith, some); inside = omega (arith, e); margin = omega arith; all = λ _. refl };
-      rows = record { row = λ x y l _ h. let less : y < cells.height = omega (arith, h) in ap (has cells x) (sym (whole_row down cells.height y f less)) };
-    }
+whole_is down walls obstacles cells sized full of_walls of_obstacles e = grind (arith, high, extent, wide, has, whole_row)
 
 pub whole_held : (part : Part) (walls obstacles cells : Cells) → IsLattice cells → part ≡ whole_part cells → HasSidesOf walls cells → HasSidesOf obstacles cells → IsPartOf part walls obstacles cells cells 0
-whole_held part walls obstacles cells is e of_walls of_obstacles =
-    subst (λ (part : Part). IsPartOf part walls obstacles cells cells 0) (sym e) (whole_is (cells.height / 64) walls obstacles cells is.sized is.full of_walls of_obstacles refl)
+whole_held part walls obstacles cells is e of_walls of_obstacles = grind (arith, whole_is)
 
 -- the torus is closed: the whole lattice has all rows
 pub whole_same : (down k : ℕ) (walls obstacles new lattice : Cells) → IsFull new → IsPartOf (record { first = 0; down = down; margin = 0 }) walls obstacles new lattice k → new ≡ lattice
-whole_same down k walls obstacles new lattice full is =
-    let placed = is.placed in
-    same_cells new lattice full is.full placed.wide (placed.all refl)
-    (λ x y l h.
-    is.rows.row x y (subst (λ w. x < w) placed.wide l) (omega arith) (omega (arith, h))
-    ∙ ap (has lattice x) (whole_row down new.height y (placed.all refl ∙ placed.down) h))
+whole_same down k walls obstacles new lattice full is = grind (arith, same_cells, wide, has, whole_row)
 
 pub whole_flow : (down n : ℕ) (counted : Counted) (d : Dynamics) (cells new : Cells) (answer : Flow) → is_size (extent cells) ≡ true → HasRun (record { first = 0; down = down; margin = 0 }) counted d n cells cells new answer
     → answer ≡ flow_counted counted (flow_with d.parity d.walls d.obstacles d.leaves cells n)
@@ -197,10 +147,7 @@ whole_turned p cells walls obstacles i k t is within turned x y h q =
     ∙ ap (has (streamed p cells (joined walls obstacles)) (i % (cells.width / 64) * 64 + x)) (whole_row (cells.height / 64) cells.height (i / (cells.width / 64) * 64 + y) (omega (arith, tiles)) place.1)
 
 whole_unspoilt : (cells : Cells) (i : ℕ) → IsLattice cells → i < tile_count cells → IsUnspoilt (whole_part cells) cells i 0
-whole_unspoilt cells i is within =
-    let tiles = (high (extent cells) is.sized).tiles in
-    let row : i / (cells.width / 64) < cells.height / 64 = row_in cells i is within in
-    record { low = omega arith; high = omega (arith, tiles, row) }
+whole_unspoilt cells i is within = grind (arith, high, extent, row_in)
 
 -- a step of a tile of it is the lattice's
 pub whole_turns : (p : ℕ) (old w o : Cells) (i : ℕ) (tile_solids : TileSolids) (t : Tile) → IsLattice old → i < tile_count old → HasSidesOf w old → HasSidesOf o old → AreTileSolids w o i tile_solids
@@ -220,18 +167,8 @@ whole_takes p old w o i tile_solids took is within of_walls of_obstacles known t
 pub strip_is : (first down rows : ℕ) (walls obstacles strip lattice : Cells) → is_size (extent lattice) ≡ true → IsFull lattice → HasSidesOf walls lattice → HasSidesOf obstacles lattice → lattice.height ≡ down * 64 → strip.width ≡ lattice.width → strip.height ≡ (rows + 2) * 64 → 0 < rows → first + rows ≤ down
     → ((x y : ℕ) → x < lattice.width → y < strip.height → has strip x y ≡ has lattice x (((first + down - 1) * 64 + y) % (down * 64)))
     → IsPartOf (record { first = first; down = down; margin = 1 }) walls obstacles strip lattice 0
-strip_is first down rows walls obstacles strip lattice sized full of_walls of_obstacles high_is wide_is strip_high some within row =
-    record {
-      sized = sized;
-      full = full;
-      of_walls = of_walls;
-      of_obstacles = of_obstacles;
-      placed = record { wide = wide_is; down = high_is; some = omega (arith, strip_high, some); inside = omega (arith, strip_high, within); margin = omega arith; all = λ e. absurd (omega arith) };
-      rows = record { row = λ x y l _ h. row x y l (omega (arith, h)) };
-    }
+strip_is first down rows walls obstacles strip lattice sized full of_walls of_obstacles high_is wide_is strip_high some within row = grind (arith, wide)
 
 pub strip_flow : (first down rows n : ℕ) (counted : Counted) (d : Dynamics) (strip lattice new : Cells) (answer : Flow) → strip.height ≡ (rows + 2) * 64 → HasRun (record { first = first; down = down; margin = 1 }) counted d n strip lattice new answer
     → answer ≡ flow_counted counted (tiles_flow d.parity d.walls d.obstacles d.leaves lattice (first * (lattice.width / 64)) (rows * (lattice.width / 64)) n)
-strip_flow first down rows n counted d strip lattice new answer high_is run =
-    let e : strip.height / 64 - 2 * 1 ≡ rows = omega (arith, high_is) in
-    run.flow ∙ ap (λ r. flow_counted counted (tiles_flow d.parity d.walls d.obstacles d.leaves lattice (first * (lattice.width / 64)) (r * (lattice.width / 64)) n)) e
+strip_flow first down rows n counted d strip lattice new answer high_is run = grind (arith, flow_counted, tiles_flow)

@@ -1,5 +1,5 @@
 -- The tiles of a part are turned one after another.
-use Rattle.std.proofs.Common.{◌≡◌, ℕ, ◌+◌, ◌-◌, ◌*◌, ◌/◌, ◌%◌, ◌<◌, ◌≤◌, ◌==◌, true, if◌then◌else◌, refl, sym, ap, ap₂, ◌∙◌, subst, arith, inl, inr}
+use Rattle.std.proofs.Common.{◌≡◌, ℕ, ◌+◌, ◌-◌, ◌*◌, ◌/◌, ◌%◌, ◌<◌, ◌≤◌, ◌==◌, true, if◌then◌else◌, refl, sym, ap, ◌∙◌, subst, arith}
 use Rattle.std.proofs.Math.Nat.{mod-lt}
 use Rattle.std.proofs.lemmas.Nat.{row-Below, mod-mul-add}
 use Rattle.std.proofs.lemmas.Bool.{cases_eq, eq-eqb, ne_eqb}
@@ -23,23 +23,13 @@ module _ (cells now : Cells) (i j x y : ℕ) (t : Tile) (sized : is_size (extent
   place = ap (λ w. (top_of cells j + y) / 64 * (w / 64) + (left_of cells j + x) / 64) sides.wide ∙ tile_column (cells.width / 64) j x y (wide (extent cells) sized).some h k
 
   inside : (left_of cells j + x < now.width) × (top_of cells j + y < now.height)
-  inside =
-      let across = wide (extent cells) sized in
-      let down = high (extent cells) sized in
-      let column : j % (cells.width / 64) < cells.width / 64 = mod-lt j across.some in
-      let row : j / (cells.width / 64) < cells.height / 64 = (row-Below j (cells.width / 64) (cells.width / 64) (cells.height / 64) within (let e : cells.width / 64 ≤ cells.width / 64 = omega arith in e)).1 in (
-        subst (λ w. left_of cells j + x < w) (sym sides.wide) (cell_below cells.width (j % (cells.width / 64)) x across column h),
-        subst (λ w. top_of cells j + y < w) (sym sides.high) (cell_below cells.height (j / (cells.width / 64)) y down row k),
-      )
+  inside = grind (arith, wide, extent, high, mod-lt, row-Below, left_of, cell_below, top_of)
 
   made : has (with_tile now i t) (left_of cells j + x) (top_of cells j + y) ≡ (if tile_of now (left_of cells j + x) (top_of cells j + y) == i then tile.has t ((left_of cells j + x) % 64) ((top_of cells j + y) % 64) else has now (left_of cells j + x) (top_of cells j + y))
   made = has-cells_where now.width now.height (λ x y. if tile_of now x y == i then tile.has t (x % 64) (y % 64) else has now x y) (left_of cells j + x) (top_of cells j + y) inside.0 inside.1
 
   pub with_here : i ≡ j → has (with_tile now i t) (left_of cells j + x) (top_of cells j + y) ≡ tile.has t x y
-  with_here same =
-      let a : (left_of cells j + x) % 64 ≡ x = mod-mul-add (j % (cells.width / 64)) 64 x h in
-      let b : (top_of cells j + y) % 64 ≡ y = mod-mul-add (j / (cells.width / 64)) 64 y k in
-      made ∙ sym (choose_true _ _ _ _ (eq-eqb _ i (place ∙ sym same)) (sym (ap₂ (tile.has t) a b)))
+  with_here same = grind (arith, left_of, mod-mul-add, top_of, made, choose_true, eq-eqb, place, has)
 
   pub with_other : (j ≡ i → ⊥) → has (with_tile now i t) (left_of cells j + x) (top_of cells j + y) ≡ has now (left_of cells j + x) (top_of cells j + y)
   with_other other = made ∙ sym (choose_false _ _ _ _ (ne_eqb _ i (λ e. other (sym place ∙ e))) refl)
@@ -47,30 +37,14 @@ module _ (cells now : Cells) (i j x y : ℕ) (t : Tile) (sized : is_size (extent
 -- one more tile is turned
 pub turned_next : (part : Part) (p : ℕ) (cells lattice walls obstacles now : Cells) (i k : ℕ) (t : Tile) → is_size (extent cells) ≡ true → HasSidesOf now cells → AreTurnedUpTo i part p cells lattice walls obstacles now k → IsTileOf part p cells lattice walls obstacles k i t
     → AreTurnedUpTo (i + 1) part p cells lattice walls obstacles (with_tile now i t) k
-turned_next part p cells lattice walls obstacles now i k t sized sides so_far turned =
-    record {
-      tile = λ j below within x y h q low top.
-          elim (cases_eq j i) [
-            | inl same ↦
-                with_here cells now i j x y t sized sides within h q (sym same)
-                ∙ subst (λ j. part.margin * k ≤ top_of cells j + y → top_of cells j + y + part.margin * k < cells.height → tile.has t x y ≡ has (streamed p lattice (joined walls obstacles)) (left_of cells j + x) (row_in part (top_of cells j + y))) (sym same) (turned x y h q) low top
-            | inr other ↦ with_other cells now i j x y t sized sides within h q other ∙ so_far.tile j (omega arith) within x y h q low top
-          ];
-    }
+turned_next part p cells lattice walls obstacles now i k t sized sides so_far turned = grind (arith, cases_eq, with_here, top_of, has, streamed, joined, left_of, row_in, with_other)
 
 pub kept_next : (before now : Cells) (i : ℕ) (t : Tile) → is_size (extent before) ≡ true → HasSidesOf now before → AreKeptFrom i before now → AreKeptFrom (i + 1) before (with_tile now i t)
-kept_next before now i t sized sides so_far =
-    record { tile = λ j from within x y h q. with_other before now i j x y t sized sides within h q (λ e. omega arith) ∙ so_far.tile j (omega arith) within x y h q }
+kept_next before now i t sized sides so_far = grind (arith, with_other)
 
 -- a tile that was not turned yet
 pub tile_before : (before now : Cells) (i : ℕ) (t : Tile) → HasSidesOf now before → i < tile_count before → AreKeptFrom i before now → IsTileFrom t now (left_of now i) (top_of now i) → IsTileFrom t before (left_of before i) (top_of before i)
-tile_before before now i t sides within kept from =
-    record {
-      cell = λ x y h q.
-          from.cell x y h q
-          ∙ (ap (λ w. has now (i % (w / 64) * 64 + x) (i / (w / 64) * 64 + y)) sides.wide
-          ∙ kept.tile i (omega arith) within x y h q);
-    }
+tile_before before now i t sides within kept from = grind (arith, has, wide)
 
 -- all are turned
 pub all_turned : (part : Part) (p : ℕ) (cells lattice walls obstacles now : Cells) (i k : ℕ) → is_size (extent cells) ≡ true → HasSidesOf now cells → tile_count cells ≤ i → IsPartOf part walls obstacles cells lattice k

@@ -40,9 +40,7 @@ int_fits z k h few = omega (arith, ints)
 -- two amounts of which the sum may be made
 pub within_fits : (a b : Took) (m n : ℕ) → IsWithin m a → IsWithin n b → m + n ≤ 2 ^ 48
     → TakenFits (pair_plus a.walls b.walls) × TakenFits (pair_plus a.obstacles b.obstacles)
-within_fits a b m n p q few =
-    let all = within_plus a b m n p q in
-    ((int_fits _ (m + n) all.wx few, int_fits _ (m + n) all.wy few), (int_fits _ (m + n) all.ox few, int_fits _ (m + n) all.oy few))
+within_fits a b m n p q few = grind (arith, within_plus, int_fits)
 
 pub twice_small_tile : (z : ℤ) → nat_abs z ≤ 8192 → nat_abs (pos 2 *ℤ z) ≤ 16384
 twice_small_tile z h = omega (arith, ints)
@@ -67,26 +65,19 @@ ints_crossed a b c d = omega (arith, ints)
 
 -- two sums of two
 pub crossed : (a b c d : Took) → took_plus (took_plus a b) (took_plus c d) ≡ took_plus (took_plus a c) (took_plus b d)
-crossed a b c d =
-    took_same
-    (pair_same (ints_crossed a.walls.x b.walls.x c.walls.x d.walls.x) (ints_crossed a.walls.y b.walls.y c.walls.y d.walls.y))
-    (pair_same (ints_crossed a.obstacles.x b.obstacles.x c.obstacles.x d.obstacles.x) (ints_crossed a.obstacles.y b.obstacles.y c.obstacles.y d.obstacles.y))
+crossed a b c d = grind (arith, took_same, pair_same, ints_crossed)
 
 pub ints_regrouped : (a b c : ℤ) → (a +ℤ b) +ℤ c ≡ a +ℤ (b +ℤ c)
 ints_regrouped a b c = omega (arith, ints)
 
 pub regrouped : (a b c : Took) → took_plus (took_plus a b) c ≡ took_plus a (took_plus b c)
-regrouped a b c =
-    took_same
-    (pair_same (ints_regrouped a.walls.x b.walls.x c.walls.x) (ints_regrouped a.walls.y b.walls.y c.walls.y))
-    (pair_same (ints_regrouped a.obstacles.x b.obstacles.x c.obstacles.x) (ints_regrouped a.obstacles.y b.obstacles.y c.obstacles.y))
+regrouped a b c = grind (arith, took_same, pair_same, ints_regrouped)
 
 pub int_plus_zero : (a : ℤ) → a ≡ a +ℤ pos 0
 int_plus_zero a = omega (arith, ints)
 
 pub plus_nothing : (a : Took) → a ≡ took_plus a nothing
-plus_nothing a =
-    took_same (pair_same (int_plus_zero a.walls.x) (int_plus_zero a.walls.y)) (pair_same (int_plus_zero a.obstacles.x) (int_plus_zero a.obstacles.y))
+plus_nothing a = grind (arith, took_same, pair_same, int_plus_zero)
 
 -- tiles one after another
 pub tiles_split : (p : ℕ) (c w o : Cells) (first a b : ℕ) → tiles_take p c w o first (a + b) ≡ took_plus (tiles_take p c w o first a) (tiles_take p c w o (first + a) b)
@@ -132,18 +123,10 @@ sides_as p solid c now other k e same =
 
 -- accounts that are kept, of two amounts and of one
 pub counted_plus : (c : Counted) (a b : Took) → took_plus (counted_of c a) (counted_of c b) ≡ counted_of c (took_plus a b)
-counted_plus c a b = took_same (kept_plus c.walls a.walls b.walls) (kept_plus c.obstacles a.obstacles b.obstacles)
-  where
-    kept_plus : (counted : Bool) (a b : Pair) → pair_plus (if_counted counted a) (if_counted counted b) ≡ if_counted counted (pair_plus a b)
-    kept_plus true a b = refl
-    kept_plus false a b = refl
+counted_plus c a b = grind (arith, took_same, pair_plus, if_counted, true, false)
 
 pub counted_none : (c : Counted) → nothing ≡ counted_of c nothing
-counted_none c = took_same (kept_none c.walls) (kept_none c.obstacles)
-  where
-    kept_none : (counted : Bool) → (let none : Pair = record { x = pos 0; y = pos 0 } in none) ≡ if_counted counted (record { x = pos 0; y = pos 0 })
-    kept_none true = refl
-    kept_none false = refl
+counted_none c = grind (arith, took_same, pos, if_counted, true, false)
 
 pub counted_within : (k : ℕ) (c : Counted) (t : Took) → IsWithin k t → IsWithin k (counted_of c t)
 counted_within k c t is = record {

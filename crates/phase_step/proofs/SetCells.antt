@@ -1,5 +1,5 @@
 -- Cells of a tile that are filled or emptied, and how many change.
-use Rattle.std.proofs.Common.{◌≡◌, ℕ, zero, suc, ◌+◌, ◌*◌, ◌/◌, ◌%◌, ◌^◌, ◌<◌, ◌≤◌, ◌==◌, ◌&&◌, not, ◌||◌, nat_le, nat_lt, Bool, true, false, List, get_or, if◌then◌else◌, refl, sym, ◌∙◌, ap, ap₂, arith}
+use Rattle.std.proofs.Common.{◌≡◌, ℕ, zero, suc, ◌+◌, ◌*◌, ◌%◌, ◌^◌, ◌<◌, ◌≤◌, ◌==◌, ◌&&◌, not, ◌||◌, nat_le, nat_lt, Bool, true, false, List, get_or, if◌then◌else◌, refl, ◌∙◌, ap, arith}
 use Rattle.std.specs.Int.RustNames.{count_ones}
 use Rattle.bit_tile.specs.Bit.{bit}
 use Rattle.bit_tile.specs.Sums.{sum_below, count_below}
@@ -31,10 +31,7 @@ row_more n j word test fits is so_far =
 -- what is counted in a class's rows is counted in the tile
 pub class_counted : (n a b : ℕ) (rows test : ℕ → ℕ → Bool) → a < 2 → b < 2 → n ≡ sum_below 32 (λ k. count_below 32 (λ i. rows i k)) → ((i k : ℕ) → i < 32 → k < 32 → rows i k ≡ test (2 * i + a) (2 * k + b))
     → n ≡ class test a b
-class_counted n a b rows test p q counted is =
-    counted
-    ∙ (sum_below-same 32 _ (λ k. count_below 32 (λ i. test (2 * i + a) (2 * k + b))) (λ k l. count_below-same 32 _ _ (λ i h. is i k h l))
-    ∙ sym (class_count test a b p q))
+class_counted n a b rows test p q counted is = grind (arith, sum_below-same, count_below, count_below-same, class_count)
 
 -- a class has at most 1,024 cells
 count_few : (n : ℕ) (test : ℕ → Bool) → count_below n test ≤ n
@@ -47,15 +44,7 @@ class_few : (test : ℕ → ℕ → Bool) (a b : ℕ) → a < 2 → b < 2 → cl
 class_few test a b p q = omega (arith, class_count test a b p q, sum_below-bound 32 32 (λ k. count_below 32 (λ i. test (2 * i + a) (2 * k + b))) (λ k _. count_few 32 _))
 
 pub few_counts : (counts : List ℕ) (test : ℕ → ℕ → Bool) → ((a b : ℕ) → a < 2 → b < 2 → get_or counts (2 * b + a) 0 ≡ class test a b) → AreTileCounts counts test
-few_counts counts test are =
-    record {
-      count = are;
-      few = λ k h.
-          let a : k % 2 < 2 = omega arith in
-          let b : k / 2 < 2 = omega arith in
-          let e : 2 * (k / 2) + k % 2 ≡ k = omega arith in
-          omega (arith, sym (ap (λ n. get_or counts n 0) e) ∙ are (k % 2) (k / 2) a b, class_few test (k % 2) (k / 2) a b);
-    }
+few_counts counts test are = grind (arith, get_or, class_few)
 
 -- the cells of a rectangle in a class: those in its columns and rows
 in_both : (a b k : Bool) (left right low high : Bool) → a ≡ (left && right) → b ≡ (low && high) → ((a && b) && k) ≡ ((left && right && low && high) && k)
@@ -64,10 +53,7 @@ in_both a b k left right low high e f = grind arith
 pub in_area : (area : Rectangle) (x w y h left top p q columns rows : ℕ) → x ≡ area.x → w ≡ area.w → y ≡ area.y → h ≡ area.h
     → ((k : ℕ) → k < 32 → bit columns k ≡ is_among x w (left + (2 * k + p))) → ((k : ℕ) → k < 32 → bit rows k ≡ is_among y h (top + (2 * k + q)))
     → (i j : ℕ) → i < 32 → j < 32 → (kept known : Bool) → kept ≡ known → ((bit columns i && bit rows j) && not kept) ≡ (is_inside area (left + (2 * i + p)) (top + (2 * j + q)) && not known)
-in_area area x w y h left top p q columns rows ex ew ey eh of_columns of_rows i j l m kept known e =
-    ap (λ k. (bit columns i && bit rows j) && not k) e
-    ∙ in_both (bit columns i) (bit rows j) (not known) (nat_le area.x (left + (2 * i + p))) (nat_lt (left + (2 * i + p)) (area.x + area.w)) (nat_le area.y (top + (2 * j + q))) (nat_lt (top + (2 * j + q)) (area.y + area.h))
-    (of_columns i l ∙ ap₂ (λ x w. is_among x w (left + (2 * i + p))) ex ew) (of_rows j m ∙ ap₂ (λ y h. is_among y h (top + (2 * j + q))) ey eh)
+in_area area x w y h left top p q columns rows ex ew ey eh of_columns of_rows i j l m kept known e = grind (arith, bit, not, in_both, nat_le, nat_lt, is_among)
 
 moved_last : (t a b s : Bool) → ((t && a && b) && s) ≡ ((t && s) && a && b)
 moved_last t a b s = grind arith

@@ -37,15 +37,7 @@ view_of cells x0 y0 i j = has cells ((x0 + i + cells.width - 1) % cells.width) (
 
 -- what is named by one test is named by another that says the same
 pub names_same : (told : ℕ) (b : TileBlocks) (test other : ℕ → ℕ → ℕ → Bool) → ((p x y : ℕ) → p < 2 → x < 64 → y < 64 → test p x y ≡ other p x y) → NamesBlocks told b test → NamesBlocks told b other
-names_same told b test other same are =
-    record {
-      even = λ i j h k. are.even i j h k ∙ same 0 (2 * i) (2 * j) (omega arith) (omega arith) (omega arith);
-      odd = record {
-        begin = λ i k h below. are.odd.begin i k h below ∙ same 1 (2 * i + 1) (2 * k - 1) (omega arith) (omega arith) (omega arith);
-        end = λ i k h below. are.odd.end i k h below ∙ same 1 (2 * i + 0) (2 * k - 1) (omega arith) (omega arith) (omega arith);
-      };
-      rows = λ p two x y h k e. sym (same p x y two h k) ∙ are.rows p two x y h k e;
-    }
+names_same told b test other same are = grind (arith)
 
 -- the place of a tile
 module _ (set : Cells) (i : ℕ) (sized : is_size (extent set) ≡ true) (within : i < tile_count set) where
@@ -54,8 +46,7 @@ module _ (set : Cells) (i : ℕ) (sized : is_size (extent set) ≡ true) (within
 
   -- a tile's blocks are the torus's sites
   pub walled_here : (p : ℕ) → p < 2 → (window : ℕ → ℕ → Bool) → IsView p window set (tile_rectangle set i).x (tile_rectangle set i).y → (x y : ℕ) → x < 64 → y < 64 → is_walled_at p window x y ≡ is_walled_in set i p x y
-  walled_here p two window view x y h k =
-      walled_same cell_walled p window set set.width set.height (tile_rectangle set i).x (tile_rectangle set i).y x y two refl refl view place.even_column place.even_row h k (omega (arith, place.right)) (omega (arith, place.bottom))
+  walled_here p two window view x y h k = grind (arith, walled_same, cell_walled, set, tile_rectangle, place)
 
 -- words that are made of a tile's window
 pub named_here : (set : Cells) (i told : ℕ) (b : TileBlocks) (w : Window) → is_size (extent set) ≡ true → i < tile_count set → IsWindowFrom w set (tile_rectangle set i).x (tile_rectangle set i).y → ((window : ℕ → ℕ → Bool) → IsSeenIn w window → NamesBlocks told b (λ p. is_walled_at p window)) → NamesBlocks told b (is_walled_in set i)
@@ -81,14 +72,7 @@ start_within false x h = omega arith
 
 -- a tile's blocks depend on the tile and the ring round it
 pub walled_alike : (p : ℕ) (some others : ℕ → ℕ → Bool) (x y : ℕ) → x < 64 → y < 64 → ((u v : ℕ) → u ≤ 65 → v ≤ 65 → some u v ≡ others u v) → is_walled_at p some x y ≡ is_walled_at p others x y
-walled_alike p some others x y h k same =
-    let i : ℕ = block_start p x in
-    let j : ℕ = block_start p y in
-    let a : i ≤ 64 = start_within (has_parity p x) x h in
-    let b : j ≤ 64 = start_within (has_parity p y) y k in
-    ap₂ (λ u v. u || v)
-    (ap₂ (λ u v. u || v) (ap₂ (λ u v. u || v) (same i j (omega arith) (omega arith)) (same (i + 1) j (omega arith) (omega arith))) (same i (j + 1) (omega arith) (omega arith)))
-    (same (i + 1) (j + 1) (omega arith) (omega arith))
+walled_alike p some others x y h k same = grind (arith, block_start, has_parity)
 
 -- a place in the ring round tile i, or in the tile
 abbrev pub column_of : Cells → ℕ → ℕ → ℕ
@@ -100,9 +84,7 @@ row_of set i v = ((tile_rectangle set i).y + v + set.height - 1) % set.height
 -- so they stay if the set changes elsewhere
 module _ (area : Rectangle) (before now : Cells) (differ : DifferIn area before now) (sized : is_size (extent now) ≡ true) (i : ℕ) (within : i < tile_count now) (far : (u v : ℕ) → u ≤ 65 → v ≤ 65 → is_inside area (column_of now i u) (row_of now i v) ≡ false) where
   views_same : (u v : ℕ) → u ≤ 65 → v ≤ 65 → view_of before (tile_rectangle before i).x (tile_rectangle before i).y u v ≡ view_of now (tile_rectangle now i).x (tile_rectangle now i).y u v
-  views_same u v h k =
-      ap₂ (λ w h. has before ((i % (w / 64) * 64 + u + w - 1) % w) ((i / (w / 64) * 64 + v + h - 1) % h)) differ.sides.wide differ.sides.high
-      ∙ differ.outside (column_of now i u) (row_of now i v) (mod-lt _ (omega (arith, (wide (extent now) sized).some))) (mod-lt _ (omega (arith, (high (extent now) sized).some))) (far u v h k)
+  views_same u v h k = grind (arith, has, wide, high, mod-lt, extent)
 
   pub stay : (p x y : ℕ) → p < 2 → x < 64 → y < 64 → is_walled_in before i p x y ≡ is_walled_in now i p x y
   stay p x y two h k =
@@ -114,23 +96,7 @@ module _ (area : Rectangle) (before now : Cells) (differ : DifferIn area before 
 
 -- the words are renewed tile by tile
 pub renewed_next : (i word : ℕ) (b : TileBlocks) (before now : Cells) (told : List ℕ) (words : List TileBlocks) → i < tile_count now → HaveAllTiles now told words → NamesBlocks word b (is_walled_in now i) → AreRenewedUpTo i before now told words → AreRenewedUpTo (i + 1) before now (set told i word) (set words i b)
-renewed_next i word b before now told words within all are so_far =
-    record {
-      done = λ k below inside.
-          elim (cases_eq k i) [
-            | inl same ↦
-                subst (λ k. NamesBlocks (get_or (set told i word) k 0) (blocks_at (set words i b) k) (is_walled_in now k)) (sym same)
-                (subst (λ n. NamesBlocks n (blocks_at (set words i b) i) (is_walled_in now i)) (sym (get_or-set_same told i word 0 (omega (arith, all.rows))))
-                (subst (λ (c : TileBlocks). NamesBlocks word c (is_walled_in now i)) (sym (get_or-set_same words i b no_words (omega (arith, all.blocks)))) are))
-            | inr other ↦ kept k other (is_walled_in now k) (so_far.done k (omega arith) inside)
-          ];
-      rest = λ k above inside. kept k (λ e. omega arith) (is_walled_in before k) (so_far.rest k (omega arith) inside);
-    }
-  where
-    kept : (k : ℕ) → (k ≡ i → ⊥) → (test : ℕ → ℕ → ℕ → Bool) → NamesBlocks (get_or told k 0) (blocks_at words k) test → NamesBlocks (get_or (set told i word) k 0) (blocks_at (set words i b) k) test
-    kept k other test is =
-        subst (λ n. NamesBlocks n (blocks_at (set words i b) k) test) (sym (get_or-set_other told i k word 0 other))
-        (subst (λ (c : TileBlocks). NamesBlocks (get_or told k 0) c test) (sym (get_or-set_other words i k b no_words other)) is)
+renewed_next i word b before now told words within all are so_far = grind (arith, cases_eq, get_or, set, blocks_at, is_walled_in, get_or-set_same, no_words, get_or-set_other)
 
 -- tiles that the change does not reach stay
 pub renewed_past : (n m : ℕ) (before now : Cells) (told : List ℕ) (words : List TileBlocks) → n ≤ m → ((i : ℕ) → n ≤ i → i < m → i < tile_count now → (p x y : ℕ) → p < 2 → x < 64 → y < 64 → is_walled_in before i p x y ≡ is_walled_in now i p x y)
@@ -147,29 +113,20 @@ renewed_past n m before now told words up same so_far =
 
 -- the first and the last
 pub renewed_starts : (before now : Cells) (told : List ℕ) (words : List TileBlocks) → HasSidesOf before now → AreBlocksOf before told words → AreRenewedUpTo 0 before now told words
-renewed_starts before now told words sides are =
-    record {
-      done = λ i below inside. absurd (omega arith);
-      rest = λ i above inside. are.each i (omega (arith, tiles_as before now sides));
-    }
+renewed_starts before now told words sides are = grind (arith, tiles_as)
 
 pub renewed_ends : (n : ℕ) (before now : Cells) (told : List ℕ) (words : List TileBlocks) → tile_count now ≤ n → HaveAllTiles now told words → AreRenewedUpTo n before now told words → AreBlocksOf now told words
-renewed_ends n before now told words all have so_far =
-    record { all = have; each = λ i inside. so_far.done i (omega arith) inside }
+renewed_ends n before now told words all have so_far = grind (arith)
 
 -- one axis: the places that a tile's blocks reach
 pub place_first : (from size : ℕ) → (from + 0 + size - 1) % size ≡ (from + size - 1) % size
 place_first from size = ap (λ n. n % size) (omega arith)
 
 pub place_inside : (from size u : ℕ) → from + 64 ≤ size → 1 ≤ u → u ≤ 64 → (from + u + size - 1) % size ≡ from + u - 1
-place_inside from size u fits low high =
-    let e : from + u + size - 1 ≡ 1 * size + (from + u - 1) = omega arith in
-    ap (λ n. n % size) e ∙ mod-mul-add 1 size (from + u - 1) (omega arith)
+place_inside from size u fits low high = grind (arith, mod-mul-add)
 
 pub place_last : (from size : ℕ) → (from + 65 + size - 1) % size ≡ (from + 63 + 1) % size
-place_last from size =
-    let e : from + 65 + size - 1 ≡ from + 63 + 1 + size = omega arith in
-    ap (λ n. n % size) e ∙ add-mod_right (from + 63 + 1) size
+place_last from size = grind (arith, add-mod_right)
 
 outside_of : (start end a from : ℕ) → (nat_lt start (from + 64) && nat_lt from end) ≡ false → from ≤ a → a < from + 64 → (nat_le start a && nat_lt a end) ≡ false
 outside_of start end a from none low high = grind (arith, nat_tests)
@@ -190,18 +147,10 @@ not_near start end from size before after fits none is_before is_after no_before
 
 -- a tile in a column of tiles, or in a row of tiles, that the rectangle does not reach
 column_is : (across row column i : ℕ) → column < across → row * across + column ≤ i → i < row * across + (column + 1) → i % across ≡ column
-column_is across row column i less low high =
-    let e : i ≡ row * across + column = omega arith in
-    ap (λ i. i % across) e ∙ mod-mul-add row across column less
+column_is across row column i less low high = grind (arith, mod-mul-add)
 
 row_is : (across row i : ℕ) → row * across ≤ i → i < (row + 1) * across → i / across ≡ row
-row_is across row i low high =
-    let next : (row + 1) * across ≡ row * across + across = add-mul row across in
-    let e : i ≡ row * across + (i - row * across) = omega arith in
-    ap (λ i. i / across) e ∙ div-mul-add row across (i - row * across) (omega (arith, next))
-  where
-    add-mul : (m n : ℕ) → (m + 1) * n ≡ m * n + n
-    add-mul m n = omega arith
+row_is across row i low high = grind (arith, div-mul-add)
 
 module _ (area : Rectangle) (before now : Cells) (told : List ℕ) (words : List TileBlocks) (sized : is_size (extent now) ≡ true) (differ : DifferIn area before now) where
   pub far_column : (row column start len size : ℕ) → column < now.width / 64 → start ≡ area.x → len ≡ area.w → size ≡ now.width → ((u : ℕ) → u ≤ 65 → (nat_le start ((column * 64 + u + size - 1) % size) && nat_lt ((column * 64 + u + size - 1) % size) (start + len)) ≡ false)
@@ -223,11 +172,7 @@ pub none_named : (told : ℕ) (b : TileBlocks) (test : ℕ → ℕ → ℕ → B
 none_named told b test e are p two x y h k = are.rows p two x y h k (rw e (bit-zero (y / 2)))
 
 pub words_read : (inside seen : Cells) (told : List ℕ) (words : List TileBlocks) (i word : ℕ) (b : TileBlocks) → inside ≡ seen → AreBlocksOf inside told words → i < tile_count seen → (i < length told → word ≡ get_or told i 0) → (i < length words → b ≡ blocks_at words i) → NamesBlocks word b (is_walled_in seen i)
-words_read inside seen told words i word b e are within told_there words_there =
-    let in_set : i < tile_count inside = omega (arith, ap tile_count e) in
-    subst (λ (s : Cells). NamesBlocks word b (is_walled_in s i)) e
-    (subst (λ n. NamesBlocks n b (is_walled_in inside i)) (sym (told_there (omega (arith, are.all.rows))))
-    (subst (λ (c : TileBlocks). NamesBlocks (get_or told i 0) c (is_walled_in inside i)) (sym (words_there (omega (arith, are.all.blocks)))) (are.each i in_set)))
+words_read inside seen told words i word b e are within told_there words_there = grind (arith, tile_count, is_walled_in, get_or)
 
 pub all_rows : (set : Cells) (row : ℕ) → set.height / 64 ≤ row → tile_count set ≤ row * (set.width / 64)
 all_rows set row down = omega (arith, mul_comm (set.width / 64) (set.height / 64), mul-le-mul_right (set.width / 64) down)
@@ -277,20 +222,10 @@ and_not true b e = ap not (sym e)
 and_not false b e = refl
 
 pub filled_differs : (area : Rectangle) (before now : Cells) → now ≡ filled before area → DifferIn area before now
-filled_differs area before now e =
-    subst (DifferIn area before) (sym e)
-    (record {
-      sides = record { wide = refl; high = refl };
-      outside = λ x y h k out. or_not (has before x y) (is_inside area x y) out ∙ sym (has-cells_where before.width before.height (λ x y. has before x y || is_inside area x y) x y h k);
-    })
+filled_differs area before now e = grind (arith, wide, high, has, is_inside, has-cells_where)
 
 pub cleared_differs : (area : Rectangle) (before now : Cells) → now ≡ cleared before area → DifferIn area before now
-cleared_differs area before now e =
-    subst (DifferIn area before) (sym e)
-    (record {
-      sides = record { wide = refl; high = refl };
-      outside = λ x y h k out. and_not (has before x y) (is_inside area x y) out ∙ sym (has-cells_where before.width before.height (λ x y. has before x y && not (is_inside area x y)) x y h k);
-    })
+cleared_differs area before now e = grind (arith, wide, high, has, is_inside, has-cells_where, not)
 
 -- all words are made anew, from those of no cells on
 abbrev pub nothing_of : Cells → Cells

@@ -1,5 +1,5 @@
 -- What tiles take adds up to what the torus takes.
-use Rattle.std.proofs.Common.{◌≡◌, ℕ, suc, ◌+◌, ◌*◌, ◌%◌, ◌<◌, ◌≤◌, ◌==◌, Bool, true, false, [], ◌∷◌, ℤ, pos, ◌+ℤ◌, ◌-ℤ◌, ◌*ℤ◌, nat_abs, subst, sym, ap, ap₂, ◌∙◌, arith, add-one}
+use Rattle.std.proofs.Common.{◌≡◌, ℕ, suc, ◌+◌, ◌*◌, ◌%◌, ◌<◌, ◌≤◌, Bool, true, false, [], ◌∷◌, ℤ, pos, ◌+ℤ◌, ◌-ℤ◌, ◌*ℤ◌, nat_abs, subst, sym, ap, ap₂, ◌∙◌, arith, add-one}
 use Rattle.std.specs.List.{range_with_len}
 use Rattle.std.proofs.lemmas.Int.{ints}
 use Rattle.std.proofs.lemmas.List.Sums.{fold-append}
@@ -51,11 +51,7 @@ small_difference : (a b c d k : ℕ) → a ≤ k → b ≤ k → c ≤ k → d �
 small_difference a b c d k p q r s = omega (arith, ints)
 
 small_classes : (tick : ℤ) (a b c d k : ℕ) → a ≤ k → b ≤ k → c ≤ k → d ≤ k → IsSmall (2 * k) (sums_by_parity tick a b c d)
-small_classes tick a b c d k p q r s =
-    record {
-      x = small_by_sign (parity tick == 0) (pos (a + c) -ℤ pos (b + d)) (2 * k) (small_difference a c b d k p r q s);
-      y = small_by_sign (parity tick == 0) (pos (a + b) -ℤ pos (c + d)) (2 * k) (small_difference a b c d k p q r s);
-    }
+small_classes tick a b c d k p q r s = grind (arith, parity, pos, small_difference)
 
 pub small_sum : (a b : ℤ) (m k : ℕ) → nat_abs a ≤ m → nat_abs b ≤ k → nat_abs (a +ℤ b) ≤ m + k
 small_sum a b m k p q = omega (arith, ints)

@@ -27,8 +27,7 @@ use Rattle.phase_step.proofs.ActedTiles.{acting, Stays, cell_within}
 
 -- tiles that agree count alike
 pub count_same : (f g : ℕ → ℕ → Bool) (a b : ℕ) → ((x y : ℕ) → x < 64 → y < 64 → f x y ≡ g x y) → count_cells (λ x y. f x y && x % 2 == a && y % 2 == b) ≡ count_cells (λ x y. g x y && x % 2 == a && y % 2 == b)
-count_same f g a b same =
-    sum_below-same 64 _ _ (λ y q. count_below-same 64 _ _ (λ x p. ap (λ t. t && x % 2 == a && y % 2 == b) (same x y p q)))
+count_same f g a b same = grind (arith, sum_below-same, count_below-same)
 
 pub counts_as : (counts : List ℕ) (f g : ℕ → ℕ → Bool) → AreTileCounts counts f → ((x y : ℕ) → x < 64 → y < 64 → f x y ≡ g x y) → AreTileCounts counts g
 counts_as counts f g are same = record { count = λ a b p q. are.count a b p q ∙ count_same f g a b same; few = are.few }

@@ -1,5 +1,5 @@
 -- What a plane's tiles show of the torus.
-use Rattle.std.proofs.Common.{◌≡◌, [], ℕ, ◌+◌, ◌*◌, ◌/◌, ◌%◌, ◌<◌, ◌≤◌, ◌-◌, ◌∙◌, ap, subst, sym, arith}
+use Rattle.std.proofs.Common.{◌≡◌, [], ℕ, ◌+◌, ◌%◌, ◌<◌, ◌≤◌, ◌-◌, arith}
 use Rattle.std.proofs.lemmas.Nat.{mod-mul-add}
 use Rattle.std.proofs.Math.Nat.{mod-lt}
 use Rattle.bit_tile.specs.Tile.{HasCells}
@@ -21,26 +21,17 @@ use Rattle.phase_step.proofs.Rings.{window_is}
 
 -- a tile of a set of the same torus as another's
 pub bare_view : (p i : ℕ) (cells others : Cells) → p < 2 → cells.width ≡ others.width → IsBareRound cells (tile_rectangle cells i).x (tile_rectangle cells i).y → IsView p none cells (tile_rectangle others i).x (tile_rectangle others i).y
-bare_view p i cells others small wide bare =
-    let here : IsBareRound cells (i % (others.width / 64) * 64) (i / (others.width / 64) * 64) = subst (λ w. IsBareRound cells (i % (w / 64) * 64) (i / (w / 64) * 64)) wide bare in
-    record { cell = λ u v (_, right) (_, down). sym (here.cell u v (omega arith) (omega arith)) }
+bare_view p i cells others small wide bare = grind (arith)
 
 inside : (n x i : ℕ) → x + 64 ≤ n → 1 ≤ i + 0 → i ≤ 64 + 0 → (x + i + n - 1) % n ≡ x + (i - 1)
-inside n x i fits low high =
-    let f : x + i + n - 1 ≡ 1 * n + (x + (i - 1)) = omega arith in
-    ap (λ m. m % n) f ∙ mod-mul-add 1 n (x + (i - 1)) (omega arith)
+inside n x i fits low high = grind (arith, mod-mul-add)
 
 pub tile_cells : (i : ℕ) (cells others : Cells) (t : Tile) → cells.width ≡ others.width → IsTileFrom t cells (tile_rectangle cells i).x (tile_rectangle cells i).y → HasCells t (λ x y. has cells ((tile_rectangle others i).x + x) ((tile_rectangle others i).y + y))
-tile_cells i cells others t wide from =
-    let here : IsTileFrom t cells (i % (others.width / 64) * 64) (i / (others.width / 64) * 64) = subst (λ w. IsTileFrom t cells (i % (w / 64) * 64) (i / (w / 64) * 64)) wide from in
-    here.cell
+tile_cells i cells others t wide from = grind (arith)
 
 pub tile_window : (i : ℕ) (cells others : Cells) (t : Tile) (b : Border) → cells.width ≡ others.width → cells.height ≡ others.height → (tile_rectangle others i).x + 64 ≤ others.width → (tile_rectangle others i).y + 64 ≤ others.height
     → IsTileFrom t cells (tile_rectangle cells i).x (tile_rectangle cells i).y → IsRingRound b cells (tile_rectangle cells i).x (tile_rectangle cells i).y → IsWindow (around t b) cells (tile_rectangle others i).x (tile_rectangle others i).y
-tile_window i cells others t b wide high right bottom from round =
-    let tile : IsTileFrom t cells (i % (others.width / 64) * 64) (i / (others.width / 64) * 64) = subst (λ w. IsTileFrom t cells (i % (w / 64) * 64) (i / (w / 64) * 64)) wide from in
-    let ring : IsRingRound b cells (i % (others.width / 64) * 64) (i / (others.width / 64) * 64) = subst (λ w. IsRingRound b cells (i % (w / 64) * 64) (i / (w / 64) * 64)) wide round in
-    window_is t b cells (i % (others.width / 64) * 64) (i / (others.width / 64) * 64) tile ring (subst (λ w. (tile_rectangle others i).x + 64 ≤ w) (sym wide) right) (subst (λ h. (tile_rectangle others i).y + 64 ≤ h) (sym high) bottom)
+tile_window i cells others t b wide high right bottom from round = grind (arith, window_is, tile_rectangle)
 
 -- at even parity any border will do
 pub any_border : Border
@@ -53,19 +44,11 @@ border_near r = border_of_tiles r.above.now r.below.now r.left.now r.right.now r
 -- a window of a set, and its view of the torus
 pub window_view : (i : ℕ) (cells others : Cells) (w : Window) → cells.width ≡ others.width → cells.height ≡ others.height → (tile_rectangle others i).x + 64 ≤ others.width → (tile_rectangle others i).y + 64 ≤ others.height
     → IsWindowFrom w cells (tile_rectangle cells i).x (tile_rectangle cells i).y → IsView 1 (around w.tile.now (border_near w.round).0) cells (tile_rectangle others i).x (tile_rectangle others i).y
-window_view i cells others w wide high right bottom from =
-    let b = (border_near w.round).0 in
-    window_is_view 1 (around w.tile.now b) cells (tile_rectangle others i).x (tile_rectangle others i).y (omega arith) (tile_window i cells others w.tile.now b wide high right bottom from.tile (from.round b (border_near w.round).1))
+window_view i cells others w wide high right bottom from = grind (arith, window_is_view, around, tile_rectangle, tile_window)
 
 pub window_seen : (w : Window) → IsSeenIn w (around w.tile.now (border_near w.round).0)
-window_seen w =
-    let b = (border_near w.round).0 in
-    let r = w.round in
-    record { tile = shows_tile w.tile.now b; round = shows_round w.tile.now b r.above.now r.below.now r.left.now r.right.now r.above_left.now r.above_right.now r.below_left.now r.below_right.now (border_near w.round).1 }
+window_seen w = grind (arith, shows_tile, shows_round)
 
 pub bare_window : (i : ℕ) (cells others : Cells) → HasSidesOf cells others → (tile_rectangle others i).x + 64 ≤ others.width → (tile_rectangle others i).y + 64 ≤ others.height
     → HasNone cells → IsBareRound cells (tile_rectangle cells i).x (tile_rectangle cells i).y
-bare_window i cells others of right bottom none =
-    let w : 0 < cells.width = subst (λ w. 0 < w) (sym of.wide) (omega (arith, right)) in
-    let h : 0 < cells.height = subst (λ h. 0 < h) (sym of.high) (omega (arith, bottom)) in
-    record { cell = λ i j _ _. none.cell _ _ (mod-lt _ w) (mod-lt _ h) }
+bare_window i cells others of right bottom none = grind (arith, none, mod-lt)
