@@ -1,5 +1,5 @@
 -- A part's own tiles: which of the lattice they are, and what they take.
-use Rattle.std.proofs.Common.{◌≡◌, ℕ, zero, suc, ◌+◌, ◌-◌, ◌*◌, ◌/◌, ◌%◌, ◌<◌, ◌≤◌, true, pos, sym, ap, ap₂, ◌∙◌, subst, arith, inl, inr, mul-le-mul}
+use Rattle.std.proofs.Common.{◌≡◌, ℕ, suc, ◌+◌, ◌-◌, ◌*◌, ◌/◌, ◌%◌, ◌<◌, ◌≤◌, true, pos, sym, ap, ap₂, ◌∙◌, subst, arith, inl, inr, mul-le-mul}
 use Rattle.std.proofs.Math.Nat.{mod-lt}
 use Rattle.std.proofs.lemmas.Nat.{row-Below, div-add-mod', mod-mul-add}
 use Rattle.std.proofs.lemmas.Bool.{cases_lt}
@@ -31,11 +31,6 @@ own_row a i m n some low high =
       ],
       (row-Below i a a (m + n) (let e : m * a + n * a ≡ a * (m + n) = omega arith in omega (arith, e, high)) (let e : a ≤ a = omega arith in e)).1,
     )
-
-unspoilt_rows : (margin k h r : ℕ) → margin ≤ 1 → margin * k ≤ 64 → h / 64 * 64 ≡ h → 2 * margin < h / 64 → margin ≤ r → r < margin + (h / 64 - 2 * margin) → (margin * k ≤ r * 64) × (r * 64 + 64 + margin * k ≤ h)
-unspoilt_rows zero k h r small few tiles some low high = (omega arith, omega (arith, tiles))
-unspoilt_rows (suc zero) k h r small few tiles some low high = (omega arith, omega (arith, tiles))
-unspoilt_rows (suc (suc n)) k h r small few tiles some low high = absurd (omega arith)
 
 module _ (part : Part) (cells lattice : Cells) (i k : ℕ) (sized : is_size (extent cells) ≡ true) (placed : IsPlaced part cells lattice) (low : part.margin * (cells.width / 64) ≤ i) (high_end : i < part.margin * (cells.width / 64) + own_rows part cells * (cells.width / 64)) where
   rows : (part.margin ≤ i / (cells.width / 64)) × (i / (cells.width / 64) < part.margin + own_rows part cells)

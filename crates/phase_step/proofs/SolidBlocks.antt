@@ -1,5 +1,5 @@
 -- The blocks with a cell of a set: by what its tiles show, and after the set has changed in a rectangle.
-use Rattle.std.proofs.Common.{◌≡◌, ℕ, ◌+◌, ◌-◌, ◌*◌, ◌/◌, ◌%◌, ◌<◌, ◌≤◌, Bool, true, false, ◌&&◌, ◌||◌, not, nat_le, nat_lt, if◌then◌else◌, List, Option, Some, None, get_or, set, length, replicate, inl, inr, refl, sym, ◌∙◌, ap, ap₂, subst, arith, get_or-set_same, get_or-set_other}
+use Rattle.std.proofs.Common.{◌≡◌, ℕ, ◌+◌, ◌-◌, ◌*◌, ◌/◌, ◌%◌, ◌<◌, ◌≤◌, Bool, true, false, ◌&&◌, ◌||◌, not, nat_le, nat_lt, List, Option, Some, None, get_or, set, length, replicate, inl, inr, refl, sym, ◌∙◌, ap, ap₂, subst, arith, get_or-set_same, get_or-set_other}
 use Rattle.std.proofs.lemmas.Bool.{cases_eq, cases_lt}
 use Rattle.std.proofs.lemmas.Bool.Decides.{nat_tests}
 use Rattle.std.proofs.lemmas.Nat.{mod-mul-add, div-mul-add}
@@ -65,10 +65,6 @@ pub named_on : (set old : Cells) (i told : ℕ) (b : TileBlocks) (w : Window) �
 named_on set old i told b w sides sized within from named =
     let back : HasSidesOf old set = record { wide = sym sides.wide; high = sym sides.high } in
     named_here set i told b w (sized_as old set back sized) (omega (arith, within, tiles_as set old sides)) from named
-
-start_within : (forward : Bool) (x : ℕ) → x < 64 → (if forward then x + 1 else x) ≤ 64
-start_within true x h = omega arith
-start_within false x h = omega arith
 
 -- a tile's blocks depend on the tile and the ring round it
 pub walled_alike : (p : ℕ) (some others : ℕ → ℕ → Bool) (x y : ℕ) → x < 64 → y < 64 → ((u v : ℕ) → u ≤ 65 → v ≤ 65 → some u v ≡ others u v) → is_walled_at p some x y ≡ is_walled_at p others x y
@@ -213,14 +209,6 @@ pub has_none : (set : Cells) (width height : ℕ) → set ≡ cells_where width 
 has_none set width height e = subst HasNone (sym e) (record { cell = λ x y h k. has-cells_where width height (λ _ _. false) x y h k })
 
 -- an edit changes its rectangle alone
-or_not : (a b : Bool) → b ≡ false → a ≡ (a || b)
-or_not true b e = refl
-or_not false b e = sym e
-
-and_not : (a b : Bool) → b ≡ false → a ≡ (a && not b)
-and_not true b e = ap not (sym e)
-and_not false b e = refl
-
 pub filled_differs : (area : Rectangle) (before now : Cells) → now ≡ filled before area → DifferIn area before now
 filled_differs area before now e = grind (arith, wide, high, has, is_inside, has-cells_where)
 

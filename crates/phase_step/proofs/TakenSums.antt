@@ -1,9 +1,9 @@
 -- What tiles take adds up to what the torus takes.
-use Rattle.std.proofs.Common.{◌≡◌, ℕ, suc, ◌+◌, ◌*◌, ◌%◌, ◌<◌, ◌≤◌, Bool, true, false, [], ◌∷◌, ℤ, pos, ◌+ℤ◌, ◌-ℤ◌, ◌*ℤ◌, nat_abs, subst, sym, ap, ap₂, ◌∙◌, arith, add-one}
+use Rattle.std.proofs.Common.{◌≡◌, ℕ, suc, ◌+◌, ◌*◌, ◌%◌, ◌<◌, ◌≤◌, true, [], ◌∷◌, ℤ, pos, ◌+ℤ◌, ◌-ℤ◌, nat_abs, subst, sym, ap, ap₂, ◌∙◌, arith, add-one}
 use Rattle.std.specs.List.{range_with_len}
 use Rattle.std.proofs.lemmas.Int.{ints}
 use Rattle.std.proofs.lemmas.List.Sums.{fold-append}
-use Rattle.gas_terms.specs.Velocity.{parity, sign}
+use Rattle.gas_terms.specs.Velocity.{parity}
 use Rattle.gas_terms.specs.Cells.{Cells, Rectangle, HasEvenSides, extent, is_size, tile_count, tile_rectangle}
 use Rattle.gas_terms.specs.Gas.{takes_for_walls, takes_for_obstacles}
 use Rattle.gas_terms.specs.Accounts.{nothing, plus, plus_all, pair_plus, took_plus, twice_momentum, total_in, stopped, sums_by_parity, parity_count, total, taken}
@@ -42,10 +42,6 @@ momentum_last f n = ap (momentum_below f) (add-one n) ∙ (ap twice_momentum (pl
 pub record IsSmall (k : ℕ) (s : Sums) : Type 0 where
   pub x : nat_abs s.px ≤ k
   pub y : nat_abs s.py ≤ k
-
-small_by_sign : (r : Bool) (z : ℤ) (k : ℕ) → nat_abs z ≤ k → nat_abs (sign r *ℤ z) ≤ k
-small_by_sign true z k h = omega (arith, ints)
-small_by_sign false z k h = omega (arith, ints)
 
 small_difference : (a b c d k : ℕ) → a ≤ k → b ≤ k → c ≤ k → d ≤ k → nat_abs (pos (a + b) -ℤ pos (c + d)) ≤ 2 * k
 small_difference a b c d k p q r s = omega (arith, ints)
