@@ -89,6 +89,14 @@ impl Plane {
         *size
     }
 
+    /// Shows the prover that it is a lattice, as its type keeps. Does nothing.
+    #[inline(always)]
+    pub fn shows_lattice(&self)
+        ensures { IsLattice self.now }
+    {
+        self.size();
+    }
+
     /// Whether it has the cell in column x of row y.
     pub fn get(&self, x: u32, y: u32) -> bool
         requires x { x < self.now.width }

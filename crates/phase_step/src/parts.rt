@@ -423,8 +423,7 @@ pub fn run_whole<A: Action>(
 {
     let part = whole(particles);
     let flow = run_part(particles, part, run, counted, spare);
-    // What is made is a lattice too.
-    let _ = particles.size();
+    particles.shows_lattice();
     flow
 }
 
@@ -438,6 +437,6 @@ pub fn act_on(plane: &mut Plane, exchange: &Exchange, parity: u8) -> Moved
 {
     let part = whole(plane);
     let moved = act_on_part(plane, exchange, part, parity);
-    let _ = plane.size();
+    plane.shows_lattice();
     moved
 }

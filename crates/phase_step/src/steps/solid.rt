@@ -92,8 +92,7 @@ impl Solid {
         ensures cells { IsTrue result ↔ HasNone self.now }
         ensures blocks { IsTrue result → HasNoBlocks self.now }
     {
-        // It is a lattice.
-        let _ = self.cells.size();
+        self.cells.shows_lattice();
         self.cells.is_empty()
     }
 

@@ -24,7 +24,7 @@ returns-clause-cells c =
     let cells = c.args.plane.now in
     let new = c.act_on_part-moved.new.particles in
     let left = acted (leaves_of c.args.exchange.now) cells in
-    whole_same (cells.height / 64) 0 cells cells new left c.size.ensures.lattice.full
+    whole_same (cells.height / 64) 0 cells cells new left c.shows_lattice.ensures.full
     (subst (λ (part : Part). IsPartOf part cells cells new left 0) c.whole-part.ensures.part (c.act_on_part-moved.ensures.rows cells cells cells 0 (whole (goal.at.returns-clause-cells c).After-whole-part)))
 
 pub returns-clause-moved : goal.returns-clause-moved

@@ -27,7 +27,7 @@ returns g c =
     let made : HasRun (record { first = 0; down = down; margin = 0 }) c.args.counted d run.n cells cells new c.run_part-flow.result =
     subst (λ (part : Part). HasRun part c.args.counted d run.n cells cells new c.run_part-flow.result) c.whole-part.ensures.part (c.run_part-flow.ensures.run cells whole) in
     record {
-      particles = whole_same down run.n s.walls s.obstacles new _ c.size.ensures.lattice.full made.is;
+      particles = whole_same down run.n s.walls s.obstacles new _ c.shows_lattice.ensures.full made.is;
       spare = c.run_part-flow.ensures.sides.1;
       flow = whole_flow down run.n c.args.counted d cells new c.run_part-flow.result lattice.sized made;
     }

@@ -9,4 +9,4 @@ pub returns-clause-cells : goal.returns-clause-cells
 returns-clause-cells c = subst (λ (set : Cells). IsTrue c.is_empty.result ↔ HasNone set) c.self.view_is c.is_empty.ensures
 
 pub returns-clause-blocks : goal.returns-clause-blocks
-returns-clause-blocks c = λ is. subst (λ (set : Cells). HasNoBlocks set) c.self.view_is (λ i within p two. none_walled c.self.inside.cells c.size.ensures.lattice (c.is_empty.ensures.0 is) i within p two)
+returns-clause-blocks c = λ is. subst (λ (set : Cells). HasNoBlocks set) c.self.view_is (λ i within p two. none_walled c.self.inside.cells c.shows_lattice.ensures (c.is_empty.ensures.0 is) i within p two)
