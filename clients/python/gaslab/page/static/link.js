@@ -1,14 +1,13 @@
 // The page's side of the messages, over a WebSocket or to a worker that the page has with it: numbers the
 // lines, pairs replies and files with them, hands out events and pictures.
-import { PICTURE, decodePicture, decodeFile } from "./frame.js";
+import { decode } from "./frame.js";
 
 const EVENTS = ["hello", "links", "open", "seat", "entry", "play", "pause"];
-const OPEN = 1, CLOSED = 3;
 let worker = null;
 
 /** The parts of a WebSocket that the page uses, to the worker. */
 class Local {
-  readyState = OPEN;
+  readyState = WebSocket.OPEN;
 
   constructor(source) {
     const { port1, port2 } = new MessageChannel();
@@ -23,9 +22,8 @@ class Local {
   send(message) { this.port.postMessage(message); }
 
   close() {
-    if (this.readyState === CLOSED) return;
-    this.readyState = CLOSED;
-    this.onmessage = null;
+    if (this.readyState === WebSocket.CLOSED) return;
+    Object.assign(this, { readyState: WebSocket.CLOSED, onmessage: null });
     this.send(null);
     this.onclose?.();
   }
@@ -34,13 +32,12 @@ class Local {
 /** Takes a seat. */
 export function connect() {
   const source = document.getElementById("worker")?.textContent;
-  if (source) return new Local(source);
-  return new WebSocket(new URL("socket", location.href).href.replace(/^http/, "ws"));
+  return source ? new Local(source) : new WebSocket(new URL("socket", location.href));
 }
 
 export class Link {
   next = 1;
-  waiting = new Map();
+  waiting = new Map();     // of each number its reply as a promise, and its files
   undrawn = 0;
 
   /** `on` has a function for each event, which gets its words, and `picture` and `gone`. */
@@ -50,7 +47,7 @@ export class Link {
     socket.onmessage = ({ data }) => {
       try {
         if (typeof data === "string") data.split("\n").forEach((line) => this.take(line));
-        else this.takeBytes(data);
+        else this.takeParts(data instanceof ArrayBuffer ? decode(data) : data);
       } catch (fault) { this.strange(fault); }
     };
     socket.onclose = () => {
@@ -59,22 +56,19 @@ export class Link {
     };
   }
 
+  get isOpen() { return this.socket.readyState === WebSocket.OPEN; }
+
   /** Answers all that waits: nothing comes any more. */
   end() {
-    for (const { done } of this.waiting.values()) done("GONE");
+    for (const { resolve } of this.waiting.values()) resolve("GONE");
     this.waiting.clear();
   }
 
-  /** Sends a message whose lines have these numbers. Each has its reply as a promise, and its files. */
+  /** Sends a message whose lines have these numbers. */
   ask(numbers, message) {
-    const asked = numbers.map((number) => {
-      const one = { files: [] };
-      one.reply = new Promise((done) => { one.done = done; });
-      this.waiting.set(number, one);
-      return one;
-    });
-    // before it is open, and after its end
-    if (this.socket.readyState === OPEN) this.socket.send(message);
+    const asked = numbers.map(() => ({ files: [], ...Promise.withResolvers() }));
+    asked.forEach((one, k) => this.waiting.set(numbers[k], one));
+    if (this.isOpen) this.socket.send(message);
     else this.end();
     return asked;
   }
@@ -85,39 +79,38 @@ export class Link {
   }
 
   /** Sends lines in one message. Resolves to their replies, in order. */
-  send(lines) { return Promise.all(this.askLines(lines).map(({ reply }) => reply)); }
+  send(lines) { return Promise.all(this.askLines(lines).map(({ promise }) => promise)); }
 
   /** Sends a snapshot to begin from. Resolves to the reply. */
-  upload(bytes) { return this.ask([0], bytes.slice().buffer)[0].reply; }
+  upload(bytes) { return this.ask([0], bytes)[0].promise; }
 
   /** Asks for files: `.script` or `.snapshot`. Resolves to them, or to none if they are refused. */
   async fetch(word) {
-    const [one] = this.askLines([word]);
-    return await one.reply === "DONE" ? one.files : [];
+    const [{ promise, files }] = this.askLines([word]);
+    return await promise === "DONE" ? files : [];
   }
 
   /** Says that the newest picture is drawn, and with it those that it has replaced. */
   drawn() {
     const lines = Array(this.undrawn).fill("0 .drawn");
     this.undrawn = 0;
-    if (lines.length && this.socket.readyState === OPEN) this.socket.send(lines.join("\n"));
+    if (lines.length && this.isOpen) this.socket.send(lines.join("\n"));
   }
 
   take(line) {
     const [head, ...words] = line.split(" "), number = Number(head);
     if (head !== "*") {
-      this.waiting.get(number)?.done(words.join(" "));
+      this.waiting.get(number)?.resolve(words.join(" "));
       this.waiting.delete(number);
     } else if (EVENTS.includes(words[0])) this.on[words[0]](words.slice(1));
   }
 
-  takeBytes(buffer) {
-    if (new Uint8Array(buffer)[0] === PICTURE) {
+  /** Takes a picture, or a file of a line. */
+  takeParts({ line, ...parts }) {
+    if (line !== undefined) this.waiting.get(line)?.files.push(parts);
+    else {
       this.undrawn += 1;
-      this.on.picture(decodePicture(buffer));
-    } else {
-      const { line, ...file } = decodeFile(buffer);
-      this.waiting.get(line)?.files.push(file);
+      this.on.picture(parts);
     }
   }
 

@@ -15,11 +15,9 @@ const seen = { since: performance.now(), drawn: 0, made: 0, number: 0, tick: 0 }
 
 const events = {
   hello([number, rights, program, cap, age]) {
-    const seat = Number(number);
     isJoining = true;
-    state.people.set(seat, "");
-    state.change({ status: "open", seat, rights, program, cap: Number(cap), isNew: age === "new",
-      people: state.people });
+    const seat = Number(number), people = new Map([[seat, ""]]);
+    state.change({ status: "open", seat, rights, program, cap: Number(cap), isNew: age === "new", people });
     if (rights === "watch") banner("You are watching. Another seat drives this gas.");
   },
   links([draw, watch]) { state.links = { draw, watch }; },
@@ -35,17 +33,17 @@ const events = {
     isJoining = false;
   },
   seat([number, what, ...name]) {
-    const seat = Number(number);
-    if (what === "left") state.people.delete(seat);
-    else state.people.set(seat, name.join(" ") || state.people.get(seat) || "");
+    const seat = Number(number), { people } = state;
+    if (what === "left") people.delete(seat);
+    else people.set(seat, name.join(" ") || people.get(seat) || "");
     if (what !== "name" && seat !== state.seat)
       note(`seat ${seat} ${what === "came" ? "has joined" : "has left"}`);
-    state.change({ people: state.people });
+    state.change({ people });
   },
   entry([k, number, ...words]) {
-    const seat = Number(number), line = words.join(" ");
-    edits.entry(line, seat === state.seat ? null : seat);
-    if (seat !== state.seat) entryOf(state.people.get(seat) || `seat ${seat}`, line, `OK ${k}`);
+    const seat = Number(number), line = words.join(" "), isOther = seat !== state.seat;
+    edits.entry(line, isOther ? seat : null);
+    if (isOther) entryOf(state.people.get(seat) || `seat ${seat}`, line, `OK ${k}`);
     if (state.loading) return;
     state.change({ worked: true });
     if (!state.picture || /^(step|back)/.test(line)) return;
@@ -79,14 +77,12 @@ const events = {
 /** Takes a seat. A gas that is there stays as it is: only a new one gets a lesson. */
 export function join() {
   hideBanner();
-  state.people.clear();
   state.change({ link: new Link(connect(), events), links: {} });
 }
 
 /** Takes a picture in. It is drawn with the next frame. */
 function take(p) {
-  if (p.number > seen.number + 1 && seen.number && p.playing) seen.made += p.number - seen.number - 1;
-  seen.made += 1;
+  seen.made += seen.number && p.playing ? Math.max(1, p.number - seen.number) : 1;
   seen.number = p.number;
   fresh = p;
   takePlay(p.playing, p.steps, p.rate);
@@ -165,13 +161,11 @@ function refuse(reply, line, where) {
 /** Goes on with a new journal after the full one and the gas were saved. Probes, plots and play stay, and
     what was refused is sent again. */
 async function goOn({ lines = [], wasPlaying = false }) {
-  await saveFile(".script");
-  await saveFile(".snapshot");
+  for (const word of [".script", ".snapshot"]) await saveFile(word);
   keepsPlots = true;
   const [reply] = await send([".fresh"]);
   keepsPlots = false;
-  if (isRefusal(reply)) return;
-  await send([...lines, ...wasPlaying ? [playLine()] : []]);
+  if (!isRefusal(reply)) await send([...lines, ...wasPlaying ? [playLine()] : []]);
 }
 
 const fault = (what) => banner(`This page has a fault: ${what}. Load it again.`, [], true);
