@@ -1,23 +1,27 @@
 """The pages on one gas: their seats, what they send, and the pictures that they get."""
 import re
+import time
 from collections.abc import Callable
-from itertools import groupby
+from itertools import count, groupby
 from typing import Optional, Union
 
-from ..protocol.commands import CHANGES, COMMANDS, SIDES
+from ..protocol.commands import CHANGES, COMMANDS, MOST_STEPS, SIDES
 from ..protocol.errors import GaslabError, Moving, printable
 from ..snapshot.files import Snapshot, SnapshotFault
 from .laboratory import OTHERS, Laboratory, Means
-from .pictures import LAYOUT, Play, Reading, file, picture
-from .player import Player
+from .pictures import LAYOUT, NOBODY, Play, Reading, file, picture
 
 Send = Callable[[Union[str, bytes]], None]
 Files = dict[str, bytes]
 
 MOST_LINES = 70_000
 """The most lines of one message: a full journal and some more."""
-_LONGEST_NAME, _LONGEST_TITLE = 24, 80
+_LONGEST_NAME, _LONGEST_TITLE, _MOST_RATE = 24, 80, 60
 _READINGS = set(COMMANDS) - set(CHANGES) - {"save"}
+_NEEDS = {**dict.fromkeys((".drawn", ".name", ".script", ".snapshot"), ""),
+          **dict.fromkeys((".play", ".goto", ".pause", ".watch", ".unwatch"), "draw"),
+          **dict.fromkeys((".open", ".fresh", ".bring"), "open")}
+"""The words of a page, and whether its seat must be one that may `draw`, or `open` another gas."""
 
 
 class Seat:
@@ -29,6 +33,38 @@ class Seat:
         self.number, self.rights, self.send, self.name = number, rights, send, ""
         self.undrawn, self.newest = 0, -1
         self.solids: object = None
+
+
+class Player:
+    """The clock of one gas: so many steps a picture, so many pictures a second. `tell` tells all pages."""
+    def __init__(self, tell: Callable[[str], None]) -> None:
+        self.tell, self.due = tell, 0.0
+        self.play: Optional[Play] = None
+
+    def start(self, play: Play) -> None:
+        """Plays from now on."""
+        self.play, self.due = play, time.monotonic()
+        self.tell(f"* play {play.seat} {play.steps} {play.rate}")
+
+    def pause(self, why: str, seat: int = NOBODY) -> None:
+        """Stops, and says why: `asked`, `there`, `left`, `opened` or a refusal."""
+        if self.play:
+            self.play = None
+            self.tell(f"* pause {seat} {why}")
+
+    def beat(self, laboratory: Laboratory) -> bool:
+        """Makes the steps of the next picture if it is time. Returns whether there is something to show."""
+        play = self.play
+        if not play or time.monotonic() < self.due:
+            return False
+        far = play.steps if play.to is None else play.to - laboratory.lab.tally().tick
+        steps = max(-play.steps, min(play.steps, far))
+        refusal = laboratory.move(steps)
+        if refusal or play.to is not None and steps == far:
+            self.pause(refusal or "there")
+        # what is late is not made up for, but for one picture
+        self.due = max(self.due + 1 / play.rate, time.monotonic() - 1 / play.rate)
+        return True
 
 
 class Hall:
@@ -43,17 +79,15 @@ class Hall:
         self.player = Player(self.tell)
         has_entries = list(laboratory.news()) != []
         self._is_new = laboratory.is_own and not (has_entries or laboratory.start or laboratory.name)
-        self._is_dirty = False
-        self._count = self._number = 0
+        self._old: Optional[Laboratory] = None
+        self._count, self._number, self._is_dirty = count(), 0, False
         self._reading: Optional[Reading] = None
         self._frames: dict[bool, bytes] = {}
-        self._old: Optional[Laboratory] = None
 
     def close(self) -> None:
         """Ends all sessions."""
-        for it in (self.laboratory, self._old):
-            if it:
-                it.close()
+        for it in filter(None, (self.laboratory, self._old)):
+            it.close()
 
     def tell(self, event: str) -> None:
         """Sends an event to all pages."""
@@ -62,8 +96,7 @@ class Hall:
 
     def join(self, rights: str, send: Send) -> Seat:
         """Gives a page a seat. `rights` are `all` or `watch`."""
-        seat, it = Seat(self._count, rights, send), self.laboratory
-        self._count += 1
+        seat, it = Seat(next(self._count), rights, send), self.laboratory
         send(f"* hello {seat.number} {rights} {it.program} {it.cap} {'new' if self._is_new else 'kept'}")
         if rights == "all":
             send("* links {} {}".format(*self.links))
@@ -72,15 +105,14 @@ class Hall:
             send(f"* seat {other.number} came {other.name}".rstrip())
             other.send(f"* seat {seat.number} came")
         self.seats[seat.number] = seat
-        self._serve()
+        self._give(seat)
         return seat
 
     def leave(self, seat: Seat) -> None:
         """Takes a page's seat. What it plays stops."""
         if self.seats.pop(seat.number, None):
             if self.player.play and self.player.play.seat == seat.number:
-                self.player.pause("left")
-                self._change()
+                self._stop("left")
             self.tell(f"* seat {seat.number} left")
             self._show()
 
@@ -107,7 +139,6 @@ class Hall:
         if not self.laboratory.is_own:
             self._tell_news()
             self._show()
-            self._serve()
 
     def _lines(self, seat: Seat, lines: list[tuple[int, str]]) -> None:
         replies = []
@@ -138,13 +169,12 @@ class Hall:
             self._change()
 
     def _word(self, seat: Seat, number: int, line: str) -> str:
-        """The reply to a word of the page."""
+        """The reply to a word of the page, by the method of that name."""
         word, *rest = line.split(" ")
-        if word not in _WORDS:
+        if word not in _NEEDS:
             return "NO word"
-        act, needs = _WORDS[word]
         try:
-            found = self._refusal(seat, needs) or act(self, seat, rest)
+            found = self._refusal(seat, _NEEDS[word]) or getattr(self, f"_{word[1:]}")(seat, rest)
         except Moving:
             return "NO moving"
         if isinstance(found, str):
@@ -179,20 +209,21 @@ class Hall:
     def _snapshot(self, seat: Seat, words: list[str]) -> Files:
         return {"day.gas": self.laboratory.gas().to_bytes()}
 
-    def _play(self, seat: Seat, words: list[str], to: Optional[int] = None) -> str:
-        numbers = _numbers(words, 2)
-        is_played = numbers and self.player.start(Play(seat.number, numbers[0], numbers[1], to))
-        return "DONE" if is_played else "NO speed"
+    def _play(self, seat: Seat, words: list[str], count: int = 2) -> str:
+        *to, steps, rate = _numbers(words, count) or (0, 0)
+        if not (1 <= steps <= MOST_STEPS and 1 <= rate <= _MOST_RATE):
+            return "NO speed"
+        gas = self._read().gas
+        if to and to[0] < gas.tick and (gas.drains or gas.sources):
+            return "ERR 11 ports"
+        self.player.start(Play(seat.number, steps, rate, *to))
+        return "DONE"
 
     def _goto(self, seat: Seat, words: list[str]) -> str:
-        numbers, gas = _numbers(words, 3), self._read().gas
-        if numbers and numbers[0] < gas.tick and (gas.drains or gas.sources):
-            return "ERR 11 ports"
-        return self._play(seat, words[1:], numbers[0]) if numbers else "NO speed"
+        return self._play(seat, words, 3)
 
     def _pause(self, seat: Seat, words: list[str]) -> str:
-        self.player.pause("asked", seat.number)
-        self._change()
+        self._stop("asked", seat.number)
         return "DONE"
 
     def _watch(self, seat: Seat, words: list[str]) -> str:
@@ -206,16 +237,13 @@ class Hall:
         return "DONE"
 
     def _open(self, seat: Seat, words: list[str]) -> str:
-        size = _numbers(words[:2], 2)
-        if not size or not set(size) <= set(SIDES):
-            return "NO size"
-        return self._begin((size[0], size[1]), name=printable(" ".join(words[2:]))[:_LONGEST_TITLE])
+        size, name = _numbers(words[:2], 2), printable(" ".join(words[2:]))[:_LONGEST_TITLE]
+        return self._begin(tuple(size), name=name) if size and set(size) <= set(SIDES) else "NO size"
 
     def _fresh(self, seat: Seat, words: list[str]) -> str:
         old = self.laboratory
         reply = self._begin(start=old.gas(), name=old.name)
-        if reply == "DONE":
-            self.laboratory.probes, self.laboratory.keys = dict(old.probes), old.keys
+        self.laboratory.probes, self.laboratory.keys = dict(old.probes), old.keys
         return reply
 
     def _bring(self, seat: Seat, words: list[str]) -> str:
@@ -229,7 +257,7 @@ class Hall:
             return "NO snapshot"
         return self._refusal(seat, "open") or self._begin(start=start)
 
-    def _begin(self, size: tuple[int, int] = (64, 64), start: Optional[Snapshot] = None,
+    def _begin(self, size: tuple[int, ...] = (64, 64), start: Optional[Snapshot] = None,
                name: str = "") -> str:
         """Shows another gas. The one before stays if no program can be started for it."""
         try:
@@ -239,19 +267,22 @@ class Hall:
 
     def _take(self, laboratory: Laboratory) -> str:
         """Shows another gas, and keeps the one before for `.bring`."""
-        self.player.pause("opened")
+        self._stop("opened")
         kept = None if self._is_new else self.laboratory
         for it in (self._old, self.laboratory):
             if it and it is not kept:
                 it.close()
         self._old, self.laboratory, self._is_new = kept, laboratory, False
         self.tell(self._opened())
-        self._change()
         return "DONE"
 
     def _opened(self) -> str:
         width, height = self.laboratory.lab.size
         return f"* open {width} {height} {len(self.laboratory.lab.known)} {self.laboratory.name}".rstrip()
+
+    def _stop(self, why: str, seat: int = NOBODY) -> None:
+        self.player.pause(why, seat)
+        self._change()
 
     def _change(self) -> None:
         """Notes that the gas, or what pictures say of it, is another one now."""
@@ -260,11 +291,7 @@ class Hall:
     def _show(self) -> None:
         """After a change each page is to have a new picture."""
         if self._is_dirty:
-            self._is_dirty = False
-            self._number += 1
-            self._serve()
-
-    def _serve(self) -> None:
+            self._is_dirty, self._number = False, self._number + 1
         for seat in list(self.seats.values()):
             self._give(seat)
 
@@ -285,18 +312,8 @@ class Hall:
 
     def _read(self) -> Reading:
         """What the laboratory has now. It is read once for all pages."""
-        if self._reading is None:
-            self._reading = self.laboratory.look()
+        self._reading = self._reading or self.laboratory.look()
         return self._reading
-
-
-_Act = Callable[[Hall, Seat, list[str]], Union[str, Files]]
-_WORDS: dict[str, tuple[_Act, str]] = {
-    ".drawn": (Hall._drawn, ""), ".name": (Hall._name, ""), ".script": (Hall._script, ""),
-    ".snapshot": (Hall._snapshot, ""), ".play": (Hall._play, "draw"), ".goto": (Hall._goto, "draw"),
-    ".pause": (Hall._pause, "draw"), ".watch": (Hall._watch, "draw"), ".unwatch": (Hall._unwatch, "draw"),
-    ".open": (Hall._open, "open"), ".fresh": (Hall._fresh, "open"), ".bring": (Hall._bring, "open")}
-"""What each word of a page does, and whether its seat must be one that may `draw`, or `open` another gas."""
 
 
 def _numbered(line: str) -> tuple[int, str]:

@@ -1,16 +1,17 @@
 """The laboratory behind the pages: a program of their own, or a seat of a running server."""
 import os
-import tempfile
 from collections.abc import Iterator
+from contextlib import ExitStack
 from pathlib import Path
+from tempfile import TemporaryDirectory
 from typing import NamedTuple, Optional
 
 from ..lab.lab import Lab
 from ..protocol.commands import MOST_ENTRIES
 from ..protocol.doors import PathLike, is_script
-from ..protocol.errors import Refused, Strange
+from ..protocol.errors import Refused
 from ..protocol.link import LINE_LIMIT
-from ..protocol.replies import Ledger, Ok, Probe, Reply, Tally, reply_text
+from ..protocol.replies import Ok, Reply, reply_text
 from ..protocol.scripts import journal_script
 from ..snapshot.files import Snapshot
 from .pictures import LAYOUT, Reading
@@ -39,25 +40,22 @@ class Laboratory:
         self.probes: dict[int, tuple[int, ...]] = {}
         self.keys = self._told = 0
         self._makers: dict[int, Optional[int]] = {}
-        self._room: Optional["tempfile.TemporaryDirectory[str]"] = None
+        self._room, self._files = "", ExitStack()
 
     @classmethod
     def own(cls, means: Means, size: tuple[int, int] = (64, 64), start: Optional[Snapshot] = None,
             name: str = "") -> "Laboratory":
         """Starts a program, with a snapshot or an empty lattice. It saves to a file that nobody else sees."""
         place = _MEMORY if os.access(_MEMORY, os.W_OK) else None
-        room = tempfile.TemporaryDirectory(prefix="gaslab-", dir=place)
-        path = Path(room.name, "start.gas")
-        try:
-            if start:
+        with ExitStack() as files:
+            room = files.enter_context(TemporaryDirectory(prefix="gaslab-", dir=place))
+            path = Path(room, "start.gas") if start else None
+            if start and path:
                 start.write(path)
-            lab = Lab.run(*size, cap=means.cap, load=path if start else None, save=Path(room.name, "now.gas"),
-                          program=means.program, timeout=means.timeout)
-        except BaseException:
-            room.cleanup()
-            raise
-        it = cls(lab, start, name, "proved" if is_script(means.program) else "named", means.cap)
-        it._room = room
+            lab = Lab.run(*size, cap=means.cap, load=path, save=Path(room, "now.gas"), program=means.program,
+                          timeout=means.timeout)
+            it = cls(lab, start, name, "proved" if is_script(means.program) else "named", means.cap)
+            it._room, it._files = room, files.pop_all()
         return it
 
     @classmethod
@@ -69,13 +67,12 @@ class Laboratory:
     @property
     def is_own(self) -> bool:
         """Whether pages may open another gas in its place."""
-        return self._room is not None
+        return self._room != ""
 
     def close(self) -> None:
         """Ends the session."""
         self.lab.close(polite=False)
-        if self._room:
-            self._room.cleanup()
+        self._files.close()
 
     def replies(self, seat: int, lines: list[str]) -> list[str]:
         """The replies to lines of a page's seat."""
@@ -96,19 +93,11 @@ class Laboratory:
         replies = {"quit": "BYE", "save": "ERR 15 save" if self.is_own else ""}
         return replies.get(line.strip().partition(" ")[0], "")
 
-    def tick(self) -> int:
-        """The present tick."""
-        return self.lab.tally().tick
-
     def move(self, steps: int) -> str:
         """Makes steps of play, backwards if negative. Returns the refusal, or an empty text."""
-        if not steps:
-            return ""
-        try:
-            self._noted(None, self.lab.step(steps) if steps > 0 else self.lab.back(-steps))
-        except Refused as refused:
-            return reply_text(refused)
-        return ""
+        lines = [f"{'step' if steps > 0 else 'back'} {abs(steps)}"] if steps else []
+        replies = [self._noted(None, reply) for reply in self.lab.send(lines)]
+        return next((reply for reply in replies if not reply.startswith("OK")), "")
 
     def news(self) -> Iterator[tuple[int, Optional[int], str]]:
         """Each entry since the last call: its index, who made it, and the command.
@@ -133,23 +122,18 @@ class Laboratory:
 
     def look(self) -> Reading:
         """The whole gas and its readings. Raises `Moving` if others change a server's gas all the time."""
-        gas = self.gas()
-        probes = list(self.probes.items())
-        lines = ["tally", "ledger", *(" ".join(["probe", *map(str, area)]) for _, area in probes)]
-        tally, ledger, *sums = self.lab.do(lines)
-        if not isinstance(tally, Tally) or not isinstance(ledger, Ledger):
-            raise Strange("no readings of a laboratory")
+        gas, tally, ledger = self.gas(), self.lab.tally(), self.lab.ledger()
+        probes = [(key, area, self.lab.probe(*area)) for key, area in self.probes.items()]
         known = len(self.lab.known)
         is_mixed = not self.is_own and len(self.lab.journal()) != known
-        found = [(*probe, reply) for probe, reply in zip(probes, sums) if isinstance(reply, Probe)]
-        return Reading(gas, tally, ledger, found, len(self.lab.known), is_mixed)
+        return Reading(gas, tally, ledger, probes, len(self.lab.known), is_mixed)
 
     def gas(self) -> Snapshot:
         """The whole gas. A program of one's own saves it, which is quicker than reading its rows."""
         if self._room:
             try:
                 self.lab.save()
-                return Snapshot.read(Path(self._room.name, "now.gas"))
+                return Snapshot.read(Path(self._room, "now.gas"))
             except (Refused, OSError):
                 pass  # there was no room for the file
         return self.lab.look(tries=_TRIES)

@@ -1,14 +1,11 @@
 """The server of the page: HTTP and one WebSocket a page, by aiohttp."""
 import asyncio
 import hmac
-import queue
 import secrets
-import threading
 import time
 from collections.abc import Callable
-from concurrent.futures import Future
+from concurrent.futures import ThreadPoolExecutor
 from contextlib import suppress
-from functools import partial
 from ipaddress import ip_address
 from typing import Any, Optional, Union
 
@@ -25,57 +22,6 @@ _HEADERS = {"Cache-Control": "no-store", "X-Content-Type-Options": "nosniff",
             "Referrer-Policy": "no-referrer", "Cross-Origin-Resource-Policy": "same-origin"}
 
 
-class Desk(threading.Thread):
-    """The thread that asks the laboratory. It does jobs one after the other."""
-    def __init__(self) -> None:
-        super().__init__(daemon=True)  # a job that takes long ends with the program
-        self._jobs: "queue.SimpleQueue[Any]" = queue.SimpleQueue()
-
-    def call(self, job: Callable[[], Any]) -> "Future[Any]":
-        """Does a job. Its result, or what it raises, comes by the future."""
-        future: "Future[Any]" = Future()
-        self._jobs.put((future, job))
-        return future
-
-    def end(self) -> None:
-        """Ends the thread, after the jobs before."""
-        self._jobs.put(None)
-
-    def run(self) -> None:
-        """Works until it is ended."""
-        for future, job in iter(self._jobs.get, None):
-            if future.set_running_or_notify_cancel():
-                try:
-                    future.set_result(job())
-                except Exception as fault:
-                    future.set_exception(fault)
-
-
-class Outbox:
-    """The messages for one page. `put` may be called by any thread, and never waits."""
-    def __init__(self, loop: asyncio.AbstractEventLoop) -> None:
-        self._loop = loop
-        self._waiting: "asyncio.Queue[Union[str, bytes]]" = asyncio.Queue()
-        self.is_full = asyncio.Event()
-
-    def put(self, message: Union[str, bytes]) -> None:
-        """Queues a message."""
-        with suppress(RuntimeError):  # the loop has ended
-            self._loop.call_soon_threadsafe(self._put, message)
-
-    def _put(self, message: Union[str, bytes]) -> None:
-        if self._waiting.qsize() < _MOST_WAITING:
-            self._waiting.put_nowait(message)
-        else:
-            self.is_full.set()
-
-    async def send_to(self, socket: Any) -> None:
-        """Sends what comes, until the page has gone."""
-        while True:
-            message = await self._waiting.get()
-            await (socket.send_str(message) if isinstance(message, str) else socket.send_bytes(message))
-
-
 class Web:
     """The addresses of a page. Who has the link of a seat that draws, or that watches, has those rights.
 
@@ -89,7 +35,7 @@ class Web:
         self.tokens = {rights: secrets.token_urlsafe(16) for rights in ("all", "watch")}
         self.hall = make_hall and make_hall((self.tokens["all"], self.tokens["watch"]))
         self.port = 0
-        self._desk = Desk()
+        self._desk = ThreadPoolExecutor(1)  # its thread asks the laboratory, one job after the other
         self._sockets: set[Any] = set()
 
     @property
@@ -106,8 +52,8 @@ class Web:
 
     async def run(self, port: int, ready: Callable[["Web"], None]) -> None:
         """Serves, as `serve` does, until it is cancelled."""
-        self._lost, self._wake = asyncio.get_running_loop().create_future(), asyncio.Event()
-        self._desk.start()
+        self._loop = asyncio.get_running_loop()
+        self._lost, self._wake = self._loop.create_future(), asyncio.Event()
         clock = asyncio.ensure_future(self._play())
         runner = self.http.AppRunner(self._app(), access_log=None)
         await runner.setup()
@@ -131,22 +77,25 @@ class Web:
             await self._do(self.hall.beat)
             await self._do(self.hall.poll)
 
-    async def _do(self, job: Callable[[], Any]) -> Any:
+    async def _do(self, job: Callable[..., Any], *words: Any) -> Any:
         """What a job of the desk returns or raises. The server ends if the laboratory is lost."""
         try:
-            return await asyncio.wrap_future(self._desk.call(job))
+            return await self._loop.run_in_executor(self._desk, job, *words)
         except _LOST as fault:
             if not self._lost.done():
                 self._lost.set_exception(fault)
             raise
 
     async def _end(self, runner: Any) -> None:
+        close = self.hall.close if self.hall else lambda: None
         await asyncio.gather(*(_close(socket, 1001) for socket in self._sockets))
-        closed = self._desk.call(self.hall.close if self.hall else lambda: None)
-        self._desk.end()
-        for last in (runner.cleanup(), asyncio.wrap_future(closed)):
+        closed = self._loop.run_in_executor(self._desk, close)
+        self._desk.shutdown(wait=False)
+        for last in (runner.cleanup(), closed):
             with suppress(asyncio.TimeoutError):  # a connection that was reset takes a minute, as a job can
                 await asyncio.wait_for(last, _PATIENCE)
+        if closed.cancelled():
+            close()  # which ends the job too
 
     def _app(self) -> Any:
         """The addresses, with a look at each request before it is answered."""
@@ -165,8 +114,7 @@ class Web:
     def _check(self, request: Any) -> None:
         """Lets through only requests to this server by its own name, from its own pages, with a token."""
         names = {self._place, f"localhost:{self.port}"} if self.host == "127.0.0.1" else {self._place}
-        origin = request.headers.get("Origin")
-        if request.host not in names or origin not in (None, f"http://{request.host}"):
+        if request.host not in names or request.headers.get("Origin") not in (None, f"http://{request.host}"):
             raise self.http.HTTPForbidden(text="This server answers its own pages alone.\n")
         token = request.match_info.get("token", "").encode()
         request["rights"] = next((rights for rights, it in self.tokens.items()
@@ -176,12 +124,13 @@ class Web:
 
     async def _page(self, request: Any) -> Any:
         text = served_file(f"ws://{request.host}") if self.hall else one_file(*self.opened)
-        return self.http.Response(text=text, content_type="text/html",
-                                  headers={"Content-Security-Policy": "frame-ancestors 'none'"})
+        return self._html(text, {"Content-Security-Policy": "frame-ancestors 'none'"})
 
     async def _one_file(self, request: Any) -> Any:
-        return self.http.Response(text=one_file(), content_type="text/html", headers={
-            "Content-Disposition": 'attachment; filename="gaslab.html"'})
+        return self._html(one_file(), {"Content-Disposition": 'attachment; filename="gaslab.html"'})
+
+    def _html(self, text: str, headers: dict[str, str]) -> Any:
+        return self.http.Response(text=text, content_type="text/html", headers=headers)
 
     async def _socket(self, request: Any) -> Any:
         if not self.hall or "Origin" not in request.headers:
@@ -189,10 +138,18 @@ class Web:
         socket = self.http.WebSocketResponse(max_msg_size=_LONGEST, heartbeat=30.0, compress=False)
         await socket.prepare(request)
         self._sockets.add(socket)
-        outbox = Outbox(asyncio.get_running_loop())
-        work = (outbox.send_to(socket), outbox.is_full.wait(),
-                self._listen(socket, request["rights"], outbox.put))
-        tasks = [asyncio.ensure_future(it) for it in work]
+        waiting: "asyncio.Queue[Union[str, bytes]]" = asyncio.Queue()
+        sender = asyncio.ensure_future(_send(waiting, socket))
+
+        def queue(message: Union[str, bytes]) -> None:
+            waiting.put_nowait(message)
+            if waiting.qsize() > _MOST_WAITING:
+                sender.cancel()
+
+        def put(message: Union[str, bytes]) -> None:  # by any thread
+            with suppress(RuntimeError):  # the loop has ended
+                self._loop.call_soon_threadsafe(queue, message)
+        tasks = [sender, asyncio.ensure_future(self._listen(socket, request["rights"], put))]
         try:
             await asyncio.wait(tasks, return_when=asyncio.FIRST_COMPLETED)
         finally:
@@ -206,15 +163,22 @@ class Web:
     async def _listen(self, socket: Any, rights: str, send: Send) -> None:
         """Does what a page sends, a message at a time. What is none of a page's messages ends it."""
         assert self.hall
-        seat = await self._do(partial(self.hall.join, rights, send))
+        seat = await self._do(self.hall.join, rights, send)
         try:
             async for message in socket:
                 if message.type.name not in ("TEXT", "BINARY"):
                     break
-                await self._do(partial(self.hall.said, seat, message.data))
+                await self._do(self.hall.said, seat, message.data)
                 self._wake.set()
         finally:
-            await self._do(partial(self.hall.leave, seat))
+            await self._do(self.hall.leave, seat)
+
+
+async def _send(waiting: "asyncio.Queue[Union[str, bytes]]", socket: Any) -> None:
+    """Sends what comes, until the page has gone."""
+    while True:
+        message = await waiting.get()
+        await (socket.send_str(message) if isinstance(message, str) else socket.send_bytes(message))
 
 
 async def _close(socket: Any, code: int) -> None:

@@ -4,7 +4,8 @@ import { say } from "./dom.js";
 import facts from "./facts.json";
 
 export const { colours: COLOURS, curves: CURVES, ramp: RAMP, zoom: ZOOM, commands: COMMANDS, keys: KEYS,
-  always: ALWAYS, moves: MOVES, cursor: CURSOR, tools: TOOLS, icons: ICONS, truth: TRUTH } = facts;
+  always: ALWAYS, moves: MOVES, cursor: CURSOR, tools: TOOLS, icons: ICONS, truth: TRUTH, plots: PLOTS,
+  ledgerRows: ROWS, ways: WAYS, choices: CHOICES, shares: SHARES, kinds: KINDS, fates: FATES } = facts;
 export const toolOf = (id) => TOOLS.find((tool) => tool.id === id);
 export const isRefusal = (reply) => /^(NO|ERR|GONE)/.test(reply);
 

@@ -1,5 +1,5 @@
-// The header, the tabs beside the gas, choices that the browser remembers, and the dialog that opens from the
-// header and the readings: lessons, what is proved, seats, keys, what is taken home, and truth tables.
+// The header, the tabs beside the gas, what the browser remembers, and the dialog that opens from the header
+// and the readings: lessons, what is proved, seats, keys, what is taken home, and truth tables.
 import { at, button, h, plural, say } from "./dom.js";
 import { TRUTH, KEYS, ALWAYS, TOOLS } from "./facts.js";
 import { choose, rove } from "./buttons.js";
@@ -7,13 +7,13 @@ import { LESSONS, SCENES, EMPTY } from "./lessons.js";
 import { state } from "./state.js";
 import { view } from "./canvas.js";
 import { plots } from "./plots.js";
+import { stored } from "./keep.js";
 import { notice } from "./notices.js";
 import { send, isWatching } from "./session.js";
 import { load, openBytes } from "./opening.js";
 import { placed, truthTable, likelyInputs, INPUTS } from "./gates.js";
 import { download, saveFile, savePicture, saveFilm, pickFile } from "./share.js";
 
-const KEYS_NAME = "gaslab-keys", LARGE_NAME = "gaslab-large";
 const SIDES = [64, 128, 192, 256, 512, 1024, 2048];
 const box = at("popover");
 const tabs = [...document.querySelectorAll(".tabs button")];
@@ -21,16 +21,15 @@ let opener = null;
 
 /** Opens the dialog below a button with what `fill` returns, of which the first heading is its name. */
 function open(button, fill, size) {
-  box.close();
   box.className = size;
   box.replaceChildren(...fill());
   box.querySelector("h2").id = "popover-name";
   box.showModal();
   opener = button;
-  opener.setAttribute("aria-expanded", "true");
+  opener.ariaExpanded = "true";
   place();
   const first = box.querySelector("[aria-current=true]") ?? box.querySelector("button, input");
-  first?.focus({ preventScroll: true });
+  first.focus({ preventScroll: true });
 }
 
 /** Places the dialog below its button, or where it fits. */
@@ -40,34 +39,26 @@ function place() {
   box.style.left = `${Math.max(8, Math.min(left, innerWidth - w - 8))}px`;
 }
 
-box.onclose = () => opener?.setAttribute("aria-expanded", "false");
-box.onpointerdown = ({ target, clientX: x, clientY: y }) => {
-  const { left, right, top, bottom } = box.getBoundingClientRect();
-  if (target === box && (x < left || x > right || y < top || y > bottom)) box.close();
-};
+box.onclose = () => { opener.ariaExpanded = "false"; };
 
-const number = (value, name, more = {}) => h("input", { type: "number", value, "aria-label": name, ...more });
-
-/** A form that does something in place of being sent. */
-function form(act, ...children) {
-  return h("form", { onsubmit: (e) => { e.preventDefault(); act(); } }, ...children);
-}
-
-// ---- lessons, scenes and a person's own files
-
-/** What opens another gas, after the dialog is closed. */
+/** What closes the dialog and acts. */
 const closing = (act) => () => {
   box.close();
   act();
 };
+const form = (onsubmit, ...children) => h("form", { method: "dialog", onsubmit }, ...children);
+const number = (value, name, more = {}) => h("input", { type: "number", value, "aria-label": name, ...more });
+const text = (more) => h("input", { type: "text", ...more });
 
-function shelf(name, lessons, hasNumbers) {
-  const act = (lesson) => closing(() => { load(lesson); showTab("lesson"); });
+// ---- lessons, scenes and a person's own files
+
+function shelf(tag, name, lessons, hasNumbers) {
   const item = (lesson) => h("li",
-    h("button", { "aria-current": String(lesson === state.lesson), onclick: act(lesson) },
-      hasNumbers && h("span.n", lesson.id),
-      h("span", h("b", lesson.name), h("small", lesson.about))));
-  return h(hasNumbers ? "section" : "section.bare", h("h3", name), h("ul", lessons.map(item)));
+    h("button", { "aria-current": String(lesson === state.lesson), onclick: closing(() => {
+      load(lesson);
+      showTab("lesson");
+    }) }, hasNumbers && h("span.n", lesson.id), h("span", h("b", lesson.name), h("small", lesson.about))));
+  return h(tag, h("h3", name), h("ul", lessons.map(item)));
 }
 
 /** Sends a script's lines, moved, into the gas that is there. */
@@ -85,17 +76,15 @@ function own() {
     h("select", { "aria-label": name }, SIDES.map((cells) => h("option", String(cells)))));
   const by = ["Columns to the right", "Rows downwards"].map((name) => number("0", name));
   return h("div.own", h("h3", "Your own"),
-    form(closing(() => load(EMPTY, sides.map(({ value }) => Number(value)))),
+    form(() => load(EMPTY, sides.map(({ value }) => Number(value))),
       "Empty, ", sides[0], " by ", sides[1], button("Open")),
     button("Open a script or snapshot", closing(() => pickFile(({ name, bytes }) => openBytes(name, bytes)))),
-    form(closing(() => placeScript(by.map((input) => input.valueAsNumber || 0))),
+    form(() => placeScript(by.map((input) => input.valueAsNumber || 0)),
       "Place a script here, moved by ", ...by, button("Choose")));
 }
 
-function lessons() {
-  return [h("h2.unseen", "Lessons and scenes"), h("div.shelves", shelf("Lessons", LESSONS, true),
-    h("div", shelf("Scenes", SCENES, false), own()))];
-}
+const lessons = () => [h("h2.unseen", "Lessons and scenes"), h("div.shelves",
+  shelf("section", "Lessons", LESSONS, true), h("div", shelf("section.bare", "Scenes", SCENES), own()))];
 
 // ---- what runs, who is there, and keys
 
@@ -106,17 +95,18 @@ function truth() {
 }
 
 function seats() {
-  const name = h("input", { type: "text", maxLength: 24, size: 14 });
+  const name = text({ maxLength: 24, size: 14 });
   const person = ([seat, called]) => h("li", h("b", `Seat ${seat}`),
     [called, seat === state.seat ? "you" : ""].filter(Boolean).join(", "));
   return [h("h2", "Who is on this gas"), h("ul.people", [...state.people].map(person)),
-    form(closing(() => send([`.name ${name.value.replace(/[\n\r]/g, " ")}`])),
-      h("label", "Your name ", name), " ", button("Save"))];
+    form(() => send([`.name ${name.value}`]), h("label", "Your name ", name), " ", button("Save"))];
 }
 
 function help() {
-  const single = h("input", { type: "checkbox", checked: state.keysOn,
-    onchange: () => setKeys(single.checked) });
+  const single = h("input", { type: "checkbox", checked: state.keysOn, onchange: () => {
+    state.change({ keysOn: single.checked });
+    stored("localStorage", "gaslab-keys", single.checked);
+  } });
   const all = [...Object.values(ALWAYS), ...KEYS,
     ...TOOLS.map(({ key, name }) => ({ shown: key, words: name.toLowerCase() }))];
   return [h("h2", "Keys"), h("label.switch", single,
@@ -150,24 +140,21 @@ function share() {
       give(`Plot: ${id}`, "The curve with its axes, as PNG.", () => savePicture(plots.picture(id), id))),
     give("Picture", "The cells as they are shown, as PNG.", () => savePicture()),
     give("Film", "The next 60 pictures, as GIF. Press play first.", saveFilm),
-    ...Object.entries(state.links).map(([what, token]) => giveLink(what, token)),
+    ...Object.entries(state.links).map(giveLink),
     ...state.program === "page" ? [] : [give("A page of its own",
       "One HTML file with lessons and engine, which needs no program and no network.",
       () => h("a", { href: "gas.html", download: "gas.html" }).click())]];
 }
 
-function giveLink(what, token) {
-  const { href } = new URL(`/${token}/`, location.href);
-  const input = h("input.link", { readOnly: true, value: href, "aria-label": `Link to ${what}` });
-  const copy = async (does) => {
+function giveLink([what, token]) {
+  const { href } = new URL(`/${token}/`, location.href), name = `Link to ${what}`;
+  const copied = () => navigator.clipboard.writeText(href).then(() => "Copied", () => "Copy it by hand");
+  const input = h("input.link", { readOnly: true, value: href, "aria-label": name });
+  const row = give(name, what === "watch" ? "Who opens it sees this gas, and can change nothing."
+    : "Who opens it takes a seat on this gas.", async (does) => {
     input.select();
-    try {
-      await navigator.clipboard.writeText(href);
-      does.textContent = "Copied";
-    } catch { does.textContent = "Copy it by hand"; }
-  };
-  const row = give(`Link to ${what}`, what === "watch" ? "Who opens it sees this gas, and can change nothing."
-    : "Who opens it takes a seat on this gas.", copy, "Copy");
+    does.textContent = await copied();
+  }, "Copy");
   row.append(input);
   return row;
 }
@@ -176,19 +163,19 @@ function giveLink(what, token) {
 
 function table() {
   const { probes } = state.picture, known = likelyInputs().map((cell) => cell.join(" ")).join(", ");
-  const inputs = h("input", { type: "text", size: 24, value: known, "aria-label": "Inputs" });
+  const inputs = text({ size: 24, value: known, "aria-label": "Inputs" });
   const ticks = number("11", "Steps", { min: "1", max: "4096" });
   const result = h("div.result", { role: "status" });
-  const fill = async () => {
-    try { result.replaceChildren(await filled(inputs.value, ticks.valueAsNumber, probes)); }
-    catch (fault) { result.replaceChildren(fault.message); }
+  const fill = async (e) => {
+    e.preventDefault();
+    result.replaceChildren(await filled(inputs.value, ticks.valueAsNumber, probes)
+      .catch((fault) => fault.message));
     place();
   };
-  return [h("h2", "Truth table"),
-    h("p", "Each input cell is full or empty. After the steps the probes are "
+  return [h("h2", "Truth table"), h("p", "Each input cell is full or empty. After the steps the probes are "
     + "read, and the gas is stepped back. It is as before in the end."),
-  form(fill, h("label", "Inputs ", inputs), h("label", " Steps ", ticks), " ",
-    button("Fill the table")), result];
+  form(fill, h("label", "Inputs ", inputs), h("label", " Steps ", ticks), " ", button("Fill the table")),
+  result];
 }
 
 /** A truth table as an element. Throws an Error in plain words. */
@@ -214,13 +201,12 @@ at("script").onclick = () => saveFile(".script");
 
 function showHeader() {
   const { program, rights, seat, people, status } = state, others = people.size - 1;
-  const watches = rights === "watch" ? ", watching" : "";
-  const more = others > 0 ? ` · ${plural(others, "other")}` : "";
+  const more = [rights === "watch" && ", watching", others > 0 && ` · ${plural(others, "other")}`];
   at("truth").dataset.program = program;
   at("truth").lastElementChild.textContent = (TRUTH[program] ?? TRUTH.none)[0];
   at("seats").hidden = program === "page";
   at("script").hidden = program !== "page";
-  at("seats").textContent = seat === null ? "No seat yet" : `Seat ${seat}${watches}${more}`;
+  at("seats").textContent = seat === null ? "No seat yet" : [`Seat ${seat}`, ...more].filter(Boolean).join("");
   Object.assign(document.body.dataset, { status, rights });
 }
 
@@ -230,29 +216,17 @@ function showTab(name) {
   plots.resize();
 }
 
-function remember(name, isOn) {
-  try { localStorage.setItem(name, String(isOn)); } catch { /* it is forgotten then */ }
-}
-
-function remembered(name) { try { return localStorage.getItem(name); } catch { return null; } }
-
-function setKeys(keysOn) {
-  state.change({ keysOn });
-  remember(KEYS_NAME, keysOn);
-}
-
 function setLarge(isLarge) {
   document.documentElement.classList.toggle("large", isLarge);
-  at("larger").setAttribute("aria-pressed", isLarge);
-  remember(LARGE_NAME, isLarge);
+  at("larger").ariaPressed = isLarge;
+  stored("localStorage", "gaslab-large", isLarge);
   plots.redraw(true);
 }
 
 for (const tab of tabs) tab.onclick = () => showTab(tab.dataset.tab);
 rove(document.querySelector(".tabs"), tabs, true);
-at("larger").onclick = () => setLarge(at("larger").getAttribute("aria-pressed") !== "true");
+at("larger").onclick = () => setLarge(at("larger").ariaPressed !== "true");
 state.on(["program", "people", "rights", "seat", "status"], showHeader);
-setLarge(remembered(LARGE_NAME) === "true");
-state.change({ keysOn: remembered(KEYS_NAME) !== "false" });
+setLarge(stored("localStorage", "gaslab-large") === "true");
+state.change({ keysOn: stored("localStorage", "gaslab-keys") !== "false" });
 showTab("readings");
-showHeader();

@@ -5,25 +5,29 @@ import { isSide, readSnapshot, writeSnapshot } from "./frame.js";
 const NAME = "gaslab-kept", NEITHER = "This file is neither a script nor a snapshot.";
 const AFTER_SNAPSHOT = /^# This (journal )?began from a snapshot/m;
 
+/** What a browser's store has under a name, or null. A value is stored first, if the browser lets it. */
+export function stored(store, name, value) {
+  try {
+    if (value !== undefined) globalThis[store].setItem(name, value);
+    return globalThis[store].getItem(name);
+  } catch { return null; }
+}
+
 /** A snapshot of what a view shows. */
 export function snapshotOf({ picture, walls, obstacles, ports }) {
   return writeSnapshot(picture, ports, [picture.particles, walls, obstacles]);
 }
 
-/** Keeps the gas for the page that comes after a reload, if the browser lets it. */
-export function keepForReload(view, lesson) {
-  const text = Array.from(snapshotOf(view), (v) => String.fromCharCode(v)).join("");
-  const kept = JSON.stringify({ lesson: lesson.id, name: lesson.name, gas: btoa(text) });
-  try { sessionStorage.setItem(NAME, kept); } catch { /* the store is full or forbidden: nothing is kept */ }
+/** Keeps the gas for the page that comes after a reload. */
+export function keepForReload(view, { id, name }) {
+  stored("sessionStorage", NAME, JSON.stringify({ lesson: id, name, gas: snapshotOf(view).toBase64() }));
 }
 
-/** What was kept, once: { lesson, name, bytes }, or null. */
+/** What was kept, once: { lesson, name, gas }, or null. */
 export function takeKept() {
-  try {
-    const kept = JSON.parse(sessionStorage.getItem(NAME));
-    sessionStorage.removeItem(NAME);
-    return kept && { ...kept, bytes: Uint8Array.from(atob(kept.gas), (c) => c.charCodeAt(0)) };
-  } catch { return null; }
+  const kept = JSON.parse(stored("sessionStorage", NAME));
+  stored("sessionStorage", NAME, "null");
+  return kept;
 }
 
 /** Reads a file: { snapshot }, { size, lines, .. } or { fault } in plain words. Nothing has been opened yet.

@@ -48,16 +48,14 @@ export async function load(lesson, size = lesson.size) {
 /** Opens a script or a snapshot that was read and checked whole, beside a lesson's text or its own. A script
     that began from a snapshot asks for that first. */
 export async function openBytes(name, bytes, lesson = null, snapshot = null) {
-  const read = lessonOf(bytes);
+  const read = lessonOf(bytes), found = snapshot && lessonOf(snapshot);
   const refused = (text, does) => notice({ title: `${name} was not opened`, text, does });
-  const choose = () => pickFile((file) => openBytes(name, bytes, lesson, file.bytes));
   if (read.fault) return refused(read.fault);
   if (read.isAfterSnapshot && !snapshot)
     return refused("This script began from a snapshot. Choose that file too.",
-      [["Choose the snapshot", choose]]);
-  const start = read.snapshot ?? snapshot, own = lesson ?? { ...EMPTY, id: "own", name, own: true, text: [] };
-  const found = snapshot && lessonOf(snapshot);
+      [["Choose the snapshot", () => pickFile((file) => openBytes(name, bytes, lesson, file.bytes))]]);
   if (found && !found.snapshot) return refused(found.fault ?? "This is a script, not a snapshot.");
+  const own = lesson ?? { ...EMPTY, id: "own", name, own: true, text: [] }, start = read.snapshot ?? snapshot;
   const bad = await open(own, read.size, [...read.lines ?? [], ...watches(own.probes)], start);
   if (bad) {
     const [k, reply] = bad, line = read.lines?.[k];
@@ -94,12 +92,12 @@ function offerOld() {
 async function begin() {
   const kept = takeKept(), opened = at("opened");
   if (kept) {
-    await openBytes(kept.name, kept.bytes, find(kept.lesson) ?? null);
+    await openBytes(kept.name, Uint8Array.fromBase64(kept.gas), find(kept.lesson) ?? null);
     banner("Your gas was kept over the reload. Its ledger and journal begin anew.", [["Fine", hideBanner]]);
   } else if (opened && !asked.has("lesson")) {
     const { name, contents } = JSON.parse(opened.textContent);
-    await openBytes(name, Uint8Array.from(atob(contents), (c) => c.charCodeAt(0)));
-  } else await load(find(asked.get("lesson") || "4") ?? find("4"));
+    await openBytes(name, Uint8Array.fromBase64(contents));
+  } else await load(find(asked.get("lesson")) ?? find("4"));
 }
 
 // ---- the lesson's text, question and buttons
@@ -117,21 +115,19 @@ function showLesson() {
   fill(at("lesson"), h("p.kicker", kind), h("h2", name),
     !lesson.own && h("button.plain.again", { onclick: () => load(lesson) }, "Start again"),
     text.map((one) => h("p", words(one))), task && h("p.task", task), expect && question(expect),
-    tries?.length && buttons(tries));
+    tries?.length && [h("h3", "Try it"), h("ul.tries", tries.map(tryButton))]);
   at("lesson").scrollTop = 0;
 }
 
-/** Buttons that show the lines they send. */
-function buttons(tries) {
-  return [h("h3", "Try it"), h("ul.tries", tries.map((one) => h("li",
-    h("button", { onclick: () => doTry(one) }, h("span", one.say),
-      h("code", one.lines.map(shown).join(" · "))))))];
-}
+/** A button that shows the lines it sends. */
+const tryButton = (one) => h("li", h("button", { onclick: () => doTry(one) }, h("span", one.say),
+  h("code", one.lines.map(shown).join(" · "))));
 
 /** A question with choices. The answer comes after a choice, and takes the focus. */
 function question({ ask, choices, right, answer }) {
-  const box = h("section.expect", h("h3", "What would you expect?"));
   const buttons = choices.map((text, k) => h("button.choice", { onclick: () => choose(k) }, text));
+  const box = h("section.expect", h("h3", "What would you expect?"),
+    h("fieldset", h("legend", ask), buttons));
   const choose = (mine) => {
     if (buttons[0].ariaDisabled) return;
     buttons.forEach((button, k) => {
@@ -144,7 +140,6 @@ function question({ ask, choices, right, answer }) {
     box.append(said);
     said.focus();
   };
-  box.append(h("fieldset", h("legend", ask), buttons));
   return box;
 }
 

@@ -14,9 +14,19 @@ const STALE = 16;          // pictures after which one is too old for a mean
 const FLASHING = 21800;    // pixels, WCAG 2.3.1
 const BIG = 1 << 20;       // cells from which no mean of pictures is made
 const MEAN = 8;            // pictures of a mean density
-export const POP = Uint8Array.from({ length: 256 },
+const POP = Uint8Array.from({ length: 256 },
   (_, v) => [1, 2, 4, 8, 16, 32, 64, 128].filter((b) => v & b).length);
 
+/** How many particles are in each square of q by q cells. */
+export function countSquares({ width, height, particles }, q) {
+  const across = width / q, bytes = width / 8, counts = new Float32Array(across * height / q);
+  particles.forEach((v, at) => {
+    const first = Math.floor(Math.floor(at / bytes) / q) * across, k = at % bytes;
+    if (q === 4) { counts[first + 2 * k] += POP[v >> 4]; counts[first + 2 * k + 1] += POP[v & 15]; }
+    else counts[first + Math.floor(8 * k / q)] += POP[v];
+  });
+  return counts;
+}
 
 /** The mean of pixels, each with its weight. */
 function mix(pixels, weights) {
@@ -97,7 +107,7 @@ export class Painter {
     else if (2 * p.tally[0] * this.scale ** 2 > FLASHING) this.isCalm = true;
   }
 
-  /** Finds what each cell lies on, and the bytes of eight cells that need more than the two colours. */
+  /** Finds what each cell lies on, and the bytes of eight cells that need more than two colours. */
   remark() {
     const { width, height } = this.picture, n = width * height / 8;
     this.rectangles = null;
@@ -108,12 +118,11 @@ export class Painter {
     };
     for (const drain of this.ports.drains) paint(drain, 4);
     for (const source of this.ports.sources) paint(source, 3);
-    for (let k = 0; k < n; k++) {
-      const both = this.walls[k] | this.obstacles[k];
-      for (let b = 0; both && b < 8; b++) if (both >> (7 - b) & 1)
-        this.ground[8 * k + b] = this.obstacles[k] >> (7 - b) & 1 ? 2 : 1;
-      for (let b = 0; b < 8; b++) this.special[k] |= this.ground[8 * k + b] && 1;
-    }
+    this.ground.forEach((port, cell) => {
+      const at = cell >> 3, bit = 128 >> (cell & 7);
+      const kind = this.obstacles[at] & bit ? 2 : this.walls[at] & bit ? 1 : port;
+      if (kind) { this.ground[cell] = kind; this.special[at] = 1; }
+    });
   }
 
   has(x, y, set = this.picture.particles) {
@@ -208,7 +217,7 @@ export class Painter {
     const { picture: { width, height, number }, square: q, past } = this, most = this.isMean ? MEAN : 1;
     const isSame = past.at(-1)?.square === q && past.length <= most;
     if (past.at(-1)?.number !== number || !isSame)
-      this.past = [...isSame ? past : [], { number, square: q, counts: this.countSquares() }].slice(-most);
+      this.past = [...isSame ? past : [], { number, square: q, counts: countSquares(this.picture, q) }].slice(-most);
     this.coarse.resize(width / q, height / q);
     const { pixels } = this.coarse, sums = new Float32Array(pixels.length);
     for (const { counts } of this.past) for (let k = 0; k < sums.length; k++) sums[k] += counts[k];
@@ -219,20 +228,5 @@ export class Painter {
     for (let k = 0; k < sums.length; k++)
       pixels[k] = SHADES[Math.max(0, Math.min(255, Math.round((sums[k] - low * whole) * factor)))];
     return this.coarse.put();
-  }
-
-  /** How many particles are in each square. */
-  countSquares() {
-    const { picture: { width, height, particles }, square: q } = this, across = width / q, bytes = width / 8;
-    const counts = new Uint16Array(across * height / q);
-    for (let y = 0; y < height; y++) {
-      const first = Math.floor(y / q) * across;
-      for (let k = 0; k < bytes; k++) {
-        const v = particles[y * bytes + k];
-        if (q === 4) { counts[first + 2 * k] += POP[v >> 4]; counts[first + 2 * k + 1] += POP[v & 15]; }
-        else counts[first + Math.floor(8 * k / q)] += POP[v];
-      }
-    }
-    return counts;
   }
 }

@@ -1,8 +1,8 @@
 // The plots: values of each picture by tick, kept in runs, and drawn by dygraphs.
-import { at, h, say, setText, SANS } from "./dom.js";
-import { COLOURS, CURVES, toolOf } from "./facts.js";
+import { at, fill, h, say, setText, SANS } from "./dom.js";
+import { COLOURS, CURVES, PLOTS, toolOf } from "./facts.js";
 import { LEDGER } from "./frame.js";
-import { parts, POP } from "./paint.js";
+import { parts, countSquares } from "./paint.js";
 
 const WINDOW = 20;         // ticks over which a rate is a mean
 const POINTS = 1500;       // points of a plot before every second one is dropped
@@ -13,39 +13,20 @@ const LOOK = { connectSeparatedPoints: true, labelsKMB: false, gridLineColor: CO
   axisLineColor: COLOURS.edge, rightGap: 8, xRangePad: 0, highlightCircleSize: 4, interactionModel: {} };
 
 /** Mean of −ρ ln ρ − (1−ρ) ln(1−ρ) over squares of 8 by 8 cells. */
-export function entropy({ width, height, particles }) {
-  const across = width / 8;
-  let sum = 0;
-  for (let j = 0; j < height; j += 8) for (let i = 0; i < across; i++) {
-    let n = 0;
-    for (let r = 0; r < 8; r++) n += POP[particles[(j + r) * across + i]];
-    const d = n / 64;
-    if (d > 0 && d < 1) sum -= d * Math.log(d) + (1 - d) * Math.log(1 - d);
-  }
-  return sum / (across * height / 8);
+export function entropy(picture) {
+  const counts = countSquares(picture, 8), part = (share) => share > 0 ? share * Math.log(share) : 0;
+  return counts.reduce((sum, n) => sum - part(n / 64) - part(1 - n / 64), 0) / counts.length;
 }
 
-/** Each plot: its unit, and the greatest value that it can have. */
-const PLOTS = {
-  drag: { name: "Drag", unit: "momentum to the right that obstacles take per tick" },
-  flux: { name: "Flux", unit: "mean momentum to the right, per column" },
-  count: { name: "Count", unit: "particles in the gas" },
-  probe: { name: "Probe", most: 1, unit: "share of full cells in each probe" },
-  entropy: { name: "Entropy", most: Math.LN2, unit: "coarse-grained, in squares of 8 by 8 cells, per cell" },
-};
-
 const halved = (list) => list.filter((_, k) => k % 2 === 0 || k === list.length - 1);
+const paler = (hex) => `rgb(${parts(hex).map((v) => Math.round(255 - (255 - v) * .4)).join()})`;
 
 /** The values of a plot in a record, [name of its column, value] each. */
-function valuesOf(id, record) {
-  const { run, way, probes, [id]: value } = record, column = `run ${run}${way}`;
+function valuesOf(id, { run, way, probes, [id]: value }) {
+  const column = `run ${run}${way}`;
   if (id !== "probe") return value === null ? [] : [[column, value]];
   return probes.map(({ key, rect, sums }) => [`probe ${key}, ${column}`, sums[0] / (rect[2] * rect[3])]);
 }
-
-const runOf = (name) => Number(/run (\d+)/.exec(name)[1]);
-const probeOf = (name) => Number(/^probe (\d+)/.exec(name)?.[1] ?? 0);
-const paler = (hex) => `rgb(${parts(hex).map((v) => Math.round(255 - (255 - v) * .4)).join()})`;
 
 class Plots {
   shown = [];
@@ -61,6 +42,7 @@ class Plots {
 
   clear() {
     Object.assign(this, { recent: [], records: [], notes: [], last: null, run: 1, way: "" });
+    this.listNotes();
     this.redraw(true);
   }
 
@@ -75,35 +57,31 @@ class Plots {
   choose(ids) {
     this.shown = Object.keys(PLOTS).filter((id) => ids.includes(id));
     for (const chip of document.querySelectorAll("#plots .chips button"))
-      chip.setAttribute("aria-pressed", ids.includes(chip.dataset.plot));
+      chip.ariaPressed = ids.includes(chip.dataset.plot);
     for (const graph of Object.values(this.graphs)) graph.destroy();
     this.graphs = {};
-    at("plot-list").replaceChildren(...this.shown.map((id) => h("figure",
+    fill(at("plot-list"), this.shown.map((id) => h("figure",
       h("figcaption", h("b", PLOTS[id].name), h("span.unit", PLOTS[id].unit), h("span.number")),
       h("div.plot", { id: `plot-${id}` }))));
     this.redraw(true);
   }
 
-  /** Takes the values of a picture. */
+  /** Takes the values of a picture. A change of way begins a new run, whose values stay apart. */
   add(p) {
     const { last } = this;
     if (last?.tick !== p.tick) {
       const way = last && p.tick < last.tick ? ", back" : "";
-      if (way !== this.way) this.beginRun(way);
+      if (way !== this.way) {
+        Object.assign(this, { run: this.run + 1, way,
+          recent: last ? [{ tick: last.tick, sum: last.ledger[7] }] : [] });
+        if (last) this.putValues(last);
+      }
       this.recent.push({ tick: p.tick, sum: p.ledger[7] });
       while (this.recent.length > 2 && Math.abs(p.tick - this.recent[1].tick) >= 2 * WINDOW)
         this.recent.shift();
     }
     this.last = p;
     this.putValues(p);
-  }
-
-  /** A change of way begins a new run, and the values of older ones stay apart from its own. */
-  beginRun(way) {
-    this.run += 1;
-    this.way = way;
-    this.recent = this.last ? [{ tick: this.last.tick, sum: this.last.ledger[7] }] : [];
-    if (this.last) this.putValues(this.last);
   }
 
   /** The drag up to a tick, or null. The mean begins a multiple of four ticks before, which divides the
@@ -153,8 +131,14 @@ class Plots {
   note(tick, text) {
     const last = this.notes.at(-1);
     if (last?.tick === tick) last.lines.push(text);
-    else this.notes.push({ tick, lines: [text] });
-    if (this.notes.length > NOTES) this.notes.shift();
+    else this.notes = [...this.notes, { tick, lines: [text] }].slice(-NOTES);
+    this.listNotes();
+  }
+
+  /** The edits whose numbers are in the plots. */
+  listNotes() {
+    fill(at("notes"), this.notes.map(({ tick, lines }) => h("li", `tick ${say(tick)}: `,
+      h("code", lines[0].slice(0, 40)), lines.length > 1 && ` and ${lines.length - 1} more`)));
   }
 
   redraw(now = false) {
@@ -164,16 +148,6 @@ class Plots {
     }
     this.drawn = performance.now();
     for (const id of this.shown) this.drawOne(id);
-    this.listNotes();
-  }
-
-  /** The edits whose numbers are in the plots. */
-  listNotes() {
-    const said = this.notes.map(({ tick, lines }) => `${tick} ${lines.length} ${lines[0]}`).join();
-    if (at("notes").dataset.said === said) return;
-    at("notes").dataset.said = said;
-    at("notes").replaceChildren(...this.notes.map(({ tick, lines }) => h("li", `tick ${say(tick)}: `,
-      h("code", lines[0].slice(0, 40)), lines.length > 1 ? ` and ${lines.length - 1} more` : "")));
   }
 
   drawOne(id) {
@@ -222,10 +196,10 @@ class Plots {
 
   /** How a column is drawn: runs back are dashed, runs before the present one paler. */
   look(name) {
-    const key = probeOf(name), isBack = name.endsWith("back"), isOld = runOf(name) < this.run;
-    const colour = key ? CURVES[(key - 1) % CURVES.length] : isBack ? COLOURS.mark : CURVES[0];
+    const [, key, run, way] = /^(?:probe (\d+), )?run (\d+)(.*)/.exec(name), isOld = Number(run) < this.run;
+    const colour = key ? CURVES[(key - 1) % CURVES.length] : way ? COLOURS.mark : CURVES[0];
     return { color: isOld ? paler(colour) : colour, strokeWidth: isOld ? 1.5 : 2.25,
-      strokePattern: isBack ? [6, 3] : null };
+      strokePattern: way ? [6, 3] : null };
   }
 
   /** A line and a number for each edit; the list below the plots has their lines. */
@@ -256,15 +230,14 @@ class Plots {
     c.scale(ratio, ratio);
     c.fillStyle = COLOURS.white;
     c.fillRect(0, 0, from.width, from.height + 26);
-    c.fillStyle = COLOURS.ink;
-    c.font = `600 14px ${SANS}`;
+    Object.assign(c, { fillStyle: COLOURS.ink, font: `600 14px ${SANS}` });
     c.fillText(`${PLOTS[id].name}: ${PLOTS[id].unit}`, 4, 17);
+    c.textBaseline = "middle";
     for (const part of box.querySelectorAll("canvas, .dygraph-axis-label")) {
       const { left, top, width, height } = part.getBoundingClientRect();
-      const x = left - from.left, y = top - from.top + 26;
+      const x = left - from.left, y = top - from.top + 26, { font, textAlign } = getComputedStyle(part);
       if (part instanceof HTMLCanvasElement) { c.drawImage(part, x, y, width, height); continue; }
-      const { font, textAlign } = getComputedStyle(part);
-      Object.assign(c, { font, textBaseline: "middle", textAlign });
+      Object.assign(c, { font, textAlign });
       c.fillText(part.textContent, x + width * ({ right: 1, center: .5 }[textAlign] ?? 0), y + height / 2);
     }
     return canvas;

@@ -1,33 +1,26 @@
 // Readings beside the gas: tick, tally, the ledger as a sum, and the probes.
 import { at, fill, h, say, setText } from "./dom.js";
+import { ROWS } from "./facts.js";
 import { state } from "./state.js";
 import { plots } from "./plots.js";
 import { send } from "./session.js";
 
-/** Each row of the ledger: its name, its sign in the sum, and its fields: particles, px, py. */
-const ROWS = [["start", 1, 0, 3, 8], ["injected", 1, 1, 4, 9], ["drained", -1, 2, 5, 10],
-  ["walls took", -1, null, 6, 11], ["obstacles took", -1, null, 7, 12]];
 const GATE = 64;           // particles up to which a gas may be a gate
 const signed = (n) => n > 0 ? `+${say(n)}` : say(n);
 
-for (const name of [...ROWS.map(([it]) => it), "balance"])
+for (const name of [...Object.keys(ROWS), "balance"])
   at("ledger").append(h(name === "balance" ? "tr.sum" : "tr", h("th", { scope: "row" }, name),
     h("td"), h("td"), h("td")));
-
-function showNumbers({ tick, tally }) {
-  setText(at("tick"), say(tick));
-  ["count", "px", "py"].forEach((id, k) => setText(at(id), say(tally[k])));
-}
 
 /** Shows the ledger with the sign of each entry, so that a column can be added by eye. */
 function showLedger({ ledger, tally, mixed }) {
   const { rows } = at("ledger"), sums = [0, 0, 0];
-  ROWS.forEach(([, sign, ...fields], k) => fields.forEach((field, column) => {
+  Object.values(ROWS).forEach(([sign, ...fields], k) => fields.forEach((field, column) => {
     const value = field === null ? null : sign * ledger[field];
     setText(rows[k].cells[column + 1], value === null ? "" : k ? signed(value) : say(value));
     sums[column] += value ?? 0;
   }));
-  sums.forEach((n, k) => setText(rows[ROWS.length].cells[k + 1], say(n)));
+  sums.forEach((n, k) => setText(rows[rows.length - 1].cells[k + 1], say(n)));
   at("ledger").className = Math.max(...ledger.map((n) => say(n).length)) > 9 ? "long" : "";
   const isEven = sums.every((n, k) => n === tally[k]);
   at("balance").className = isEven ? "even" : "odd";
@@ -52,13 +45,17 @@ function showProbes({ probes, tally }) {
 }
 
 /** On a phone the plots are below: tick and first plot's value are on the canvas. */
-function showMini({ tick }) {
-  const first = document.querySelector("#plot-list figure"),
-    value = first?.querySelector(".number").textContent;
-  const words = value ? ` · ${first.querySelector("b").textContent.toLowerCase()} ${value}` : "";
-  setText(at("mini"), `tick ${say(tick)}${words}`);
+function showMini(tick) {
+  const [name, , value] = document.querySelector("#plot-list figcaption")?.children ?? [];
+  const more = value?.textContent ? ` · ${name.textContent.toLowerCase()} ${value.textContent}` : "";
+  setText(at("mini"), `tick ${tick}${more}`);
 }
 
 state.on(["shown"], () => {
-  for (const show of [showNumbers, showLedger, showProbes, showMini]) show(state.shown); });
+  const { shown, shown: { tick, tally } } = state;
+  ["tick", "count", "px", "py"].forEach((id, k) => setText(at(id), say([tick, ...tally][k])));
+  showLedger(shown);
+  showProbes(shown);
+  showMini(say(tick));
+});
 state.on(["lesson"], () => plots.choose(state.lesson.plots));

@@ -1,12 +1,11 @@
 // What is shown: particles, velocities or density, zoom, and the key of colours.
 import { at, fill, h, setText } from "./dom.js";
-import { COLOURS, ZOOM } from "./facts.js";
+import { COLOURS, WAYS, ZOOM } from "./facts.js";
 import { choose, rove } from "./buttons.js";
 import { state } from "./state.js";
 import { view } from "./canvas.js";
 import { plots } from "./plots.js";
 
-const WAYS = [["rightDown", "↘"], ["leftDown", "↙"], ["rightUp", "↗"], ["leftUp", "↖"]];
 const modes = [...at("modes").children];
 
 function showMode() {
@@ -29,8 +28,8 @@ function showKey() {
     fill(at("key"), h("span", low), h("span.ramp"), h("span", high));
     setText(at("density-text"),
       `Squares of ${view.square} by ${view.square} cells${view.isMean ? ", mean of 8 pictures" : ""}`);
-  } else if (view.mode === "velocity" && !hasArrows)
-    fill(at("key"), WAYS.map(([way, arrow]) => entry(`background:${COLOURS[way]}`, arrow)), isNear && marks);
+  } else if (view.mode === "velocity" && !hasArrows) fill(at("key"),
+    WAYS.map(([, arrow, , colour]) => entry(`background:${COLOURS[colour]}`, arrow)), isNear && marks);
   else fill(at("key"), isNear ? marks
     : entry("background:var(--hit);outline:var(--strong)", "particle on a wall"));
 }
