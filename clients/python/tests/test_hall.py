@@ -329,7 +329,7 @@ class AServersGas(unittest.TestCase):
         self.assertTrue(self.page.last()["walls"][9].all())
         self.other.step(5)
         self.other.block(1, 2, 3, 4)
-        self.hall.poll()
+        self.hall.beat()
         self.assertEqual(self.page.events()[-4:], [
             "* seat 256 name seat 0 of the server", "* entry 2 256 step 5",
             "* seat 256 name seat 0 of the server", "* entry 3 256 block 1 2 3 4"])
@@ -348,7 +348,7 @@ class AServersGas(unittest.TestCase):
         self.server.kill()
         self.server.wait()
         with self.assertRaises(Gone):
-            self.hall.poll()
+            self.hall.beat()
 
 
 if __name__ == "__main__":

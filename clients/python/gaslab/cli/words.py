@@ -1,5 +1,6 @@
 """The words of the command line."""
 import argparse
+import asyncio
 import os
 import re
 import shutil
@@ -196,7 +197,7 @@ def _serve(asked: argparse.Namespace, make_hall: Optional[Callable[[tuple[str, s
             print(_SHARED.format(asked.share), flush=True)
         elif sys.stdout.isatty():
             print("Open the first link in a browser. Ctrl-C ends the page.")
-    web.serve(asked.page_port, ready)
+    asyncio.run(web.run(asked.page_port, ready))
 
 
 def rows(asked: argparse.Namespace) -> None:

@@ -2,6 +2,7 @@
 import re
 import time
 from collections.abc import Callable
+from contextlib import suppress
 from itertools import count, groupby
 from typing import Optional, Union
 
@@ -12,7 +13,6 @@ from .laboratory import OTHERS, Laboratory, Means
 from .pictures import LAYOUT, NOBODY, Play, Reading, file, picture
 
 Send = Callable[[Union[str, bytes]], None]
-Files = dict[str, bytes]
 
 MOST_LINES = 70_000
 """The most lines of one message: a full journal and some more."""
@@ -40,11 +40,6 @@ class Player:
     def __init__(self, tell: Callable[[str], None]) -> None:
         self.tell, self.due = tell, 0.0
         self.play: Optional[Play] = None
-
-    def start(self, play: Play) -> None:
-        """Plays from now on."""
-        self.play, self.due = play, time.monotonic()
-        self.tell(f"* play {play.seat} {play.steps} {play.rate}")
 
     def pause(self, why: str, seat: int = NOBODY) -> None:
         """Stops, and says why: `asked`, `there`, `left`, `opened` or a refusal."""
@@ -77,8 +72,7 @@ class Hall:
         self.laboratory, self.means, self.links = laboratory, means, links
         self.seats: dict[int, Seat] = {}
         self.player = Player(self.tell)
-        has_entries = list(laboratory.news()) != []
-        self._is_new = laboratory.is_own and not (has_entries or laboratory.start or laboratory.name)
+        self._is_new = not any((*laboratory.news(), laboratory.start, laboratory.name)) and laboratory.is_own
         self._old: Optional[Laboratory] = None
         self._count, self._number, self._is_dirty = count(), 0, False
         self._reading: Optional[Reading] = None
@@ -86,7 +80,7 @@ class Hall:
 
     def close(self) -> None:
         """Ends all sessions."""
-        for it in filter(None, (self.laboratory, self._old)):
+        for it in {self.laboratory, self._old} - {None}:
             it.close()
 
     def tell(self, event: str) -> None:
@@ -112,7 +106,8 @@ class Hall:
         """Takes a page's seat. What it plays stops."""
         if self.seats.pop(seat.number, None):
             if self.player.play and self.player.play.seat == seat.number:
-                self._stop("left")
+                self.player.pause("left")
+                self._change()
             self.tell(f"* seat {seat.number} left")
             self._show()
 
@@ -128,40 +123,32 @@ class Hall:
         self._show()
 
     def beat(self) -> None:
-        """Makes the steps of play if it is time."""
+        """Makes the steps of play if it is time, and looks for what the other seats of a server did."""
         if self.player.beat(self.laboratory):
-            self._tell_news()
             self._change()
-            self._show()
-
-    def poll(self) -> None:
-        """Looks for what the other seats of a server did."""
-        if not self.laboratory.is_own:
+        if self._is_dirty or not self.laboratory.is_own:
             self._tell_news()
             self._show()
 
     def _lines(self, seat: Seat, lines: list[tuple[int, str]]) -> None:
         replies = []
         for is_word, part in groupby(lines, lambda it: it[1].startswith(".")):
-            numbers, texts = zip(*part)
-            found = [self._word(seat, *it) for it in zip(numbers, texts)] if is_word \
-                else self._commands(seat, list(texts))
-            replies += [f"{n} {reply}" for n, reply in zip(numbers, found) if reply]
+            some = list(part)
+            found = [self._word(seat, *it) for it in some] if is_word else self._commands(seat, some)
+            replies += [f"{number} {reply}" for (number, _), reply in zip(some, found) if reply]
         if replies:
             seat.send("\n".join(replies))
 
-    def _commands(self, seat: Seat, lines: list[str]) -> list[str]:
-        if seat.rights == "watch" and any(line.split(" ")[0] not in _READINGS for line in lines):
+    def _commands(self, seat: Seat, lines: list[tuple[int, str]]) -> list[str]:
+        if seat.rights == "watch" and any(line.split(" ")[0] not in _READINGS for _, line in lines):
             return ["NO watch"] * len(lines)
-        replies = self.laboratory.replies(seat.number, lines)
+        replies = self.laboratory.replies(seat.number, [line for _, line in lines])
         self._tell_news()
         return replies
 
     def _tell_news(self) -> None:
         """Tells entries that are no steps of play, and shows the gas if it has changed."""
         for k, maker, command in self.laboratory.news():
-            if maker is None:
-                continue
             if maker >= OTHERS:
                 self.tell(f"* seat {maker} name seat {maker - OTHERS} of the server")
             self.tell(f"* entry {k} {maker} {command}")
@@ -202,39 +189,39 @@ class Hall:
         self.tell(f"* seat {seat.number} name {seat.name}")
         return "DONE"
 
-    def _script(self, seat: Seat, words: list[str]) -> Files:
+    def _script(self, seat: Seat, words: list[str]) -> dict[str, bytes]:
         it = self.laboratory
         return {"gas.txt": it.script().encode(), **({"start.gas": it.start.to_bytes()} if it.start else {})}
 
-    def _snapshot(self, seat: Seat, words: list[str]) -> Files:
+    def _snapshot(self, seat: Seat, words: list[str]) -> dict[str, bytes]:
         return {"day.gas": self.laboratory.gas().to_bytes()}
 
     def _play(self, seat: Seat, words: list[str], count: int = 2) -> str:
         *to, steps, rate = _numbers(words, count) or (0, 0)
         if not (1 <= steps <= MOST_STEPS and 1 <= rate <= _MOST_RATE):
             return "NO speed"
-        gas = self._read().gas
-        if to and to[0] < gas.tick and (gas.drains or gas.sources):
+        gas = self._read().gas if to else None
+        if gas and to[0] < gas.tick and (gas.drains or gas.sources):
             return "ERR 11 ports"
-        self.player.start(Play(seat.number, steps, rate, *to))
+        self.player.play, self.player.due = Play(seat.number, steps, rate, *to), time.monotonic()
+        self.tell(f"* play {seat.number} {steps} {rate}")
         return "DONE"
 
     def _goto(self, seat: Seat, words: list[str]) -> str:
         return self._play(seat, words, 3)
 
     def _pause(self, seat: Seat, words: list[str]) -> str:
-        self._stop("asked", seat.number)
-        return "DONE"
+        self.player.pause("asked", seat.number)
+        return self._change()
 
     def _watch(self, seat: Seat, words: list[str]) -> str:
         self._change()
         return self.laboratory.watch(words)
 
     def _unwatch(self, seat: Seat, words: list[str]) -> str:
-        self._change()
         for key in _numbers(words, 1):
             self.laboratory.probes.pop(key, None)
-        return "DONE"
+        return self._change()
 
     def _open(self, seat: Seat, words: list[str]) -> str:
         size, name = _numbers(words[:2], 2), printable(" ".join(words[2:]))[:_LONGEST_TITLE]
@@ -253,9 +240,9 @@ class Hall:
     def _upload(self, seat: Seat, data: bytes) -> str:
         try:
             start = Snapshot.from_bytes(data)
+            return self._refusal(seat, "open") or self._begin(start=start)
         except SnapshotFault:
             return "NO snapshot"
-        return self._refusal(seat, "open") or self._begin(start=start)
 
     def _begin(self, size: tuple[int, ...] = (64, 64), start: Optional[Snapshot] = None,
                name: str = "") -> str:
@@ -267,26 +254,22 @@ class Hall:
 
     def _take(self, laboratory: Laboratory) -> str:
         """Shows another gas, and keeps the one before for `.bring`."""
-        self._stop("opened")
+        self.player.pause("opened")
         kept = None if self._is_new else self.laboratory
-        for it in (self._old, self.laboratory):
-            if it and it is not kept:
-                it.close()
+        for it in {self._old, self.laboratory} - {kept, None}:
+            it.close()
         self._old, self.laboratory, self._is_new = kept, laboratory, False
         self.tell(self._opened())
-        return "DONE"
+        return self._change()
 
     def _opened(self) -> str:
         width, height = self.laboratory.lab.size
         return f"* open {width} {height} {len(self.laboratory.lab.known)} {self.laboratory.name}".rstrip()
 
-    def _stop(self, why: str, seat: int = NOBODY) -> None:
-        self.player.pause(why, seat)
-        self._change()
-
-    def _change(self) -> None:
-        """Notes that the gas, or what pictures say of it, is another one now."""
+    def _change(self) -> str:
+        """Notes that the gas, or what pictures say of it, is another one now. Returns what a page is told."""
         self._is_dirty, self._reading, self._frames = True, None, {}
+        return "DONE"
 
     def _show(self) -> None:
         """After a change each page is to have a new picture."""
@@ -299,16 +282,14 @@ class Hall:
         """Sends the newest picture to a page that hasn't got it and has drawn those before but one."""
         if seat.newest == self._number or seat.undrawn >= LAYOUT["undrawn"]:
             return
-        try:
-            reading = self._read()
-        except Moving:
-            return  # it is tried again when the next page asks
-        solids = reading.gas.wall_bytes, reading.gas.obstacle_bytes, reading.gas.drains, reading.gas.sources
-        is_old = seat.solids != solids
-        if is_old not in self._frames:
-            self._frames[is_old] = picture(reading, self._number, self.player.play, is_old)
-        seat.newest, seat.solids, seat.undrawn = self._number, solids, seat.undrawn + 1
-        seat.send(self._frames[is_old])
+        with suppress(Moving):  # it is tried again when the next page asks
+            gas = self._read().gas
+            solids = gas.wall_bytes, gas.obstacle_bytes, gas.drains, gas.sources
+            is_old = seat.solids != solids
+            if is_old not in self._frames:
+                self._frames[is_old] = picture(self._read(), self._number, self.player.play, is_old)
+            seat.newest, seat.solids, seat.undrawn = self._number, solids, seat.undrawn + 1
+            seat.send(self._frames[is_old])
 
     def _read(self) -> Reading:
         """What the laboratory has now. It is read once for all pages."""
@@ -326,6 +307,5 @@ def _numbered(line: str) -> tuple[int, str]:
 
 def _numbers(words: list[str], count: int) -> list[int]:
     """So many whole numbers, or none."""
-    if len(words) != count or not all(re.fullmatch("-?[0-9]{1,15}", word) for word in words):
-        return []
-    return [int(word) for word in words]
+    found = [int(word) for word in words if re.fullmatch("-?[0-9]{1,15}", word)]
+    return found if len(found) == len(words) == count else []

@@ -1,7 +1,7 @@
 """The laboratory behind the pages: a program of their own, or a seat of a running server."""
 import os
 from collections.abc import Iterator
-from contextlib import ExitStack
+from contextlib import ExitStack, suppress
 from pathlib import Path
 from tempfile import TemporaryDirectory
 from typing import NamedTuple, Optional
@@ -33,14 +33,15 @@ class Laboratory:
     """A gas with its journal, the probes that pages watch, and which page made which entry.
 
     `start` is the snapshot that it began from, `name` what the pages call it, and `program` what computes it:
-    `proved`, `named` if somebody named the program, or `server`. It is for one thread at a time.
+    `proved`, `named` if somebody named the program, or `server`. Pages may open another gas in place of one
+    that `is_own`. It is for one thread at a time.
     """
     def __init__(self, lab: Lab, start: Optional[Snapshot], name: str, program: str, cap: int) -> None:
         self.lab, self.start, self.name, self.program, self.cap = lab, start, name, program, cap
         self.probes: dict[int, tuple[int, ...]] = {}
         self.keys = self._told = 0
         self._makers: dict[int, Optional[int]] = {}
-        self._room, self._files = "", ExitStack()
+        self._room, self._files, self.is_own = "", ExitStack(), False
 
     @classmethod
     def own(cls, means: Means, size: tuple[int, int] = (64, 64), start: Optional[Snapshot] = None,
@@ -49,25 +50,19 @@ class Laboratory:
         place = _MEMORY if os.access(_MEMORY, os.W_OK) else None
         with ExitStack() as files:
             room = files.enter_context(TemporaryDirectory(prefix="gaslab-", dir=place))
-            path = Path(room, "start.gas") if start else None
-            if start and path:
+            path = Path(room, "start.gas")
+            if start:
                 start.write(path)
-            lab = Lab.run(*size, cap=means.cap, load=path, save=Path(room, "now.gas"), program=means.program,
-                          timeout=means.timeout)
+            lab = Lab.run(*size, cap=means.cap, load=path if start else None, save=Path(room, "now.gas"),
+                          program=means.program, timeout=means.timeout)
             it = cls(lab, start, name, "proved" if is_script(means.program) else "named", means.cap)
-            it._room, it._files = room, files.pop_all()
+            it._room, it._files, it.is_own = room, files.pop_all(), True
         return it
 
     @classmethod
     def joined(cls, host: str, port: int, timeout: float, start: Optional[Snapshot]) -> "Laboratory":
         """Takes a seat of a server, which began from this snapshot if from any."""
-        lab = Lab.join(host, port, timeout, start)
-        return cls(lab, start, f"{host} {port}", "server", MOST_ENTRIES)
-
-    @property
-    def is_own(self) -> bool:
-        """Whether pages may open another gas in its place."""
-        return self._room != ""
+        return cls(Lab.join(host, port, timeout, start), start, f"{host} {port}", "server", MOST_ENTRIES)
 
     def close(self) -> None:
         """Ends the session."""
@@ -99,15 +94,17 @@ class Laboratory:
         replies = [self._noted(None, reply) for reply in self.lab.send(lines)]
         return next((reply for reply in replies if not reply.startswith("OK")), "")
 
-    def news(self) -> Iterator[tuple[int, Optional[int], str]]:
-        """Each entry since the last call: its index, who made it, and the command.
+    def news(self) -> Iterator[tuple[int, int, str]]:
+        """Each entry since the last call, but for steps of play: its index, who made it, and the command.
 
-        The maker is a page's seat, `OTHERS` and a server's seat, or None for the steps of play.
+        The maker is a page's seat, or `OTHERS` and a server's seat.
         """
         first, entries = self._told, self.lab.journal()
         self._told = len(entries)
         for k, entry in enumerate(entries[first:], first):
-            yield k, self._makers.pop(k, OTHERS + entry.seat), entry.command
+            maker = self._makers.pop(k, OTHERS + entry.seat)
+            if maker is not None:
+                yield k, maker, entry.command
 
     def watch(self, words: list[str]) -> str:
         """Watches a rectangle. Returns the page's reply."""
@@ -124,18 +121,15 @@ class Laboratory:
         """The whole gas and its readings. Raises `Moving` if others change a server's gas all the time."""
         gas, tally, ledger = self.gas(), self.lab.tally(), self.lab.ledger()
         probes = [(key, area, self.lab.probe(*area)) for key, area in self.probes.items()]
-        known = len(self.lab.known)
-        is_mixed = not self.is_own and len(self.lab.journal()) != known
+        is_mixed = not self.is_own and len(self.lab.known) != len(self.lab.journal())
         return Reading(gas, tally, ledger, probes, len(self.lab.known), is_mixed)
 
     def gas(self) -> Snapshot:
         """The whole gas. A program of one's own saves it, which is quicker than reading its rows."""
         if self._room:
-            try:
+            with suppress(Refused, OSError):  # there was no room for the file
                 self.lab.save()
                 return Snapshot.read(Path(self._room, "now.gas"))
-            except (Refused, OSError):
-                pass  # there was no room for the file
         return self.lab.look(tries=_TRIES)
 
     def script(self) -> str:

@@ -6,6 +6,7 @@ import time
 from collections.abc import Callable
 from concurrent.futures import ThreadPoolExecutor
 from contextlib import suppress
+from functools import partial
 from ipaddress import ip_address
 from typing import Any, Optional, Union
 
@@ -17,7 +18,6 @@ _LONGEST = 8 << 20  # bytes of a message; the longest snapshot has 6.3 million
 _MOST_WAITING = 4096  # messages for a page that doesn't read
 _PATIENCE = 3.0  # seconds that connections get to end
 _POLL = 0.1  # seconds between two looks for what others did
-_LOST = (Gone, Silent, Strange)
 _HEADERS = {"Cache-Control": "no-store", "X-Content-Type-Options": "nosniff",
             "Referrer-Policy": "no-referrer", "Cross-Origin-Resource-Policy": "same-origin"}
 
@@ -34,32 +34,24 @@ class Web:
             raise ValueError("--share takes the address by which others reach this machine (hostname -I)")
         self.tokens = {rights: secrets.token_urlsafe(16) for rights in ("all", "watch")}
         self.hall = make_hall and make_hall((self.tokens["all"], self.tokens["watch"]))
-        self.port = 0
         self._desk = ThreadPoolExecutor(1)  # its thread asks the laboratory, one job after the other
         self._sockets: set[Any] = set()
-
-    @property
-    def _place(self) -> str:
-        return f"[{self.host}]:{self.port}" if ":" in self.host else f"{self.host}:{self.port}"
 
     def link(self, rights: str) -> str:
         """The link of a seat."""
         return f"http://{self._place}/{self.tokens[rights]}/"
 
-    def serve(self, port: int, ready: Callable[["Web"], None]) -> None:
-        """Serves until it is interrupted. Raises `Gone`, `Silent` or `Strange` if the laboratory is lost."""
-        asyncio.run(self.run(port, ready))
-
     async def run(self, port: int, ready: Callable[["Web"], None]) -> None:
-        """Serves, as `serve` does, until it is cancelled."""
+        """Serves until it is cancelled. Raises `Gone`, `Silent` or `Strange` if the laboratory is lost."""
         self._loop = asyncio.get_running_loop()
         self._lost, self._wake = self._loop.create_future(), asyncio.Event()
-        clock = asyncio.ensure_future(self._play())
+        clock = self._loop.create_task(self._play())
         runner = self.http.AppRunner(self._app(), access_log=None)
         await runner.setup()
         try:
             await self.http.TCPSite(runner, self.host, port).start()
             self.port = runner.addresses[0][1]
+            self._place = f"[{self.host}]:{self.port}" if ":" in self.host else f"{self.host}:{self.port}"
             ready(self)
             await self._lost
         finally:
@@ -71,29 +63,26 @@ class Web:
         while self.hall:
             player = self.hall.player
             wait = player.due - time.monotonic() if player.play else _POLL
-            with suppress(asyncio.TimeoutError):
-                await asyncio.wait_for(self._wake.wait(), min(max(wait, 0.0), _POLL))
+            await _patient(self._wake.wait(), min(max(wait, 0.0), _POLL))
             self._wake.clear()
             await self._do(self.hall.beat)
-            await self._do(self.hall.poll)
 
     async def _do(self, job: Callable[..., Any], *words: Any) -> Any:
         """What a job of the desk returns or raises. The server ends if the laboratory is lost."""
         try:
             return await self._loop.run_in_executor(self._desk, job, *words)
-        except _LOST as fault:
+        except (Gone, Silent, Strange) as fault:
             if not self._lost.done():
                 self._lost.set_exception(fault)
             raise
 
     async def _end(self, runner: Any) -> None:
         close = self.hall.close if self.hall else lambda: None
-        await asyncio.gather(*(_close(socket, 1001) for socket in self._sockets))
+        await asyncio.gather(*(_patient(socket.close(code=1001)) for socket in self._sockets))
+        await _patient(runner.cleanup())
         closed = self._loop.run_in_executor(self._desk, close)
         self._desk.shutdown(wait=False)
-        for last in (runner.cleanup(), closed):
-            with suppress(asyncio.TimeoutError):  # a connection that was reset takes a minute, as a job can
-                await asyncio.wait_for(last, _PATIENCE)
+        await _patient(closed)
         if closed.cancelled():
             close()  # which ends the job too
 
@@ -102,10 +91,7 @@ class Web:
         @self.http.middleware
         async def guard(request: Any, handler: Callable[[Any], Any]) -> Any:
             self._check(request)
-            response = await handler(request)
-            if not response.prepared:
-                response.headers.update(_HEADERS)
-            return response
+            return await handler(request)
         app = self.http.Application(middlewares=[guard])
         for path, answer in (("", self._page), ("gas.html", self._one_file), ("socket", self._socket)):
             app.router.add_get("/{token}/" + path, answer)
@@ -130,7 +116,7 @@ class Web:
         return self._html(one_file(), {"Content-Disposition": 'attachment; filename="gaslab.html"'})
 
     def _html(self, text: str, headers: dict[str, str]) -> Any:
-        return self.http.Response(text=text, content_type="text/html", headers=headers)
+        return self.http.Response(text=text, content_type="text/html", headers={**_HEADERS, **headers})
 
     async def _socket(self, request: Any) -> Any:
         if not self.hall or "Origin" not in request.headers:
@@ -145,10 +131,7 @@ class Web:
             waiting.put_nowait(message)
             if waiting.qsize() > _MOST_WAITING:
                 sender.cancel()
-
-        def put(message: Union[str, bytes]) -> None:  # by any thread
-            with suppress(RuntimeError):  # the loop has ended
-                self._loop.call_soon_threadsafe(queue, message)
+        put = partial(self._loop.call_soon_threadsafe, queue)
         tasks = [sender, asyncio.ensure_future(self._listen(socket, request["rights"], put))]
         try:
             await asyncio.wait(tasks, return_when=asyncio.FIRST_COMPLETED)
@@ -157,7 +140,7 @@ class Web:
             for task in tasks:
                 task.cancel()
             await asyncio.gather(*tasks, return_exceptions=True)
-            await _close(socket, 1001 if self._lost.done() else 1008)
+            await _patient(socket.close(code=1001 if self._lost.done() else 1008))
         return socket
 
     async def _listen(self, socket: Any, rights: str, send: Send) -> None:
@@ -181,7 +164,7 @@ async def _send(waiting: "asyncio.Queue[Union[str, bytes]]", socket: Any) -> Non
         await (socket.send_str(message) if isinstance(message, str) else socket.send_bytes(message))
 
 
-async def _close(socket: Any, code: int) -> None:
-    """Closes a page's connection. One that reads nothing is left after a while."""
+async def _patient(last: Any, seconds: float = _PATIENCE) -> None:
+    """Waits for an end, but not for long: a page may read nothing, and a reset connection takes a minute."""
     with suppress(asyncio.TimeoutError):
-        await asyncio.wait_for(socket.close(code=code), _PATIENCE)
+        await asyncio.wait_for(last, seconds)

@@ -1,6 +1,7 @@
 // For builders of gates: shooting a particle, following one, truth tables, and scripts placed in a gas.
 import { Lab, fromSnapshot, toBytes } from "./engine.js";
-import { isRefusal } from "./facts.js";
+import { CHOICES, isRefusal } from "./facts.js";
+import { isWithin } from "./frame.js";
 import { state } from "./state.js";
 import { view } from "./canvas.js";
 import { edits } from "./edits.js";
@@ -12,16 +13,13 @@ const FAR = 256;           // steps between two pictures over which a particle i
 const TRAIL = 500;         // cells
 export const INPUTS = 5;   // of a truth table
 
-export const WAYS = [["1 1", "↘", "right and down"], ["-1 1", "↙", "left and down"],
-  ["1 -1", "↗", "right and up"], ["-1 -1", "↖", "left and up"]];
-export const shot = { way: "1 1" };
-const nameOf = (way) => WAYS.find(([id]) => id === way.join(" "))[2];
+const nameOf = (way) => CHOICES.way[1].find(([id]) => id === way.join(" "))[2];
 
 /** Puts a particle of one velocity into a cell, or says why that can't be. A pull along a diagonal is the
-    velocity. */
-export async function shoot(cells) {
+    velocity, and else the one that was chosen. */
+export async function shoot(cells, chosen) {
   const [x, y] = cells[0], [dx, dy] = [cells.at(-1)[0] - x, cells.at(-1)[1] - y], rect = [x, y, 1, 1];
-  const way = dx && dy ? [Math.sign(dx), Math.sign(dy)] : shot.way.split(" ").map(Number);
+  const way = dx && dy ? [Math.sign(dx), Math.sign(dy)] : chosen.split(" ").map(Number);
   const { tick } = view.picture, [vx, vy] = view.way(x, y);
   const refused = (text, does) => notice({ title: "Not put", text, does, rect });
   if (view.isSolidAt(x, y)) refused(`The cell ${x} ${y} is solid: a particle would stay in it.`);
@@ -38,27 +36,31 @@ export async function shoot(cells) {
 
 let followed = null;       // { cell, before }: the cell, and a snapshot of the gas in which it is there
 
+/** Marks a particle's cells up to the present one. */
+function mark(trail) {
+  view.trail = trail.slice(-TRAIL);
+  followed = trail.length ? { cell: trail.at(-1), before: snapshotOf(view) } : null;
+}
+
 /** Follows the particle of a cell, or none if the cell is empty. */
 export function followAt([x, y]) {
-  const isThere = view.has(x, y);
-  followed = isThere ? { cell: [x, y], before: snapshotOf(view) } : null;
-  view.trail = isThere ? [[x, y]] : [];
+  mark(view.has(x, y) ? [[x, y]] : []);
   view.redraw();
-  if (!isThere) notice({ title: "None to follow", text: `There is no particle in ${x} ${y}.`,
-    rect: [x, y, 1, 1] });
+  if (!followed)
+    notice({ title: "None to follow", text: `There is no particle in ${x} ${y}.`, rect: [x, y, 1, 1] });
 }
 
 /** The cell after a step, or before one. Of two that meet head on each turns to its right. */
 export function nextCell(gas, [x, y], isBack) {
   const { width, height } = gas, t = isBack ? gas.tick - 1 : gas.tick, [u, v] = [(x + t) & 1, (y + t) & 1];
-  const [bx, by] = [x - u, y - v], wrap = (i, j) => [(i + width) % width, (j + height) % height];
-  const has = (set, i, j) => gas.has(...wrap(bx + i, by + j), set);
-  const corners = [[0, 0], [1, 0], [0, 1], [1, 1]];
-  if (corners.some(([i, j]) => has(gas.walls, i, j) || has(gas.obstacles, i, j))) return [x, y];
+  const cell = (i, j) => [(x - u + i + width) % width, (y - v + j + height) % height];
+  const has = (set, i, j) => gas.has(...cell(i, j), set);
+  const isSolid = (k) => has(gas.walls, k & 1, k >> 1) || has(gas.obstacles, k & 1, k >> 1);
+  if ([0, 1, 2, 3].some(isSolid)) return [x, y];
   const isLone = has(gas.particles, 1 - u, 1 - v) && !has(gas.particles, 1 - u, v)
     && !has(gas.particles, u, 1 - v);
-  const turned = (u === v) !== isBack;
-  return isLone ? turned ? wrap(bx + u, by + 1 - v) : wrap(bx + 1 - u, by + v) : wrap(bx + 1 - u, by + 1 - v);
+  if (!isLone) return cell(1 - u, 1 - v);
+  return (u === v) !== isBack ? cell(u, 1 - v) : cell(1 - u, v);
 }
 
 /** The cells of a particle through some steps of a gas, up to where it is drained. */
@@ -84,19 +86,13 @@ function followOn() {
   if (!followed) return;
   const lab = new Lab(fromSnapshot(followed.before)), { gas } = lab, { picture } = view;
   const n = picture.tick - gas.tick;
-  if (gas.width !== picture.width || gas.height !== picture.height) {
-    followed = null;
-    view.trail = [];
-    return;
-  }
+  if (gas.width !== picture.width || gas.height !== picture.height) { mark([]); return; }
   if (Math.abs(n) > FAR) { lose(`Its way is lost: ${Math.abs(n)} steps were made at once.`); return; }
-  const cells = cellsOf(lab, followed.cell, n);
-  if (cells.length < Math.abs(n)) { lose("It was drained."); return; }
+  const trail = [...view.trail, ...cellsOf(lab, followed.cell, n)];
+  if (trail.length < view.trail.length + Math.abs(n)) { lose("It was drained."); return; }
   const isSame = n === 0 || toBytes(gas.particles).every((byte, k) => byte === picture.particles[k]);
-  const cell = cells.at(-1) ?? followed.cell;
-  if (!isSame || !view.has(...cell)) { lose("Its way is lost: the gas was changed."); return; }
-  view.trail = [...view.trail, ...cells].slice(-TRAIL);
-  followed = { cell, before: snapshotOf(view) };
+  if (isSame && view.has(...trail.at(-1))) mark(trail);
+  else lose("Its way is lost: the gas was changed.");
 }
 
 state.on(["picture"], () => { if (state.picture) followOn(); });
@@ -136,23 +132,20 @@ export async function truthTable(inputs, ticks, outputs) {
 
 // ---- placing
 
-const HAS_RECT = ["put", "erase", "wall", "block", "unwall", "source", "drain", "probe"];
-
 /** The lines of a script up to its first step, moved by an offset: { lines }, or { fault } in plain words. */
-export function placed(bytes, [dx, dy], { width, height, tick }) {
-  const read = lessonOf(bytes);
-  const inside = ([x, y, w, h]) => x >= 0 && y >= 0 && x + w <= width && y + h <= height;
+export function placed(bytes, [dx, dy], picture) {
+  const read = lessonOf(bytes), { tick } = picture, lines = [];
   if (!read.lines) return { fault: read.fault ?? "This is a snapshot, not a script." };
   if ((dx + tick) & 1 || (dy + tick) & 1)
     return { fault: `At tick ${tick} both numbers must be ${tick & 1 ? "odd" : "even"}: `
       + "else the particles would move another way." };
-  const end = read.lines.findIndex((line) => /^(step|back)/.test(line)), lines = [];
-  for (const line of end < 0 ? read.lines : read.lines.slice(0, end)) {
+  for (const line of read.lines) {
     const [word, ...words] = line.split(/ +/), n = words.map(Number);
-    const rects = word === "row" ? runs(words[1]).map(([x, w]) => [x, n[0], w, 1])
-      : HAS_RECT.includes(word) ? [n] : [];
-    const moved = rects.map(([x, y, w, h, ...rest]) => [x + dx, y + dy, w, h, ...rest]);
-    if (!moved.every(inside)) return { fault: `“${line.slice(0, 40)}” would reach outside the lattice.` };
+    if (word === "step" || word === "back") break;
+    const rects = word === "row" ? runs(words[1]).map(([x, w]) => [x, n[0], w, 1]) : n.length > 3 ? [n] : [];
+    const moved = rects.map(([x, y, ...rest]) => [x + dx, y + dy, ...rest]);
+    if (!moved.every((rect) => isWithin(rect, picture)))
+      return { fault: `“${line.slice(0, 40)}” would reach outside the lattice.` };
     lines.push(...moved.map((rect) => `${word === "row" ? "put" : word} ${rect.join(" ")}`));
   }
   return { lines };

@@ -1,7 +1,7 @@
 // Gestures on the gas, by mouse, pen and fingers or by keys that move a cell cursor, and single keys, which
 // can be turned off. Most keys press a button, whose title names its key.
 import { at, h, words } from "./dom.js";
-import { KEYS, ALWAYS, CURSOR, MOVES, TOOLS, toolOf } from "./facts.js";
+import { KEYS, ALWAYS, CURSOR, FATES, KINDS, MOVES, TOOLS, toolOf } from "./facts.js";
 import { state } from "./state.js";
 import { view } from "./canvas.js";
 import { hideNotice } from "./notices.js";
@@ -10,9 +10,6 @@ import { preview, act, undo, showWords } from "./tools.js";
 
 const HOLD = 150;          // milliseconds that a finger stays before it draws
 const FAR = 8;             // pixels that a finger moves before it scrolls
-const KINDS = ["", "wall", "obstacle", "source", "drain"];
-const FATES = { empty: "is empty", passes: "goes straight on", collides: "collides next",
-  bounces: "bounces back" };
 const pointers = new Map();
 const { canvas } = view;
 let gesture = null;        // { kind: "draw", "wait", "move", "pinch" or "over", .. }
@@ -25,14 +22,20 @@ canvas.onpointerdown = (e) => {
   pointers.set(e.pointerId, e);
   hideNotice();
   leaveCursor();
-  if (pointers.size > 1) { startPinch(); return; }
+  clearTimeout(gesture?.timer);
   const cell = cellOf(e), canDraw = state.tool !== "look" && !e.altKey && view.holds(cell) && e.button === 0;
-  if (e.button > 1) return;
   const place = { x: e.clientX, y: e.clientY };
-  if (e.pointerType === "touch")
-    gesture = { kind: "wait", cell, ...place, timer: canDraw && setTimeout(() => startDrawing(cell), HOLD) };
-  else if (canDraw) startDrawing(cell);
-  else { gesture = { kind: "move", ...place }; e.preventDefault(); }
+  if (pointers.size > 1) {
+    gesture = { kind: "pinch", before: spread() };
+    view.select();
+  } else if (e.button > 1) return;
+  else if (e.pointerType === "touch")
+    gesture = { kind: "wait", cell, ...place, timer: canDraw && setTimeout(draw, HOLD, cell) };
+  else if (canDraw) draw(cell);
+  else {
+    gesture = { kind: "move", ...place };
+    e.preventDefault();
+  }
 };
 
 canvas.onpointermove = (e) => {
@@ -45,14 +48,15 @@ canvas.onpointermove = (e) => {
   if (!gesture) describe(cellOf(e));
   else if (gesture.kind === "pinch" && pointers.size > 1) pinch();
   else if (gesture.kind === "move") move(e);
-  else if (gesture.kind === "draw") { gesture.cells.push(cellOf(e)); preview(gesture.cells); }
+  else if (gesture.kind === "draw") draw(...gesture.cells, cellOf(e));
 };
 
 canvas.onpointerup = canvas.onpointercancel = (e) => {
   const was = gesture;
   pointers.delete(e.pointerId);
   gesture = pointers.size > 0 ? { kind: "over" } : null;           // a finger that stays draws nothing
-  if (was?.kind === "wait") { clearTimeout(was.timer); describe(was.cell); }
+  clearTimeout(was?.timer);
+  if (was?.kind === "wait") describe(was.cell);
   if (was?.kind !== "draw") return;
   if (e.type === "pointerup") act(was.cells);
   else view.select();
@@ -66,12 +70,9 @@ canvas.addEventListener("wheel", (e) => {
   view.zoom(Math.exp(-e.deltaY * (e.deltaMode ? .05 : .0016)), e.offsetX, e.offsetY);
 }, { passive: false });
 
-function startDrawing(cell) { gesture = { kind: "draw", cells: [cell] }; preview(gesture.cells); }
-
-function startPinch() {
-  if (gesture?.kind === "wait") clearTimeout(gesture.timer);
-  gesture = { kind: "pinch", before: spread() };
-  view.select();
+function draw(...cells) {
+  gesture = { kind: "draw", cells };
+  preview(cells);
 }
 
 function spread() {
@@ -88,11 +89,10 @@ function pinch() {
 }
 
 /** Moves the gas. A finger on a gas that is seen whole scrolls the page. */
-function move(e) {
-  const dx = e.clientX - gesture.x, dy = e.clientY - gesture.y;
-  if (e.pointerType === "touch" && view.fitted) scrollBy(0, -dy);
-  else view.pan(dx, dy);
-  Object.assign(gesture, { x: e.clientX, y: e.clientY });
+function move({ clientX: x, clientY: y, pointerType }) {
+  if (pointerType === "touch" && view.fitted) scrollBy(0, gesture.y - y);
+  else view.pan(x - gesture.x, y - gesture.y);
+  Object.assign(gesture, { x, y });
 }
 
 /** Says what is in a cell, and what its block does next. */
@@ -123,27 +123,21 @@ function leaveCursor() {
 
 /** Takes a key on the gas. Returns whether it was one of the cursor's. */
 function cursorKey({ key, shiftKey }) {
-  if (!cursor && (key !== ALWAYS.draw.key || !toolOf(state.tool).colour)) return false;
-  if (key === ALWAYS.leave.key) {
-    leaveCursor();
-    return true;
-  }
+  const isEnter = key === ALWAYS.draw.key;
+  if (cursor && key === ALWAYS.leave.key) { leaveCursor(); return true; }
+  if (!(cursor ? isEnter || MOVES[key] : isEnter && toolOf(state.tool).colour)) return false;
   if (!cursor) cursor = { cell: view.middleCell, from: null };
-  else if (MOVES[key]) moveCursor(MOVES[key], shiftKey ? 8 : 1);
-  else if (key !== ALWAYS.draw.key) return false;
-  else {
+  else if (isEnter) {
     const { cell, from } = cursor;
     cursor.from = from ? null : cell;
     if (from) act([from, cell]);
+  } else {
+    const sides = [view.picture.width, view.picture.height], move = (k) => MOVES[key][k] * (shiftKey ? 8 : 1);
+    cursor.cell = cursor.cell.map((v, k) => Math.max(0, Math.min(sides[k] - 1, v + move(k))));
+    view.follow(cursor.cell);
   }
   showCursor();
   return true;
-}
-
-function moveCursor(move, n) {
-  const sides = [view.picture.width, view.picture.height];
-  cursor.cell = cursor.cell.map((v, k) => Math.max(0, Math.min(sides[k] - 1, v + n * move[k])));
-  view.follow(cursor.cell);
 }
 
 function showCursor() {

@@ -206,7 +206,8 @@ function showHeader() {
   at("truth").lastElementChild.textContent = (TRUTH[program] ?? TRUTH.none)[0];
   at("seats").hidden = program === "page";
   at("script").hidden = program !== "page";
-  at("seats").textContent = seat === null ? "No seat yet" : [`Seat ${seat}`, ...more].filter(Boolean).join("");
+  const own = [`Seat ${seat}`, ...more].filter(Boolean).join("");
+  at("seats").textContent = seat === null ? "No seat yet" : own;
   Object.assign(document.body.dataset, { status, rights });
 }
 

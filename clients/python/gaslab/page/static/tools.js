@@ -1,6 +1,6 @@
 // The tools: their buttons, what is chosen beside one, what one does with a shape on the gas, and undo.
 import { at, button, fill, h, icon } from "./dom.js";
-import { ALWAYS, TOOLS, ICONS, isRefusal, toolOf } from "./facts.js";
+import { ALWAYS, CHOICES, ICONS, SHARES, TOOLS, isRefusal, toolOf } from "./facts.js";
 import { choices, choose, rove } from "./buttons.js";
 import { state } from "./state.js";
 import { view } from "./canvas.js";
@@ -9,12 +9,12 @@ import { plots } from "./plots.js";
 import { rectangle, ellipse, stroke, randomGas } from "./shapes.js";
 import { notice } from "./notices.js";
 import { send, pause, isWatching } from "./session.js";
-import { shoot, shot, followAt, WAYS } from "./gates.js";
+import { shoot, followAt } from "./gates.js";
 
 /** What is chosen beside a tool. `snap` is in cells, `period` in ticks, the rest in percents. */
-export const options = { shape: "rectangle", snap: 1, period: 1, density: 50, right: 0, down: 0 };
+const options = { shape: "rectangle", snap: 1, way: "1 1", period: 1, density: 50, right: 0, down: 0 };
 
-export const hasShapes = (tool) => ["put", "erase", "wall", "block", "unwall"].includes(tool.id);
+const hasShapes = (tool) => ["put", "erase", "wall", "block", "unwall"].includes(tool.id);
 const lineOf = (tool, rect) => tool.line.replace("RECT", rect.join(" ")).replace("PERIOD", options.period);
 
 /** The rectangles of a gesture through cells. */
@@ -41,7 +41,7 @@ export async function act(cells) {
   if (isWatching(rect)) { showBad(true); return; }
   const first = lesson.first && !state.tried && tool.solid ? lesson.first : [];
   state.change({ tried: true, worked: true });
-  if (tool.id === "shoot") { await shoot(cells); return; }
+  if (tool.id === "shoot") { await shoot(cells, options.way); return; }
   if (tool.id === "random") await pause();
   const lines = tool.line ? [...first, ...rects.map((one) => lineOf(tool, one))]
     : randomGas(view, rect, options);
@@ -55,7 +55,7 @@ export async function act(cells) {
 
 function showBad(isBad) { view.select(isBad && view.selection ? { ...view.selection, bad: true } : null); }
 
-export function fillAll() {
+function fillAll() {
   const { width, height } = view.picture;
   act([[0, 0], [width - 1, height - 1]]);
 }
@@ -82,9 +82,6 @@ export async function doTry({ lines, view: rect }) {
 
 // ---- the toolbar, and the line of words below the gas
 
-const SHAPES = [["rectangle", "▭", "Rectangle"], ["circle", "◯", "Circle"], ["free", "✎", "Freehand"]];
-const SNAPS = [[1, "cells"], [2, "2 × 2"], [8, "8 × 8"]];
-const SHARES = [["density", 0, "density"], ["right", -100, "drift →"], ["down", -100, "drift ↓"]];
 const words = h("span.words"), cellWords = h("span.words", { role: "status", hidden: true });
 const undoButton = h("button.parted", { onclick: undo }, icon(ICONS.undo), h("span", "Undo"));
 const buttons = [...TOOLS.map(({ id, name, hint, key, gap, icon: shapes }) =>
@@ -105,20 +102,21 @@ export function showWords(children, isSpoken = false) {
 
 function share([name, min, text]) {
   const shown = h("span.value", `${options[name]}%`);
-  const input = h("input", { type: "range", min: String(min), max: "100", step: "5",
-    value: String(options[name]),
-    oninput: () => { options[name] = input.valueAsNumber; shown.textContent = `${input.value}%`; } });
-  return h("label", text, input, shown);
+  const oninput = ({ target }) => {
+    options[name] = target.valueAsNumber;
+    shown.textContent = `${target.value}%`;
+  };
+  return h("label", text,
+    h("input", { type: "range", min, max: "100", step: "5", value: options[name], oninput }), shown);
 }
 
 function showOptions() {
   const tool = toolOf(state.tool), set = (name) => (value) => { options[name] = value; };
-  const period = h("input", { type: "number", min: "1", max: "65535", value: String(options.period),
-    oninput: () => { options.period = period.valueAsNumber || 1; } });
-  fill(at("options"), hasShapes(tool) && choices("Shape", SHAPES, options.shape, set("shape")),
-    tool.line && !tool.cell && choices("Snap", SNAPS, options.snap, set("snap")),
-    tool.id === "source" && h("label", "every ", period, " ticks"),
-    tool.id === "shoot" && choices("Way", WAYS, shot.way, (way) => { shot.way = way; }),
+  const choice = (name) => choices(...CHOICES[name], options[name], set(name));
+  const oninput = ({ target }) => { options.period = target.valueAsNumber || 1; };
+  const period = h("input", { type: "number", min: "1", max: "65535", value: options.period, oninput });
+  fill(at("options"), hasShapes(tool) && choice("shape"), tool.line && !tool.cell && choice("snap"),
+    tool.id === "source" && h("label", "every ", period, " ticks"), tool.id === "shoot" && choice("way"),
     tool.id === "random" && [...SHARES.map(share), button("Fill all", fillAll)]);
   at("options").hidden = !at("options").childElementCount;
 }
@@ -126,7 +124,7 @@ function showOptions() {
 function showTool() {
   document.body.dataset.tool = state.tool;
   choose(buttons, ({ dataset }) => dataset.tool === state.tool, "aria-pressed");
-  undoButton.removeAttribute("aria-pressed");
+  undoButton.ariaPressed = null;
   showOptions();
   showHint();
 }
@@ -138,7 +136,7 @@ function showHint() {
 }
 
 edits.changed = () => {
-  undoButton.setAttribute("aria-disabled", edits.list.length === 0);
+  undoButton.ariaDisabled = edits.list.length === 0;
   undoButton.title = `Undo ${edits.label() || "the last edit"} (${ALWAYS.undo.shown})`;
 };
 

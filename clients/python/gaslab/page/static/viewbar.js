@@ -29,7 +29,7 @@ function showKey() {
     setText(at("density-text"),
       `Squares of ${view.square} by ${view.square} cells${view.isMean ? ", mean of 8 pictures" : ""}`);
   } else if (view.mode === "velocity" && !hasArrows) fill(at("key"),
-    WAYS.map(([, arrow, , colour]) => entry(`background:${COLOURS[colour]}`, arrow)), isNear && marks);
+    WAYS.map(([arrow, colour]) => entry(`background:${COLOURS[colour]}`, arrow)), isNear && marks);
   else fill(at("key"), isNear ? marks
     : entry("background:var(--hit);outline:var(--strong)", "particle on a wall"));
 }
