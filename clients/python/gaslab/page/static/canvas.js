@@ -25,7 +25,6 @@ export class View extends Painter {
     this.onFrame = () => this.draw();
   }
 
-  /** Draws with the next frame. */
   redraw() {
     if (this.#waits) return;
     this.#waits = true;
@@ -73,7 +72,6 @@ export class View extends Painter {
     this.redraw();
   }
 
-  /** Shows what is being drawn, or nothing. */
   select(selection = null) { this.selection = selection; this.redraw(); }
 
   /** Moves so that a cell is seen. */
@@ -142,10 +140,8 @@ export class View extends Painter {
     c.setLineDash([]);
   }
 
-  /** Strokes a rectangle of pixels, with corners of a radius. */
   frame(box, ...looks) { this.stroke(rectangle(box), ...looks); }
 
-  /** Walls and obstacles above a density picture. */
   drawSolids() {
     for (const [rect, kind] of this.solids()) {
       const [x, y, w, h] = this.box(rect);
@@ -214,7 +210,6 @@ export class View extends Painter {
       this.outline(source, COLOURS.sourceEdge, source[4] === 1 ? "source" : `source, every ${source[4]}`);
   }
 
-  /** Where the particle that is followed was. */
   drawTrail() {
     const { scale, trail } = this, path = new Path2D();
     trail.forEach(([x, y], k) => {
@@ -276,7 +271,6 @@ export class View extends Painter {
     if (!bad) this.drawLine(line, this.box(rects.at(-1)));
   }
 
-  /** The line that a gesture sends, beside it. */
   drawLine(line, [x, y, , h]) {
     const [cw, ch] = this.size, below = y + h + 12, above = y - 38 > 0 ? y - 38 : 6;
     this.tag(line, COLOURS.ink,
@@ -285,7 +279,6 @@ export class View extends Painter {
   }
 }
 
-/** The path of a rectangle of pixels. */
 function rectangle(box, radius = 0) {
   const path = new Path2D();
   path.roundRect(...box, radius);

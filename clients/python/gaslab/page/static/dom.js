@@ -2,8 +2,7 @@
 export const at = (id) => document.getElementById(id);
 export const SANS = getComputedStyle(document.body).fontFamily;
 
-/** An element. `tag` may have classes: "p.task". Of an object's fields strings are attributes, and so is what
-    has a dash; all else are properties. Other parts are children, but for empty ones. */
+/** An element. `tag` may have classes: "p.task". Objects are attributes and properties, all else children. */
 export function h(tag, ...parts) {
   const [name, ...classes] = tag.split("."), element = document.createElement(name);
   if (classes.length) element.className = classes.join(" ");

@@ -25,7 +25,6 @@ class Edits {
     this.changed();
   }
 
-  /** A picture has come. */
   picture({ playing }) {
     this.isMoving = playing;
     this.#lab = null;
@@ -84,7 +83,6 @@ class Edits {
     else open.rect = around(word === "row" ? [0, numbers[0], width, 1] : numbers, open.rect);
   }
 
-  /** The name of the last edit, or nothing. */
   label() {
     const lines = this.list.at(-1)?.lines ?? [""], n = lines.length;
     return n > 1 ? `${lines.at(-1).slice(0, 30)} and ${n - 1} more` : lines[0].slice(0, 40);

@@ -1,5 +1,4 @@
-// What the page and its server both know: facts.json, with the client's commands and colours. And refusals in
-// plain words.
+// What the page and its server both know, with the client's commands and colours; refusals in plain words.
 import { say } from "./dom.js";
 import facts from "./facts.json";
 

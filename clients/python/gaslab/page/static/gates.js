@@ -15,8 +15,7 @@ export const INPUTS = 5;   // of a truth table
 
 const nameOf = (way) => CHOICES.way[1].find(([id]) => id === way.join(" "))[2];
 
-/** Puts a particle of one velocity into a cell, or says why that can't be. A pull along a diagonal is the
-    velocity, and else the one that was chosen. */
+/** Puts a particle of the velocity that was pulled, or else chosen, into a cell, or says why it can't. */
 export async function shoot(cells, chosen) {
   const [x, y] = cells[0], [dx, dy] = [cells.at(-1)[0] - x, cells.at(-1)[1] - y], rect = [x, y, 1, 1];
   const way = dx && dy ? [Math.sign(dx), Math.sign(dy)] : chosen.split(" ").map(Number);
@@ -81,7 +80,6 @@ function lose(text) {
   speak(text);
 }
 
-/** Moves the mark with the particle. */
 function followOn() {
   if (!followed) return;
   const lab = new Lab(fromSnapshot(followed.before)), { gas } = lab, { picture } = view;
@@ -107,8 +105,7 @@ export function likelyInputs() {
   return cells;
 }
 
-/** What probes hold after some steps, for each choice of full inputs: rows of [inputs, counts]. In the end
-    the gas is as before. Throws an Error in plain words if it can't be had. */
+/** What probes hold after some steps, for each choice of full inputs. In the end the gas is as before. */
 export async function truthTable(inputs, ticks, outputs) {
   const has = inputs.map(([x, y]) => view.has(x, y));
   if (view.hasPorts) throw new Error("A gas with sources or drains can't be stepped back.");

@@ -1,5 +1,4 @@
-// Gestures on the gas, by mouse, pen and fingers or by keys that move a cell cursor, and single keys, which
-// can be turned off. Most keys press a button, whose title names its key.
+// Gestures on the gas, by mouse, pen, fingers or keys, and single keys, of which most press a button.
 import { at, h, words } from "./dom.js";
 import { KEYS, ALWAYS, CURSOR, FATES, KINDS, MOVES, TOOLS, toolOf } from "./facts.js";
 import { state } from "./state.js";

@@ -1,5 +1,4 @@
-// The header, the tabs beside the gas, what the browser remembers, and the dialog that opens from the header
-// and the readings: lessons, what is proved, seats, keys, what is taken home, and truth tables.
+// The header, the tabs, and the dialog: lessons, what is proved, seats, keys, sharing, and truth tables.
 import { at, button, h, plural, say } from "./dom.js";
 import { TRUTH, KEYS, ALWAYS, TOOLS } from "./facts.js";
 import { choose, rove } from "./buttons.js";
@@ -41,7 +40,6 @@ function place() {
 
 box.onclose = () => { opener.ariaExpanded = "false"; };
 
-/** What closes the dialog and acts. */
 const closing = (act) => () => {
   box.close();
   act();

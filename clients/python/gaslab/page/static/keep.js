@@ -30,8 +30,7 @@ export function takeKept() {
   return kept;
 }
 
-/** Reads a file: { snapshot }, { size, lines, .. } or { fault } in plain words. Nothing has been opened yet.
-    Of a script `numbers` has the place of each line in the file, `count` how many lines that has. */
+/** What is in a file: { snapshot }, { size, lines, numbers: their places, count, .. } or { fault }. */
 export function lessonOf(bytes) {
   if (new TextDecoder("latin1").decode(bytes.subarray(0, 6)) === "HPPGAS") return readSnapshot(bytes)
     ? { snapshot: bytes } : { fault: "This snapshot is damaged. Nothing was opened." };

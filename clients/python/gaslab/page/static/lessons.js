@@ -1,6 +1,4 @@
-// The lessons and scenes, as tools/page_lessons makes them from examples/: what is loaded, and the text
-// beside the gas. `setup` is the script up to its first step; the person plays the rest. In `tries` a line
-// that begins with a dot is a word to the page's server. `first` is sent before the first drawing.
+// The lessons and scenes, as tools/page_lessons makes them. `first` is sent before the first drawing.
 import data from "./lessons.json";
 
 export const { lessons: LESSONS, scenes: SCENES } = data;

@@ -1,5 +1,4 @@
-// The page's side of the messages, over a WebSocket or to a worker that the page has with it: numbers the
-// lines, pairs replies and files with them, hands out events and pictures.
+// The page's side of the messages, over a WebSocket or to a worker: numbers lines, pairs replies with them.
 import { decode } from "./frame.js";
 
 const EVENTS = ["hello", "links", "open", "seat", "entry", "play", "pause"];
@@ -105,7 +104,6 @@ export class Link {
     } else if (EVENTS.includes(words[0])) this.on[words[0]](words.slice(1));
   }
 
-  /** Takes a picture, or a file of a line. */
   takeParts({ line, ...parts }) {
     if (line !== undefined) this.waiting.get(line)?.files.push(parts);
     else {

@@ -1,12 +1,10 @@
-// What is said to the person: a box beside a gesture, a banner above the page, words for a screen reader, and
-// the log of what was sent, with the last exchange beside the command line.
+// What is said to a person: a box beside a gesture, a banner, words for a screen reader, and the log.
 import { at, button, fill, h } from "./dom.js";
 import { plainWords, isRefusal } from "./facts.js";
 import { state } from "./state.js";
 import { view } from "./canvas.js";
 
-/** Shows a box. `does` are its buttons, [name, action] each; `rect` is its place on the gas, or null: above
-    Play. */
+/** Shows a box beside a rectangle of the gas, or above Play. `does` are its buttons, [name, action] each. */
 export function notice({ title, text, code = "", does = [], rect = null }) {
   fill(at("callout"), h("b", title), h("span.words", text), code && h("code", code),
     h("div.does", does.map((one) => button(...one))),

@@ -1,5 +1,4 @@
-// What opens a gas: lessons, files and what was kept over a reload, and the text beside it. The gas before
-// can be brought back.
+// What opens a gas: lessons, files and what was kept over a reload; and the text beside it.
 import { at, fill, h, words } from "./dom.js";
 import { plainWords, isRefusal } from "./facts.js";
 import { EMPTY, find, kindOf } from "./lessons.js";
@@ -45,8 +44,7 @@ export async function load(lesson, size = lesson.size) {
   if (lesson.play && !matchMedia("(prefers-reduced-motion: reduce)").matches) await play();
 }
 
-/** Opens a script or a snapshot that was read and checked whole, beside a lesson's text or its own. A script
-    that began from a snapshot asks for that first. */
+/** Opens a script or a snapshot. A script that began from a snapshot asks for that first. */
 export async function openBytes(name, bytes, lesson = null, snapshot = null) {
   const read = lessonOf(bytes), found = snapshot && lessonOf(snapshot);
   const refused = (text, does) => notice({ title: `${name} was not opened`, text, does });
@@ -119,7 +117,6 @@ function showLesson() {
   at("lesson").scrollTop = 0;
 }
 
-/** A button that shows the lines it sends. */
 const tryButton = (one) => h("li", h("button", { onclick: () => doTry(one) }, h("span", one.say),
   h("code", one.lines.map(shown).join(" · "))));
 

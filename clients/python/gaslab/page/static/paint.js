@@ -11,7 +11,7 @@ const isSolid = (kind) => kind === 1 || kind === 2;
 // of the last pictures: even enough that the stream of lesson 4 doesn't flash
 const WEIGHTS = [.22, .24, .26, .28];
 const STALE = 16;          // pictures after which one is too old for a mean
-const FLASHING = 21800;    // pixels, WCAG 2.3.1
+const FLASHING = 21800;    // pixels that may change more than three times a second
 const BIG = 1 << 20;       // cells from which no mean of pictures is made
 const MEAN = 8;            // pictures of a mean density
 const POP = Uint8Array.from({ length: 256 },
@@ -19,7 +19,7 @@ const POP = Uint8Array.from({ length: 256 },
 
 /** How many particles are in each square of q by q cells. */
 export function countSquares({ width, height, particles }, q) {
-  const across = width / q, bytes = width / 8, counts = new Float32Array(across * height / q);
+  const across = width / q, bytes = width / 8, counts = new Uint16Array(across * height / q);
   particles.forEach((v, at) => {
     const first = Math.floor(Math.floor(at / bytes) / q) * across, k = at % bytes;
     if (q === 4) { counts[first + 2 * k] += POP[v >> 4]; counts[first + 2 * k + 1] += POP[v & 15]; }
@@ -28,7 +28,6 @@ export function countSquares({ width, height, particles }, q) {
   return counts;
 }
 
-/** The mean of pixels, each with its weight. */
 function mix(pixels, weights) {
   const whole = weights.reduce((a, b) => a + b);
   return rgb(...[0, 8, 16].map((shift) =>
@@ -41,7 +40,6 @@ const SHADES = Uint32Array.from({ length: 256 }, (_, n) => {
   return mix(STOPS.slice(low, low + 2), [low + 1 - place, place - low]);
 });
 
-/** A canvas with its pixels as words. */
 class Sheet {
   constructor() { this.canvas = h("canvas"); this.context = this.canvas.getContext("2d"); }
 
@@ -92,9 +90,7 @@ export class Painter {
     return resized;
   }
 
-  /** Keeps the last pictures of four ticks for a mean. While a gas plays quickly and fills a part of what is
-      seen, single ticks would flash: a cell may change three times a second, or changing cells cover 21,800
-      pixels. */
+  /** Keeps the last pictures of four ticks for a mean, where single ticks would flash: WCAG 2.3.1. */
   remember(p, isOther) {
     const before = this.recent.at(-1);
     const isNew = isOther || !p.playing || before && p.number < before.number;
@@ -217,7 +213,8 @@ export class Painter {
     const { picture: { width, height, number }, square: q, past } = this, most = this.isMean ? MEAN : 1;
     const isSame = past.at(-1)?.square === q && past.length <= most;
     if (past.at(-1)?.number !== number || !isSame)
-      this.past = [...isSame ? past : [], { number, square: q, counts: countSquares(this.picture, q) }].slice(-most);
+      this.past = [...isSame ? past : [], { number, square: q, counts: countSquares(this.picture, q) }]
+        .slice(-most);
     this.coarse.resize(width / q, height / q);
     const { pixels } = this.coarse, sums = new Float32Array(pixels.length);
     for (const { counts } of this.past) for (let k = 0; k < sums.length; k++) sums[k] += counts[k];

@@ -46,7 +46,6 @@ class Plots {
     this.redraw(true);
   }
 
-  /** The obstacles' account begins anew. */
   newLedger() { Object.assign(this, { recent: [], last: null }); }
 
   toggle(id) {
@@ -84,8 +83,7 @@ class Plots {
     this.putValues(p);
   }
 
-  /** The drag up to a tick, or null. The mean begins a multiple of four ticks before, which divides the
-      stream's period, also when pictures are skipped. */
+  /** The drag up to a tick, or null: a mean over a multiple of four ticks, the stream's period. */
   drag({ tick, ledger }) {
     const far = this.recent.filter((r) => Math.abs(tick - r.tick) >= WINDOW);
     const first = far.findLast((r) => (tick - r.tick) % 4 === 0) ?? far.at(-1) ?? this.recent[0];
@@ -101,8 +99,7 @@ class Plots {
     this.redraw();
   }
 
-  /** The values of the last runs: names of columns, and rows of a tick with its values. Each run, forward or
-      back, has a column of its own for each value. */
+  /** The values of the last runs, a column each: its name, and rows of a tick with its values. */
   curves(id) {
     let kept = this.records.filter(({ run }) => run > this.run - KEPT);
     while (kept.length > POINTS) kept = halved(kept);
@@ -222,7 +219,6 @@ class Plots {
     c.restore();
   }
 
-  /** A plot with its labels, as a canvas. */
   picture(id) {
     const box = at(`plot-${id}`), from = box.getBoundingClientRect(), ratio = 2;
     const canvas = h("canvas", { width: from.width * ratio, height: (from.height + 26) * ratio });

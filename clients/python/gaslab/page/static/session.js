@@ -117,7 +117,6 @@ view.onFrame = () => {
   } catch (fault) { state.link.strange(fault); }
 };
 
-/** Counts pictures and steps of each second. */
 function measure({ tick, steps, rate }) {
   const now = performance.now(), seconds = (now - seen.since) / 1000;
   if (seconds < 1) return;
@@ -126,8 +125,7 @@ function measure({ tick, steps, rate }) {
   Object.assign(seen, { since: now, drawn: 0, made: 0, tick });
 }
 
-/** Sends lines that a person asked for. Resolves to their replies. `where` says how a refusal is shown:
-    `rect` is its place on the gas, `isTime` that time was to move, `isQuiet` that the caller shows it. */
+/** Sends a person's lines. A refusal is shown at `rect`, as one of time, or by the caller if `isQuiet`. */
 export async function send(lines, where = {}) {
   hideNotice();
   edits.begin();
@@ -145,7 +143,6 @@ export function isWatching(rect = null) {
   return state.rights === "watch";
 }
 
-/** Shows a refusal where it happened. */
 function refuse(reply, line, where) {
   if (where.isTime && reply.startsWith("ERR 11")) {
     state.change({ refusedBack: state.refusedBack + 1 });
@@ -158,8 +155,7 @@ function refuse(reply, line, where) {
     code: line && `${shown}  →  ${reply}` });
 }
 
-/** Goes on with a new journal after the full one and the gas were saved. Probes, plots and play stay, and
-    what was refused is sent again. */
+/** Goes on with a new journal after the full one was saved. What was refused is sent again. */
 async function goOn({ lines = [], wasPlaying = false }) {
   for (const word of [".script", ".snapshot"]) await saveFile(word);
   keepsPlots = true;

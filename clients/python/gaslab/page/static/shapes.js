@@ -36,8 +36,7 @@ export function stroke(cells, size, snap) {
   return cover([x, y, w, h], (i, j) => held[(j - y) * w + i - x]);
 }
 
-/** Few rectangles that cover the cells which pass a test, and no other. They may overlap: of all that begin
-    with the row of the first cell that is left, the largest is taken. */
+/** Few rectangles that cover the cells which pass a test, and no other. They may overlap. */
 export function cover([x, y, w, h], test) {
   const held = new Uint8Array(w * h), out = [];
   for (let j = 0; j < h; j++) for (let i = 0; i < w; i++) held[j * w + i] = test(x + i, y + j) ? 1 : 0;
@@ -50,7 +49,6 @@ export function cover([x, y, w, h], test) {
   return out;
 }
 
-/** The largest rectangle of held cells with a cell in its top row. */
 function largest(held, w, h, i, j) {
   let from = 0, to = w, best = [i, j, 1, 1];
   for (let row = j; row < h && held[row * w + i]; row++) {
@@ -64,8 +62,7 @@ function largest(held, w, h, i, j) {
   return best;
 }
 
-/** `row` lines that lay a random gas into a rectangle, and keep what is outside it. Solid cells stay empty.
-    Density and drifts are percents. */
+/** `row` lines that lay a random gas into a rectangle. Density and drifts are percents. */
 export function randomGas(view, [x, y, w, h], { density, right, down }) {
   const isFull = (i, j) => {
     if (i < x || i >= x + w) return view.has(i, j);

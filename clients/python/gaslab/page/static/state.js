@@ -35,7 +35,6 @@ class State extends EventTarget {
 
   constructor() { super(); Object.seal(this); }
 
-  /** Sets fields, and tells the views once. */
   change(fields) {
     Object.assign(this, fields);
     this.dispatchEvent(new CustomEvent("changed", { detail: fields }));

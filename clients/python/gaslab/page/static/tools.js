@@ -17,7 +17,6 @@ const options = { shape: "rectangle", snap: 1, way: "1 1", period: 1, density: 5
 const hasShapes = (tool) => ["put", "erase", "wall", "block", "unwall"].includes(tool.id);
 const lineOf = (tool, rect) => tool.line.replace("RECT", rect.join(" ")).replace("PERIOD", options.period);
 
-/** The rectangles of a gesture through cells. */
 function rectsOf(cells) {
   const tool = toolOf(state.tool);
   if (tool.cell) return [[...cells[0], 1, 1]];
@@ -89,8 +88,7 @@ const buttons = [...TOOLS.map(({ id, name, hint, key, gap, icon: shapes }) =>
     { "data-tool": id, title: `${hint} (${key})`, onclick: () => state.change({ tool: id }) },
     icon(shapes), h("span", name))), undoButton];
 
-/** Says something of the gas below it: an element's children, or null for the tool's hint. `isSpoken` tells a
-    screen reader too. */
+/** Says something below the gas, or the tool's hint. `isSpoken` tells a screen reader too. */
 export function showWords(children, isSpoken = false) {
   const hasTask = state.lesson.task && !state.tried, tool = toolOf(state.tool);
   words.hidden = isSpoken;

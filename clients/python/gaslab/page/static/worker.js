@@ -66,7 +66,6 @@ function command({ seat }, line) {
   return reply;
 }
 
-/** Sends files that a line of this number asked for. */
 function give({ send }, line, files) {
   for (const [name, contents] of Object.entries(files)) if (contents) send({ line, name, contents });
   return "DONE";
