@@ -25,6 +25,7 @@ export class View extends Painter {
     this.onFrame = () => this.draw();
   }
 
+  /** Draws with the next frame. */
   redraw() {
     if (this.#waits) return;
     this.#waits = true;
@@ -52,26 +53,22 @@ export class View extends Painter {
 
   zoom(factor, px, py) {
     if (!this.picture) return;
-    const x = this.left + px / this.scale, y = this.top + py / this.scale, [cw, ch] = this.size;
-    const least = Math.min(cw / this.picture.width, ch / this.picture.height) * .75;
-    this.scale = Math.max(Math.min(this.scale * factor, MOST), least);
-    this.left = x - px / this.scale;
-    this.top = y - py / this.scale;
-    this.clamp();
+    const { scale, picture: { width, height }, size: [cw, ch] } = this;
+    this.scale = Math.max(Math.min(scale * factor, MOST), Math.min(cw / width, ch / height) * .75);
+    this.pan(px - px * this.scale / scale, py - py * this.scale / scale);
   }
 
-  pan(dx, dy) { this.left -= dx / this.scale; this.top -= dy / this.scale; this.clamp(); }
-
-  clamp() {
-    const { width, height } = this.picture, [cw, ch] = this.size;
+  pan(dx, dy) {
+    const { scale, picture: { width, height }, size: [cw, ch] } = this;
     const bound = (from, side, shown) => shown >= side ? Math.min(Math.max(from, side - shown), 0)
       : Math.min(Math.max(from, -shown * .1), side - shown * .9);
     this.fitted = false;
-    this.left = bound(this.left, width, cw / this.scale);
-    this.top = bound(this.top, height, ch / this.scale);
+    this.left = bound(this.left - dx / scale, width, cw / scale);
+    this.top = bound(this.top - dy / scale, height, ch / scale);
     this.redraw();
   }
 
+  /** Shows what is being drawn, or nothing. */
   select(selection = null) { this.selection = selection; this.redraw(); }
 
   /** Moves so that a cell is seen. */
@@ -103,24 +100,25 @@ export class View extends Painter {
   }
 
   draw() {
-    const { canvas, context: c, picture } = this, ratio = devicePixelRatio || 1, [cw, ch] = this.size;
+    const { canvas, context: c, picture, scale, size: [cw, ch] } = this, ratio = devicePixelRatio || 1;
     const [width, height] = this.size.map((side) => Math.round(side * ratio));
     const isDensity = this.mode === "density";
     if (canvas.width !== width || canvas.height !== height) Object.assign(canvas, { width, height });
     c.setTransform(ratio, 0, 0, ratio, 0, 0);
-    c.fillStyle = COLOURS.mat;
-    c.fillRect(0, 0, cw, ch);
+    this.fill(COLOURS.mat, [0, 0, cw, ch]);
     if (!picture) return;
-    const all = this.box([0, 0, picture.width, picture.height]), pixels = this.scale * ratio;
+    const all = this.box([0, 0, picture.width, picture.height]), pixels = scale * ratio, least = 1 / scale;
     const shown = isDensity ? this.paintDensity() : pixels <= .5 ? this.paintHalf()
       : this.paintCells(this.visible());
-    c.imageSmoothingEnabled = pixels < 1 && !isDensity;
-    c.imageSmoothingQuality = "low";
+    Object.assign(c, { imageSmoothingEnabled: pixels < 1 && !isDensity, imageSmoothingQuality: "low" });
     c.drawImage(shown, ...all);
-    if (isDensity) this.drawSolids();
+    for (const [[x, y, w, h], kind] of isDensity ? this.solids() : []) this.fill(
+      COLOURS[kind === 2 ? "obstacle" : "wall"], this.box([x, y, Math.max(w, least), Math.max(h, least)]));
     this.frame([all[0] - .5, all[1] - .5, all[2] + 1, all[3] + 1], [COLOURS.edge, 1]);
-    if (this.scale >= ZOOM.grid && !isDensity) this.drawGrid();
-    this.drawPorts();
+    if (scale >= ZOOM.grid && !isDensity) this.drawGrid();
+    for (const drain of this.ports.drains) this.outline(drain, COLOURS.drainEdge, "drain");
+    for (const source of this.ports.sources)
+      this.outline(source, COLOURS.sourceEdge, source[4] === 1 ? "source" : `source, every ${source[4]}`);
     for (const { rect, name } of this.probes) this.outline(rect, COLOURS.ink, name, [5, 3]);
     if (this.trail.length) this.drawTrail();
     if (this.cursor) this.outline([...this.cursor, 1, 1], COLOURS.cursor);
@@ -129,11 +127,16 @@ export class View extends Painter {
     this.onDraw();
   }
 
+  fill(colour, box) {
+    this.context.fillStyle = colour;
+    this.context.fillRect(...box);
+  }
+
   /** Strokes a path in each of these looks: [colour, width, dashes]. */
   stroke(path, ...looks) {
     const { context: c } = this;
-    for (const [colour, width, dash = []] of looks) {
-      Object.assign(c, { strokeStyle: colour, lineWidth: width });
+    for (const [strokeStyle, lineWidth, dash = []] of looks) {
+      Object.assign(c, { strokeStyle, lineWidth });
       c.setLineDash(dash);
       c.stroke(path);
     }
@@ -141,14 +144,6 @@ export class View extends Painter {
   }
 
   frame(box, ...looks) { this.stroke(rectangle(box), ...looks); }
-
-  drawSolids() {
-    for (const [rect, kind] of this.solids()) {
-      const [x, y, w, h] = this.box(rect);
-      this.context.fillStyle = kind === 2 ? COLOURS.obstacle : COLOURS.wall;
-      this.context.fillRect(x, y, Math.max(w, 1), Math.max(h, 1));
-    }
-  }
 
   drawGrid() {
     const { scale } = this, t = this.parity, { x0, y0, x1, y1 } = this.visible();
@@ -171,14 +166,13 @@ export class View extends Painter {
   /** A ring round each block in which particles collide, dashed where they bounce. */
   drawMarks(x0, y0, x1, y1) {
     const { context: c } = this, { width, height } = this.picture, { ink, white, halo } = COLOURS;
+    const looks = { collides: [[white, 5], [ink, 2.5]], bounces: [[halo, 4], [ink, 2, [4, 3]]] };
     c.save();
     c.clip(rectangle(this.box([0, 0, width, height])));
     for (let y = y0; y < y1; y += 2) for (let x = x0; x < x1; x += 2) {
       const [bx, by, w] = this.box([x, y, 2, 2]);
-      const fate = this.fate((x + width) % width, (y + height) % height);
-      const ring = rectangle([bx + 1.5, by + 1.5, w - 3, w - 3], this.scale / 2.5);
-      if (fate === "collides") this.stroke(ring, [white, 5], [ink, 2.5]);
-      else if (fate === "bounces") this.stroke(ring, [halo, 4], [ink, 2, [4, 3]]);
+      const look = looks[this.fate((x + width) % width, (y + height) % height)] ?? [];
+      this.stroke(rectangle([bx + 1.5, by + 1.5, w - 3, w - 3], this.scale / 2.5), ...look);
     }
     c.restore();
   }
@@ -189,25 +183,16 @@ export class View extends Painter {
     for (let y = y0; y < y1; y++) for (let x = x0; x < x1; x++) {
       if (!this.has(x, y)) continue;
       const [vx, vy] = this.way(x, y), [mx, my] = this.box([x + .5, y + .5, 0, 0]);
-      const path = this.isSolidAt(x, y) || this.mode === "velocity" && vx !== vy ? dark : light;
-      const ex = mx + vx * r, ey = my + vy * r;
-      path.moveTo(mx - vx * r, my - vy * r);
-      path.lineTo(ex, ey);
-      path.moveTo(ex - vx * r * .95, ey);
-      path.lineTo(ex, ey);
-      path.lineTo(ex, ey - vy * r * .95);
+      const ex = mx + vx * r, ey = my + vy * r, isYellow = this.mode === "velocity" && vx !== vy;
+      const arrow = `M${mx - vx * r} ${my - vy * r}L${ex} ${ey}M${ex - vx * r * .95} ${ey}h${vx * r * .95}`;
+      const path = isYellow || this.isSolidAt(x, y) ? dark : light;
+      path.addPath(new Path2D(`${arrow}v${-vy * r * .95}`));
     }
     c.save();
     c.lineCap = c.lineJoin = "round";
     this.stroke(light, [COLOURS.white, Math.max(1.25, scale / 14)]);
     this.stroke(dark, [COLOURS.ink, Math.max(1.25, scale / 14)]);
     c.restore();
-  }
-
-  drawPorts() {
-    for (const drain of this.ports.drains) this.outline(drain, COLOURS.drainEdge, "drain");
-    for (const source of this.ports.sources)
-      this.outline(source, COLOURS.sourceEdge, source[4] === 1 ? "source" : `source, every ${source[4]}`);
   }
 
   drawTrail() {
@@ -249,9 +234,8 @@ export class View extends Painter {
 
   /** Where a lesson asks for a first drawing; gone with the first gesture. */
   drawGhost() {
-    const { context: c } = this, box = this.box(this.ghost), [x, y, w, h] = box;
-    c.fillStyle = COLOURS.ghost;
-    c.fillRect(...box);
+    const box = this.box(this.ghost), [x, y, w, h] = box;
+    this.fill(COLOURS.ghost, box);
     this.frame(box, [COLOURS.mark, 2, [6, 4]]);
     this.tag("draw here", COLOURS.mark, (wide) => [x + w / 2 - wide / 2, y + h + 6],
       { font: `600 13px ${SANS}`, height: 21, pad: 6 });
@@ -259,22 +243,17 @@ export class View extends Painter {
 
   /** What is being drawn. A dashed line shows where a wall stops particles: one cell more on each side. */
   drawSelection() {
-    const { context: c } = this, { rects, colour, reach, line, bad } = this.selection;
-    const isOne = rects.length === 1, [x, y, w, h] = rects[0], { white } = COLOURS;
+    const { context: c, selection: { rects, colour, reach, line, bad }, size: [cw, ch] } = this;
+    const isOne = rects.length === 1, [x, y, w, h] = rects[0], [left, top, , tall] = this.box(rects.at(-1));
     c.globalAlpha = .68;
-    c.fillStyle = colour;
-    for (const rect of rects) c.fillRect(...this.box(rect));
+    for (const rect of rects) this.fill(colour, this.box(rect));
     c.globalAlpha = 1;
-    if (isOne) this.frame(this.box(rects[0]), [white, 4], [bad ? COLOURS.bad : COLOURS.ink, 2]);
+    if (isOne) this.frame(this.box(rects[0]), [COLOURS.white, 4], [bad ? COLOURS.bad : COLOURS.ink, 2]);
     if (isOne && reach && this.scale >= 4)
       this.frame(this.box([x - 1, y - 1, w + 2, h + 2]), [COLOURS.mark, 1.5, [4, 4]]);
-    if (!bad) this.drawLine(line, this.box(rects.at(-1)));
-  }
-
-  drawLine(line, [x, y, , h]) {
-    const [cw, ch] = this.size, below = y + h + 12, above = y - 38 > 0 ? y - 38 : 6;
-    this.tag(line, COLOURS.ink,
-      (wide) => [Math.min(Math.max(x, 4), cw - wide - 4), below + 26 < ch ? below : above],
+    const below = top + tall + 12, above = top - 38 > 0 ? top - 38 : 6;
+    if (!bad) this.tag(line, COLOURS.ink,
+      (wide) => [Math.min(Math.max(left, 4), cw - wide - 4), below + 26 < ch ? below : above],
       { font: MONO, height: 26, pad: 8 });
   }
 }

@@ -121,12 +121,12 @@ export class Painter {
     });
   }
 
-  has(x, y, set = this.picture.particles) {
-    const at = y * this.picture.width + x;
-    return set[at >> 3] >> (7 - (at & 7)) & 1;
-  }
-
   get parity() { return this.picture.tick & 1; }
+
+  has(x, y) {
+    const at = y * this.picture.width + x;
+    return this.picture.particles[at >> 3] >> (7 - (at & 7)) & 1;
+  }
 
   /** The way of a particle in a cell at the present tick: [1 right or -1 left, 1 down or -1 up]. */
   way(x, y) { const t = this.parity; return [(x + t) & 1 ? -1 : 1, (y + t) & 1 ? -1 : 1]; }
@@ -186,16 +186,13 @@ export class Painter {
     const out = half.pixels, colours = this.patterns();
     for (let y = 0; y < height; y += 2) {
       let a = y * bytes, b = a + bytes, at = y / 2 * width / 2;
-      for (const end = b; a < end; a++, b++, at += 4) {
-        const u = particles[a], l = particles[b];
-        out[at] = colours[u >> 4 & 12 | l >> 6]; out[at + 1] = colours[u >> 2 & 12 | l >> 4 & 3];
-        out[at + 2] = colours[u & 12 | l >> 2 & 3]; out[at + 3] = colours[u << 2 & 12 | l & 3];
-        if (special[a] | special[b]) for (let c = 0; c < 4; c++) {
-          const g = y * width + (a % bytes) * 8 + 2 * c,
-            all = [g, g + 1, g + width, g + width + 1].map((k) => ground[k]);
-          const kind = all.find(isSolid) || (out[at + c] === C.empty ? all.find((k) => k) : 0);
-          if (kind) out[at + c] = GROUNDS[kind];
-        }
+      for (const end = b; a < end; a++, b++) for (let c = 0; c < 4; c++, at++) {
+        const shift = 6 - 2 * c, cell = 8 * a + 2 * c;
+        out[at] = colours[(particles[a] >> shift & 3) << 2 | particles[b] >> shift & 3];
+        if (!(special[a] | special[b])) continue;
+        const all = [0, 1, width, width + 1].map((k) => ground[cell + k]);
+        const kind = all.find(isSolid) || (out[at] === C.empty ? all.find((k) => k) : 0);
+        if (kind) out[at] = GROUNDS[kind];
       }
     }
     return half.put();

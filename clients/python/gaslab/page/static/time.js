@@ -8,13 +8,8 @@ import { send, play, pause, isWatching } from "./session.js";
 
 const LOUD = 6000, HELD = 340, SPOKEN = 10000;      // milliseconds
 const NEARLY = .9;         // of a journal
+const slider = at("tick-slider");
 let loudUntil = 0, steppedAt = 0, spokenAt = 0, isPulled = false;
-
-function toggle() {
-  if (isWatching()) return;
-  if (state.playing) send([".pause"]);
-  else play();
-}
 
 async function step(n, isBack = false) {
   if (isWatching()) return;
@@ -29,10 +24,9 @@ export const isTooSoon = () => performance.now() - steppedAt < HELD;
 
 function goTo(tick) {
   if (isWatching() || !state.picture) return;
-  const far = tick - state.picture.tick;
+  const far = tick - state.picture.tick, steps = Math.max(1, Math.min(4096, Math.ceil(Math.abs(far) / 60)));
   if (view.hasPorts && far < 0) refuseBack();
-  else send([`.goto ${tick} ${Math.max(1, Math.min(4096, Math.ceil(Math.abs(far) / 60)))} 60`],
-    { isTime: true });
+  else send([`.goto ${tick} ${steps} 60`], { isTime: true });
 }
 
 export function setSpeed(speed) {
@@ -45,22 +39,21 @@ function refuseBack() { state.change({ refusedBack: state.refusedBack + 1 }); }
 function showSpeed() {
   const [steps, rate] = SPEEDS[state.speed], text = `${plural(steps * rate, "step")} a second`;
   at("speed").value = state.speed;
-  at("speed").setAttribute("aria-valuetext", text);
+  at("speed").ariaValueText = text;
   setText(at("speed-text"), text);
 }
 
 function showTime() {
   const { isOff, picture: p } = state, ports = view.hasPorts, word = state.playing ? "Pause" : "Play";
   if (at("play").textContent !== word) at("play").replaceChildren(icon(ICONS[word.toLowerCase()]), word);
-  for (const id of ["play", "step"]) at(id).setAttribute("aria-disabled", isOff);
-  for (const id of ["back", "rewind"]) at(id).setAttribute("aria-disabled", isOff || ports);
-  at("tick-slider").disabled = isOff || ports;
+  for (const id of ["play", "step"]) at(id).ariaDisabled = isOff;
+  for (const id of ["back", "rewind"]) at(id).ariaDisabled = isOff || ports;
+  slider.disabled = isOff || ports;
   at("ticks").hidden = ports;
   if (p && !isPulled) {
-    at("tick-slider").min = Math.min(state.least, 0);
-    at("tick-slider").max = Math.max(state.furthest, 1);
-    at("tick-slider").value = p.tick;
-    setText(at("tick-text"), say(state.furthest));
+    const { least, furthest } = state;
+    Object.assign(slider, { min: Math.min(least, 0), max: Math.max(furthest, 1), value: p.tick });
+    setText(at("tick-text"), say(furthest));
   }
   showReason();
   if (p?.playing && performance.now() - spokenAt > SPOKEN) {
@@ -74,47 +67,52 @@ function noWayBack() {
   return `No way back: ${kinds.filter(([n]) => n).map(([n, one]) => plural(n, one)).join(", ")}.`;
 }
 
-/** Why time can't be had, or what is to be known of it: [text, whether ports are the reason]. */
+/** Why time can't be had, or what is to be known of it. */
 function reason() {
   const { picture: p, cap, pace, acted } = state;
-  if (state.isOff || !p) return ["", false];
-  if (view.hasPorts && performance.now() < loudUntil) return [noWayBack(), true];
-  if (p.journal > NEARLY * cap) return [`The journal is ${p.journal < cap ? "nearly " : ""}full: `
-      + `${say(p.journal)} of ${say(cap)} entries.`, false];
+  if (state.isOff || !p) return "";
+  if (view.hasPorts && performance.now() < loudUntil) return noWayBack();
+  if (p.journal > NEARLY * cap)
+    return `The journal is ${p.journal < cap ? "nearly " : ""}full: `
+      + `${say(p.journal)} of ${say(cap)} entries.`;
   if (p.playing && pace?.made > 3 && pace.drawn < pace.made * .75)
-    return [`Skipping pictures: ${Math.round(pace.drawn)} of ${Math.round(pace.made)} a second are drawn. `
-      + "No step is missed.", false];
+    return `Skipping pictures: ${Math.round(pace.drawn)} of ${Math.round(pace.made)} a second are drawn. `
+      + "No step is missed.";
   if (p.playing && pace?.asked > 10 && pace.steps < pace.asked * .75)
-    return [`Asked for ${say(pace.asked)} steps a second, made ${say(Math.round(pace.steps))}.`, false];
-  if (view.hasPorts) return [noWayBack(), true];
-  return [p.tick < acted ? `Ports acted until tick ${say(acted)}: this is another past.` : "", false];
+    return `Asked for ${say(pace.asked)} steps a second, made ${say(Math.round(pace.steps))}.`;
+  if (view.hasPorts) return noWayBack();
+  return p.tick < acted ? `Ports acted until tick ${say(acted)}: this is another past.` : "";
 }
 
 function showReason() {
-  const [text, isPorts] = reason(), box = at("reason");
+  const text = reason(), box = at("reason");
   box.hidden = !text;
   box.classList.toggle("loud", performance.now() < loudUntil);
   if (box.dataset.text === text) return;
   box.dataset.text = text;
   box.replaceChildren(h("span", { role: "status" }, text));
-  if (isPorts)
+  if (view.hasPorts && text === noWayBack())
     box.append(h("button", { onclick: () => send(["unport"]) }, "Remove them: ", h("code", "unport")));
 }
 
 for (const id of ["step", "back", "rewind"]) at(id).append(icon(ICONS[id]));
-at("play").onclick = toggle;
+at("play").onclick = () => {
+  if (isWatching()) return;
+  if (state.playing) send([".pause"]);
+  else play();
+};
 at("step").onclick = ({ shiftKey }) => step(shiftKey ? 10 : 1);
 at("back").onclick = ({ shiftKey }) => step(shiftKey ? 10 : 1, true);
 at("rewind").onclick = () => goTo(0);
 at("speed").max = SPEEDS.length - 1;
 at("speed").oninput = () => setSpeed(at("speed").valueAsNumber);
-at("tick-slider").oninput = () => {
+slider.oninput = () => {
   isPulled = true;
   pause();
-  setText(at("tick-text"), `to ${say(at("tick-slider").valueAsNumber)}`);
+  setText(at("tick-text"), `to ${say(slider.valueAsNumber)}`);
 };
-at("tick-slider").onchange = async () => {
-  const aim = at("tick-slider").valueAsNumber;
+slider.onchange = async () => {
+  const aim = slider.valueAsNumber;
   await pause();
   isPulled = false;
   goTo(aim);
