@@ -1,4 +1,7 @@
-// Elements of the page: found by id, or made from text without markup.
+// Elements of the page, what it knows from facts.json, and buttons that belong together.
+import facts from "./facts.json";
+
+// ---- elements of the page: found by id, or made from text without markup
 export const at = (id) => document.getElementById(id);
 export const SANS = getComputedStyle(document.body).fontFamily;
 
@@ -48,3 +51,55 @@ export function setText(element, text) { if (element.textContent !== text) eleme
 const numbers = new Intl.NumberFormat("en-GB", { maximumFractionDigits: 3 });
 export const say = (n) => numbers.format(Object.is(n, -0) ? 0 : n).replace("-", "−");
 export const plural = (n, one) => `${say(n)} ${one}${n === 1 ? "" : "s"}`;
+
+// ---- what the page and its server both know, and refusals in plain words
+export const { colours: COLOURS, curves: CURVES, ramp: RAMP, zoom: ZOOM, commands: COMMANDS, keys: KEYS,
+  always: ALWAYS, moves: MOVES, cursor: CURSOR, tools: TOOLS, icons: ICONS, truth: TRUTH, plots: PLOTS,
+  ledgerRows: ROWS, ways: WAYS, choices: CHOICES, shares: SHARES, kinds: KINDS, fates: FATES } = facts;
+export const toolOf = (id) => TOOLS.find((tool) => tool.id === id);
+export const isRefusal = (reply) => /^(NO|ERR|GONE)/.test(reply);
+
+/** A refusal in plain words: what is wrong, and what to do. `picture` is that of the gas, if there is one. */
+export function plainWords(reply, line = "", picture = null) {
+  const [kind, what] = reply.split(" "), word = line.trim().split(/ +/)[0];
+  const { width, height } = picture ?? { width: 64, height: 64 };
+  if (kind === "GONE") return facts.refusals.gone;
+  const isRow = what === "5" && ["row", "read"].includes(word);
+  const text = facts.refusals[isRow ? "5 row" : what] ?? facts.refusals[""];
+  const named = { word: word.slice(0, 24), shape: COMMANDS[word]?.[0] ?? "help", width: say(width),
+    height: say(height), last: height - 1, digits: width / 4 };
+  return text.replace(/\{(\w+)\}/g, (_, name) => named[name]);
+}
+
+// ---- buttons that belong together: one of them is chosen, and arrow keys go from one to the next
+/** Marks one of some buttons by an attribute. Tab then stops at that one alone. */
+export function choose(buttons, isChosen, attribute) {
+  for (const button of buttons) {
+    button.setAttribute(attribute, isChosen(button));
+    button.tabIndex = isChosen(button) ? 0 : -1;
+  }
+}
+
+/** Lets arrow keys move the focus among buttons, and press the one that they reach if `presses`. */
+export function rove(box, buttons, presses = false) {
+  box.onkeydown = (e) => {
+    const [dx, dy] = MOVES[e.key] ?? [0, 0], place = buttons.indexOf(document.activeElement);
+    if (place < 0 || !(dx || dy)) return;
+    e.preventDefault();
+    e.stopPropagation();
+    const next = buttons[(place + dx + dy + buttons.length) % buttons.length];
+    next.focus();
+    if (presses) next.click();
+  };
+}
+
+/** Buttons of which one is pressed: [value, text, name] each. */
+export function choices(name, all, chosen, act) {
+  const press = (value) => {
+    act(value);
+    buttons.forEach((button, k) => button.setAttribute("aria-pressed", all[k][0] === value));
+  };
+  const buttons = all.map(([value, text, label = text]) => h("button", { title: label, "aria-label": label,
+    "aria-pressed": String(value === chosen), onclick: () => press(value) }, text));
+  return h("span.segments", { role: "group", "aria-label": name }, buttons);
+}

@@ -1,8 +1,8 @@
 // The edits that can be undone: one list of all, newest last. What can't be undone stays in it and says why.
-import { view } from "./canvas.js";
 import { Lab, fromSnapshot, hexOf } from "./engine.js";
-import { snapshotOf } from "./keep.js";
 import { around, cover } from "./shapes.js";
+import { view } from "./canvas.js";
+import { snapshotOf } from "./files.js";
 
 const MOST = 100, PLANES = ["particles", "walls", "obstacles"], SOLIDS = PLANES.slice(1);
 /** The planes that a command can change. Others change ports. */

@@ -1,6 +1,5 @@
 // What is said to a person: a box beside a gesture, a banner, words for a screen reader, and the log.
-import { at, button, fill, h } from "./dom.js";
-import { plainWords, isRefusal } from "./facts.js";
+import { at, button, fill, h, plainWords, isRefusal } from "./dom.js";
 import { state } from "./state.js";
 import { view } from "./canvas.js";
 
@@ -43,7 +42,6 @@ export function hideBanner() { at("banner").hidden = true; }
 export function speak(text) { at("spoken").textContent = text; }
 
 // ---- the log
-
 const KEPT = 400, LONGEST = 60;
 const short = (text, most) => text.length > most ? `${text.slice(0, most - 3)}…` : text;
 let rows = null;           // rows of one seat that came one after the other: { who, count, cell }

@@ -1,8 +1,7 @@
 // The plots: values of each picture by tick, kept in runs, and drawn by dygraphs.
-import { at, fill, h, say, setText, SANS } from "./dom.js";
-import { COLOURS, CURVES, PLOTS, toolOf } from "./facts.js";
+import { at, fill, h, say, setText, SANS, COLOURS, CURVES, PLOTS, toolOf } from "./dom.js";
 import { LEDGER } from "./frame.js";
-import { parts, countSquares } from "./paint.js";
+import { parts, countSquares } from "./canvas.js";
 
 const WINDOW = 20;         // ticks over which a rate is a mean
 const POINTS = 1500;       // points of a plot before every second one is dropped

@@ -1,6 +1,27 @@
-// What the page knows of the gas and of itself. Views read it; each change is an event with what changed.
-import { EMPTY } from "./lessons.js";
+// What the page knows of lessons, of the gas and of itself.
+import data from "./lessons.json";
 
+// ---- the lessons and scenes, as tools/page_lessons makes them. `first` is sent before the first drawing
+export const { lessons: LESSONS, scenes: SCENES } = data;
+export const EMPTY = { id: "empty", name: "Empty lattice", about: "A size of your own", size: [64, 64],
+  setup: [], mode: "particles", speed: 4, tool: "put", plots: ["count"], tries: [],
+  text: ["An empty lattice. Put particles in, draw walls, and press play."] };
+
+export const ALL = [...LESSONS, ...SCENES, EMPTY];
+export const find = (id) => ALL.find((lesson) => lesson.id === id);
+
+/** What stands beside a gas that another seat opened, before this page came or after. */
+export function otherLesson(name, isJoining) {
+  const text = isJoining ? "You have joined a gas that is running on another page."
+    : "Another seat has opened this gas.";
+  return ALL.find((lesson) => lesson.name === name)
+    ?? { ...EMPTY, id: "shared", name: name || "Shared gas", own: true, text: [text] };
+}
+
+export const kindOf = (lesson) => LESSONS.includes(lesson) ? `Lesson ${lesson.id}`
+  : lesson === EMPTY || lesson.own ? "Your own" : "Scene";
+
+// ---- what the page knows of the gas and of itself. Views read it; each change is an event with what changed
 /** Steps a picture and pictures a second of each place of the speed slider. */
 export const SPEEDS = [[1, 1], [1, 2], [1, 5], [1, 10], [1, 20], [1, 30], [1, 60],
   ...Array.from({ length: 12 }, (_, k) => [2 << k, 60])];

@@ -1,16 +1,18 @@
-// The tools: their buttons, what is chosen beside one, what one does with a shape on the gas, and undo.
-import { at, button, fill, h, icon } from "./dom.js";
-import { ALWAYS, CHOICES, ICONS, SHARES, TOOLS, isRefusal, toolOf } from "./facts.js";
-import { choices, choose, rove } from "./buttons.js";
+// Tools, and the gestures and keys that use them.
+import { at, button, fill, h, icon, ALWAYS, CHOICES, ICONS, SHARES, TOOLS, isRefusal, toolOf, choices, choose,
+  rove, words, KEYS, CURSOR, FATES, KINDS, MOVES } from "./dom.js";
 import { state } from "./state.js";
-import { view } from "./canvas.js";
-import { edits } from "./edits.js";
-import { plots } from "./plots.js";
 import { rectangle, ellipse, stroke, randomGas } from "./shapes.js";
-import { notice } from "./notices.js";
+import { view } from "./canvas.js";
+import { plots } from "./plots.js";
+import { notice, hideNotice, speak } from "./notices.js";
+import { edits } from "./edits.js";
 import { send, pause, isWatching } from "./session.js";
-import { shoot, followAt } from "./gates.js";
+import { Lab, fromSnapshot, toBytes } from "./engine.js";
+import { snapshotOf } from "./files.js";
+import { setSpeed, isTooSoon } from "./controls.js";
 
+// ---- the tools: their buttons, what is chosen beside one, what one does with a shape on the gas, and undo
 /** What is chosen beside a tool. `snap` is in cells, `period` in ticks, the rest in percents. */
 const options = { shape: "rectangle", snap: 1, way: "1 1", period: 1, density: 50, right: 0, down: 0 };
 
@@ -79,9 +81,91 @@ export async function doTry({ lines, view: rect }) {
   if (rect) view.fit(rect);
 }
 
-// ---- the toolbar, and the line of words below the gas
+// ---- shooting a particle, and following one
+const FARTHEST = 256;           // steps between two pictures over which a particle is followed
+const TRAIL = 500;         // cells
+const nameOf = (way) => CHOICES.way[1].find(([id]) => id === way.join(" "))[2];
 
-const words = h("span.words"), cellWords = h("span.words", { role: "status", hidden: true });
+/** Puts a particle of the velocity that was pulled, or else chosen, into a cell, or says why it can't. */
+async function shoot(cells, chosen) {
+  const [x, y] = cells[0], [dx, dy] = [cells.at(-1)[0] - x, cells.at(-1)[1] - y], rect = [x, y, 1, 1];
+  const way = dx && dy ? [Math.sign(dx), Math.sign(dy)] : chosen.split(" ").map(Number);
+  const { tick } = view.picture, [vx, vy] = view.way(x, y);
+  const refused = (text, does) => notice({ title: "Not put", text, does, rect });
+  if (view.isSolidAt(x, y)) refused(`The cell ${x} ${y} is solid: a particle would stay in it.`);
+  else if (way[0] !== vx || way[1] !== vy) {
+    const [a, b] = [way[0] === vx ? x : x ^ 1, way[1] === vy ? y : y ^ 1];
+    refused(`At tick ${tick} a particle in ${x} ${y} moves ${nameOf([vx, vy])}. `
+      + `One that moves ${nameOf(way)} can start in ${a} ${b}.`,
+      [[`Put it in ${a} ${b}`, () => send([`put ${a} ${b} 1 1`], { rect })]]);
+  } else if (view.has(x, y)) refused(`A particle in ${x} ${y} moves ${nameOf(way)} already.`);
+  else await send([`put ${x} ${y} 1 1`], { rect });
+}
+
+let followed = null;       // { cell, before }: the cell, and a snapshot of the gas in which it is there
+
+/** Marks a particle's cells up to the present one. */
+function mark(trail) {
+  view.trail = trail.slice(-TRAIL);
+  followed = trail.length ? { cell: trail.at(-1), before: snapshotOf(view) } : null;
+}
+
+/** Follows the particle of a cell, or none if the cell is empty. */
+function followAt([x, y]) {
+  mark(view.has(x, y) ? [[x, y]] : []);
+  view.redraw();
+  if (!followed)
+    notice({ title: "None to follow", text: `There is no particle in ${x} ${y}.`, rect: [x, y, 1, 1] });
+}
+
+/** The cell after a step, or before one. Of two that meet head on each turns to its right. */
+function nextCell(gas, [x, y], isBack) {
+  const { width, height } = gas, t = isBack ? gas.tick - 1 : gas.tick, [u, v] = [(x + t) & 1, (y + t) & 1];
+  const cell = (i, j) => [(x - u + i + width) % width, (y - v + j + height) % height];
+  const has = (set, i, j) => gas.has(...cell(i, j), set);
+  const isSolid = (k) => has(gas.walls, k & 1, k >> 1) || has(gas.obstacles, k & 1, k >> 1);
+  if ([0, 1, 2, 3].some(isSolid)) return [x, y];
+  const isLone = has(gas.particles, 1 - u, 1 - v) && !has(gas.particles, 1 - u, v)
+    && !has(gas.particles, u, 1 - v);
+  if (!isLone) return cell(1 - u, 1 - v);
+  return (u === v) !== isBack ? cell(u, 1 - v) : cell(1 - u, v);
+}
+
+/** The cells of a particle through some steps of a gas, up to where it is drained. */
+function cellsOf(lab, cell, n) {
+  const cells = [], { gas } = lab;
+  for (let k = 0; k < Math.abs(n); k++) {
+    const next = nextCell(gas, cells.at(-1) ?? cell, n < 0);
+    if (n < 0) lab.back(); else lab.forward();
+    if (!gas.has(...next)) break;
+    cells.push(next);
+  }
+  return cells;
+}
+
+function lose(text) {
+  followed = null;
+  notice({ title: "No longer followed", text });
+  speak(text);
+}
+
+function followOn() {
+  if (!followed) return;
+  const lab = new Lab(fromSnapshot(followed.before)), { gas } = lab, { picture } = view;
+  const n = picture.tick - gas.tick;
+  if (gas.width !== picture.width || gas.height !== picture.height) { mark([]); return; }
+  if (Math.abs(n) > FARTHEST) { lose(`Its way is lost: ${Math.abs(n)} steps were made at once.`); return; }
+  const trail = [...view.trail, ...cellsOf(lab, followed.cell, n)];
+  if (trail.length < view.trail.length + Math.abs(n)) { lose("It was drained."); return; }
+  const isSame = n === 0 || toBytes(gas.particles).every((byte, k) => byte === picture.particles[k]);
+  if (isSame && view.has(...trail.at(-1))) mark(trail);
+  else lose("Its way is lost: the gas was changed.");
+}
+
+state.on(["picture"], () => { if (state.picture) followOn(); });
+
+// ---- the toolbar, and the line of words below the gas
+const said = h("span.words"), cellSaid = h("span.words", { role: "status", hidden: true });
 const undoButton = h("button.parted", { onclick: undo }, icon(ICONS.undo), h("span", "Undo"));
 const buttons = [...TOOLS.map(({ id, name, hint, key, gap, icon: shapes }) =>
   h(gap ? "button.parted" : "button",
@@ -91,10 +175,10 @@ const buttons = [...TOOLS.map(({ id, name, hint, key, gap, icon: shapes }) =>
 /** Says something below the gas, or the tool's hint. `isSpoken` tells a screen reader too. */
 export function showWords(children, isSpoken = false) {
   const hasTask = state.lesson.task && !state.tried, tool = toolOf(state.tool);
-  words.hidden = isSpoken;
-  cellWords.hidden = !isSpoken;
-  words.classList.toggle("task", Boolean(hasTask && !children));
-  fill(isSpoken ? cellWords : words,
+  said.hidden = isSpoken;
+  cellSaid.hidden = !isSpoken;
+  said.classList.toggle("task", Boolean(hasTask && !children));
+  fill(isSpoken ? cellSaid : said,
     children ?? (hasTask ? state.lesson.task : [h("b", `${tool.name}.`), ` ${tool.hint}`]));
 }
 
@@ -140,8 +224,181 @@ edits.changed = () => {
 
 at("tools").append(...buttons);
 rove(at("tools"), buttons);
-at("hover").replaceChildren(words, cellWords, at("options"));
+at("hover").replaceChildren(said, cellSaid, at("options"));
 state.on(["tool"], showTool);
 state.on(["lesson", "tried"], showHint);
 edits.changed();
 showTool();
+
+// ---- gestures on the gas, by mouse, pen, fingers or keys, and single keys, of which most press a button
+const HOLD = 150;          // milliseconds that a finger stays before it draws
+const FAR = 8;             // pixels that a finger moves before it scrolls
+const pointers = new Map();
+const { canvas } = view;
+let gesture = null;        // { kind: "draw", "wait", "move", "pinch" or "over", .. }
+
+const cellOf = (e) => view.place(e).map(Math.floor);
+
+canvas.onpointerdown = (e) => {
+  if (!view.picture) return;
+  canvas.setPointerCapture(e.pointerId);
+  pointers.set(e.pointerId, e);
+  hideNotice();
+  leaveCursor();
+  clearTimeout(gesture?.timer);
+  const cell = cellOf(e), canDraw = state.tool !== "look" && !e.altKey && view.holds(cell) && e.button === 0;
+  const place = { x: e.clientX, y: e.clientY };
+  if (pointers.size > 1) {
+    gesture = { kind: "pinch", before: spread() };
+    view.select();
+  } else if (e.button > 1) return;
+  else if (e.pointerType === "touch")
+    gesture = { kind: "wait", cell, ...place, timer: canDraw && setTimeout(draw, HOLD, cell) };
+  else if (canDraw) draw(cell);
+  else {
+    gesture = { kind: "move", ...place };
+    e.preventDefault();
+  }
+};
+
+canvas.onpointermove = (e) => {
+  if (!view.picture) return;
+  if (pointers.has(e.pointerId)) pointers.set(e.pointerId, e);
+  if (gesture?.kind === "wait" && Math.hypot(e.clientX - gesture.x, e.clientY - gesture.y) > FAR) {
+    clearTimeout(gesture.timer);
+    gesture.kind = "move";
+  }
+  if (!gesture) describe(cellOf(e));
+  else if (gesture.kind === "pinch" && pointers.size > 1) pinch();
+  else if (gesture.kind === "move") move(e);
+  else if (gesture.kind === "draw") draw(...gesture.cells, cellOf(e));
+};
+
+canvas.onpointerup = canvas.onpointercancel = (e) => {
+  const was = gesture;
+  pointers.delete(e.pointerId);
+  gesture = pointers.size > 0 ? { kind: "over" } : null;           // a finger that stays draws nothing
+  clearTimeout(was?.timer);
+  if (was?.kind === "wait") describe(was.cell);
+  if (was?.kind !== "draw") return;
+  if (e.type === "pointerup") act(was.cells);
+  else view.select();
+};
+
+canvas.onpointerleave = () => { if (!gesture) showWords(null); };
+
+canvas.addEventListener("wheel", (e) => {
+  if (!view.picture) return;
+  e.preventDefault();
+  view.zoom(Math.exp(-e.deltaY * (e.deltaMode ? .05 : .0016)), e.offsetX, e.offsetY);
+}, { passive: false });
+
+function draw(...cells) {
+  gesture = { kind: "draw", cells };
+  preview(cells);
+}
+
+function spread() {
+  const [a, b] = [...pointers.values()], box = canvas.getBoundingClientRect();
+  return { far: Math.hypot(a.clientX - b.clientX, a.clientY - b.clientY),
+    x: (a.clientX + b.clientX) / 2 - box.left, y: (a.clientY + b.clientY) / 2 - box.top };
+}
+
+function pinch() {
+  const now = spread(), { before } = gesture;
+  view.zoom(now.far / before.far, now.x, now.y);
+  view.pan(now.x - before.x, now.y - before.y);
+  gesture.before = now;
+}
+
+/** Moves the gas. A finger on a gas that is seen whole scrolls the page. */
+function move({ clientX: x, clientY: y, pointerType }) {
+  if (pointerType === "touch" && view.fitted) scrollBy(0, gesture.y - y);
+  else view.pan(x - gesture.x, y - gesture.y);
+  Object.assign(gesture, { x, y });
+}
+
+/** Says what is in a cell, and what its block does next. */
+function describe([x, y]) {
+  if (!view.holds([x, y])) { showWords(null); return; }
+  const { width, height } = view.picture, t = view.parity, [vx, vy] = view.way(x, y);
+  const kind = KINDS[view.ground[y * width + x]];
+  const way = `moves ${vx > 0 ? "right" : "left"} and ${vy > 0 ? "down" : "up"}`;
+  const bx = (x - ((x + t) & 1) + width) % width, by = (y - ((y + t) & 1) + height) % height;
+  const held = view.has(x, y) ? `particle, ${way}` : kind ? ""
+    : state.tool === "put" ? `empty; a particle here ${way}` : "empty";
+  showWords(["Cell ", h("b", `${x} ${y}`), `: ${[kind, held].filter(Boolean).join(", ")}. The block at `,
+    h("b", `${bx} ${by}`), ` ${FATES[view.fate(bx, by)]}.`]);
+}
+
+// ---- keys
+const DOES = { slower: () => setSpeed(state.speed - 1), faster: () => setSpeed(state.speed + 1),
+  entry: () => at("entry").focus() };
+let cursor = null;         // { cell, from }: the cell, and the first corner once that is set
+
+function leaveCursor() {
+  if (!cursor) return;
+  cursor = view.cursor = null;
+  view.select();
+  showWords(null);
+}
+
+/** Takes a key on the gas. Returns whether it was one of the cursor's. */
+function cursorKey({ key, shiftKey }) {
+  const isEnter = key === ALWAYS.draw.key;
+  if (cursor && key === ALWAYS.leave.key) { leaveCursor(); return true; }
+  if (!(cursor ? isEnter || MOVES[key] : isEnter && toolOf(state.tool).colour)) return false;
+  if (!cursor) cursor = { cell: view.middleCell, from: null };
+  else if (isEnter) {
+    const { cell, from } = cursor;
+    cursor.from = from ? null : cell;
+    if (from) act([from, cell]);
+  } else {
+    const sides = [view.picture.width, view.picture.height], move = (k) => MOVES[key][k] * (shiftKey ? 8 : 1);
+    cursor.cell = cursor.cell.map((v, k) => Math.max(0, Math.min(sides[k] - 1, v + move(k))));
+    view.follow(cursor.cell);
+  }
+  showCursor();
+  return true;
+}
+
+function showCursor() {
+  const { cell, from } = cursor;
+  view.cursor = cell;
+  if (from) preview([from, cell]);
+  else view.redraw();
+  showWords(words(`Cell \`${cell.join(" ")}\`. ${from ? CURSOR.second : CURSOR.first}`, "b"), true);
+}
+
+/** What a key does, or nothing. */
+function doesOf({ key, target, shiftKey }) {
+  const name = key.length === 1 ? key.toLowerCase() : key;
+  const known = KEYS.find((it) => it.key === name || it.also === name), button = at(known?.button);
+  const tool = TOOLS.find((it) => it.key.toLowerCase() === name);
+  if (known?.slides && target.matches("input[type=range]")) return null;
+  if (known?.presses && target.matches("button, summary") && target !== button) return null;
+  if (button) return () => button.dispatchEvent(new MouseEvent("click", { shiftKey }));
+  return known ? DOES[known.does] : tool && (() => state.change({ tool: tool.id }));
+}
+
+document.addEventListener("keydown", (e) => {
+  const isTyping = e.target.matches("input:not([type=range]):not([type=checkbox]), select, textarea");
+  if (isTyping || at("popover").open) return;
+  const isHeld = e.ctrlKey || e.metaKey, isOnGas = e.target === view.canvas;
+  let does = null;
+  if (isHeld && e.key.toLowerCase() === ALWAYS.undo.key) does = undo;
+  else if (isHeld || e.altKey || !view.picture) return;
+  else if (isOnGas && cursorKey(e)) does = () => {};
+  else if (e.key === ALWAYS.leave.key) {
+    hideNotice();
+    view.select();
+  } else if (state.keysOn || isOnGas) does = doesOf(e);
+  if (!does) return;
+  e.preventDefault();
+  if (!(e.repeat && MOVES[e.key] && isTooSoon())) does();
+});
+
+for (const { button, shown, words: [first, ...rest] } of KEYS)
+  if (button) at(button).title = `${first.toUpperCase()}${rest.join("")} (${shown})`;
+at("how").textContent = CURSOR.how;
+state.on(["tool"], leaveCursor);
