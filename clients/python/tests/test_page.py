@@ -339,6 +339,13 @@ class Style(unittest.TestCase):
         ours = [it.read_text("utf-8") for it in paths if not it.name.startswith("dygraph")]
         self.assertLessEqual(sum(len(it.splitlines()) for it in ours), 4240)
 
+    def test_the_server_has_no_more_code(self):
+        """Lines that are neither blank nor comment nor in a docstring."""
+        parts = [STATIC.parent / f"{it}.py" for it in ("hall", "web", "laboratory", "pictures")]
+        text = "".join(it.read_text("utf-8") for it in parts)
+        bare = re.sub(r'^ *"""[\s\S]*?"""\n', "", text, flags=re.M)
+        self.assertLessEqual(len(re.findall(r"^ *[^\s#]", bare, re.M)), 500)
+
     def test_lines_are_short(self):
         for path in (STATIC / "page.css", STATIC / "index.html"):
             self.assertLessEqual(max(map(len, path.read_text("utf-8").splitlines())), 110, path.name)

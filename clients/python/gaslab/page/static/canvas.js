@@ -1,6 +1,81 @@
 // The gas on its canvas: pixels of its cells, and what is drawn above them.
 import { COLOURS, RAMP, h, at, SANS, ZOOM } from "./dom.js";
-import { cover } from "./shapes.js";
+
+// ---- sets of cells as rectangles, and the lines that draw them
+/** The rectangle between two cells, snapped outward to squares of `snap` cells, within the lattice. */
+export function rectangle([ax, ay], [bx, by], { width, height }, snap = 1) {
+  const span = (a, b, side) => {
+    const low = Math.max(0, Math.min(a, b, side - 1)), high = Math.min(side - 1, Math.max(a, b, 0));
+    const from = Math.floor(low / snap) * snap;
+    return [from, Math.min(side, (Math.floor(high / snap) + 1) * snap) - from];
+  };
+  const [x, w] = span(ax, bx, width), [y, h] = span(ay, by, height);
+  return [x, y, w, h];
+}
+
+/** The rectangles of an ellipse that fills a rectangle. A cell is in it if its middle is. */
+export function ellipse(rect) {
+  const [x, y, w, h] = rect, part = (v, from, side) => ((v + .5 - from) / side * 2 - 1) ** 2;
+  return cover(rect, (i, j) => part(i, x, w) + part(j, y, h) <= 1);
+}
+
+/** The rectangle around two, or the first if there is no other. */
+export function around([x, y, w, h], other) {
+  const [a, b, c, d] = other ?? [x, y, w, h], left = Math.min(x, a), top = Math.min(y, b);
+  return [left, top, Math.max(x + w, a + c) - left, Math.max(y + h, b + d) - top];
+}
+
+/** The rectangles of a stroke through cells, with a pen of `snap` by `snap` cells. */
+export function stroke(cells, size, snap) {
+  const squares = cells.flatMap(([x, y], k) => {
+    const [a, b] = cells[Math.max(0, k - 1)], n = Math.max(Math.abs(x - a), Math.abs(y - b), 1);
+    const way = (from, to, s) => Math.round(from + (to - from) * s / n);
+    return Array.from({ length: n + 1 }, (_, s) => [way(a, x, s), way(b, y, s)]);
+  }).map((cell) => rectangle(cell, cell, size, snap));
+  const [x, y, w, h] = squares.reduce((all, square) => around(square, all)), held = new Uint8Array(w * h);
+  for (const [i, j, a, b] of squares) for (let q = j - y; q < j - y + b; q++)
+    held.fill(1, q * w + i - x, q * w + i - x + a);
+  return cover([x, y, w, h], (i, j) => held[(j - y) * w + i - x]);
+}
+
+/** Few rectangles that cover the cells which pass a test, and no other. They may overlap. */
+export function cover([x, y, w, h], test) {
+  const held = new Uint8Array(w * h), out = [];
+  for (let j = 0; j < h; j++) for (let i = 0; i < w; i++) held[j * w + i] = test(x + i, y + j) ? 1 : 0;
+  const left = held.slice();
+  for (let k = left.indexOf(1); k >= 0; k = left.indexOf(1, k)) {
+    const [i, j, a, b] = largest(held, w, h, k % w, Math.floor(k / w));
+    for (let q = j; q < j + b; q++) left.fill(0, q * w + i, q * w + i + a);
+    out.push([x + i, y + j, a, b]);
+  }
+  return out;
+}
+
+function largest(held, w, h, i, j) {
+  let from = 0, to = w, best = [i, j, 1, 1];
+  for (let row = j; row < h && held[row * w + i]; row++) {
+    let a = i, b = i;
+    while (a > from && held[row * w + a - 1]) a--;
+    while (b + 1 < to && held[row * w + b + 1]) b++;
+    from = a;
+    to = b + 1;
+    if ((to - from) * (row - j + 1) > best[2] * best[3]) best = [from, j, to - from, row - j + 1];
+  }
+  return best;
+}
+
+/** `row` lines that lay a random gas into a rectangle. Density and drifts are percents. */
+export function randomGas(view, [x, y, w, h], { density, right, down }) {
+  const isFull = (i, j) => {
+    if (i < x || i >= x + w) return view.has(i, j);
+    const [vx, vy] = view.way(i, j), chance = density / 100 * (1 + right / 100 * vx) * (1 + down / 100 * vy);
+    return !view.isSolidAt(i, j) && Math.random() < chance;
+  };
+  return Array.from({ length: h }, (_, k) => {
+    const bits = Array.from({ length: view.picture.width }, (_cell, i) => Number(isFull(i, y + k))).join("");
+    return `row ${y + k} ${bits.replace(/.{4}/g, (four) => parseInt(four, 2).toString(16))}`;
+  });
+}
 
 // ---- pixels of a gas: packed bits into ImageData, one pixel a cell, 2 by 2 cells or a square
 const rgb = (r, g, b) => (255 << 24 | b << 16 | g << 8 | r) >>> 0;      // as ImageData has it, little-endian
@@ -20,11 +95,14 @@ const POP = Uint8Array.from({ length: 256 },
 /** How many particles are in each square of q by q cells. */
 export function countSquares({ width, height, particles }, q) {
   const across = width / q, bytes = width / 8, counts = new Uint16Array(across * height / q);
-  particles.forEach((v, at) => {
-    const first = Math.floor(Math.floor(at / bytes) / q) * across, k = at % bytes;
-    if (q === 4) { counts[first + 2 * k] += POP[v >> 4]; counts[first + 2 * k + 1] += POP[v & 15]; }
-    else counts[first + Math.floor(8 * k / q)] += POP[v];
-  });
+  for (let y = 0; y < height; y++) {
+    const first = Math.floor(y / q) * across;
+    for (let k = 0; k < bytes; k++) {
+      const v = particles[y * bytes + k];
+      if (q === 4) { counts[first + 2 * k] += POP[v >> 4]; counts[first + 2 * k + 1] += POP[v & 15]; }
+      else counts[first + Math.floor(8 * k / q)] += POP[v];
+    }
+  }
   return counts;
 }
 
@@ -107,18 +185,20 @@ export class Painter {
   remark() {
     const { width, height } = this.picture, n = width * height / 8;
     this.rectangles = null;
-    this.special = new Uint8Array(n);
-    this.ground = new Uint8Array(width * height);      // a place in GROUNDS
+    const special = this.special = new Uint8Array(n);
+    const ground = this.ground = new Uint8Array(8 * n);      // a place in GROUNDS
     const paint = ([x, y, w, tall], kind) => {
-      for (let j = y; j < y + tall; j++) this.ground.fill(kind, j * width + x, j * width + x + w);
+      for (let j = y; j < y + tall; j++) ground.fill(kind, j * width + x, j * width + x + w);
     };
     for (const drain of this.ports.drains) paint(drain, 4);
     for (const source of this.ports.sources) paint(source, 3);
-    this.ground.forEach((port, cell) => {
-      const at = cell >> 3, bit = 128 >> (cell & 7);
-      const kind = this.obstacles[at] & bit ? 2 : this.walls[at] & bit ? 1 : port;
-      if (kind) { this.ground[cell] = kind; this.special[at] = 1; }
-    });
+    for (let at = 0, cell = 0; at < n; at++) {
+      const wall = this.walls[at], obstacle = this.obstacles[at];
+      for (let bit = 128; bit; bit >>= 1, cell++) {
+        if ((wall | obstacle) & bit) ground[cell] = obstacle & bit ? 2 : 1;
+        if (ground[cell]) special[at] = 1;
+      }
+    }
   }
 
   get parity() { return this.picture.tick & 1; }
@@ -186,13 +266,15 @@ export class Painter {
     const out = half.pixels, colours = this.patterns();
     for (let y = 0; y < height; y += 2) {
       let a = y * bytes, b = a + bytes, at = y / 2 * width / 2;
-      for (const end = b; a < end; a++, b++) for (let c = 0; c < 4; c++, at++) {
-        const shift = 6 - 2 * c, cell = 8 * a + 2 * c;
-        out[at] = colours[(particles[a] >> shift & 3) << 2 | particles[b] >> shift & 3];
-        if (!(special[a] | special[b])) continue;
-        const all = [0, 1, width, width + 1].map((k) => ground[cell + k]);
-        const kind = all.find(isSolid) || (out[at] === C.empty ? all.find((k) => k) : 0);
-        if (kind) out[at] = GROUNDS[kind];
+      for (const end = b; a < end; a++, b++, at += 4) {
+        const u = particles[a], l = particles[b];
+        out[at] = colours[u >> 4 & 12 | l >> 6]; out[at + 1] = colours[u >> 2 & 12 | l >> 4 & 3];
+        out[at + 2] = colours[u & 12 | l >> 2 & 3]; out[at + 3] = colours[u << 2 & 12 | l & 3];
+        if (special[a] | special[b]) for (let c = 0, cell = 8 * a; c < 4; c++, cell += 2) {
+          const all = [0, 1, width, width + 1].map((k) => ground[cell + k]);
+          const kind = all.find(isSolid) || (out[at + c] === C.empty ? all.find((k) => k) : 0);
+          if (kind) out[at + c] = GROUNDS[kind];
+        }
       }
     }
     return half.put();
@@ -366,7 +448,7 @@ export class View extends Painter {
     c.setLineDash([]);
   }
 
-  frame(box, ...looks) { this.stroke(rectangle(box), ...looks); }
+  frame(box, ...looks) { this.stroke(outlined(box), ...looks); }
 
   drawGrid() {
     const { scale } = this, t = this.parity, { x0, y0, x1, y1 } = this.visible();
@@ -391,11 +473,11 @@ export class View extends Painter {
     const { context: c } = this, { width, height } = this.picture, { ink, white, halo } = COLOURS;
     const looks = { collides: [[white, 5], [ink, 2.5]], bounces: [[halo, 4], [ink, 2, [4, 3]]] };
     c.save();
-    c.clip(rectangle(this.box([0, 0, width, height])));
+    c.clip(outlined(this.box([0, 0, width, height])));
     for (let y = y0; y < y1; y += 2) for (let x = x0; x < x1; x += 2) {
       const [bx, by, w] = this.box([x, y, 2, 2]);
       const look = looks[this.fate((x + width) % width, (y + height) % height)] ?? [];
-      this.stroke(rectangle([bx + 1.5, by + 1.5, w - 3, w - 3], this.scale / 2.5), ...look);
+      this.stroke(outlined([bx + 1.5, by + 1.5, w - 3, w - 3], this.scale / 2.5), ...look);
     }
     c.restore();
   }
@@ -450,7 +532,7 @@ export class View extends Painter {
     const { context: c } = this;
     Object.assign(c, { font, textBaseline: "middle", fillStyle: colour });
     const width = c.measureText(text).width + 2 * pad, [x, y] = place(width);
-    c.fill(rectangle([x, y, width, height], height / 5));
+    c.fill(outlined([x, y, width, height], height / 5));
     c.fillStyle = COLOURS.white;
     c.fillText(text, x + pad, y + height / 2 + .5);
   }
@@ -481,7 +563,7 @@ export class View extends Painter {
   }
 }
 
-function rectangle(box, radius = 0) {
+function outlined(box, radius = 0) {
   const path = new Path2D();
   path.roundRect(...box, radius);
   return path;

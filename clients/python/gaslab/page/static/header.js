@@ -5,10 +5,9 @@ import { EMPTY, find, kindOf, state, LESSONS, SCENES } from "./state.js";
 import { view } from "./canvas.js";
 import { plots } from "./plots.js";
 import { notice, banner, hideBanner, speak, note } from "./notices.js";
-import { keepForReload, takeKept, lessonOf, pickFile, stored, download, saveFile, savePicture,
+import { bytesOf, keepForReload, takeKept, lessonOf, pickFile, stored, download, saveFile, savePicture,
   saveFilm } from "./files.js";
-import { edits } from "./edits.js";
-import { play, pause, send, isWatching } from "./session.js";
+import { edits, play, pause, send, isWatching } from "./session.js";
 import { isWithin } from "./frame.js";
 import { doTry } from "./tools.js";
 
@@ -92,11 +91,11 @@ function offerOld() {
 async function begin() {
   const kept = takeKept(), opened = at("opened");
   if (kept) {
-    await openBytes(kept.name, Uint8Array.fromBase64(kept.gas), find(kept.lesson) ?? null);
+    await openBytes(kept.name, bytesOf(kept.gas), find(kept.lesson) ?? null);
     banner("Your gas was kept over the reload. Its ledger and journal begin anew.", [["Fine", hideBanner]]);
   } else if (opened && !asked.has("lesson")) {
     const { name, contents } = JSON.parse(opened.textContent);
-    await openBytes(name, Uint8Array.fromBase64(contents));
+    await openBytes(name, bytesOf(contents));
   } else await load(find(asked.get("lesson")) ?? find("4"));
 }
 

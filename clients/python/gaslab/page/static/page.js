@@ -2,8 +2,7 @@
 import { state, ALL, find } from "./state.js";
 import { view } from "./canvas.js";
 import { plots } from "./plots.js";
-import { edits } from "./edits.js";
-import { connect, join, send } from "./session.js";
+import { edits, connect, join, send } from "./session.js";
 import { load, openBytes, placed } from "./header.js";
 
 join();

@@ -2,12 +2,10 @@
 import { at, button, fill, h, icon, ALWAYS, CHOICES, ICONS, SHARES, TOOLS, isRefusal, toolOf, choices, choose,
   rove, words, KEYS, CURSOR, FATES, KINDS, MOVES } from "./dom.js";
 import { state } from "./state.js";
-import { rectangle, ellipse, stroke, randomGas } from "./shapes.js";
-import { view } from "./canvas.js";
+import { ellipse, randomGas, rectangle, stroke, view } from "./canvas.js";
 import { plots } from "./plots.js";
 import { notice, hideNotice, speak } from "./notices.js";
-import { edits } from "./edits.js";
-import { send, pause, isWatching } from "./session.js";
+import { edits, send, pause, isWatching } from "./session.js";
 import { Lab, fromSnapshot, toBytes } from "./engine.js";
 import { snapshotOf } from "./files.js";
 import { setSpeed, isTooSoon } from "./controls.js";
