@@ -131,7 +131,7 @@ class Sheet {
   put(...part) { this.context.putImageData(this.image, 0, 0, ...part); return this.canvas; }
 }
 
-export class Painter {
+class Painter {
   mode = "particles";
   picture = null;
   walls = null;
@@ -311,7 +311,7 @@ export class Painter {
 const MONO = "600 14px ui-monospace, 'DejaVu Sans Mono', 'Liberation Mono', monospace";
 const MOST = 64;           // pixels a cell
 
-export class View extends Painter {
+class View extends Painter {
   left = 0;                // the cell at the canvas' left edge, with a fraction
   top = 0;
   fitted = false;          // true for the whole lattice, or the rectangle that is seen
@@ -339,11 +339,6 @@ export class View extends Painter {
 
   get size() { return [this.canvas.clientWidth, this.canvas.clientHeight]; }
   get middle() { return this.size.map((side) => side / 2); }
-
-  get middleCell() {
-    const { x0, y0, x1, y1 } = this.visible();
-    return [(x0 + x1) >> 1, (y0 + y1) >> 1];
-  }
 
   fit(rect = null) {
     if (!this.picture) return;

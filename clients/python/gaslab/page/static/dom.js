@@ -3,24 +3,22 @@ import facts from "./facts.json";
 
 // ---- elements of the page: found by id, or made from text without markup
 export const at = (id) => document.getElementById(id);
+const SVG = ["svg", "path", "rect", "circle"];
 export const SANS = getComputedStyle(document.body).fontFamily;
 
 /** An element. `tag` may have classes: "p.task". Objects are attributes and properties, all else children. */
 export function h(tag, ...parts) {
-  const [name, ...classes] = tag.split("."), element = document.createElement(name);
+  const [name, ...classes] = tag.split("."), space = SVG.includes(name) ? "2000/svg" : "1999/xhtml";
+  const element = document.createElementNS(`http://www.w3.org/${space}`, name);
   if (classes.length) element.className = classes.join(" ");
-  for (const part of parts.flat()) {
-    if (part?.constructor === Object) setAll(element, part);
-    else if (part) element.append(part);
+  for (const part of parts.flat().filter(Boolean)) {
+    if (part.constructor !== Object) element.append(part);
+    else for (const [key, value] of Object.entries(part)) {
+      if (typeof value === "string" || key.includes("-")) element.setAttribute(key, value);
+      else element[key] = value;
+    }
   }
   return element;
-}
-
-function setAll(element, fields) {
-  for (const [key, value] of Object.entries(fields)) {
-    if (typeof value === "string" || key.includes("-")) element.setAttribute(key, value);
-    else element[key] = value;
-  }
 }
 
 /** Replaces the children of an element. Empty ones are left out. */
@@ -29,16 +27,8 @@ export function fill(element, ...children) { element.replaceChildren(...children
 export const button = (text, act) => h("button.plain", { onclick: act }, text);
 
 /** An icon from its shapes: [tag, attributes] each. */
-export function icon(shapes) {
-  const make = (tag, look) => {
-    const element = document.createElementNS("http://www.w3.org/2000/svg", tag);
-    for (const [key, value] of Object.entries(look)) element.setAttribute(key, value);
-    return element;
-  };
-  const svg = make("svg", { viewBox: "0 0 20 20", "aria-hidden": "true" });
-  svg.append(...shapes.map(([tag, look]) => make(tag, look)));
-  return svg;
-}
+export const icon = (shapes) => h("svg", { viewBox: "0 0 20 20", "aria-hidden": "true" },
+  shapes.map(([tag, look]) => h(tag, look)));
 
 /** Text in which what is between backticks is code, or another element, as children of `h`. */
 export function words(text, tag = "code") {

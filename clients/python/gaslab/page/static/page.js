@@ -1,10 +1,418 @@
-// The page: loads its parts, and takes a seat.
-import { state, ALL, find } from "./state.js";
+// The page: what opens a gas, and the header with its dialog.
+import { at, fill, h, words, plainWords, isRefusal, button, plural, say, TRUTH, KEYS, ALWAYS, TOOLS, choose,
+  rove } from "./dom.js";
+import { ALL, EMPTY, LESSONS, SCENES, find, kindOf, state } from "./state.js";
 import { view } from "./canvas.js";
 import { plots } from "./plots.js";
-import { edits, connect, join, send } from "./session.js";
-import { load, openBytes, placed } from "./header.js";
+import { notice, banner, hideBanner, speak, note } from "./notices.js";
+import { bytesOf, keepForReload, takeKept, lessonOf, pickFile, stored, download, saveFile, savePicture,
+  saveFilm } from "./files.js";
+import { connect, edits, isWatching, join, pause, play, send } from "./session.js";
+import { isWithin } from "./frame.js";
+import { doTry } from "./tools.js";
 
+// ---- what opens a gas: lessons, files and what was kept over a reload; and the text beside it
+const asked = new URLSearchParams(location.search);
+const watches = (rects = []) => rects.map((rect) => `.watch ${rect.join(" ")}`);
+
+/** Opens lines or a snapshot in place of the gas. Resolves to the first refusal, [line, reply], or null. */
+async function open(lesson, size, lines, snapshot = null) {
+  const { lesson: old, tried, worked } = state;
+  const tool = matchMedia("(pointer: coarse)").matches ? "look" : lesson.tool;      // a finger scrolls first
+  state.change({ old: { lesson: old, tried, worked }, lesson, loading: true, tried: false, tool,
+    mode: lesson.mode, speed: lesson.speed });
+  view.fitted = lesson.view || true;
+  edits.isOff = true;
+  const [first] = snapshot ? [await state.link.upload(snapshot)]
+    : await send([`.open ${size.join(" ")} ${lesson.name.replace(/[\r\n]/g, " ")}`], { isQuiet: true });
+  const replies = first === "DONE" && lines.length ? await send(lines, { isQuiet: true }) : [];
+  const bad = replies.findIndex(isRefusal);
+  if (bad >= 0) await state.link.send([".bring"]);     // the lines after it were done too
+  edits.isOff = false;
+  state.change({ loading: false, worked: false });
+  if (first === "DONE" && bad < 0) return null;
+  state.change(state.old);
+  return first === "DONE" ? [bad, replies[bad]] : [-1, first];
+}
+
+/** Opens a lesson, and plays it if it is one that plays by itself. */
+async function load(lesson, size = lesson.size) {
+  note(`${lesson.name}: ${size[0]} by ${size[1]} cells`);
+  const bad = await open(lesson, size, [...lesson.setup, ...watches(lesson.probes)]);
+  if (bad) { notice({ title: `${lesson.name} was not opened`, text: plainWords(bad[1]) }); return; }
+  state.change({ speed: lesson.speed });               // pictures of the gas before may have come meanwhile
+  offerOld();
+  if (lesson.play && !matchMedia("(prefers-reduced-motion: reduce)").matches) await play();
+}
+
+/** Opens a script or a snapshot. A script that began from a snapshot asks for that first. */
+async function openBytes(name, bytes, lesson = null, snapshot = null) {
+  const read = lessonOf(bytes), found = snapshot && lessonOf(snapshot);
+  const refused = (text, does) => notice({ title: `${name} was not opened`, text, does });
+  if (read.fault) return refused(read.fault);
+  if (read.isAfterSnapshot && !snapshot)
+    return refused("This script began from a snapshot. Choose that file too.",
+      [["Choose the snapshot", () => pickFile((file) => openBytes(name, bytes, lesson, file.bytes))]]);
+  if (found && !found.snapshot) return refused(found.fault ?? "This is a script, not a snapshot.");
+  const own = lesson ?? { ...EMPTY, id: "own", name, own: true, text: [] }, start = read.snapshot ?? snapshot;
+  const bad = await open(own, read.size, [...read.lines ?? [], ...watches(own.probes)], start);
+  if (bad) {
+    const [k, reply] = bad, line = read.lines?.[k];
+    const place = k < 0 ? "" : `Line ${read.numbers[k]} of ${read.count}, “${line.slice(0, 40)}”: `;
+    if (state.lesson === EMPTY) await load(find("4"));
+    return refused(`${place}${plainWords(reply, line)} Nothing was opened.`);
+  }
+  const [tally] = await state.link.send(["tally"]), tick = tally.split(" ")[1];
+  const text = [`This gas was opened from a file, at tick ${tick}.`];
+  state.change({ lesson: lesson ?? { ...own, text }, worked: true, tried: true });
+  speak(`${name} was opened at tick ${tick}.`);
+  note(`${name}, opened at tick ${tick}`);
+  offerOld();
+}
+
+/** After work was done on the gas before, it can be brought back. */
+function offerOld() {
+  const { old } = state;
+  if (!old.worked) { hideBanner(); return; }
+  const bring = async () => {
+    const { lesson, tried, worked } = state;
+    state.change({ loading: true });
+    const [reply] = await send([".bring"]);
+    state.change({ loading: false });
+    if (reply !== "DONE") return;
+    state.change({ ...old, old: { lesson, tried, worked } });
+    hideBanner();
+  };
+  banner(`The gas before, of “${old.lesson.name}”, is kept with its journal until another is opened.`,
+    [["Bring it back", bring]]);
+}
+
+/** A new gas begins with what was kept over a reload, the page's own script, or a lesson. */
+async function begin() {
+  const kept = takeKept(), opened = at("opened");
+  if (kept) {
+    await openBytes(kept.name, bytesOf(kept.gas), find(kept.lesson) ?? null);
+    banner("Your gas was kept over the reload. Its ledger and journal begin anew.", [["Fine", hideBanner]]);
+  } else if (opened && !asked.has("lesson")) {
+    const { name, contents } = JSON.parse(opened.textContent);
+    await openBytes(name, bytesOf(contents));
+  } else await load(find(asked.get("lesson")) ?? find("4"));
+}
+
+// ---- the lesson's text, question and buttons
+const LONG = 22;           // characters of a line that a button shows whole
+const shown = (line) => line.length > LONG ? `${line.split(" ").slice(0, 2).join(" ")} …`
+  : line.replace(/^\.goto (\d+).*/, "run to tick $1");
+
+function showLesson() {
+  const { lesson } = state, kind = kindOf(lesson), { name, text, task, expect, tries } = lesson;
+  document.body.dataset.lesson = kind === "Your own" ? "own" : "told";
+  at("lesson-kind").textContent = kind;
+  at("lesson-name").textContent = name;
+  at("task").textContent = task ?? "";
+  fill(at("lesson"), h("p.kicker", kind), h("h2", name),
+    !lesson.own && h("button.plain.again", { onclick: () => load(lesson) }, "Start again"),
+    text.map((one) => h("p", words(one))), task && h("p.task", task), expect && question(expect),
+    tries?.length && [h("h3", "Try it"), h("ul.tries", tries.map(tryButton))]);
+  at("lesson").scrollTop = 0;
+}
+
+const tryButton = (one) => h("li", h("button", { onclick: () => doTry(one) }, h("span", one.say),
+  h("code", one.lines.map(shown).join(" · "))));
+
+/** A question with choices. The answer comes after a choice, and takes the focus. */
+function question({ ask, choices, right, answer }) {
+  const buttons = choices.map((text, k) => h("button.choice", { onclick: () => choose(k) }, text));
+  const box = h("section.expect", h("h3", "What would you expect?"),
+    h("fieldset", h("legend", ask), buttons));
+  const choose = (mine) => {
+    if (buttons[0].ariaDisabled) return;
+    buttons.forEach((button, k) => {
+      button.ariaDisabled = "true";
+      button.classList.toggle("right", k === right);
+      button.classList.toggle("mine", k === mine);
+    });
+    buttons[mine].append(h("em", mine === right ? "Right" : "Your guess"));
+    const said = h("p.answer", { tabIndex: -1 }, answer);
+    box.append(said);
+    said.focus();
+  };
+  return box;
+}
+
+state.on(["lesson"], showLesson);
+state.on(["isNew"], () => { if (state.isNew) begin(); });
+addEventListener("pagehide", () => { if (state.picture && state.worked) keepForReload(view, state.lesson); });
+
+// ---- the header, the tabs, and the dialog: lessons, what is proved, seats, keys, sharing, and truth tables
+const SIDES = [64, 128, 192, 256, 512, 1024, 2048];
+const box = at("popover");
+const tabs = [...document.querySelectorAll(".tabs button")];
+let opener = null;
+
+/** Opens the dialog below a button with what `fill` returns, of which the first heading is its name. */
+function openDialog(button, fill, size) {
+  box.className = size;
+  box.replaceChildren(...fill());
+  box.querySelector("h2").id = "popover-name";
+  box.showModal();
+  opener = button;
+  opener.ariaExpanded = "true";
+  place();
+  const first = box.querySelector("[aria-current=true]") ?? box.querySelector("button, input");
+  first.focus({ preventScroll: true });
+}
+
+/** Places the dialog below its button, or where it fits. */
+function place() {
+  const { left, bottom } = opener.getBoundingClientRect(), { offsetWidth: w, offsetHeight: tall } = box;
+  box.style.top = `${Math.max(8, Math.min(bottom + 6, innerHeight - tall - 8))}px`;
+  box.style.left = `${Math.max(8, Math.min(left, innerWidth - w - 8))}px`;
+}
+
+box.onclose = () => { opener.ariaExpanded = "false"; };
+
+const closing = (act) => () => {
+  box.close();
+  act();
+};
+const form = (onsubmit, ...children) => h("form", { method: "dialog", onsubmit }, ...children);
+const number = (value, name, more = {}) => h("input", { type: "number", value, "aria-label": name, ...more });
+const text = (more) => h("input", { type: "text", ...more });
+
+// ---- lessons, scenes and a person's own files
+function shelf(tag, name, lessons, hasNumbers) {
+  const item = (lesson) => h("li",
+    h("button", { "aria-current": String(lesson === state.lesson), onclick: closing(() => {
+      load(lesson);
+      showTab("lesson");
+    }) }, hasNumbers && h("span.n", lesson.id), h("span", h("b", lesson.name), h("small", lesson.about))));
+  return h(tag, h("h3", name), h("ul", lessons.map(item)));
+}
+
+/** The lines of a script up to its first step, moved by an offset: { lines }, or { fault } in plain words. */
+function placed(bytes, [dx, dy], picture) {
+  const read = lessonOf(bytes), { tick } = picture, lines = [];
+  if (!read.lines) return { fault: read.fault ?? "This is a snapshot, not a script." };
+  if ((dx + tick) & 1 || (dy + tick) & 1)
+    return { fault: `At tick ${tick} both numbers must be ${tick & 1 ? "odd" : "even"}: `
+      + "else the particles would move another way." };
+  for (const line of read.lines) {
+    const [word, ...words] = line.split(/ +/), n = words.map(Number);
+    if (word === "step" || word === "back") break;
+    const rects = word === "row" ? runs(words[1]).map(([x, w]) => [x, n[0], w, 1]) : n.length > 3 ? [n] : [];
+    const moved = rects.map(([x, y, ...rest]) => [x + dx, y + dy, ...rest]);
+    if (!moved.every((rect) => isWithin(rect, picture)))
+      return { fault: `“${line.slice(0, 40)}” would reach outside the lattice.` };
+    lines.push(...moved.map((rect) => `${word === "row" ? "put" : word} ${rect.join(" ")}`));
+  }
+  return { lines };
+}
+
+/** The runs of full cells in a row's digits: [column, length]. */
+function runs(digits) {
+  const bits = [...digits].map((digit) => parseInt(digit, 16).toString(2).padStart(4, "0")).join("");
+  return [...bits.matchAll(/1+/g)].map(({ index, 0: run }) => [index, run.length]);
+}
+
+/** Sends a script's lines, moved, into the gas that is there. */
+function placeScript(by) {
+  if (isWatching()) return;
+  pickFile(({ name, bytes }) => {
+    const { lines, fault } = placed(bytes, by, view.picture);
+    if (fault) notice({ title: `${name} was not placed`, text: fault });
+    else send(lines);
+  }, ".txt");
+}
+
+function own() {
+  const sides = ["Width", "Height"].map((name) =>
+    h("select", { "aria-label": name }, SIDES.map((cells) => h("option", String(cells)))));
+  const by = ["Columns to the right", "Rows downwards"].map((name) => number("0", name));
+  return h("div.own", h("h3", "Your own"),
+    form(() => load(EMPTY, sides.map(({ value }) => Number(value))),
+      "Empty, ", sides[0], " by ", sides[1], button("Open")),
+    button("Open a script or snapshot", closing(() => pickFile(({ name, bytes }) => openBytes(name, bytes)))),
+    form(() => placeScript(by.map((input) => input.valueAsNumber || 0)),
+      "Place a script here, moved by ", ...by, button("Choose")));
+}
+
+const lessons = () => [h("h2.unseen", "Lessons and scenes"), h("div.shelves",
+  shelf("section", "Lessons", LESSONS, true), h("div", shelf("section.bare", "Scenes", SCENES), own()))];
+
+// ---- what runs, who is there, and keys
+function truth() {
+  const [, title, texts] = TRUTH[state.program] ?? TRUTH.none;
+  return [h("h2", title), ...texts.map((text) => h("p", text)),
+    button("Save the script", () => saveFile(".script"))];
+}
+
+function seats() {
+  const name = text({ maxLength: 24, size: 14 });
+  const person = ([seat, called]) => h("li", h("b", `Seat ${seat}`),
+    [called, seat === state.seat ? "you" : ""].filter(Boolean).join(", "));
+  return [h("h2", "Who is on this gas"), h("ul.people", [...state.people].map(person)),
+    form(() => send([`.name ${name.value}`]), h("label", "Your name ", name), " ", button("Save"))];
+}
+
+function help() {
+  const single = h("input", { type: "checkbox", checked: state.keysOn, onchange: () => {
+    state.change({ keysOn: single.checked });
+    stored("localStorage", "gaslab-keys", single.checked);
+  } });
+  const all = [...Object.values(ALWAYS), ...KEYS,
+    ...TOOLS.map(({ key, name }) => ({ shown: key, words: name.toLowerCase() }))];
+  return [h("h2", "Keys"), h("label.switch", single,
+    " Single keys act everywhere. Without this they act on the gas alone."),
+  h("div.keys", all.flatMap(({ shown, words }) => [
+    h("span", shown.split(" ").flatMap((key) => [h("kbd", key), " "])), h("span", words)]))];
+}
+
+// ---- share
+/** A thing to take home: its name, what it is, and what its button does. */
+function give(name, text, act, label = "Save") {
+  const does = button(label, () => act(does));
+  return h("div.give", h("b", name), h("p", text), does);
+}
+
+const bytesIn = (n) => n < 1 << 20 ? `${say(Math.round(n / 102.4) / 10)} KB`
+  : `${say(Math.round(n / 104857.6) / 10)} MB`;
+
+function share() {
+  const { picture: { width, height, journal }, cap } = state, { drains, sources } = view.ports;
+  const size = 22 + 3 * width * height / 8 + 8 * drains.length + 10 * sources.length;
+  return [h("h2", "Take it home, or show it"),
+    give("Script", "gas.txt: the journal as command lines, with the size. "
+      + `${say(journal)} of ${say(cap)} entries.`, () => saveFile(".script")),
+    give("Snapshot", `day.gas: the gas as it is now, without ledger and journal. ${bytesIn(size)}.`,
+      () => saveFile(".snapshot")),
+    give("Readings", "Tick, tally, ledger, probes and entropy of each picture, as comma-separated values.",
+      () => download("readings.csv", plots.table(), "text/csv")),
+    ...plots.shown.filter((id) => plots.graphs[id]).map((id) =>
+      give(`Plot: ${id}`, "The curve with its axes, as PNG.", () => savePicture(plots.picture(id), id))),
+    give("Picture", "The cells as they are shown, as PNG.", () => savePicture()),
+    give("Film", "The next 60 pictures, as GIF. Press play first.", saveFilm),
+    ...Object.entries(state.links).map(giveLink),
+    ...state.program === "page" ? [] : [give("A page of its own",
+      "One HTML file with lessons and engine, which needs no program and no network.",
+      () => h("a", { href: "gas.html", download: "gas.html" }).click())]];
+}
+
+function giveLink([what, token]) {
+  const { href } = new URL(`/${token}/`, location.href), name = `Link to ${what}`;
+  const copied = () => navigator.clipboard.writeText(href).then(() => "Copied", () => "Copy it by hand");
+  const input = h("input.link", { readOnly: true, value: href, "aria-label": name });
+  const row = give(name, what === "watch" ? "Who opens it sees this gas, and can change nothing."
+    : "Who opens it takes a seat on this gas.", async (does) => {
+    input.select();
+    does.textContent = await copied();
+  }, "Copy");
+  row.append(input);
+  return row;
+}
+
+// ---- truth tables
+const INPUTS = 5;          // the most
+
+/** The cells that are full, if they are few enough for inputs. */
+function likelyInputs() {
+  const { width, height } = view.picture, cells = [];
+  if (view.picture.tally[0] > INPUTS) return [];
+  for (let y = 0; y < height; y++) for (let x = 0; x < width; x++) if (view.has(x, y)) cells.push([x, y]);
+  return cells;
+}
+
+/** What probes hold after some steps, for each choice of full inputs. In the end the gas is as before. */
+async function truthTable(inputs, ticks, outputs) {
+  const has = inputs.map(([x, y]) => view.has(x, y));
+  if (view.hasPorts) throw new Error("A gas with sources or drains can't be stepped back.");
+  await pause();
+  const put = (isFull) => inputs.map(([x, y], k) => `${isFull[k] ? "put" : "erase"} ${x} ${y} 1 1`);
+  const cases = Array.from({ length: 1 << inputs.length },
+    (_, n) => inputs.map((_cell, k) => n >> (inputs.length - 1 - k) & 1));
+  const asks = outputs.map((rect) => `probe ${rect.join(" ")}`);
+  const lines = cases.flatMap((isFull) => [...put(isFull), `step ${ticks}`, ...asks, `back ${ticks}`]);
+  edits.isOff = true;
+  state.change({ loading: true });
+  const replies = await send([...lines, ...put(has)], { isQuiet: true });
+  state.change({ loading: false });
+  edits.isOff = false;
+  const bad = replies.find(isRefusal);
+  if (bad) throw new Error(`The table can't be had: ${bad}.`);
+  const counts = replies.filter((reply) => reply.startsWith("PROBE"))
+    .map((reply) => Number(reply.split(" ")[1]));
+  return cases.map((isFull, n) => [...isFull, ...counts.slice(n * asks.length, (n + 1) * asks.length)]);
+}
+
+function table() {
+  const { probes } = state.picture, known = likelyInputs().map((cell) => cell.join(" ")).join(", ");
+  const inputs = text({ size: 24, value: known, "aria-label": "Inputs" });
+  const ticks = number("11", "Steps", { min: "1", max: "4096" });
+  const result = h("div.result", { role: "status" });
+  const fill = async (e) => {
+    e.preventDefault();
+    result.replaceChildren(await filled(inputs.value, ticks.valueAsNumber, probes)
+      .catch((fault) => fault.message));
+    place();
+  };
+  return [h("h2", "Truth table"), h("p", "Each input cell is full or empty. After the steps the probes are "
+    + "read, and the gas is stepped back. It is as before in the end."),
+  form(fill, h("label", "Inputs ", inputs), h("label", " Steps ", ticks), " ", button("Fill the table")),
+  result];
+}
+
+/** A truth table as an element. Throws an Error in plain words. */
+async function filled(text, ticks, probes) {
+  const cells = text.split(",").map((cell) => cell.trim().split(/ +/).map(Number));
+  const isCell = (cell) => cell.length === 2 && cell.every(Number.isInteger) && view.holds(cell);
+  if (!cells.every(isCell) || cells.length > INPUTS)
+    throw new Error(`Inputs are 1 to ${INPUTS} cells: x y, x y.`);
+  const rows = await truthTable(cells, ticks, probes.map(({ rect }) => rect));
+  const heads = [...cells.map((cell) => cell.join(" ")), ...probes.map(({ key }) => `probe ${key}`)];
+  return h("table.truth",
+    h("thead", h("tr", heads.map((name) => h("th", { scope: "col" }, name)))),
+    h("tbody", rows.map((row) => h("tr", row.map((n) => h("td", String(n)))))));
+}
+
+for (const [id, fill, size] of [["lessons-open", lessons, "wide"], ["truth", truth, "middle"],
+  ["seats", seats, "middle"], ["share-open", share, "middle"], ["help-open", help, "wide"],
+  ["table-open", table, "middle"]])
+  at(id).onclick = () => { if (state.picture || id !== "share-open") openDialog(at(id), fill, size); };
+at("script").onclick = () => saveFile(".script");
+
+// ---- the header, the tabs, and what is remembered
+function showHeader() {
+  const { program, rights, seat, people, status } = state, others = people.size - 1;
+  const more = [rights === "watch" && ", watching", others > 0 && ` · ${plural(others, "other")}`];
+  at("truth").dataset.program = program;
+  at("truth").lastElementChild.textContent = (TRUTH[program] ?? TRUTH.none)[0];
+  at("seats").hidden = program === "page";
+  at("script").hidden = program !== "page";
+  const own = [`Seat ${seat}`, ...more].filter(Boolean).join("");
+  at("seats").textContent = seat === null ? "No seat yet" : own;
+  Object.assign(document.body.dataset, { status, rights });
+}
+
+function showTab(name) {
+  document.body.dataset.tab = name;
+  choose(tabs, (tab) => tab.dataset.tab === name, "aria-selected");
+  plots.resize();
+}
+
+function setLarge(isLarge) {
+  document.documentElement.classList.toggle("large", isLarge);
+  at("larger").ariaPressed = isLarge;
+  stored("localStorage", "gaslab-large", isLarge);
+  plots.redraw(true);
+}
+
+for (const tab of tabs) tab.onclick = () => showTab(tab.dataset.tab);
+rove(document.querySelector(".tabs"), tabs, true);
+at("larger").onclick = () => setLarge(at("larger").ariaPressed !== "true");
+state.on(["program", "people", "rights", "seat", "status"], showHeader);
+setLarge(stored("localStorage", "gaslab-large") === "true");
+state.change({ keysOn: stored("localStorage", "gaslab-keys") !== "false" });
+showTab("readings");
 join();
 
 /** For tests alone. */

@@ -34,9 +34,11 @@ class Plots {
   late = null;
 
   constructor() {
+    const others = (id) => this.shown.filter((one) => one !== id);
+    const toggle = (id) => this.choose(this.shown.includes(id) ? others(id) : [...this.shown, id]);
     this.clear();
     document.querySelector("#plots .chips").append(...Object.entries(PLOTS).map(([id, { name, unit }]) =>
-      h("button", { "data-plot": id, title: unit, onclick: () => this.toggle(id) }, name)));
+      h("button", { "data-plot": id, title: unit, onclick: () => toggle(id) }, name)));
   }
 
   clear() {
@@ -46,11 +48,6 @@ class Plots {
   }
 
   newLedger() { Object.assign(this, { recent: [], last: null }); }
-
-  toggle(id) {
-    const { shown } = this;
-    this.choose(shown.includes(id) ? shown.filter((one) => one !== id) : [...shown, id]);
-  }
 
   choose(ids) {
     this.shown = Object.keys(PLOTS).filter((id) => ids.includes(id));

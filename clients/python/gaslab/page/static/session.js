@@ -12,34 +12,21 @@ import { Lab, fromSnapshot, hexOf } from "./engine.js";
 const EVENTS = ["hello", "links", "open", "seat", "entry", "play", "pause"];
 let worker = null;
 
-/** The parts of a WebSocket that the page uses, to the worker. */
-class Local {
-  readyState = WebSocket.OPEN;
-
-  constructor(source) {
-    const { port1, port2 } = new MessageChannel();
-    // from the text that the page has: a module can't be read from a folder
-    worker ??= new Worker(URL.createObjectURL(new Blob([source], { type: "text/javascript" })));
-    worker.addEventListener("error", () => this.close());
-    worker.postMessage(null, [port2]);
-    this.port = port1;
-    port1.onmessage = (message) => this.onmessage?.(message);
-  }
-
-  send(message) { this.port.postMessage(message); }
-
-  close() {
-    if (this.readyState === WebSocket.CLOSED) return;
-    Object.assign(this, { readyState: WebSocket.CLOSED, onmessage: null });
-    this.send(null);
-    this.onclose?.();
-  }
-}
-
-/** Takes a seat. */
+/** Takes a seat, by a WebSocket, or by a port to the worker that has the parts of one which the page uses. */
 export function connect() {
-  const source = document.getElementById("worker")?.textContent;
-  return source ? new Local(source) : new WebSocket(new URL("socket", location.href));
+  const source = document.getElementById("worker")?.textContent, { port1, port2 } = new MessageChannel();
+  if (!source) return new WebSocket(new URL("socket", location.href));
+  const close = () => {
+    if (port1.readyState === WebSocket.CLOSED) return;
+    port1.send(null);
+    Object.assign(port1, { readyState: WebSocket.CLOSED, onmessage: null });
+    port1.onclose?.();
+  };
+  // from the text that the page has: a module can't be read from a folder
+  worker ??= new Worker(URL.createObjectURL(new Blob([source], { type: "text/javascript" })));
+  worker.addEventListener("error", close, { once: true });
+  worker.postMessage(null, [port2]);
+  return Object.assign(port1, { readyState: WebSocket.OPEN, send: port1.postMessage, close });
 }
 
 export class Link {
@@ -142,7 +129,7 @@ class Edits {
   open = null;             // the edit whose lines still come
   #lab = null;             // the gas after the last line, made when it is first needed
   isMoving = false;        // steps come between the lines
-  depth = 0;
+  depth = 0;               // of sends: lines that are sent together are one edit
   isOff = false;           // what comes is no edit
   changed = () => {};      // called when the list changes
 
@@ -159,14 +146,6 @@ class Edits {
 
   get lab() { return this.#lab ??= new Lab(fromSnapshot(snapshotOf(view))); }
   get gas() { return this.lab.gas; }
-
-  /** Lines that are sent together are one edit: they are sent between `begin` and `end`. */
-  begin() { this.depth += 1; }
-
-  end() {
-    this.depth -= 1;
-    if (this.depth === 0) this.close();
-  }
 
   /** Keeps of the planes before the edit only what it can have changed. */
   close() {
@@ -230,11 +209,6 @@ class Edits {
     if (isSame) return { lines: [...lines, ...this.cellLines(last)], note: "" };
     if (lines.length) return { lines, note: "The particles stay as they are: they have moved on." };
     return { why: `${this.label()} can't be undone: its particles have moved on. Undo stops at it.` };
-  }
-
-  pop() {
-    this.list.pop();
-    this.changed();
   }
 
   portLines({ before: { ports } }) {
@@ -385,9 +359,10 @@ function measure({ tick, steps, rate }) {
 /** Sends a person's lines. A refusal is shown at `rect`, as one of time, or by the caller if `isQuiet`. */
 export async function send(lines, where = {}) {
   hideNotice();
-  edits.begin();
+  edits.depth += 1;
   const replies = await state.link.send(lines);
-  edits.end();
+  edits.depth -= 1;
+  if (edits.depth === 0) edits.close();
   exchanges(lines, replies);
   const bad = replies.findIndex(isRefusal);
   if (bad >= 0 && !where.isQuiet) refuse(replies[bad], lines[bad], { ...where, lines });

@@ -25,7 +25,7 @@ function rectsOf(cells) {
   return options.shape === "circle" ? ellipse(rect) : stroke(cells, view.picture, options.snap);
 }
 
-export function preview(cells) {
+function preview(cells) {
   const tool = toolOf(state.tool), rects = rectsOf(cells), [, y, , h] = rects[0];
   const line = !tool.line ? `row ${y} … row ${y + h - 1}` : rects.length > 1
     ? `${tool.id}, ${rects.length} rectangles` : lineOf(tool, rects[0]);
@@ -54,16 +54,12 @@ export async function act(cells) {
 
 function showBad(isBad) { view.select(isBad && view.selection ? { ...view.selection, bad: true } : null); }
 
-function fillAll() {
-  const { width, height } = view.picture;
-  act([[0, 0], [width - 1, height - 1]]);
-}
-
 export async function undo() {
   if (isWatching()) return;
   const { lines, note, why } = edits.plan();
   if (why) { notice({ title: "Not undone", text: why }); return; }
-  edits.pop();
+  edits.list.pop();
+  edits.changed();
   edits.isOff = true;
   const replies = lines.length ? await send(lines) : [];
   edits.isOff = false;
@@ -100,12 +96,12 @@ async function shoot(cells, chosen) {
   else await send([`put ${x} ${y} 1 1`], { rect });
 }
 
-let followed = null;       // { cell, before }: the cell, and a snapshot of the gas in which it is there
+let followed = null;       // a snapshot of the gas in which a trail ends
 
 /** Marks a particle's cells up to the present one. */
 function mark(trail) {
   view.trail = trail.slice(-TRAIL);
-  followed = trail.length ? { cell: trail.at(-1), before: snapshotOf(view) } : null;
+  followed = trail.length ? snapshotOf(view) : null;
 }
 
 /** Follows the particle of a cell, or none if the cell is empty. */
@@ -149,11 +145,11 @@ function lose(text) {
 
 function followOn() {
   if (!followed) return;
-  const lab = new Lab(fromSnapshot(followed.before)), { gas } = lab, { picture } = view;
+  const lab = new Lab(fromSnapshot(followed)), { gas } = lab, { picture } = view;
   const n = picture.tick - gas.tick;
   if (gas.width !== picture.width || gas.height !== picture.height) { mark([]); return; }
   if (Math.abs(n) > FARTHEST) { lose(`Its way is lost: ${Math.abs(n)} steps were made at once.`); return; }
-  const trail = [...view.trail, ...cellsOf(lab, followed.cell, n)];
+  const trail = [...view.trail, ...cellsOf(lab, view.trail.at(-1), n)];
   if (trail.length < view.trail.length + Math.abs(n)) { lose("It was drained."); return; }
   const isSame = n === 0 || toBytes(gas.particles).every((byte, k) => byte === picture.particles[k]);
   if (isSame && view.has(...trail.at(-1))) mark(trail);
@@ -171,7 +167,7 @@ const buttons = [...TOOLS.map(({ id, name, hint, key, gap, icon: shapes }) =>
     icon(shapes), h("span", name))), undoButton];
 
 /** Says something below the gas, or the tool's hint. `isSpoken` tells a screen reader too. */
-export function showWords(children, isSpoken = false) {
+function showWords(children, isSpoken = false) {
   const hasTask = state.lesson.task && !state.tried, tool = toolOf(state.tool);
   said.hidden = isSpoken;
   cellSaid.hidden = !isSpoken;
@@ -190,6 +186,8 @@ function share([name, min, text]) {
     h("input", { type: "range", min, max: "100", step: "5", value: options[name], oninput }), shown);
 }
 
+const lastCell = () => [view.picture.width - 1, view.picture.height - 1];
+
 function showOptions() {
   const tool = toolOf(state.tool), set = (name) => (value) => { options[name] = value; };
   const choice = (name) => choices(...CHOICES[name], options[name], set(name));
@@ -197,7 +195,7 @@ function showOptions() {
   const period = h("input", { type: "number", min: "1", max: "65535", value: options.period, oninput });
   fill(at("options"), hasShapes(tool) && choice("shape"), tool.line && !tool.cell && choice("snap"),
     tool.id === "source" && h("label", "every ", period, " ticks"), tool.id === "shoot" && choice("way"),
-    tool.id === "random" && [...SHARES.map(share), button("Fill all", fillAll)]);
+    tool.id === "random" && [...SHARES.map(share), button("Fill all", () => act([[0, 0], lastCell()]))]);
   at("options").hidden = !at("options").childElementCount;
 }
 
@@ -346,14 +344,15 @@ function cursorKey({ key, shiftKey }) {
   const isEnter = key === ALWAYS.draw.key;
   if (cursor && key === ALWAYS.leave.key) { leaveCursor(); return true; }
   if (!(cursor ? isEnter || MOVES[key] : isEnter && toolOf(state.tool).colour)) return false;
-  if (!cursor) cursor = { cell: view.middleCell, from: null };
+  const { x0, y0, x1, y1 } = view.visible();
+  if (!cursor) cursor = { cell: [(x0 + x1) >> 1, (y0 + y1) >> 1], from: null };
   else if (isEnter) {
     const { cell, from } = cursor;
     cursor.from = from ? null : cell;
     if (from) act([from, cell]);
   } else {
-    const sides = [view.picture.width, view.picture.height], move = (k) => MOVES[key][k] * (shiftKey ? 8 : 1);
-    cursor.cell = cursor.cell.map((v, k) => Math.max(0, Math.min(sides[k] - 1, v + move(k))));
+    const last = lastCell(), move = (k) => MOVES[key][k] * (shiftKey ? 8 : 1);
+    cursor.cell = cursor.cell.map((v, k) => Math.max(0, Math.min(last[k], v + move(k))));
     view.follow(cursor.cell);
   }
   showCursor();
