@@ -1,5 +1,5 @@
 // The gas on its canvas: pixels of its cells, and what is drawn above them.
-import { COLOURS, RAMP, h, at, SANS, ZOOM } from "./dom.js";
+import { COLOURS, RAMP, SANS, ZOOM, at, h } from "./base.js";
 
 // ---- sets of cells as rectangles, and the lines that draw them
 /** The rectangle between two cells, snapped outward to squares of `snap` cells, within the lattice. */

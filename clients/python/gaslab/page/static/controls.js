@@ -1,7 +1,6 @@
 // What stands around the gas: time, the view, readings, and the command line.
-import { at, h, icon, say, plural, setText, ICONS, fill, COLOURS, WAYS, ZOOM, choose, rove, ROWS, ALWAYS,
-  COMMANDS, MOVES, isRefusal } from "./dom.js";
-import { state, SPEEDS } from "./state.js";
+import { ALWAYS, COLOURS, COMMANDS, ICONS, MOVES, ROWS, SPEEDS, WAYS, ZOOM, at, choose, fill, h, icon,
+  isRefusal, plural, rove, say, setText, state } from "./base.js";
 import { view } from "./canvas.js";
 import { plots } from "./plots.js";
 import { speak, addRow, note, exchange } from "./notices.js";

@@ -1,6 +1,5 @@
 // What is said to a person: a box beside a gesture, a banner, words for a screen reader, and the log.
-import { at, button, fill, h, plainWords, isRefusal } from "./dom.js";
-import { state } from "./state.js";
+import { at, button, fill, h, isRefusal, plainWords, state } from "./base.js";
 import { view } from "./canvas.js";
 
 /** Shows a box beside a rectangle of the gas, or above Play. `does` are its buttons, [name, action] each. */

@@ -1,7 +1,6 @@
 // The page: what opens a gas, and the header with its dialog.
-import { at, fill, h, words, plainWords, isRefusal, button, plural, say, TRUTH, KEYS, ALWAYS, TOOLS, choose,
-  rove } from "./dom.js";
-import { ALL, EMPTY, LESSONS, SCENES, find, kindOf, state } from "./state.js";
+import { ALL, ALWAYS, EMPTY, KEYS, LESSONS, SCENES, TOOLS, TRUTH, at, button, choose, fill, find, h,
+  isRefusal, kindOf, plainWords, plural, rove, say, state, words } from "./base.js";
 import { view } from "./canvas.js";
 import { plots } from "./plots.js";
 import { notice, banner, hideBanner, speak, note } from "./notices.js";
@@ -229,9 +228,8 @@ function own() {
   const sides = ["Width", "Height"].map((name) =>
     h("select", { "aria-label": name }, SIDES.map((cells) => h("option", String(cells)))));
   const by = ["Columns to the right", "Rows downwards"].map((name) => number("0", name));
-  return h("div.own", h("h3", "Your own"),
-    form(() => load(EMPTY, sides.map(({ value }) => Number(value))),
-      "Empty, ", sides[0], " by ", sides[1], button("Open")),
+  return h("div.own", h("h3", "Your own"), form(() => load(EMPTY, sides.map(({ value }) => Number(value))),
+    "Empty, ", sides[0], " by ", sides[1], button("Open")),
     button("Open a script or snapshot", closing(() => pickFile(({ name, bytes }) => openBytes(name, bytes)))),
     form(() => placeScript(by.map((input) => input.valueAsNumber || 0)),
       "Place a script here, moved by ", ...by, button("Choose")));
@@ -369,8 +367,7 @@ async function filled(text, ticks, probes) {
     throw new Error(`Inputs are 1 to ${INPUTS} cells: x y, x y.`);
   const rows = await truthTable(cells, ticks, probes.map(({ rect }) => rect));
   const heads = [...cells.map((cell) => cell.join(" ")), ...probes.map(({ key }) => `probe ${key}`)];
-  return h("table.truth",
-    h("thead", h("tr", heads.map((name) => h("th", { scope: "col" }, name)))),
+  return h("table.truth", h("thead", h("tr", heads.map((name) => h("th", { scope: "col" }, name)))),
     h("tbody", rows.map((row) => h("tr", row.map((n) => h("td", String(n)))))));
 }
 

@@ -1,5 +1,5 @@
 // The plots: values of each picture by tick, kept in runs, and drawn by dygraphs.
-import { at, fill, h, say, setText, SANS, COLOURS, CURVES, PLOTS, toolOf } from "./dom.js";
+import { COLOURS, CURVES, PLOTS, SANS, at, fill, h, say, setText, toolOf } from "./base.js";
 import { LEDGER } from "./frame.js";
 import { parts, countSquares } from "./canvas.js";
 

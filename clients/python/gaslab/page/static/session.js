@@ -1,6 +1,5 @@
 // The page's seat at a server.
-import { plainWords, isRefusal } from "./dom.js";
-import { EMPTY, otherLesson, state, SPEEDS } from "./state.js";
+import { EMPTY, SPEEDS, isRefusal, otherLesson, plainWords, state } from "./base.js";
 import { decode } from "./frame.js";
 import { around, cover, view } from "./canvas.js";
 import { plots } from "./plots.js";

@@ -1,7 +1,6 @@
 // Tools, and the gestures and keys that use them.
-import { at, button, fill, h, icon, ALWAYS, CHOICES, ICONS, SHARES, TOOLS, isRefusal, toolOf, choices, choose,
-  rove, words, KEYS, CURSOR, FATES, KINDS, MOVES } from "./dom.js";
-import { state } from "./state.js";
+import { ALWAYS, CHOICES, CURSOR, FATES, ICONS, KEYS, KINDS, MOVES, SHARES, TOOLS, at, button, choices,
+  choose, fill, h, icon, isRefusal, rove, state, toolOf, words } from "./base.js";
 import { ellipse, randomGas, rectangle, stroke, view } from "./canvas.js";
 import { plots } from "./plots.js";
 import { notice, hideNotice, speak } from "./notices.js";
