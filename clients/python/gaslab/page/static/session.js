@@ -43,43 +43,39 @@ export class Link {
         else this.takeParts(data instanceof ArrayBuffer ? decode(data) : data);
       } catch (fault) { this.strange(fault); }
     };
-    socket.onclose = () => {
-      this.end();
-      on.gone();
-    };
+    socket.onclose = () => this.end();
   }
 
   get isOpen() { return this.socket.readyState === WebSocket.OPEN; }
 
   /** Answers all that waits: nothing comes any more. */
-  end() {
+  end(isStrange = false) {
     for (const { resolve } of this.waiting.values()) resolve("GONE");
     this.waiting.clear();
+    this.on.gone(isStrange);
   }
 
-  /** Sends a message whose lines have these numbers. */
-  ask(numbers, message) {
-    const asked = numbers.map(() => ({ files: [], ...Promise.withResolvers() }));
-    asked.forEach((one, k) => this.waiting.set(numbers[k], one));
-    if (this.isOpen) this.socket.send(message);
-    else this.end();
+  /** Sends lines in one message, or a snapshot as line 0. */
+  ask(lines, snapshot = null) {
+    const asked = lines.map((line) =>
+      ({ line, number: snapshot ? 0 : this.next++, files: [], ...Promise.withResolvers() }));
+    if (!this.isOpen) asked.forEach(({ resolve }) => resolve("GONE"));
+    else {
+      for (const one of asked) this.waiting.set(one.number, one);
+      this.socket.send(snapshot ?? asked.map(({ number, line }) => `${number} ${line}`).join("\n"));
+    }
     return asked;
   }
 
-  askLines(lines) {
-    const numbers = lines.map(() => this.next++);
-    return this.ask(numbers, lines.map((line, k) => `${numbers[k]} ${line}`).join("\n"));
-  }
-
-  /** Sends lines in one message. Resolves to their replies, in order. */
-  send(lines) { return Promise.all(this.askLines(lines).map(({ promise }) => promise)); }
+  /** Sends lines. Resolves to their replies, in order. */
+  send(lines) { return Promise.all(this.ask(lines).map(({ promise }) => promise)); }
 
   /** Sends a snapshot to begin from. Resolves to the reply. */
-  upload(bytes) { return this.ask([0], bytes)[0].promise; }
+  upload(bytes) { return this.ask([""], bytes)[0].promise; }
 
   /** Asks for files: `.script` or `.snapshot`. Resolves to them, or to none if they are refused. */
   async fetch(word) {
-    const [{ promise, files }] = this.askLines([word]);
+    const [{ promise, files }] = this.ask([word]);
     return await promise === "DONE" ? files : [];
   }
 
@@ -111,8 +107,7 @@ export class Link {
     console.warn(fault);
     this.socket.onclose = null;
     this.socket.close();
-    this.end();
-    this.on.gone(true);
+    this.end(true);
   }
 }
 
@@ -298,7 +293,7 @@ const events = {
       speak(`${why === "there" ? "Arrived" : "Paused"} at tick ${state.picture.tick}.`);
   },
   picture(p) { take(p); },
-  gone(isStrange = false) {
+  gone(isStrange) {
     state.change({ status: "gone", playing: false });
     banner(isStrange ? "The server sent something that this page can't read. The connection is closed."
       : "The server has ended. This is its last picture.",
