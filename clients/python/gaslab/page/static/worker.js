@@ -21,7 +21,7 @@ function tell(line) { for (const page of pages.values()) page.send(line); }
 
 /** Adds a page. `send` takes a line, a picture or a file. */
 function join(send) {
-  const page = { seat: seats++, send, undrawn: 0, isBehind: false, solids: -1, name: "" };
+  const page = { seat: seats++, send, undrawn: 0, newest: 0, solids: null, name: "" };
   send(`* hello ${page.seat} all page ${CAP} ${isNew ? "new" : "kept"}`);
   send(opened());
   for (const other of pages.values()) {
@@ -111,7 +111,6 @@ function take({ seat }, other) {
   now = other;
   isNew = false;
   isDirty = true;
-  for (const page of pages.values()) page.solids = -1;
   tell(opened());
   return "DONE";
 }
@@ -155,18 +154,15 @@ function beat() {
 function show() {
   isDirty = false;
   number += 1;
-  for (const page of pages.values()) {
-    page.isBehind = true;
-    serve(page);
-  }
+  for (const page of pages.values()) serve(page);
 }
 
 function serve(page) {
-  if (!page.isBehind || page.undrawn >= UNDRAWN) return;
+  if (page.newest === number || page.undrawn >= UNDRAWN) return;
   const { lab, lab: { gas }, probes } = now, { seat, steps, rate } = play ?? IDLE;
-  const { width, height, tick, drains, sources } = gas, solids = page.solids !== lab.solidsVersion
+  const { width, height, tick, drains, sources } = gas, solids = page.solids !== gas.solids
     && { walls: toBytes(gas.walls), obstacles: toBytes(gas.obstacles), ports: { drains, sources } };
-  Object.assign(page, { solids: lab.solidsVersion, isBehind: false, undrawn: page.undrawn + 1 });
+  Object.assign(page, { newest: number, solids: gas.solids, undrawn: page.undrawn + 1 });
   page.send({ player: seat, width, height, tick, number, journal: lab.journal.length, steps, rate,
     playing: play !== null, tally: gas.sums(), ledger: lab.ledger(),
     probes: probes.map((probe) => ({ ...probe, sums: gas.sums(probe.rect) })),
