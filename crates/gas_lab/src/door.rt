@@ -37,13 +37,13 @@ impl Copied {
 
 /// A seat's way to a laboratory. Each type of door says what its calls may return and how they change it.
 pub trait Door {
-    // the width and height of the laboratory's lattice
+    // The width and height of the laboratory's lattice.
     ghost size_of: { Self → Extent };
 
-    // how a command may be answered, and how it may change the door
+    // How a command may be answered, and how it may change the door.
     ghost asks: { Self → Command → Result Answer Refusal → Self → Type 0 };
 
-    // the same for a copy of the gas
+    // The same for a copy of the gas.
     ghost copies: { Self → Result Copied NoMemory → Self → Type 0 };
 
     /// The width and height of the lattice, which no call changes.

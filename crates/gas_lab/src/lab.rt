@@ -28,7 +28,7 @@ pub struct Lab<S: Stepper> {
     cap: u32,
     books: Books,
     journal: Vec<Entry>,
-    // what a step writes into, of the size of the gas
+    // What a step writes into, of the size of the gas.
     spare: Plane,
     stepper: S,
 }
@@ -141,7 +141,7 @@ impl<S: Stepper> Lab<S> {
         ensures torus { IsOnOneTorus self.now.gas }
         ensures full { IsEvenTorus self.now.gas.particles }
     {
-        // a read of a field shows the prover what the type keeps, and a gas's size what the gas keeps
+        // A read of a field shows the prover what the type keeps, and a gas's size what the gas keeps.
         let _cap = self.cap;
         let _size = self.gas().size();
     }
@@ -164,7 +164,7 @@ impl<S: Stepper> Lab<S> {
         self.books.gas.copy(*self.journal.allocator())
     }
 
-    // why the command would be refused, if it would
+    // Why the command would be refused, if it would.
     fn cause(&self, command: &Command) -> Option<Refusal>
         ensures { result ≡ cause self.now command.now }
     {
@@ -228,7 +228,7 @@ impl<S: Stepper> Lab<S> {
         command.is_change() && self.cap as usize <= self.journal.len()
     }
 
-    // the particles of row y
+    // The particles of row y.
     fn row(&self, y: u16) -> Result<Answer, Refusal>
         requires { y < self.now.gas.particles.height }
         ensures ok { IfOk result (λ answer. answer ≡ RowIs (row_bytes self.now.gas.particles y)) }
@@ -241,7 +241,7 @@ impl<S: Stepper> Lab<S> {
         Ok(Answer::RowIs(row))
     }
 
-    // entry k of the journal
+    // Entry k of the journal.
     fn entry(&self, k: u32) -> Result<Answer, Refusal>
         requires { k < length self.now.journal }
         ensures ok { IfOk result (λ answer. answer ≡ answer_of self.now (EntryAt k)) }
@@ -255,7 +255,7 @@ impl<S: Stepper> Lab<S> {
         }))
     }
 
-    // a change, whole or not at all: its place in the journal comes first
+    // A change, whole or not at all: its place in the journal comes first.
     fn change(&mut self, seat: u16, command: Command) -> Result<Answer, Refusal>
         requires acceptable { IsAcceptable self.old (entry_of seat command) }
         ensures changed { Changes self.old (entry_of seat command) result self.new }

@@ -40,7 +40,7 @@ impl Books {
         Ok(Books { gas, ledger })
     }
 
-    // steps forward in one run, and books what walls and obstacles take and what the ports bring in and take out
+    // Steps forward in one run, and books what walls and obstacles take and what the ports bring in and take out.
     fn steps<S: Stepper>(&mut self, n: u16, spare: &mut Plane, stepper: &mut S)
         requires tick { is_tick (self.old.gas.tick +ℤ pos n) ≡ true }
         requires spare { HasSidesOf spare.old self.old.gas.particles }
@@ -53,7 +53,7 @@ impl Books {
         self.ledger = taken.with_moved(flow.moved);
     }
 
-    // steps back in one run: walls and obstacles give back what they took
+    // Steps back in one run: walls and obstacles give back what they took.
     fn steps_back<S: Stepper>(&mut self, n: u16, spare: &mut Plane, stepper: &mut S)
         requires torus { IsEvenTorus self.old.gas.particles }
         requires tick { is_tick (self.old.gas.tick -ℤ pos n) ≡ true }
@@ -89,7 +89,7 @@ impl Books {
     }
 }
 
-// an edit or a reading of the gas, and what it brings in and takes out
+// An edit or a reading of the gas, and what it brings in and takes out.
 fn edited(gas: &mut Gas, command: &Command) -> Moved
     requires still { is_move command.now ≡ false }
     requires in_order { fits (extent gas.old.particles) command.now ≡ true }
@@ -108,7 +108,7 @@ fn edited(gas: &mut Gas, command: &Command) -> Moved
         Command::Source(area, period) => gas.add_port(Port::Source(*area, *period)),
         Command::Drain(area) => gas.add_port(Port::Drain(*area)),
         Command::Unport => gas.remove_ports(),
-        // a reading leaves the gas
+        // A reading leaves the gas.
         _ => {}
     }
     Moved::ZERO

@@ -137,7 +137,7 @@ impl Ports {
     }
 }
 
-// whether the period divides the tick
+// Whether the period divides the tick.
 fn is_due(tick: i64, period: u16) -> bool
     requires { 0 < period }
     ensures { result ≡ (nat_abs tick % period == 0) }

@@ -37,7 +37,7 @@ fn field(n: usize, bytes: &[u8]) -> Result<(&[u8], &[u8]), SnapFault>
     Ok(bytes.split_at(n))
 }
 
-// the k-th number of a field
+// The k-th number of a field.
 fn number(k: usize, field: &[u8]) -> u16
     requires { 2 * k + 2 ≤ length field.now }
     ensures { result ≡ number k field.now }
@@ -60,7 +60,7 @@ fn version(field: &[u8]) -> Result<Version, SnapFault>
     Err(SnapFault::Magic)
 }
 
-// whether the version has lattices of that size
+// Whether the version has lattices of that size.
 fn has_size(version: Version, size: Size) -> bool
     ensures { let most = greatest_side version in
         result ≡ (nat_le size.width most && nat_le size.height most) }
@@ -97,7 +97,7 @@ fn tick(field: &[u8]) -> Result<Tick, SnapFault>
     }
 }
 
-// how many drains and how many sources
+// How many drains and how many sources.
 fn counts(field: &[u8]) -> Result<(u8, u8), SnapFault>
     requires { length field.now ≡ 2 }
     ensures { let counts = counts_in field.now in
@@ -110,7 +110,7 @@ fn counts(field: &[u8]) -> Result<(u8, u8), SnapFault>
     Ok((drains, sources))
 }
 
-// the rectangle of a field's first four numbers
+// The rectangle of a field's first four numbers.
 fn area(size: Size, field: &[u8]) -> Option<Rect>
     requires { 8 ≤ length field.now }
     ensures { let area = area_in field.now in

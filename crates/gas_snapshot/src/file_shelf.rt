@@ -47,7 +47,7 @@ fn fill<R: Files>(files: &R, file: &mut R::File, path: &str, bytes: &[u8]) -> io
 }
 
 fn replace<R: Files>(files: &R, draft: &str, path: &str, bytes: &[u8]) -> io::Result<()> {
-    // a draft that was left here; if it can't be removed, the next call fails
+    // A draft that was left here; if it can't be removed, the next call fails.
     fs::remove_file(files, draft).ok();
     let mut file = File::create_new(files, draft)?;
     let filled = fill(files, &mut file, path, bytes);

@@ -14,7 +14,7 @@ use gas_plane::Plane;
 use gas_terms::{NoMemory, Size};
 use std::alloc::Global;
 
-// how many planes the cells of a version are
+// How many planes the cells of a version are.
 fn layers(version: Version) -> usize
     ensures { result ≡ layers version }
 {
@@ -24,7 +24,7 @@ fn layers(version: Version) -> usize
     }
 }
 
-// the third plane, which the first version leaves empty
+// The third plane, which the first version leaves empty.
 fn obstacles_of(
     alloc: Global,
     version: Version,

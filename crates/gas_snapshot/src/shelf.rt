@@ -24,10 +24,10 @@ impl Error for ShelfFault {}
 
 /// Where snapshots are put. It counts the puts that fail; the count stays at 2^64-1 once it is there.
 pub trait Shelf {
-    // how many puts have failed
+    // How many puts have failed.
     ghost failures: { Self → ℕ };
 
-    // what was put there, in order, if the type says so
+    // What was put there, in order, if the type says so.
     ghost shelved: { Self → Option (List (List ℕ)) } = { λ _. None };
 
     /// Takes the bytes whole, or fails and takes none.

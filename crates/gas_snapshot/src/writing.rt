@@ -12,7 +12,7 @@ use gas_plane::Plane;
 use gas_terms::NoMemory;
 use std::alloc::Global;
 
-// writes the rows from the place on
+// Writes the rows from the place on.
 fn put_plane(plane: &Plane, at: usize, part: usize, out: &mut [u8])
     requires part { part ≡ plane.now.height * (plane.now.width / 8) }
     requires room { at + part ≤ length out.old }
@@ -21,7 +21,7 @@ fn put_plane(plane: &Plane, at: usize, part: usize, out: &mut [u8])
     put_rows(plane, &mut out[at..at + part]);
 }
 
-// writes the whole snapshot, of which the head is given
+// Writes the whole snapshot, of which the head is given.
 fn fill(gas: &Gas, first: &[u8], part: usize, out: &mut [u8])
     requires part { part ≡ gas.now.particles.height * (gas.now.particles.width / 8) }
     requires sound { IsSoundGas gas.now }

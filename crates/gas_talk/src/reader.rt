@@ -13,7 +13,7 @@ use std::io::Read;
 use std::sync::ledger::Ledger;
 use tokio_util::codec::{Decoder, LinesCodec, LinesCodecError};
 
-// how many bytes a line may have before its newline
+// How many bytes a line may have before its newline.
 const LINE_LIMIT: usize = 2048;
 
 /// Cuts an input that comes in pieces into lines.

@@ -20,7 +20,7 @@ use std::io::{Read, Write};
 use std::marker::Brand;
 use std::sync::ledger::{Blank, Ledger};
 
-// how many reads a session makes at most
+// How many reads a session makes at most.
 const READS: u32 = 1 << 24;
 
 // Writes the line of a reply and flushes. If that fails, a part of the line is written.

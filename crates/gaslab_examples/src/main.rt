@@ -19,7 +19,7 @@ use std::thread::Threads;
 use std::{fs, io, thread};
 use test_types::faults::{FaultAt, Store};
 
-// what is run alone, on a new lattice of that width and height
+// What is run alone, on a new lattice of that width and height.
 const LESSONS: [(&str, u32, u32); 27] = [
     ("1_one_particle", 64, 64),
     ("2_head_on", 64, 64),
@@ -56,7 +56,7 @@ fn failure() -> io::Error {
     io::Error::from(io::ErrorKind::Other)
 }
 
-// a laboratory of that size, without other options
+// A laboratory of that size, without other options.
 fn setup(width: u32, height: u32) -> io::Result<Setup>
     ensures { IfOk result IsInRange }
 {
@@ -75,7 +75,7 @@ fn file_of(rt: &(impl Files + AllocGlobal), name: &str, kind: &str) -> io::Resul
     fs::read(rt, path.as_str())
 }
 
-// compares the output with the file beside the script, and prints whether they are the same
+// Compares the output with the file beside the script, and prints whether they are the same.
 fn tell(rt: &(impl Print + Files + AllocGlobal), name: &str, output: &[u8]) -> io::Result<bool> {
     let is_same = file_of(rt, name, "out")?.as_slice() == output;
     let verdict = if is_same {
@@ -87,7 +87,7 @@ fn tell(rt: &(impl Print + Files + AllocGlobal), name: &str, output: &[u8]) -> i
     Ok(is_same)
 }
 
-// runs the script from the gas, or else from an empty one, and tells whether it gives what is expected
+// Runs the script from the gas, or else from an empty one, and tells whether it gives what is expected.
 fn run_script(
     rt: &(impl Threads + Print + Files + AllocGlobal),
     name: &str,
@@ -125,7 +125,7 @@ fn run_all(rt: &(impl Threads + Print + Files + AllocGlobal)) -> io::Result<bool
     Ok(are_same)
 }
 
-// work that is kept, and gone on with from what was saved
+// Work that is kept, and gone on with from what was saved.
 fn run_kept(rt: &(impl Threads + Print + Files + AllocGlobal)) -> io::Result<bool> {
     let setup = setup(128, 64)?;
     let mut shelf = Store::new(rt.alloc(), FaultAt::never());
@@ -140,7 +140,7 @@ fn run_kept(rt: &(impl Threads + Print + Files + AllocGlobal)) -> io::Result<boo
     Ok(run_script(rt, "7_next_day", setup, Some(gas), &mut next)? && is_first_same)
 }
 
-// serves three sessions, and gives what is said of them
+// Serves three sessions, and gives what is said of them.
 fn serve_three(
     rt: &(impl Threads + Wait + Sync + AllocGlobal),
     listener: TcpListener,
@@ -156,7 +156,7 @@ fn serve_three(
     Ok(said)
 }
 
-// what a client gets who sends the script and reads to the end
+// What a client gets who sends the script and reads to the end.
 fn session_of(
     rt: &(impl Net<Stream = TcpStream> + Files + AllocGlobal),
     address: SocketAddr,
@@ -182,7 +182,7 @@ fn meet_all(
     Ok(are_same)
 }
 
-// three people on one gas
+// Three people on one gas.
 fn meet(
     rt: &(impl Net<Listener = TcpListener, Stream = TcpStream>
         + Threads

@@ -19,7 +19,7 @@ use std::sync::Wait;
 use std::thread::Threads;
 use std::{env, fs, io};
 
-// the gas of the snapshot in the file
+// The gas of the snapshot in the file.
 fn load(rt: &(impl Files + AllocGlobal), path: &str) -> Result<Gas, LoadFault> {
     let Ok(mut file) = fs::open(rt, path) else {
         return Err(LoadFault::Read);
@@ -39,14 +39,14 @@ fn start_of(
         Ok(gas) => Ok(Some(gas)),
         Err(LoadFault::Snap(SnapFault::Memory)) => Err(Status::NoMemory),
         Err(fault) => {
-            // the status tells of the fault, whether or not this can be written
+            // The status tells of the fault, whether or not this can be written.
             drop(eprintln!(rt; "load: {fault}"));
             Err(Status::NotLoaded)
         }
     }
 }
 
-// a shelf at the path, if there is one, for a seat
+// A shelf at the path, if there is one, for a seat.
 fn shelf_of<'r, R: Files + AllocGlobal>(
     rt: &'r R,
     path: Option<&str>,
@@ -58,7 +58,7 @@ fn shelf_of<'r, R: Files + AllocGlobal>(
     }
 }
 
-// a shelf for each seat
+// A shelf for each seat.
 fn shelves_of<'r, R: Files + AllocGlobal>(
     rt: &'r R,
     path: Option<&str>,
@@ -73,7 +73,7 @@ fn shelves_of<'r, R: Files + AllocGlobal>(
     Ok(shelves)
 }
 
-// one session, on standard input and output
+// One session, on standard input and output.
 fn run(
     rt: &(impl Threads + Input + Print + Files + AllocGlobal),
     setup: Setup,
@@ -96,7 +96,7 @@ fn run(
     )
 }
 
-// listens at the address, and says so
+// Listens at the address, and says so.
 fn listen(
     rt: &(impl Net<Listener = TcpListener, Stream = TcpStream> + Print),
     address: SocketAddr,
@@ -138,7 +138,7 @@ fn serve<K: Shelf + Drop + Send>(
     )
 }
 
-// what the words ask for, or else what the program exits with
+// What the words ask for, or else what the program exits with.
 fn plan_of<'a>(rt: &(impl Eprint + AllocGlobal), words: &'a [String]) -> Result<Plan<'a>, Status>
     ensures { IfOk result (λ plan. IsInRange plan.setup × HasSessions plan.service) }
 {
@@ -146,14 +146,14 @@ fn plan_of<'a>(rt: &(impl Eprint + AllocGlobal), words: &'a [String]) -> Result<
         Ok(plan) => Ok(plan),
         Err(PlanFault::Memory) => Err(Status::NoMemory),
         Err(PlanFault::Line(text)) => {
-            // the status tells that there is no plan, whether or not this can be written
+            // The status tells that there is no plan, whether or not this can be written.
             drop(eprint!(rt; "{text}"));
             Err(Status::NoPlan)
         }
     }
 }
 
-// the words of the command line, or else what the program exits with
+// The words of the command line, or else what the program exits with.
 fn words_of(rt: &(impl Env + AllocGlobal)) -> Result<Vec<String>, Status> {
     match env::args(rt) {
         Ok(words) => words.collect(rt.alloc()).map_err(|_| Status::NoMemory),
@@ -162,7 +162,7 @@ fn words_of(rt: &(impl Env + AllocGlobal)) -> Result<Vec<String>, Status> {
     }
 }
 
-// what the words ask for and the gas to start from, or else what the program exits with
+// What the words ask for and the gas to start from, or else what the program exits with.
 fn prepare<'a>(
     rt: &(impl Eprint + Files + AllocGlobal),
     words: &'a [String],
