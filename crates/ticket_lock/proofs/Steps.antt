@@ -14,7 +14,7 @@ use Rattle.std.proofs.lemmas.Bool.Decides.{when_true}
 use Rattle.ticket_lock.specs.Doors.{HasEntered}
 use Rattle.ticket_lock.specs.Turns.{newcomer, less_one, first_door, note_of, met, spent, waiting, at_turn, leaving, Has, entries_by, KnowsRight, AreApart, Slot, Keeps, Enters, Served, Left, Ticketed, Looked}
 use Rattle.ticket_lock.proofs.Views.{waits_of, idle_waits_with_none, waits_with_one, with_numbers, Apart, apart_of_none, apart_by, apart_kept, idle_has_no_turn, ticket_more, knows_waiting, knows_at_turn, knows_leaving, knows_others_left, knows_with_numbers, knows_note, knows_met, knows_spent}
-use Rattle.ticket_lock.proofs.Places.{sum_set, sum_le, each_set, each_push, pairs_set, pairs_push, in_list}
+use Rattle.ticket_lock.proofs.Places.{sum_set, sum_le, each_set, each_push, pairs_set, pairs_push, stands_at}
 
 module _ {X E F : Type 0} (entries : X → List E) (fixed : X → F) (by : E → ℕ) (key : ℕ × F) where
   abbrev V : Type 0
@@ -78,7 +78,7 @@ module _ {X E F : Type 0} (entries : X → List E) (fixed : X → F) (by : E →
   -- the slot, where a view keeps its turn
   slot_set : (homes : List (core.Option (Option X))) (views : List V) (journal : List E) (id : ℕ) (v w : V) → get_elem? views id ≡ core.some v → w.turn ≡ v.turn
       → Slot entries fixed by journal key.1 homes views → Slot entries fixed by journal key.1 homes (set views id w)
-  slot_set homes views journal id v w at same = grind (arith, each_set, set_here, in_list, set_else)
+  slot_set homes views journal id v w at same = grind (arith, each_set, set_here views id w (stands_at views id v at).0, set_else)
 
   slot_push : (homes : List (core.Option (Option X))) (views : List V) (journal : List E) (u : V) → u.turn ≡ false
       → Slot entries fixed by journal key.1 homes views → Slot entries fixed by journal key.1 homes (views ++ u ∷ [])
@@ -212,7 +212,7 @@ module _ {X E F : Type 0} (entries : X → List E) (fixed : X → F) (by : E →
       let home = home_for s r id v at on idle (sym served) in
       let x = home.0 in
       let w = at_turn v (entries x) in
-      let slot = inr (ap (λ hs. set hs 0 core.none) home.1, (id, w, set_here s.views id w (in_list s.views id v at), refl)) in
+      let slot = inr (ap (λ hs. set hs 0 core.none) home.1, (id, w, set_here s.views id w (stands_at s.views id v at).0, refl)) in
       let P : Bool → Type 0 = λ b. MatchBool b (Enters entries fixed by me (w, (0, Some x) ∷ me.1)) ((w, (0, Some x) ∷ me.1) ≡ me) in (
         w,
         takes 0 (Some x),
