@@ -1,4 +1,3 @@
-pub mod Prefixes
 pub mod Seeing
 pub mod Events
 pub mod Numbered

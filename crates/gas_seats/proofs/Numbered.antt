@@ -1,5 +1,5 @@
 -- Lists whose items are those of a rule, in order.
-use Rattle.std.proofs.lemmas.List.Elements.{All-nil, All-cons}
+use Rattle.std.proofs.lemmas.Option.{get_or_from_slice_get}
 use Rattle.std.proofs.Common.{◌≡◌, ℕ, zero, suc, ◌+◌, ◌<◌, ◌≤◌, List, [], ◌∷◌, ◌++◌, length, All, Some, slice_get, slice_index_or, refl, sym, ap, subst, ◌∙◌, inl, inr, arith, eq-or-lt_of_le}
 
 pub at_end : {X : Type 0} (xs : List X) (x : X) → slice_get (xs ++ x ∷ []) (length xs) ≡ Some x
@@ -37,7 +37,4 @@ rest_is fresh x xs ys n split all k d below =
 -- what all items of the rule have, all of the list have
 pub all_of_rule : {X : Type 0} (P : X → Type 0) (fresh : ℕ → X) (xs : List X) → ((i : ℕ) → P (fresh i))
     → ((i : ℕ) → i < length xs → slice_get xs i ≡ Some (fresh i)) → All P xs
-all_of_rule P fresh [] have rule = All-nil P
-all_of_rule P fresh (x ∷ xs) have rule =
-    let first : x ≡ fresh 0 = cc (rule 0 (omega arith)) in
-    All-cons P x xs (subst P (sym first) (have 0)) (all_of_rule P (λ i. fresh (suc i)) xs (λ i. have (suc i)) (λ i below. rule (suc i) (omega arith)))
+all_of_rule P fresh xs have rule k d below = subst P (sym (get_or_from_slice_get xs k (fresh k) d (rule k below))) (have k)
