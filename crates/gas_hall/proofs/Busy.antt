@@ -26,9 +26,7 @@ busy_end made [] (z ∷ after) x y long = absurd (omega (arith, long))
 busy_end made (w ∷ before) [] x y long = absurd (omega (arith, long))
 busy_end made (w ∷ before) (z ∷ after) x y long =
     let rest = busy_end made before after x y (omega (arith, long)) in
-    ap (λ n. one_if_busy (made w) (made z) + n) rest ∙ add_on (one_if_busy (made w) (made z)) (busy made before after) (one_if_busy (made x) (made y)) where
-      add_on : (a b c : ℕ) → a + (b + c) ≡ a + b + c
-      add_on a b c = omega arith
+    omega (arith, rest)
 
 -- one more that was served
 pub busy_served : {X : Type 0} (made : X → ℕ) (all left done back : List X) (x y : X) (n : ℕ) → all ≡ left ++ x ∷ [] → back ≡ done ++ y ∷ [] → length left ≡ length done
@@ -57,9 +55,7 @@ busy_reverse made (x ∷ xs) (y ∷ ys) long =
     let other = length-reverse ys in
     let rest = busy_reverse made xs ys (omega (arith, long)) in
     let end = busy_end made (reverse xs) (reverse ys) x y (omega (arith, long, here, other)) in
-    rw (reverse-append (x ∷ []) xs, reverse-append (y ∷ []) ys) (end ∙ ap (λ n. n + one_if_busy (made x) (made y)) rest ∙ swapped (busy made xs ys) (one_if_busy (made x) (made y))) where
-      swapped : (a b : ℕ) → a + b ≡ b + a
-      swapped a b = omega arith
+    rw (reverse-append (x ∷ []) xs, reverse-append (y ∷ []) ys) (omega (arith, end, rest))
 
 -- lists that are turned round, counted, and turned round again
 pub busy_turned : {X : Type 0} (made : X → ℕ) (xs ys zs back : List X) (n : ℕ) → ys ≡ reverse xs → length zs ≡ length ys → busy made ys zs ≤ n → back ≡ reverse zs → busy made xs back ≤ n

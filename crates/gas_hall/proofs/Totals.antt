@@ -1,10 +1,12 @@
 -- What seats made in all, each with a number of its own, is no more than a journal has that begins with what each has seen.
-use Rattle.std.proofs.Common.{◌≡◌, ℕ, zero, suc, ◌+◌, ◌<◌, ◌≤◌, cond, eqb, nat_lt, List, [], ◌∷◌, ◌++◌, All, length, length-append, Result, Some, slice_get, refl, sym, ap, subst, ◌∙◌, inl, inr, arith}
-use Rattle.std.proofs.lemmas.List.{map-append}
-use Rattle.std.specs.List.{sum_by}
+use Rattle.std.proofs.Common.{◌≡◌, ℕ, zero, suc, ◌+◌, ◌<◌, ◌≤◌, cond, eqb, nat_lt, List, [], ◌∷◌, ◌++◌, All, get_or, length, length-append, Result, Some, slice_get, refl, sym, ap, subst, ◌∙◌, inl, inr, arith}
+use Rattle.std.proofs.lemmas.List.{length-map, map-append}
+use Rattle.std.proofs.Math.ListN.{get_or-map}
+use Rattle.std.proofs.lemmas.Option.{get_or_from_slice_get, slice_get-get_or, slice_get_within}
+use Rattle.std.specs.List.{sum, sum_by}
 use Rattle.std.specs.Prelude.{map}
-use Rattle.std.proofs.lemmas.List.Elements.{All-nil, All-cons, filter-append}
-use Rattle.std.proofs.lemmas.List.Sums.{sum_by-cons}
+use Rattle.std.proofs.lemmas.List.Elements.{filter-append}
+use Rattle.std.proofs.lemmas.List.Sums.{sum-map, sum_by-cons}
 use Rattle.gas_terms.specs.declared.command.Entry.{Entry}
 use Rattle.gas_terms.specs.declared.command.Command.TheVariants.{Ledger}
 use Rattle.gas_terms.specs.declared.answer.Answer.{Answer}
@@ -16,7 +18,6 @@ use Rattle.atomic_table.specs.Seated.{TableId}
 use Rattle.gas_seats.specs.TurnSeats.{TurnSeatView, but_for_seen, entries_made, opening_seat, AsksInTurn}
 use Rattle.gas_terms.specs.Laboratory.{made_by}
 use Rattle.gas_seats.proofs.Numbered.{all_of_rule}
-use Rattle.gas_seats.proofs.Prefixes.{goes_on}
 use Rattle.gas_hall.proofs.Turns.{all_same, same_through}
 
 -- how many entries are of seats from n on
@@ -61,34 +62,15 @@ all_fit xs journal numbers seen =
 -- an item of a list has one that is the same under f in a list that is.
 item_same : {X Y : Type 0} (f : X → Y) (xs ys : List X) → map f xs ≡ map f ys → (i : ℕ) (x : X) → slice_get xs i ≡ Some x
     → (y : X) × (i < length ys) × (slice_get ys i ≡ Some y) × (f x ≡ f y)
-item_same f [] ys same i x is = absurd (cc is)
-item_same f (z ∷ xs) [] same i x is = absurd (cc same)
-item_same f (z ∷ xs) (y ∷ ys) same zero x is =
-    let first : f z ≡ f y = cc same in
-    let at : z ≡ x = cc is in
-    (y, omega arith, refl, ap f (sym at) ∙ first)
-item_same f (z ∷ xs) (y ∷ ys) same (suc i) x is =
-    let rest : map f xs ≡ map f ys = cc same in
-    let found = item_same f xs ys rest i x is in
-    (found.0, omega (arith, found.1), found.2, found.3)
-
--- What all of a list have, the item at its end has, and those before it.
-pub last_has : {X : Type 0} (P : X → Type 0) (all left : List X) (x : X) → all ≡ left ++ x ∷ [] → All P all → P x
-last_has P all left x is have = at_end left (subst (All P) is have) where
-  at_end : (xs : List _) → All P (xs ++ x ∷ []) → P x
-  at_end [] h = h 0 x (omega arith)
-  at_end (z ∷ xs) h = at_end xs (λ k d lt. h (suc k) d (omega (arith, lt)))
-
--- What all of a list have, and one more at its end.
-pub end_has : {X : Type 0} (P : X → Type 0) (all left : List X) (x : X) → all ≡ left ++ x ∷ [] → All P left → P x → All P all
-end_has P all left x is have here = subst (All P) (sym is) (longer left have) where
-  longer : (xs : List _) → All P xs → All P (xs ++ x ∷ [])
-  longer [] h = All-cons P x [] here (All-nil P)
-  longer (z ∷ xs) h = All-cons P z (xs ++ x ∷ []) (h 0 z (omega arith)) (longer xs (λ k d lt. h (suc k) d (omega (arith, lt))))
-
--- What a seat has seen begins with no less after another command.
-pub all_begin : (seats : List TurnSeatView) (seen now : List Entry) → IsPrefix seen now → All (λ s. IsPrefix s.seen seen) seats → All (λ s. IsPrefix s.seen now) seats
-all_begin seats seen now more all k d lt = goes_on _ seen now (all k d lt) more
+item_same f xs ys same i x is =
+    let inside = slice_get_within xs i x is in
+    let long = sym (length-map xs f) ∙ ap length same ∙ length-map ys f in
+    let within : i < length ys = omega (arith, inside, long) in (
+      get_or ys i x,
+      within,
+      slice_get-get_or ys i x within,
+      ap f (sym (get_or_from_slice_get xs i x x is)) ∙ sym (get_or-map f xs i x) ∙ ap (λ l. get_or l i (f x)) same ∙ get_or-map f ys i x,
+    )
 
 -- lists that are the same under f but for the items at their ends, which are too
 pub same_at_end : {X Y : Type 0} (f : X → Y) (before after left : List X) (x y : X) → before ≡ left ++ x ∷ [] → after ≡ left ++ y ∷ [] → f y ≡ f x → map f after ≡ map f before
@@ -143,16 +125,7 @@ none_made hall lab count before long opened =
 
 -- the sum is that of the same counts
 pub same_sum : (before after : List TurnSeatView) → map entries_made after ≡ map entries_made before → sum_by entries_made after ≡ sum_by entries_made before
-same_sum [] [] same = refl
-same_sum [] (y ∷ after) same = absurd (cc same)
-same_sum (x ∷ before) [] same = absurd (cc same)
-same_sum (x ∷ before) (y ∷ after) same =
-    let first : entries_made y ≡ entries_made x = cc same in
-    let rest : map entries_made after ≡ map entries_made before = cc same in
-    let others = same_sum before after rest in
-    let here = sum_by-cons entries_made x before in
-    let there = sum_by-cons entries_made y after in
-    omega (arith, first, others, here, there)
+same_sum before after same = sym (sum-map entries_made after) ∙ ap sum same ∙ sum-map entries_made before
 
 -- Seats that were served bear the numbers that they opened with.
 pub numbers_kept : (hall : TableId) (lab : Laboratory) (count : ℕ) (now before : List TurnSeatView) → map but_for_seen now ≡ map but_for_seen before

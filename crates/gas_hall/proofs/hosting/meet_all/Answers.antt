@@ -1,10 +1,10 @@
-use Rattle.std.proofs.Common.{rules, ◌≡◌, subst, sym, ap, ◌∙◌, Some}
+use Rattle.std.proofs.Common.{rules, ◌≡◌, ◌++◌, ◌∷◌, [], append-nil, subst, sym, ap, ◌∙◌, Some}
+use Rattle.std.proofs.lemmas.List.Elements.{All-pop, All-push, All-same}
 use Rattle.gas_terms.specs.Laboratory.{IsPrefix}
 use Rattle.gas_terms.specs.declared.command.Command.TheVariants.{Ledger}
 use Rattle.gas_seats.specs.TurnSeats.{TurnSeatView, but_for_seen, entries_made}
-use Rattle.gas_seats.proofs.Seeing.{asked_sees_on}
-use Rattle.gas_hall.proofs.Turns.{begins_itself}
-use Rattle.gas_hall.proofs.Totals.{last_has, end_has, all_begin, same_at_end, numbers_stay, made_at_ledger, room_for_all}
+use Rattle.gas_seats.proofs.Seeing.{asked_sees_on, goes_on}
+use Rattle.gas_hall.proofs.Totals.{same_at_end, numbers_stay, made_at_ledger, room_for_all}
 use Rattle.gas_hall.proofs.hosting.meet_all.Goals as goal
 
 pub returns-clause-seats : goal.returns-clause-seats
@@ -23,10 +23,10 @@ returns-clause-room g c opened all =
     let same = same_at_end but_for_seen c.args.seats.now.items c.push_reserved.new.self.items c.pop.new.self.items c.in-Some.last c.end.result (search rules) (search rules)
     (ap but_for_seen c.end.ensures ∙ ap but_for_seen c.ask.ensures.asked.5 ∙ c.meet_each.ensures.door ∙ ap but_for_seen c.door-door.ensures) in
     let more = asked_sees_on c.meet_each.new.door.seat Ledger c.ask.result now c.ask.ensures.asked in
-    let begin = all_begin c.pop.new.self.items c.meet_each.new.door.seat.seen now.seen more c.meet_each.ensures.met in
-    let itself = subst (λ (s : TurnSeatView). IsPrefix s.seen now.seen) (sym c.end.ensures) (begins_itself now.seen) in
+    let begins : TurnSeatView → Type 0 = λ s. IsPrefix s.seen now.seen in
+    let itself = subst begins (sym c.end.ensures) ([], sym (append-nil now.seen)) in
     room_for_all _ _ now c.ask.ensures.asked c.push_reserved.new.self.items (numbers_stay c.args.seats.now.items c.push_reserved.new.self.items same c.requires.numbers)
-    (end_has (λ (s : TurnSeatView). IsPrefix s.seen now.seen) c.push_reserved.new.self.items c.pop.new.self.items c.end.result (search rules) begin itself)
+    (All-same begins c.push_reserved.new.self.items (c.pop.new.self.items ++ c.end.result ∷ []) (search rules) (All-push begins _ _ (λ k d lt. goes_on _ _ now.seen (c.meet_each.ensures.met k d lt) more) itself))
     opened
     (ap (λ (s : TurnSeatView). s.opened) c.meet_each.ensures.door ∙ ap (λ (s : TurnSeatView). s.opened) c.door-door.ensures
-    ∙ last_has (λ (s : TurnSeatView). s.opened ≡ Some opened) c.args.seats.now.items c.pop.new.self.items c.in-Some.last (search rules) all)
+    ∙ (All-pop (λ (s : TurnSeatView). s.opened ≡ Some opened) c.args.seats.now.items c.pop.new.self.items (Some c.in-Some.last) (search rules) all).1)

@@ -1,12 +1,13 @@
-use Rattle.std.proofs.Common.{rules, subst, sym, ◌∙◌}
+use Rattle.std.proofs.Common.{rules, Some, subst, sym, ◌∙◌}
+use Rattle.std.proofs.lemmas.List.Elements.{All-pop}
 use Rattle.gas_terms.specs.Laboratory.{IsPrefix}
 use Rattle.gas_hall.proofs.Busy.{busy_served, busy_unserved}
-use Rattle.gas_hall.proofs.Turns.{pushed_sees_on, front_has}
+use Rattle.gas_hall.proofs.Turns.{pushed_sees_on}
 use Rattle.gas_hall.proofs.serving.+serve_rest.Goals as goal
 
 pub serve_rest-done-requires-clause-here : goal.serve_rest-done-requires-clause-here
 serve_rest-done-requires-clause-here g t c κs within =
-    front_has (λ seat. g.H.Seating.has c.args.house.now.hall.now (g.H.Seating.kept seat)) c.args.seats.now.items c.pop.new.self.items c.in-Some.seat (search rules) c.requires.here
+    (All-pop (λ seat. g.H.Seating.has c.args.house.now.hall.now (g.H.Seating.kept seat)) c.args.seats.now.items c.pop.new.self.items (Some c.in-Some.seat) (search rules) c.requires.here).0
 
 pub returns-in-Ok-clause-seen : goal.returns-in-Ok-clause-seen
 returns-in-Ok-clause-seen g t c =
