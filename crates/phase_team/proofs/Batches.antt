@@ -37,19 +37,6 @@ lattice_after p solid leaves c k is = record {
   full = full_with p solid leaves c k is.full;
 }
 
--- by the list of what an action does, a batch is the phases of a run with that action
-pub after_is : (p : ℕ) (solids : Solids) (exchanges : List Areas) (leaves : ℕ → Leaves) (lattice : Cells) (n : ℕ) → Lists exchanges leaves n
-    → after_all (dynamics p solids (listed exchanges)) lattice n ≡ after_all (dynamics p solids leaves) lattice n
-after_is p solids exchanges leaves lattice n same = after_same p (joined solids.walls solids.obstacles) (listed exchanges) leaves lattice n same
-
-pub flow_is : (counted : Counted) (p : ℕ) (solids : Solids) (exchanges : List Areas) (leaves : ℕ → Leaves) (lattice : Cells) (n : ℕ) → Lists exchanges leaves n
-    → flow_counted counted (flow_all (dynamics p solids (listed exchanges)) lattice n) ≡ flow_counted counted (flow_all (dynamics p solids leaves) lattice n)
-flow_is counted p solids exchanges leaves lattice n same = ap (flow_counted counted) (flow_same p solids.walls solids.obstacles (listed exchanges) leaves lattice n same)
-
--- a list that was lent whole, as it is afterwards
-pub lent_is : {A : Type 0} (n : ℕ) (new old : List A) → n ≡ length new → take n (new ++ drop (length new) old) ≡ new
-lent_is n new old e = ap (λ k. take k (new ++ drop (length new) old)) e ∙ take-append_seam new (drop (length new) old)
-
 -- each strip of a list can load what it needs
 pub each_ready : (input : BatchInput) (lattice : Cells) (size : Extent) (strips list : List Strip) → list ≡ strips → AreStrips size strips → size ≡ extent input.cells.now
     → AreReady input.begins lattice input.cells.now strips → All (IsReadyFor input lattice) list
@@ -60,10 +47,6 @@ each_ready input lattice size strips list same are e ready = subst (All (IsReady
       of_lattice = subst (λ (size : Extent). IsOf size (get_or strips k d)) (e ∙ same_extent input.cells.now lattice ready.sides) (are.each k d less);
       loadable = record { start = ready.start; later = λ f. ready.later f k d less };
     })
-
--- some strips after a batch
-pub some_done : (batch : Batch) (lattice : Cells) (size : Extent) (strips : List Strip) → extent lattice ≡ size → AreDone batch lattice strips → AreSomehowDone size strips
-some_done batch lattice size strips e done = record { batch = batch; lattice = lattice; same = e; done = done }
 
 pub all_done : (batch : Batch) (lattice : Cells) (new list : List Strip) → list ≡ new → IsLattice lattice → batch.phases ≤ 64 → All (IsDone batch lattice) new → AreDone batch lattice list
 all_done batch lattice new list same is few done = record { is = is; few = few; each = subst (All (IsDone batch lattice)) (sym same) done }

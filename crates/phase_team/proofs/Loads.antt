@@ -2,7 +2,7 @@
 use Rattle.std.proofs.Common.{◌≡◌, ℕ, ◌+◌, ◌-◌, ◌*◌, ◌/◌, ◌%◌, ◌<◌, ◌≤◌, ◌⊎◌, Bool, true, false, refl, sym, ap, ◌∙◌, subst, arith, inl, inr}
 use Rattle.std.proofs.Math.Nat.{add-mod_right}
 use Rattle.std.proofs.lemmas.Nat.{mod-mul-add}
-use Rattle.std.proofs.lemmas.Bool.{cases_lt}
+use Rattle.std.proofs.lemmas.Bool.{cases_Bool, cases_lt}
 use Rattle.gas_terms.specs.Cells.{Cells, HasSidesOf, extent, has}
 use Rattle.gas_plane.specs.Planes.{IsLattice}
 use Rattle.gas_plane.proofs.Places.{high}
@@ -10,10 +10,6 @@ use Rattle.phase_step.specs.Parts.{HasRows}
 use Rattle.phase_step.proofs.RowPlaces.{row_turns}
 use Rattle.phase_team.specs.Strips.{place_of, IsInside, AreCopied, AreKept, ArePut, HasTileRow, AreLoadable}
 use Rattle.phase_team.specs.declared.runs.strip.OwnRows.{OwnRows}
-
-either : (b : Bool) → (b ≡ true) ⊎ (b ≡ false)
-either true = inl refl
-either false = inr refl
 
 -- row y of a strip, as a row of the lattice's torus
 row_is : (first down y : ℕ) → 0 < down → ((first + down - 1) * 64 + y) % (down * 64) ≡ (first + down - 1 + y / 64) % down * 64 + y % 64
@@ -56,13 +52,13 @@ module _ (begins : Bool) (cells old own_loaded above_loaded new : Cells) (own : 
   down_some = let some = l.inside.some in let inside = l.inside.inside in omega (arith, some, inside)
 
   row_above : HasTileRow lattice cells above
-  row_above = subst (HasTileRow lattice cells) (sym l.above_is) (elim (either begins) [
+  row_above = subst (HasTileRow lattice cells) (sym l.above_is) (elim (cases_Bool begins) [
     | inl start ↦ same_row lattice cells ((own.first + cells.height / 64 - 1) % (cells.height / 64)) (can.start start)
     | inr later ↦ (can.later later).above
   ])
 
   row_below : HasTileRow lattice cells ((own.first + own.rows) % (cells.height / 64))
-  row_below = elim (either begins) [
+  row_below = elim (cases_Bool begins) [
     | inl start ↦ same_row lattice cells ((own.first + own.rows) % (cells.height / 64)) (can.start start)
     | inr later ↦ (can.later later).below
   ]
@@ -106,7 +102,7 @@ module _ (begins : Bool) (cells old own_loaded above_loaded new : Cells) (own : 
   at_own x y xl low high =
       let down = cells.height / 64 in
       let inside = l.inside.inside in
-      elim (either begins) [
+      elim (cases_Bool begins) [
         | inl start ↦
             let y_is : y ≡ 1 * 64 + (y - 64) = omega arith in
             ap (has own_loaded x) y_is

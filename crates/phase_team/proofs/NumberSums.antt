@@ -50,13 +50,10 @@ times-cons x y ys = sum_by-cons (λ (y : ℕ). cond (eqb y x) 1 0) y ys
 abbrev below : (ℕ → ℤ) → ℕ → ℕ → ℤ
 below w m i = cond (nat_lt i m) (w i) (pos 0)
 
-here_next : (z : ℤ) → z ≡ pos 0 +ℤ (z +ℤ pos 0)
-here_next z = omega (arith, ints)
-
 below_next : (w : ℕ → ℤ) (m i : ℕ) → below w (m + 1) i ≡ below w m i +ℤ many (cond (eqb i m) 1 0) (w m)
 below_next w m i =
     elim (cases_eq i m) [
-      | inl e ↦ rw (e, eq-eqb m m refl, lt-ltb m (m + 1) (omega arith), le-ltb m m (omega arith)) (here_next (w m))
+      | inl e ↦ rw (e, eq-eqb m m refl, lt-ltb m (m + 1) (omega arith), le-ltb m m (omega arith)) (omega (arith, ints))
       | inr ne ↦ rw (ne_eqb i m ne) (elim (cases_lt i m) [
         | inl less ↦ rw (lt-ltb i m less, lt-ltb i (m + 1) (omega arith)) (int_plus_zero (w i))
         | inr past ↦ rw (le-ltb i m past, le-ltb i (m + 1) (omega arith)) (int_plus_zero (pos 0))

@@ -1,16 +1,13 @@
 -- Tiles at their places, and lists that grow.
-use Rattle.std.proofs.Common.{◌≡◌, ◌≢◌, ℕ, ◌+◌, ◌*◌, ◌/◌, ◌%◌, ◌<◌, ◌≤◌, ◌==◌, Bool, true, cond, eqb, if◌then◌else◌, List, [], ◌∷◌, ◌++◌, All, map, length, get_or, take, drop, refl, sym, ap, ap₂, ◌∙◌, subst, arith, inl, inr, ne_eqb}
-use Rattle.std.proofs.lemmas.List.{take_more, map-append, get_or_push, get_or_append_left, length_push}
+use Rattle.std.proofs.Common.{◌≡◌, ◌≢◌, ℕ, ◌+◌, ◌*◌, ◌/◌, ◌%◌, ◌<◌, ◌≤◌, ◌==◌, Bool, true, cond, eqb, if◌then◌else◌, List, [], ◌∷◌, ◌++◌, map, length, get_or, take, refl, sym, ap, ap₂, ◌∙◌, subst, arith, inl, inr, ne_eqb}
+use Rattle.std.proofs.lemmas.List.{take_more, map-append}
 use Rattle.std.proofs.lemmas.Nat.{mul-add-lt, mod-mul-add, row-Below}
 use Rattle.std.proofs.Math.Nat.{mod-lt}
-use Rattle.std.proofs.Math.Seq.{take-append_seam}
 use Rattle.std.proofs.lemmas.Bool.{cases_eq, eq-eqb}
 use Rattle.std.specs.Result.{is_ok, OnOk}
 use mathlib.Core.Bool.{true≢false}
 use Rattle.std.specs.declared.result.Result.{Result}
 use Rattle.std.specs.declared.result.Result.TheVariants.{Ok, Err}
-use mathlib.Core.Logic.{dite}
-use native.Mathlib.Decide.{ℕ_discrete}
 use Rattle.bit_tile.specs.Tile as tile
 use Rattle.bit_tile.specs.declared.Tile.{Tile}
 use Rattle.gas_terms.specs.Cells.{Cells, HasSidesOf, has, joined, extent, tile_count}
@@ -26,29 +23,6 @@ use Rattle.claim_desk.specs.Draws.{times}
 use Rattle.claim_desk.proofs.Laws.{times-push}
 use Rattle.phase_team.specs.Tiles.{IsTurnedAt}
 use Rattle.phase_team.specs.declared.phase.worker.Turned.{Turned}
-
--- what holds of each and of one more
-pub all_push : {A : Type 0} (P : A → Type 0) (xs : List A) (y : A) → All P xs → P y → All P (xs ++ y ∷ [])
-all_push P xs y all one k d lt =
-    let long = length_push xs y in
-    dite (ℕ_discrete k (length xs))
-    (λ e. subst P (sym (get_or_push xs y d k (sym e))) one)
-    (λ other. subst P (sym (get_or_append_left xs (y ∷ []) d k (omega arith))) (all k d (omega arith)))
-
--- and of each before, and of the last
-pub all_before : {A : Type 0} (P : A → Type 0) (xs ys : List A) (y : A) → xs ≡ ys ++ y ∷ [] → All P xs → All P ys
-all_before P xs ys y e all k d lt =
-    let long = length_push ys y in
-    subst P (get_or_append_left ys (y ∷ []) d k (omega arith)) (subst (All P) e all k d (omega arith))
-
-pub all_last : {A : Type 0} (P : A → Type 0) (xs ys : List A) (y : A) → xs ≡ ys ++ y ∷ [] → All P xs → P y
-all_last P xs ys y e all =
-    let long = length_push ys y in
-    subst P (get_or_push ys y y (length ys) refl) (subst (All P) e all (length ys) y (omega arith))
-
--- a list that was lent whole, as it is afterwards
-pub all_lent : {A : Type 0} (P : A → Type 0) (n : ℕ) (new old : List A) → n ≡ length new → All P new → All P (take n (new ++ drop (length new) old))
-all_lent P n new old e all = subst (All P) (sym (ap (λ k. take k (new ++ drop (length new) old)) e ∙ take-append_seam new (drop (length new) old))) all
 
 pub on_ok : {T E : Type 0} (r : Result T E) (P : Type 0) → is_ok r ≡ true → OnOk r P → P
 on_ok (Ok x) P e h = h

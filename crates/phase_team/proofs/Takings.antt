@@ -15,9 +15,6 @@ use Rattle.phase_team.specs.Tiles.{tile_takes, tiles_take}
 use Rattle.phase_team.proofs.NumberSums.{int_sum-append, int_sum-push, int_sum-small, upto, each_once}
 
 module _ (p : ℕ) (particles walls obstacles : Cells) where
-  takes : ℕ → Took
-  takes i = tile_takes p particles walls obstacles i
-
   pub take_more : (numbers : List ℕ) (i : ℕ) (took here : Took) → took ≡ tiles_take p particles walls obstacles numbers → here ≡ tile_takes p particles walls obstacles i
       → took_plus took here ≡ tiles_take p particles walls obstacles (numbers ++ i ∷ [])
   take_more numbers i took here so_far is =

@@ -1,10 +1,10 @@
 use Rattle.std.proofs.Common.{◌≡◌, ◌+◌, ◌/◌, ◌++◌, ◌∷◌, [], List, All, map, length, get_or, sym, ap, ◌∙◌, subst, arith, inl, inr}
 use Rattle.std.proofs.lemmas.Bool.{cases_lt}
 use Rattle.std.proofs.lemmas.List.{map_push, length_push, length-map, get_or_push, get_or_append_left}
+use Rattle.std.proofs.lemmas.List.Elements.{All-push}
 use Rattle.phase_team.specs.Strips.{IsOf, own_at}
 use Rattle.phase_team.specs.declared.runs.strip.OwnRows.{OwnRows}
 use Rattle.phase_team.specs.declared.runs.strip.Strip.{Strip}
-use Rattle.phase_team.proofs.Places.{all_push}
 use Rattle.phase_team.proofs.runs.cut.Goals as goal
 
 pub loop-k-preserved : goal.loop-k-preserved
@@ -19,7 +19,7 @@ loop-k-preserved c =
     let count : length owns ≡ k = length-map old (λ (s : Strip). s.own) ∙ was.len in
     let down : c.from-down.result ≡ c.args.size.height / 64 = c.from-down.ensures ∙ ap (λ n. n / 64) c.height.ensures in
     record {
-      each = subst (All (IsOf c.args.size)) (sym items) (all_push (IsOf c.args.size) old strip was.each c.in_ok-strip.ensures.0);
+      each = subst (All (IsOf c.args.size)) (sym items) (All-push (IsOf c.args.size) old strip was.each c.in_ok-strip.ensures.0);
       own = λ j d less. ap (λ (os : List OwnRows). get_or os j d) all ∙ elim (cases_lt j k) [
         | inl before ↦ get_or_append_left owns (strip.own ∷ []) d j (omega (arith, count, before)) ∙ was.own j d before
         | inr past ↦

@@ -9,17 +9,12 @@ use Rattle.phase_team.proofs.Places.{lattice_kept, sides_kept, write_more}
 use Rattle.phase_team.proofs.Takings.{take_more, more_fits}
 use Rattle.phase_team.proofs.phase.crew.draw_here.Goals as goal
 
-pub plus-took-requires-clause-walls : goal.plus-took-requires-clause-walls
-plus-took-requires-clause-walls g c =
+pub plus-took-requires : goal.plus-took-requires
+plus-took-requires g c =
     let task = c.args.shift.task in
     let few = few_tiles task.old.now (tile_count task.old.now) task.lattice (omega arith) in
-    (more_fits task.parity task.old.now task.walls.now task.obstacles.now c.loop-place.seat.numbers c.in-Some.place c.loop-place.took c.turn-here.result (omega (arith, few, c.in-Some.ensures.some.0, c.in-Some.ensures.later, c.args.shift.limit)) c.loop-place.invariant.turned.took c.turn-here.ensures.took).0
-
-pub plus-took-requires-clause-obstacles : goal.plus-took-requires-clause-obstacles
-plus-took-requires-clause-obstacles g c =
-    let task = c.args.shift.task in
-    let few = few_tiles task.old.now (tile_count task.old.now) task.lattice (omega arith) in
-    (more_fits task.parity task.old.now task.walls.now task.obstacles.now c.loop-place.seat.numbers c.in-Some.place c.loop-place.took c.turn-here.result (omega (arith, few, c.in-Some.ensures.some.0, c.in-Some.ensures.later, c.args.shift.limit)) c.loop-place.invariant.turned.took c.turn-here.ensures.took).1
+    let fits = more_fits task.parity task.old.now task.walls.now task.obstacles.now c.loop-place.seat.numbers c.in-Some.place c.loop-place.took c.turn-here.result (omega (arith, few, c.in-Some.ensures.some.0, c.in-Some.ensures.later, c.args.shift.limit)) c.loop-place.invariant.turned.took c.turn-here.ensures.took in
+    record { walls = fits.0; obstacles = fits.1 }
 
 pub loop-place-smaller : goal.loop-place-smaller
 loop-place-smaller g c =

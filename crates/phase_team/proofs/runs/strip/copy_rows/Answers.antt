@@ -81,25 +81,22 @@ loop-i-preserved c =
           ]);
     }
 
-pub returns-clause-copied : goal.returns-clause-copied
-returns-clause-copied c =
-    let source = c.args.source.now in
-    let a = source.width / 64 in
-    let out : c.across.result ≡ a = c.across.ensures.across ∙ ap (λ w. w / 64) c.requires.wide in
-    let end : c.loop-i.i ≡ c.args.rows * a = (let k : c.loop-i.i ≡ c.args.rows * c.across.result = omega arith in k) ∙ ap (λ a. c.args.rows * a) out in
-    let columns = wide (extent source) c.across-across.ensures.lattice.sized in
-    record { cell = λ x y xl yl. c.loop-i.invariant.copied x y xl yl (subst (λ n. y / 64 * a + x / 64 < n) (sym end) (tile_in_rows a x y c.args.rows (tile_below source.width x columns xl) yl)) }
-
-pub returns-clause-kept : goal.returns-clause-kept
-returns-clause-kept c =
+pub returns : goal.returns
+returns c =
     let source = c.args.source.now in
     let a = source.width / 64 in
     let to = c.args.to in
+    let was = c.loop-i.invariant in
     let out : c.across.result ≡ a = c.across.ensures.across ∙ ap (λ w. w / 64) c.requires.wide in
     let end : c.loop-i.i ≡ c.args.rows * a = (let k : c.loop-i.i ≡ c.args.rows * c.across.result = omega arith in k) ∙ ap (λ a. c.args.rows * a) out in
     let columns = wide (extent source) c.across-across.ensures.lattice.sized in
     record {
-      cell = λ x y xl yl apart. c.loop-i.invariant.kept x y xl yl
-          (subst (λ n. (y / 64 * a + x / 64 < to * a) ⊎ (to * a + n ≤ y / 64 * a + x / 64)) (sym end)
-          (tile_outside a x y to c.args.rows (tile_below source.width x columns (subst (λ w. x < w) c.requires.wide xl)) apart));
+      copied = record { cell = λ x y xl yl. was.copied x y xl yl (subst (λ n. y / 64 * a + x / 64 < n) (sym end) (tile_in_rows a x y c.args.rows (tile_below source.width x columns xl) yl)) };
+      kept = record {
+        cell = λ x y xl yl apart. was.kept x y xl yl
+            (subst (λ n. (y / 64 * a + x / 64 < to * a) ⊎ (to * a + n ≤ y / 64 * a + x / 64)) (sym end)
+            (tile_outside a x y to c.args.rows (tile_below source.width x columns (subst (λ w. x < w) c.requires.wide xl)) apart));
+      };
+      sides = was.sides;
+      lattice = was.lattice;
     }

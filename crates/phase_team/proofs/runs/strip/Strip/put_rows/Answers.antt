@@ -5,18 +5,10 @@ use Rattle.phase_team.proofs.Loads.{rows_put}
 use Rattle.phase_team.proofs.runs.strip.Strip.put_rows.Goals as goal
 
 pub overflow_add-from : goal.overflow_add-from
-overflow_add-from c =
-    let few = (high (extent c.args.out.now) c.requires.is.sized).few in
-    let inside = c.requires.strip.inside.inside in
-    let rows = c.requires.rows in
-    omega (arith, few, inside, rows)
+overflow_add-from c = omega (arith, (high (extent c.args.out.now) c.requires.is.sized).few, c.requires.strip.inside.inside, c.requires.rows)
 
 pub overflow_add-self : goal.overflow_add-self
-overflow_add-self c =
-    let few = (high (extent c.args.out.now) c.requires.is.sized).few in
-    let inside = c.requires.strip.inside.inside in
-    let rows = c.requires.rows in
-    omega (arith, few, inside, rows)
+overflow_add-self c = omega (arith, (high (extent c.args.out.now) c.requires.is.sized).few, c.requires.strip.inside.inside, c.requires.rows)
 
 pub returns-clause-rows : goal.returns-clause-rows
 returns-clause-rows c = λ lattice sides own_rows.
