@@ -124,8 +124,7 @@ impl DeskSeat {
             × (result.me.0.ended ≡ (if self.ended then 1 else 0))
             × (result.me.0.numbers ≡ self.numbers) }
     {
-        let DeskSeat { ended: _, seat } = self;
-        seat
+        self.seat
     }
 
     /// Draws the next number, which no other seat draws, or returns `None` if all are drawn. After a `None` a seat returns
