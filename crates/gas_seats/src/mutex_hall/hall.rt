@@ -83,12 +83,7 @@ impl<N: HallName, S: Stepper, G: HallGate> Hall<N, S, G> {
         ensures entries { length result.journal ≡ sum_by (λ seat. seat.entries) seats.items }
         ensures named { IsNamed N.size N.cap result }
     {
-        let Hall {
-            held,
-            gate: _,
-            size: _,
-        } = self;
-        let Held { lab, mut book } = held.into_inner();
+        let Held { lab, mut book } = self.held.into_inner();
         let mut all = merged(seats);
         book.audit(&mut all);
         lab

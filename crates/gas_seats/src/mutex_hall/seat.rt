@@ -59,12 +59,6 @@ impl<N: HallName> HallSeat<N> {
         ensures parts { result.parts ≡ 1 }
         ensures amount { result.amount ≡ self.entries }
     {
-        let HallSeat {
-            number: _,
-            entries: _,
-            calls: _,
-            share,
-        } = self;
-        share
+        self.share
     }
 }
