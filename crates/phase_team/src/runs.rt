@@ -182,7 +182,7 @@ fn gather(strips: &[Strip], cells: &mut Plane)
         All (HasOwnRows lattice) strips.now → cells.new ≡ lattice }
 {
     for strip in strips {
-        strip.put(cells);
+        strip.put_rows(0, strip.own.rows, cells);
     }
 }
 

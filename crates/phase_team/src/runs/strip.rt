@@ -113,8 +113,8 @@ impl Strip {
         *flow = run_part(cells, part, run, input.counted, spare);
     }
 
-    // Puts so many of its own rows into the lattice's particles, from own row `from` on.
-    fn put_rows(&self, from: u32, rows: u32, out: &mut Plane)
+    /// Puts so many of its own rows into the lattice's particles, from own row `from` on.
+    pub fn put_rows(&self, from: u32, rows: u32, out: &mut Plane)
         requires is { IsLattice out.old }
         requires strip { IsOf (extent out.old) self.now }
         requires rows { from + rows ≤ self.now.own.rows }
@@ -125,19 +125,6 @@ impl Strip {
             ArePut lattice out.old (s.own.first + from) rows out.new }
     {
         copy_rows(&self.cells, from + 1, rows, out, self.own.first + from);
-    }
-
-    /// Puts all its own rows into the lattice's particles.
-    pub fn put(&self, out: &mut Plane)
-        requires is { IsLattice out.old }
-        requires strip { IsOf (extent out.old) self.now }
-        ensures sides { HasSidesOf out.new out.old }
-        ensures lattice { IsLattice out.new }
-        ensures rows { (lattice : Cells) → let s = self.now in HasSidesOf out.old lattice →
-            HasRows (place_of (out.old.height / 64) s.own) s.cells lattice 64 →
-            ArePut lattice out.old s.own.first s.own.rows out.new }
-    {
-        self.put_rows(0, self.own.rows, out);
     }
 
     /// Puts its first and its last own row into the lattice's particles: the rows that its neighbors load.

@@ -24,17 +24,17 @@ loop-strip-preserved c =
     let s = c.strip-item.result in
     let down = c.args.cells.now.height / 64 in
     let laid = c.requires.strips.laid in
-    let sides = c.put.ensures.sides in
+    let sides = c.put_rows.ensures.sides in
     let first : s.own.first ≡ row_at down (length strips) j = subst (λ (t : Strip). t.own.first ≡ row_at down (length strips) j) (sym c.strip-item.is) (first_is down strips laid j s c.loop-strip-test.true) in
     let end : s.own.first + s.own.rows ≡ row_at down (length strips) (j + 1) = subst (λ (t : Strip). t.own.first + t.own.rows ≡ row_at down (length strips) (j + 1)) (sym c.strip-item.is) (end_is down strips laid j s c.loop-strip-test.true) in
     let inside = (subst (IsOf (extent c.args.cells.now)) (sym c.strip-item.is) (c.requires.strips.each j s c.loop-strip-test.true)).inside.inside in
     record {
-      lattice = c.put.ensures.lattice;
+      lattice = c.put_rows.ensures.lattice;
       sides = record { wide = sides.wide ∙ was.sides.wide; high = sides.high ∙ was.sides.high };
       put = λ lattice is same own r less.
           let here : HasSidesOf c.loop-strip.cells lattice = record { wide = was.sides.wide ∙ same.wide; high = was.sides.high ∙ same.high } in
           let rows : HasOwnRows lattice s = subst (HasOwnRows lattice) (sym c.strip-item.is) (own j s c.loop-strip-test.true) in
-          let done = c.put.ensures.rows lattice here (subst (λ h. HasRows (place_of (h / 64) s.own) s.cells lattice 64) (sym here.high) rows) in
+          let done = c.put_rows.ensures.rows lattice here (subst (λ h. HasRows (place_of (h / 64) s.own) s.cells lattice 64) (sym here.high) rows) in
           let high_is = same.high in
           elim (cases_lt r (row_at down (length strips) j)) [
             | inl before ↦ done.kept r (let e = ap (λ h. h / 64) high_is in omega (arith, less, end, inside, e)) (was.put lattice is same own r before)
