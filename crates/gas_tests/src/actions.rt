@@ -1,30 +1,19 @@
 //! Worked examples of runs with an action after each phase, with values found by hand.
 
 use crate::expected::{expect_same, expect_that};
-use crate::gases::{Piece, run, sums, tick};
-use crate::lattices::solids;
+use crate::gases::{Piece, flow, moves, pair, run, sums, tick, took};
+use crate::lattices::{plane, solids};
+use crate::strips::stroke;
 use gas_ledger::{Flow, Sums, tally};
 use gas_plane::{Plane, Tile};
-use gas_terms::{Moved, Pair, Rect, Size, Took};
+use gas_terms::{Pair, Rect, Size, Took};
 use phase_step::{
     Action, Change, Exchange, Later, Listed, PortArray, Run, Serial, Stepper, Still, act_on,
 };
 use std::process::Abort;
 
-fn took(x: i64, y: i64) -> Took {
-    Took {
-        walls: Pair { x, y },
-        obstacles: Pair::ZERO,
-    }
-}
-
 fn count(rt: &impl Abort, plane: &Plane) -> i64 {
     tally(plane, tick(rt, 0)).count
-}
-
-fn flow(took: Took, injected: Sums, drained: Sums) -> Flow {
-    let moved = Moved { injected, drained };
-    Flow { took, moved }
 }
 
 // A source that acts at each tick: at tick 1 its particle goes up and to the left, and at tick 2 the next one down and to
@@ -36,7 +25,7 @@ fn source_acts_at_each_tick_of_a_run(rt: HostRuntime) {
     expect_same(
         &rt,
         run(&rt, 0, &source, 2, &cells, 2),
-        flow(took(0, 0), sums(2, 0, 0), sums(0, 0, 0)),
+        flow(Took::ZERO, sums(2, 0, 0), sums(0, 0, 0)),
     );
 }
 
@@ -60,11 +49,8 @@ fn source_of_a_run_keeps_its_period(rt: HostRuntime) {
 #[test]
 fn drain_of_a_run_takes_once(rt: HostRuntime) {
     let parts = [(Piece::Drain, 1, 1, 1, 1), (Piece::Particles, 0, 0, 1, 1)];
-    expect_same(
-        &rt,
-        run(&rt, 0, &parts, 3, &[], 0).moved,
-        flow(took(0, 0), sums(0, 0, 0), sums(1, 1, 1)).moved,
-    );
+    let moved = run(&rt, 0, &parts, 3, &[], 0).moved;
+    expect_same(&rt, moved, moves(sums(0, 0, 0), sums(1, 1, 1)));
 }
 
 // A wall takes what it turns back, before the port acts.
@@ -76,7 +62,7 @@ fn wall_takes_in_a_run_with_ports(rt: HostRuntime) {
         (Piece::Wall, 1, 1, 1, 1),
     ];
     let found = run(&rt, 0, &parts, 1, &[(0, 0, true)], 1);
-    expect_same(&rt, found.took, took(2, 2));
+    expect_same(&rt, found.took, took(pair(2, 2), Pair::ZERO));
     expect_same(&rt, found.moved.drained, sums(0, 0, 0));
 }
 
@@ -90,12 +76,7 @@ fn emptied(rt: &impl Abort, size: Size) -> Exchange {
 
 // two particles at tick 0, which both go right and down
 fn two(rt: &(impl Abort + AllocGlobal)) -> Plane {
-    let size = Size::new(128, 128).expect(rt, "a size");
-    let mut plane = Plane::empty(rt.alloc(), size).expect(rt, "memory");
-    for (x, y) in [(0, 0), (70, 90)] {
-        plane.fill(Rect::within(size, x, y, 1, 1).expect(rt, "a cell"));
-    }
-    plane
+    plane(rt, 128, 128, &[(0, 0), (70, 90)])
 }
 
 // a run of three phases on one thread, the first at an even tick
@@ -124,7 +105,7 @@ fn action_after_the_first_phase(rt: HostRuntime) {
             exchanges: &exchanges,
         },
     );
-    expect_same(&rt, found, flow(took(0, 0), sums(0, 0, 0), sums(2, 2, 2)));
+    expect_same(&rt, found, flow(Took::ZERO, sums(0, 0, 0), sums(2, 2, 2)));
     expect_same(&rt, count(&rt, &particles), 0);
 }
 
@@ -155,46 +136,21 @@ fn sums_by_classes(rt: HostRuntime) {
 
 #[test]
 fn changes_add_up(rt: HostRuntime) {
-    let some = Moved {
-        injected: sums(9, 1, -3),
-        drained: sums(80, 20, -40),
-    };
-    let more = Moved {
-        injected: sums(700, -500, 600),
-        drained: sums(6000, 4000, -2000),
-    };
-    let both = some.plus(more);
-    expect_same(&rt, both.injected, sums(709, -499, 597));
-    expect_same(&rt, both.drained, sums(6080, 4020, -2040));
+    let some = moves(sums(9, 1, -3), sums(80, 20, -40));
+    let more = moves(sums(700, -500, 600), sums(6000, 4000, -2000));
+    let both = moves(sums(709, -499, 597), sums(6080, 4020, -2040));
+    expect_same(&rt, some.plus(more), both);
 }
 
 #[test]
 fn flows_add_up(rt: HostRuntime) {
-    let some = Flow {
-        took: Took {
-            walls: Pair { x: 2, y: -4 },
-            obstacles: Pair { x: 6, y: -8 },
-        },
-        moved: Moved {
-            injected: sums(9, 1, -3),
-            drained: sums(7, -5, -1),
-        },
-    };
-    let more = Flow {
-        took: Took {
-            walls: Pair { x: 20, y: 400 },
-            obstacles: Pair { x: -60, y: -600 },
-        },
-        moved: Moved {
-            injected: sums(70, -50, 30),
-            drained: sums(900, 300, 700),
-        },
-    };
-    let both = some.plus(more);
-    expect_same(&rt, both.took.walls, Pair { x: 22, y: 396 });
-    expect_same(&rt, both.took.obstacles, Pair { x: -54, y: -608 });
-    expect_same(&rt, both.moved.injected, sums(79, -49, 27));
-    expect_same(&rt, both.moved.drained, sums(907, 295, 699));
+    let some_took = took(pair(2, -4), pair(6, -8));
+    let more_took = took(pair(20, 400), pair(-60, -600));
+    let both_took = took(pair(22, 396), pair(-54, -608));
+    let some = flow(some_took, sums(9, 1, -3), sums(7, -5, -1));
+    let more = flow(more_took, sums(70, -50, 30), sums(900, 300, 700));
+    let both = flow(both_took, sums(79, -49, 27), sums(907, 295, 699));
+    expect_same(&rt, some.plus(more), both);
 }
 
 fn area(rt: &impl Abort, x: u32, w: u32) -> Rect {
@@ -204,12 +160,7 @@ fn area(rt: &impl Abort, x: u32, w: u32) -> Rect {
 
 // Empties the first two cells of row 0, and fills the second of them and the third.
 fn shift(rt: &impl Abort) -> Exchange {
-    let (two, next) = (area(rt, 0, 2), area(rt, 1, 2));
-    let mut drains = PortArray::none(two);
-    drains.push(two);
-    let mut sources = PortArray::none(next);
-    sources.push(next);
-    Exchange::new(drains, sources)
+    stroke(area(rt, 0, 2), area(rt, 1, 2))
 }
 
 #[test]

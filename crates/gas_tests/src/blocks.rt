@@ -1,12 +1,13 @@
 //! Worked examples of the block rule, with values found by hand.
 
 use crate::expected::{expect_same, expect_that};
+use crate::gases::pair;
 use bit_tile::Tile;
 use block_rule::{
     Counted, SetBlocks, TileBlocks, Window, tile_blocks, turn_block, turn_tile, turn_tile_even,
     turn_tile_odd,
 };
-use gas_terms::{Pair, Took};
+use gas_terms::Took;
 use std::process::Abort;
 use tile_border::{Border, Neighbors};
 
@@ -153,12 +154,7 @@ fn particles_of_named_blocks_stay(rt: HostRuntime) {
     expect_same(&rt, named.1.even[5], 1 << 5);
     let took = turn_tile_even(&mut tile, given(&named), None, Counted::BOTH);
     expect_that(&rt, has_just(&tile, [(1, 1), (10, 10)].as_slice()));
-    let twice = Pair { x: 2, y: 2 };
-    expect_same(
-        &rt,
-        (took.walls, took.obstacles),
-        (twice, Took::ZERO.obstacles),
-    );
+    expect_same(&rt, (took.walls, took.obstacles), (pair(2, 2), pair(0, 0)));
 }
 
 /// A particle of a walled block and one of an obstructed block stay, whatever is counted. At an even tick they were on their way
@@ -268,10 +264,6 @@ fn taken_at_corner(walls: &Border, obstacles: &Border) -> (Tile, Took) {
     let border = border_of(&none, &none, &tile_of([(63, 63)].as_slice()), &none);
     let old = tile_of([(0, 0)].as_slice());
     turn_tile(&old, &border, &none, walls, &none, obstacles, 1)
-}
-
-fn pair(x: i64, y: i64) -> Pair {
-    Pair { x, y }
 }
 
 #[test]

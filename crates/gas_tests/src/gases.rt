@@ -7,7 +7,7 @@ use crate::expected::{expect_same, expect_that};
 use crate::lattices::expect_cells;
 use gas_ledger::{Flow, Gas, Port, Ports, Sums, tally};
 use gas_plane::Plane;
-use gas_terms::{Rect, Size, Tick};
+use gas_terms::{Moved, Pair, Rect, Size, Tick, Took};
 use phase_step::Serial;
 use std::process::Abort;
 
@@ -15,6 +15,32 @@ pub fn sums(count: i64, px: i64, py: i64) -> Sums
     ensures { result ≡ record { count = count; px = px; py = py } }
 {
     Sums { count, px, py }
+}
+
+pub fn pair(x: i64, y: i64) -> Pair
+    ensures { result ≡ record { x = x; y = y } }
+{
+    Pair { x, y }
+}
+
+pub fn took(walls: Pair, obstacles: Pair) -> Took
+    ensures { result ≡ record { walls = walls; obstacles = obstacles } }
+{
+    Took { walls, obstacles }
+}
+
+pub fn moves(injected: Sums, drained: Sums) -> Moved
+    ensures { result ≡ record { injected = injected; drained = drained } }
+{
+    Moved { injected, drained }
+}
+
+pub fn flow(took: Took, injected: Sums, drained: Sums) -> Flow
+    ensures took { result.took ≡ took }
+    ensures moved { result.moved ≡ record { injected = injected; drained = drained } }
+{
+    let moved = moves(injected, drained);
+    Flow { took, moved }
 }
 
 pub fn tick(rt: &impl Abort, number: i64) -> Tick {

@@ -1,11 +1,11 @@
 //! Worked examples of gases, ports and sums, with values found by hand.
 
 use crate::expected::{expect_same, expect_that};
-use crate::gases::{Piece, add, add_all, area, gas_at, run, step_on, sums, tick};
+use crate::gases::{Piece, add, add_all, area, gas_at, moves, run, step_on, sums, tick};
 use crate::lattices::expect_cells;
 use gas_ledger::{Full, Gas, Port, Ports, Sums, apply_ports, probe, tally};
 use gas_plane::Plane;
-use gas_terms::{Rect, Size};
+use gas_terms::{Moved, Rect, Size};
 use std::process::Abort;
 
 // how many drains and sources there are, and the column and period of the first source
@@ -104,11 +104,7 @@ fn source_refills_a_drain(rt: HostRuntime) {
     let ports = [(Piece::Source(1), 5, 6, 1, 1), (Piece::Drain, 5, 6, 1, 1)];
     // an empty cell is filled
     let moved = run(&rt, 2, &ports, 1, &[(5, 6, true)], 1).moved;
-    expect_same(
-        &rt,
-        (moved.injected, moved.drained),
-        (sums(1, 1, -1), sums(0, 0, 0)),
-    );
+    expect_same(&rt, moved, moves(sums(1, 1, -1), sums(0, 0, 0)));
 }
 
 #[test]
@@ -120,11 +116,7 @@ fn drained_and_refilled_cancels(rt: HostRuntime) {
         (Piece::Drain, 5, 6, 1, 1),
     ];
     let moved = run(&rt, 2, &parts, 1, &[(5, 6, true)], 1).moved;
-    expect_same(
-        &rt,
-        (moved.injected, moved.drained),
-        (sums(0, 0, 0), sums(0, 0, 0)),
-    );
+    expect_same(&rt, moved, moves(sums(0, 0, 0), sums(0, 0, 0)));
 }
 
 #[test]
@@ -139,19 +131,11 @@ fn ports_act_on_a_plane(rt: HostRuntime) {
     plane.fill(drained);
     // the second cell is drained and filled again
     let moved = apply_ports(&mut plane, &ports, tick(&rt, 4));
-    expect_same(
-        &rt,
-        (moved.injected, moved.drained),
-        (sums(1, 1, 1), sums(1, 1, 1)),
-    );
+    expect_same(&rt, moved, moves(sums(1, 1, 1), sums(1, 1, 1)));
     expect_cells(&rt, &plane, &[(0, 0, false), (1, 0, true), (2, 0, true)]);
     // the source is not due
     let moved = apply_ports(&mut plane, &ports, tick(&rt, 5));
-    expect_same(
-        &rt,
-        (moved.injected, moved.drained),
-        (sums(0, 0, 0), sums(1, 1, -1)),
-    );
+    expect_same(&rt, moved, moves(sums(0, 0, 0), sums(1, 1, -1)));
     expect_cells(&rt, &plane, &[(1, 0, false), (2, 0, true)]);
 }
 
@@ -178,11 +162,7 @@ fn ports_across_tiles(rt: HostRuntime) {
         (100, 127, false),
     ];
     let moved = run(&rt, -1, &parts, 1, &cells, 4).moved;
-    expect_same(
-        &rt,
-        (moved.injected, moved.drained),
-        (sums(2, 0, 0), sums(2, 0, 0)),
-    );
+    expect_same(&rt, moved, moves(sums(2, 0, 0), sums(2, 0, 0)));
 }
 
 // the sums of the whole gas at a tick, of row 0 and of the tile at (64, 64)
@@ -225,31 +205,29 @@ fn probe_and_tally_by_parities(rt: HostRuntime) {
 }
 
 // what comes in and goes out if the first so many cells of row 0 are filled
-fn put(rt: &impl Abort, gas: &mut Gas, w: u32) -> (Sums, Sums) {
+fn put(rt: &impl Abort, gas: &mut Gas, w: u32) -> Moved {
     let cells = area(rt, gas, 0, 0, w, 1);
-    let moved = gas.fill_particles(cells);
-    (moved.injected, moved.drained)
+    gas.fill_particles(cells)
 }
 
 #[test]
 fn full_cells_are_not_injected(rt: HostRuntime) {
     let mut gas = gas_at(&rt, 0);
     let nothing = sums(0, 0, 0);
-    expect_same(&rt, put(&rt, &mut gas, 1), (sums(1, 1, 1), nothing));
-    expect_same(&rt, put(&rt, &mut gas, 1), (nothing, nothing));
-    expect_same(&rt, put(&rt, &mut gas, 2), (sums(1, -1, 1), nothing));
+    for (w, injected) in [(1, sums(1, 1, 1)), (1, nothing), (2, sums(1, -1, 1))] {
+        expect_same(&rt, put(&rt, &mut gas, w), moves(injected, nothing));
+    }
     let all = area(&rt, &gas, 0, 0, 2, 2);
     let out = gas.clear_particles(all);
-    expect_same(&rt, (out.injected, out.drained), (nothing, sums(2, 0, 2)));
+    expect_same(&rt, out, moves(nothing, sums(2, 0, 2)));
 }
 
 // what comes in and goes out if row 0 becomes one with these first and eighth bytes
-fn replace_row_0(rt: &impl Abort, gas: &mut Gas, first: u8, eighth: u8) -> (Sums, Sums) {
+fn replace_row_0(rt: &impl Abort, gas: &mut Gas, first: u8, eighth: u8) -> Moved {
     let row = [first, 0, 0, 0, 0, 0, 0, eighth, 0, 0, 0, 0, 0, 0, 0, 0];
     expect_that(&rt, gas.size().width() == 128);
     expect_that(&rt, gas.size().height() == 128);
-    let moved = gas.replace_row(0, &row);
-    (moved.injected, moved.drained)
+    gas.replace_row(0, &row)
 }
 
 #[test]
@@ -257,10 +235,10 @@ fn rows_are_replaced(rt: HostRuntime) {
     let mut gas = gas_at(&rt, 0);
     // (0, 0) and (63, 0)
     let moved = replace_row_0(&rt, &mut gas, 0x80, 0x01);
-    expect_same(&rt, moved, (sums(2, 0, 2), sums(0, 0, 0)));
+    expect_same(&rt, moved, moves(sums(2, 0, 2), sums(0, 0, 0)));
     // (1, 0) comes in and (63, 0) goes out
     let moved = replace_row_0(&rt, &mut gas, 0xc0, 0x00);
-    expect_same(&rt, moved, (sums(1, -1, 1), sums(1, -1, 1)));
+    expect_same(&rt, moved, moves(sums(1, -1, 1), sums(1, -1, 1)));
     let cells = [(0, 0, true), (1, 0, true), (63, 0, false)];
     expect_cells(&rt, gas.particles(), &cells);
 }

@@ -3,9 +3,10 @@
 ghost use Rattle.std.specs.Prelude.{◌≡◌, ◌<◌, true};
 ghost use Rattle.gas_terms.specs.Cells.{Extent, extent, lies_within, is_inside};
 
-use crate::expected::expect_that;
+use crate::expected::{expect_same, expect_that};
+use crate::gases::{pair, took};
 use crate::lattices::{are_same, plane, scattered, solids};
-use crate::steppers::{step, team};
+use crate::steppers::{add_taken, step, team};
 use gas_plane::{Plane, Tile};
 use gas_terms::{Pair, Rect, Size, Took};
 use phase_step::{Serial, Solid, turn_tile_at};
@@ -37,6 +38,25 @@ fn phase<R: Threads + Abort + AllocGlobal + Copy + Drop>(
     took
 }
 
+// A phase leaves these cells, whatever was there before, and walls and obstacles take this. Gives the particles.
+fn comes_to<R: Threads + Abort + AllocGlobal + Copy + Drop>(
+    rt: &R,
+    old: &Plane,
+    walls: &Plane,
+    obstacles: &Plane,
+    parity: u8,
+    cells: &[(u32, u32)],
+    taken: Took,
+) -> Plane {
+    let (width, height) = (old.size().width() as u32, old.size().height() as u32);
+    let mut out = plane(rt, width, height, &[(63, 63), (5, 5)]);
+    let found = phase(rt, old, walls, obstacles, parity, &mut out);
+    let want = plane(rt, width, height, cells);
+    expect_that(rt, are_same(&out, &want, width, height));
+    expect_same(rt, found, taken);
+    out
+}
+
 // the first tile alone, at an odd tick
 fn first_tile(
     rt: &impl Abort,
@@ -56,14 +76,8 @@ fn first_tile(
 fn head_on_pair_across_tiles(rt: HostRuntime) {
     let old = plane(&rt, 128, 128, &[(63, 63), (64, 64)]);
     let none = plane(&rt, 128, 128, &[]);
-    // what was there is overwritten
-    let mut out = plane(&rt, 128, 128, &[(63, 63), (5, 5)]);
-    let took = phase(&rt, &old, &none, &none, 1, &mut out);
-    let want = plane(&rt, 128, 128, &[(64, 63), (63, 64)]);
-    expect_that(&rt, are_same(&out, &want, 128, 128));
-    let nothing = Pair::ZERO;
-    expect_that(&rt, took.walls == nothing);
-    expect_that(&rt, took.obstacles == nothing);
+    let turned = [(64, 63), (63, 64)];
+    comes_to(&rt, &old, &none, &none, 1, &turned, Took::ZERO);
 }
 
 // At an odd tick a particle at (63, 63) goes to the right and down. A wall at (64, 64) holds it back.
@@ -72,15 +86,10 @@ fn wall_that_was_cleared_holds_nothing_back(rt: HostRuntime) {
     let old = plane(&rt, 128, 128, &[(63, 63)]);
     let none = plane(&rt, 128, 128, &[]);
     let mut walls = plane(&rt, 128, 128, &[(64, 64)]);
-    let mut out = plane(&rt, 128, 128, &[]);
-    let took = phase(&rt, &old, &walls, &none, 1, &mut out);
-    expect_that(&rt, are_same(&out, &old, 128, 128));
-    expect_that(&rt, took.walls == Pair { x: 2, y: 2 });
+    let back = took(pair(2, 2), Pair::ZERO);
+    comes_to(&rt, &old, &walls, &none, 1, &[(63, 63)], back);
     walls.clear(Rect::within(walls.size(), 64, 64, 1, 1).expect(&rt, "a cell"));
-    let took = phase(&rt, &old, &walls, &none, 1, &mut out);
-    let want = plane(&rt, 128, 128, &[(64, 64)]);
-    expect_that(&rt, are_same(&out, &want, 128, 128));
-    expect_that(&rt, took.walls == Pair::ZERO);
+    comes_to(&rt, &old, &walls, &none, 1, &[(64, 64)], Took::ZERO);
 }
 
 // which blocks of a tile are named, by three words of it: for even parity, and for odd parity those that begin in it and end in it
@@ -141,11 +150,8 @@ fn wall_across_tiles_books_once(rt: HostRuntime) {
         (&beside, &corner, nothing, twice),
         (&corner, &beside, nothing, twice),
     ] {
-        let mut out = plane(&rt, 128, 128, &[]);
-        let took = phase(&rt, &old, walls, obstacles, 1, &mut out);
-        expect_that(&rt, are_same(&out, &old, 128, 128));
-        expect_that(&rt, took.walls == by_walls);
-        expect_that(&rt, took.obstacles == by_obstacles);
+        let taken = took(by_walls, by_obstacles);
+        comes_to(&rt, &old, walls, obstacles, 1, &[(63, 63)], taken);
     }
 }
 
@@ -174,12 +180,8 @@ fn wall_in_a_tile_at_an_even_tick(rt: HostRuntime) {
     let old = plane(&rt, 128, 64, &[(63, 62), (10, 10)]);
     let none = plane(&rt, 128, 64, &[]);
     let walls = plane(&rt, 128, 64, &[(62, 63)]);
-    let mut out = plane(&rt, 128, 64, &[]);
-    let took = phase(&rt, &old, &walls, &none, 0, &mut out);
-    let want = plane(&rt, 128, 64, &[(63, 62), (11, 11)]);
-    expect_that(&rt, are_same(&out, &want, 128, 64));
-    expect_that(&rt, took.walls == Pair { x: -2, y: 2 });
-    expect_that(&rt, took.obstacles == Pair::ZERO);
+    let back = took(pair(-2, 2), Pair::ZERO);
+    comes_to(&rt, &old, &walls, &none, 0, &[(63, 62), (11, 11)], back);
 }
 
 #[test]
@@ -194,12 +196,8 @@ fn wall_in_the_last_row_holds_in_the_tile_below(rt: HostRuntime) {
         (&edge, &none, back, nothing),
         (&none, &edge, nothing, back),
     ] {
-        let mut out = plane(&rt, 128, 128, &[]);
-        let took = phase(&rt, &old, walls, obstacles, 1, &mut out);
-        let want = plane(&rt, 128, 128, &[(10, 64), (11, 63)]);
-        expect_that(&rt, are_same(&out, &want, 128, 128));
-        expect_that(&rt, took.walls == by_walls);
-        expect_that(&rt, took.obstacles == by_obstacles);
+        let (cells, taken) = ([(10, 64), (11, 63)], took(by_walls, by_obstacles));
+        comes_to(&rt, &old, walls, obstacles, 1, &cells, taken);
     }
 }
 
@@ -224,17 +222,9 @@ fn one_wall_in_each_row(rt: HostRuntime) {
         for y in 0..64u32 {
             let walls = plane(&rt, 128, 128, &[(5, y)]);
             let old = plane(&rt, 128, 128, &[(5, y), (41, y)]);
-            let mut out = plane(&rt, 128, 128, &[]);
-            let took = phase(&rt, &old, &walls, &none, parity, &mut out);
             let free = (across(41, parity), across(y, parity));
-            let want = plane(&rt, 128, 128, &[(5, y), free]);
-            expect_that(&rt, are_same(&out, &want, 128, 128));
-            let back = Pair {
-                x: given(5, parity),
-                y: given(y, parity),
-            };
-            expect_that(&rt, took.walls == back);
-            expect_that(&rt, took.obstacles == Pair::ZERO);
+            let back = took(pair(given(5, parity), given(y, parity)), Pair::ZERO);
+            comes_to(&rt, &old, &walls, &none, parity, &[(5, y), free], back);
         }
     }
 }
@@ -256,13 +246,8 @@ fn cross_the_seams<R: Threads + Abort + AllocGlobal + Copy + Drop>(
         ((0, 0), (right, bottom)),
     ] {
         let old = plane(rt, width, height, &[from]);
-        let mut out = plane(rt, width, height, &[]);
-        phase(rt, &old, &none, &none, 1, &mut out);
-        let want = plane(rt, width, height, &[to]);
-        expect_that(&rt, are_same(&out, &want, width, height));
-        let mut again = plane(rt, width, height, &[]);
-        phase(rt, &out, &none, &none, 1, &mut again);
-        expect_that(&rt, are_same(&again, &old, width, height));
+        let out = comes_to(rt, &old, &none, &none, 1, &[to], Took::ZERO);
+        comes_to(rt, &out, &none, &none, 1, &[from], Took::ZERO);
     }
 }
 
@@ -273,11 +258,6 @@ fn steps_over_the_seam_and_back(rt: HostRuntime) {
     }
 }
 
-fn add(total: &mut Pair, more: Pair) {
-    total.x = total.x.wrapping_add(more.x);
-    total.y = total.y.wrapping_add(more.y);
-}
-
 #[test]
 fn fifty_steps_and_back(rt: HostRuntime) {
     let start = scattered(&rt, WIDE, HIGH, 1, 3);
@@ -285,24 +265,19 @@ fn fifty_steps_and_back(rt: HostRuntime) {
     let obstacles = scattered(&rt, WIDE, HIGH, 3, 700);
     let mut now = scattered(&rt, WIDE, HIGH, 1, 3);
     let mut next = scattered(&rt, WIDE, HIGH, 4, 2);
-    let mut by_walls = Pair::ZERO;
-    let mut by_obstacles = Pair::ZERO;
+    let mut taken = Took::ZERO;
     for t in 0..50u8 {
         let took = phase(&rt, &now, &walls, &obstacles, t % 2, &mut next);
-        add(&mut by_walls, took.walls);
-        add(&mut by_obstacles, took.obstacles);
+        add_taken(&mut taken, took);
         std::mem::swap(&mut now, &mut next);
     }
     expect_that(&rt, !are_same(&now, &start, WIDE, HIGH));
-    let mut back_walls = Pair::ZERO;
-    let mut back_obstacles = Pair::ZERO;
+    let mut taken_back = Took::ZERO;
     for t in (0..50u8).rev() {
         let took = phase(&rt, &now, &walls, &obstacles, t % 2, &mut next);
-        add(&mut back_walls, took.walls);
-        add(&mut back_obstacles, took.obstacles);
+        add_taken(&mut taken_back, took);
         std::mem::swap(&mut now, &mut next);
     }
     expect_that(&rt, are_same(&now, &start, WIDE, HIGH));
-    expect_that(&rt, by_walls == back_walls);
-    expect_that(&rt, by_obstacles == back_obstacles);
+    expect_same(&rt, taken, taken_back);
 }

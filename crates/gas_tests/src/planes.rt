@@ -5,15 +5,14 @@ ghost use Rattle.gas_terms.specs.Cells.{lies_within, extent};
 
 use crate::borders::{Side, expect_ring};
 use crate::expected::{expect_same, expect_that};
-use crate::lattices::{are_same, expect_cells, holds};
+use crate::lattices::{are_same, expect_cells, holds, plane};
 use gas_plane::{Plane, Tile, word_of};
 use gas_terms::{Rect, Size};
 use std::process::Abort;
 use tile_border::Round;
 
 fn four_tiles(rt: &(impl Abort + AllocGlobal)) -> Plane {
-    let size = Size::new(128, 128).expect(rt, "a size");
-    Plane::empty(rt.alloc(), size).expect(rt, "memory")
+    plane(rt, 128, 128, &[])
 }
 
 fn area(rt: &impl Abort, plane: &Plane, x: u32, y: u32, w: u32, h: u32) -> Rect
@@ -158,17 +157,16 @@ fn replaces_a_tile(rt: HostRuntime) {
 
 // a row with these columns has these bytes, and they make that row again: for each of two ranges, its first column and width
 fn row_is(rt: &(impl Abort + AllocGlobal), ranges: [(u32, u32); 2], bytes: &[u8; 8]) {
-    let size = Size::new(64, 64).expect(rt, "a size");
-    let mut plane = Plane::empty(rt.alloc(), size).expect(rt, "memory");
+    let mut row = plane(rt, 64, 64, &[]);
     for (x, w) in ranges {
-        plane.fill(area(rt, &plane, x, 5, w, 1));
+        row.fill(area(rt, &row, x, 5, w, 1));
     }
     let mut read = [1; 8];
-    read_row(rt, &plane, 5, &mut read);
+    read_row(rt, &row, 5, &mut read);
     expect_same(&rt, read.as_slice(), bytes.as_slice());
-    let mut again = Plane::empty(rt.alloc(), size).expect(rt, "memory");
+    let mut again = plane(rt, 64, 64, &[]);
     write_row(rt, &mut again, 5, bytes);
-    expect_that(&rt, are_same(&again, &plane, 64, 64));
+    expect_that(&rt, are_same(&again, &row, 64, 64));
 }
 
 #[test]
@@ -214,16 +212,13 @@ fn rows_are_read_back_at_every_width(rt: HostRuntime) {
         row[k] = ((k * 167 + 41) % 251) as u8;
     }
     for across in 1..65u32 {
-        let size = Size::new(64 * across, 64).expect(&rt, "a size");
-        let mut plane = Plane::empty(rt.alloc(), size).expect(&rt, "memory");
-        put_and_read(&rt, &mut plane, &row);
+        put_and_read(&rt, &mut plane(&rt, 64 * across, 64, &[]), &row);
     }
 }
 
 #[test]
 fn is_as_wide_as_a_lattice_may_be(rt: HostRuntime) {
-    let size = Size::new(4096, 64).expect(&rt, "a size");
-    let mut plane = Plane::empty(rt.alloc(), size).expect(&rt, "memory");
+    let mut plane = plane(&rt, 4096, 64, &[]);
     plane.fill(area(&rt, &plane, 4030, 10, 66, 2));
     plane.clear(area(&rt, &plane, 4095, 11, 1, 1));
     // columns 4030 to 4095 in row 10, and to 4094 in row 11
@@ -267,10 +262,7 @@ fn is_bare_round(plane: &Plane, i: u32) -> bool {
 
 // A plane of five by five tiles with a cell in tile 0: over the seams it stands beside tiles 1, 4, 5, 6, 9, 20, 21 and 24.
 fn five_by_five(rt: &(impl Abort + AllocGlobal)) -> Plane {
-    let size = Size::new(320, 320).expect(rt, "a size");
-    let mut plane = Plane::empty(rt.alloc(), size).expect(rt, "memory");
-    plane.fill(area(rt, &plane, 5, 5, 1, 1));
-    plane
+    plane(rt, 320, 320, &[(5, 5)])
 }
 
 const NEAR: [u32; 9] = [0, 1, 4, 5, 6, 9, 20, 21, 24];
@@ -329,9 +321,7 @@ fn reads_what_is_round_a_tile(rt: HostRuntime) {
 
 #[test]
 fn knows_where_it_has_no_cells(rt: HostRuntime) {
-    let size = Size::new(320, 320).expect(&rt, "a size");
-    let empty = Plane::empty(rt.alloc(), size).expect(&rt, "memory");
-    assert_bare(&rt, &empty, "empty");
+    assert_bare(&rt, &plane(&rt, 320, 320, &[]), "empty");
     let plane = five_by_five(&rt);
     assert_bare_but_near(&rt, &plane, "with a cell");
     let copy = plane.copy(rt.alloc()).expect(&rt, "memory");

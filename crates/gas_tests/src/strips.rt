@@ -1,10 +1,11 @@
 //! Runs by strips of teams, with values found by hand and by the second implementation, and beside those of one thread.
 
 use crate::expected::expect_that;
+use crate::gases::{flow, pair, sums, took};
 use crate::lattices::{are_same, fit, holds, plane, scattered, solids};
 use crate::steppers::{add_taken, step, team};
 use gas_plane::Plane;
-use gas_terms::{Moved, Pair, Rect, Size, Sums, Took};
+use gas_terms::{Pair, Rect, Size, Took};
 use phase_step::{
     Action, Exchange, Flow, Listed, PortArray, Run, Serial, Stepper, Still, parity_at,
 };
@@ -19,6 +20,15 @@ struct Setting<'a> {
     obstacles: &'a Plane,
     parity: u8,
     n: u16,
+}
+
+fn among<'a>(walls: &'a Plane, obstacles: &'a Plane, parity: u8, n: u16) -> Setting<'a> {
+    Setting {
+        walls,
+        obstacles,
+        parity,
+        n,
+    }
 }
 
 // a run as a laboratory makes it
@@ -90,12 +100,7 @@ fn strips_agree<R: Threads + Abort + AllocGlobal + Copy + Drop>(
 ) {
     let walls = seeded(rt, size, 77172645463325252, 7);
     let obstacles = seeded(rt, size, 66172645463325252, 8);
-    let run = Setting {
-        walls: &walls,
-        obstacles: &obstacles,
-        parity: (n / 32 % 2) as u8,
-        n,
-    };
+    let run = among(&walls, &obstacles, (n / 32 % 2) as u8, n);
     let mut alone = seeded(rt, size, 88172645463325252, 1);
     let mut spare = seeded(rt, size, 1, 1);
     let by_one = by_phases(rt, run, &mut alone, &mut spare);
@@ -129,12 +134,7 @@ fn long_and_high_runs_by_strips_are_the_phases(rt: HostRuntime) {
 fn strips_are_put_together(rt: HostRuntime) {
     let size = Size::new(64, 4096).expect(&rt, "a size");
     let none = Plane::empty(rt.alloc(), size).expect(&rt, "memory");
-    let run = Setting {
-        walls: &none,
-        obstacles: &none,
-        parity: 1,
-        n: 64,
-    };
+    let run = among(&none, &none, 1, 64);
     let left = seeded(&rt, size, 1, 1);
     let mut alone = seeded(&rt, size, 88172645463325252, 1);
     let mut spare = seeded(&rt, size, 1, 1);
@@ -172,20 +172,14 @@ fn run_of_sixty_five_by_two_strips(rt: HostRuntime) {
     let obstacles = scattered(&rt, 256, 128, 3, 700);
     let mut now = scattered(&rt, 256, 128, 1, 3);
     let mut spare = scattered(&rt, 256, 128, 4, 2);
-    let run = Setting {
-        walls: &walls,
-        obstacles: &obstacles,
-        parity: 0,
-        n: 65,
-    };
-    let took = by_strips(&rt, 2, run, &Still, &mut now, &mut spare).took;
-    expect_that(&rt, took.walls == Pair { x: -82, y: 18 });
-    expect_that(&rt, took.obstacles == Pair { x: 0, y: -80 });
+    let run = among(&walls, &obstacles, 0, 65);
+    let found = by_strips(&rt, 2, run, &Still, &mut now, &mut spare).took;
+    expect_that(&rt, found == took(pair(-82, 18), pair(0, -80)));
     expect_that(&rt, places(&now, 128) == (10959, 179345058));
 }
 
-// Empties one rectangle and fills another.
-fn stroke(drained: Rect, filled: Rect) -> Exchange {
+/// Empties one rectangle and fills another.
+pub fn stroke(drained: Rect, filled: Rect) -> Exchange {
     let mut drains = PortArray::none(drained);
     drains.push(drained);
     let mut sources = PortArray::none(filled);
@@ -221,32 +215,12 @@ fn strokes_in_a_run_by_two_strips(rt: HostRuntime) {
     let action = Listed {
         exchanges: exchanges.as_slice(),
     };
-    let setting = Setting {
-        walls: &walls,
-        obstacles: &obstacles,
-        parity: 0,
-        n: 65,
-    };
-    let flow = by_strips(&rt, 2, setting, &action, &mut now, &mut spare);
-    expect_that(&rt, flow.took.walls == Pair { x: -56, y: 80 });
-    expect_that(&rt, flow.took.obstacles == Pair { x: -20, y: -52 });
+    let run = among(&walls, &obstacles, 0, 65);
+    let found = by_strips(&rt, 2, run, &action, &mut now, &mut spare);
+    let taken = took(pair(-56, 80), pair(-20, -52));
     expect_that(
         &rt,
-        flow.moved.injected
-            == Sums {
-                count: 1322,
-                px: 0,
-                py: 96,
-            },
-    );
-    expect_that(
-        &rt,
-        flow.moved.drained
-            == Sums {
-                count: 1019,
-                px: 51,
-                py: 37,
-            },
+        found == flow(taken, sums(1322, 0, 96), sums(1019, 51, 37)),
     );
     expect_that(&rt, places(&now, 128) == (11262, 186152991));
 }
@@ -270,12 +244,7 @@ fn comes_to<R: Threads + Abort + AllocGlobal + Copy + Drop, A: Action>(
     let walls = plane(rt, 64, 128, walls);
     let obstacles = plane(rt, 64, 128, obstacles);
     let want = plane(rt, 64, 128, cells);
-    let run = Setting {
-        walls: &walls,
-        obstacles: &obstacles,
-        parity: 0,
-        n: 17,
-    };
+    let run = among(&walls, &obstacles, 0, 17);
     for way in 0..4u8 {
         let mut now = plane(rt, 64, 128, &START);
         let mut spare = plane(rt, 64, 128, &[]);
@@ -295,10 +264,7 @@ fn comes_to<R: Threads + Abort + AllocGlobal + Copy + Drop, A: Action>(
 
 // nothing came in or went out
 fn only_took(walls: Pair, obstacles: Pair) -> Flow {
-    Flow {
-        took: Took { walls, obstacles },
-        ..Flow::ZERO
-    }
+    flow(took(walls, obstacles), sums(0, 0, 0), sums(0, 0, 0))
 }
 
 // A particle goes one cell along its diagonal in each phase. It stays in the phase in which it is turned back, which takes twice
@@ -306,21 +272,15 @@ fn only_took(walls: Pair, obstacles: Pair) -> Flow {
 // phase 10, and (41, 60) at (32, 69) in phase 9.
 #[test]
 fn long_runs_find_both_accounts(rt: HostRuntime) {
-    let (none, by_walls, by_obstacles) = (Pair::ZERO, Pair { x: 4, y: 0 }, Pair { x: -2, y: 2 });
-    let flow = only_took(by_walls, by_obstacles);
+    let (none, by_walls, by_obstacles) = (Pair::ZERO, pair(4, 0), pair(-2, 2));
+    let both = only_took(by_walls, by_obstacles);
     let cells = &[(0, 0), (8, 21), (39, 62)];
-    comes_to(&rt, WALL, OBSTACLE, &Still, flow, cells);
+    comes_to(&rt, WALL, OBSTACLE, &Still, both, cells);
     let cells = &[(0, 0), (8, 21), (24, 77)];
     comes_to(&rt, WALL, &[], &Still, only_took(by_walls, none), cells);
     let cells = &[(27, 27), (21, 8), (39, 62)];
-    comes_to(
-        &rt,
-        &[],
-        OBSTACLE,
-        &Still,
-        only_took(none, by_obstacles),
-        cells,
-    );
+    let alone = only_took(none, by_obstacles);
+    comes_to(&rt, &[], OBSTACLE, &Still, alone, cells);
 }
 
 // After phase 12 the particle from (4, 25) is at (12, 17), on its way left and down, and is drained. One on its way left and up
@@ -340,26 +300,10 @@ fn long_run_with_an_action_finds_both_accounts(rt: HostRuntime) {
     let action = Listed {
         exchanges: exchanges.as_slice(),
     };
-    let flow = Flow {
-        took: Took {
-            walls: Pair { x: 4, y: 0 },
-            obstacles: Pair { x: -2, y: 2 },
-        },
-        moved: Moved {
-            injected: Sums {
-                count: 1,
-                px: -1,
-                py: -1,
-            },
-            drained: Sums {
-                count: 1,
-                px: -1,
-                py: 1,
-            },
-        },
-    };
+    let taken = took(pair(4, 0), pair(-2, 2));
+    let wanted = flow(taken, sums(1, -1, -1), sums(1, -1, 1));
     let cells = &[(0, 0), (39, 62), (46, 96)];
-    comes_to(&rt, WALL, OBSTACLE, &action, flow, cells);
+    comes_to(&rt, WALL, OBSTACLE, &action, wanted, cells);
 }
 
 // rows of shifted and mixed words, of which so many are put together by `and`
@@ -399,12 +343,7 @@ fn team_runs_as_one_thread(rt: HostRuntime) {
     let mut team = team(&rt, rt, rt.alloc(), 16, NoGate);
     // the strips of the first run serve the second, of which the second batch is of one phase
     for (n, parity) in [(64, 0), (65, 1)] {
-        let run = Setting {
-            walls: &walls,
-            obstacles: &obstacles,
-            parity,
-            n,
-        };
+        let run = among(&walls, &obstacles, parity, n);
         let took = act_along(&rt, &mut team, run, &Still, &mut now, &mut spare).took;
         let by_one = act_along(&rt, &mut Serial, run, &Still, &mut alone, &mut spare).took;
         expect_that(&rt, took == by_one && have_same_rows(&now, &alone));
@@ -416,12 +355,7 @@ fn team_runs_as_one_thread(rt: HostRuntime) {
 fn team_parts_large_runs_into_strips(rt: HostRuntime) {
     let size = Size::new(2048, 2048).expect(&rt, "a size");
     let none = Plane::empty(rt.alloc(), size).expect(&rt, "memory");
-    let run = Setting {
-        walls: &none,
-        obstacles: &none,
-        parity: 0,
-        n: 64,
-    };
+    let run = among(&none, &none, 0, 64);
     let left = seeded(&rt, size, 1, 1);
     for (workers, in_strips) in [(1, false), (2, false), (4, true)] {
         let mut team = team(&rt, rt, rt.alloc(), workers, NoGate);
@@ -446,19 +380,14 @@ fn small_runs_by_strips_are_those_of_one_thread(rt: HostRuntime) {
     };
     let left = seeded(&rt, size, 1, 1);
     for n in [1, 5, 69] {
-        let setting = Setting {
-            walls: &walls,
-            obstacles: &obstacles,
-            parity: 1,
-            n,
-        };
+        let run = among(&walls, &obstacles, 1, n);
         let mut alone = seeded(&rt, size, 88172645463325252, 1);
         let mut spare = seeded(&rt, size, 1, 1);
-        let by_one = act_along(&rt, &mut Serial, setting, &action, &mut alone, &mut spare);
+        let by_one = act_along(&rt, &mut Serial, run, &action, &mut alone, &mut spare);
         for workers in [2, 3, 7] {
             let mut now = seeded(&rt, size, 88172645463325252, 1);
             let mut spare = seeded(&rt, size, 1, 1);
-            let flow = by_strips(&rt, workers, setting, &action, &mut now, &mut spare);
+            let flow = by_strips(&rt, workers, run, &action, &mut now, &mut spare);
             expect_that(&rt, flow == by_one && have_same_rows(&now, &alone));
             expect_that(&rt, have_same_rows(&spare, &left));
         }

@@ -10,9 +10,9 @@ use phase_step::Serial;
 use phase_team::{Gate, NoGate, Team};
 use std::process::Abort;
 use std::sync::atomic::{AtomicBool, AtomicU64, Ordering};
-use std::thread;
 use std::thread::Threads;
 use std::time::{Clock, Duration};
+use std::{array, thread};
 
 // a phase with any gate
 fn phase<R: Threads + Drop, G: Gate + Drop>(
@@ -104,20 +104,7 @@ struct Counts {
 impl Counts {
     fn new() -> Counts {
         Counts {
-            tiles: [
-                AtomicU64::new(0),
-                AtomicU64::new(0),
-                AtomicU64::new(0),
-                AtomicU64::new(0),
-                AtomicU64::new(0),
-                AtomicU64::new(0),
-                AtomicU64::new(0),
-                AtomicU64::new(0),
-                AtomicU64::new(0),
-                AtomicU64::new(0),
-                AtomicU64::new(0),
-                AtomicU64::new(0),
-            ],
+            tiles: array::from_fn(|_| AtomicU64::new(0)),
             others: AtomicU64::new(0),
         }
     }

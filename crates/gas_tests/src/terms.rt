@@ -4,19 +4,16 @@ ghost use Rattle.std.specs.Prelude.{◌≡◌, true};
 ghost use Rattle.gas_terms.specs.Cells.{lies_within};
 
 use crate::expected::{expect_same, expect_that};
+use crate::gases::{sums, tick};
 use gas_terms::{
-    Command, Entry, Ledger, Moved, NoMemory, Pair, Rect, Refusal, RowBits, Size, Sums, Tick, Took,
-    Vel, vel,
+    Command, Entry, Ledger, Moved, NoMemory, Pair, Rect, Refusal, RowBits, Size, Tick, Took, Vel,
+    vel,
 };
 use std::process::Abort;
 use std::test::Fail;
 
 fn size(rt: &impl Abort, width: u32, height: u32) -> Size {
     Size::new(width, height).expect(rt, "a size")
-}
-
-fn tick(rt: &impl Abort, number: i64) -> Tick {
-    Tick::new(number).expect(rt, "a tick")
 }
 
 #[test]
@@ -125,29 +122,9 @@ fn velocities_lead_across_the_block(rt: HostRuntime) {
     }
 }
 
-fn sums(count: i64, px: i64, py: i64) -> Sums
-    ensures { result ≡ record { count = count; px = px; py = py } }
-{
-    Sums { count, px, py }
-}
-
 #[test]
 fn sums_add_up(rt: HostRuntime) {
-    let some = Sums {
-        count: 5,
-        px: -3,
-        py: 1,
-    };
-    let others = Sums {
-        count: 2,
-        px: 2,
-        py: -2,
-    };
-    let both = Sums {
-        count: 7,
-        px: -1,
-        py: -1,
-    };
+    let (some, others, both) = (sums(5, -3, 1), sums(2, 2, -2), sums(7, -1, -1));
     expect_same(&rt, some.plus(others), both);
     expect_same(&rt, both.minus(others), some);
 }
