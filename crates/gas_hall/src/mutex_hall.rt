@@ -6,7 +6,7 @@ ghost use Rattle.gas_terms.specs.Laboratory.{IsPrefix};
 ghost use Rattle.gas_seats.specs.Seats.{Seat, most_seats, numbers};
 ghost use Rattle.gas_hall.specs.Busy.{busy};
 
-use crate::serving::{Guest, Lobby, Seating, Served, serve_seats};
+use crate::serving::{Lobby, Seating, Served, serve_seats};
 use gas_lab::Stepper;
 use gas_seats::{Hall, HallGate, HallName, HallSeat};
 use gas_snapshot::Shelf;
@@ -33,23 +33,20 @@ impl<N: HallName, S: Stepper, G: HallGate, R: Wait> Seating<HallSeat<N>, R> for 
         seat.entries()
     }
 
-    fn serve_guest<In: Read + Drop, Out: Write + Drop, K: Shelf + Drop>(
+    fn serve_guest<In: Read, Out: Write, K: Shelf>(
         &self,
         rt: &R,
         alloc: Global,
-        guest: Guest<HallSeat<N>, In, Out, K>,
+        seat: HallSeat<N>,
+        reader: &mut In,
+        writer: &mut Out,
+        shelf: &mut K,
     ) -> HallSeat<N>
-        ensures kept { record result { entries = 0 } ≡ record guest.seat { entries = 0 } }
+        ensures kept { record result { entries = 0 } ≡ record seat { entries = 0 } }
         ensures seen { IsPrefix [] [] }
     {
-        let Guest {
-            seat,
-            mut reader,
-            mut writer,
-            mut shelf,
-        } = guest;
         let mut door = self.door(rt, seat);
-        serve_door(alloc, &mut reader, &mut writer, &mut door, &mut shelf);
+        serve_door(alloc, reader, writer, &mut door, shelf);
         door.end()
     }
 }

@@ -74,15 +74,18 @@ pub(crate) trait Seating<T, R> {
         ensures made { result ≡ made seat.now }
         ensures bound { result ≤ most_entries };
 
-    fn serve_guest<In: Read + Drop, Out: Write + Drop, K: Shelf + Drop>(
+    fn serve_guest<In: Read, Out: Write, K: Shelf>(
         &self,
         rt: &R,
         alloc: Global,
-        guest: Guest<T, In, Out, K>,
+        seat: T,
+        reader: &mut In,
+        writer: &mut Out,
+        shelf: &mut K,
     ) -> T
-        requires here { has self.now (kept guest.seat) }
-        ensures kept { kept result ≡ kept guest.seat }
-        ensures seen { IsPrefix (seen guest.seat) (seen result) };
+        requires here { has self.now (kept seat) }
+        ensures kept { kept result ≡ kept seat }
+        ensures seen { IsPrefix (seen seat) (seen result) };
 }
 
 impl<S: Stepper, R: Wait> Seating<TurnSeat<S>, R> for TurnHall<S> {
@@ -102,24 +105,21 @@ impl<S: Stepper, R: Wait> Seating<TurnSeat<S>, R> for TurnHall<S> {
         seat.entries()
     }
 
-    fn serve_guest<In: Read + Drop, Out: Write + Drop, K: Shelf + Drop>(
+    fn serve_guest<In: Read, Out: Write, K: Shelf>(
         &self,
         rt: &R,
         alloc: Global,
-        guest: Guest<TurnSeat<S>, In, Out, K>,
+        seat: TurnSeat<S>,
+        reader: &mut In,
+        writer: &mut Out,
+        shelf: &mut K,
     ) -> TurnSeat<S>
-        requires here { guest.seat.hall ≡ self.now }
-        ensures kept { but_for_seen result ≡ but_for_seen guest.seat }
-        ensures seen { IsPrefix guest.seat.seen result.seen }
+        requires here { seat.hall ≡ self.now }
+        ensures kept { but_for_seen result ≡ but_for_seen seat }
+        ensures seen { IsPrefix seat.seen result.seen }
     {
-        let Guest {
-            seat,
-            mut reader,
-            mut writer,
-            mut shelf,
-        } = guest;
         let mut door = self.door(rt, seat);
-        serve_door(alloc, &mut reader, &mut writer, &mut door, &mut shelf);
+        serve_door(alloc, reader, writer, &mut door, shelf);
         door.end()
     }
 }
@@ -154,16 +154,17 @@ pub(crate) fn sit<T, R, H: Seating<T, R>, In: Read + Drop, Out: Write + Drop, K:
     ensures kept { H.kept result ≡ H.kept guest.seat }
     ensures seen { IsPrefix (H.seen guest.seat) (H.seen result) }
 {
-    if house.refused.load(Ordering::SeqCst) == H::number_of(&guest.seat) as u32 {
-        let Guest {
-            seat,
-            reader: _,
-            writer: _,
-            shelf: _,
-        } = guest;
+    let Guest {
+        seat,
+        mut reader,
+        mut writer,
+        mut shelf,
+    } = guest;
+    if house.refused.load(Ordering::SeqCst) == H::number_of(&seat) as u32 {
         return seat;
     }
-    house.hall.serve_guest(house.rt, house.alloc, guest)
+    let (rt, alloc, hall) = (house.rt, house.alloc, house.hall);
+    hall.serve_guest(rt, alloc, seat, &mut reader, &mut writer, &mut shelf)
 }
 
 // Accepts a session for the seat and starts its thread, or hands the seat back.
