@@ -64,26 +64,9 @@ fn take_turns<
         panic!(rt; "no seats")
     };
     expect_same(rt, (first.number(), second.number()), (0, 1));
-    let (one, two) = put_by_turns(rt, alloc, hall, first, second);
-    come_back(rt, hall, &mut seats, one, (0, 2));
-    come_back(rt, hall, &mut seats, two, (1, 1));
-    seats
-}
-
-fn put_by_turns<
-    N: HallName + Send + Sync,
-    G: HallGate + Sync,
-    R: Threads + Wait + Abort + Sync + Send,
->(
-    rt: &R,
-    alloc: Global,
-    hall: &Hall<N, Serial, G>,
-    first: HallSeat<N>,
-    second: HallSeat<N>,
-) -> ((HallSeat<N>, SessionEnd), (HallSeat<N>, SessionEnd)) {
     let (first_page, second_page) = (Mutex::new(OutputPage::new()), Mutex::new(OutputPage::new()));
     let (on_first, on_second) = (&first_page, &second_page);
-    let back = thread::join(
+    let (one, two) = thread::join(
         rt,
         move || sit_down(
             rt,
@@ -97,7 +80,9 @@ fn put_by_turns<
     );
     expect_that(rt, shows(&first_page, b"OK 0\nOK 2\n"));
     expect_that(rt, shows(&second_page, b"OK 1\n"));
-    back
+    come_back(rt, hall, &mut seats, one, (0, 2));
+    come_back(rt, hall, &mut seats, two, (1, 1));
+    seats
 }
 
 // The session ended with its input, the seat has this number and so many entries, and its copy holds the three puts. It is

@@ -3,6 +3,7 @@
 use crate::expected::{expect_same, expect_that};
 use crate::open_and_serve::{Left, serve_sessions};
 use crate::small_labs::{counted, no_puts};
+use std::array;
 use std::process::Abort;
 use std::sync::{Mutex, Wait};
 use std::thread::Threads;
@@ -61,11 +62,7 @@ fn show(rt: &impl Abort, pages: &[Mutex<OutputPage>], wanted: &[&[u8]]) {
 }
 
 fn empty_pages() -> [Mutex<OutputPage>; 3] {
-    [
-        Mutex::new(OutputPage::new()),
-        Mutex::new(OutputPage::new()),
-        Mutex::new(OutputPage::new()),
-    ]
+    array::from_fn(|_| Mutex::new(OutputPage::new()))
 }
 
 /// Two sessions take turns by a gate that a server of one after the other can't pass, nor one that holds the lock for a

@@ -6,7 +6,6 @@ ghost use Rattle.gas_terms.specs.Cells.{extent};
 use crate::small_labs::{Seen, counters, empty_lab, look_at};
 use gas_hall::{Hall, HallGate, HallName, HallSeat, Lobby, Served, serve};
 use gas_lab::{Lab, Serial};
-use std::alloc::Global;
 use std::marker::Brand;
 use std::process::Abort;
 use std::sync::Wait;
@@ -25,78 +24,14 @@ pub struct Left {
 }
 
 fn first_counts<N: HallName>(seats: &[HallSeat<N>]) -> [u32; 4] {
-    [
-        entries_at(seats, 0),
-        entries_at(seats, 1),
-        entries_at(seats, 2),
-        entries_at(seats, 3),
-    ]
-}
-
-fn entries_at<N: HallName>(seats: &[HallSeat<N>], place: usize) -> u32 {
-    match seats.get(place) {
-        Some(seat) => seat.entries(),
-        None => 0,
+    let mut counts = [0; 4];
+    for (count, seat) in counts.iter_mut().zip(seats) {
+        *count = seat.entries();
     }
+    counts
 }
 
-// Serves each seat, closes the hall, and looks for these puts.
-fn serve_and_close<
-    N: HallName + Send + Sync,
-    G: HallGate + Sync,
-    L: Lobby,
-    R: Threads + Wait + Sync + Abort + AllocGlobal,
->(
-    rt: &R,
-    hall: Hall<N, Serial, G>,
-    seats: Vec<HallSeat<N>>,
-    lobby: &mut L,
-    shelves: Vec<Counter<'_>>,
-    puts: &[(u16, u16)],
-) -> Left
-    requires parts { N.parts ≡ vec_len shelves }
-    requires each { vec_len shelves ≡ vec_len seats }
-    requires seats { (0 < vec_len shelves) × (vec_len shelves ≤ 64) }
-    ensures count { result.counts.0 + result.counts.1 ≡ vec_len shelves.entry }
-    ensures entries { result.lab.entries ≡ result.counts.2 }
-{
-    let Served {
-        done,
-        failed,
-        entries,
-        seats,
-    } = serve(rt, rt.alloc(), lobby, &hall, seats, shelves);
-    let of_seats = first_counts(seats.as_slice());
-    Left {
-        counts: (done, failed, entries),
-        of_seats,
-        lab: look_at(hall.close(seats), puts),
-    }
-}
-
-// The opened hall with its seats, if memory is not refused.
-fn open_hall<N: HallName, G: HallGate>(
-    alloc: Global,
-    blank: Blank,
-    lab: Lab<Serial>,
-    seats: u16,
-    gate: G,
-) -> Option<(Hall<N, Serial, G>, Vec<HallSeat<N>>)>
-    requires name { blank.name ≡ N.name }
-    requires parts { (blank.parts ≡ N.parts) × (blank.parts ≡ seats) }
-    requires some { 0 < seats }
-    requires lab { (extent lab.start.particles ≡ N.size) × (lab.cap ≡ N.cap) × (lab.journal ≡ []) }
-    ensures { IfSome result (λ r. vec_len r.1 ≡ seats) }
-{
-    match Hall::<N, Serial, G>::open(alloc, blank, lab, seats, gate) {
-        Ok(opened) => Some(opened),
-        Err(lab) => {
-            drop(lab);
-            None
-        }
-    }
-}
-
+// Serves each seat, closes the hall, and looks for these puts. Serves nobody if memory runs out.
 fn serve_named<
     N: HallName + Send + Sync,
     G: HallGate + Sync,
@@ -115,10 +50,26 @@ fn serve_named<
     requires parts { (blank.parts ≡ N.parts) × (blank.parts ≡ vec_len shelves) }
     requires seats { (0 < vec_len shelves) × (vec_len shelves ≤ 64) }
     requires lab { (extent lab.start.particles ≡ N.size) × (lab.cap ≡ N.cap) × (lab.journal ≡ []) }
+    ensures count { IfSome result (λ left.
+        left.counts.0 + left.counts.1 ≡ vec_len shelves.entry) }
+    ensures entries { IfSome result (λ left. left.lab.entries ≡ left.counts.2) }
 {
     let count = shelves.len() as u16;
-    let (hall, seats) = open_hall::<N, G>(rt.alloc(), blank, lab, count, gate)?;
-    Some(serve_and_close(rt, hall, seats, lobby, shelves, puts))
+    let Ok((hall, seats)) = Hall::<N, Serial, G>::open(rt.alloc(), blank, lab, count, gate) else {
+        return None;
+    };
+    let Served {
+        done,
+        failed,
+        entries,
+        seats,
+    } = serve(rt, rt.alloc(), lobby, &hall, seats, shelves);
+    let of_seats = first_counts(seats.as_slice());
+    Some(Left {
+        counts: (done, failed, entries),
+        of_seats,
+        lab: look_at(hall.close(seats), puts),
+    })
 }
 
 /// Serves so many sessions of the lobby, each with a shelf that counts, on an empty laboratory of this width, and looks for

@@ -2,7 +2,7 @@
 
 use gas_hall::{AcceptFault, Lobby};
 use std::io;
-use std::io::{ErrorKind, Read, Write};
+use std::io::{ErrorKind, Write};
 use std::sync::Mutex;
 
 const ROOM: usize = 512;
@@ -27,9 +27,8 @@ impl OutputPage {
     /// A page that takes 0 bytes of each write.
     pub fn full() -> OutputPage {
         OutputPage {
-            bytes: [0; ROOM],
-            len: 0,
             room: 0,
+            ..OutputPage::new()
         }
     }
 
@@ -89,21 +88,6 @@ pub fn shows(page: &Mutex<OutputPage>, text: &[u8]) -> bool {
     }
 }
 
-/// Gives its text, and then ends.
-#[derive(Drop)]
-pub struct Words<'a> {
-    rest: &'a [u8],
-}
-
-impl<'a> Read for Words<'a> {
-    fn read(&mut self, buf: &mut [u8]) -> io::Result<usize> {
-        let n = self.rest.len().min(buf.len());
-        buf[..n].copy_from_slice(&self.rest[..n]);
-        self.rest = &self.rest[n..];
-        Ok(n)
-    }
-}
-
 /// Each of its inputs is a session, and an input that is missing is an accept that fails.
 #[derive(Drop)]
 pub struct Guests<'a> {
@@ -123,17 +107,15 @@ impl<'a> Guests<'a> {
 }
 
 impl<'a> Lobby for Guests<'a> {
-    type R = Words<'a>;
+    type R = &'a [u8];
 
     type W = PageWriter<'a>;
 
-    fn accept(&mut self) -> Result<(Words<'a>, PageWriter<'a>), AcceptFault> {
+    fn accept(&mut self) -> Result<(&'a [u8], PageWriter<'a>), AcceptFault> {
         let at = self.next;
         self.next = at.saturating_add(1);
         match (self.inputs.get(at), self.pages.get(at)) {
-            (Some(Some(input)), Some(page)) => {
-                Ok((Words { rest: *input }, PageWriter::new(page)))
-            }
+            (Some(Some(input)), Some(page)) => Ok((*input, PageWriter::new(page))),
             _ => Err(AcceptFault),
         }
     }
