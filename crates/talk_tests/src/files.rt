@@ -1,6 +1,7 @@
 //! A shelf that is a file, in a folder of the test's own.
 
 use crate::expected::{expect_same, expect_that};
+use crate::snapshots::WITH_PORTS;
 use gas_snapshot::{FileShelf, Shelf};
 use std::fs::Permissions;
 use std::os::unix::fs as unix_fs;
@@ -9,15 +10,10 @@ use std::process::Abort;
 use std::rt::Files;
 use std::{fs, process};
 
-// the empty gas of 64 by 64 in version 1, but at tick -1, with the drain 1 1 1 1 and the source 10 10 1 1 of period 2
-const HEAD: [u8; 40] = [
-    0x48, 0x50, 0x50, 0x47, 0x41, 0x53, 0x31, 0x0a, 0, 0x40, 0, 0x40, 0xff, 0xff, 0xff, 0xff, 0xff,
-    0xff, 0xff, 0xff, 1, 1, 0, 1, 0, 1, 0, 1, 0, 1, 0, 10, 0, 10, 0, 1, 0, 1, 0, 2,
-];
-
+// A gas with ports and without particles, in version 1.
 fn snapshot() -> [u8; 1064] {
     let mut bytes = [0; 1064];
-    bytes[..40].copy_from_slice(&HEAD);
+    bytes[..40].copy_from_slice(&WITH_PORTS);
     bytes
 }
 

@@ -149,14 +149,8 @@ fn read_fails(rt: &(impl Abort + AllocGlobal), lab: &mut Lab<Serial>) {
     let mut feed = Feed::new(b"tally\ntally\n", 6, FaultAt::after(1));
     let mut sink = sink(rt);
     let replies = b"TALLY 0 0 0 0\n".as_slice();
-    ends_so(
-        rt,
-        lab,
-        &mut feed,
-        &mut sink,
-        replies,
-        SessionEnd::ReadFault,
-    );
+    let end = SessionEnd::ReadFault;
+    ends_so(rt, lab, &mut feed, &mut sink, replies, end);
     expect_same(&rt, sink.flushes(), 1);
 }
 
@@ -168,14 +162,8 @@ fn write_fails(
 ) {
     let mut feed = Feed::new(b"tally\ntally\n", ALL, FaultAt::never());
     let mut sink = Sink::new(rt.alloc(), ALL, ALL, fault);
-    ends_so(
-        rt,
-        lab,
-        &mut feed,
-        &mut sink,
-        replies,
-        SessionEnd::WriteFault,
-    );
+    let end = SessionEnd::WriteFault;
+    ends_so(rt, lab, &mut feed, &mut sink, replies, end);
 }
 
 fn calls_fail(rt: &(impl Abort + AllocGlobal), lab: &mut Lab<Serial>) {

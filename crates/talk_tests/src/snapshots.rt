@@ -20,8 +20,8 @@ const NEW: [u8; 22] = [
     0x48, 0x50, 0x50, 0x47, 0x41, 0x53, 0x32, 0x0a, 0, 0x40, 0, 0x40, 0, 0, 0, 0, 0, 0, 0, 0, 0, 0,
 ];
 
-// tick -1, the drain 1 1 1 1 and the source 10 10 1 1 of period 2, in version 1
-const WITH_PORTS: [u8; 40] = [
+/// The same at tick -1, with the drain 1 1 1 1 and the source 10 10 1 1 of period 2, in version 1.
+pub const WITH_PORTS: [u8; 40] = [
     0x48, 0x50, 0x50, 0x47, 0x41, 0x53, 0x31, 0x0a, 0, 0x40, 0, 0x40, 0xff, 0xff, 0xff, 0xff, 0xff,
     0xff, 0xff, 0xff, 1, 1, 0, 1, 0, 1, 0, 1, 0, 1, 0, 10, 0, 10, 0, 1, 0, 1, 0, 2,
 ];
