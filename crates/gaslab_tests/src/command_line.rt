@@ -4,7 +4,6 @@ use crate::expected::{expect_same, expect_that};
 use gaslab::{Plan, PlanFault, Service, Status, plan};
 use std::net::{IpAddr, Ipv4Addr, SocketAddr};
 use std::process::Abort;
-use std::thread::Threads;
 
 // width, height and capacity of a plan
 fn numbers(found: &Plan<'_>) -> [u32; 3] {
@@ -20,11 +19,7 @@ fn planned<'a>(rt: &(impl Abort + AllocGlobal), words: &'a [&'a str]) -> Plan<'a
 }
 
 // the words are read as this width, height and capacity, and nothing to load or save
-fn plans(
-    rt: &(impl Abort + AllocGlobal + Threads + Copy + Drop),
-    words: &[&str],
-    wanted: [u32; 3],
-) {
+fn plans(rt: &(impl Abort + AllocGlobal), words: &[&str], wanted: [u32; 3]) {
     let found = planned(rt, words);
     expect_same(&rt, numbers(&found), wanted);
     expect_that(&rt, found.load.is_none());
@@ -32,7 +27,7 @@ fn plans(
 }
 
 // the text if the words ask for something else
-fn text_of(rt: &(impl Abort + AllocGlobal + Threads + Copy + Drop), words: &[&str]) -> String {
+fn text_of(rt: &(impl Abort + AllocGlobal), words: &[&str]) -> String {
     match plan(rt.alloc(), words) {
         Err(PlanFault::Line(text)) => text,
         Err(PlanFault::Memory) => panic!(rt; "memory"),
@@ -41,11 +36,7 @@ fn text_of(rt: &(impl Abort + AllocGlobal + Threads + Copy + Drop), words: &[&st
 }
 
 // the text for the words has all these parts
-fn teaches(
-    rt: &(impl Abort + AllocGlobal + Threads + Copy + Drop),
-    words: &[&str],
-    parts: &[&str],
-) {
+fn teaches(rt: &(impl Abort + AllocGlobal), words: &[&str], parts: &[&str]) {
     let text = text_of(rt, words);
     for part in parts {
         assert!(rt;
@@ -120,7 +111,7 @@ const LISTEN: [&str; 4] = [
 
 // each of these values of the option is refused, and the text has all these parts
 fn refuses(
-    rt: &(impl Abort + AllocGlobal + Threads + Copy + Drop),
+    rt: &(impl Abort + AllocGlobal),
     command: &str,
     option: &str,
     values: &[&str],
@@ -132,11 +123,7 @@ fn refuses(
 }
 
 // each of these options is refused without a value
-fn refuses_alone(
-    rt: &(impl Abort + AllocGlobal + Threads + Copy + Drop),
-    command: &str,
-    options: &[&str],
-) {
+fn refuses_alone(rt: &(impl Abort + AllocGlobal), command: &str, options: &[&str]) {
     for option in options {
         teaches(rt, &["gaslab", command, *option], &[*option]);
     }
@@ -156,12 +143,7 @@ fn values_beyond_the_limits_teach(rt: HostRuntime) {
 }
 
 // the option of a run is read as this width, height and capacity
-fn plans_with(
-    rt: &(impl Abort + AllocGlobal + Threads + Copy + Drop),
-    option: &str,
-    value: &str,
-    wanted: [u32; 3],
-) {
+fn plans_with(rt: &(impl Abort + AllocGlobal), option: &str, value: &str, wanted: [u32; 3]) {
     plans(rt, &["gaslab", "run", option, value], wanted);
 }
 

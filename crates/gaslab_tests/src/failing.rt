@@ -61,6 +61,14 @@ struct FailingOutcome {
     end: SessionEnd,
 }
 
+fn outcome(asked: usize, written: usize, end: SessionEnd) -> FailingOutcome {
+    FailingOutcome {
+        asked,
+        written,
+        end,
+    }
+}
+
 fn status_of(end: SessionEnd) -> u8 {
     if end == SessionEnd::InputEnd { 0 } else { 1 }
 }
@@ -214,11 +222,8 @@ fn goes(
 // so many bytes were read
 fn after_bytes(dialogue: &Dialogue, len: usize, end: SessionEnd) -> FailingOutcome {
     let asked = count_lines(front(dialogue.input.as_slice(), len));
-    FailingOutcome {
-        asked,
-        written: first_lines(dialogue.output.as_slice(), asked).len(),
-        end,
-    }
+    let output = first_lines(dialogue.output.as_slice(), asked);
+    outcome(asked, output.len(), end)
 }
 
 // one byte a read, and this fault
@@ -289,18 +294,11 @@ fn whole_readers_fail(rt: &(impl Abort + AllocGlobal + Threads), dialogue: &Dial
 fn cut_by_replies(output: &[u8], calls: usize) -> FailingOutcome {
     let begun = (calls / 2).saturating_add(1);
     if begun > count_lines(output) {
-        return FailingOutcome {
-            asked: count_lines(output),
-            written: output.len(),
-            end: SessionEnd::InputEnd,
-        };
+        return outcome(count_lines(output), output.len(), SessionEnd::InputEnd);
     }
     let whole = if calls % 2 == 0 { calls / 2 } else { begun };
-    FailingOutcome {
-        asked: begun,
-        written: first_lines(output, whole).len(),
-        end: SessionEnd::WriteFault,
-    }
+    let written = first_lines(output, whole).len();
+    outcome(begun, written, SessionEnd::WriteFault)
 }
 
 // each byte is a write, and after each newline there is a flush
@@ -310,31 +308,19 @@ fn cut_by_bytes(output: &[u8], calls: usize) -> FailingOutcome {
     let mut whole = 0usize;
     for byte in output {
         if left == 0 {
-            return FailingOutcome {
-                asked: whole.saturating_add(1),
-                written,
-                end: SessionEnd::WriteFault,
-            };
+            return outcome(whole.saturating_add(1), written, SessionEnd::WriteFault);
         }
         left = left.saturating_sub(1);
         written = written.saturating_add(1);
         if *byte == b'\n' {
             whole = whole.saturating_add(1);
             if left == 0 {
-                return FailingOutcome {
-                    asked: whole,
-                    written,
-                    end: SessionEnd::WriteFault,
-                };
+                return outcome(whole, written, SessionEnd::WriteFault);
             }
             left = left.saturating_sub(1);
         }
     }
-    FailingOutcome {
-        asked: whole,
-        written,
-        end: SessionEnd::InputEnd,
-    }
+    outcome(whole, written, SessionEnd::InputEnd)
 }
 
 // a write or flush fails in this way, be replies written whole or byte by byte
