@@ -1,6 +1,8 @@
 //! Sources and drains.
 
 use crate::script::{LabShape, SMALL, gives, gives_on};
+use std::process::Abort;
+use std::thread::Threads;
 
 #[test]
 fn drained_particle_is_booked(rt: HostRuntime) {
@@ -50,34 +52,28 @@ fn drained_and_refilled_cancels(rt: HostRuntime) {
 const SIXTEEN: &str =
     "OK 0; OK 1; OK 2; OK 3; OK 4; OK 5; OK 6; OK 7; OK 8; OK 9; OK 10; OK 11; OK 12; OK 13; OK 14; OK 15; ";
 
-#[test]
-fn seventeen_sources(rt: HostRuntime) {
-    let source = "source 0 0 1 1 1; ";
+// sixteen such ports are added, the seventeenth is refused, and the lines after them are answered
+fn seventeen(rt: &(impl Abort + AllocGlobal + Threads), port: &str, then: &str, told: &str) {
     let mut script = String::new(rt.alloc());
     for _ in 0..17u32 {
-        script.push_str(source).expect(&rt, "memory");
+        script.push_str(port).expect(rt, "memory");
     }
-    script
-        .push_str("drain 0 0 1 1; step 1; tally")
-        .expect(&rt, "memory");
-    let output = format!(in rt.alloc();
-        "{SIXTEEN}ERR 10 full; OK 16; OK 17; TALLY 1 1 -1 -1"
-    ).expect(&rt, "memory");
-    gives(&rt, script.as_str(), output.as_str());
+    script.push_str(then).expect(rt, "memory");
+    let output = format!(in rt.alloc(); "{SIXTEEN}ERR 10 full; {told}").expect(rt, "memory");
+    gives(rt, script.as_str(), output.as_str());
+}
+
+#[test]
+fn seventeen_sources(rt: HostRuntime) {
+    let then = "drain 0 0 1 1; step 1; tally";
+    let told = "OK 16; OK 17; TALLY 1 1 -1 -1";
+    seventeen(&rt, "source 0 0 1 1 1; ", then, told);
 }
 
 #[test]
 fn seventeen_drains(rt: HostRuntime) {
-    let drain = "drain 0 0 1 1; ";
-    let mut script = String::new(rt.alloc());
-    for _ in 0..17u32 {
-        script.push_str(drain).expect(&rt, "memory");
-    }
-    script
-        .push_str("unport; drain 0 0 1 1")
-        .expect(&rt, "memory");
-    let output = format!(in rt.alloc(); "{SIXTEEN}ERR 10 full; OK 16; OK 17").expect(&rt, "memory");
-    gives(&rt, script.as_str(), output.as_str());
+    let then = "unport; drain 0 0 1 1";
+    seventeen(&rt, "drain 0 0 1 1; ", then, "OK 16; OK 17");
 }
 
 #[test]

@@ -110,32 +110,6 @@ fn status_after(end: SessionEnd) -> u8 {
     }
 }
 
-fn end_on<T: AllocGlobal + Threads, R: Read, W: Write, K: Shelf>(
-    rt: &T,
-    lab: &mut Lab<Team<&T, NoGate>>,
-    reader: &mut R,
-    writer: &mut W,
-    shelf: &mut K,
-) -> SessionEnd {
-    serve_alone(rt.alloc(), reader, writer, lab, 0, shelf)
-}
-
-fn status_by_strips<R: Read, W: Write, K: Shelf>(
-    rt: &(impl AllocGlobal + Threads),
-    setup: Setup,
-    start: Option<Gas>,
-    reader: &mut R,
-    writer: &mut W,
-    shelf: &mut K,
-) -> u8
-    requires { IsInRange setup }
-{
-    match opened_by_strips(rt, setup, start) {
-        Some(mut lab) => status_after(end_on(rt, &mut lab, reader, writer, shelf)),
-        None => Status::NoMemory.number(),
-    }
-}
-
 /// The status of a run. The program itself makes no small run by strips, so a shape `by_strips` gets a laboratory of the
 /// test's own.
 pub fn status_on<R: Read, W: Write, K: Shelf>(
@@ -147,10 +121,14 @@ pub fn status_on<R: Read, W: Write, K: Shelf>(
     shelf: &mut K,
 ) -> u8 {
     let setup = setup_of(rt, shape);
-    if shape.by_strips {
-        status_by_strips(rt, setup, start, reader, writer, shelf)
-    } else {
-        run_on(rt, rt.alloc(), setup, start, reader, writer, shelf)
+    if !shape.by_strips {
+        return run_on(rt, rt.alloc(), setup, start, reader, writer, shelf);
+    }
+    match opened_by_strips(rt, setup, start) {
+        Some(mut lab) => {
+            status_after(serve_alone(rt.alloc(), reader, writer, &mut lab, 0, shelf))
+        }
+        None => Status::NoMemory.number(),
     }
 }
 
