@@ -61,7 +61,7 @@ fn meet_all<S: Stepper, R: Wait>(rt: &R, hall: &TurnHall<S>, seats: &mut Vec<Tur
     };
     let mut door = hall.door(rt, last);
     meet_each(rt, hall, &mut door, seats);
-    // this call finds a journal that has room for all that they made; `ledger` takes constant time
+    // This call finds a journal that has room for all that they made; `ledger` takes constant time.
     let _ = door.ask(Command::Ledger);
     seats.push_reserved(door.end());
 }

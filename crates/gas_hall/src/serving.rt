@@ -56,16 +56,16 @@ pub(crate) struct House<'s, R, H> {
 
 /// A hall whose seats take sessions.
 pub(crate) trait Seating<T, R> {
-    // the seat without what its sessions change
+    // The seat without what its sessions change.
     ghost kept: { T → T };
 
-    // whether a seat, without what its sessions change, is one of the hall's
+    // Whether a seat, without what its sessions change, is one of the hall's.
     ghost has: { Self → T → Type 0 };
 
-    // how many entries the seat made
+    // How many entries the seat made.
     ghost made: { T → ℕ };
 
-    // what the seat has seen of the journal, if it knows that
+    // What the seat has seen of the journal, if it knows that.
     ghost seen: { T → List Entry };
 
     fn number_of(seat: &T) -> u16;
@@ -270,7 +270,7 @@ where
             done + 1
         }
         Err(seat) => {
-            // no session ran, so this holds; the prover can't know that
+            // No session ran, so this holds; the prover can't know that.
             let is_idle = H::entries_of(&seat) == made;
             seats.push_reserved(seat);
             if is_idle { done } else { done + 1 }

@@ -58,7 +58,7 @@ impl Write for TcpReplies {
 
 impl Drop for TcpReplies {
     fn drop(self) {
-        // the session is over, whether or not its client can be told so
+        // The session is over, whether or not its client can be told so.
         part(&self.stream).ok();
         let TcpReplies { stream: _ } = self;
     }
@@ -76,7 +76,7 @@ impl Lobby for TcpLobby {
         let Ok(reader) = stream.try_clone() else {
             return Err(AcceptFault);
         };
-        // else the second of two replies waits for the client's acknowledgement of the first; without it they are only slower
+        // Else the second of two replies waits for the client's acknowledgement of the first; without it they are only slower.
         stream.set_nodelay(true).ok();
         Ok((reader, TcpReplies { stream }))
     }

@@ -59,7 +59,7 @@ Example: two people, each with a terminal of their own, on one gas:
   nc 127.0.0.1 7878      in the third; type  entry 0  and see  ENTRY 0 put 0 0 1 1
 Each ends with quit.";
 
-// what the text of a wrong value says of its option
+// What the text of a wrong value says of its option.
 #[derive(Clone, Copy)]
 struct Advice {
     help: &'static str,
@@ -136,7 +136,7 @@ impl NumberOption {
             .help(self.help)
     }
 
-    // the number that was given, or else the default
+    // The number that was given, or else the default.
     fn number(self, alloc: Global, found: &ArgMatches<'_>) -> Result<u32, PlanFault>
         ensures { IfOk result (λ n. (self.least ≤ n) × (n ≤ self.most)) }
     {
@@ -156,7 +156,7 @@ impl NumberOption {
     }
 }
 
-// the text for a wrong value of an option
+// The text for a wrong value of an option.
 fn no_value(
     alloc: Global,
     found: &ArgMatches<'_>,
@@ -182,7 +182,7 @@ fn path_arg<'a>(alloc: Global, name: &'a str, help: &'a str) -> Arg<'a> {
         .help(help)
 }
 
-// a command with the options that both have
+// A command with the options that both have.
 fn command<'a>(
     alloc: Global,
     name: &'a str,
@@ -217,7 +217,7 @@ fn serve_command<'a>(alloc: Global) -> Result<Command<'a>, clap::Error> {
     Ok(serve.arg(SESSIONS.arg(alloc))?)
 }
 
-// the program, without its commands
+// The program, without its commands.
 fn program<'a>(alloc: Global) -> Result<Command<'a>, clap::Error> {
     let program = Command::new(alloc, "gaslab").bin_name("./gaslab")?;
     Ok(
@@ -244,7 +244,7 @@ fn fault_of(alloc: Global, error: &clap::Error) -> PlanFault {
     }
 }
 
-// the size of a new lattice
+// The size of a new lattice.
 fn size_of(alloc: Global, found: &ArgMatches<'_>) -> Result<Size, PlanFault> {
     let width = WIDTH.number(alloc, found)?;
     let height = HEIGHT.number(alloc, found)?;
@@ -257,7 +257,7 @@ fn size_of(alloc: Global, found: &ArgMatches<'_>) -> Result<Size, PlanFault> {
     }
 }
 
-// where to listen, and for how many sessions
+// Where to listen, and for how many sessions.
 fn serving(alloc: Global, found: &ArgMatches<'_>) -> Result<Service, PlanFault>
     ensures { IfOk result HasSessions }
 {
@@ -273,7 +273,7 @@ fn serving(alloc: Global, found: &ArgMatches<'_>) -> Result<Service, PlanFault>
     }
 }
 
-// the options that both commands have
+// The options that both commands have.
 fn plan_for<'a>(
     alloc: Global,
     found: &ArgMatches<'a>,
@@ -283,7 +283,7 @@ fn plan_for<'a>(
     ensures { IfOk result (λ plan. IsInRange plan.setup × HasSessions plan.service) }
 {
     let load = found.get_str("load");
-    // a snapshot has a size of its own, so those of the line are not looked at
+    // A snapshot has a size of its own, so those of the line are not looked at.
     let size = match load {
         Some(_) => Size::new(64, 64).unwrap(),
         None => size_of(alloc, found)?,

@@ -19,7 +19,7 @@ pub enum LoadFault {
     Snap(SnapFault),
 }
 
-// one byte more than the longest snapshot has
+// One byte more than the longest snapshot has.
 const MOST: usize = 6_291_767;
 
 const PAGE: usize = 4096;

@@ -38,7 +38,7 @@ impl<S: Stepper> Model for TurnHall<S> {
 #[derive(Drop)]
 pub struct TurnSeat<S: Stepper> {
     number: u16,
-    // how many entries the seat made
+    // How many entries the seat made.
     made: u32,
     size: Size,
     door: LockDoor<InTurn<S>>,

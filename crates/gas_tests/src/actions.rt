@@ -74,12 +74,12 @@ fn emptied(rt: &impl Abort, size: Size) -> Exchange {
     Exchange::new(drains, PortArray::none(all))
 }
 
-// two particles at tick 0, which both go right and down
+// Two particles at tick 0, which both go right and down.
 fn two(rt: &(impl Abort + AllocGlobal)) -> Plane {
     plane(rt, 128, 128, &[(0, 0), (70, 90)])
 }
 
-// a run of three phases on one thread, the first at an even tick
+// A run of three phases on one thread, the first at an even tick.
 fn act_thrice(rt: &(impl Abort + AllocGlobal), particles: &mut Plane, action: &Listed<'_>) -> Flow {
     let size = particles.size();
     let mut spare = Plane::empty(rt.alloc(), size).expect(rt, "memory");
@@ -173,7 +173,7 @@ fn exchange_of_a_tile(rt: HostRuntime) {
         let mut tile = old;
         let change = exchange.on_tile(0, 0, &mut tile);
         expect_that(&rt, tile.has_same_cells(&want));
-        // (0, 0) goes and (2, 0) comes; (1, 0) is drained and filled again
+        // (0, 0) goes and (2, 0) comes; (1, 0) is drained and filled again.
         expect_same(&rt, change.gained, [1, 0, 0, 0]);
         expect_same(&rt, change.lost, [1, 0, 0, 0]);
         let change = exchange.on_tile(0, 0, &mut tile);

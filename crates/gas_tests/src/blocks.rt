@@ -11,7 +11,7 @@ use gas_terms::Took;
 use std::process::Abort;
 use tile_border::{Border, Neighbors};
 
-// the cells in the order upper left, upper right, lower left, lower right: old and new
+// The cells in the order upper left, upper right, lower left, lower right: old and new.
 const TABLE: [(u8, u8); 16] = [
     (0b0000, 0b0000),
     (0b0001, 0b1000),
@@ -63,7 +63,7 @@ fn tile_of(cells: &[(u32, u32)]) -> Tile {
     tile
 }
 
-// the border of a tile whose neighbors above, to the left, above to the left and below to the right have these cells
+// The border of a tile whose neighbors above, to the left, above to the left and below to the right have these cells.
 fn border_of(above: &Tile, left: &Tile, above_left: &Tile, below_right: &Tile) -> Border {
     let none = Tile::empty();
     Border::of(
@@ -92,7 +92,7 @@ fn window<'a>(tile: &'a Tile, near: &'a Neighbors) -> Window<'a> {
     Window { tile, round }
 }
 
-// the blocks that have a cell of a tile without neighbors
+// The blocks that have a cell of a tile without neighbors.
 fn blocks_of(cells: &Tile) -> (u32, TileBlocks) {
     let near = no_border().neighbors();
     tile_blocks(&window(cells, &near))
@@ -106,7 +106,7 @@ fn given(named: &(u32, TileBlocks)) -> Option<SetBlocks<'_>> {
     })
 }
 
-// the tile with this border after the rule at an odd tick, without walls, of which nothing is taken
+// The tile with this border after the rule at an odd tick, without walls, of which nothing is taken.
 fn turned_odd(rt: &impl Abort, old: &Tile, border: &Border) -> Tile {
     let near = border.neighbors();
     let particles = window(old, &near);
@@ -123,7 +123,7 @@ fn turned_odd(rt: &impl Abort, old: &Tile, border: &Border) -> Tile {
 fn particles_cross_their_blocks(rt: HostRuntime) {
     let none = Tile::empty();
     let old = tile_of([(0, 0), (10, 10), (11, 11), (63, 62)].as_slice());
-    // a lone particle crosses its block, and a pair that meets head on turns
+    // A lone particle crosses its block, and a pair that meets head on turns.
     let even = [(1, 1), (11, 10), (10, 11), (62, 63)].as_slice();
     let mut free = old;
     let took = turn_tile_even(&mut free, None, None, Counted::BOTH);
@@ -135,7 +135,7 @@ fn particles_cross_their_blocks(rt: HostRuntime) {
     expect_that(&rt, has_just(&among_none, even));
     expect_same(&rt, took, Took::ZERO);
 
-    // at odd parity (10, 10) and (11, 11) are in blocks of their own, and (0, 0) and (63, 62) leave the tile
+    // At odd parity (10, 10) and (11, 11) are in blocks of their own, and (0, 0) and (63, 62) leave the tile.
     let odd = [(9, 9), (12, 12)].as_slice();
     expect_that(&rt, has_just(&turned_odd(&rt, &old, &no_border()), odd));
     let border = no_border();
@@ -149,7 +149,7 @@ fn particles_of_named_blocks_stay(rt: HostRuntime) {
     let walled = tile_of([(10, 10), (11, 10), (10, 11), (11, 11)].as_slice());
     let mut tile = tile_of([(0, 0), (10, 10)].as_slice());
     let named = blocks_of(&walled);
-    // blocks at even places have them in rows 10 and 11, those at odd places in rows 9 to 12: a bit for each pair of rows
+    // Blocks at even places have them in rows 10 and 11, those at odd places in rows 9 to 12: a bit for each pair of rows.
     expect_same(&rt, named.0, 1 << 4 | 1 << 5 | 1 << 6);
     expect_same(&rt, named.1.even[5], 1 << 5);
     let took = turn_tile_even(&mut tile, given(&named), None, Counted::BOTH);
@@ -198,15 +198,15 @@ fn particles_come_in_over_the_corners(rt: HostRuntime) {
     let first = tile_of([(0, 0)].as_slice());
     let last = tile_of([(63, 63)].as_slice());
 
-    // from the tile above to the left, and from the tile below to the right
+    // From the tile above to the left, and from the tile below to the right.
     let out = turned_odd(&rt, &none, &border_of(&none, &none, &corner, &first));
     expect_that(&rt, has_just(&out, [(0, 0), (63, 63)].as_slice()));
 
-    // a head-on pair across the corner goes to the tiles above and to the left
+    // A head-on pair across the corner goes to the tiles above and to the left.
     let out = turned_odd(&rt, &first, &border_of(&none, &none, &corner, &none));
     expect_that(&rt, has_just(&out, [].as_slice()));
 
-    // and a pair of those tiles comes to the corner
+    // And a pair of those tiles comes to the corner.
     let above = tile_of([(0, 63)].as_slice());
     let left = tile_of([(63, 0)].as_slice());
     let out = turned_odd(&rt, &last, &border_of(&above, &left, &none, &none));
@@ -273,11 +273,11 @@ fn a_tile_books_its_own_particles(rt: HostRuntime) {
     let beside = border_of(&none, &tile_of([(63, 0)].as_slice()), &none, &none);
     let above = border_of(&tile_of([(0, 63)].as_slice()), &none, &none, &none);
 
-    // the particle at (0, 0) is on its way up and left: turned back, it gives twice its momentum
+    // The particle at (0, 0) is on its way up and left: turned back, it gives twice its momentum.
     for (walls, obstacles, of_walls, of_obstacles) in [
         (&beside, &free, pair(-2, -2), pair(0, 0)),
         (&free, &beside, pair(0, 0), pair(-2, -2)),
-        // with a wall and an obstacle in its block it counts for the obstacle
+        // With a wall and an obstacle in its block it counts for the obstacle.
         (&above, &beside, pair(0, 0), pair(-2, -2)),
     ] {
         let (out, took) = taken_at_corner(walls, obstacles);
@@ -286,7 +286,7 @@ fn a_tile_books_its_own_particles(rt: HostRuntime) {
         expect_same(&rt, took.obstacles, of_obstacles);
     }
 
-    // with neither it meets the other head on
+    // With neither it meets the other head on.
     let (out, took) = taken_at_corner(&free, &free);
     expect_that(&rt, has_just(&out, [].as_slice()));
     expect_same(&rt, took, Took::ZERO);
@@ -296,7 +296,7 @@ fn a_tile_books_its_own_particles(rt: HostRuntime) {
 fn walls_and_obstacles_turn_particles_back(rt: HostRuntime) {
     let none = Tile::empty();
     let border = no_border();
-    // three blocks with one particle each: to the right and down, to the left and down, to the right and up
+    // Three blocks with one particle each: to the right and down, to the left and down, to the right and up.
     let old = tile_of([(0, 0), (5, 8), (20, 31)].as_slice());
     let walls = tile_of([(1, 1), (4, 8)].as_slice());
     let obstacles = tile_of([(21, 30)].as_slice());
@@ -305,11 +305,11 @@ fn walls_and_obstacles_turn_particles_back(rt: HostRuntime) {
     expect_same(&rt, took.walls, pair(0, 4));
     expect_same(&rt, took.obstacles, pair(2, -2));
 
-    // at odd parity they are in other blocks, none of them walled: (0, 0) leaves the tile
+    // At odd parity they are in other blocks, none of them walled: (0, 0) leaves the tile.
     let (out, took) = turn_tile(&old, &border, &walls, &border, &obstacles, &border, 1);
     expect_that(&rt, has_just(&out, [(6, 7), (19, 32)].as_slice()));
     expect_same(&rt, took, Took::ZERO);
-    // an obstacle on a particle's own cell takes as well
+    // An obstacle on a particle's own cell takes as well.
     let (out, took) = turn_tile(&old, &border, &none, &border, &old, &border, 1);
     expect_that(&rt, has_just(&out, [(0, 0), (5, 8), (20, 31)].as_slice()));
     expect_same(&rt, took.walls, pair(0, 0));

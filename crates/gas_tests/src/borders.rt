@@ -54,12 +54,12 @@ fn the_ring_is_what_the_neighbors_touch(rt: HostRuntime) {
         (Side::Below, 6, true),
         (Side::Left, 7, true),
         (Side::Right, 8, true),
-        // each of these on the other side
+        // Each of these on the other side.
         (Side::Below, 5, false),
         (Side::Above, 6, false),
         (Side::Right, 7, false),
         (Side::Left, 8, false),
-        // cells that do not touch the tile
+        // Cells that do not touch the tile.
         (Side::Above, 9, false),
         (Side::Below, 10, false),
         (Side::Left, 11, false),
@@ -68,7 +68,7 @@ fn the_ring_is_what_the_neighbors_touch(rt: HostRuntime) {
     expect_ring(&rt, &border, &cells);
 }
 
-// the neighbors' cells that touch the tile's corners
+// The neighbors' cells that touch the tile's corners.
 #[test]
 fn each_corner_is_a_corner_of_its_tile(rt: HostRuntime) {
     let none = Tile::empty();
@@ -85,7 +85,7 @@ fn each_corner_is_a_corner_of_its_tile(rt: HostRuntime) {
     expect_corners(&rt, &touching, true);
 }
 
-// the cells at the corners are full or empty as told, and one beside each is not
+// The cells at the corners are full or empty as told, and one beside each is not.
 fn expect_corners(rt: &impl Abort, border: &Border, held: bool) {
     let cells = [
         (Side::Above, -1, held),
@@ -100,7 +100,7 @@ fn expect_corners(rt: &impl Abort, border: &Border, held: bool) {
     expect_ring(rt, border, &cells);
 }
 
-// the neighbors at the sides are full, and those at the corners have cells that do not touch the tile
+// The neighbors at the sides are full, and those at the corners have cells that do not touch the tile.
 #[test]
 fn sides_end_at_the_corners(rt: HostRuntime) {
     let all = Tile::rect(0, 0, 64, 64);
@@ -123,7 +123,7 @@ fn what_stood_in_a_border_is_overwritten(rt: HostRuntime) {
     let all = Tile::rect(0, 0, 64, 64);
     let mut border = Border::of(&all, &all, &all, &all, &all, &all, &all, &all);
 
-    // each of these touches the tile at one place
+    // Each of these touches the tile at one place.
     let above = Tile::rect(5, 63, 1, 1);
     let left = Tile::rect(63, 7, 1, 1);
     let below_right = Tile::rect(0, 0, 1, 1);
@@ -171,7 +171,7 @@ fn a_border_has_neighbors(rt: HostRuntime) {
     let neighbors = border.neighbors();
     let round = neighbors.round();
 
-    // what touches the tile is there
+    // What touches the tile is there.
     expect_that(&rt, round.above.get(5, 63));
     expect_that(&rt, round.above.get(6, 63));
     expect_that(&rt, round.left.get(63, 7));
@@ -180,7 +180,7 @@ fn a_border_has_neighbors(rt: HostRuntime) {
     expect_that(&rt, round.right.get(0, 8));
     expect_that(&rt, round.right.get(0, 9));
     expect_that(&rt, round.below_left.get(63, 0));
-    // and nothing else
+    // And nothing else.
     expect_that(&rt, round.above.count() == 2);
     expect_that(&rt, round.left.count() == 3);
     expect_that(&rt, round.right.count() == 2);

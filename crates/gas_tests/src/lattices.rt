@@ -20,7 +20,7 @@ pub fn plane(
     let size = Size::new(width, height).expect(rt, "a size");
     let mut plane = match Plane::empty(rt.alloc(), size) {
         Ok(plane) => plane,
-        // an allocation that a test refuses is refused once
+        // An allocation that a test refuses is refused once.
         Err(_) => Plane::empty(rt.alloc(), size).expect(rt, "memory"),
     };
     for (x, y) in cells {
@@ -61,7 +61,7 @@ pub fn solids(rt: &(impl Abort + AllocGlobal), walls: &Plane, obstacles: &Plane)
 {
     match solids_of(rt.alloc(), walls, obstacles) {
         Ok(solids) => solids,
-        // an allocation that a test refuses is refused once
+        // An allocation that a test refuses is refused once.
         Err(_) => solids_of(rt.alloc(), walls, obstacles).expect(rt, "memory"),
     }
 }

@@ -8,7 +8,7 @@ use gas_plane::Plane;
 use gas_terms::{Moved, Rect, Size};
 use std::process::Abort;
 
-// how many drains and sources there are, and the column and period of the first source
+// How many drains and sources there are, and the column and period of the first source.
 fn kinds(ports: &Ports) -> (usize, usize, Option<(u16, u16)>) {
     let first = ports.sources().first().copied();
     (
@@ -36,7 +36,7 @@ fn seventeen_drains(rt: HostRuntime) {
     expect_same(&rt, ports.add(Port::Drain(area)), Ok(()));
 }
 
-// sixteen sources, in columns 1 to 16 of row 0, and one drain
+// Sixteen sources, in columns 1 to 16 of row 0, and one drain.
 fn sixteen_sources(rt: &(impl Abort + AllocGlobal)) -> Gas {
     let mut gas = gas_at(rt, -1);
     for k in 1..17 {
@@ -68,7 +68,7 @@ fn full_says_which(rt: HostRuntime) {
     );
 }
 
-// a source of this period acts in the step from this tick on, or does nothing
+// A source of this period acts in the step from this tick on, or does nothing.
 fn acts_after(rt: &(impl Abort + AllocGlobal), number: i64, period: u16, is_due: bool) {
     let count = if is_due { 1 } else { 0 };
     let source = [(Piece::Source(period), 10, 10, 1, 1)];
@@ -102,7 +102,7 @@ fn source_on_its_period(rt: HostRuntime) {
 #[test]
 fn source_refills_a_drain(rt: HostRuntime) {
     let ports = [(Piece::Source(1), 5, 6, 1, 1), (Piece::Drain, 5, 6, 1, 1)];
-    // an empty cell is filled
+    // An empty cell is filled.
     let moved = run(&rt, 2, &ports, 1, &[(5, 6, true)], 1).moved;
     expect_same(&rt, moved, moves(sums(1, 1, -1), sums(0, 0, 0)));
 }
@@ -110,7 +110,7 @@ fn source_refills_a_drain(rt: HostRuntime) {
 #[test]
 fn drained_and_refilled_cancels(rt: HostRuntime) {
     let parts = [
-        // it goes to (5, 6)
+        // It goes to (5, 6).
         (Piece::Particles, 4, 7, 1, 1),
         (Piece::Source(1), 5, 6, 1, 1),
         (Piece::Drain, 5, 6, 1, 1),
@@ -129,11 +129,11 @@ fn ports_act_on_a_plane(rt: HostRuntime) {
     expect_same(&rt, ports.add(Port::Source(filled, 2)), Ok(()));
     let mut plane = Plane::empty(rt.alloc(), size).expect(&rt, "memory");
     plane.fill(drained);
-    // the second cell is drained and filled again
+    // The second cell is drained and filled again.
     let moved = apply_ports(&mut plane, &ports, tick(&rt, 4));
     expect_same(&rt, moved, moves(sums(1, 1, 1), sums(1, 1, 1)));
     expect_cells(&rt, &plane, &[(0, 0, false), (1, 0, true), (2, 0, true)]);
-    // the source is not due
+    // The source is not due.
     let moved = apply_ports(&mut plane, &ports, tick(&rt, 5));
     expect_same(&rt, moved, moves(sums(0, 0, 0), sums(1, 1, -1)));
     expect_cells(&rt, &plane, &[(1, 0, false), (2, 0, true)]);
@@ -151,7 +151,7 @@ fn ports_across_tiles(rt: HostRuntime) {
         (Piece::Particles, 63, 9, 2, 1),
         (Piece::Particles, 99, 0, 2, 1),
     ];
-    // (63, 10) and (100, 127) are gone, (64, 10) has stayed, (65, 10) and (0, 127) are new
+    // (63, 10) and (100, 127) are gone, (64, 10) has stayed, (65, 10) and (0, 127) are new.
     let cells = [
         (63, 10, false),
         (64, 10, true),
@@ -165,7 +165,7 @@ fn ports_across_tiles(rt: HostRuntime) {
     expect_same(&rt, moved, moves(sums(2, 0, 0), sums(2, 0, 0)));
 }
 
-// the sums of the whole gas at a tick, of row 0 and of the tile at (64, 64)
+// The sums of the whole gas at a tick, of row 0 and of the tile at (64, 64).
 fn sums_are(rt: &impl Abort, gas: &Gas, number: i64, all: Sums, row: Sums, far: Sums) {
     let at = tick(rt, number);
     expect_same(&rt, tally(gas.particles(), at), all);
@@ -175,7 +175,7 @@ fn sums_are(rt: &impl Abort, gas: &Gas, number: i64, all: Sums, row: Sums, far: 
     expect_same(&rt, probe(gas.particles(), area_of_far, at), far);
 }
 
-// the cells (0, 0), (1, 0), (0, 1) and (65, 67)
+// The cells (0, 0), (1, 0), (0, 1) and (65, 67).
 fn four_cells(rt: &(impl Abort + AllocGlobal)) -> Gas {
     let mut gas = gas_at(rt, 0);
     let cells = [
@@ -204,7 +204,7 @@ fn probe_and_tally_by_parities(rt: HostRuntime) {
     expect_same(&rt, tally(gas.particles(), tick(&rt, -7)), sums(3, -1, -1));
 }
 
-// what comes in and goes out if the first so many cells of row 0 are filled
+// What comes in and goes out if the first so many cells of row 0 are filled.
 fn put(rt: &impl Abort, gas: &mut Gas, w: u32) -> Moved {
     let cells = area(rt, gas, 0, 0, w, 1);
     gas.fill_particles(cells)
@@ -222,7 +222,7 @@ fn full_cells_are_not_injected(rt: HostRuntime) {
     expect_same(&rt, out, moves(nothing, sums(2, 0, 2)));
 }
 
-// what comes in and goes out if row 0 becomes one with these first and eighth bytes
+// What comes in and goes out if row 0 becomes one with these first and eighth bytes.
 fn replace_row_0(rt: &impl Abort, gas: &mut Gas, first: u8, eighth: u8) -> Moved {
     let row = [first, 0, 0, 0, 0, 0, 0, eighth, 0, 0, 0, 0, 0, 0, 0, 0];
     expect_that(&rt, gas.size().width() == 128);
@@ -233,10 +233,10 @@ fn replace_row_0(rt: &impl Abort, gas: &mut Gas, first: u8, eighth: u8) -> Moved
 #[test]
 fn rows_are_replaced(rt: HostRuntime) {
     let mut gas = gas_at(&rt, 0);
-    // (0, 0) and (63, 0)
+    // (0, 0) and (63, 0).
     let moved = replace_row_0(&rt, &mut gas, 0x80, 0x01);
     expect_same(&rt, moved, moves(sums(2, 0, 2), sums(0, 0, 0)));
-    // (1, 0) comes in and (63, 0) goes out
+    // (1, 0) comes in and (63, 0) goes out.
     let moved = replace_row_0(&rt, &mut gas, 0xc0, 0x00);
     expect_same(&rt, moved, moves(sums(1, -1, 1), sums(1, -1, 1)));
     let cells = [(0, 0, true), (1, 0, true), (63, 0, false)];

@@ -46,7 +46,7 @@ impl Call<Roll> for Sign {
 
     fn call(self, by: u64, value: &mut Roll) -> usize {
         if value.numbers.len() < value.most {
-            // without memory the number does not sign, and the answer shows it
+            // Without memory the number does not sign, and the answer shows it.
             drop(value.numbers.push(by));
         }
         value.numbers.len()

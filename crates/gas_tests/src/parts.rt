@@ -17,14 +17,14 @@ fn part(area: Rect, left: u32, top: u32) -> (u64, u32) {
 fn a_span_meets_tiles(rt: HostRuntime) {
     expect_same(&rt, tiles_met(60, 70, 3), (0, 3));
     expect_same(&rt, tiles_met(64, 64, 2), (1, 2));
-    // no tile after the last one
+    // No tile after the last one.
     expect_same(&rt, tiles_met(60, 70, 2), (0, 2));
 }
 
 #[test]
 fn a_rectangle_has_a_part_in_each_tile(rt: HostRuntime) {
     let size = Size::new(192, 128).expect(&rt, "a size");
-    // columns 60 to 129, rows 64 to 127
+    // Columns 60 to 129, rows 64 to 127.
     let area = Rect::within(size, 60, 64, 70, 64).expect(&rt, "a rectangle");
     expect_same(&rt, part(area, 0, 64), (0xf000_0000_0000_0000, 4 * 64));
     expect_same(&rt, part(area, 64, 64), (u64::MAX, 64 * 64));

@@ -57,7 +57,7 @@ fn comes_to<R: Threads + Abort + AllocGlobal + Copy + Drop>(
     out
 }
 
-// the first tile alone, at an odd tick
+// The first tile alone, at an odd tick.
 fn first_tile(
     rt: &impl Abort,
     old: &Plane,
@@ -92,7 +92,7 @@ fn wall_that_was_cleared_holds_nothing_back(rt: HostRuntime) {
     comes_to(&rt, &old, &walls, &none, 1, &[(64, 64)], Took::ZERO);
 }
 
-// which blocks of a tile are named, by three words of it: for even parity, and for odd parity those that begin in it and end in it
+// Which blocks of a tile are named, by three words of it: for even parity, and for odd parity those that begin in it and end in it.
 fn named(solid: &Solid, tile: u32, row: usize) -> (u32, u32, u32) {
     if tile >= solid.cells().size().tiles() || row >= 32 {
         return (0, 0, 0);
@@ -122,7 +122,7 @@ fn words_name_the_blocks_of_walls(rt: HostRuntime) {
     expect_that(&rt, named(&walls, 0, 11) == (0, 0, 0));
     expect_that(&rt, named(&walls, 1, 0) == (0, 2147483648, 0));
     expect_that(&rt, named(&walls, 3, 0) == (0, 0, 0));
-    // without the first they are those of the second, and with it again as before
+    // Without the first they are those of the second, and with it again as before.
     let size = cells.size();
     let first = Rect::within(size, 0, 0, 1, 1).expect(&rt, "a cell");
     expect_that(&rt, first.fits(size));
@@ -138,7 +138,7 @@ fn words_name_the_blocks_of_walls(rt: HostRuntime) {
 #[test]
 fn wall_across_tiles_books_once(rt: HostRuntime) {
     let nothing = Pair::ZERO;
-    // at an odd tick a particle at (63, 63) goes to the right and down
+    // At an odd tick a particle at (63, 63) goes to the right and down.
     let twice = Pair { x: 2, y: 2 };
     let old = plane(&rt, 128, 128, &[(63, 63)]);
     let none = plane(&rt, 128, 128, &[]);
@@ -158,7 +158,7 @@ fn wall_across_tiles_books_once(rt: HostRuntime) {
 #[test]
 fn first_tile_by_itself(rt: HostRuntime) {
     let nothing = Pair::ZERO;
-    // at an odd tick a particle at (63, 63) goes to the right and down
+    // At an odd tick a particle at (63, 63) goes to the right and down.
     let twice = Pair { x: 2, y: 2 };
     let old = plane(&rt, 128, 128, &[(63, 63)]);
     let none = plane(&rt, 128, 128, &[]);
@@ -176,7 +176,7 @@ fn first_tile_by_itself(rt: HostRuntime) {
 
 #[test]
 fn wall_in_a_tile_at_an_even_tick(rt: HostRuntime) {
-    // (63, 62) goes to the left and down, and meets the wall of its block at (62, 63)
+    // (63, 62) goes to the left and down, and meets the wall of its block at (62, 63).
     let old = plane(&rt, 128, 64, &[(63, 62), (10, 10)]);
     let none = plane(&rt, 128, 64, &[]);
     let walls = plane(&rt, 128, 64, &[(62, 63)]);
@@ -186,7 +186,7 @@ fn wall_in_a_tile_at_an_even_tick(rt: HostRuntime) {
 
 #[test]
 fn wall_in_the_last_row_holds_in_the_tile_below(rt: HostRuntime) {
-    // at an odd tick (10, 64) goes to the left and up, into the block of the wall in the last row of the tile above
+    // At an odd tick (10, 64) goes to the left and up, into the block of the wall in the last row of the tile above.
     let old = plane(&rt, 128, 128, &[(10, 64), (12, 64)]);
     let none = plane(&rt, 128, 128, &[]);
     let nothing = Pair::ZERO;
@@ -201,7 +201,7 @@ fn wall_in_the_last_row_holds_in_the_tile_below(rt: HostRuntime) {
     }
 }
 
-// where a particle at place k goes in its block, round a circle of 128 places
+// Where a particle at place k goes in its block, round a circle of 128 places.
 fn across(k: u32, parity: u8) -> u32 {
     if k % 2 == u32::from(parity) {
         k.wrapping_add(1) % 128
@@ -210,7 +210,7 @@ fn across(k: u32, parity: u8) -> u32 {
     }
 }
 
-// what it gives if it is turned back
+// What it gives if it is turned back.
 fn given(k: u32, parity: u8) -> i64 {
     if k % 2 == u32::from(parity) { 2 } else { -2 }
 }
@@ -229,7 +229,7 @@ fn one_wall_in_each_row(rt: HostRuntime) {
     }
 }
 
-// a particle in each of the four corners steps over the seams to the corner across, and back
+// A particle in each of the four corners steps over the seams to the corner across, and back.
 fn cross_the_seams<R: Threads + Abort + AllocGlobal + Copy + Drop>(
     rt: &R,
     width: u32,

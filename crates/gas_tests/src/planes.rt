@@ -37,7 +37,7 @@ fn read_row(rt: &impl Abort, plane: &Plane, y: u32, row: &mut [u8]) {
     plane.row_bytes(y, row);
 }
 
-// puts a cell into a tile that is lent, or takes it out
+// Puts a cell into a tile that is lent, or takes it out.
 fn lend(rt: &impl Abort, plane: &mut Plane, i: u32, x: u32, y: u32, held: bool) {
     expect_that(&rt, i < plane.size().tiles());
     assert!(rt; x < 64 && y < 64);
@@ -77,10 +77,10 @@ fn fills_and_clears_over_the_seams(rt: HostRuntime) {
 fn counts_by_parities(rt: HostRuntime) {
     let mut plane = four_tiles(&rt);
     plane.fill(area(&rt, &plane, 62, 63, 4, 3));
-    // columns 62 to 65 and rows 63 to 65
+    // Columns 62 to 65 and rows 63 to 65.
     let all = plane.counts_in(area(&rt, &plane, 0, 0, 128, 128));
     expect_same(&rt, all.as_slice(), [2, 2, 4, 4].as_slice());
-    // columns 63 and 64, rows 64 and 65
+    // Columns 63 and 64, rows 64 and 65.
     let part = plane.counts_in(area(&rt, &plane, 63, 64, 2, 9));
     expect_same(&rt, part.as_slice(), [1, 1, 1, 1].as_slice());
 }
@@ -106,7 +106,7 @@ fn reads_and_writes_rows(rt: HostRuntime) {
     let mut read = [1; 16];
     read_row(&rt, &plane, 70, &mut read);
     expect_same(&rt, read.as_slice(), row.as_slice());
-    // columns 0, 1 and 63, and 64 and 67
+    // Columns 0, 1 and 63, and 64 and 67.
     let words = (0x8000_0000_0000_0003, 9);
     expect_same(&rt, words_of_row_70(&rt, &plane), words);
     expect_same(&rt, (word_of(&row[..8]), word_of(&row[8..])), words);
@@ -147,7 +147,7 @@ fn replaces_a_tile(rt: HostRuntime) {
     expect_that(&rt, plane.size().tiles() == 4);
     plane.set_tile(2, Tile::rect(1, 2, 3, 4));
     let counts = plane.counts_in(area(&rt, &plane, 0, 64, 64, 64));
-    // columns 1 to 3 and rows 66 to 69
+    // Columns 1 to 3 and rows 66 to 69.
     expect_same(&rt, counts.as_slice(), [2, 4, 2, 4].as_slice());
     expect_cells(&rt, &plane, &[(64, 64, true), (0, 63, true)]);
     expect_that(&rt, holds(&was, 0, 64));
@@ -155,7 +155,7 @@ fn replaces_a_tile(rt: HostRuntime) {
     expect_that(&rt, was.tile(2).get(0, 0));
 }
 
-// a row with these columns has these bytes, and they make that row again: for each of two ranges, its first column and width
+// A row with these columns has these bytes, and they make that row again: for each of two ranges, its first column and width.
 fn row_is(rt: &(impl Abort + AllocGlobal), ranges: [(u32, u32); 2], bytes: &[u8; 8]) {
     let mut row = plane(rt, 64, 64, &[]);
     for (x, w) in ranges {
@@ -188,7 +188,7 @@ fn bit_of(row: &[u8], x: u32) -> bool {
     }
 }
 
-// puts the first bytes of a row into row 37, reads them again, and asks for each of their cells
+// Puts the first bytes of a row into row 37, reads them again, and asks for each of their cells.
 fn put_and_read(rt: &impl Abort, plane: &mut Plane, row: &[u8]) {
     let width = plane.size().width();
     let n = usize::from(width) / 8;
@@ -206,7 +206,7 @@ fn put_and_read(rt: &impl Abort, plane: &mut Plane, row: &[u8]) {
 
 #[test]
 fn rows_are_read_back_at_every_width(rt: HostRuntime) {
-    // bytes that look random
+    // Bytes that look random.
     let mut row = [0; 512];
     for k in 0..512usize {
         row[k] = ((k * 167 + 41) % 251) as u8;
@@ -221,7 +221,7 @@ fn is_as_wide_as_a_lattice_may_be(rt: HostRuntime) {
     let mut plane = plane(&rt, 4096, 64, &[]);
     plane.fill(area(&rt, &plane, 4030, 10, 66, 2));
     plane.clear(area(&rt, &plane, 4095, 11, 1, 1));
-    // columns 4030 to 4095 in row 10, and to 4094 in row 11
+    // Columns 4030 to 4095 in row 10, and to 4094 in row 11.
     let counts = plane.counts_in(area(&rt, &plane, 0, 0, 4096, 64));
     expect_same(&rt, counts.as_slice(), [33, 33, 33, 32].as_slice());
     expect_wide_borders(&rt, &plane);
@@ -242,7 +242,7 @@ fn expect_wide_borders(rt: &impl Abort, plane: &Plane) {
         (Side::Right, 10, false),
     ];
     expect_border(rt, plane, 0, &first);
-    // one row of tiles is above and below itself
+    // One row of tiles is above and below itself.
     let last = [
         (Side::Left, 10, true),
         (Side::Right, 10, false),
@@ -285,7 +285,7 @@ fn assert_bare(rt: &impl Abort, plane: &Plane, name: &str) {
     }
 }
 
-// round tile i, one place has the tile with the cell (5, 5), and the others have no cells
+// Round tile i, one place has the tile with the cell (5, 5), and the others have no cells.
 fn expect_first_in(rt: &impl Abort, i: u32, round: &Round<'_>) {
     for (tile, at) in [
         (round.above, 5),
@@ -308,7 +308,7 @@ fn reads_what_is_round_a_tile(rt: HostRuntime) {
     expect_that(&rt, plane.size().tiles() == 25);
     expect_that(&rt, plane.tile_or_bare(0).get(5, 5));
     expect_that(&rt, !plane.tile_or_bare(1).get(5, 5));
-    // the tile that has tile 0 in each of the eight places
+    // The tile that has tile 0 in each of the eight places.
     for i in 0..25u32 {
         expect_that(&rt, plane.size().tiles() == 25);
         expect_first_in(&rt, i, &plane.round(i));
@@ -390,13 +390,13 @@ fn knows_whether_it_has_cells(rt: HostRuntime) {
     expect_that(&rt, plane.is_empty());
 }
 
-// whether the tile above tile i and to the left has the cell (5, 5)
+// Whether the tile above tile i and to the left has the cell (5, 5).
 fn is_upper_left(rt: &impl Abort, plane: &Plane, i: u32) -> bool {
     expect_that(&rt, i < plane.size().tiles());
     plane.round_at(plane.position(i)).above_left.get(5, 5)
 }
 
-// whether the tile in this column and row of tiles has the cell (5, 5), and whether the one below it to the left has
+// Whether the tile in this column and row of tiles has the cell (5, 5), and whether the one below it to the left has.
 fn in_rows(rt: &impl Abort, plane: &Plane, column: u32, row: u32) -> (bool, bool) {
     let size = plane.size();
     expect_that(&rt, column < u32::from(size.width()) / 64);
@@ -406,7 +406,7 @@ fn in_rows(rt: &impl Abort, plane: &Plane, column: u32, row: u32) -> (bool, bool
     (rows.tile(column).get(5, 5), below_left.get(5, 5))
 }
 
-// 5 tiles in a row
+// 5 tiles in a row.
 #[test]
 fn positions_follow_one_another(rt: HostRuntime) {
     let plane = five_by_five(&rt);
@@ -418,10 +418,10 @@ fn positions_follow_one_another(rt: HostRuntime) {
         let next = at.next(across);
         expect_that(&rt, next == plane.position(tile + 1));
     }
-    // tile 6 has tile 0 above it and to the left
+    // Tile 6 has tile 0 above it and to the left.
     expect_that(&rt, is_upper_left(&rt, &plane, 6));
     expect_that(&rt, !is_upper_left(&rt, &plane, 7));
-    // which is the first of its row, and below the last row
+    // Which is the first of its row, and below the last row.
     expect_that(&rt, in_rows(&rt, &plane, 0, 0) == (true, false));
     expect_that(&rt, in_rows(&rt, &plane, 1, 4) == (false, true));
 }

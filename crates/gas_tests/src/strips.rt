@@ -13,7 +13,7 @@ use phase_team::{LeastRun, NoGate, Team};
 use std::process::Abort;
 use std::thread::Threads;
 
-// walls and obstacles of a run of n phases, the first of this parity
+// Walls and obstacles of a run of n phases, the first of this parity.
 #[derive(Clone, Copy)]
 struct Setting<'a> {
     walls: &'a Plane,
@@ -31,7 +31,7 @@ fn among<'a>(walls: &'a Plane, obstacles: &'a Plane, parity: u8, n: u16) -> Sett
     }
 }
 
-// a run as a laboratory makes it
+// A run as a laboratory makes it.
 fn act_along<S: Stepper, A: Action>(
     rt: &(impl Abort + AllocGlobal),
     stepper: &mut S,
@@ -52,7 +52,7 @@ fn act_along<S: Stepper, A: Action>(
     stepper.run_with(particles, run, spare)
 }
 
-// a run by a team that makes each by strips, however short and low
+// A run by a team that makes each by strips, however short and low.
 fn by_strips<R: Threads + Abort + AllocGlobal + Copy + Drop, A: Action>(
     rt: &R,
     workers: u8,
@@ -70,7 +70,7 @@ fn by_strips<R: Threads + Abort + AllocGlobal + Copy + Drop, A: Action>(
     act_along(rt, &mut team, setting, action, particles, spare)
 }
 
-// the same on one thread, phase by phase
+// The same on one thread, phase by phase.
 fn by_phases(rt: &impl Abort, run: Setting<'_>, particles: &mut Plane, spare: &mut Plane) -> Took {
     expect_that(&rt, run.parity < 2);
     let mut took = Took::ZERO;
@@ -91,7 +91,7 @@ fn by_phases(rt: &impl Abort, run: Setting<'_>, particles: &mut Plane, spare: &m
     took
 }
 
-// a run ends the same by strips of so many workers each and phase by phase
+// A run ends the same by strips of so many workers each and phase by phase.
 fn strips_agree<R: Threads + Abort + AllocGlobal + Copy + Drop>(
     rt: &R,
     size: Size,
@@ -151,7 +151,7 @@ fn strips_are_put_together(rt: HostRuntime) {
     }
 }
 
-// how many cells a plane has, and the sum of their places, row by row
+// How many cells a plane has, and the sum of their places, row by row.
 fn places(plane: &Plane, height: u32) -> (u64, u64) {
     let mut sums = (0u64, 0u64);
     for y in 0..height {
@@ -165,7 +165,7 @@ fn places(plane: &Plane, height: u32) -> (u64, u64) {
     sums
 }
 
-// the sums are those of tools/channel_gas.py
+// The sums are those of tools/channel_gas.py.
 #[test]
 fn run_of_sixty_five_by_two_strips(rt: HostRuntime) {
     let walls = scattered(&rt, 256, 128, 2, 400);
@@ -201,7 +201,7 @@ fn strokes(rt: &(impl Abort + AllocGlobal), drained: Rect, filled: Rect, n: u16)
     exchanges
 }
 
-// the sums are those of tools/channel_gas.py, with such an action after its steps
+// The sums are those of tools/channel_gas.py, with such an action after its steps.
 #[test]
 fn strokes_in_a_run_by_two_strips(rt: HostRuntime) {
     let walls = scattered(&rt, 256, 128, 2, 400);
@@ -262,7 +262,7 @@ fn comes_to<R: Threads + Abort + AllocGlobal + Copy + Drop, A: Action>(
     }
 }
 
-// nothing came in or went out
+// Nothing came in or went out.
 fn only_took(walls: Pair, obstacles: Pair) -> Flow {
     flow(took(walls, obstacles), sums(0, 0, 0), sums(0, 0, 0))
 }
@@ -306,7 +306,7 @@ fn long_run_with_an_action_finds_both_accounts(rt: HostRuntime) {
     comes_to(&rt, WALL, OBSTACLE, &action, wanted, cells);
 }
 
-// rows of shifted and mixed words, of which so many are put together by `and`
+// Rows of shifted and mixed words, of which so many are put together by `and`.
 fn seeded(rt: &(impl Abort + AllocGlobal), size: Size, seed: u64, words: u32) -> Plane {
     let mut plane = Plane::empty(rt.alloc(), size).expect(rt, "memory");
     let mut word = seed;
@@ -341,7 +341,7 @@ fn team_runs_as_one_thread(rt: HostRuntime) {
     let mut alone = seeded(&rt, size, 88172645463325252, 1);
     let mut spare = seeded(&rt, size, 1, 1);
     let mut team = team(&rt, rt, rt.alloc(), 16, NoGate);
-    // the strips of the first run serve the second, of which the second batch is of one phase
+    // The strips of the first run serve the second, of which the second batch is of one phase.
     for (n, parity) in [(64, 0), (65, 1)] {
         let run = among(&walls, &obstacles, parity, n);
         let took = act_along(&rt, &mut team, run, &Still, &mut now, &mut spare).took;
@@ -350,7 +350,7 @@ fn team_runs_as_one_thread(rt: HostRuntime) {
     }
 }
 
-// seen as in `strips_are_put_together`: 2,048 squared is large enough for four workers and too small for two
+// Seen as in `strips_are_put_together`: 2,048 squared is large enough for four workers and too small for two.
 #[test]
 fn team_parts_large_runs_into_strips(rt: HostRuntime) {
     let size = Size::new(2048, 2048).expect(&rt, "a size");

@@ -14,7 +14,7 @@ use std::thread::Threads;
 use std::time::{Clock, Duration};
 use std::{array, thread};
 
-// a phase with any gate
+// A phase with any gate.
 fn phase<R: Threads + Drop, G: Gate + Drop>(
     rt: &impl Abort,
     team: &mut Team<R, G>,
@@ -85,7 +85,7 @@ fn two_workers_at_once(rt: HostRuntime) {
     let mut team = team(&rt, rt, rt.alloc(), 2, &gate);
     phase(&rt, &mut team, &old, &none, &none, 1, &mut out);
     expect_that(&rt, !gate.met_limit.load(Ordering::SeqCst));
-    // each of the four tiles was drawn, and each worker called by its own number
+    // Each of the four tiles was drawn, and each worker called by its own number.
     expect_same(&rt, gate.calls.load(Ordering::SeqCst), 4);
     let first = gate.of_first.load(Ordering::SeqCst);
     let second = gate.of_second.load(Ordering::SeqCst);
@@ -174,7 +174,7 @@ fn each_tile_is_drawn_once(rt: HostRuntime) {
 fn refused_team_without_memory(rt: HostRuntime) {
     let old = plane(&rt, 128, 128, &[(63, 63), (64, 64), (10, 10)]);
     let none = plane(&rt, 128, 128, &[]);
-    // at an odd tick a particle at (10, 10) goes to the left and up
+    // At an odd tick a particle at (10, 10) goes to the left and up.
     let walls = plane(&rt, 128, 128, &[(9, 9)]);
     let want = plane(&rt, 128, 128, &[(64, 63), (63, 64), (10, 10)]);
     let mut team = team(&rt, rt, rt.alloc(), 7, NoGate);

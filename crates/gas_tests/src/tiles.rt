@@ -1,7 +1,7 @@
 //! Worked examples of tiles, with values found by hand.
 
 use crate::expected::{expect_same, expect_that};
-use bit_tile::{Tile, counts_in_row};
+use bit_tile::{Tile, counts_in_row, span};
 use std::process::Abort;
 
 fn holds(tile: &Tile, x: u32, y: u32) -> bool {
@@ -36,7 +36,7 @@ fn cells_are_put_in_and_taken_out(rt: HostRuntime) {
 
 #[test]
 fn rectangles_end_at_their_edges(rt: HostRuntime) {
-    // columns 62 and 63, rows 1 to 3
+    // Columns 62 and 63, rows 1 to 3.
     let mask = Tile::rect(62, 1, 2, 3);
     let cells = [
         (62, 1, true),
@@ -50,7 +50,7 @@ fn rectangles_end_at_their_edges(rt: HostRuntime) {
     ];
     expect_cells(&rt, &mask, &cells);
     expect_same(&rt, mask.count(), 6);
-    // by columns and rows: even and even, odd and even, even and odd, odd and odd
+    // By columns and rows: even and even, odd and even, even and odd, odd and odd.
     expect_same(
         &rt,
         mask.count_by_parity().as_slice(),
@@ -61,12 +61,16 @@ fn rectangles_end_at_their_edges(rt: HostRuntime) {
     expect_same(&rt, all.count(), 4096);
     expect_same(&rt, all.count_by_parity().as_slice(), [1024; 4].as_slice());
     expect_same(&rt, Tile::rect(64, 64, 0, 0).count(), 0);
+    // Columns 4 to 9: the even ones are 4, 6 and 8, bits 2 to 4 of a class's word.
+    expect_same(&rt, span(2, 5), 0b1_1100);
+    expect_same(&rt, span(0, 32), u32::MAX);
+    expect_same(&rt, span(7, 7), 0);
     expect_same(&rt, Tile::rect(5, 5, 0, 9).count(), 0);
 }
 
 #[test]
 fn tiles_are_joined_cut_and_met(rt: HostRuntime) {
-    // two squares of 16 cells that have the 4 cells (2, 2), (3, 2), (2, 3) and (3, 3) in common
+    // Two squares of 16 cells that have the 4 cells (2, 2), (3, 2), (2, 3) and (3, 3) in common.
     let some = Tile::rect(0, 0, 4, 4);
     let others = Tile::rect(2, 2, 4, 4);
     let both = some.meet(&others);
@@ -108,7 +112,7 @@ fn rows_are_words(rt: HostRuntime) {
     let mut tile = Tile::rect(62, 1, 2, 3);
     expect_same(&rt, tile.row(0), 0);
     expect_same(&rt, tile.row(1), 0xc000_0000_0000_0000);
-    // columns 0, 2 and 63
+    // Columns 0, 2 and 63.
     tile.set_row(1, 0x8000_0000_0000_0005);
     expect_that(&rt, tile.get(0, 1));
     expect_that(&rt, tile.get(2, 1));
@@ -126,7 +130,7 @@ fn rows_are_words(rt: HostRuntime) {
 
 #[test]
 fn rows_are_put_and_read_back(rt: HostRuntime) {
-    // the ends, even and odd columns, two of every four, and the columns from 32 on: two that are there and two that are not
+    // The ends, even and odd columns, two of every four, and the columns from 32 on: two that are there and two that are not.
     let rows = [
         (0x8000_0000_0000_0001, [0, 63], [1, 62], 2),
         (0x5555_5555_5555_5555, [0, 62], [1, 63], 32),
@@ -153,15 +157,15 @@ fn rows_are_put_and_read_back(rt: HostRuntime) {
 
 #[test]
 fn cells_are_kept_by_class(rt: HostRuntime) {
-    // column 5 of row 8: column 2 of row 4 of the odd columns of the even rows
+    // Column 5 of row 8: column 2 of row 4 of the odd columns of the even rows.
     let mut tile = Tile::empty();
     tile.set(5, 8, true);
     expect_same(&rt, tile.odd_even[4], 4);
-    // columns 2 and 5 of row 9
+    // Columns 2 and 5 of row 9.
     tile.set_row(9, 0x24);
     expect_same(&rt, tile.even_odd[4], 2);
     expect_same(&rt, tile.odd_odd[4], 4);
-    // by columns and rows: even and even, odd and even, even and odd, odd and odd
+    // By columns and rows: even and even, odd and even, even and odd, odd and odd.
     expect_same(
         &rt,
         tile.count_by_parity().as_slice(),
@@ -171,9 +175,9 @@ fn cells_are_kept_by_class(rt: HostRuntime) {
 
 #[test]
 fn cells_of_a_row_are_counted_by_class(rt: HostRuntime) {
-    // columns 0, 2 and 62, and column 63
+    // Columns 0, 2 and 62, and column 63.
     let row = 0xc000_0000_0000_0005;
-    // by columns and rows: even and even, odd and even, even and odd, odd and odd
+    // By columns and rows: even and even, odd and even, even and odd, odd and odd.
     let rows = [
         (row, 8, [3, 1, 0, 0]),
         (row, 9, [0, 0, 3, 1]),

@@ -5,7 +5,7 @@ use gaslab::{Plan, PlanFault, Service, Status, plan};
 use std::net::{IpAddr, Ipv4Addr, SocketAddr};
 use std::process::Abort;
 
-// width, height and capacity of a plan
+// Width, height and capacity of a plan.
 fn numbers(found: &Plan<'_>) -> [u32; 3] {
     let size = found.setup.size;
     [size.width() as u32, size.height() as u32, found.setup.cap]
@@ -18,7 +18,7 @@ fn planned<'a>(rt: &(impl Abort + AllocGlobal), words: &'a [&'a str]) -> Plan<'a
     }
 }
 
-// the words are read as this width, height and capacity, and nothing to load or save
+// The words are read as this width, height and capacity, and nothing to load or save.
 fn plans(rt: &(impl Abort + AllocGlobal), words: &[&str], wanted: [u32; 3]) {
     let found = planned(rt, words);
     expect_same(&rt, numbers(&found), wanted);
@@ -26,7 +26,7 @@ fn plans(rt: &(impl Abort + AllocGlobal), words: &[&str], wanted: [u32; 3]) {
     expect_that(&rt, found.save.is_none());
 }
 
-// the text if the words ask for something else
+// The text if the words ask for something else.
 fn text_of(rt: &(impl Abort + AllocGlobal), words: &[&str]) -> String {
     match plan(rt.alloc(), words) {
         Err(PlanFault::Line(text)) => text,
@@ -35,7 +35,7 @@ fn text_of(rt: &(impl Abort + AllocGlobal), words: &[&str]) -> String {
     }
 }
 
-// the text for the words has all these parts
+// The text for the words has all these parts.
 fn teaches(rt: &(impl Abort + AllocGlobal), words: &[&str], parts: &[&str]) {
     let text = text_of(rt, words);
     for part in parts {
@@ -109,7 +109,7 @@ const LISTEN: [&str; 4] = [
     "--listen 127.0.0.1:7878",
 ];
 
-// each of these values of the option is refused, and the text has all these parts
+// Each of these values of the option is refused, and the text has all these parts.
 fn refuses(
     rt: &(impl Abort + AllocGlobal),
     command: &str,
@@ -122,7 +122,7 @@ fn refuses(
     }
 }
 
-// each of these options is refused without a value
+// Each of these options is refused without a value.
 fn refuses_alone(rt: &(impl Abort + AllocGlobal), command: &str, options: &[&str]) {
     for option in options {
         teaches(rt, &["gaslab", command, *option], &[*option]);
@@ -142,7 +142,7 @@ fn values_beyond_the_limits_teach(rt: HostRuntime) {
     refuses_alone(&rt, "serve", &["--listen", "--sessions"]);
 }
 
-// the option of a run is read as this width, height and capacity
+// The option of a run is read as this width, height and capacity.
 fn plans_with(rt: &(impl Abort + AllocGlobal), option: &str, value: &str, wanted: [u32; 3]) {
     plans(rt, &["gaslab", "run", option, value], wanted);
 }
@@ -179,7 +179,7 @@ fn paths_of_a_plan(rt: HostRuntime) {
     expect_same(&rt, found.save, Some("end.gas"));
 }
 
-// the snapshot's size then holds
+// The snapshot's size then holds.
 #[test]
 fn sizes_beside_a_snapshot(rt: HostRuntime) {
     for (width, height) in [("65", "100"), ("0", "4160"), ("4097", "63")] {
@@ -225,7 +225,7 @@ fn options_that_are_not_there(rt: HostRuntime) {
     teaches(&rt, &["gaslab", "--width", "64"], &["--width"]);
 }
 
-// where the words have it listen, and for how many sessions
+// Where the words have it listen, and for how many sessions.
 fn service_of(rt: &(impl Abort + AllocGlobal), words: &[&str]) -> Service {
     planned(rt, words).service
 }

@@ -21,7 +21,7 @@ const SAVING: &str = "put 0 0 1 1; save; tally";
 
 const SAVING_REPLIES: &str = "OK 0; SAVED 1 1558; TALLY 0 1 1 1";
 
-// what a run reads, and what it writes if nothing fails
+// What a run reads, and what it writes if nothing fails.
 #[derive(Drop)]
 struct Dialogue {
     input: Vec<u8>,
@@ -35,7 +35,7 @@ fn dialogue_of(rt: &(impl Abort + AllocGlobal + Threads), input: &str, output: &
     }
 }
 
-// how much a read gives and a write takes, and which of them fails
+// How much a read gives and a write takes, and which of them fails.
 #[derive(Clone, Copy)]
 struct Failing {
     reads: FaultAt,
@@ -53,7 +53,7 @@ fn no_fault() -> Failing {
     }
 }
 
-// how many lines are asked, how many bytes are written, and how the session ends
+// How many lines are asked, how many bytes are written, and how the session ends.
 #[derive(Clone, Copy)]
 struct FailingOutcome {
     asked: usize,
@@ -108,7 +108,7 @@ fn opened<R: Abort + AllocGlobal + Threads>(rt: &R) -> Lab<Team<&R, NoGate>> {
     Lab::open(rt.alloc(), gas, 1024, Team::new(rt, rt.alloc(), 1, NoGate)).expect(rt, "memory")
 }
 
-// what a session wrote, what its shelf took, and how it ended
+// What a session wrote, what its shelf took, and how it ended.
 #[derive(Drop)]
 struct Session {
     sink: Sink,
@@ -129,7 +129,7 @@ fn sits<R: Abort + AllocGlobal + Threads>(
     Session { sink, store, end }
 }
 
-// all that can be seen of a laboratory: its tick, accounts and journal, and its gas as a snapshot
+// All that can be seen of a laboratory: its tick, accounts and journal, and its gas as a snapshot.
 fn view_of<R: Abort + AllocGlobal + Threads>(rt: &R, lab: &mut Lab<Team<&R, NoGate>>) -> Vec<u8> {
     let questions = lines(
         rt,
@@ -138,7 +138,7 @@ fn view_of<R: Abort + AllocGlobal + Threads>(rt: &R, lab: &mut Lab<Team<&R, NoGa
     seen_by(rt, &sits(rt, lab, questions.as_slice(), no_fault()))
 }
 
-// what a session wrote, and the one snapshot that its shelf took
+// What a session wrote, and the one snapshot that its shelf took.
 fn seen_by(rt: &(impl Abort + AllocGlobal), session: &Session) -> Vec<u8> {
     expect_same(&rt, session.end, SessionEnd::InputEnd);
     let mut view = Vec::from_slice(rt.alloc(), session.sink.taken()).expect(rt, "memory");
@@ -150,7 +150,7 @@ fn seen_by(rt: &(impl Abort + AllocGlobal), session: &Session) -> Vec<u8> {
     view
 }
 
-// a session on an empty laboratory, and what is then seen of that
+// A session on an empty laboratory, and what is then seen of that.
 fn session_and_view(
     rt: &(impl Abort + AllocGlobal + Threads),
     input: &[u8],
@@ -169,7 +169,7 @@ pub fn are_same(rt: &impl Abort, found: &[Vec<u8>], wanted: &[Vec<u8>]) {
     }
 }
 
-// the laboratory is as after the lines, and the shelf has taken what it then has
+// The laboratory is as after the lines, and the shelf has taken what it then has.
 fn is_as_after(
     rt: &(impl Abort + AllocGlobal + Threads),
     found: &[u8],
@@ -200,7 +200,7 @@ fn runs(
     );
 }
 
-// the run, and a session on a laboratory that is then looked at, go like this
+// The run, and a session on a laboratory that is then looked at, go like this.
 fn goes(
     rt: &(impl Abort + AllocGlobal + Threads),
     dialogue: &Dialogue,
@@ -219,14 +219,14 @@ fn goes(
     is_as_after(rt, found.as_slice(), &session.store, asked);
 }
 
-// so many bytes were read
+// So many bytes were read.
 fn after_bytes(dialogue: &Dialogue, len: usize, end: SessionEnd) -> FailingOutcome {
     let asked = count_lines(front(dialogue.input.as_slice(), len));
     let output = first_lines(dialogue.output.as_slice(), asked);
     outcome(asked, output.len(), end)
 }
 
-// one byte a read, and this fault
+// One byte a read, and this fault.
 fn reading_fails(reads: FaultAt) -> Failing {
     Failing {
         read_step: 1,
@@ -235,7 +235,7 @@ fn reading_fails(reads: FaultAt) -> Failing {
     }
 }
 
-// this fault, and writes of at most so many bytes
+// This fault, and writes of at most so many bytes.
 fn writing_fails(writes: FaultAt, write_step: usize) -> Failing {
     Failing {
         writes,
@@ -244,7 +244,7 @@ fn writing_fails(writes: FaultAt, write_step: usize) -> Failing {
     }
 }
 
-// how a session ends that fails at the read after so many, of which each gives a byte and one is for the end
+// How a session ends that fails at the read after so many, of which each gives a byte and one is for the end.
 fn end_after(dialogue: &Dialogue, calls: usize) -> SessionEnd {
     if calls <= dialogue.input.len() {
         SessionEnd::ReadFault
@@ -272,7 +272,7 @@ fn readers_fail(rt: &(impl Abort + AllocGlobal + Threads), dialogue: &Dialogue) 
     }
 }
 
-// one read gives all, and a second is the end
+// One read gives all, and a second is the end.
 fn whole_readers_fail(rt: &(impl Abort + AllocGlobal + Threads), dialogue: &Dialogue) {
     let ends = [
         (0, SessionEnd::ReadFault),
@@ -290,7 +290,7 @@ fn whole_readers_fail(rt: &(impl Abort + AllocGlobal + Threads), dialogue: &Dial
     }
 }
 
-// each reply is a write and a flush
+// Each reply is a write and a flush.
 fn cut_by_replies(output: &[u8], calls: usize) -> FailingOutcome {
     let begun = (calls / 2).saturating_add(1);
     if begun > count_lines(output) {
@@ -301,7 +301,7 @@ fn cut_by_replies(output: &[u8], calls: usize) -> FailingOutcome {
     outcome(begun, written, SessionEnd::WriteFault)
 }
 
-// each byte is a write, and after each newline there is a flush
+// Each byte is a write, and after each newline there is a flush.
 fn cut_by_bytes(output: &[u8], calls: usize) -> FailingOutcome {
     let mut left = calls;
     let mut written = 0usize;
@@ -323,7 +323,7 @@ fn cut_by_bytes(output: &[u8], calls: usize) -> FailingOutcome {
     outcome(whole, written, SessionEnd::InputEnd)
 }
 
-// a write or flush fails in this way, be replies written whole or byte by byte
+// A write or flush fails in this way, be replies written whole or byte by byte.
 fn writer_fails(
     rt: &(impl Abort + AllocGlobal + Threads),
     dialogue: &Dialogue,
@@ -345,7 +345,7 @@ fn writer_fails(
     );
 }
 
-// a write or flush fails, or takes nothing
+// A write or flush fails, or takes nothing.
 fn writers_fail(rt: &(impl Abort + AllocGlobal + Threads), dialogue: &Dialogue) {
     let output = dialogue.output.as_slice();
     let all_calls = output.len().saturating_add(count_lines(output));
@@ -381,7 +381,7 @@ fn writers_fail_at_a_save(rt: HostRuntime) {
     writers_fail(&rt, &dialogue_of(&rt, SAVING, SAVING_REPLIES));
 }
 
-// the output where the put after so many fails, and how many puts fail
+// The output where the put after so many fails, and how many puts fail.
 fn puts(
     rt: &(impl Abort + AllocGlobal + Threads),
     input: &str,

@@ -44,7 +44,7 @@ pub fn file_holds(
     expect_that(&rt, read.as_slice() == bytes);
 }
 
-// the gas in the file of seat 0
+// The gas in the file of seat 0.
 fn loaded(rt: &(impl Abort + HasFiles + AllocGlobal), folder: &str) -> Gas {
     let path = format!(in rt.alloc(); "{folder}/0").expect(rt, "memory");
     let mut file = fs::open(rt, path.as_str()).expect(rt, "a file");
@@ -70,7 +70,7 @@ fn load_from_a_file_of_seat_0(rt: HostRuntime) {
     fs::remove_dir_all(&rt, folder.as_str()).expect(&rt, "no folder");
 }
 
-// a run from this gas whose shelf is the file of seat 0
+// A run from this gas whose shelf is the file of seat 0.
 fn runs_in(
     rt: &(impl Abort + AllocGlobal + HasFiles + Threads + Copy + Drop),
     folder: &str,

@@ -81,7 +81,7 @@ fn widest_lattice(rt: HostRuntime) {
     answers(&rt, shape, input.as_slice(), ALL, output.as_slice(), 0);
 }
 
-// a line of 2,049 bytes, with a newline or without; and `tally` with spaces and a carriage return, of 2,048 bytes
+// A line of 2,049 bytes, with a newline or without; and `tally` with spaces and a carriage return, of 2,048 bytes.
 #[test]
 fn too_long_line(rt: HostRuntime) {
     let mut long = Vec::new(rt.alloc());
@@ -104,7 +104,7 @@ const TALLY: &[u8] = b"tally\n";
 
 const TALLIED: &[u8] = b"TALLY 0 0 0 0\n";
 
-// how many replies were written, each of which has to be the tally of nothing
+// How many replies were written, each of which has to be the tally of nothing.
 fn count_tallies(rt: &impl Abort, output: &[u8]) -> usize {
     let mut rest = output;
     let mut count = 0usize;
@@ -119,7 +119,7 @@ fn count_tallies(rt: &impl Abort, output: &[u8]) -> usize {
     count
 }
 
-// the status of a run over this feed, and how many tallies it writes
+// The status of a run over this feed, and how many tallies it writes.
 fn tallied(rt: &(impl Abort + AllocGlobal + Threads), feed: &mut Feed<'_>) -> (u8, usize) {
     let mut sink = Sink::new(rt.alloc(), ALL, ALL, FaultAt::never());
     let mut store = Store::new(rt.alloc(), FaultAt::never());
@@ -127,7 +127,7 @@ fn tallied(rt: &(impl Abort + AllocGlobal + Threads), feed: &mut Feed<'_>) -> (u
     (status, count_tallies(rt, sink.taken()))
 }
 
-// 2^24 reads of one byte each
+// 2^24 reads of one byte each.
 #[test]
 fn too_many_reads(rt: HostRuntime) {
     let mut feed = Feed::endless(TALLY, 1);
@@ -135,7 +135,7 @@ fn too_many_reads(rt: HostRuntime) {
     expect_same(&rt, feed.reads(), 16_777_216);
 }
 
-// 12,000 bytes
+// 12,000 bytes.
 #[test]
 fn reads_ask_for_at_most_a_page(rt: HostRuntime) {
     let mut input = Vec::new(rt.alloc());

@@ -56,7 +56,7 @@ impl<'a> Read for Padded<'a> {
     }
 }
 
-// the fault of a load, or none if it gives a gas
+// The fault of a load, or none if it gives a gas.
 fn fault_of(rt: &impl AllocGlobal, reader: &mut Padded<'_>) -> Option<LoadFault> {
     load_from(rt.alloc(), reader).err()
 }
@@ -90,7 +90,7 @@ fn load_in_pieces(rt: HostRuntime) {
     }
 }
 
-// eleven reads give bytes, and the twelfth is the end
+// Eleven reads give bytes, and the twelfth is the end.
 #[test]
 fn load_from_a_failing_reader(rt: HostRuntime) {
     for calls in 0..13u64 {

@@ -8,7 +8,7 @@ use gas_snapshot::decode;
 use gas_terms::Size;
 use std::process::Abort;
 
-// a laboratory of 128 by 64 cells, or else of this gas, with room for seven entries
+// A laboratory of 128 by 64 cells, or else of this gas, with room for seven entries.
 fn set_up(rt: &(impl Abort + AllocGlobal), start: Option<Gas>) -> Lab<Serial> {
     let setup = Setup {
         size: Size::new(128, 64).expect(rt, "a size"),
@@ -18,7 +18,7 @@ fn set_up(rt: &(impl Abort + AllocGlobal), start: Option<Gas>) -> Lab<Serial> {
     opened(rt.alloc(), setup, start, Serial).expect(rt, "memory")
 }
 
-// the width, height and capacity, and the count and the momentum that it started with
+// The width, height and capacity, and the count and the momentum that it started with.
 fn numbers_of(lab: &Lab<Serial>) -> [i64; 6] {
     let (size, cap, start) = (lab.size(), lab.cap(), lab.ledger().start);
     [

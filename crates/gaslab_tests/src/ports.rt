@@ -52,7 +52,7 @@ fn drained_and_refilled_cancels(rt: HostRuntime) {
 const SIXTEEN: &str =
     "OK 0; OK 1; OK 2; OK 3; OK 4; OK 5; OK 6; OK 7; OK 8; OK 9; OK 10; OK 11; OK 12; OK 13; OK 14; OK 15; ";
 
-// sixteen such ports are added, the seventeenth is refused, and the lines after them are answered
+// Sixteen such ports are added, the seventeenth is refused, and the lines after them are answered.
 fn seventeen(rt: &(impl Abort + AllocGlobal + Threads), port: &str, then: &str, told: &str) {
     let mut script = String::new(rt.alloc());
     for _ in 0..17u32 {

@@ -10,7 +10,7 @@ use std::thread::Threads;
 use test_types::faults::FaultAt;
 use test_types::pages::OutputPage;
 
-// counts the snapshots of an empty gas, and of one with a particle in its first cell
+// Counts the snapshots of an empty gas, and of one with a particle in its first cell.
 #[derive(Drop)]
 struct CountedShelf {
     empty: u64,
@@ -45,7 +45,7 @@ fn is_one_of(found: &[u8], texts: &[&[u8]]) -> bool {
     false
 }
 
-// nothing, or whole lines of the known output and then want of memory
+// Nothing, or whole lines of the known output and then want of memory.
 fn stops_for_memory(found: &[u8], known: &[u8]) -> bool {
     if found.is_empty() {
         return true;
@@ -157,7 +157,7 @@ fn refused_load(rt: HostRuntime) {
         Ok(gas) => expect_same(&rt, gas.ports().drains().len(), 1),
         Err(fault) => expect_same(&rt, fault, LoadFault::Snap(SnapFault::Memory)),
     }
-    // want of memory comes before what the bytes are
+    // Want of memory comes before what the bytes are.
     let mut reader = Padded::new(&WITH_PORTS, 1063, 100, FaultAt::never());
     match load_from(rt.alloc(), &mut reader) {
         Ok(_) => panic!(rt; "a gas of bytes that are cut short"),
@@ -169,7 +169,7 @@ fn refused_load(rt: HostRuntime) {
     }
 }
 
-// whether the words are understood, or memory was refused
+// Whether the words are understood, or memory was refused.
 fn is_planned(rt: &(impl Abort + AllocGlobal + Threads), words: &[&str]) -> bool {
     match plan(rt.alloc(), words) {
         Ok(found) => {
@@ -198,7 +198,7 @@ fn refused_plan(rt: HostRuntime) {
     expect_that(&rt, is_planned(&rt, &words));
 }
 
-// the fault is one of the line, or want of memory
+// The fault is one of the line, or want of memory.
 #[test]
 fn refused_plan_of_a_bad_line(rt: HostRuntime) {
     for words in [
@@ -214,7 +214,7 @@ fn refused_plan_of_a_bad_line(rt: HostRuntime) {
     }
 }
 
-// the channel between two walls, stepped by strips
+// The channel between two walls, stepped by strips.
 const CHANNEL: &[u8] =
     b"wall 0 20 64 1\nwall 0 29 64 1\nput 28 21 8 8\nstep 100\nback 100\ntally\nledger\nread 21\nread 28\nread 29\n";
 

@@ -17,7 +17,7 @@ use std::{fs, process};
 use test_types::pages::OutputPage;
 use test_types::stage::{Speakers, Speech, Stage, Text, interleaved};
 
-// no shelf for each of so many sessions
+// No shelf for each of so many sessions.
 fn no_shelves<R: HasFiles + AllocGlobal + Drop>(rt: &R, count: usize) -> Option<Vec<Files<R>>> {
     let mut shelves = Vec::with_capacity(rt.alloc(), 4).ok()?;
     for _ in 0..count {
@@ -117,7 +117,7 @@ fn served_line_that_fails(rt: HostRuntime) {
     expect_that(&rt, stage.shows(0, b"OK 0\nBYE\n"));
 }
 
-// what two sessions on a laboratory of this shape, whose workers make every run by strips, have done
+// What two sessions on a laboratory of this shape, whose workers make every run by strips, have done.
 fn counts_by_strips<
     R: Abort + Threads + Wait + Sync + Clock + Copy + Drop + Send + AllocGlobal,
     K: Shelf + Drop + Send,
@@ -148,7 +148,7 @@ fn workers_under_the_lock(rt: HostRuntime) {
             b"probe 0 20 128 1\nprobe 0 20 128 1\nprobe 0 20 128 1\nprobe 0 20 128 1\nprobe 0 20 128 1\nquit\n",
         )),
     ];
-    // a laboratory of four tiles
+    // A laboratory of four tiles.
     let shape = LabShape {
         workers: 3,
         by_strips: true,
@@ -240,7 +240,7 @@ fn each_session_saves_in_its_own_file(rt: HostRuntime) {
     fs::remove_dir_all(&rt, folder.as_str()).expect(&rt, "no folder");
 }
 
-// whether seat 1 has written what fits to what the server says, in one of two ways
+// Whether seat 1 has written what fits to what the server says, in one of two ways.
 fn fits_to(said: &[u8], stage: &Stage) -> bool {
     if said == b"SERVED 1 1 1\n".as_slice() {
         return stage.shows(1, b"OK 0\nBYE\n") || stage.shows(1, b"OK 0\nERR 14 memory\n");

@@ -10,12 +10,12 @@ use std::process::Abort;
 use std::thread::Threads;
 use test_types::faults::{FaultAt, Store};
 
-// the head of a gas of 64 by 64 at tick 0 without ports
+// The head of a gas of 64 by 64 at tick 0 without ports.
 const HEAD: [u8; 22] = [
     0x48, 0x50, 0x50, 0x47, 0x41, 0x53, 0x32, 0x0a, 0, 0x40, 0, 0x40, 0, 0, 0, 0, 0, 0, 0, 0, 0, 0,
 ];
 
-// the same at tick 2^40
+// The same at tick 2^40.
 const LAST: [u8; 22] = [
     0x48, 0x50, 0x50, 0x47, 0x41, 0x53, 0x32, 0x0a, 0, 0x40, 0, 0x40, 0, 0, 1, 0, 0, 0, 0, 0, 0, 0,
 ];
@@ -30,7 +30,7 @@ pub fn snapshot(rt: &(impl Abort + AllocGlobal + Threads), at: usize, byte: u8) 
     bytes
 }
 
-// the one snapshot that is saved while the script gives this output
+// The one snapshot that is saved while the script gives this output.
 fn saved_by(rt: &(impl Abort + AllocGlobal + Threads), script: &str, output: &str) -> Vec<u8> {
     let mut store = Store::new(rt.alloc(), FaultAt::never());
     gives_with(rt, SMALL, None, &mut store, script, output);
@@ -41,7 +41,7 @@ fn saved_by(rt: &(impl Abort + AllocGlobal + Threads), script: &str, output: &st
     Vec::from_slice(rt.alloc(), bytes.as_slice()).expect(rt, "memory")
 }
 
-// the gas of a head, then zeros
+// The gas of a head, then zeros.
 fn loaded(rt: &(impl Abort + AllocGlobal + Threads), head: &[u8], len: usize) -> Gas {
     let mut reader = Padded::new(head, len, ALL, FaultAt::never());
     load_from(rt.alloc(), &mut reader).expect(rt, "a gas")
@@ -63,7 +63,7 @@ fn save_to_a_shelf(rt: HostRuntime) {
     expect_same(&rt, bytes.as_slice(), snapshot(&rt, 22, 0x80).as_slice());
 }
 
-// the particles stand from byte 22 on, and row 1 of the obstacles from byte 1,054 on
+// The particles stand from byte 22 on, and row 1 of the obstacles from byte 1,054 on.
 #[test]
 fn obstacle_in_a_snapshot(rt: HostRuntime) {
     let bytes = saved_by(
@@ -94,7 +94,7 @@ fn greatest_tick(rt: HostRuntime) {
     );
 }
 
-// version 1, at tick -1, with a drain and a source of period 2, which acts at tick 0
+// Version 1, at tick -1, with a drain and a source of period 2, which acts at tick 0.
 #[test]
 fn old_snapshots_are_read(rt: HostRuntime) {
     goes_on(

@@ -175,7 +175,7 @@ fn crowd<R: Net<Stream = TcpStream>>(rt: &R, alloc: Global, addr: SocketAddr) ->
     })
 }
 
-// what the client that behaves is told
+// What the client that behaves is told.
 fn wanted(rt: &(impl Abort + AllocGlobal)) -> Vec<u8> {
     let mut wanted = Vec::new(rt.alloc());
     wanted
@@ -252,7 +252,7 @@ fn reads_late<R: Net<Stream = TcpStream> + Clock>(
     Ok(replies)
 }
 
-// the replies to the changes and to the end
+// The replies to the changes and to the end.
 fn many_replies(rt: &(impl Abort + AllocGlobal)) -> Vec<u8> {
     let mut replies = Vec::new(rt.alloc());
     for k in 0..PUTS {

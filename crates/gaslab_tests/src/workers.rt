@@ -16,7 +16,7 @@ use std::{fs, thread};
 use test_types::faults::{FaultAt, Feed, Sink, Store};
 use test_types::stage::Speech;
 
-// the next of a sequence of words that look random
+// The next of a sequence of words that look random.
 fn next(state: &mut u64) -> u64 {
     let mut bits = *state;
     bits ^= bits << 13;
@@ -26,13 +26,13 @@ fn next(state: &mut u64) -> u64 {
     bits
 }
 
-// a line that lays row y with the next two words of the sequence
+// A line that lays row y with the next two words of the sequence.
 fn lay(rt: &impl Abort, script: &mut Vec<u8>, y: u32, state: &mut u64) {
     let (left, right) = (next(state), next(state));
     writeln!(script, "row {y} {left:016x}{right:016x}").expect(rt, "memory");
 }
 
-// walls and obstacles among the cells; steps and back; steps with ports; then back without them
+// Walls and obstacles among the cells; steps and back; steps with ports; then back without them.
 const RUNS: &[u8] =
     b"wall 0 50 128 1\nwall 127 100 1 700\nblock 60 60 9 7\nblock 30 500 20 129\nsave\nstep 100\nsave\ntally\nledger\nback 100\nsave\ntally\nledger\nsource 10 60 40 9 7\nsource 50 1080 60 8 2\ndrain 100 0 3 1088\ndrain 20 640 60 2\nstep 100\nsave\ntally\nledger\nunport\nback 70\nsave\ntally\nledger\n";
 
@@ -47,7 +47,7 @@ const HIGH: LabShape = LabShape {
     ..SMALL
 };
 
-// lays every other pair of rows, and runs them
+// Lays every other pair of rows, and runs them.
 fn script(rt: &(impl Abort + AllocGlobal)) -> Vec<u8> {
     let mut script = Vec::new(rt.alloc());
     let mut state = 1;
@@ -59,7 +59,7 @@ fn script(rt: &(impl Abort + AllocGlobal)) -> Vec<u8> {
     script
 }
 
-// what a run wrote, and what its shelf took
+// What a run wrote, and what its shelf took.
 #[derive(Drop)]
 struct Told {
     sink: Sink,
@@ -75,7 +75,7 @@ fn told_by(rt: &(impl Abort + AllocGlobal + Threads), script: &[u8], shape: LabS
     Told { sink, store }
 }
 
-// five snapshots were taken, and the third, after the steps back, is the first
+// Five snapshots were taken, and the third, after the steps back, is the first.
 fn is_back(rt: &impl Abort, kept: &[Vec<u8>]) {
     let [start, _, back, _, _] = kept else {
         panic!(rt; "five snapshots")
@@ -119,7 +119,7 @@ fn run_that_is_worth_strips(rt: HostRuntime) {
     );
 }
 
-// how many threads this process has, as the system tells
+// How many threads this process has, as the system tells.
 fn threads_now(rt: &(impl Files + AllocGlobal)) -> u32 {
     let Ok(told) = fs::read_to_string(rt, "/proc/self/status") else {
         return 0;
@@ -132,7 +132,7 @@ fn threads_now(rt: &(impl Files + AllocGlobal)) -> u32 {
     0
 }
 
-// looks until no thread is there but this one: one that has ended may still be counted for an instant
+// Looks until no thread is there but this one: one that has ended may still be counted for an instant.
 fn settle(rt: &(impl Files + AllocGlobal)) {
     for _ in 0..1_000_000u32 {
         if threads_now(rt) == 1 {
@@ -141,7 +141,7 @@ fn settle(rt: &(impl Files + AllocGlobal)) {
     }
 }
 
-// the most threads that were there at once, looked at again and again until the flag is set
+// The most threads that were there at once, looked at again and again until the flag is set.
 fn most_until(rt: &(impl Files + AllocGlobal), is_over: &AtomicBool) -> u32 {
     let mut most = 0;
     for _ in 0..1_000_000u32 {
@@ -161,13 +161,13 @@ const LONG_STEPS: LabShape = LabShape {
     ..SMALL
 };
 
-// a run of them, and then the flag is set
+// A run of them, and then the flag is set.
 fn step_by_two(rt: &(impl Abort + AllocGlobal + Threads), is_over: &AtomicBool) {
     gives_on(rt, LONG_STEPS, "step 512", "OK 0");
     is_over.store(true, Ordering::SeqCst);
 }
 
-// the same for a server
+// The same for a server.
 fn serve_by_two<R: Abort + Threads + Wait + Sync + Clock + Copy + Drop + Send + AllocGlobal>(
     rt: &R,
     is_over: &AtomicBool,

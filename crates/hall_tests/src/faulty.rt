@@ -97,7 +97,7 @@ struct Writer<'a> {
 }
 
 impl<'a> Writer<'a> {
-    // how many bytes the next call moves, of so many
+    // How many bytes the next call moves, of so many.
     fn room(&mut self, most: usize) -> io::Result<usize> {
         match self.fault.room(most) {
             Ok(n) => Ok(n.min(most)),

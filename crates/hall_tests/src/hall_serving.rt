@@ -123,7 +123,7 @@ fn failed_writer_beside_others(rt: HostRuntime) {
     }
 }
 
-// 3,000 bytes in one line, and a change after it
+// 3,000 bytes in one line, and a change after it.
 fn long_input(rt: &(impl Abort + AllocGlobal)) -> Vec<u8> {
     let mut long = vec![in rt.alloc(); b'x'; 3000].expect(rt, "memory");
     long.extend_from_slice(b"\nput 2 0 1 1\n")

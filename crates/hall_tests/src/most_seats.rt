@@ -22,7 +22,7 @@ fn pages(rt: &(impl Abort + AllocGlobal)) -> Vec<Mutex<OutputPage>> {
     pages
 }
 
-// the counts of a hall whose sessions each put into one cell, and of its first four seats, and the sums of its gas
+// The counts of a hall whose sessions each put into one cell, and of its first four seats, and the sums of its gas.
 fn serve_all<R: Threads + Wait + Clock + Sync + Abort + AllocGlobal>(
     rt: &R,
     gate: &TestGate<R>,

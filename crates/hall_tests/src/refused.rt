@@ -119,7 +119,7 @@ fn use_last<N: HallName, G: HallGate, R: Wait + Abort>(
     let made = use_door(rt, &mut door);
     let seat = door.end();
     expect_same(rt, (seat.number(), seat.entries()), (1, made));
-    // there is room for the seat that was taken out
+    // There is room for the seat that was taken out.
     expect_that(rt, seats.push(seat).is_ok());
     made
 }

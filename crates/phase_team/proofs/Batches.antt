@@ -1,6 +1,5 @@
 -- Batches of all strips, and what they leave of the lattice.
-use Rattle.std.proofs.Common.{◌≡◌, ℕ, zero, suc, ◌/◌, ◌≤◌, ◌++◌, true, false, List, All, map, get_or, length, take, drop, sym, ap, ap₂, ◌∙◌, subst}
-use Rattle.std.proofs.Math.Seq.{take-append_seam}
+use Rattle.std.proofs.Common.{◌≡◌, ℕ, zero, suc, ◌/◌, ◌≤◌, true, false, List, All, map, get_or, sym, ap₂, ◌∙◌, subst}
 use mathlib.Core.Bool.{true≢false}
 use Rattle.gas_terms.specs.Cells.{Cells, Extent, HasSidesOf, IsFull, extent, has, is_size, joined}
 use Rattle.gas_terms.specs.Gas.{streamed}
@@ -8,15 +7,9 @@ use Rattle.gas_terms.proofs.Cells.{full-cells_where}
 use Rattle.gas_plane.specs.Planes.{IsLattice}
 use Rattle.phase_step.specs.Runs.{parity_at}
 use Rattle.phase_step.specs.Actions.{Leaves, after_with}
-use Rattle.phase_step.specs.Balance.{flow_counted}
-use Rattle.phase_step.specs.WholeRuns.{dynamics, after_all, flow_all}
-use Rattle.phase_step.specs.Exchanges.{Areas, listed}
-use Rattle.phase_step.specs.declared.steps.solids.Solids.{Solids}
-use Rattle.block_rule.specs.declared.walled.Counted.{Counted}
 use Rattle.phase_step.proofs.ActionRuns.{sides_with}
-use Rattle.phase_step.proofs.ActionParts.{after_same, flow_same}
 use Rattle.phase_team.specs.Strips.{AreLaid, AreStrips, IsAhead, IsOf}
-use Rattle.phase_team.specs.Work.{Lists, Batch, after_batch, IsReadyFor, IsDone, AreDone, AreSomehowDone, AreReady}
+use Rattle.phase_team.specs.Work.{Batch, after_batch, IsReadyFor, IsDone, AreDone, AreReady}
 use Rattle.phase_team.specs.declared.runs.batch.BatchInput.{BatchInput}
 use Rattle.phase_team.specs.declared.runs.strip.OwnRows.{OwnRows}
 use Rattle.phase_team.specs.declared.runs.strip.Strip.{Strip}

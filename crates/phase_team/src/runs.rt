@@ -61,7 +61,7 @@ pub fn is_worth_strips(least: LeastRun, size: Size, workers: u8, n: u16) -> bool
 pub struct Strips {
     pub size: Size,
     strips: Vec<Strip>,
-    // what acts after each phase of a batch
+    // What acts after each phase of a batch.
     exchanges: Vec<Exchange>,
     pub ghost laid: { AreStrips size strips.items },
     pub ghost room: { most_phases ≤ vec_capacity exchanges },
@@ -223,8 +223,7 @@ fn run_batch<R: Threads, A: Action>(
         let r = run.entry in let d = dynamics r.parity r.solids.now (A.leaves r.action.now) in
         result ≡ flow_counted counted (flow_all d lattice r.n) }
 {
-    // it is a lattice
-    let _ = cells.size();
+    cells.shows_lattice();
     list(run.action, run.n, &mut strips.exchanges);
     let input = BatchInput {
         cells: &*cells,

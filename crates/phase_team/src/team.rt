@@ -94,8 +94,7 @@ impl<R: Threads + Drop, G: Gate + Drop> Team<R, G> {
         ensures took { result ≡ taken parity old.now walls.now obstacles.now }
         ensures team { self.new ≡ self.old }
     {
-        // what is written is a lattice too
-        let _ = out.size();
+        out.shows_lattice();
         let workers = u32::from(self.workers).min(old.size().tiles());
         let task = Task {
             old,
@@ -159,7 +158,7 @@ impl<R: Threads + Drop> Stepper for Team<R, NoGate> {
         self.phase(old, walls, obstacles, parity, out)
     }
 
-    // among walls, a run of several phases keeps one account, and works the other out from the momentum
+    // Among walls, a run of several phases keeps one account, and works the other out from the momentum.
     fn run_with<A: Action>(
         &mut self,
         particles: &mut Plane,
@@ -189,7 +188,8 @@ impl<R: Threads + Drop> Team<R, NoGate> {
         spare: &mut Plane,
     ) -> Flow
         requires { let r = run in
-            CanRun (dynamics r.parity r.solids.now (A.leaves r.action.now)) particles.old spare.old }
+            CanRun (dynamics r.parity r.solids.now (A.leaves r.action.now))
+            particles.old spare.old }
         ensures { let r = run.entry in
             HasRunWhole counted (dynamics r.parity r.solids.now (A.leaves r.action.now)) r.n
             particles.old particles.new spare.new result }

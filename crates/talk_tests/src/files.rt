@@ -112,7 +112,7 @@ fn file_shelf_keeps_the_last_put_that_succeeds(rt: HostRuntime) {
     fails_and_leaves_the_file(&rt, &mut shelf, path.as_str());
     removes_a_failed_draft(&rt, &mut shelf, path.as_str());
     fs::remove_dir_all(&rt, folder.as_str()).expect(&rt, "no folder");
-    // if the folder is gone, the put fails and is counted
+    // If the folder is gone, the put fails and is counted.
     puts(&rt, &mut shelf, snapshot().as_slice(), false, 3);
 }
 

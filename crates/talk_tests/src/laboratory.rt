@@ -52,7 +52,7 @@ fn cells_of(rt: &impl Abort, plane: &Plane) -> [u8; CELLS] {
     cells
 }
 
-// the first of a list, with room for more
+// The first of a list, with room for more.
 fn few<T: Copy>(list: &[T]) -> [Option<T>; 16] {
     let mut shown = [None; 16];
     for (place, item) in shown.iter_mut().zip(list) {
@@ -247,7 +247,7 @@ fn refused_readings_leave_the_laboratory(rt: HostRuntime) {
 fn puts_and_copies(rt: &impl Abort, lab: &mut Lab<Serial>) {
     let area = Rect::within(lab.size(), 5, 6, 3, 2).expect(rt, "a rectangle");
     expect_that(&rt, ask(rt, lab, 0, Command::Put(area)).is_ok());
-    // columns 5 to 7 and rows 6 and 7
+    // Columns 5 to 7 and rows 6 and 7.
     expect_same(&rt, copied(rt, lab, area), Some((0, [1, 2, 1, 2])));
     expect_same(&rt, (lab.start().tick().get(), lab.cap()), (0, 8));
 }

@@ -18,13 +18,13 @@ const FAULTS: [(&str, Refusal); 22] = [
     ("put 63 63 2 1", Refusal::Rect),
     ("source 0 0 1 1 0", Refusal::Period),
     ("source 60 0 8 1 0", Refusal::Rect),
-    // numbers of steps
+    // Numbers of steps.
     ("step 0", Refusal::Steps),
     ("step 4097", Refusal::Steps),
     ("back 0", Refusal::Steps),
     ("back 4294967295", Refusal::Steps),
     ("back", Refusal::Count),
-    // rows and their digits
+    // Rows and their digits.
     ("row 0 80000000", Refusal::Row),
     ("row 0 80000000000000010", Refusal::Row),
     ("row 0 800000000000000100", Refusal::Row),
@@ -33,7 +33,7 @@ const FAULTS: [(&str, Refusal); 22] = [
     ("read 64", Refusal::Rect),
 ];
 
-// of which one is first
+// Of which one is first.
 const ORDER: [(&str, Refusal); 15] = [
     ("tally x", Refusal::Count),
     ("probe 0 0 1 -1", Refusal::Number),
@@ -52,7 +52,7 @@ const ORDER: [(&str, Refusal); 15] = [
     ("put +0 0 1 1", Refusal::Number),
 ];
 
-// what stands against a line for a lattice of this size
+// What stands against a line for a lattice of this size.
 fn fault_on(rt: &impl AllocGlobal, size: Size, line: &str) -> Option<Refusal> {
     read_command(rt.alloc(), line, size).err()
 }
@@ -76,7 +76,7 @@ fn order_of_refusals(rt: HostRuntime) {
     }
 }
 
-// what a line asks for: its word, its rectangle, and its number or 0
+// What a line asks for: its word, its rectangle, and its number or 0.
 fn asked(rt: &(impl Abort + AllocGlobal), line: &str, size: Size) -> (Word, Option<Rect>, u32) {
     match read_command(rt.alloc(), line, size) {
         Ok(Request::Ask(command)) => parts_of(&command),

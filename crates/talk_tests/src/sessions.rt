@@ -19,7 +19,7 @@ fn sink(rt: &impl AllocGlobal) -> Sink {
     Sink::new(rt.alloc(), ALL, ALL, FaultAt::never())
 }
 
-// how a session of seat 5 ends, and what it writes
+// How a session of seat 5 ends, and what it writes.
 fn ends_so(
     rt: &(impl Abort + AllocGlobal),
     lab: &mut Lab<Serial>,
@@ -42,7 +42,7 @@ fn end_of(
     serve_alone(rt.alloc(), feed, sink, lab, 5, &mut store)
 }
 
-// an input that comes in pieces
+// An input that comes in pieces.
 fn served_on(
     rt: &(impl Abort + AllocGlobal),
     lab: &mut Lab<Serial>,
@@ -102,7 +102,7 @@ fn not_utf8_line(rt: HostRuntime) {
     );
 }
 
-// the first two puts are there, and are seat 3's
+// The first two puts are there, and are seat 3's.
 fn has_two_puts(rt: &impl Abort, lab: &Lab<Serial>) {
     expect_same(&rt, lab.journal().len(), 2);
     for entry in lab.journal() {
@@ -117,7 +117,7 @@ fn has_two_puts(rt: &impl Abort, lab: &Lab<Serial>) {
     );
 }
 
-// seat 3 asks for three puts, and its writer fails within the second reply
+// Seat 3 asks for three puts, and its writer fails within the second reply.
 fn answered_in_part<R: Abort + AllocGlobal, L: Ledger>(rt: &R, lab: &mut Lab<Serial>, blank: Blank)
     requires name { blank.name ≡ L.name }
     requires parts { (blank.parts ≡ L.parts) × (blank.parts ≡ 1) }
@@ -144,7 +144,7 @@ fn answered_in_part<R: Abort + AllocGlobal, L: Ledger>(rt: &R, lab: &mut Lab<Ser
     has_two_puts(rt, lab);
 }
 
-// each reply is flushed
+// Each reply is flushed.
 fn read_fails(rt: &(impl Abort + AllocGlobal), lab: &mut Lab<Serial>) {
     let mut feed = Feed::new(b"tally\ntally\n", 6, FaultAt::after(1));
     let mut sink = sink(rt);
@@ -181,7 +181,7 @@ fn failing_calls_end_a_session(rt: HostRuntime) {
     answered_in_part::<HostRuntime, Brand>(&rt, &mut lab, Blank::new(1));
 }
 
-// a byte a read: 2^24 reads are made, and another is needed
+// A byte a read: 2^24 reads are made, and another is needed.
 fn reads_too_often(rt: &(impl Abort + AllocGlobal), lab: &mut Lab<Serial>) {
     let mut feed = Feed::endless(b"tally\n", 1);
     let mut sink = sink(rt);

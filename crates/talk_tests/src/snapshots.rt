@@ -11,7 +11,7 @@ use test_types::faults::{FaultAt, Sink};
 
 const ALL: usize = usize::MAX;
 
-// the head of the empty gas of 64 by 64 at tick 0, in each version
+// The head of the empty gas of 64 by 64 at tick 0, in each version.
 const OLD: [u8; 22] = [
     0x48, 0x50, 0x50, 0x47, 0x41, 0x53, 0x31, 0x0a, 0, 0x40, 0, 0x40, 0, 0, 0, 0, 0, 0, 0, 0, 0, 0,
 ];
@@ -26,7 +26,7 @@ pub const WITH_PORTS: [u8; 40] = [
     0xff, 0xff, 0xff, 1, 1, 0, 1, 0, 1, 0, 1, 0, 1, 0, 10, 0, 10, 0, 1, 0, 1, 0, 2,
 ];
 
-// the first bytes, and zeros after them up to a length
+// The first bytes, and zeros after them up to a length.
 fn padded(rt: &(impl Abort + AllocGlobal), first: &[u8], len: usize) -> Vec<u8> {
     let mut bytes = Vec::new(rt.alloc());
     for i in 0..len {
@@ -63,7 +63,7 @@ fn is_written_as(rt: &(impl Abort + AllocGlobal), gas: &Gas, wanted: &[u8]) {
     expect_same(&rt, bytes.as_slice(), wanted);
 }
 
-// its tick, and how many drains and sources it has
+// Its tick, and how many drains and sources it has.
 fn numbers_of(gas: &Gas) -> (i64, usize, usize) {
     let ports = gas.ports();
     (
@@ -77,7 +77,7 @@ fn fault(rt: &impl AllocGlobal, bytes: &[u8]) -> Option<SnapFault> {
     decode(rt.alloc(), bytes).err()
 }
 
-// what is wrong with so many bytes when those from a place on are changed
+// What is wrong with so many bytes when those from a place on are changed.
 fn fault_in(
     rt: &(impl Abort + AllocGlobal),
     first: &[u8],
@@ -90,7 +90,7 @@ fn fault_in(
     fault(rt, bytes.as_slice())
 }
 
-// the numbers of the gas of these bytes, which is written as those
+// The numbers of the gas of these bytes, which is written as those.
 fn is_read_as(rt: &(impl Abort + AllocGlobal), bytes: &[u8], wanted: &[u8]) -> (i64, usize, usize) {
     let gas = read(rt, bytes);
     is_written_as(rt, &gas, wanted);
@@ -137,7 +137,7 @@ fn each_change_has_its_fault(rt: HostRuntime) {
         (6, [0x33].as_slice(), Some(SnapFault::Magic)),
         (8, [0, 0x41].as_slice(), Some(SnapFault::Size)),
         (8, [0x10, 0].as_slice(), Some(SnapFault::Size)),
-        // the first fault from the left
+        // The first fault from the left.
         (8, [0, 0x41, 0, 0x40, 1].as_slice(), Some(SnapFault::Size)),
         (10, [0, 0].as_slice(), Some(SnapFault::Size)),
         (
@@ -163,7 +163,7 @@ fn each_change_has_its_fault(rt: HostRuntime) {
     }
 }
 
-// of either version
+// Of either version.
 #[test]
 fn each_length_has_its_fault(rt: HostRuntime) {
     for (version, length, fault) in [
@@ -180,7 +180,7 @@ fn each_length_has_its_fault(rt: HostRuntime) {
 
 #[test]
 fn sides_and_ticks_out_of_range(rt: HostRuntime) {
-    // version 2, 4,160 wide
+    // Version 2, 4,160 wide.
     expect_same(
         &rt,
         fault_in(&rt, &NEW, 1558, 8, &[0x10, 0x40]),
@@ -224,7 +224,7 @@ fn obstacle_in_a_snapshot(rt: HostRuntime) {
     reads_an_obstacle(&rt, wanted.as_slice());
 }
 
-// a gas without particles is read again, or memory is wanted
+// A gas without particles is read again, or memory is wanted.
 fn reads_an_empty_gas(rt: &(impl Abort + AllocGlobal), bytes: &[u8]) {
     match decode(rt.alloc(), bytes) {
         Ok(again) => expect_that(&rt, !has(again.particles(), 0, 0)),
@@ -238,7 +238,7 @@ fn writes_and_reads(rt: &(impl Abort + AllocGlobal), gas: &Gas) {
     }
 }
 
-// whichever allocation is refused
+// Whichever allocation is refused.
 #[test]
 fn refused_encode_and_decode(rt: HostRuntime) {
     if let Ok(gas) = empty(&rt) {
@@ -255,7 +255,7 @@ fn no_shelf_counts_its_failures(rt: HostRuntime) {
     expect_same(&rt, shelf.failures(), 1);
 }
 
-// a writer that takes `left` bytes gets just these
+// A writer that takes `left` bytes gets just these.
 fn writes_front(rt: &impl Abort, gas: &Gas, mut sink: Sink, wanted: &[u8], left: usize) {
     let answer = write_to(gas, &mut sink);
     expect_same(
@@ -266,7 +266,7 @@ fn writes_front(rt: &impl Abort, gas: &Gas, mut sink: Sink, wanted: &[u8], left:
     expect_same(&rt, sink.taken(), front(wanted, left));
 }
 
-// a write beyond that fails, or takes none
+// A write beyond that fails, or takes none.
 fn writes_fronts(rt: &(impl Abort + AllocGlobal), gas: &Gas, wanted: &[u8]) {
     for left in 0..1560 {
         let failing = Sink::new(rt.alloc(), 100, left, FaultAt::never());
@@ -323,7 +323,7 @@ fn has_ports_and_corners(rt: &impl Abort, gas: &Gas) {
     has_four_corners(rt, gas.obstacles());
 }
 
-// 128 by 64, 16 drains, 16 sources, and all four corners in all three sets
+// 128 by 64, 16 drains, 16 sources, and all four corners in all three sets.
 #[test]
 fn sixteen_ports_and_four_corners(rt: HostRuntime) {
     let mut bytes = padded(&rt, &NEW, 3382);

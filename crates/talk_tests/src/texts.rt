@@ -205,7 +205,7 @@ fn prints_the_widest_row(rt: &(impl Abort + AllocGlobal), page: &mut ReplyPage) 
     );
 }
 
-// the longest reply
+// The longest reply.
 fn prints_the_widest_entry(rt: &(impl Abort + AllocGlobal), page: &mut ReplyPage, line: &str) {
     print_entry(rt, page, 65535, line);
     let text = page.text();

@@ -141,7 +141,7 @@ pub struct Sink {
     taken: Vec<u8>,
     step: usize,
     room: usize,
-    // over writes and flushes
+    // Over writes and flushes.
     fault: FaultAt,
     flushes: u64,
 }

@@ -6,7 +6,7 @@ use std::sync::atomic::{AtomicBool, AtomicU32, Ordering};
 use std::thread;
 use std::time::{Clock, Duration};
 
-// how often the clock is asked to wait, and for how long: some ten seconds in all
+// How often the clock is asked to wait, and for how long: some ten seconds in all.
 const WAITS: u32 = 100_000;
 
 const WAIT: u64 = 100;

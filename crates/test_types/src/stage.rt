@@ -127,7 +127,7 @@ pub struct Speaker<'a, C: Clock> {
 }
 
 impl<'a, C: Clock> Speaker<'a, C> {
-    // the text that comes next
+    // The text that comes next.
     fn next(&mut self) -> Option<Text<'a>> {
         let said = self.said;
         self.said = said.saturating_add(1);

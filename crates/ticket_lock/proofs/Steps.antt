@@ -11,7 +11,6 @@ use Rattle.atomic_table.specs.Table.{State, Me, Act, Valid, keeps, takes, gives,
 use Rattle.atomic_table.proofs.Lists.{one_turn, set_again, set_else, set_here, at_set, at_longer}
 use Rattle.ticket_lock.specs.declared.view.View.{View}
 use Rattle.std.proofs.lemmas.Bool.Decides.{when_true}
-use Rattle.ticket_lock.specs.Doors.{HasEntered}
 use Rattle.ticket_lock.specs.Turns.{newcomer, less_one, first_door, note_of, met, spent, waiting, at_turn, leaving, Has, entries_by, KnowsRight, AreApart, Slot, Keeps, Enters, Served, Left, Ticketed, Looked}
 use Rattle.ticket_lock.proofs.Views.{waits_of, idle_waits_with_none, waits_with_one, with_numbers, Apart, apart_of_none, apart_by, apart_kept, idle_has_no_turn, ticket_more, knows_waiting, knows_at_turn, knows_leaving, knows_others_left, knows_with_numbers, knows_note, knows_met, knows_spent}
 use Rattle.ticket_lock.proofs.Places.{sum_set, sum_le, each_set, each_push, pairs_set, pairs_push, stands_at}

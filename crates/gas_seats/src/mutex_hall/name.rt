@@ -9,10 +9,10 @@ use std::sync::ledger::Ledger;
 /// Names a hall: its ledger, which has a part for each seat, and the width, the height and the capacity of its
 /// laboratory.
 pub trait HallName: Ledger {
-    // the width and height of the laboratory's lattice
+    // The width and height of the laboratory's lattice.
     ghost size: { Extent };
 
-    // how many entries its journal may have
+    // How many entries its journal may have.
     ghost cap: { ℕ };
 }
 

@@ -1,5 +1,4 @@
-use Rattle.std.proofs.Common.{rules, arith}
-use Rattle.std.proofs.lemmas.Grind.{common_steps}
+use Rattle.std.proofs.Common.{rules}
 use Rattle.gas_seats.proofs.mutex_hall.hall.HallDoorDoor.size.Goals as goal
 
 pub returns : goal.returns
