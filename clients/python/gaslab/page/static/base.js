@@ -86,12 +86,11 @@ export function rove(box, buttons, presses = false) {
 
 /** Buttons of which one is pressed: [value, text, name] each. */
 export function choices(name, all, chosen, act) {
-  const press = (value) => {
-    act(value);
-    buttons.forEach((button, k) => button.setAttribute("aria-pressed", all[k][0] === value));
-  };
   const buttons = all.map(([value, text, label = text]) => h("button", { title: label, "aria-label": label,
-    "aria-pressed": String(value === chosen), onclick: () => press(value) }, text));
+    ariaPressed: value === chosen, onclick: ({ target }) => {
+      for (const one of buttons) one.ariaPressed = one === target;
+      act(value);
+    } }, text));
   return h("span.segments", { role: "group", "aria-label": name }, buttons);
 }
 
