@@ -143,7 +143,6 @@ class State extends EventTarget {
   furthest = 0;
   acted = -Infinity;           // the last tick at which there were ports
   pace = null;                 // a second's pictures and steps: { drawn, made, steps, asked }
-  old = null;                  // lesson, tried and worked of the gas before
   refusedBack = 0;             // how often a way back was asked for that is none
   keysOn = true;               // single keys act
 

@@ -16,22 +16,21 @@ const watches = (rects = []) => rects.map((rect) => `.watch ${rect.join(" ")}`);
 
 /** Opens lines or a snapshot in place of the gas. Resolves to the first refusal, [line, reply], or null. */
 async function open(lesson, size, lines, snapshot = null) {
-  const { lesson: old, tried, worked } = state;
+  const old = { lesson: state.lesson, tried: state.tried, worked: state.worked };
   const tool = matchMedia("(pointer: coarse)").matches ? "look" : lesson.tool;      // a finger scrolls first
-  state.change({ old: { lesson: old, tried, worked }, lesson, loading: true, tried: false, tool,
-    mode: lesson.mode, speed: lesson.speed });
+  state.change({ lesson, loading: true, tried: false, tool, mode: lesson.mode, speed: lesson.speed });
   view.fitted = lesson.view || true;
   edits.isOff = true;
   const [first] = snapshot ? [await state.link.upload(snapshot)]
     : await send([`.open ${size.join(" ")} ${lesson.name.replace(/[\r\n]/g, " ")}`], { isQuiet: true });
-  const replies = first === "DONE" && lines.length ? await send(lines, { isQuiet: true }) : [];
-  const bad = replies.findIndex(isRefusal);
-  if (bad >= 0) await state.link.send([".bring"]);     // the lines after it were done too
+  const others = !isRefusal(first) && lines.length ? await send(lines, { isQuiet: true }) : [];
+  const replies = [first, ...others], bad = replies.findIndex(isRefusal);
+  if (bad > 0) await state.link.send([".bring"]);      // the lines after it were done too
   edits.isOff = false;
-  state.change({ loading: false, worked: false });
-  if (first === "DONE" && bad < 0) return null;
-  state.change(state.old);
-  return first === "DONE" ? [bad, replies[bad]] : [-1, first];
+  state.change({ loading: false, worked: false, ...bad >= 0 && old });
+  if (bad >= 0) return [bad - 1, replies[bad]];
+  offerOld(old);
+  return null;
 }
 
 /** Opens a lesson, and plays it if it is one that plays by itself. */
@@ -40,7 +39,6 @@ async function load(lesson, size = lesson.size) {
   const bad = await open(lesson, size, [...lesson.setup, ...watches(lesson.probes)]);
   if (bad) { notice({ title: `${lesson.name} was not opened`, text: plainWords(bad[1]) }); return; }
   state.change({ speed: lesson.speed });               // pictures of the gas before may have come meanwhile
-  offerOld();
   if (lesson.play && !matchMedia("(prefers-reduced-motion: reduce)").matches) await play();
 }
 
@@ -66,20 +64,17 @@ async function openBytes(name, bytes, lesson = null, snapshot = null) {
   state.change({ lesson: lesson ?? { ...own, text }, worked: true, tried: true });
   speak(`${name} was opened at tick ${tick}.`);
   note(`${name}, opened at tick ${tick}`);
-  offerOld();
 }
 
 /** After work was done on the gas before, it can be brought back. */
-function offerOld() {
-  const { old } = state;
+function offerOld(old) {
   if (!old.worked) { hideBanner(); return; }
   const bring = async () => {
-    const { lesson, tried, worked } = state;
     state.change({ loading: true });
     const [reply] = await send([".bring"]);
     state.change({ loading: false });
     if (reply !== "DONE") return;
-    state.change({ ...old, old: { lesson, tried, worked } });
+    state.change(old);
     hideBanner();
   };
   banner(`The gas before, of “${old.lesson.name}”, is kept with its journal until another is opened.`,
