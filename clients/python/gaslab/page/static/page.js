@@ -117,21 +117,17 @@ const tryButton = (one) => h("li", h("button", { onclick: () => doTry(one) }, h(
 /** A question with choices. The answer comes after a choice, and takes the focus. */
 function question({ ask, choices, right, answer }) {
   const buttons = choices.map((text, k) => h("button.choice", { onclick: () => choose(k) }, text));
-  const box = h("section.expect", h("h3", "What would you expect?"),
-    h("fieldset", h("legend", ask), buttons));
+  const all = h("fieldset", h("legend", ask), buttons);
+  const said = h("p.answer", { tabIndex: -1, hidden: true }, answer);
   const choose = (mine) => {
-    if (buttons[0].ariaDisabled) return;
-    buttons.forEach((button, k) => {
-      button.ariaDisabled = "true";
-      button.classList.toggle("right", k === right);
-      button.classList.toggle("mine", k === mine);
-    });
+    all.disabled = true;
+    buttons[right].classList.add("right");
+    buttons[mine].classList.add("mine");
     buttons[mine].append(h("em", mine === right ? "Right" : "Your guess"));
-    const said = h("p.answer", { tabIndex: -1 }, answer);
-    box.append(said);
+    said.hidden = false;
     said.focus();
   };
-  return box;
+  return h("section.expect", h("h3", "What would you expect?"), all, said);
 }
 
 state.on(["lesson"], showLesson);
