@@ -138,29 +138,24 @@ addEventListener("pagehide", () => { if (state.picture && state.worked) keepForR
 const SIDES = [64, 128, 192, 256, 512, 1024, 2048];
 const box = at("popover");
 const tabs = [...document.querySelectorAll(".tabs button")];
-let opener = null;
 
-/** Opens the dialog below a button with what `fill` returns, of which the first heading is its name. */
+/** Opens the dialog with what `fill` returns, of which the first heading is its name. */
 function openDialog(button, fill, size) {
   box.className = size;
   box.replaceChildren(...fill());
   box.querySelector("h2").id = "popover-name";
   box.showModal();
-  opener = button;
-  opener.ariaExpanded = "true";
-  place();
-  const first = box.querySelector("[aria-current=true]") ?? box.querySelector("button, input");
-  first.focus({ preventScroll: true });
+  button.ariaExpanded = true;
+  box.onclose = () => { button.ariaExpanded = false; };
+  place(button);
 }
 
-/** Places the dialog below its button, or where it fits. */
-function place() {
-  const { left, bottom } = opener.getBoundingClientRect(), { offsetWidth: w, offsetHeight: tall } = box;
+/** Places the dialog below a button, or where it fits. */
+function place(button) {
+  const { left, bottom } = button.getBoundingClientRect(), { offsetWidth: w, offsetHeight: tall } = box;
   box.style.top = `${Math.max(8, Math.min(bottom + 6, innerHeight - tall - 8))}px`;
   box.style.left = `${Math.max(8, Math.min(left, innerWidth - w - 8))}px`;
 }
-
-box.onclose = () => { opener.ariaExpanded = "false"; };
 
 const closing = (act) => () => {
   box.close();
@@ -173,10 +168,11 @@ const text = (more) => h("input", { type: "text", ...more });
 // ---- lessons, scenes and a person's own files
 function shelf(tag, name, lessons, hasNumbers) {
   const item = (lesson) => h("li",
-    h("button", { "aria-current": String(lesson === state.lesson), onclick: closing(() => {
-      load(lesson);
-      showTab("lesson");
-    }) }, hasNumbers && h("span.n", lesson.id), h("span", h("b", lesson.name), h("small", lesson.about))));
+    h("button", { "aria-current": lesson === state.lesson, autofocus: lesson === state.lesson,
+      onclick: closing(() => {
+        load(lesson);
+        showTab("lesson");
+      }) }, hasNumbers && h("span.n", lesson.id), h("span", h("b", lesson.name), h("small", lesson.about))));
   return h(tag, h("h3", name), h("ul", lessons.map(item)));
 }
 
@@ -342,7 +338,7 @@ function table() {
     e.preventDefault();
     result.replaceChildren(await filled(inputs.value, ticks.valueAsNumber, probes)
       .catch((fault) => fault.message));
-    place();
+    place(at("table-open"));
   };
   return [h("h2", "Truth table"), h("p", "Each input cell is full or empty. After the steps the probes are "
     + "read, and the gas is stepped back. It is as before in the end."),
