@@ -255,9 +255,9 @@ function help() {
 
 // ---- share
 /** A thing to take home: its name, what it is, and what its button does. */
-function give(name, text, act, label = "Save") {
+function give(name, text, act, label = "Save", more = null) {
   const does = button(label, () => act(does));
-  return h("div.give", h("b", name), h("p", text), does);
+  return h("div.give", h("b", name), h("p", text), does, more);
 }
 
 const bytesIn = (n) => n < 1 << 20 ? `${say(Math.round(n / 102.4) / 10)} KB`
@@ -287,13 +287,12 @@ function giveLink([what, token]) {
   const { href } = new URL(`/${token}/`, location.href), name = `Link to ${what}`;
   const copied = () => navigator.clipboard.writeText(href).then(() => "Copied", () => "Copy it by hand");
   const input = h("input.link", { readOnly: true, value: href, "aria-label": name });
-  const row = give(name, what === "watch" ? "Who opens it sees this gas, and can change nothing."
-    : "Who opens it takes a seat on this gas.", async (does) => {
+  const copy = async (does) => {
     input.select();
     does.textContent = await copied();
-  }, "Copy");
-  row.append(input);
-  return row;
+  };
+  return give(name, what === "watch" ? "Who opens it sees this gas, and can change nothing."
+    : "Who opens it takes a seat on this gas.", copy, "Copy", input);
 }
 
 // ---- truth tables
