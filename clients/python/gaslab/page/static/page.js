@@ -383,7 +383,6 @@ function showTab(name) {
 }
 
 function setLarge(isLarge) {
-  document.documentElement.classList.toggle("large", isLarge);
   at("larger").ariaPressed = isLarge;
   stored("localStorage", "gaslab-large", isLarge);
   plots.redraw(true);
