@@ -20,13 +20,11 @@ async function open(lesson, size, lines, snapshot = null) {
   const tool = matchMedia("(pointer: coarse)").matches ? "look" : lesson.tool;      // a finger scrolls first
   state.change({ lesson, loading: true, tried: false, tool, mode: lesson.mode, speed: lesson.speed });
   view.fitted = lesson.view || true;
-  edits.isOff = true;
   const [first] = snapshot ? [await state.link.upload(snapshot)]
     : await send([`.open ${size.join(" ")} ${lesson.name.replace(/[\r\n]/g, " ")}`], { isQuiet: true });
   const others = !isRefusal(first) && lines.length ? await send(lines, { isQuiet: true }) : [];
   const replies = [first, ...others], bad = replies.findIndex(isRefusal);
   if (bad > 0) await state.link.send([".bring"]);      // the lines after it were done too
-  edits.isOff = false;
   state.change({ loading: false, worked: false, ...bad >= 0 && old });
   if (bad >= 0) return [bad - 1, replies[bad]];
   offerOld(old);
@@ -316,11 +314,9 @@ async function truthTable(inputs, ticks, outputs) {
     (_, n) => inputs.map((_cell, k) => n >> (inputs.length - 1 - k) & 1));
   const asks = outputs.map((rect) => `probe ${rect.join(" ")}`);
   const lines = cases.flatMap((isFull) => [...put(isFull), `step ${ticks}`, ...asks, `back ${ticks}`]);
-  edits.isOff = true;
   state.change({ loading: true });
   const replies = await send([...lines, ...put(has)], { isQuiet: true });
   state.change({ loading: false });
-  edits.isOff = false;
   const bad = replies.find(isRefusal);
   if (bad) throw new Error(`The table can't be had: ${bad}.`);
   const counts = replies.filter((reply) => reply.startsWith("PROBE"))

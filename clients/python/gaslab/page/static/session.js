@@ -155,17 +155,17 @@ class Edits {
 
   /** An entry of the journal. `by` is the seat if it is another one, and else null. */
   entry(line, by) {
-    const [word, ...words] = line.split(" ");
+    const [word, ...words] = line.split(" "), isEdit = !(this.isOff || state.loading);
     if (!view.picture) return;
     if (word === "step" || word === "back") {
       this.isMoving = true;
       if (this.open) this.open.hasMoved = true;
       return;
     }
-    if (!this.isOff) this.note(word, words.map(Number), line, by);
+    if (isEdit) this.note(word, words.map(Number), line, by);
     this.lab.line(0, line);
     if (this.depth === 0 || by !== null) this.close();
-    if (!this.isOff) this.changed();
+    if (isEdit) this.changed();
   }
 
   note(word, numbers, line, by) {
