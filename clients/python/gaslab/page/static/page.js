@@ -306,9 +306,9 @@ function likelyInputs() {
 
 /** What probes hold after some steps, for each choice of full inputs. In the end the gas is as before. */
 async function truthTable(inputs, ticks, outputs) {
-  const has = inputs.map(([x, y]) => view.has(x, y));
   if (view.hasPorts) throw new Error("A gas with sources or drains can't be stepped back.");
   await pause();
+  const has = inputs.map((cell) => view.has(...cell));
   const put = (isFull) => inputs.map(([x, y], k) => `${isFull[k] ? "put" : "erase"} ${x} ${y} 1 1`);
   const cases = Array.from({ length: 1 << inputs.length },
     (_, n) => inputs.map((_cell, k) => n >> (inputs.length - 1 - k) & 1));
