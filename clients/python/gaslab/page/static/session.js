@@ -121,24 +121,20 @@ const textOf = (word) => (rect) => `${word} ${rect.join(" ")}`;
 class Edits {
   list = [];
   open = null;             // the edit whose lines still come
-  #lab = null;             // the gas after the last line, made when it is first needed
+  made = null;             // the gas after the last line, made when it is first needed
   isMoving = false;        // steps come between the lines
   depth = 0;               // of sends: lines that are sent together are one edit
   isOff = false;           // what comes is no edit
   changed = () => {};      // called when the list changes
 
   clear() {
-    Object.assign(this, { list: [], open: null });
-    this.#lab = null;
+    Object.assign(this, { list: [], open: null, made: null });
     this.changed();
   }
 
-  picture({ playing }) {
-    this.isMoving = playing;
-    this.#lab = null;
-  }
+  picture({ playing }) { Object.assign(this, { isMoving: playing, made: null }); }
 
-  get lab() { return this.#lab ??= new Lab(fromSnapshot(snapshotOf(view))); }
+  get lab() { return this.made ??= new Lab(fromSnapshot(snapshotOf(view))); }
   get gas() { return this.lab.gas; }
 
   /** Keeps of the planes before the edit only what it can have changed. */
