@@ -155,23 +155,20 @@ function place(button) {
   box.style.left = `${Math.max(8, Math.min(left, innerWidth - w - 8))}px`;
 }
 
-const closing = (act) => () => {
-  box.close();
-  act();
-};
 const form = (onsubmit, ...children) => h("form", { method: "dialog", onsubmit }, ...children);
 const number = (value, name, more = {}) => h("input", { type: "number", value, "aria-label": name, ...more });
 const text = (more) => h("input", { type: "text", ...more });
 
 // ---- lessons, scenes and a person's own files
-function shelf(tag, name, lessons, hasNumbers) {
-  const item = (lesson) => h("li",
-    h("button", { "aria-current": lesson === state.lesson, autofocus: lesson === state.lesson,
-      onclick: closing(() => {
-        load(lesson);
-        showTab("lesson");
-      }) }, hasNumbers && h("span.n", lesson.id), h("span", h("b", lesson.name), h("small", lesson.about))));
-  return h(tag, h("h3", name), h("ul", lessons.map(item)));
+function shelf(name, lessons, hasNumbers) {
+  const open = (lesson) => {
+    load(lesson);
+    showTab("lesson");
+  };
+  const item = (lesson) => h("li", h("button", { "aria-current": lesson === state.lesson,
+    autofocus: lesson === state.lesson, onclick: () => open(lesson) },
+  hasNumbers && h("span.n", lesson.id), h("span", h("b", lesson.name), h("small", lesson.about))));
+  return form(null, h("h3", name), h("ul", lessons.map(item)));
 }
 
 /** The lines of a script up to its first step, moved by an offset: { lines }, or { fault } in plain words. */
@@ -215,13 +212,13 @@ function own() {
   const by = ["Columns to the right", "Rows downwards"].map((name) => number("0", name));
   return h("div.own", h("h3", "Your own"), form(() => load(EMPTY, sides.map(({ value }) => Number(value))),
     "Empty, ", sides[0], " by ", sides[1], button("Open")),
-    button("Open a script or snapshot", closing(() => pickFile(({ name, bytes }) => openBytes(name, bytes)))),
+    form(() => pickFile(({ name, bytes }) => openBytes(name, bytes)), button("Open a script or snapshot")),
     form(() => placeScript(by.map((input) => input.valueAsNumber || 0)),
       "Place a script here, moved by ", ...by, button("Choose")));
 }
 
 const lessons = () => [h("h2.unseen", "Lessons and scenes"), h("div.shelves",
-  shelf("section", "Lessons", LESSONS, true), h("div", shelf("section.bare", "Scenes", SCENES), own()))];
+  shelf("Lessons", LESSONS, true), h("div", shelf("Scenes", SCENES), own()))];
 
 // ---- what runs, who is there, and keys
 function truth() {
