@@ -138,8 +138,7 @@ const box = at("popover");
 const tabs = [...document.querySelectorAll(".tabs button")];
 
 /** Opens the dialog with what `fill` returns, of which the first heading is its name. */
-function openDialog(button, fill, size) {
-  box.className = size;
+function openDialog(button, fill) {
   box.replaceChildren(...fill());
   box.querySelector("h2").id = "popover-name";
   box.showModal();
@@ -350,10 +349,9 @@ async function filled(text, ticks, probes) {
     h("tbody", rows.map((row) => h("tr", row.map((n) => h("td", String(n)))))));
 }
 
-for (const [id, fill, size] of [["lessons-open", lessons, "wide"], ["truth", truth, "middle"],
-  ["seats", seats, "middle"], ["share-open", share, "middle"], ["help-open", help, "wide"],
-  ["table-open", table, "middle"]])
-  at(id).onclick = () => { if (state.picture || id !== "share-open") openDialog(at(id), fill, size); };
+for (const [id, fill] of Object.entries({ truth, seats, "lessons-open": lessons, "share-open": share,
+  "help-open": help, "table-open": table }))
+  at(id).onclick = () => { if (state.picture || id !== "share-open") openDialog(at(id), fill); };
 at("script").onclick = () => saveFile(".script");
 
 // ---- the header, the tabs, and what is remembered
