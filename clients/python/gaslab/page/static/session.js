@@ -288,7 +288,21 @@ const events = {
     else if (why !== "opened" && state.picture)
       speak(`${why === "there" ? "Arrived" : "Paused"} at tick ${state.picture.tick}.`);
   },
-  picture(p) { take(p); },
+  /** Takes a picture in. It is drawn with the next frame. */
+  picture(p) {
+    const isResized = view.setPicture(p), { hasPorts } = view;
+    seen.made += seen.number && p.playing ? Math.max(1, p.number - seen.number) : 1;
+    seen.number = p.number;
+    fresh = p;
+    takePlay(p.playing, p.steps, p.rate);
+    edits.picture(p);
+    state.change({ picture: p, acted: hasPorts ? p.tick : state.acted, least: Math.min(state.least, p.tick),
+      furthest: hasPorts ? 0 : Math.max(state.furthest, p.tick) });
+    plots.add(p);
+    const isWhole = view.fitted === true || isResized && !state.lesson.view;
+    if (isResized || view.fitted) view.fit(isWhole ? null : view.fitted || state.lesson.view);
+    view.redraw();
+  },
   gone(isStrange) {
     state.change({ status: "gone", playing: false });
     banner(isStrange ? "The server sent something that this page can't read. The connection is closed."
@@ -301,22 +315,6 @@ const events = {
 export function join() {
   hideBanner();
   state.change({ link: new Link(connect(), events), links: {} });
-}
-
-/** Takes a picture in. It is drawn with the next frame. */
-function take(p) {
-  const isResized = view.setPicture(p), { hasPorts } = view;
-  seen.made += seen.number && p.playing ? Math.max(1, p.number - seen.number) : 1;
-  seen.number = p.number;
-  fresh = p;
-  takePlay(p.playing, p.steps, p.rate);
-  edits.picture(p);
-  state.change({ picture: p, acted: hasPorts ? p.tick : state.acted, least: Math.min(state.least, p.tick),
-    furthest: hasPorts ? 0 : Math.max(state.furthest, p.tick) });
-  plots.add(p);
-  const isWhole = view.fitted === true || isResized && !state.lesson.view;
-  if (isResized || view.fitted) view.fit(isWhole ? null : view.fitted || state.lesson.view);
-  view.redraw();
 }
 
 /** What each picture and event says about play. The gas is everybody's: another seat may have done it. */
