@@ -160,12 +160,12 @@ const text = (more) => h("input", { type: "text", ...more });
 
 // ---- lessons, scenes and a person's own files
 function shelf(name, lessons, hasNumbers) {
-  const open = (lesson) => {
+  const show = (lesson) => {
     load(lesson);
     showTab("lesson");
   };
   const item = (lesson) => h("li", h("button", { "aria-current": lesson === state.lesson,
-    autofocus: lesson === state.lesson, onclick: () => open(lesson) },
+    autofocus: lesson === state.lesson, onclick: () => show(lesson) },
   hasNumbers && h("span.n", lesson.id), h("span", h("b", lesson.name), h("small", lesson.about))));
   return form(null, h("h3", name), h("ul", lessons.map(item)));
 }
