@@ -357,14 +357,13 @@ at("script").onclick = () => saveFile(".script");
 // ---- the header, the tabs, and what is remembered
 function showHeader() {
   const { program, rights, seat, people, status } = state, others = people.size - 1;
-  const more = [rights === "watch" && ", watching", others > 0 && ` · ${plural(others, "other")}`];
   at("truth").dataset.program = program;
   at("truth").lastElementChild.textContent = (TRUTH[program] ?? TRUTH.none)[0];
   at("seats").hidden = program === "page";
   at("script").hidden = program !== "page";
-  const own = [`Seat ${seat}`, ...more].filter(Boolean).join("");
-  at("seats").textContent = seat === null ? "No seat yet" : own;
-  Object.assign(document.body.dataset, { status, rights });
+  fill(at("seats"), seat === null ? "No seat yet" : [`Seat ${seat}`, rights === "watch" && ", watching",
+    others > 0 && ` · ${plural(others, "other")}`]);
+  document.body.dataset.status = status;
 }
 
 function showTab(name) {
