@@ -46,7 +46,8 @@ export const plural = (n, one) => `${say(n)} ${one}${n === 1 ? "" : "s"}`;
 // ---- what the page and its server both know, and refusals in plain words
 export const { colours: COLOURS, curves: CURVES, ramp: RAMP, zoom: ZOOM, commands: COMMANDS, keys: KEYS,
   always: ALWAYS, moves: MOVES, cursor: CURSOR, tools: TOOLS, icons: ICONS, truth: TRUTH, plots: PLOTS,
-  ledgerRows: ROWS, ways: WAYS, choices: CHOICES, shares: SHARES, kinds: KINDS, fates: FATES } = facts;
+  ledgerRows: ROWS, ways: WAYS, choices: CHOICES, shares: SHARES, kinds: KINDS, fates: FATES,
+  speeds: SPEEDS, empty: EMPTY } = facts;
 export const toolOf = (id) => TOOLS.find((tool) => tool.id === id);
 export const isRefusal = (reply) => /^(NO|ERR|GONE)/.test(reply);
 
@@ -96,10 +97,6 @@ export function choices(name, all, chosen, act) {
 
 // ---- the lessons and scenes, as tools/page_lessons makes them. `first` is sent before the first drawing
 export const { lessons: LESSONS, scenes: SCENES } = data;
-export const EMPTY = { id: "empty", name: "Empty lattice", about: "A size of your own", size: [64, 64],
-  setup: [], mode: "particles", speed: 4, tool: "put", plots: ["count"], tries: [],
-  text: ["An empty lattice. Put particles in, draw walls, and press play."] };
-
 export const ALL = [...LESSONS, ...SCENES, EMPTY];
 export const find = (id) => ALL.find((lesson) => lesson.id === id);
 
@@ -115,10 +112,6 @@ export const kindOf = (lesson) => LESSONS.includes(lesson) ? `Lesson ${lesson.id
   : lesson === EMPTY || lesson.own ? "Your own" : "Scene";
 
 // ---- what the page knows of the gas and of itself. Views read it; each change is an event with what changed
-/** Steps a picture and pictures a second of each place of the speed slider. */
-export const SPEEDS = [[1, 1], [1, 2], [1, 5], [1, 10], [1, 20], [1, 30], [1, 60],
-  ...Array.from({ length: 12 }, (_, k) => [2 << k, 60])];
-
 class State extends EventTarget {
   status = "connecting";       // connecting, open or gone
   seat = null;                 // this page's number, after hello
@@ -132,7 +125,7 @@ class State extends EventTarget {
   picture = null;              // the last one that came
   shown = null;                // the last one that was drawn
   playing = false;
-  speed = 4;                   // a place in SPEEDS
+  speed = 4;                   // a place in SPEEDS: steps a picture, and pictures a second
   tool = "put";
   mode = "particles";          // particles, velocity or density
   lesson = EMPTY;
