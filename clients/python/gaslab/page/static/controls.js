@@ -91,9 +91,8 @@ function showReason() {
   box.classList.toggle("loud", performance.now() < loudUntil);
   if (box.dataset.text === text) return;
   box.dataset.text = text;
-  box.replaceChildren(h("span", { role: "status" }, text));
-  if (view.hasPorts && text === noWayBack())
-    box.append(h("button", { onclick: () => send(["unport"]) }, "Remove them: ", h("code", "unport")));
+  fill(box, h("span", { role: "status" }, text), view.hasPorts && text === noWayBack()
+    && h("button", { onclick: () => send(["unport"]) }, "Remove them: ", h("code", "unport")));
 }
 
 for (const id of ["step", "back", "rewind"]) at(id).append(icon(ICONS[id]));
