@@ -144,7 +144,7 @@ class Edits {
     if (!open) return;
     const { gas } = this, [, y, , h] = open.rect ?? [0, 0, 0, 0];
     const cut = (set) => set.slice(y * gas.words, (y + h) * gas.words);
-    for (const name of open.planes) open.before[name] = cut(open.whole[name]);
+    for (const name of PLANES) if (open.changed.has(name)) open.before[name] = cut(open.whole[name]);
     open.after = cut(gas.particles);
     delete open.whole;
   }
@@ -168,15 +168,14 @@ class Edits {
     const { drains, sources, tick, width } = this.gas;
     if (!this.open) {
       const whole = Object.fromEntries(PLANES.map((name) => [name, this.gas[name].slice()]));
-      this.open = { lines: [], by, rect: null, tick, hasMoved: this.isMoving, hasPorts: false,
-        planes: new Set(), before: { ports: { drains, sources } }, whole };
+      this.open = { lines: [], by, rect: null, tick, hasMoved: this.isMoving, changed: new Set(),
+        before: { ports: { drains, sources } }, whole };
       this.list = [...this.list, this.open].slice(-MOST);
     }
     const { open } = this;
     open.lines.push(line);
-    for (const name of CHANGES[word] ?? []) open.planes.add(name);
-    if (!CHANGES[word]) open.hasPorts = true;
-    else open.rect = around(word === "row" ? [0, numbers[0], width, 1] : numbers, open.rect);
+    for (const name of CHANGES[word] ?? ["ports"]) open.changed.add(name);
+    if (CHANGES[word]) open.rect = around(word === "row" ? [0, numbers[0], width, 1] : numbers, open.rect);
   }
 
   label() {
@@ -190,9 +189,9 @@ class Edits {
     if (!last) return { why: "There is nothing to undo." };
     if (last.by !== null)
       return { why: `Seat ${last.by} made the last change: ${this.label()}. Undo stops at it.` };
-    const { gas } = this, { planes, rect } = last, hasCells = planes.has("particles");
-    const lines = [...last.hasPorts ? this.portLines(last) : [],
-      ...planes.has("walls") ? this.solidLines(last) : []];
+    const { gas } = this, { changed, rect } = last, hasCells = changed.has("particles");
+    const lines = [...changed.has("ports") ? this.portLines(last) : [],
+      ...changed.has("walls") ? this.solidLines(last) : []];
     const isSame = !last.hasMoved && !this.isMoving && gas.tick === last.tick
       && (!hasCells || last.after.every((v, k) => v === gas.particles[rect[1] * gas.words + k]));
     if (!hasCells) return { lines, note: "" };
