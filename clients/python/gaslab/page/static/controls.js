@@ -261,7 +261,6 @@ function complete(e) {
   note(found.join("  "));
 }
 
-/** Sends a line, and resolves to its reply. */
 async function enter(line) {
   entry.value = "";
   if (!line) return "";

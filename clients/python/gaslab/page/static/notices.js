@@ -57,7 +57,6 @@ export function addRow(kind, ...cells) {
 
 export function note(text) { addRow("note", ["", "who"], [text, "words"]); }
 
-/** Shows a line and its reply. */
 export function exchange(who, line, reply) {
   const isBad = isRefusal(reply);
   addRow(isBad ? "refused" : "", [who, "who"], [short(line, LONGEST), "sent"], [reply, isBad ? "err" : "ok"],

@@ -31,7 +31,6 @@ async function open(lesson, size, lines, snapshot = null) {
   return null;
 }
 
-/** Opens a lesson, and plays it if it is one that plays by itself. */
 async function load(lesson, size = lesson.size) {
   note(`${lesson.name}: ${size[0]} by ${size[1]} cells`);
   const bad = await open(lesson, size, [...lesson.setup, ...watches(lesson.probes)]);
@@ -195,7 +194,6 @@ function runs(digits) {
   return [...bits.matchAll(/1+/g)].map(({ index, 0: run }) => [index, run.length]);
 }
 
-/** Sends a script's lines, moved, into the gas that is there. */
 function placeScript(by) {
   if (isWatching()) return;
   pickFile(({ name, bytes }) => {
