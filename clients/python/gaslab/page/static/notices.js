@@ -15,11 +15,11 @@ export function notice({ title, text, code = "", does = [], rect = null }) {
 function place(box, rect) {
   box.style.left = box.style.top = "0";
   const { clientWidth: mw, clientHeight: mh } = at("mat"), { offsetWidth: bw, offsetHeight: bh } = box;
-  const [x, y, w, h] = rect ? view.box(rect) : [8, mh, 0, 0];
-  const inside = (v, most) => `${Math.max(8, Math.min(v, most - 8))}px`, isWide = x + w + 12 + bw > mw;
-  let left = x + w + 12, top = y + h / 2 - bh / 2;
-  if (rect && isWide && x - bw - 12 >= 0) left = x - bw - 12;
-  else if (isWide || !rect) { left = x; top = y + h + 12 + bh < mh ? y + h + 12 : y - bh - 12; }
+  const [x, y, w, h] = rect ? view.box(rect) : [8, mh, mw, 0], beside = y + h / 2 - bh / 2;
+  const inside = (v, most) => `${Math.max(8, Math.min(v, most - 8))}px`;
+  let [left, top] = [x, y + h + 12 + bh < mh ? y + h + 12 : y - bh - 12];
+  if (x + w + 12 + bw <= mw) [left, top] = [x + w + 12, beside];
+  else if (x - bw - 12 >= 0) [left, top] = [x - bw - 12, beside];
   box.style.left = inside(left, mw - bw);
   box.style.top = inside(top, mh - bh);
 }
