@@ -41,7 +41,13 @@ export class Link {
       try {
         if (typeof data === "string") data.split("\n").forEach((line) => this.take(line));
         else this.takeParts(data instanceof ArrayBuffer ? decode(data) : data);
-      } catch (fault) { this.strange(fault); }
+      } catch (fault) {
+        // the server sends what the protocol forbids
+        console.warn(fault);
+        socket.onclose = null;
+        socket.close();
+        this.end(true);
+      }
     };
     socket.onclose = () => this.end();
   }
@@ -100,14 +106,6 @@ export class Link {
       this.undrawn += 1;
       this.on.picture(parts);
     }
-  }
-
-  /** Ends a connection whose server sends what the protocol forbids. */
-  strange(fault) {
-    console.warn(fault);
-    this.socket.onclose = null;
-    this.socket.close();
-    this.end(true);
   }
 }
 
