@@ -219,19 +219,15 @@ function showProbes({ probes, tally }) {
   at("table-open").hidden = tally[0] > GATE;
 }
 
-/** On a phone the plots are below: tick and first plot's value are on the canvas. */
-function showMini(tick) {
-  const [name, , value] = document.querySelector("#plot-list figcaption")?.children ?? [];
-  const more = value?.textContent ? ` · ${name.textContent.toLowerCase()} ${value.textContent}` : "";
-  setText(at("mini"), `tick ${tick}${more}`);
-}
-
 state.on(["shown"], () => {
   const { shown, shown: { tick, tally } } = state;
   ["tick", "count", "px", "py"].forEach((id, k) => setText(at(id), say([tick, ...tally][k])));
   showLedger(shown);
   showProbes(shown);
-  showMini(say(tick));
+  // on a phone the plots are below: tick and first plot's value are on the canvas
+  const [name, , value] = document.querySelector("#plot-list figcaption")?.children ?? [];
+  const more = value?.textContent ? ` · ${name.textContent.toLowerCase()} ${value.textContent}` : "";
+  setText(at("mini"), `tick ${say(tick)}${more}`);
 });
 state.on(["lesson"], () => plots.choose(state.lesson.plots));
 
