@@ -280,9 +280,9 @@ async function paste(e) {
 
 function help(word) {
   toggleLog(true);
-  const some = COMMANDS[word] ? [COMMANDS[word]] : Object.values(COMMANDS);
+  const isKnown = Object.hasOwn(COMMANDS, word), some = isKnown ? [COMMANDS[word]] : Object.values(COMMANDS);
   for (const [shape, text] of some) addRow("help", ["", "who"], [shape, "sent"], [text, "words"]);
-  if (!COMMANDS[word])
+  if (!isKnown)
     note("x counts columns to the right, y rows downwards, both from 0. A drawing sends one of these.");
 }
 
