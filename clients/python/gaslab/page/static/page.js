@@ -5,7 +5,7 @@ import { view } from "./canvas.js";
 import { plots } from "./plots.js";
 import { notice, banner, hideBanner, speak, note } from "./notices.js";
 import { bytesOf, keepForReload, takeKept, lessonOf, pickFile, stored, download, saveFile, savePicture,
-  saveFilm } from "./files.js";
+  saveFilm, snapshotOf } from "./files.js";
 import { connect, edits, isWatching, join, pause, play, send } from "./session.js";
 import { isWithin } from "./frame.js";
 import { doTry } from "./tools.js";
@@ -256,8 +256,7 @@ const bytesIn = (n) => n < 1 << 20 ? `${say(Math.round(n / 102.4) / 10)} KB`
   : `${say(Math.round(n / 104857.6) / 10)} MB`;
 
 function share() {
-  const { picture: { width, height, journal }, cap } = state, { drains, sources } = view.ports;
-  const size = 22 + 3 * width * height / 8 + 8 * drains.length + 10 * sources.length;
+  const { picture: { journal }, cap } = state, size = snapshotOf(view).length;
   return [h("h2", "Take it home, or show it"),
     give("Script", "gas.txt: the journal as command lines, with the size. "
       + `${say(journal)} of ${say(cap)} entries.`, () => saveFile(".script")),
