@@ -69,10 +69,9 @@ function offerOld(old) {
   const bring = async () => {
     state.change({ loading: true });
     const [reply] = await send([".bring"]);
-    state.change({ loading: false });
-    if (reply !== "DONE") return;
-    state.change(old);
-    hideBanner();
+    const isBack = reply === "DONE";
+    state.change({ loading: false, ...isBack && old });
+    if (isBack) hideBanner();
   };
   banner(`The gas before, of “${old.lesson.name}”, is kept with its journal until another is opened.`,
     [["Bring it back", bring]]);
