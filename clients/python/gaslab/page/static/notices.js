@@ -75,7 +75,7 @@ export function entryOf(who, line, reply) {
   if (line.startsWith("row ")) rows = { who, count: 1, cell: at("log").lastChild.children[1] };
 }
 
-export function last(who, line, reply) {
+function last(who, line, reply) {
   const kind = isRefusal(reply) ? "err" : "ok";
   fill(at("last"), h("span.label", who), h("span.sent", line), h(`span.${kind}`, short(reply, 46)));
 }

@@ -1,5 +1,5 @@
 // The page: what opens a gas, and the header with its dialog.
-import { ALL, ALWAYS, EMPTY, KEYS, LESSONS, SCENES, TOOLS, TRUTH, at, button, choose, fill, find, h,
+import { ALL, ALWAYS, EMPTY, KEYS, LESSONS, SCENES, SIDES, TOOLS, TRUTH, at, button, choose, fill, find, h,
   isRefusal, kindOf, plainWords, plural, rove, say, state, words } from "./base.js";
 import { view } from "./canvas.js";
 import { plots } from "./plots.js";
@@ -131,7 +131,6 @@ state.on(["isNew"], () => { if (state.isNew) begin(); });
 addEventListener("pagehide", () => { if (state.picture && state.worked) keepForReload(view, state.lesson); });
 
 // ---- the header, the tabs, and the dialog: lessons, what is proved, seats, keys, sharing, and truth tables
-const SIDES = [64, 128, 192, 256, 512, 1024, 2048];
 const box = at("popover");
 const tabs = [...document.querySelectorAll(".tabs button")];
 
