@@ -142,7 +142,7 @@ class Edits {
     if (!open) return;
     const { gas } = this, [, y, , h] = open.rect ?? [0, 0, 0, 0];
     const cut = (set) => set.slice(y * gas.words, (y + h) * gas.words);
-    for (const name of PLANES) if (open.changed.has(name)) open.before[name] = cut(open.whole[name]);
+    for (const name of PLANES) if (open.parts.has(name)) open.before[name] = cut(open.whole[name]);
     open.after = cut(gas.particles);
     delete open.whole;
   }
@@ -166,13 +166,13 @@ class Edits {
     const { drains, sources, tick, width } = this.gas;
     if (!this.open) {
       const whole = Object.fromEntries(PLANES.map((name) => [name, this.gas[name].slice()]));
-      this.open = { lines: [], by, rect: null, tick, hasMoved: this.isMoving, changed: new Set(),
+      this.open = { lines: [], by, rect: null, tick, hasMoved: this.isMoving, parts: new Set(),
         before: { ports: { drains, sources } }, whole };
       this.list = [...this.list, this.open].slice(-MOST);
     }
     const { open } = this;
     open.lines.push(line);
-    for (const name of CHANGES[word] ?? ["ports"]) open.changed.add(name);
+    for (const name of CHANGES[word] ?? ["ports"]) open.parts.add(name);
     if (CHANGES[word]) open.rect = around(word === "row" ? [0, numbers[0], width, 1] : numbers, open.rect);
   }
 
@@ -181,19 +181,19 @@ class Edits {
     return n > 1 ? `${lines.at(-1).slice(0, 30)} and ${n - 1} more` : lines[0].slice(0, 40);
   }
 
-  /** What undoes the last edit: { lines, note }, or { why } if it can't be undone and stays. */
+  /** What undoes the last edit: { lines }, with a note if the particles stay, or { why } if it can't. */
   plan() {
     const last = this.list.at(-1);
     if (!last) return { why: "There is nothing to undo." };
     if (last.by !== null)
       return { why: `Seat ${last.by} made the last change: ${this.label()}. Undo stops at it.` };
-    const { gas } = this, { changed, rect } = last, hasCells = changed.has("particles");
-    const lines = [...changed.has("ports") ? this.portLines(last) : [],
-      ...changed.has("walls") ? this.solidLines(last) : []];
+    const { gas } = this, { parts, rect } = last;
+    const lines = [...parts.has("ports") ? this.portLines(last) : [],
+      ...parts.has("walls") ? this.solidLines(last) : []];
+    if (!parts.has("particles")) return { lines };
     const isSame = !last.hasMoved && !this.isMoving && gas.tick === last.tick
-      && (!hasCells || last.after.every((v, k) => v === gas.particles[rect[1] * gas.words + k]));
-    if (!hasCells) return { lines, note: "" };
-    if (isSame) return { lines: [...lines, ...this.cellLines(last)], note: "" };
+      && last.after.every((v, k) => v === gas.particles[rect[1] * gas.words + k]);
+    if (isSame) return { lines: [...lines, ...this.cellLines(last)] };
     if (lines.length) return { lines, note: "The particles stay as they are: they have moved on." };
     return { why: `${this.label()} can't be undone: its particles have moved on. Undo stops at it.` };
   }
