@@ -1,15 +1,21 @@
 // The gas on its canvas: pixels of its cells, and what is drawn above them.
-import { COLOURS, RAMP, SANS, ZOOM, at, h } from "./base.js";
+import { COLOURS, KINDS, RAMP, SANS, ZOOM, at, h } from "./base.js";
 
 // ---- sets of cells as rectangles, and the lines that draw them
+export const clamp = (value, least, most) => Math.max(least, Math.min(value, most));
+
+/** Writes a value into a rectangle of a plane of cells. */
+function paint(plane, width, [x, y, w, h], value) {
+  for (let row = y; row < y + h; row++) plane.fill(value, row * width + x, row * width + x + w);
+}
+
 /** The rectangle between two cells, snapped outward to squares of `snap` cells, within the lattice. */
 export function rectangle([ax, ay], [bx, by], { width, height }, snap = 1) {
-  const span = (a, b, side) => {
-    const low = Math.max(0, Math.min(a, b, side - 1)), high = Math.min(side - 1, Math.max(a, b, 0));
-    const from = Math.floor(low / snap) * snap;
-    return [from, Math.min(side, (Math.floor(high / snap) + 1) * snap) - from];
+  const span = (ends, side) => {
+    const [low, high] = ends.map((v) => Math.floor(clamp(v, 0, side - 1) / snap)).sort((a, b) => a - b);
+    return [low * snap, (high - low + 1) * snap];
   };
-  const [x, w] = span(ax, bx, width), [y, h] = span(ay, by, height);
+  const [x, w] = span([ax, bx], width), [y, h] = span([ay, by], height);
   return [x, y, w, h];
 }
 
@@ -33,19 +39,17 @@ export function stroke(cells, size, snap) {
     return Array.from({ length: n + 1 }, (_, s) => [way(a, x, s), way(b, y, s)]);
   }).map((cell) => rectangle(cell, cell, size, snap));
   const [x, y, w, h] = squares.reduce((all, square) => around(square, all)), held = new Uint8Array(w * h);
-  for (const [i, j, a, b] of squares) for (let q = j - y; q < j - y + b; q++)
-    held.fill(1, q * w + i - x, q * w + i - x + a);
+  for (const [i, j, a, b] of squares) paint(held, w, [i - x, j - y, a, b], 1);
   return cover([x, y, w, h], (i, j) => held[(j - y) * w + i - x]);
 }
 
 /** Few rectangles that cover the cells which pass a test, and no other. They may overlap. */
 export function cover([x, y, w, h], test) {
-  const held = new Uint8Array(w * h), out = [];
-  for (let j = 0; j < h; j++) for (let i = 0; i < w; i++) held[j * w + i] = test(x + i, y + j) ? 1 : 0;
-  const left = held.slice();
+  const held = new Uint8Array(w * h).map((_, k) => test(x + k % w, y + Math.floor(k / w)));
+  const left = held.slice(), out = [];
   for (let k = left.indexOf(1); k >= 0; k = left.indexOf(1, k)) {
-    const [i, j, a, b] = largest(held, w, h, k % w, Math.floor(k / w));
-    for (let q = j; q < j + b; q++) left.fill(0, q * w + i, q * w + i + a);
+    const rect = largest(held, w, h, k % w, Math.floor(k / w)), [i, j, a, b] = rect;
+    paint(left, w, rect, 0);
     out.push([x + i, y + j, a, b]);
   }
   return out;
@@ -81,27 +85,24 @@ export function randomGas(view, [x, y, w, h], { density, right, down }) {
 const rgb = (r, g, b) => (255 << 24 | b << 16 | g << 8 | r) >>> 0;      // as ImageData has it, little-endian
 export const parts = (hex) => [1, 3, 5].map((k) => parseInt(hex.slice(k, k + 2), 16));
 const C = Object.fromEntries(Object.entries(COLOURS).map(([name, hex]) => [name, rgb(...parts(hex))]));
-const GROUNDS = [C.empty, C.wall, C.obstacle, C.source, C.drain];
-const isSolid = (kind) => kind === 1 || kind === 2;
+const [, DRAIN, SOURCE, WALL, OBSTACLE] = KINDS.keys();            // of several that meet, the last is seen
+const GROUNDS = KINDS.map((name) => C[name || "empty"]);
+const isSolid = (kind) => kind >= WALL;
 // of the last pictures: even enough that the stream of lesson 4 doesn't flash
 const WEIGHTS = [.22, .24, .26, .28];
 const STALE = 16;          // pictures after which one is too old for a mean
 const FLASHING = 21800;    // pixels that may change more than three times a second
 const BIG = 1 << 20;       // cells from which no mean of pictures is made
 const MEAN = 8;            // pictures of a mean density
-const POP = Uint8Array.from({ length: 256 },
-  (_, v) => [1, 2, 4, 8, 16, 32, 64, 128].filter((b) => v & b).length);
+const POP = [0, 1, 1, 2, 1, 2, 2, 3, 1, 2, 2, 3, 2, 3, 3, 4];      // particles in four cells
 
 /** How many particles are in each square of q by q cells. */
 export function countSquares({ width, height, particles }, q) {
-  const across = width / q, bytes = width / 8, counts = new Uint16Array(across * height / q);
-  for (let y = 0; y < height; y++) {
+  const across = width / q, counts = new Uint16Array(across * height / q);
+  for (let y = 0, at = 0; y < height; y++) for (let x = 0; x < width; x += 8, at++) {
     const first = Math.floor(y / q) * across;
-    for (let k = 0; k < bytes; k++) {
-      const v = particles[y * bytes + k];
-      if (q === 4) { counts[first + 2 * k] += POP[v >> 4]; counts[first + 2 * k + 1] += POP[v & 15]; }
-      else counts[first + Math.floor(8 * k / q)] += POP[v];
-    }
+    counts[first + Math.floor(x / q)] += POP[particles[at] >> 4];
+    counts[first + Math.floor((x + 4) / q)] += POP[particles[at] & 15];
   }
   return counts;
 }
@@ -181,24 +182,15 @@ class Painter {
     else if (2 * p.tally[0] * this.scale ** 2 > FLASHING) this.isCalm = true;
   }
 
-  /** Finds what each cell lies on, and the bytes of eight cells that need more than two colours. */
+  /** Finds what each cell lies on. */
   remark() {
-    const { width, height } = this.picture, n = width * height / 8;
-    this.rectangles = null;
-    const special = this.special = new Uint8Array(n);
-    const ground = this.ground = new Uint8Array(8 * n);      // a place in GROUNDS
-    const paint = ([x, y, w, tall], kind) => {
-      for (let j = y; j < y + tall; j++) ground.fill(kind, j * width + x, j * width + x + w);
-    };
-    for (const drain of this.ports.drains) paint(drain, 4);
-    for (const source of this.ports.sources) paint(source, 3);
-    for (let at = 0, cell = 0; at < n; at++) {
-      const wall = this.walls[at], obstacle = this.obstacles[at];
-      for (let bit = 128; bit; bit >>= 1, cell++) {
-        if ((wall | obstacle) & bit) ground[cell] = obstacle & bit ? 2 : 1;
-        if (ground[cell]) special[at] = 1;
-      }
-    }
+    const { picture: { width, height }, walls, obstacles, ports: { drains, sources } } = this;
+    const ground = new Uint8Array(width * height);           // a place in KINDS
+    for (const drain of drains) paint(ground, width, drain, DRAIN);
+    for (const source of sources) paint(ground, width, source, SOURCE);
+    for (let at = 0, cell = 0; at < walls.length; at++) for (let bit = 128; bit; bit >>= 1, cell++)
+      if ((walls[at] | obstacles[at]) & bit) ground[cell] = obstacles[at] & bit ? OBSTACLE : WALL;
+    Object.assign(this, { ground, rectangles: null, halfGround: null });
   }
 
   get parity() { return this.picture.tick & 1; }
@@ -225,24 +217,22 @@ class Painter {
   /** Walls and obstacles as rectangles with their kind, found once after each edit. */
   solids() {
     const { picture: { width, height }, ground } = this;
-    return this.rectangles ??= [1, 2].flatMap((kind) =>
+    return this.rectangles ??= [WALL, OBSTACLE].flatMap((kind) =>
       cover([0, 0, width, height], (x, y) => ground[y * width + x] === kind).map((rect) => [rect, kind]));
   }
 
-  /** Packed bits to pixels for rows and bytes that are seen: the last picture, or the mean of the last. */
+  /** Packed bits to pixels for the cells that are seen: the last picture, or the mean of the last. */
   paintCells({ x0, y0, x1, y1 }, isMean = this.isCalm) {
-    const { picture: { width }, ground, full: { pixels } } = this, bytes = width / 8;
+    const { picture: { width }, ground, full: { pixels } } = this;
     const shown = isMean ? this.recent : this.recent.slice(-1), colours = this.means(shown);
     const [a, b, c, d] = [0, 1, 2, 3].map((k) => (shown[k] ?? shown[0]).particles);
-    const from = x0 >> 3, to = (x1 + 7) >> 3;
-    for (let y = y0; y < y1; y++) for (let k = from; k < to; k++) {
-      const at = y * bytes + k, row = (y & 1) << 5, [p, q, r, s] = [a[at], b[at], c[at], d[at]];
-      for (let bit = 7, cell = 8 * at; bit >= 0; bit--, cell++) {
-        const held = p >> bit & 1 | (q >> bit & 1) << 1 | (r >> bit & 1) << 2 | (s >> bit & 1) << 3;
-        pixels[cell] = colours[ground[cell] << 6 | row | (cell & 1) << 4 | held];
-      }
+    for (let y = y0; y < y1; y++) for (let x = x0, cell = y * width + x0; x < x1; x++, cell++) {
+      const at = cell >> 3, bit = 7 - (x & 7);
+      const held = a[at] >> bit & 1 | (b[at] >> bit & 1) << 1
+        | (c[at] >> bit & 1) << 2 | (d[at] >> bit & 1) << 3;
+      pixels[cell] = colours[ground[cell] << 6 | (y & 1) << 5 | (x & 1) << 4 | held];
     }
-    return this.full.put(8 * from, y0, 8 * (to - from), y1 - y0);
+    return this.full.put(x0, y0, x1 - x0, y1 - y0);
   }
 
   colourOf(x, y, tick) {
@@ -259,41 +249,43 @@ class Painter {
       colour(n >> 6, n >> 5 & 1, n >> 4 & 1, tick, n >> k & 1)), weights));
   }
 
-  /** Half as wide and high, for big lattices: a pixel is the mean of 2 by 2 cells, of 16 patterns. */
+  /** Half as wide and high, for big lattices: a pixel is the mean of 2 by 2 cells. */
   paintHalf() {
-    const { picture: { width, height, particles }, special, ground, half } = this, bytes = width / 8;
+    const { picture: { width, height, particles }, half } = this, bytes = width / 8;
     half.resize(width / 2, height / 2);
-    const out = half.pixels, colours = this.patterns();
-    for (let y = 0; y < height; y += 2) {
-      let a = y * bytes, b = a + bytes, at = y / 2 * width / 2;
-      for (const end = b; a < end; a++, b++, at += 4) {
-        const u = particles[a], l = particles[b];
-        out[at] = colours[u >> 4 & 12 | l >> 6]; out[at + 1] = colours[u >> 2 & 12 | l >> 4 & 3];
-        out[at + 2] = colours[u & 12 | l >> 2 & 3]; out[at + 3] = colours[u << 2 & 12 | l & 3];
-        if (special[a] | special[b]) for (let c = 0, cell = 8 * a; c < 4; c++, cell += 2) {
-          const all = [0, 1, width, width + 1].map((k) => ground[cell + k]);
-          const kind = all.find(isSolid) || (out[at + c] === C.empty ? all.find((k) => k) : 0);
-          if (kind) out[at + c] = GROUNDS[kind];
-        }
-      }
+    const { pixels } = half, colours = this.patterns(), ground = this.halfGround ??= this.halve();
+    for (let y = 0, k = 0; y < height; y += 2) for (let at = y * bytes; at < (y + 1) * bytes; at++) {
+      const upper = particles[at], lower = particles[at + bytes];
+      for (let bits = 6; bits >= 0; bits -= 2, k++)
+        pixels[k] = colours[ground[k] << 4 | (upper >> bits & 3) << 2 | lower >> bits & 3];
     }
     return half.put();
   }
 
-  /** The mean colours of the patterns of 2 by 2 cells at an even column and row: upper left is bit 3. */
+  /** What 2 by 2 cells lie on together. */
+  halve() {
+    const { picture: { width, height }, ground } = this, halves = new Uint8Array(ground.length / 4);
+    for (let y = 0, k = 0; y < height; y += 2) for (let x = 0; x < width; x += 2, k++) {
+      const cell = y * width + x, below = cell + width;
+      halves[k] = Math.max(ground[cell], ground[cell + 1], ground[below], ground[below + 1]);
+    }
+    return halves;
+  }
+
+  /** The mean colours of the patterns of 2 by 2 cells on each ground: upper left is bit 3. */
   patterns() {
     const { tick } = this.picture, all = [0, 1, 2, 3];
-    return Uint32Array.from({ length: 16 }, (_, pattern) => mix(all.map((k) =>
-      pattern >> (3 - k) & 1 ? this.colourOf(k & 1, k >> 1, tick) : C.empty), [1, 1, 1, 1]));
+    const colourOf = (pattern, k) => pattern >> (3 - k) & 1 ? this.colourOf(k & 1, k >> 1, tick) : C.empty;
+    return Uint32Array.from({ length: 80 }, (_, n) => isSolid(n >> 4) || !(n & 15) ? GROUNDS[n >> 4]
+      : mix(all.map((k) => colourOf(n, k)), [1, 1, 1, 1]));
   }
 
   /** The density in squares, one pixel a square. */
   paintDensity() {
-    const { picture: { width, height, number }, square: q, past } = this, most = this.isMean ? MEAN : 1;
-    const isSame = past.at(-1)?.square === q && past.length <= most;
-    if (past.at(-1)?.number !== number || !isSame)
-      this.past = [...isSame ? past : [], { number, square: q, counts: countSquares(this.picture, q) }]
-        .slice(-most);
+    const { picture: { width, height, number }, square: q } = this;
+    const past = this.past.filter((one) => one.square === q && one.number !== number);
+    this.past = [...past, { number, square: q, counts: countSquares(this.picture, q) }]
+      .slice(this.isMean ? -MEAN : -1);
     this.coarse.resize(width / q, height / q);
     const { pixels } = this.coarse, sums = new Float32Array(pixels.length);
     for (const { counts } of this.past) for (let k = 0; k < sums.length; k++) sums[k] += counts[k];
@@ -302,7 +294,7 @@ class Painter {
       : [Math.min, Math.max].map((pick) => sums.reduce((a, b) => pick(a, b)) / whole);
     const [low, high] = this.shades, factor = 255 / ((high - low) * whole || 1);
     for (let k = 0; k < sums.length; k++)
-      pixels[k] = SHADES[Math.max(0, Math.min(255, Math.round((sums[k] - low * whole) * factor)))];
+      pixels[k] = SHADES[clamp(Math.round((sums[k] - low * whole) * factor), 0, 255)];
     return this.coarse.put();
   }
 }
@@ -310,6 +302,7 @@ class Painter {
 // ---- which part of the gas is seen, and what is drawn above the cells: grid, ports, probes, marks
 const MONO = "600 14px ui-monospace, 'DejaVu Sans Mono', 'Liberation Mono', monospace";
 const MOST = 64;           // pixels a cell
+const ARROW = new Path2D("M-1-1 1 1M.05 1H1V.05");       // right and down
 
 class View extends Painter {
   left = 0;                // the cell at the canvas' left edge, with a fraction
@@ -321,20 +314,20 @@ class View extends Painter {
   probes = [];             // { rect, name }
   trail = [];              // cells of a particle that is followed
   onDraw = () => {};       // called after each drawing
-  #waits = false;
+  onFrame = () => this.draw();
+  #frame = null;           // asked for, and not yet there
 
   constructor(canvas) {
     super();
-    this.canvas = canvas;
-    this.context = canvas.getContext("2d");
-    this.onFrame = () => this.draw();
+    Object.assign(this, { canvas, context: canvas.getContext("2d") });
   }
 
   /** Draws with the next frame. */
   redraw() {
-    if (this.#waits) return;
-    this.#waits = true;
-    requestAnimationFrame(() => { this.#waits = false; this.onFrame(); });
+    this.#frame ??= requestAnimationFrame(() => {
+      this.#frame = null;
+      this.onFrame();
+    });
   }
 
   get size() { return [this.canvas.clientWidth, this.canvas.clientHeight]; }
@@ -354,14 +347,14 @@ class View extends Painter {
   zoom(factor, px, py) {
     if (!this.picture) return;
     const { scale, picture: { width, height }, size: [cw, ch] } = this;
-    this.scale = Math.max(Math.min(scale * factor, MOST), Math.min(cw / width, ch / height) * .75);
+    this.scale = clamp(scale * factor, Math.min(cw / width, ch / height) * .75, MOST);
     this.pan(px - px * this.scale / scale, py - py * this.scale / scale);
   }
 
   pan(dx, dy) {
     const { scale, picture: { width, height }, size: [cw, ch] } = this;
-    const bound = (from, side, shown) => shown >= side ? Math.min(Math.max(from, side - shown), 0)
-      : Math.min(Math.max(from, -shown * .1), side - shown * .9);
+    const bound = (from, side, shown) => shown >= side ? clamp(from, side - shown, 0)
+      : clamp(from, -shown * .1, side - shown * .9);
     this.fitted = false;
     this.left = bound(this.left - dx / scale, width, cw / scale);
     this.top = bound(this.top - dy / scale, height, ch / scale);
@@ -412,8 +405,8 @@ class View extends Painter {
       : this.paintCells(this.visible());
     Object.assign(c, { imageSmoothingEnabled: pixels < 1 && !isDensity, imageSmoothingQuality: "low" });
     c.drawImage(shown, ...all);
-    for (const [[x, y, w, h], kind] of isDensity ? this.solids() : []) this.fill(
-      COLOURS[kind === 2 ? "obstacle" : "wall"], this.box([x, y, Math.max(w, least), Math.max(h, least)]));
+    for (const [[x, y, w, h], kind] of isDensity ? this.solids() : [])
+      this.fill(COLOURS[KINDS[kind]], this.box([x, y, Math.max(w, least), Math.max(h, least)]));
     this.frame([all[0] - .5, all[1] - .5, all[2] + 1, all[3] + 1], [COLOURS.edge, 1]);
     if (scale >= ZOOM.grid && !isDensity) this.drawGrid();
     for (const drain of this.ports.drains) this.outline(drain, COLOURS.drainEdge, "drain");
@@ -440,19 +433,18 @@ class View extends Painter {
       c.setLineDash(dash);
       c.stroke(path);
     }
-    c.setLineDash([]);
   }
 
   frame(box, ...looks) { this.stroke(outlined(box), ...looks); }
 
   drawGrid() {
     const { scale } = this, t = this.parity, { x0, y0, x1, y1 } = this.visible();
-    const [left, top] = this.box([x0, y0, 0, 0]), [right, bottom] = this.box([x1, y1, 0, 0]);
+    const [left, top, w, h] = this.box([x0, y0, x1 - x0, y1 - y0]);
     const at = (cells, from) => Math.round((cells - from) * scale) + .5;
     const lines = (x, y, step, ...look) => {
       let path = "";
-      for (; x <= x1; x += step) path += `M${at(x, this.left)} ${top}V${bottom}`;
-      for (; y <= y1; y += step) path += `M${left} ${at(y, this.top)}H${right}`;
+      for (; x <= x1; x += step) path += `M${at(x, this.left)} ${top}v${h}`;
+      for (; y <= y1; y += step) path += `M${left} ${at(y, this.top)}h${w}`;
       this.stroke(new Path2D(path), look);
     };
     lines(x0, y0, 1, COLOURS.grid, 1);
@@ -482,11 +474,9 @@ class View extends Painter {
     const { context: c, scale } = this, r = scale * .27, light = new Path2D(), dark = new Path2D();
     for (let y = y0; y < y1; y++) for (let x = x0; x < x1; x++) {
       if (!this.has(x, y)) continue;
-      const [vx, vy] = this.way(x, y), [mx, my] = this.box([x + .5, y + .5, 0, 0]);
-      const ex = mx + vx * r, ey = my + vy * r, isYellow = this.mode === "velocity" && vx !== vy;
-      const arrow = `M${mx - vx * r} ${my - vy * r}L${ex} ${ey}M${ex - vx * r * .95} ${ey}h${vx * r * .95}`;
-      const path = isYellow || this.isSolidAt(x, y) ? dark : light;
-      path.addPath(new Path2D(`${arrow}v${-vy * r * .95}`));
+      const [vx, vy] = this.way(x, y), [e, f] = this.box([x + .5, y + .5, 0, 0]);
+      const isYellow = this.mode === "velocity" && vx !== vy;
+      (isYellow || this.isSolidAt(x, y) ? dark : light).addPath(ARROW, { a: vx * r, d: vy * r, e, f });
     }
     c.save();
     c.lineCap = c.lineJoin = "round";
@@ -553,7 +543,7 @@ class View extends Painter {
       this.frame(this.box([x - 1, y - 1, w + 2, h + 2]), [COLOURS.mark, 1.5, [4, 4]]);
     const below = top + tall + 12, above = top - 38 > 0 ? top - 38 : 6;
     if (!bad) this.tag(line, COLOURS.ink,
-      (wide) => [Math.min(Math.max(left, 4), cw - wide - 4), below + 26 < ch ? below : above],
+      (wide) => [clamp(left, 4, cw - wide - 4), below + 26 < ch ? below : above],
       { font: MONO, height: 26, pad: 8 });
   }
 }
