@@ -1,7 +1,7 @@
 // Tools, and the gestures and keys that use them.
 import { ALWAYS, CHOICES, CURSOR, FATES, ICONS, KEYS, KINDS, MOVES, SHARES, TOOLS, at, button, choices,
   choose, fill, h, icon, isRefusal, rove, state, toolOf, words } from "./base.js";
-import { ellipse, randomGas, rectangle, stroke, view } from "./canvas.js";
+import { clamp, ellipse, randomGas, rectangle, stroke, view } from "./canvas.js";
 import { plots } from "./plots.js";
 import { notice, hideNotice, speak } from "./notices.js";
 import { edits, send, pause, isWatching } from "./session.js";
@@ -230,7 +230,7 @@ const HOLD = 150;          // milliseconds that a finger stays before it draws
 const FAR = 8;             // pixels that a finger moves before it scrolls
 const pointers = new Map();
 const { canvas } = view;
-let gesture = null;        // { kind: "draw", "wait", "move", "pinch" or "over", .. }
+let gesture = null;        // { kind: "draw", "wait", "move" or "over", .. }
 
 const cellOf = (e) => view.place(e).map(Math.floor);
 
@@ -242,16 +242,16 @@ canvas.onpointerdown = (e) => {
   leaveCursor();
   clearTimeout(gesture?.timer);
   const cell = cellOf(e), canDraw = state.tool !== "look" && !e.altKey && view.holds(cell) && e.button === 0;
-  const place = { x: e.clientX, y: e.clientY };
+  const before = spread();
   if (pointers.size > 1) {
-    gesture = { kind: "pinch", before: spread() };
+    gesture = { kind: "move", before };
     view.select();
   } else if (e.button > 1) return;
   else if (e.pointerType === "touch")
-    gesture = { kind: "wait", cell, ...place, timer: canDraw && setTimeout(draw, HOLD, cell) };
+    gesture = { kind: "wait", cell, before, timer: canDraw && setTimeout(draw, HOLD, cell) };
   else if (canDraw) draw(cell);
   else {
-    gesture = { kind: "move", ...place };
+    gesture = { kind: "move", before };
     e.preventDefault();
   }
 };
@@ -259,14 +259,9 @@ canvas.onpointerdown = (e) => {
 canvas.onpointermove = (e) => {
   if (!view.picture) return;
   if (pointers.has(e.pointerId)) pointers.set(e.pointerId, e);
-  if (gesture?.kind === "wait" && Math.hypot(e.clientX - gesture.x, e.clientY - gesture.y) > FAR) {
-    clearTimeout(gesture.timer);
-    gesture.kind = "move";
-  }
   if (!gesture) describe(cellOf(e));
-  else if (gesture.kind === "pinch" && pointers.size > 1) pinch();
-  else if (gesture.kind === "move") move(e);
   else if (gesture.kind === "draw") draw(...gesture.cells, cellOf(e));
+  else if (gesture.kind !== "over") move(e);
 };
 
 canvas.onpointerup = canvas.onpointercancel = (e) => {
@@ -293,32 +288,29 @@ function draw(...cells) {
   preview(cells);
 }
 
+/** The middle of the pointers, and how far they are apart. */
 function spread() {
-  const [a, b] = [...pointers.values()], box = canvas.getBoundingClientRect();
-  return { far: Math.hypot(a.clientX - b.clientX, a.clientY - b.clientY),
-    x: (a.clientX + b.clientX) / 2 - box.left, y: (a.clientY + b.clientY) / 2 - box.top };
+  const all = [...pointers.values()], a = all[0], b = all.at(-1);
+  return { x: (a.x + b.x) / 2, y: (a.y + b.y) / 2, far: Math.hypot(a.x - b.x, a.y - b.y) };
 }
 
-function pinch() {
-  const now = spread(), { before } = gesture;
-  view.zoom(now.far / before.far, now.x, now.y);
-  view.pan(now.x - before.x, now.y - before.y);
-  gesture.before = now;
-}
-
-/** Moves the gas. A finger on a gas that is seen whole scrolls the page. */
-function move({ clientX: x, clientY: y, pointerType }) {
-  if (pointerType === "touch" && view.fitted) scrollBy(0, gesture.y - y);
-  else view.pan(x - gesture.x, y - gesture.y);
-  Object.assign(gesture, { x, y });
+/** Moves the gas, and zooms it by two fingers. One on a gas that is seen whole scrolls the page. */
+function move({ pointerType }) {
+  const now = spread(), { kind, before, timer } = gesture, dx = now.x - before.x, dy = now.y - before.y;
+  if (kind === "wait" && Math.hypot(dx, dy) <= FAR) return;
+  clearTimeout(timer);
+  const { left, top } = canvas.getBoundingClientRect();
+  if (pointers.size > 1) view.zoom(now.far / before.far, now.x - left, now.y - top);
+  if (pointerType === "touch" && view.fitted) scrollBy(0, -dy);
+  else view.pan(dx, dy);
+  gesture = { kind: "move", before: now };
 }
 
 /** Says what is in a cell, and what its block does next. */
 function describe([x, y]) {
   if (!view.holds([x, y])) { showWords(null); return; }
-  const { width, height } = view.picture, t = view.parity, [vx, vy] = view.way(x, y);
+  const { width, height } = view.picture, t = view.parity, way = `moves ${nameOf(view.way(x, y))}`;
   const kind = KINDS[view.ground[y * width + x]];
-  const way = `moves ${vx > 0 ? "right" : "left"} and ${vy > 0 ? "down" : "up"}`;
   const bx = (x - ((x + t) & 1) + width) % width, by = (y - ((y + t) & 1) + height) % height;
   const held = view.has(x, y) ? `particle, ${way}` : kind ? ""
     : state.tool === "put" ? `empty; a particle here ${way}` : "empty";
@@ -329,41 +321,37 @@ function describe([x, y]) {
 // ---- keys
 const DOES = { slower: () => setSpeed(state.speed - 1), faster: () => setSpeed(state.speed + 1),
   entry: () => at("entry").focus() };
-let cursor = null;         // { cell, from }: the cell, and the first corner once that is set
+let corner = null;         // the first one, once the cell cursor has set it
 
 function leaveCursor() {
-  if (!cursor) return;
-  cursor = view.cursor = null;
+  if (!view.cursor) return;
+  view.cursor = corner = null;
   view.select();
   showWords(null);
 }
 
 /** Takes a key on the gas. Returns whether it was one of the cursor's. */
 function cursorKey({ key, shiftKey }) {
-  const isEnter = key === ALWAYS.draw.key;
+  const isEnter = key === ALWAYS.draw.key, { cursor } = view, first = corner;
   if (cursor && key === ALWAYS.leave.key) { leaveCursor(); return true; }
   if (!(cursor ? isEnter || MOVES[key] : isEnter && toolOf(state.tool).colour)) return false;
-  const { x0, y0, x1, y1 } = view.visible();
-  if (!cursor) cursor = { cell: [(x0 + x1) >> 1, (y0 + y1) >> 1], from: null };
+  const { x0, y0, x1, y1 } = view.visible(), last = lastCell(), by = shiftKey ? 8 : 1;
+  if (!cursor) view.cursor = [(x0 + x1) >> 1, (y0 + y1) >> 1];
   else if (isEnter) {
-    const { cell, from } = cursor;
-    cursor.from = from ? null : cell;
-    if (from) act([from, cell]);
+    corner = first ? null : cursor;
+    if (first) act([first, cursor]);
   } else {
-    const last = lastCell(), move = (k) => MOVES[key][k] * (shiftKey ? 8 : 1);
-    cursor.cell = cursor.cell.map((v, k) => Math.max(0, Math.min(last[k], v + move(k))));
-    view.follow(cursor.cell);
+    view.cursor = cursor.map((v, k) => clamp(v + MOVES[key][k] * by, 0, last[k]));
+    view.follow(view.cursor);
   }
   showCursor();
   return true;
 }
 
 function showCursor() {
-  const { cell, from } = cursor;
-  view.cursor = cell;
-  if (from) preview([from, cell]);
+  if (corner) preview([corner, view.cursor]);
   else view.redraw();
-  showWords(words(`Cell \`${cell.join(" ")}\`. ${from ? CURSOR.second : CURSOR.first}`, "b"), true);
+  showWords(words(`Cell \`${view.cursor.join(" ")}\`. ${corner ? CURSOR.second : CURSOR.first}`, "b"), true);
 }
 
 /** What a key does, or nothing. */
