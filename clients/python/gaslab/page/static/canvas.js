@@ -204,13 +204,13 @@ class Painter {
   way(x, y) { const t = this.parity; return [(x + t) & 1 ? -1 : 1, (y + t) & 1 ? -1 : 1]; }
   isSolidAt(x, y) { return isSolid(this.ground[y * this.picture.width + x]); }
 
-  /** What a block does in the next step: empty, passes, collides or bounces. */
-  fate(x, y) {
-    const { width, height } = this.picture, xs = [x, (x + 1) % width], ys = [y, (y + 1) % height];
-    const cells = [[xs[0], ys[0]], [xs[1], ys[0]], [xs[0], ys[1]], [xs[1], ys[1]]];
-    const held = cells.map(([i, j]) => this.has(i, j)), n = held[0] + held[1] + held[2] + held[3];
+  /** What a block of this gas, or of one of the same size, does in a step: a name in FATES. */
+  fate(x, y, gas = this) {
+    const { width, height } = this.picture;
+    const cells = [0, 1, 2, 3].map((k) => [(x + (k & 1)) % width, (y + (k >> 1)) % height]);
+    const held = cells.map((cell) => gas.has(...cell)), n = held.filter(Boolean).length;
     if (n === 0) return "empty";
-    if (cells.some(([i, j]) => this.isSolidAt(i, j))) return "bounces";
+    if (cells.some((cell) => gas.isSolidAt(...cell))) return "bounces";
     return n === 2 && held[0] === held[3] ? "collides" : "passes";
   }
 
@@ -372,12 +372,6 @@ class View extends Painter {
     if (dx || dy) this.pan(-dx, -dy);
   }
 
-  /** The place in cells, with fractions, of a pointer event. */
-  place(event) {
-    const { left, top } = this.canvas.getBoundingClientRect();
-    return [this.left + (event.clientX - left) / this.scale, this.top + (event.clientY - top) / this.scale];
-  }
-
   holds([x, y]) { return x >= 0 && y >= 0 && x < this.picture.width && y < this.picture.height; }
 
   /** A rectangle of cells in CSS pixels of the canvas. */
@@ -385,11 +379,12 @@ class View extends Painter {
     return [(x - this.left) * this.scale, (y - this.top) * this.scale, w * this.scale, h * this.scale];
   }
 
+  /** The cell at a place in CSS pixels of the canvas. */
+  cellAt(px, py) { return [this.left + px / this.scale, this.top + py / this.scale].map(Math.floor); }
+
   visible() {
-    const { width, height } = this.picture, [cw, ch] = this.size, from = (v) => Math.max(0, Math.floor(v));
-    return { x0: from(this.left), y0: from(this.top),
-      x1: Math.min(width, Math.ceil(this.left + cw / this.scale)),
-      y1: Math.min(height, Math.ceil(this.top + ch / this.scale)) };
+    const [x0, y0, w, h] = rectangle(this.cellAt(0, 0), this.cellAt(...this.size), this.picture);
+    return { x0, y0, x1: x0 + w, y1: y0 + h };
   }
 
   draw() {

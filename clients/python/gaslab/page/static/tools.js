@@ -115,12 +115,9 @@ function followAt([x, y]) {
 function nextCell(gas, [x, y], isBack) {
   const { width, height } = gas, t = isBack ? gas.tick - 1 : gas.tick, [u, v] = [(x + t) & 1, (y + t) & 1];
   const cell = (i, j) => [(x - u + i + width) % width, (y - v + j + height) % height];
-  const has = (set, i, j) => gas.has(...cell(i, j), set);
-  const isSolid = (k) => has(gas.walls, k & 1, k >> 1) || has(gas.obstacles, k & 1, k >> 1);
-  if ([0, 1, 2, 3].some(isSolid)) return [x, y];
-  const isLone = has(gas.particles, 1 - u, 1 - v) && !has(gas.particles, 1 - u, v)
-    && !has(gas.particles, u, 1 - v);
-  if (!isLone) return cell(1 - u, 1 - v);
+  const fate = view.fate(...cell(0, 0), gas);
+  if (fate === "bounces") return [x, y];
+  if (fate === "passes") return cell(1 - u, 1 - v);
   return (u === v) !== isBack ? cell(u, 1 - v) : cell(1 - u, v);
 }
 
@@ -232,7 +229,7 @@ const pointers = new Map();
 const { canvas } = view;
 let gesture = null;        // { kind: "draw", "wait", "move" or "over", .. }
 
-const cellOf = (e) => view.place(e).map(Math.floor);
+const cellOf = (e) => view.cellAt(e.offsetX, e.offsetY);
 
 canvas.onpointerdown = (e) => {
   if (!view.picture) return;
