@@ -121,18 +121,6 @@ function nextCell(gas, [x, y], isBack) {
   return (u === v) !== isBack ? cell(u, 1 - v) : cell(1 - u, v);
 }
 
-/** The cells of a particle through some steps of a gas, up to where it is drained. */
-function cellsOf(lab, cell, n) {
-  const cells = [], { gas } = lab;
-  for (let k = 0; k < Math.abs(n); k++) {
-    const next = nextCell(gas, cells.at(-1) ?? cell, n < 0);
-    if (n < 0) lab.back(); else lab.forward();
-    if (!gas.has(...next)) break;
-    cells.push(next);
-  }
-  return cells;
-}
-
 function lose(text) {
   followed = null;
   notice({ title: "No longer followed", text });
@@ -141,12 +129,15 @@ function lose(text) {
 
 function followOn() {
   if (!followed) return;
-  const lab = new Lab(fromSnapshot(followed)), { gas } = lab, { picture } = view;
-  const n = picture.tick - gas.tick;
+  const lab = new Lab(fromSnapshot(followed)), { gas } = lab, { picture } = view, trail = [...view.trail];
+  const n = picture.tick - gas.tick, isBack = n < 0;
   if (gas.width !== picture.width || gas.height !== picture.height) { mark([]); return; }
   if (Math.abs(n) > FARTHEST) { lose(`Its way is lost: ${Math.abs(n)} steps were made at once.`); return; }
-  const trail = [...view.trail, ...cellsOf(lab, view.trail.at(-1), n)];
-  if (trail.length < view.trail.length + Math.abs(n)) { lose("It was drained."); return; }
+  while (gas.tick !== picture.tick) {
+    trail.push(nextCell(gas, trail.at(-1), isBack));
+    if (isBack) lab.back(); else lab.forward();
+    if (!gas.has(...trail.at(-1))) { lose("It was drained."); return; }
+  }
   const isSame = n === 0 || toBytes(gas.particles).every((byte, k) => byte === picture.particles[k]);
   if (isSame && view.has(...trail.at(-1))) mark(trail);
   else lose("Its way is lost: the gas was changed.");
