@@ -156,30 +156,27 @@ class Painter {
     const { width, height } = picture, { picture: before } = this;
     const resized = before?.width !== width || before.height !== height;
     if (resized && !(picture.walls && picture.ports)) throw new RangeError("walls and ports");
-    this.picture = picture;
     this.remember(picture, resized);
     const { walls = this.walls, obstacles = this.obstacles, ports = this.ports } = picture;
-    Object.assign(this, { walls, obstacles, ports });
+    Object.assign(this, { picture, walls, obstacles, ports });
     if (resized) {
       this.full.resize(width, height);
       this.square = width * height <= 1 << 16 ? 4 : width * height <= BIG ? 8 : 16;
       this.past = [];
     }
-    if (resized || picture.walls || picture.ports) this.remark();
+    if (picture.walls || picture.ports) this.remark();
     return resized;
   }
 
   /** Keeps the last pictures of four ticks for a mean, where single ticks would flash: WCAG 2.3.1. */
   remember(p, isOther) {
-    const before = this.recent.at(-1);
-    const isNew = isOther || !p.playing || before && p.number < before.number;
-    if (isNew) { this.recent = []; this.isCalm = false; }
+    const isNew = isOther || !p.playing || p.number < this.recent.at(-1)?.number;
+    const canFlash = p.playing && p.rate > 3 && p.width * p.height <= BIG;
     // one of each, also when pictures are skipped
     const phase = Math.floor(p.tick / Math.max(p.steps, 1)) & 3;
-    this.recent = this.recent.filter((r) => r.phase !== phase && p.number - r.number < STALE);
-    this.recent.push({ phase, number: p.number, tick: p.tick, particles: p.particles });
-    if (!p.playing || p.rate <= 3 || p.width * p.height > BIG) this.isCalm = false;
-    else if (2 * p.tally[0] * this.scale ** 2 > FLASHING) this.isCalm = true;
+    const kept = this.recent.filter((r) => !isNew && r.phase !== phase && p.number - r.number < STALE);
+    this.recent = [...kept, { phase, number: p.number, tick: p.tick, particles: p.particles }];
+    this.isCalm = canFlash && (this.isCalm && !isNew || 2 * p.tally[0] * this.scale ** 2 > FLASHING);
   }
 
   /** Finds what each cell lies on. */
@@ -361,15 +358,13 @@ class View extends Painter {
     this.redraw();
   }
 
-  /** Shows what is being drawn, or nothing. */
   select(selection = null) { this.selection = selection; this.redraw(); }
 
   /** Moves so that a cell is seen. */
   follow([x, y]) {
     const { scale, size: [cw, ch] } = this, [px, py] = this.box([x + .5, y + .5, 0, 0]);
-    const over = (v, side) => v < scale ? v - scale : v > side - scale ? v - side + scale : 0;
-    const dx = over(px, cw), dy = over(py, ch);
-    if (dx || dy) this.pan(-dx, -dy);
+    const dx = clamp(px, scale, cw - scale) - px, dy = clamp(py, scale, ch - scale) - py;
+    if (dx || dy) this.pan(dx, dy);
   }
 
   holds([x, y]) { return x >= 0 && y >= 0 && x < this.picture.width && y < this.picture.height; }
