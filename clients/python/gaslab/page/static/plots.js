@@ -8,8 +8,8 @@ const POINTS = 1500;       // points of a plot before every second one is droppe
 const RECORDS = 20000;     // readings that are kept for a table
 const KEPT = 3;            // runs: the present one, and paler the two before it
 const NOTES = 12;
-const LOOK = { connectSeparatedPoints: true, labelsKMB: false, gridLineColor: COLOURS.line, axisLineWidth: 1,
-  axisLineColor: COLOURS.edge, rightGap: 8, xRangePad: 0, highlightCircleSize: 4, interactionModel: {} };
+const LOOK = { connectSeparatedPoints: true, includeZero: true, gridLineColor: COLOURS.line, axisLineWidth: 1,
+  axisLineColor: COLOURS.edge, rightGap: 8, highlightCircleSize: 4, interactionModel: {} };
 
 /** Mean of −ρ ln ρ − (1−ρ) ln(1−ρ) over squares of 8 by 8 cells. */
 export function entropy(picture) {
@@ -30,12 +30,11 @@ function valuesOf(id, { run, way, probes, [id]: value }) {
 class Plots {
   shown = [];
   graphs = {};
-  drawn = 0;
-  late = null;
+  #timer = null;
 
   constructor() {
-    const others = (id) => this.shown.filter((one) => one !== id);
-    const toggle = (id) => this.choose(this.shown.includes(id) ? others(id) : [...this.shown, id]);
+    const ids = Object.keys(PLOTS);
+    const toggle = (id) => this.choose(ids.filter((one) => this.shown.includes(one) !== (one === id)));
     this.clear();
     document.querySelector("#plots .chips").append(...Object.entries(PLOTS).map(([id, { name, unit }]) =>
       h("button", { "data-plot": id, title: unit, onclick: () => toggle(id) }, name)));
@@ -63,17 +62,15 @@ class Plots {
 
   /** Takes the values of a picture. A change of way begins a new run, whose values stay apart. */
   add(p) {
-    const { last } = this;
-    if (last?.tick !== p.tick) {
-      const way = last && p.tick < last.tick ? ", back" : "";
+    const { last } = this, { tick, ledger } = p;
+    if (last?.tick !== tick) {
+      const way = last && tick < last.tick ? ", back" : "";
       if (way !== this.way) {
-        Object.assign(this, { run: this.run + 1, way,
-          recent: last ? [{ tick: last.tick, sum: last.ledger[7] }] : [] });
+        Object.assign(this, { run: this.run + 1, way, recent: this.recent.slice(-1) });
         if (last) this.putValues(last);
       }
-      this.recent.push({ tick: p.tick, sum: p.ledger[7] });
-      while (this.recent.length > 2 && Math.abs(p.tick - this.recent[1].tick) >= 2 * WINDOW)
-        this.recent.shift();
+      this.recent.push({ tick, sum: ledger[7] });
+      this.recent.splice(0, this.recent.findLastIndex((r) => Math.abs(tick - r.tick) >= 2 * WINDOW));
     }
     this.last = p;
     this.putValues(p);
@@ -134,13 +131,10 @@ class Plots {
       h("code", lines[0].slice(0, 40)), lines.length > 1 && ` and ${lines.length - 1} more`)));
   }
 
+  /** Draws the plots now, or soon: pictures come faster than curves need to be drawn. */
   redraw(now = false) {
-    if (!now && performance.now() - this.drawn < 100) {
-      this.late ??= setTimeout(() => { this.late = null; this.redraw(true); }, 100);
-      return;
-    }
-    this.drawn = performance.now();
-    for (const id of this.shown) this.drawOne(id);
+    if (now) for (const id of this.shown) this.drawOne(id);
+    else this.#timer ??= setTimeout(() => { this.#timer = null; this.redraw(true); }, 100);
   }
 
   drawOne(id) {
@@ -164,13 +158,12 @@ class Plots {
   }
 
   drawCurve(id, box, { rows, names }) {
-    const values = rows.flatMap(([, ...row]) => row).filter((v) => v !== null), { most } = PLOTS[id];
-    const max = Math.max(...values, 0), min = Math.min(...values, 0), room = (max - min || 1) * .12;
-    const valueRange = [min < 0 ? min - room : 0, most ? most * 1.06 : max === min ? 1 : max + room];
-    const dateWindow = [rows[0][0], Math.max(rows.at(-1)[0], rows[0][0] + 12)], isWide = max >= 1e5;
+    const { most } = PLOTS[id], valueRange = most ? [0, most * 1.06] : null;
+    const dateWindow = [rows[0][0], Math.max(rows.at(-1)[0], rows[0][0] + 12)];
+    const isWide = rows.some(([, ...row]) => Math.max(...row) >= 1e5);
     const font = parseFloat(getComputedStyle(document.documentElement).fontSize) * .8;
     // dygraphs keeps a legend and its axes' widths: with others it is made anew
-    const kept = `${names.join()} ${isWide} ${this.run} ${font}`, axisLabelFormatter = (v) => say(v);
+    const kept = `${names.join()} ${isWide} ${this.run} ${font}`, axisLabelFormatter = say;
     if (this.graphs[id]?.kept === kept) {
       this.graphs[id].updateOptions({ file: rows, valueRange, dateWindow });
       return;
@@ -198,7 +191,8 @@ class Plots {
   /** A line and a number for each edit; the list below the plots has their lines. */
   drawNotes(c, area, graph, font) {
     c.save();
-    Object.assign(c, { font: `600 ${font}px ${SANS}`, textBaseline: "top", strokeStyle: COLOURS.mark });
+    Object.assign(c, { font: `600 ${font}px ${SANS}`, textBaseline: "top", textAlign: "center",
+      strokeStyle: COLOURS.mark, fillStyle: COLOURS.markInk });
     c.setLineDash([3, 3]);
     let free = -Infinity;
     this.notes.forEach(({ tick }, k) => {
@@ -207,10 +201,8 @@ class Plots {
       c.stroke(new Path2D(`M${x} ${area.y}v${area.h}`));
       if (x - w / 2 < free) return;
       free = x + w / 2 + 2;
-      c.fillStyle = COLOURS.veil;
-      c.fillRect(x - w / 2, area.y, w, font + 3);
-      c.fillStyle = COLOURS.markInk;
-      c.fillText(k + 1, x - w / 2 + 2, area.y + 2);
+      c.clearRect(x - w / 2, area.y, w, font + 3);
+      c.fillText(k + 1, x, area.y + 2);
     });
     c.restore();
   }
