@@ -42,7 +42,7 @@ function leave({ seat }) {
 /** Does what a page's message asks: lines with their numbers, or a snapshot to begin from. */
 function said(page, message) {
   const replies = typeof message === "string" ? message.split("\n").map((line) => numbered(page, line))
-    : [`0 ${upload(page, message)}`];
+    : [`0 ${upload(page, message) ?? "DONE"}`];
   const told = replies.filter(Boolean).join("\n");
   if (told) page.send(told);
   if (isDirty) show();
@@ -52,7 +52,7 @@ function said(page, message) {
 function numbered(page, text) {
   const [line, ...words] = text.split(" "), [word, ...rest] = words;
   const reply = !word?.startsWith(".") ? command(page, words.join(" "))
-    : Object.hasOwn(WORDS, word) ? WORDS[word](page, rest, Number(line)) : "NO word";
+    : Object.hasOwn(WORDS, word) ? WORDS[word](page, rest, Number(line)) ?? "DONE" : "NO word";
   return reply && `${line} ${reply}`;
 }
 
@@ -68,7 +68,6 @@ function command({ seat }, line) {
 
 function give({ send }, line, files) {
   for (const [name, contents] of Object.entries(files)) if (contents) send({ line, name, contents });
-  return "DONE";
 }
 
 function playOn({ seat }, to, steps, rate) {
@@ -79,19 +78,17 @@ function playOn({ seat }, to, steps, rate) {
   tell(`* play ${seat} ${steps} ${rate}`);
   due = performance.now();
   clock();
-  return "DONE";
 }
 
 function pause(why, seat = NOBODY) {
-  if (!play) return "DONE";
+  if (!play) return;
   play = null;
   isDirty = true;
   clearTimeout(timer);
   tell(`* pause ${seat} ${why}`);
-  return "DONE";
 }
 
-function watch(probes, reply = "DONE") {
+function watch(probes, reply) {
   now.probes = probes;
   isDirty = true;
   return reply;
@@ -112,7 +109,6 @@ function take({ seat }, other) {
   isNew = false;
   isDirty = true;
   tell(opened());
-  return "DONE";
 }
 
 function opened() {
@@ -169,16 +165,16 @@ function serve(page) {
     particles: toBytes(gas.particles), ...solids });
 }
 
-/** What each word of the page does, and its reply: MESSAGES.md. */
+/** What each word of the page does, and its reply if that isn't DONE: MESSAGES.md. */
 const WORDS = {
   ".drawn"(page) {
     page.undrawn = Math.max(0, page.undrawn - 1);
     serve(page);
+    return "";
   },
   ".name"(page, words) {
     page.name = words.join(" ").slice(0, 24);
     tell(`* seat ${page.seat} name ${page.name}`);
-    return "DONE";
   },
   ".script": (page, words, line) => give(page, line, { "gas.txt": script(), "start.gas": now.start }),
   ".snapshot": (page, words, line) => give(page, line, { "day.gas": snapshot(now.lab.gas) }),
