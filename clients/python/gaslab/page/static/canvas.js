@@ -232,18 +232,17 @@ class Painter {
     return this.full.put(x0, y0, x1 - x0, y1 - y0);
   }
 
-  colourOf(x, y, tick) {
-    return this.mode !== "velocity" ? C.particle
+  /** The colour of a particle in a cell of a kind. */
+  colourOf(kind, x, y, tick) {
+    return isSolid(kind) ? C.hit : this.mode !== "velocity" ? C.particle
       : [C.rightDown, C.leftDown, C.rightUp, C.leftUp][(y + tick & 1) << 1 | x + tick & 1];
   }
 
   /** The mean colours of each ground, parity of row and column, and pattern of pictures. */
   means(pictures) {
     const weights = WEIGHTS.slice(-pictures.length);
-    const colour = (kind, y, x, tick, isFull) => !isFull ? GROUNDS[kind] : isSolid(kind) ? C.hit
-      : this.colourOf(x, y, tick);
     return Uint32Array.from({ length: 320 }, (_, n) => mix(pictures.map(({ tick }, k) =>
-      colour(n >> 6, n >> 5 & 1, n >> 4 & 1, tick, n >> k & 1)), weights));
+      n >> k & 1 ? this.colourOf(n >> 6, n >> 4, n >> 5, tick) : GROUNDS[n >> 6]), weights));
   }
 
   /** Half as wide and high, for big lattices: a pixel is the mean of 2 by 2 cells. */
@@ -271,13 +270,12 @@ class Painter {
 
   /** The mean colours of the patterns of 2 by 2 cells on each ground: upper left is bit 3. */
   patterns() {
-    const { tick } = this.picture, all = [0, 1, 2, 3];
-    const colourOf = (pattern, k) => pattern >> (3 - k) & 1 ? this.colourOf(k & 1, k >> 1, tick) : C.empty;
-    return Uint32Array.from({ length: 80 }, (_, n) => isSolid(n >> 4) || !(n & 15) ? GROUNDS[n >> 4]
-      : mix(all.map((k) => colourOf(n, k)), [1, 1, 1, 1]));
+    const { tick } = this.picture, even = [1, 1, 1, 1];
+    const colour = (n, k) => n >> (3 - k) & 1 ? this.colourOf(n >> 4, k & 1, k >> 1, tick) : GROUNDS[n >> 4];
+    return Uint32Array.from({ length: 80 }, (_, n) => isSolid(n >> 4) ? GROUNDS[n >> 4]
+      : mix(even.map((_one, k) => colour(n, k)), even));
   }
 
-  /** The density in squares, one pixel a square. */
   paintDensity() {
     const { picture: { width, height, number }, square: q } = this;
     const past = this.past.filter((one) => one.square === q && one.number !== number);
@@ -319,7 +317,6 @@ class View extends Painter {
     Object.assign(this, { canvas, context: canvas.getContext("2d") });
   }
 
-  /** Draws with the next frame. */
   redraw() {
     this.#frame ??= requestAnimationFrame(() => {
       this.#frame = null;
