@@ -20,11 +20,12 @@ export function entropy(picture) {
 const halved = (list) => list.filter((_, k) => k % 2 === 0 || k === list.length - 1);
 const paler = (hex) => `rgb(${parts(hex).map((v) => Math.round(255 - (255 - v) * .4)).join()})`;
 
-/** The values of a plot in a record, [name of its column, value] each. */
-function valuesOf(id, { run, way, probes, [id]: value }) {
-  const column = `run ${run}${way}`;
-  if (id !== "probe") return value === null ? [] : [[column, value]];
-  return probes.map(({ key, rect, sums }) => [`probe ${key}, ${column}`, sums[0] / (rect[2] * rect[3])]);
+/** The values of a plot in a record, with its tick and the names of their columns. */
+function valuesOf(id, { run, way, tick, probes, [id]: value }) {
+  const name = `run ${run}${way}`;
+  if (id !== "probe") return value === null ? [] : [{ tick, name, value }];
+  return probes.map(({ key, rect: [, , w, h], sums: [count] }) =>
+    ({ tick, name: `probe ${key}, ${name}`, value: count / (w * h) }));
 }
 
 class Plots {
@@ -80,7 +81,7 @@ class Plots {
   drag({ tick, ledger }) {
     const far = this.recent.filter((r) => Math.abs(tick - r.tick) >= WINDOW);
     const first = far.findLast((r) => (tick - r.tick) % 4 === 0) ?? far.at(-1) ?? this.recent[0];
-    const span = first ? tick - first.tick : 0;
+    const span = tick - first.tick;
     return Math.abs(span) >= 4 ? (ledger[7] - first.sum) / span : null;
   }
 
@@ -96,13 +97,11 @@ class Plots {
   curves(id) {
     let kept = this.records.filter(({ run }) => run > this.run - KEPT);
     while (kept.length > POINTS) kept = halved(kept);
-    const rows = new Map(), all = kept.map((record) => [record.tick, valuesOf(id, record)]);
-    const names = [...new Set(all.flatMap(([, values]) => values.map(([name]) => name)))];
-    for (const [tick, values] of all) for (const [name, value] of values) {
-      if (!rows.has(tick)) rows.set(tick, [tick, ...names.map(() => null)]);
-      rows.get(tick)[names.indexOf(name) + 1] = value;
-    }
-    return { names, rows: [...rows.values()].sort(([a], [b]) => a - b) };
+    const all = kept.flatMap((record) => valuesOf(id, record));
+    const names = [...new Set(all.map(({ name }) => name))];
+    const rows = [...Map.groupBy(all, ({ tick }) => tick)].map(([tick, values]) =>
+      [tick, ...names.map((name) => values.findLast((one) => one.name === name)?.value ?? null)]);
+    return { names, rows: rows.sort(([a], [b]) => a - b) };
   }
 
   /** The readings of all pictures as a table of comma-separated values, oldest first. */
@@ -154,7 +153,7 @@ class Plots {
   value(id) {
     const record = this.records.findLast((one) => one.run === this.run && valuesOf(id, one).length);
     const values = record && this.last ? valuesOf(id, record) : [];
-    return values.length === 1 ? say(values[0][1]) : "";
+    return values.length === 1 ? say(values[0].value) : "";
   }
 
   drawCurve(id, box, { rows, names }) {
@@ -211,18 +210,17 @@ class Plots {
     const box = at(`plot-${id}`), from = box.getBoundingClientRect(), ratio = 2;
     const canvas = h("canvas", { width: from.width * ratio, height: (from.height + 26) * ratio });
     const c = canvas.getContext("2d");
-    c.scale(ratio, ratio);
     c.fillStyle = COLOURS.white;
-    c.fillRect(0, 0, from.width, from.height + 26);
-    Object.assign(c, { fillStyle: COLOURS.ink, font: `600 14px ${SANS}` });
-    c.fillText(`${PLOTS[id].name}: ${PLOTS[id].unit}`, 4, 17);
-    c.textBaseline = "middle";
+    c.fillRect(0, 0, canvas.width, canvas.height);
+    c.setTransform(ratio, 0, 0, ratio, -from.left * ratio, (26 - from.top) * ratio);
+    Object.assign(c, { fillStyle: COLOURS.ink, font: `600 14px ${SANS}`, textBaseline: "middle" });
+    c.fillText(`${PLOTS[id].name}: ${PLOTS[id].unit}`, from.left + 4, from.top - 13);
     for (const part of box.querySelectorAll("canvas, .dygraph-axis-label")) {
       const { left, top, width, height } = part.getBoundingClientRect();
-      const x = left - from.left, y = top - from.top + 26, { font, textAlign } = getComputedStyle(part);
-      if (part instanceof HTMLCanvasElement) { c.drawImage(part, x, y, width, height); continue; }
+      const { font, textAlign } = getComputedStyle(part), share = { right: 1, center: .5 }[textAlign] ?? 0;
       Object.assign(c, { font, textAlign });
-      c.fillText(part.textContent, x + width * ({ right: 1, center: .5 }[textAlign] ?? 0), y + height / 2);
+      if (part instanceof HTMLCanvasElement) c.drawImage(part, left, top, width, height);
+      else c.fillText(part.textContent, left + share * width, top + height / 2);
     }
     return canvas;
   }
