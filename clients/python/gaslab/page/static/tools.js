@@ -332,17 +332,12 @@ function cursorKey({ key, shiftKey }) {
     view.cursor = cursor.map((v, k) => clamp(v + MOVES[key][k] * by, 0, last[k]));
     view.follow(view.cursor);
   }
-  showCursor();
-  return true;
-}
-
-function showCursor() {
   if (corner) preview([corner, view.cursor]);
   else view.redraw();
   showWords(words(`Cell \`${view.cursor.join(" ")}\`. ${corner ? CURSOR.second : CURSOR.first}`, "b"), true);
+  return true;
 }
 
-/** What a key does, or nothing. */
 function doesOf({ key, target, shiftKey }) {
   const name = key.length === 1 ? key.toLowerCase() : key;
   const known = KEYS.find((it) => it.key === name || it.also === name), button = at(known?.button);
