@@ -229,17 +229,15 @@ canvas.onpointerdown = (e) => {
   hideNotice();
   leaveCursor();
   clearTimeout(gesture?.timer);
-  const cell = cellOf(e), canDraw = state.tool !== "look" && !e.altKey && view.holds(cell) && e.button === 0;
-  const before = spread();
-  if (pointers.size > 1) {
-    gesture = { kind: "move", before };
-    view.select();
-  } else if (e.button > 1) return;
-  else if (e.pointerType === "touch")
+  const cell = cellOf(e), before = spread(), isLone = pointers.size === 1;
+  const canDraw = state.tool !== "look" && !e.altKey && view.holds(cell) && e.button === 0;
+  if (isLone && e.button > 1) return;
+  if (isLone && e.pointerType === "touch")
     gesture = { kind: "wait", cell, before, timer: canDraw && setTimeout(draw, HOLD, cell) };
-  else if (canDraw) draw(cell);
+  else if (isLone && canDraw) draw(cell);
   else {
     gesture = { kind: "move", before };
+    view.select();
     e.preventDefault();
   }
 };
@@ -258,8 +256,7 @@ canvas.onpointerup = canvas.onpointercancel = (e) => {
   gesture = pointers.size > 0 ? { kind: "over" } : null;           // a finger that stays draws nothing
   clearTimeout(was?.timer);
   if (was?.kind === "wait") describe(was.cell);
-  if (was?.kind !== "draw") return;
-  if (e.type === "pointerup") act(was.cells);
+  else if (was?.kind === "draw" && e.type === "pointerup") act(was.cells);
   else view.select();
 };
 
