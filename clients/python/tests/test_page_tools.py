@@ -100,6 +100,28 @@ class Gates(PageCase):
                                 ["0", "1", "0", "0"], ["1", "0", "0", "0"], ["1", "1", "1", "1"]])
         self.assertEqual(self.state(), before)
 
+    def test_a_truth_table_pauses_the_gas_before_it_reads_the_inputs(self):
+        """Else it would put back what was there a tick before, and the run undone would not be the start."""
+        self.open("3")
+        start = self.state()
+        self.value("document.getElementById('play').click()")
+        self.run_to(2)
+        self.value("document.getElementById('table-open').click()")
+        # some ticks pass until the pause
+        self.value("""(() => {
+            const { link } = laboratory.lab, send = link.send.bind(link);
+            link.send = async (lines) => {
+              if (lines[0] === ".pause") await new Promise((done) => setTimeout(done, 200));
+              return send(lines);
+            }; })()""")
+        self.value("document.querySelector('#popover [aria-label=Inputs]').value = "
+                   "'12 12, 13 13, 14 14, 15 15, 16 16'")
+        self.value("document.querySelector('#popover form').requestSubmit()")
+        self.browser.wait("document.querySelectorAll('.truth tbody tr').length", 32)
+        self.settle()
+        self.send(f"back {self.tick()}")
+        self.assertEqual(self.state(), start)
+
     def test_a_script_is_placed_by_an_even_offset(self):
         self.open("empty")
         script = list(b"put 10 10 1 1\nrow 3 0000000000000c01\nwall 4 4 2 2\nstep 5\nput 0 0 1 1\n")
