@@ -135,6 +135,23 @@ class Gates(PageCase):
         self.assertIn("must be odd", self.value(place % (script, [-4, 4]))["fault"])
 
 
+class CommandLine(PageCase):
+    def helped(self, word):
+        """How many commands the help to a word tells."""
+        self.open("empty")
+        self.value("""((line) => {
+            const form = document.getElementById("form");
+            form.querySelector("input").value = line;
+            form.requestSubmit(); })('help %s')""" % word)
+        return self.value("document.querySelectorAll('#log .help').length")
+
+    def test_help_tells_one_command_or_all(self):
+        """A word that is no command gets all of them, even if each object has something of that name."""
+        self.assertEqual(self.helped("wall"), 1)
+        self.assertEqual(self.helped("constructor"), self.helped("nonsense"))
+        self.assertGreater(self.helped("nonsense"), 15)
+
+
 class StrokesInFirefox(Strokes):
     program, make_browser = FIREFOX, Firefox
 
