@@ -265,7 +265,7 @@ function share() {
     ...plots.shown.filter((id) => plots.graphs[id]).map((id) =>
       give(`Plot: ${id}`, "The curve with its axes, as PNG.", () => savePicture(plots.picture(id), id))),
     give("Picture", "The cells as they are shown, as PNG.", () => savePicture()),
-    give("Film", "The next 60 pictures, as GIF. Press play first.", saveFilm),
+    give("Film", "The next 60 pictures, as a video. Press play first.", saveFilm),
     ...Object.entries(state.links).map(giveLink),
     ...state.program === "page" ? [] : [give("A page of its own",
       "One HTML file with lessons and engine, which needs no program and no network.",
