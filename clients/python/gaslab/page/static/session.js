@@ -110,10 +110,9 @@ export class Link {
 }
 
 // ---- edits that can be undone: one list of all, newest last. What can't be undone stays in it and says why
-const MOST = 100, PLANES = ["particles", "walls", "obstacles"], SOLIDS = PLANES.slice(1);
+const MOST = 100, CELLS = ["particles"], SOLIDS = ["walls", "obstacles"];
 /** The planes that a command can change. Others change ports. */
-const CHANGES = { put: ["particles"], erase: ["particles"], row: ["particles"], wall: SOLIDS, block: SOLIDS,
-  unwall: SOLIDS };
+const CHANGES = { put: CELLS, erase: CELLS, row: CELLS, wall: SOLIDS, block: SOLIDS, unwall: SOLIDS };
 const textOf = (word) => (rect) => `${word} ${rect.join(" ")}`;
 
 class Edits {
@@ -135,16 +134,15 @@ class Edits {
   get lab() { return this.made ??= new Lab(fromSnapshot(snapshotOf(view))); }
   get gas() { return this.lab.gas; }
 
-  /** Keeps of the planes before the edit only what it can have changed. */
+  /** Keeps of the planes before the edit only the rows that it can have changed. */
   close() {
     const { open } = this;
     this.open = null;
-    if (!open) return;
-    const { gas } = this, [, y, , h] = open.rect ?? [0, 0, 0, 0];
-    const cut = (set) => set.slice(y * gas.words, (y + h) * gas.words);
-    for (const name of PLANES) if (open.parts.has(name)) open.before[name] = cut(open.whole[name]);
-    open.after = cut(gas.particles);
-    delete open.whole;
+    if (!open?.rect) return;
+    const { gas: { words, particles } } = this, [, y, , h] = open.rect;
+    const cut = (set) => set.slice(y * words, (y + h) * words);
+    for (const [name, it] of Object.entries(open.before)) if (name !== "ports") open.before[name] = cut(it);
+    open.after = cut(particles);
   }
 
   /** An entry of the journal. `by` is the seat if it is another one, and else null. */
@@ -163,17 +161,16 @@ class Edits {
   }
 
   note(word, numbers, line, by) {
-    const { drains, sources, tick, width } = this.gas;
+    const { gas } = this, { drains, sources, tick, width } = gas;
     if (!this.open) {
-      const whole = Object.fromEntries(PLANES.map((name) => [name, this.gas[name].slice()]));
-      this.open = { lines: [], by, rect: null, tick, hasMoved: this.isMoving, parts: new Set(),
-        before: { ports: { drains, sources } }, whole };
+      this.open = { lines: [], by, rect: null, tick, hasMoved: this.isMoving, before: {} };
       this.list = [...this.list, this.open].slice(-MOST);
     }
-    const { open } = this;
+    const { open, open: { before } } = this;
     open.lines.push(line);
-    for (const name of CHANGES[word] ?? ["ports"]) open.parts.add(name);
-    if (CHANGES[word]) open.rect = around(word === "row" ? [0, numbers[0], width, 1] : numbers, open.rect);
+    for (const name of CHANGES[word] ?? []) before[name] ??= gas[name].slice();
+    if (!CHANGES[word]) before.ports ??= { drains, sources };
+    else open.rect = around(word === "row" ? [0, numbers[0], width, 1] : numbers, open.rect);
   }
 
   label() {
@@ -187,10 +184,9 @@ class Edits {
     if (!last) return { why: "There is nothing to undo." };
     if (last.by !== null)
       return { why: `Seat ${last.by} made the last change: ${this.label()}. Undo stops at it.` };
-    const { gas } = this, { parts, rect } = last;
-    const lines = [...parts.has("ports") ? this.portLines(last) : [],
-      ...parts.has("walls") ? this.solidLines(last) : []];
-    if (!parts.has("particles")) return { lines };
+    const { gas } = this, { before, rect } = last;
+    const lines = [...before.ports ? this.portLines(last) : [], ...before.walls ? this.solidLines(last) : []];
+    if (!before.particles) return { lines };
     const isSame = !last.hasMoved && !this.isMoving && gas.tick === last.tick
       && last.after.every((v, k) => v === gas.particles[rect[1] * gas.words + k]);
     if (isSame) return { lines: [...lines, ...this.cellLines(last)] };
@@ -215,10 +211,8 @@ class Edits {
     const [hasBlock, hadBlock] = this.tests("obstacles", edit);
     const isGone = (x, y) => hasWall(x, y) && !hadWall(x, y) || hasBlock(x, y) && !hadBlock(x, y);
     const isLost = (has, had) => (x, y) => had(x, y) && (!has(x, y) || isGone(x, y));
-    const least = [...lines("unwall", isGone), ...lines("wall", isLost(hasWall, hadWall)),
+    return [...lines("unwall", isGone), ...lines("wall", isLost(hasWall, hadWall)),
       ...lines("block", isLost(hasBlock, hadBlock))];
-    const anew = [textOf("unwall")(rect), ...lines("wall", hadWall), ...lines("block", hadBlock)];
-    return anew.length < least.length ? anew : least;
   }
 
   /** Rectangles, or whole rows where these are fewer. */
