@@ -6,6 +6,7 @@ import sys
 import unittest
 
 from .browser import CHROMIUM, Browser
+from .page_case import CALLOUT
 from .test_lab import ROOT, STAND_IN
 
 MARKUP = "<img src=x onerror=alert(1)>"
@@ -48,6 +49,17 @@ class InABrowser(unittest.TestCase):
             browser.value(f"laboratory.send([{json.dumps(MARKUP)}])")
             browser.wait("document.getElementById('log').textContent.includes('onerror=alert')", True)
             self.assertEqual(browser.value("document.querySelectorAll('img').length"), 0)
+            self.assertEqual(browser.errors, [])
+
+    def test_a_watcher_is_answered(self):
+        """The server refuses what would change the gas, and the page says whom to ask."""
+        with Started("--program", STAND_IN) as server, Browser(server.links[1]) as browser:
+            browser.wait("globalThis.laboratory?.lab.picture != null", True)
+            for name in ("play", "step", "rewind"):
+                browser.value(f"document.querySelector('#callout .close')?.click();"
+                              f"document.getElementById('{name}').click()")
+                browser.wait(f"({CALLOUT}).includes('Your seat only watches')", True)
+            self.assertEqual(browser.value("[laboratory.lab.playing, laboratory.lab.picture.tick]"), [False, 0])
             self.assertEqual(browser.errors, [])
 
     def test_a_server_that_goes(self):

@@ -130,7 +130,8 @@ class Spoken(PageCase):
 
     def test_a_watcher_is_answered(self):
         self.open("8")
-        self.value("laboratory.lab.change({ rights: 'watch' })")
+        self.value("laboratory.lab.change({ rights: 'watch' });"
+                   "laboratory.lab.link.send = async (lines) => lines.map(() => 'NO watch')")
         for act in ("document.getElementById('play').click()", "document.getElementById('step').click()"):
             self.value("document.querySelector('#callout .close')?.click()")
             self.value(act)

@@ -136,7 +136,7 @@ class State extends EventTarget {
   furthest = 0;
   acted = -Infinity;           // the last tick at which there were ports
   pace = null;                 // a second's pictures and steps: { drawn, made, steps, asked }
-  refusedBack = 0;             // how often a way back was asked for that is none
+  refusedAt = -Infinity;       // when a way back was asked for that is none
   keysOn = true;               // single keys act
 
   constructor() { super(); Object.seal(this); }
@@ -150,8 +150,6 @@ class State extends EventTarget {
   on(names, show) {
     this.addEventListener("changed", ({ detail }) => { if (names.some((name) => name in detail)) show(); });
   }
-
-  get isOff() { return this.rights === "watch" || this.status !== "open"; }
 }
 
 export const state = new State();

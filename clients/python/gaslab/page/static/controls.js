@@ -1,22 +1,21 @@
 // What stands around the gas: time, the view, readings, and the command line.
 import { ALWAYS, COLOURS, COMMANDS, ICONS, MOVES, ROWS, SPEEDS, WAYS, ZOOM, at, choose, fill, h, icon,
   isRefusal, plural, rove, say, setText, state } from "./base.js";
-import { view } from "./canvas.js";
+import { clamp, view } from "./canvas.js";
 import { plots } from "./plots.js";
 import { speak, addRow, note, exchange } from "./notices.js";
-import { send, play, pause, isWatching } from "./session.js";
+import { send, play, pause, refuseBack } from "./session.js";
 
 // ---- time: play, steps, speed and the tick slider, and why one of them can't be had
 const LOUD = 6000, HELD = 340, SPOKEN = 10000;      // milliseconds
 const NEARLY = .9;         // of a journal
 const slider = at("tick-slider");
-let loudUntil = 0, steppedAt = 0, spokenAt = 0, isPulled = false;
+let steppedAt = 0, isPulled = false;
 
 async function step(n, isBack = false) {
-  if (isWatching()) return;
   steppedAt = performance.now();
   if (isBack && view.hasPorts) { refuseBack(); return; }
-  if (state.playing) await state.link.send([".pause"]);
+  await pause();
   await send([`${isBack ? "back" : "step"} ${n}`], { isTime: true });
 }
 
@@ -24,18 +23,15 @@ async function step(n, isBack = false) {
 export const isTooSoon = () => performance.now() - steppedAt < HELD;
 
 function goTo(tick) {
-  if (isWatching() || !state.picture) return;
-  const far = tick - state.picture.tick, steps = Math.max(1, Math.min(4096, Math.ceil(Math.abs(far) / 60)));
-  if (view.hasPorts && far < 0) refuseBack();
-  else send([`.goto ${tick} ${steps} 60`], { isTime: true });
+  if (!state.picture) return;
+  const far = Math.abs(tick - state.picture.tick), steps = clamp(Math.ceil(far / 60), 1, 4096);
+  send([`.goto ${tick} ${steps} 60`], { isTime: true });
 }
 
 export function setSpeed(speed) {
-  state.change({ speed: Math.max(0, Math.min(SPEEDS.length - 1, speed)) });
+  state.change({ speed: clamp(speed, 0, SPEEDS.length - 1) });
   if (state.playing) play();
 }
-
-function refuseBack() { state.change({ refusedBack: state.refusedBack + 1 }); }
 
 function showSpeed() {
   const [steps, rate] = SPEEDS[state.speed], text = `${plural(steps * rate, "step")} a second`;
@@ -45,23 +41,21 @@ function showSpeed() {
 }
 
 function showTime() {
-  const { isOff, picture: p } = state, ports = view.hasPorts, word = state.playing ? "Pause" : "Play";
+  const { picture: p, least, furthest } = state, ports = view.hasPorts;
+  const word = state.playing ? "Pause" : "Play", isOff = state.rights === "watch" || state.status !== "open";
   if (at("play").textContent !== word) at("play").replaceChildren(icon(ICONS[word.toLowerCase()]), word);
   for (const id of ["play", "step"]) at(id).ariaDisabled = isOff;
   for (const id of ["back", "rewind"]) at(id).ariaDisabled = isOff || ports;
-  slider.disabled = isOff || ports;
+  slider.disabled = isOff;
   at("ticks").hidden = ports;
   if (p && !isPulled) {
-    const { least, furthest } = state;
     Object.assign(slider, { min: Math.min(least, 0), max: Math.max(furthest, 1), value: p.tick });
     setText(at("tick-text"), say(furthest));
   }
   showReason();
-  if (p?.playing && performance.now() - spokenAt > SPOKEN) {
-    if (spokenAt) speak(`Tick ${p.tick}`);
-    spokenAt = performance.now();
-  }
 }
+
+const isLoud = () => performance.now() < state.refusedAt + LOUD;
 
 function noWayBack() {
   const { drains, sources } = view.ports, kinds = [[sources.length, "source"], [drains.length, "drain"]];
@@ -71,8 +65,8 @@ function noWayBack() {
 /** Why time can't be had, or what is to be known of it. */
 function reason() {
   const { picture: p, cap, pace, acted } = state;
-  if (state.isOff || !p) return "";
-  if (view.hasPorts && performance.now() < loudUntil) return noWayBack();
+  if (state.status !== "open" || !p) return "";
+  if (view.hasPorts && isLoud()) return noWayBack();
   if (p.journal > NEARLY * cap)
     return `The journal is ${p.journal < cap ? "nearly " : ""}full: `
       + `${say(p.journal)} of ${say(cap)} entries.`;
@@ -88,7 +82,7 @@ function reason() {
 function showReason() {
   const text = reason(), box = at("reason");
   box.hidden = !text;
-  box.classList.toggle("loud", performance.now() < loudUntil);
+  box.classList.toggle("loud", isLoud());
   if (box.dataset.text === text) return;
   box.dataset.text = text;
   fill(box, h("span", { role: "status" }, text), view.hasPorts && text === noWayBack()
@@ -96,11 +90,7 @@ function showReason() {
 }
 
 for (const id of ["step", "back", "rewind"]) at(id).append(icon(ICONS[id]));
-at("play").onclick = () => {
-  if (isWatching()) return;
-  if (state.playing) send([".pause"]);
-  else play();
-};
+at("play").onclick = () => { if (state.playing) pause(); else play(); };
 at("step").onclick = ({ shiftKey }) => step(shiftKey ? 10 : 1);
 at("back").onclick = ({ shiftKey }) => step(shiftKey ? 10 : 1, true);
 at("rewind").onclick = () => goTo(0);
@@ -118,13 +108,9 @@ slider.onchange = async () => {
   goTo(aim);
 };
 state.on(["speed"], showSpeed);
-state.on(["shown", "playing", "status", "rights", "pace", "refusedBack"], showTime);
-state.on(["refusedBack"], () => {
-  loudUntil = performance.now() + LOUD;
-  setTimeout(showTime, LOUD);
-  showTime();
-  speak(noWayBack());
-});
+state.on(["shown", "playing", "status", "rights", "pace", "refusedAt"], showTime);
+state.on(["refusedAt"], () => { setTimeout(showTime, LOUD); speak(noWayBack()); });
+setInterval(() => { if (state.picture?.playing) speak(`Tick ${state.picture.tick}`); }, SPOKEN);
 showSpeed();
 showTime();
 

@@ -6,7 +6,7 @@ import { plots } from "./plots.js";
 import { notice, banner, hideBanner, speak, note } from "./notices.js";
 import { bytesOf, keepForReload, takeKept, lessonOf, pickFile, stored, download, saveFile, savePicture,
   saveFilm, snapshotOf } from "./files.js";
-import { connect, edits, isWatching, join, pause, play, send } from "./session.js";
+import { connect, edits, join, pause, play, send } from "./session.js";
 import { isWithin } from "./frame.js";
 import { doTry } from "./tools.js";
 
@@ -193,7 +193,6 @@ function runs(digits) {
 }
 
 function placeScript(by) {
-  if (isWatching()) return;
   pickFile(({ name, bytes }) => {
     const { lines, fault } = placed(bytes, by, view.picture);
     if (fault) notice({ title: `${name} was not placed`, text: fault });

@@ -348,17 +348,10 @@ export async function send(lines, where = {}) {
   return replies;
 }
 
-/** Says why this seat may not do something, and is true then. */
-export function isWatching(rect = null) {
-  if (state.rights === "watch") refuse("NO watch", "", { rect });
-  return state.rights === "watch";
-}
+export function refuseBack() { state.change({ refusedAt: performance.now() }); }
 
 function refuse(reply, line, where) {
-  if (where.isTime && reply.startsWith("ERR 11")) {
-    state.change({ refusedBack: state.refusedBack + 1 });
-    return;
-  }
+  if (where.isTime && reply.startsWith("ERR 11")) { refuseBack(); return; }
   const does = { "ERR 10": [["Remove all ports", () => send(["unport"])]],
     "ERR 13": [["Save script and snapshot, go on", () => goOn(where)]] }[reply.slice(0, 6)];
   const shown = line.length > 34 ? `${line.slice(0, 34)}…` : line;
@@ -381,8 +374,8 @@ addEventListener("unhandledrejection", ({ reason }) => fault(reason));
 
 /** Pauses, and waits for the picture that stays. */
 export async function pause() {
-  if (state.playing) await state.link.send([".pause"]);
-  while (state.picture?.playing)
+  const [reply] = state.playing ? await send([".pause"]) : ["DONE"];
+  while (reply === "DONE" && state.picture?.playing)
     await new Promise((done) => state.addEventListener("changed", done, { once: true }));
 }
 

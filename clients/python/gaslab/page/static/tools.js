@@ -4,7 +4,7 @@ import { ALWAYS, CHOICES, CURSOR, FATES, ICONS, KEYS, KINDS, MOVES, SHARES, TOOL
 import { clamp, ellipse, randomGas, rectangle, stroke, view } from "./canvas.js";
 import { plots } from "./plots.js";
 import { notice, hideNotice, speak } from "./notices.js";
-import { edits, send, pause, isWatching } from "./session.js";
+import { edits, send, pause } from "./session.js";
 import { Lab, fromSnapshot, toBytes } from "./engine.js";
 import { snapshotOf } from "./files.js";
 import { setSpeed, isTooSoon } from "./controls.js";
@@ -36,7 +36,6 @@ export async function act(cells) {
   const tool = toolOf(state.tool), { lesson } = state, rects = rectsOf(cells), [rect] = rects;
   if (tool.cell) view.selection = null;
   if (tool.id === "follow") { followAt(cells[0]); return; }
-  if (isWatching(rect)) { showBad(true); return; }
   const first = lesson.first && !state.tried && tool.solid ? lesson.first : [];
   state.change({ tried: true, worked: true });
   if (tool.id === "shoot") { await shoot(cells, options.way); return; }
@@ -54,7 +53,6 @@ export async function act(cells) {
 function showBad(isBad) { view.select(isBad && view.selection ? { ...view.selection, bad: true } : null); }
 
 export async function undo() {
-  if (isWatching()) return;
   const { lines, note, why } = edits.plan();
   if (why) { notice({ title: "Not undone", text: why }); return; }
   edits.list.pop();
@@ -67,7 +65,6 @@ export async function undo() {
 
 /** Sends the lines of a lesson's button. */
 export async function doTry({ lines, view: rect }) {
-  if (isWatching()) return;
   state.change({ tried: true, worked: true });
   if (lines.some((line) => /^(\.goto|step|back)/.test(line))) await pause();
   await send(lines, { isTime: lines.some((line) => line.startsWith("back")) });
