@@ -135,20 +135,10 @@ const box = at("popover");
 const tabs = [...document.querySelectorAll(".tabs button")];
 
 /** Opens the dialog with what `fill` returns, of which the first heading is its name. */
-function openDialog(button, fill) {
+function openDialog(fill) {
   box.replaceChildren(...fill());
   box.querySelector("h2").id = "popover-name";
   box.showModal();
-  button.ariaExpanded = true;
-  box.onclose = () => { button.ariaExpanded = false; };
-  place(button);
-}
-
-/** Places the dialog below a button, or where it fits. */
-function place(button) {
-  const { left, bottom } = button.getBoundingClientRect(), { offsetWidth: w, offsetHeight: tall } = box;
-  box.style.top = `${Math.max(8, Math.min(bottom + 6, innerHeight - tall - 8))}px`;
-  box.style.left = `${Math.max(8, Math.min(left, innerWidth - w - 8))}px`;
 }
 
 const form = (onsubmit, ...children) => h("form", { method: "dialog", onsubmit }, ...children);
@@ -264,7 +254,7 @@ function share() {
     ...plots.shown.filter((id) => plots.graphs[id]).map((id) =>
       give(`Plot: ${id}`, "The curve with its axes, as PNG.", () => savePicture(plots.picture(id), id))),
     give("Picture", "The cells as they are shown, as PNG.", () => savePicture()),
-    give("Film", "The next 60 pictures, as a video. Press play first.", saveFilm),
+    give("Film", "The next 60 pictures, as video. Press play first.", saveFilm),
     ...Object.entries(state.links).map(giveLink),
     ...state.program === "page" ? [] : [give("A page of its own",
       "One HTML file with lessons and engine, which needs no program and no network.",
@@ -323,7 +313,6 @@ function table() {
     e.preventDefault();
     result.replaceChildren(await filled(inputs.value, ticks.valueAsNumber, probes)
       .catch((fault) => fault.message));
-    place(at("table-open"));
   };
   return [h("h2", "Truth table"), h("p", "Each input cell is full or empty. After the steps the probes are "
     + "read, and the gas is stepped back. It is as before in the end."),
@@ -345,7 +334,7 @@ async function filled(text, ticks, probes) {
 
 for (const [id, fill] of Object.entries({ truth, seats, "lessons-open": lessons, "share-open": share,
   "help-open": help, "table-open": table }))
-  at(id).onclick = () => { if (state.picture || id !== "share-open") openDialog(at(id), fill); };
+  at(id).onclick = () => { if (state.picture || id !== "share-open") openDialog(fill); };
 at("script").onclick = () => saveFile(".script");
 
 // ---- the header, the tabs, and what is remembered
