@@ -263,11 +263,10 @@ function share() {
 
 function giveLink([what, token]) {
   const { href } = new URL(`/${token}/`, location.href), name = `Link to ${what}`;
-  const copied = () => navigator.clipboard.writeText(href).then(() => "Copied", () => "Copy it by hand");
   const input = h("input.link", { readOnly: true, value: href, "aria-label": name });
-  const copy = async (does) => {
+  const copy = (does) => {                             // a shared page has no navigator.clipboard: it is HTTP
     input.select();
-    does.textContent = await copied();
+    does.textContent = document.execCommand("copy") ? "Copied" : "Copy it by hand";
   };
   return give(name, what === "watch" ? "Who opens it sees this gas, and can change nothing."
     : "Who opens it takes a seat on this gas.", copy, "Copy", input);
