@@ -111,8 +111,6 @@ state.on(["speed"], showSpeed);
 state.on(["shown", "playing", "status", "rights", "pace", "refusedAt"], showTime);
 state.on(["refusedAt"], () => { setTimeout(showTime, LOUD); speak(noWayBack()); });
 setInterval(() => { if (state.picture?.playing) speak(`Tick ${state.picture.tick}`); }, SPOKEN);
-showSpeed();
-showTime();
 
 // ---- what is shown: particles, velocities or density, zoom, and the key of colours
 const modes = [...at("modes").children];
@@ -163,7 +161,6 @@ new ResizeObserver(() => {
   view.redraw();
   plots.resize();
 }).observe(at("mat"));
-showMode();
 
 // ---- readings beside the gas: tick, tally, the ledger as a sum, and the probes
 const GATE = 64;           // particles up to which a gas may be a gate

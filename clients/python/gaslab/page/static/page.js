@@ -147,12 +147,8 @@ const text = (more) => h("input", { type: "text", ...more });
 
 // ---- lessons, scenes and a person's own files
 function shelf(name, lessons, hasNumbers) {
-  const show = (lesson) => {
-    load(lesson);
-    showTab("lesson");
-  };
   const item = (lesson) => h("li", h("button", { "aria-current": lesson === state.lesson,
-    autofocus: lesson === state.lesson, onclick: () => show(lesson) },
+    autofocus: lesson === state.lesson, onclick: () => { load(lesson); showTab("lesson"); } },
   hasNumbers && h("span.n", lesson.id), h("span", h("b", lesson.name), h("small", lesson.about))));
   return form(null, h("h3", name), h("ul", lessons.map(item)));
 }
@@ -365,7 +361,8 @@ rove(document.querySelector(".tabs"), tabs, true);
 at("larger").onclick = () => setLarge(at("larger").ariaPressed !== "true");
 state.on(["program", "people", "rights", "seat", "status"], showHeader);
 setLarge(stored("localStorage", "gaslab-large") === "true");
-state.change({ keysOn: stored("localStorage", "gaslab-keys") !== "false" });
+const { tool, mode, speed, playing } = state;        // these are shown once before anything changes
+state.change({ tool, mode, speed, playing, keysOn: stored("localStorage", "gaslab-keys") !== "false" });
 showTab("readings");
 join();
 

@@ -32,7 +32,7 @@ function preview(cells) {
 }
 
 /** Does what the tool does with a gesture through cells. */
-export async function act(cells) {
+async function act(cells) {
   const tool = toolOf(state.tool), { lesson } = state, rects = rectsOf(cells), [rect] = rects;
   if (tool.cell) view.selection = null;
   if (tool.id === "follow") { followAt(cells[0]); return; }
@@ -42,17 +42,13 @@ export async function act(cells) {
   if (tool.id === "random") await pause();
   const lines = tool.line ? [...first, ...rects.map((one) => lineOf(tool, one))]
     : randomGas(view, rect, options);
-  let replies = await send(lines, { rect });
-  if (tool.id === "probe" && !isRefusal(replies[0])) {
-    replies = await send([`.watch ${rect.join(" ")}`], { rect });
-    if (!plots.shown.includes("probe")) plots.choose([...plots.shown, "probe"]);
-  }
-  showBad(replies.some(isRefusal));
+  if (tool.id === "probe") lines.push(`.watch ${rect.join(" ")}`);
+  const replies = await send(lines, { rect });
+  if (tool.id === "probe" && !plots.shown.includes("probe")) plots.choose([...plots.shown, "probe"]);
+  view.select(view.selection && replies.some(isRefusal) ? { ...view.selection, bad: true } : null);
 }
 
-function showBad(isBad) { view.select(isBad && view.selection ? { ...view.selection, bad: true } : null); }
-
-export async function undo() {
+async function undo() {
   const { lines, note, why } = edits.plan();
   if (why) { notice({ title: "Not undone", text: why }); return; }
   edits.list.pop();
@@ -207,8 +203,6 @@ rove(at("tools"), buttons);
 at("hover").replaceChildren(said, cellSaid, at("options"));
 state.on(["tool"], showTool);
 state.on(["lesson", "tried"], showHint);
-edits.changed();
-showTool();
 
 // ---- gestures on the gas, by mouse, pen, fingers or keys, and single keys, of which most press a button
 const HOLD = 150;          // milliseconds that a finger stays before it draws
