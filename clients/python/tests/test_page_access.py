@@ -51,7 +51,7 @@ class Keys(PageCase):
         x, width = self.value("[laboratory.view.box([...laboratory.view.cursor, 1, 1])[0],"
                               "laboratory.view.size[0]]")
         self.assertTrue(0 <= x < width, (x, width))
-        said = self.value("document.querySelector('#hover [role=status]').textContent")
+        said = self.value("document.getElementById('spoken').textContent")
         self.assertIn("Cell " + " ".join(map(str, self.value("laboratory.view.cursor"))), said)
 
     def test_single_keys_can_be_turned_off(self):

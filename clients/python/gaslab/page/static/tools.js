@@ -139,21 +139,17 @@ function followOn() {
 state.on(["picture"], () => { if (state.picture) followOn(); });
 
 // ---- the toolbar, and the line of words below the gas
-const said = h("span.words"), cellSaid = h("span.words", { role: "status", hidden: true });
 const undoButton = h("button.parted", { onclick: undo }, icon(ICONS.undo), h("span", "Undo"));
 const buttons = [...TOOLS.map(({ id, name, hint, key, gap, icon: shapes }) =>
   h(gap ? "button.parted" : "button",
     { "data-tool": id, title: `${hint} (${key})`, onclick: () => state.change({ tool: id }) },
     icon(shapes), h("span", name))), undoButton];
 
-/** Says something below the gas, or the tool's hint. `isSpoken` tells a screen reader too. */
-function showWords(children, isSpoken = false) {
-  const hasTask = state.lesson.task && !state.tried, tool = toolOf(state.tool);
-  said.hidden = isSpoken;
-  cellSaid.hidden = !isSpoken;
-  said.classList.toggle("task", Boolean(hasTask && !children));
-  fill(isSpoken ? cellSaid : said,
-    children ?? (hasTask ? state.lesson.task : [h("b", `${tool.name}.`), ` ${tool.hint}`]));
+/** Says something below the gas, or what is to be done there. */
+function showWords(...children) {
+  const { task } = state.tried ? {} : state.lesson, { name, hint } = toolOf(state.tool);
+  at("said").classList.toggle("task", Boolean(task && !children.length));
+  fill(at("said"), children.length ? children : task ?? [h("b", `${name}.`), ` ${hint}`]);
 }
 
 function share([name, min, text]) {
@@ -190,7 +186,7 @@ function showTool() {
 function showHint() {
   view.ghost = state.tool === state.lesson.tool && !state.tried ? state.lesson.ghost ?? null : null;
   view.redraw();
-  showWords(null);
+  showWords();
 }
 
 edits.changed = () => {
@@ -200,7 +196,6 @@ edits.changed = () => {
 
 at("tools").append(...buttons);
 rove(at("tools"), buttons);
-at("hover").replaceChildren(said, cellSaid, at("options"));
 state.on(["tool"], showTool);
 state.on(["lesson", "tried"], showHint);
 
@@ -251,7 +246,7 @@ canvas.onpointerup = canvas.onpointercancel = (e) => {
   else view.select();
 };
 
-canvas.onpointerleave = () => { if (!gesture) showWords(null); };
+canvas.onpointerleave = () => { if (!gesture) showWords(); };
 
 canvas.addEventListener("wheel", (e) => {
   if (!view.picture) return;
@@ -284,14 +279,14 @@ function move({ pointerType }) {
 
 /** Says what is in a cell, and what its block does next. */
 function describe([x, y]) {
-  if (!view.holds([x, y])) { showWords(null); return; }
+  if (!view.holds([x, y])) { showWords(); return; }
   const { width, height } = view.picture, t = view.parity, way = `moves ${nameOf(view.way(x, y))}`;
   const kind = KINDS[view.ground[y * width + x]];
   const bx = (x - ((x + t) & 1) + width) % width, by = (y - ((y + t) & 1) + height) % height;
   const held = view.has(x, y) ? `particle, ${way}` : kind ? ""
     : state.tool === "put" ? `empty; a particle here ${way}` : "empty";
-  showWords(["Cell ", h("b", `${x} ${y}`), `: ${[kind, held].filter(Boolean).join(", ")}. The block at `,
-    h("b", `${bx} ${by}`), ` ${FATES[view.fate(bx, by)]}.`]);
+  showWords("Cell ", h("b", `${x} ${y}`), `: ${[kind, held].filter(Boolean).join(", ")}. The block at `,
+    h("b", `${bx} ${by}`), ` ${FATES[view.fate(bx, by)]}.`);
 }
 
 // ---- keys
@@ -303,7 +298,7 @@ function leaveCursor() {
   if (!view.cursor) return;
   view.cursor = corner = null;
   view.select();
-  showWords(null);
+  showWords();
 }
 
 /** Takes a key on the gas. Returns whether it was one of the cursor's. */
@@ -322,7 +317,9 @@ function cursorKey({ key, shiftKey }) {
   }
   if (corner) preview([corner, view.cursor]);
   else view.redraw();
-  showWords(words(`Cell \`${view.cursor.join(" ")}\`. ${corner ? CURSOR.second : CURSOR.first}`, "b"), true);
+  const text = `Cell \`${view.cursor.join(" ")}\`. ${corner ? CURSOR.second : CURSOR.first}`;
+  showWords(...words(text, "b"));
+  speak(text.replaceAll("`", ""));
   return true;
 }
 
