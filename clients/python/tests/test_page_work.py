@@ -59,15 +59,15 @@ class Readings(PageCase):
         self.browser.wait("document.querySelector('#probes .sums')?.textContent", "1 particles, px 1, py 1")
         self.value("document.querySelector('#probes .close').click()")
         self.browser.wait("document.querySelectorAll('#probes li').length", 0)
-        self.assertEqual(self.value("laboratory.view.probes"), [])
+        self.assertEqual(self.value("laboratory.view.picture.probes"), [])
 
     def test_a_probe_is_marked_at_once(self):
         """Its name stands on a dark ground in its upper left corner, where only particles would be."""
         self.open("6")
-        self.browser.wait("laboratory.view.probes.length", 1)
+        self.browser.wait("laboratory.view.picture.probes.length", 1)
         self.settle()
         self.assertGreater(self.value("""(() => {
-            const { view: v } = laboratory, [x, y] = v.box(v.probes[0].rect).map(Math.round);
+            const { view: v } = laboratory, [x, y] = v.box(v.picture.probes[0].rect).map(Math.round);
             const { data } = v.context.getImageData(x + 3, y + 3, 40, 16);
             return Array.from({ length: data.length / 4 }, (_, k) => data.slice(4 * k, 4 * k + 3).join())
                 .filter((it) => it === "22,32,43").length; })()"""), 100)
@@ -149,7 +149,7 @@ class Journal(PageCase):
             self.browser.wait_for_file(Path(room.name) / name)
         self.browser.wait("laboratory.lab.picture?.journal", 1)
         self.assertEqual(self.value("laboratory.lab.link.send(['entry 0'])"), ["ENTRY 0 wall 30 30 2 2"])
-        self.assertEqual(self.value("laboratory.view.probes.map((p) => p.rect)"), [[4, 4, 20, 56]])
+        self.assertEqual(self.value("laboratory.view.picture.probes.map((p) => p.rect)"), [[4, 4, 20, 56]])
         self.assertEqual(len((Path(room.name) / "gas.txt").read_text().splitlines()), _CAP + 1)
 
 

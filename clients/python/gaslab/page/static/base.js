@@ -124,7 +124,6 @@ class State extends EventTarget {
   isNew = false;               // the server's gas waits for a lesson
   picture = null;              // the last one that came
   shown = null;                // the last one that was drawn
-  playing = false;
   speed = 4;                   // a place in SPEEDS: steps a picture, and pictures a second
   tool = "put";
   mode = "particles";          // particles, velocity or density
@@ -140,6 +139,8 @@ class State extends EventTarget {
   keysOn = true;               // single keys act
 
   constructor() { super(); Object.seal(this); }
+
+  get playing() { return this.status === "open" && this.picture?.playing === true; }
 
   change(fields) {
     Object.assign(this, fields);

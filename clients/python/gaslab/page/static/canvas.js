@@ -306,7 +306,6 @@ class View extends Painter {
   selection = null;        // what is being drawn: { rects, colour, reach, line, bad }
   ghost = null;            // a rectangle where a lesson asks for a first drawing
   cursor = null;           // the cell of drawing by keys
-  probes = [];             // { rect, name }
   trail = [];              // cells of a particle that is followed
   onDraw = () => {};       // called after each drawing
   onFrame = () => this.draw();
@@ -399,7 +398,7 @@ class View extends Painter {
     for (const drain of this.ports.drains) this.outline(drain, COLOURS.drainEdge, "drain");
     for (const source of this.ports.sources)
       this.outline(source, COLOURS.sourceEdge, source[4] === 1 ? "source" : `source, every ${source[4]}`);
-    for (const { rect, name } of this.probes) this.outline(rect, COLOURS.ink, name, [5, 3]);
+    for (const { rect, key } of picture.probes) this.outline(rect, COLOURS.ink, `probe ${key}`, [5, 3]);
     if (this.trail.length) this.drawTrail();
     if (this.cursor) this.outline([...this.cursor, 1, 1], COLOURS.cursor);
     if (this.ghost && !this.selection) this.drawGhost();

@@ -108,9 +108,9 @@ slider.onchange = async () => {
   goTo(aim);
 };
 state.on(["speed"], showSpeed);
-state.on(["shown", "playing", "status", "rights", "pace", "refusedAt"], showTime);
+state.on(["shown", "status", "rights", "pace", "refusedAt"], showTime);
 state.on(["refusedAt"], () => { setTimeout(showTime, LOUD); speak(noWayBack()); });
-setInterval(() => { if (state.picture?.playing) speak(`Tick ${state.picture.tick}`); }, SPOKEN);
+setInterval(() => { if (state.playing) speak(`Tick ${state.picture.tick}`); }, SPOKEN);
 
 // ---- what is shown: particles, velocities or density, zoom, and the key of colours
 const modes = [...at("modes").children];

@@ -361,8 +361,8 @@ rove(document.querySelector(".tabs"), tabs, true);
 at("larger").onclick = () => setLarge(at("larger").ariaPressed !== "true");
 state.on(["program", "people", "rights", "seat", "status"], showHeader);
 setLarge(stored("localStorage", "gaslab-large") === "true");
-const { tool, mode, speed, playing } = state;        // these are shown once before anything changes
-state.change({ tool, mode, speed, playing, keysOn: stored("localStorage", "gaslab-keys") !== "false" });
+const { tool, mode, speed, status } = state;         // these are shown once before anything changes
+state.change({ tool, mode, speed, status, keysOn: stored("localStorage", "gaslab-keys") !== "false" });
 showTab("readings");
 join();
 

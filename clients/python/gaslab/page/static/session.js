@@ -8,7 +8,7 @@ import { saveFile, savePicture, snapshotOf } from "./files.js";
 import { Lab, fromSnapshot, hexOf } from "./engine.js";
 
 // ---- messages over a WebSocket or to a worker: lines get numbers, and replies are paired with them
-const EVENTS = ["hello", "links", "open", "seat", "entry", "play", "pause"];
+const EVENTS = ["hello", "links", "open", "seat", "entry", "pause"];
 let worker = null;
 
 /** Takes a seat, by a WebSocket, or by a port to the worker that has the parts of one which the page uses. */
@@ -230,7 +230,6 @@ class Edits {
 export const edits = new Edits();
 
 // ---- the page's seat at a server: joins, sends lines, takes events and pictures in
-let fresh = null;          // a picture that waits for the next frame
 let isJoining = false, keepsPlots = false;
 const seen = { since: performance.now(), drawn: 0, made: 0, number: 0, tick: 0 };
 
@@ -271,22 +270,19 @@ const events = {
     state.change({ tried: true });
     if (state.picture.tick !== 0) plots.note(state.picture.tick, line);
   },
-  play([, steps, rate]) { takePlay(true, Number(steps), Number(rate)); },
   pause([, ...words]) {
-    const wasPlaying = state.playing, why = words.join(" ");
-    state.change({ playing: false });
-    if (why.startsWith("ERR")) refuse(why, "step 1", { isTime: true, wasPlaying });
-    else if (why !== "opened" && state.picture)
-      speak(`${why === "there" ? "Arrived" : "Paused"} at tick ${state.picture.tick}.`);
+    const why = words.join(" ");
+    if (why.startsWith("ERR")) refuse(why, "step 1", { isTime: true, wasPlaying: true });
   },
-  /** Takes a picture in. It is drawn with the next frame. */
+  /** Takes a picture in. It is drawn with the next frame. Another seat may have begun or ended play. */
   picture(p) {
     const isResized = view.setPicture(p), { hasPorts } = view;
+    const speed = SPEEDS.findIndex(([steps, rate]) => p.playing && steps === p.steps && rate === p.rate);
     seen.made += seen.number && p.playing ? Math.max(1, p.number - seen.number) : 1;
     seen.number = p.number;
-    fresh = p;
-    takePlay(p.playing, p.steps, p.rate);
     edits.picture(p);
+    if (state.playing && !p.playing) speak(`Paused at tick ${p.tick}.`);
+    if (speed >= 0 && speed !== state.speed) state.change({ speed });
     state.change({ picture: p, acted: hasPorts ? p.tick : state.acted, least: Math.min(state.least, p.tick),
       furthest: hasPorts ? 0 : Math.max(state.furthest, p.tick) });
     plots.add(p);
@@ -295,7 +291,7 @@ const events = {
     view.redraw();
   },
   gone(isStrange) {
-    state.change({ status: "gone", playing: false });
+    state.change({ status: "gone" });
     banner(isStrange ? "The server sent something that this page can't read. The connection is closed."
       : "The server has ended. This is its last picture.",
         [["Connect again", join], ["Save the picture", () => savePicture()]], true);
@@ -308,23 +304,14 @@ export function join() {
   state.change({ link: new Link(connect(), events), links: {} });
 }
 
-/** What each picture and event says about play. The gas is everybody's: another seat may have done it. */
-function takePlay(playing, steps, rate) {
-  if (state.playing !== playing) state.change({ playing });
-  const speed = playing ? SPEEDS.findIndex((one) => one[0] === steps && one[1] === rate) : -1;
-  if (speed >= 0 && speed !== state.speed) state.change({ speed });
-}
-
 view.onFrame = () => {
-  const shown = fresh;
-  fresh = null;
-  if (shown) view.probes = shown.probes.map(({ key, rect }) => ({ rect, name: `probe ${key}` }));
+  const { picture, shown } = state;
   view.draw();
-  if (!shown) return;
-  seen.drawn += 1;
-  state.change({ shown });
-  measure(shown);
   state.link.drawn();
+  if (!picture || picture === shown) return;
+  seen.drawn += 1;
+  state.change({ shown: picture });
+  measure(picture);
 };
 
 function measure({ tick, steps, rate }) {
