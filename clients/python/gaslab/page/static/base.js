@@ -53,9 +53,8 @@ export const isRefusal = (reply) => /^(NO|ERR|GONE)/.test(reply);
 
 /** A refusal in plain words: what is wrong, and what to do. `picture` is that of the gas, if there is one. */
 export function plainWords(reply, line = "", picture = null) {
-  const [kind, what] = reply.split(" "), word = line.trim().split(/ +/)[0];
+  const [, what = "gone"] = reply.split(" "), word = line.trim().split(/ +/)[0];
   const { width, height } = picture ?? { width: 64, height: 64 };
-  if (kind === "GONE") return facts.refusals.gone;
   const isRow = what === "5" && ["row", "read"].includes(word);
   const text = facts.refusals[isRow ? "5 row" : what] ?? facts.refusals[""];
   const named = { word: word.slice(0, 24), shape: COMMANDS[word]?.[0] ?? "help", width: say(width),

@@ -1,5 +1,5 @@
 // The gas on its canvas: pixels of its cells, and what is drawn above them.
-import { COLOURS, KINDS, RAMP, SANS, ZOOM, at, h } from "./base.js";
+import { COLOURS, KINDS, RAMP, SANS, ZOOM, at, h, state } from "./base.js";
 
 // ---- sets of cells as rectangles, and the lines that draw them
 export const clamp = (value, least, most) => Math.max(least, Math.min(value, most));
@@ -133,7 +133,6 @@ class Sheet {
 }
 
 class Painter {
-  mode = "particles";
   picture = null;
   walls = null;
   obstacles = null;
@@ -234,7 +233,7 @@ class Painter {
 
   /** The colour of a particle in a cell of a kind. */
   colourOf(kind, x, y, tick) {
-    return isSolid(kind) ? C.hit : this.mode !== "velocity" ? C.particle
+    return isSolid(kind) ? C.hit : state.mode !== "velocity" ? C.particle
       : [C.rightDown, C.leftDown, C.rightUp, C.leftUp][(y + tick & 1) << 1 | x + tick & 1];
   }
 
@@ -304,7 +303,6 @@ class View extends Painter {
   top = 0;
   fitted = false;          // true for the whole lattice, or the rectangle that is seen
   selection = null;        // what is being drawn: { rects, colour, reach, line, bad }
-  ghost = null;            // a rectangle where a lesson asks for a first drawing
   cursor = null;           // the cell of drawing by keys
   trail = [];              // cells of a particle that is followed
   onDraw = () => {};       // called after each drawing
@@ -324,7 +322,9 @@ class View extends Painter {
   }
 
   get size() { return [this.canvas.clientWidth, this.canvas.clientHeight]; }
-  get middle() { return this.size.map((side) => side / 2); }
+
+  /** Where a lesson asks for a first drawing; gone with the first gesture. */
+  get ghost() { return !state.tried && state.tool === state.lesson.tool && state.lesson.ghost; }
 
   fit(rect = null) {
     if (!this.picture) return;
@@ -337,7 +337,7 @@ class View extends Painter {
     this.redraw();
   }
 
-  zoom(factor, px, py) {
+  zoom(factor, px = this.size[0] / 2, py = this.size[1] / 2) {
     if (!this.picture) return;
     const { scale, picture: { width, height }, size: [cw, ch] } = this;
     this.scale = clamp(scale * factor, Math.min(cw / width, ch / height) * .75, MOST);
@@ -381,7 +381,7 @@ class View extends Painter {
   draw() {
     const { canvas, context: c, picture, scale, size: [cw, ch] } = this, ratio = devicePixelRatio || 1;
     const [width, height] = this.size.map((side) => Math.round(side * ratio));
-    const isDensity = this.mode === "density";
+    const isDensity = state.mode === "density";
     if (canvas.width !== width || canvas.height !== height) Object.assign(canvas, { width, height });
     c.setTransform(ratio, 0, 0, ratio, 0, 0);
     this.fill(COLOURS.mat, [0, 0, cw, ch]);
@@ -461,7 +461,7 @@ class View extends Painter {
     for (let y = y0; y < y1; y++) for (let x = x0; x < x1; x++) {
       if (!this.has(x, y)) continue;
       const [vx, vy] = this.way(x, y), [e, f] = this.box([x + .5, y + .5, 0, 0]);
-      const isYellow = this.mode === "velocity" && vx !== vy;
+      const isYellow = state.mode === "velocity" && vx !== vy;
       (isYellow || this.isSolidAt(x, y) ? dark : light).addPath(ARROW, { a: vx * r, d: vy * r, e, f });
     }
     c.save();
@@ -508,7 +508,6 @@ class View extends Painter {
     c.fillText(text, x + pad, y + height / 2 + .5);
   }
 
-  /** Where a lesson asks for a first drawing; gone with the first gesture. */
   drawGhost() {
     const box = this.box(this.ghost), [x, y, w, h] = box;
     this.fill(COLOURS.ghost, box);

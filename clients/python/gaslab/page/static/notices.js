@@ -89,7 +89,6 @@ export function exchanges(lines, replies) {
     if (isBad || !(isLong && k > 1 && k < lines.length - 1) && !line.startsWith("."))
       exchange("you", line, replies[k]);
   });
-  if (!isLong || replies.some(isRefusal)) return;
-  const own = lines.filter((line) => !line.startsWith("."));
-  last("sent", `${own.length} lines`, replies.findLast((reply) => reply.startsWith("OK")) ?? "");
+  if (isLong && !replies.some(isRefusal))
+    last("sent", `${lines.length} lines`, replies.findLast((reply) => reply.startsWith("OK")) ?? "");
 }

@@ -184,7 +184,6 @@ function showTool() {
 }
 
 function showHint() {
-  view.ghost = state.tool === state.lesson.tool && !state.tried ? state.lesson.ghost ?? null : null;
   view.redraw();
   showWords();
 }
