@@ -16,16 +16,16 @@ export function connect() {
   const source = document.getElementById("worker")?.textContent, { port1, port2 } = new MessageChannel();
   if (!source) return new WebSocket(new URL("socket", location.href));
   const close = () => {
-    if (port1.readyState === WebSocket.CLOSED) return;
+    if (!port1.onmessage) return;
     port1.send(null);
-    Object.assign(port1, { readyState: WebSocket.CLOSED, onmessage: null });
+    port1.onmessage = null;
     port1.onclose?.();
   };
   // from the text that the page has: a module can't be read from a folder
   worker ??= new Worker(URL.createObjectURL(new Blob([source], { type: "text/javascript" })));
   worker.addEventListener("error", close, { once: true });
   worker.postMessage(null, [port2]);
-  return Object.assign(port1, { readyState: WebSocket.OPEN, send: port1.postMessage, close });
+  return Object.assign(port1, { send: port1.postMessage, close });
 }
 
 export class Link {
@@ -52,8 +52,6 @@ export class Link {
     socket.onclose = () => this.end();
   }
 
-  get isOpen() { return this.socket.readyState === WebSocket.OPEN; }
-
   /** Answers all that waits: nothing comes any more. */
   end(isStrange = false) {
     for (const { resolve } of this.waiting.values()) resolve("GONE");
@@ -65,7 +63,7 @@ export class Link {
   ask(lines, snapshot = null) {
     const asked = lines.map((line) =>
       ({ line, number: snapshot ? 0 : this.next++, files: [], ...Promise.withResolvers() }));
-    if (!this.isOpen) asked.forEach(({ resolve }) => resolve("GONE"));
+    if (state.status !== "open") asked.forEach(({ resolve }) => resolve("GONE"));
     else {
       for (const one of asked) this.waiting.set(one.number, one);
       this.socket.send(snapshot ?? asked.map(({ number, line }) => `${number} ${line}`).join("\n"));
@@ -89,7 +87,7 @@ export class Link {
   drawn() {
     const lines = Array(this.undrawn).fill("0 .drawn");
     this.undrawn = 0;
-    if (lines.length && this.isOpen) this.socket.send(lines.join("\n"));
+    if (lines.length && state.status === "open") this.socket.send(lines.join("\n"));
   }
 
   take(line) {
