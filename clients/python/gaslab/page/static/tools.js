@@ -37,7 +37,6 @@ async function act(cells) {
   if (tool.cell) view.selection = null;
   if (tool.id === "follow") { followAt(cells[0]); return; }
   const first = lesson.first && !state.tried && tool.solid ? lesson.first : [];
-  state.change({ tried: true, worked: true });
   if (tool.id === "shoot") { await shoot(cells, options.way); return; }
   if (tool.id === "random") await pause();
   const lines = tool.line ? [...first, ...rects.map((one) => lineOf(tool, one))]
@@ -61,7 +60,6 @@ async function undo() {
 
 /** Sends the lines of a lesson's button. */
 export async function doTry({ lines, view: rect }) {
-  state.change({ tried: true, worked: true });
   if (lines.some((line) => /^(\.goto|step|back)/.test(line))) await pause();
   await send(lines, { isTime: lines.some((line) => line.startsWith("back")) });
   if (rect) view.fit(rect);
