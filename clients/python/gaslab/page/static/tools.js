@@ -115,11 +115,9 @@ function nextCell(gas, [x, y], isBack) {
 function lose(text) {
   followed = null;
   notice({ title: "No longer followed", text });
-  speak(text);
 }
 
 function followOn() {
-  if (!followed) return;
   const lab = new Lab(fromSnapshot(followed)), { gas } = lab, { picture } = view, trail = [...view.trail];
   const n = picture.tick - gas.tick, isBack = n < 0;
   if (gas.width !== picture.width || gas.height !== picture.height) { mark([]); return; }
@@ -134,7 +132,7 @@ function followOn() {
   else lose("Its way is lost: the gas was changed.");
 }
 
-state.on(["picture"], () => { if (state.picture) followOn(); });
+state.on(["picture"], () => { if (followed && state.picture) followOn(); });
 
 // ---- the toolbar, and the line of words below the gas
 const undoButton = h("button.parted", { onclick: undo }, icon(ICONS.undo), h("span", "Undo"));
@@ -338,10 +336,8 @@ document.addEventListener("keydown", (e) => {
   if (isHeld && e.key.toLowerCase() === ALWAYS.undo.key) does = undo;
   else if (isHeld || e.altKey || !view.picture) return;
   else if (isOnGas && cursorKey(e)) does = () => {};
-  else if (e.key === ALWAYS.leave.key) {
-    hideNotice();
-    view.select();
-  } else if (state.keysOn || isOnGas) does = doesOf(e);
+  else if (e.key === ALWAYS.leave.key) hideNotice();
+  else if (state.keysOn || isOnGas) does = doesOf(e);
   if (!does) return;
   e.preventDefault();
   if (!(e.repeat && MOVES[e.key] && isTooSoon())) does();
