@@ -12,7 +12,7 @@ const LOOK = { connectSeparatedPoints: true, includeZero: true, gridLineColor: C
   axisLineColor: COLOURS.edge, rightGap: 8, highlightCircleSize: 4, interactionModel: {} };
 
 /** Mean of −ρ ln ρ − (1−ρ) ln(1−ρ) over squares of 8 by 8 cells. */
-export function entropy(picture) {
+function entropy(picture) {
   const counts = countSquares(picture, 8), part = (share) => share > 0 ? share * Math.log(share) : 0;
   return counts.reduce((sum, n) => sum - part(n / 64) - part(1 - n / 64), 0) / counts.length;
 }

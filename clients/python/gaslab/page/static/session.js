@@ -28,7 +28,7 @@ export function connect() {
   return Object.assign(port1, { send: port1.postMessage, close });
 }
 
-export class Link {
+class Link {
   next = 1;
   waiting = new Map();     // of each number its reply as a promise, and its files
   undrawn = 0;
@@ -87,7 +87,7 @@ export class Link {
   drawn() {
     const lines = Array(this.undrawn).fill("0 .drawn");
     this.undrawn = 0;
-    if (lines.length && state.status === "open") this.socket.send(lines.join("\n"));
+    if (state.status === "open") this.socket.send(lines.join("\n"));
   }
 
   take(line) {
@@ -305,7 +305,7 @@ export function join() {
 view.onFrame = () => {
   const { picture, shown } = state;
   view.draw();
-  state.link.drawn();
+  if (state.link.undrawn > 0) state.link.drawn();
   if (!picture || picture === shown) return;
   seen.drawn += 1;
   state.change({ shown: picture });
