@@ -10,6 +10,8 @@ from .page_case import CALLOUT, LESSON, PageCase
 from .test_page_engine import PAGE
 
 _CAP = 65536
+_CHOOSE = """((one, value) => { one.value = value; one.dispatchEvent(new Event("change", { bubbles: true })); })(
+    document.getElementById("%s"), "%s")"""
 _LOG = "[...document.querySelectorAll('#log > div')].map((e) => e.textContent)"
 
 
@@ -207,14 +209,12 @@ class Waves(PageCase):
         self.send("put 0 0 32 64")
         self.value("laboratory.lab.change({ mode: 'density' })")
         for side, across in (("4", 16), ("8", 8), ("16", 4)):
-            self.value("(() => { const s = document.getElementById('square'); "
-                       f"s.value = '{side}'; s.onchange(); }})()")
+            self.value(_CHOOSE % ("square", side))
             self.settle()
             self.assertEqual(self.value("laboratory.view.coarse.canvas.width"), across)
         self.assertEqual(self.value("laboratory.view.shades"), [0, 1])
         self.send("erase 0 0 32 32")
-        self.value("(() => { const s = document.getElementById('range'); "
-                   "s.value = 'middle'; s.onchange(); })()")
+        self.value(_CHOOSE % ("range", "middle"))
         self.browser.wait("document.getElementById('key').textContent", "25 %75 %")
 
 

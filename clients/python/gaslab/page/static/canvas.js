@@ -138,10 +138,7 @@ class Painter {
   obstacles = null;
   ports = { drains: [], sources: [] };
   scale = 8;               // CSS pixels a cell
-  square = 4;              // cells of a side of what density counts
-  range = "full";          // of the shades: full, middle or own
   shades = [0, 1];         // the densities of the first and the last shade
-  isMean = false;          // density is a mean of the last pictures
   recent = [];             // the last pictures of four ticks
   isCalm = false;          // their mean is drawn
   past = [];               // counts of the last pictures for a mean density
@@ -160,7 +157,7 @@ class Painter {
     Object.assign(this, { picture, walls, obstacles, ports });
     if (resized) {
       this.full.resize(width, height);
-      this.square = width * height <= 1 << 16 ? 4 : width * height <= BIG ? 8 : 16;
+      at("square").value = width * height <= 1 << 16 ? 4 : width * height <= BIG ? 8 : 16;
       this.past = [];
     }
     if (picture.walls || picture.ports) this.remark();
@@ -276,15 +273,15 @@ class Painter {
   }
 
   paintDensity() {
-    const { picture: { width, height, number }, square: q } = this;
+    const { width, height, number } = this.picture, q = Number(at("square").value), range = at("range").value;
     const past = this.past.filter((one) => one.square === q && one.number !== number);
     this.past = [...past, { number, square: q, counts: countSquares(this.picture, q) }]
-      .slice(this.isMean ? -MEAN : -1);
+      .slice(at("mean").checked ? -MEAN : -1);
     this.coarse.resize(width / q, height / q);
     const { pixels } = this.coarse, sums = new Float32Array(pixels.length);
     for (const { counts } of this.past) for (let k = 0; k < sums.length; k++) sums[k] += counts[k];
     const whole = q * q * this.past.length;
-    this.shades = this.range === "middle" ? [.25, .75] : this.range === "full" ? [0, 1]
+    this.shades = range === "middle" ? [.25, .75] : range === "full" ? [0, 1]
       : [Math.min, Math.max].map((pick) => sums.reduce((a, b) => pick(a, b)) / whole);
     const [low, high] = this.shades, factor = 255 / ((high - low) * whole || 1);
     for (let k = 0; k < sums.length; k++)

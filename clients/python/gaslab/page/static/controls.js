@@ -127,15 +127,12 @@ function showKey() {
   const isNear = view.scale >= ZOOM.grid && mode !== "density";
   const [low, high] = view.shades.map((share) => `${Math.round(share * 100)} %`);
   const entry = (look, text) => h("span", h("i", { style: look }), text);
-  const name = [mode, isNear, hasArrows, low, high, view.square, view.isMean].join();
+  const name = [mode, isNear, hasArrows, low, high].join();
   if (at("key").dataset.name === name) return;
   const marks = [h("span", h("i.ring"), "collides next"), h("span", h("i.ring.dashed"), "bounces")];
   at("key").dataset.name = name;
-  if (mode === "density") {
-    fill(at("key"), h("span", low), h("span.ramp"), h("span", high));
-    setText(at("density-text"),
-      `Squares of ${view.square} by ${view.square} cells${view.isMean ? ", mean of 8 pictures" : ""}`);
-  } else if (mode === "velocity" && !hasArrows) fill(at("key"),
+  if (mode === "density") fill(at("key"), h("span", low), h("span.ramp"), h("span", high));
+  else if (mode === "velocity" && !hasArrows) fill(at("key"),
     WAYS.map(([arrow, colour]) => entry(`background:${COLOURS[colour]}`, arrow)), isNear && marks);
   else fill(at("key"), isNear ? marks
     : entry("background:var(--hit);outline:var(--strong)", "particle on a wall"));
@@ -143,19 +140,17 @@ function showKey() {
 
 for (const button of modes) button.onclick = () => state.change({ mode: button.id });
 rove(at("modes"), modes, true);
-at("square").onchange = () => { view.square = Number(at("square").value); view.redraw(); };
-at("range").onchange = () => { view.range = at("range").value; view.redraw(); };
-at("mean").onchange = () => { view.isMean = at("mean").checked; view.redraw(); };
+at("density-box").onchange = () => view.redraw();
 at("zoom-in").onclick = () => view.zoom(1.5);
 at("zoom-out").onclick = () => view.zoom(1 / 1.5);
 at("zoom-fit").onclick = () => view.fit();
 state.on(["mode"], showMode);
 state.on(["lesson"], () => {
   const { range = "full", mean = false } = state.lesson;
-  at("range").value = view.range = range;
-  at("mean").checked = view.isMean = mean;
+  at("range").value = range;
+  at("mean").checked = mean;
 });
-view.onDraw = () => { at("square").value = view.square; showKey(); };
+view.onDraw = showKey;
 new ResizeObserver(() => {
   if (view.picture && view.fitted) view.fit(view.fitted === true ? null : view.fitted);
   view.redraw();
