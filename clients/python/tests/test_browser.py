@@ -59,7 +59,20 @@ class InABrowser(unittest.TestCase):
                 browser.value(f"document.querySelector('#callout .close')?.click();"
                               f"document.getElementById('{name}').click()")
                 browser.wait(f"({CALLOUT}).includes('Your seat only watches')", True)
-            self.assertEqual(browser.value("[laboratory.lab.playing, laboratory.lab.picture.tick]"), [False, 0])
+            self.assertEqual(browser.value("laboratory.lab.picture.tick"), 0)
+            self.assertEqual(browser.errors, [])
+
+    def test_a_link_is_copied_where_there_is_no_clipboard(self):
+        """A page that is shared by HTTP has no `navigator.clipboard`."""
+        with Started("--program", STAND_IN) as server, Browser(server.links[0]) as browser:
+            browser.wait("globalThis.laboratory?.lab.picture != null", True)
+            browser.value("Object.defineProperty(navigator, 'clipboard', {});"
+                          "document.getElementById('share-open').click()")
+            copy = "document.querySelector('.give:has(.link) button')"
+            place = browser.value(f"{copy}.scrollIntoView(), (({{ x, y, width, height }}) => [x + width / 2, "
+                                  f"y + height / 2])({copy}.getBoundingClientRect())")
+            browser.pull(place, place)
+            browser.wait(f"{copy}.textContent", "Copied")
             self.assertEqual(browser.errors, [])
 
     def test_a_server_that_goes(self):

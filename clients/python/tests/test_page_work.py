@@ -10,8 +10,9 @@ from .page_case import CALLOUT, LESSON, PageCase
 from .test_page_engine import PAGE
 
 _CAP = 65536
-_CHOOSE = """((one, value) => { one.value = value; one.dispatchEvent(new Event("change", { bubbles: true })); })(
-    document.getElementById("%s"), "%s")"""
+_CHOOSE = """((one, value) => {
+    one.value = value; one.dispatchEvent(new Event("change", { bubbles: true }));
+  })(document.getElementById("%s"), "%s")"""
 _LOG = "[...document.querySelectorAll('#log > div')].map((e) => e.textContent)"
 
 
@@ -50,6 +51,24 @@ class Files(PageCase):
         self.assertEqual(self.value("laboratory.view.fitted"), True)
         self.assertIn("at tick 300", self.value("document.getElementById('lesson').textContent"))
         self.assertIn("at tick 300", self.value("document.getElementById('spoken').textContent"))
+
+
+    def test_a_film_is_a_video_of_the_next_pictures(self):
+        """It is no longer than the gas plays: one that stands has none."""
+        room = tempfile.TemporaryDirectory()
+        self.addCleanup(room.cleanup)
+        self.open("8")
+        self.browser.download_to(room.name)
+        film = "[...document.querySelectorAll('.give')].find((e) => /^Film/.test(e.textContent)).lastChild"
+        self.value(f"document.getElementById('share-open').click(); {film}.click()")
+        self.assertEqual(self.value(f"{film}.textContent"), "Press play")
+        self.send(".play 1 30")
+        self.browser.wait("laboratory.lab.playing", True)
+        self.value(f"{film}.click()")
+        path = Path(room.name) / "film.webm"
+        self.browser.wait_for_file(path)
+        self.assertEqual(path.read_bytes()[:4], b"\x1a\x45\xdf\xa3")
+        self.assertEqual(self.value(f"{film}.textContent"), "Save")
 
 
 class Readings(PageCase):
