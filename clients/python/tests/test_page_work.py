@@ -203,8 +203,12 @@ class Seats(PageCase):
             self.assertIn(told, self.value("document.getElementById('lesson').textContent"))
 
     def test_after_the_server_has_ended_each_line_is_answered(self):
-        self.open("8")
+        """And so is a step, even if the last picture is one of a gas that plays."""
+        self.open("4")
+        self.browser.wait("laboratory.lab.playing", True)
         self.value("laboratory.lab.link.socket.close()")
+        self.value("document.getElementById('step').click()")
+        self.browser.wait(f"({CALLOUT}).includes('The server has ended')", True)
         buttons = self.value("[...document.querySelectorAll('#banner button')].map((e) => e.textContent)")
         self.assertEqual(buttons, ["Connect again", "Save the picture"])
         self.assertEqual(self.value("laboratory.send(['step 1'])"), ["GONE"])

@@ -359,8 +359,8 @@ addEventListener("unhandledrejection", ({ reason }) => fault(reason));
 
 /** Pauses, and waits for the picture that stays. */
 export async function pause() {
-  const [reply] = state.playing ? await send([".pause"]) : ["DONE"];
-  while (reply === "DONE" && state.picture?.playing)
+  const [reply] = state.playing ? await send([".pause"]) : [];
+  while (reply === "DONE" && state.playing)
     await new Promise((done) => state.addEventListener("changed", done, { once: true }));
 }
 
