@@ -16,7 +16,6 @@ pub mod RunSteps
 pub mod Balances
 pub mod SolidBlocks
 pub mod RowPlaces
-pub mod RowTurns
 pub mod PartTurns
 pub mod ActionSums
 pub mod ActionBounds

@@ -19,15 +19,15 @@ there shift m top v some =
 open_row : (h top v : ℕ) → 1 ≤ top + v → top + v ≤ h → (top + v + h - 1) % h ≡ top + v - 1
 open_row h top v low high = grind (arith, mod-mul-add)
 
--- row v round a tile that begins at row `top` of the part: the part's, which it still has after k phases, is the lattice's
+-- row v round a tile that begins at row `top` of the part: one of those that are the lattice's, but for k at either end
 pub record IsRowSeen (margin k shift m h top v : ℕ) : Type 0 where
   pub low : margin * k ≤ (top + v + h - 1) % h
   pub high : (top + v + h - 1) % h + margin * k < h
   pub same : (shift + (top + v + h - 1) % h) % m ≡ ((shift + top) % m + v + m - 1) % m
 
-pub row_seen : (margin k shift m h top y v : ℕ) → margin ≤ 1 → 0 < m → (margin ≡ 0 → h ≡ m) → margin * (k + 1) ≤ top + y → top + y + margin * (k + 1) < h → y ≤ v → v ≤ y + 2
-    → IsRowSeen margin k shift m h top v
-row_seen zero k shift m h top y v small some closed low high from to =
+-- what a phase of parity p reads round an own tile
+pub row_seen : (margin p shift m h top v : ℕ) → margin ≤ 1 → 0 < m → (margin ≡ 0 → h ≡ m) → p < 2 → margin * 64 ≤ top → top + 64 + margin * 64 ≤ h → 1 ≤ v + p → v ≤ 64 + p → IsRowSeen margin (64 - p) shift m h top v
+row_seen zero p shift m h top v small some closed parity low high from to =
     let e : h ≡ m = closed refl in
     let within : (top + v + h - 1) % h < h = mod-lt (top + v + h - 1) (omega arith) in
     record {
@@ -35,7 +35,7 @@ row_seen zero k shift m h top y v small some closed low high from to =
       high = omega arith;
       same = ap (λ n. (shift + (top + v + n - 1) % n) % m) e ∙ (add-mod-mod shift (top + v + m - 1) m ∙ sym (there shift m top v some));
     }
-row_seen (suc zero) k shift m h top y v small some closed low high from to =
+row_seen (suc zero) p shift m h top v small some closed parity low high from to =
     let first : 1 ≤ top + v = omega arith in
     let last : top + v ≤ h = omega arith in
     let e = open_row h top v first last in
@@ -48,7 +48,7 @@ row_seen (suc zero) k shift m h top y v small some closed low high from to =
           ∙ (ap (λ n. n % m) (let f : shift + (top + v - 1) + m ≡ shift + (top + v + m - 1) = omega arith in f)
           ∙ sym (there shift m top v some)));
     }
-row_seen (suc (suc n)) k shift m h top y v small some closed low high from to = absurd (omega arith)
+row_seen (suc (suc n)) p shift m h top v small some closed parity low high from to = absurd (omega arith)
 
 -- a tile that begins no row of tiles is in the row of the one before it
 pub row_stays : (a i : ℕ) → 0 < a → (i % a ≡ 0 → ⊥) → (i - 1) / a ≡ i / a

@@ -10,12 +10,13 @@ use Rattle.gas_plane.proofs.Rings.{row_in}
 use Rattle.gas_plane.proofs.Places.{wide, high}
 use Rattle.block_rule.specs.Accounts.{counted_of}
 use Rattle.block_rule.specs.declared.walled.Counted.{Counted}
+use Rattle.std.proofs.Math.Nat.{mul-le-mul_left}
 use Rattle.std.proofs.lemmas.Nat.{mod-mul-add, div-add-mod'}
 use Rattle.phase_step.specs.Runs.{parity_at, tiles_take}
 use Rattle.phase_step.specs.Actions.{Leaves, acted, after_with, flow_plus, flow_with, FlowsFit}
 use Rattle.phase_step.specs.Balance.{flow_counted}
 use Rattle.phase_step.specs.TileRuns.{tiles_move, tiles_flow}
-use Rattle.phase_step.specs.Parts.{own_rows, own_flow, own_take, own_moves, IsPartOf, IsTileOf, IsUnspoilt, HasRun, tile_in, whole_part}
+use Rattle.phase_step.specs.Parts.{own_rows, own_flow, own_take, own_moves, IsOwn, IsPartOf, IsTileOf, HasRun, tile_in, whole_part}
 use Rattle.phase_step.specs.Turns.{IsTileAfter}
 use Rattle.phase_step.specs.SolidBlocks.{AreTileSolids}
 use Rattle.phase_step.specs.declared.steps.solids.TileSolids.{TileSolids}
@@ -28,6 +29,7 @@ use Rattle.phase_step.specs.declared.sums.flow.Flow.{Flow}
 use Rattle.phase_step.proofs.ActionRuns.{same_flow, sides_with}
 use Rattle.phase_step.proofs.ActionSums.{takes_all_with, moves_all, moves_all_with}
 use Rattle.phase_step.proofs.Balances.{flows_counted, counted_fit}
+use Rattle.phase_step.proofs.PartTurns.{rows_left}
 use Rattle.phase_step.proofs.RunTakes.{counted_none}
 use Rattle.phase_step.proofs.OwnPhases.{IsOwnPhase, own_flow_next, own_flow_fits}
 
@@ -42,7 +44,7 @@ pub record IsPartPhase (part : Part) (counted : Counted) (d : Dynamics) (q k : �
   pub now_sides : HasSidesOf now old
   pub come_sides : HasSidesOf come old
   pub so_far : HasRun part counted d k old lattice now flow
-  pub action : IsPartOf part d.walls d.obstacles next (acted (d.leaves k) (streamed q (after_all d lattice k) (joined d.walls d.obstacles))) (k + 1)
+  pub action : IsPartOf part d.walls d.obstacles next (acted (d.leaves k) (streamed q (after_all d lattice k) (joined d.walls d.obstacles))) 64
   pub took : here.took ≡ counted_of counted (own_take part q now (after_all d lattice k) d.walls d.obstacles)
   pub moved : let there = streamed q (after_all d lattice k) (joined d.walls d.obstacles) in here.moved ≡ own_moves part (1 - q) come there (acted (d.leaves k) there)
 
@@ -82,27 +84,31 @@ module _ (part : Part) (counted : Counted) (d : Dynamics) (q k : ℕ) (lattice o
       subst (λ (f : Flow). FlowsFit f here) (sym is.so_far.flow) (subst (FlowsFit (flow_counted counted (own_flow part d old lattice k))) (sym here_is) (counted_fit counted (own_flow part d old lattice k) every fits))
 
 -- no phase yet
-pub run_begins : (part : Part) (counted : Counted) (d : Dynamics) (old lattice : Cells) → IsPartOf part d.walls d.obstacles old lattice 0
+pub run_begins : (part : Part) (counted : Counted) (d : Dynamics) (old lattice : Cells) (p : ℕ) → IsPartOf part d.walls d.obstacles old lattice (64 - p)
     → HasRun part counted d 0 old lattice old (record { took = record { walls = record { x = pos 0; y = pos 0 }; obstacles = record { x = pos 0; y = pos 0 } }; moved = record { injected = record { count = pos 0; px = pos 0; py = pos 0 }; drained = record { count = pos 0; px = pos 0; py = pos 0 } } })
-run_begins part counted d old lattice is = record { is = is; flow = same_flow _ _ (counted_none counted) refl }
+run_begins part counted d old lattice p is =
+    record { is = rows_left part d.walls d.obstacles old lattice (64 - p) 64 (mul-le-mul_left part.margin (omega arith)) is; flow = same_flow _ _ (counted_none counted) refl }
+
+-- a part that makes more phases than one has no margin, so that after a phase it is ready for the next
+pub ready_again : (part : Part) (walls obstacles cells lattice : Cells) (n k q : ℕ) → part.margin * n ≤ 1 → k + 1 < n → IsPartOf part walls obstacles cells lattice 64 → IsPartOf part walls obstacles cells lattice (64 - q)
+ready_again part walls obstacles cells lattice n k q few more is =
+    let twice : part.margin * 2 ≤ part.margin * n = mul-le-mul_left part.margin (omega arith) in
+    let none : part.margin ≡ 0 = omega (arith, few, twice) in
+    rows_left part walls obstacles cells lattice 64 (64 - q) (subst (λ m. m * 64 ≤ m * (64 - q)) (sym none) (omega arith)) is
 
 pub sides_on : (a b c : Cells) → HasSidesOf a b → HasSidesOf b c → HasSidesOf a c
 sides_on a b c p q = record { wide = p.wide ∙ q.wide; high = p.high ∙ q.high }
-
--- so many phases as a margin has rows spoil none of the part's own, nor do fewer
-pub still_unspoilt : (margin k n : ℕ) → margin * n ≤ 64 → k ≤ n → margin * k ≤ 64
-still_unspoilt margin k n most less = let h : margin * k ≤ margin * n = mul-le-mul (let e : margin ≤ margin = omega arith in e) less in omega (arith, h, most)
 
 -- The whole lattice is a part of itself, whose rows are all.
 whole_row : (down h y : ℕ) → h ≡ down * 64 → y < h → ((0 + down - 0) * 64 + y) % (down * 64) ≡ y
 whole_row down h y e less = grind (arith, mod-mul-add)
 
-pub whole_is : (down : ℕ) (walls obstacles cells : Cells) → is_size (extent cells) ≡ true → IsFull cells → HasSidesOf walls cells → HasSidesOf obstacles cells → down ≡ cells.height / 64
-    → IsPartOf (record { first = 0; down = down; margin = 0 }) walls obstacles cells cells 0
-whole_is down walls obstacles cells sized full of_walls of_obstacles e = grind (arith, high, extent, wide, has, whole_row)
+pub whole_is : (down k : ℕ) (walls obstacles cells : Cells) → is_size (extent cells) ≡ true → IsFull cells → HasSidesOf walls cells → HasSidesOf obstacles cells → down ≡ cells.height / 64
+    → IsPartOf (record { first = 0; down = down; margin = 0 }) walls obstacles cells cells k
+whole_is down k walls obstacles cells sized full of_walls of_obstacles e = grind (arith, high, extent, wide, has, whole_row)
 
-pub whole_held : (part : Part) (walls obstacles cells : Cells) → IsLattice cells → part ≡ whole_part cells → HasSidesOf walls cells → HasSidesOf obstacles cells → IsPartOf part walls obstacles cells cells 0
-whole_held part walls obstacles cells is e of_walls of_obstacles = grind (arith, whole_is)
+pub whole_held : (part : Part) (walls obstacles cells : Cells) (k : ℕ) → IsLattice cells → part ≡ whole_part cells → HasSidesOf walls cells → HasSidesOf obstacles cells → IsPartOf part walls obstacles cells cells k
+whole_held part walls obstacles cells k is e of_walls of_obstacles = subst (λ (part : Part). IsPartOf part walls obstacles cells cells k) (sym e) (whole_is (cells.height / 64) k walls obstacles cells is.sized is.full of_walls of_obstacles refl)
 
 -- the torus is closed: the whole lattice has all rows
 pub whole_same : (down k : ℕ) (walls obstacles new lattice : Cells) → IsFull new → IsPartOf (record { first = 0; down = down; margin = 0 }) walls obstacles new lattice k → new ≡ lattice
@@ -139,35 +145,33 @@ whole_tile cells i is within =
     let turn : 0 + down - 0 + i / a ≡ 1 * down + i / a = omega arith in
     ap (λ r. r % down * a + i % a) turn ∙ (ap (λ r. r * a + i % a) (mod-mul-add 1 down (i / a) row) ∙ div-add-mod' i a)
 
-whole_turned : (p : ℕ) (cells walls obstacles : Cells) (i k : ℕ) (t : Tile) → IsLattice cells → i < tile_count cells → IsTileOf (whole_part cells) p cells cells walls obstacles k i t → IsTileAfter p cells walls obstacles i t
-whole_turned p cells walls obstacles i k t is within turned x y h q =
-    let tiles = (high (extent cells) is.sized).tiles in
-    let place = cell_within cells i x y is within h q in
-    turned x y h q (omega arith) (omega (arith, place.1))
-    ∙ ap (has (streamed p cells (joined walls obstacles)) (i % (cells.width / 64) * 64 + x)) (whole_row (cells.height / 64) cells.height (i / (cells.width / 64) * 64 + y) (omega (arith, tiles)) place.1)
-
-whole_unspoilt : (cells : Cells) (i : ℕ) → IsLattice cells → i < tile_count cells → IsUnspoilt (whole_part cells) cells i 0
-whole_unspoilt cells i is within = grind (arith, high, extent, row_in)
+whole_own : (cells : Cells) (i : ℕ) → i < tile_count cells → IsOwn (whole_part cells) cells i
+whole_own cells i within =
+    let rows : cells.height / 64 - 2 * 0 ≡ cells.height / 64 = omega arith in
+    let count = ap (λ n. n * (cells.width / 64)) rows in
+    record { within = within; low = omega arith; high = omega (arith, count) }
 
 -- a step of a tile of it is the lattice's
 pub whole_turns : (p : ℕ) (old w o : Cells) (i : ℕ) (tile_solids : TileSolids) (t : Tile) → IsLattice old → i < tile_count old → HasSidesOf w old → HasSidesOf o old → AreTileSolids w o i tile_solids
-    → (IsPartOf (whole_part old) w o old old 0 → AreTileSolids w o (tile_in (whole_part old) (old.width / 64) i) tile_solids → IsTileOf (whole_part old) p old old w o 1 i t) → IsTileAfter p old w o i t
-whole_turns p old w o i tile_solids t is within of_walls of_obstacles known turned =
-    whole_turned p old w o i 1 t is within
-    (turned (whole_is (old.height / 64) w o old is.sized is.full of_walls of_obstacles refl) (subst (λ j. AreTileSolids w o j tile_solids) (sym (whole_tile old i is within)) known))
+    → (IsOwn (whole_part old) old i → IsPartOf (whole_part old) w o old old (64 - p) → AreTileSolids w o (tile_in (whole_part old) (old.width / 64) i) tile_solids → IsTileOf (whole_part old) old (streamed p old (joined w o)) i t) → IsTileAfter p old w o i t
+whole_turns p old w o i tile_solids t is within of_walls of_obstacles known turned x y h q =
+    let place = cell_within old i x y is within h q in
+    let tiles = (high (extent old) is.sized).tiles in
+    turned (whole_own old i within) (whole_is (old.height / 64) (64 - p) w o old is.sized is.full of_walls of_obstacles refl) (subst (λ j. AreTileSolids w o j tile_solids) (sym (whole_tile old i is within)) known) x y h q
+    ∙ ap (has (streamed p old (joined w o)) (i % (old.width / 64) * 64 + x)) (whole_row (old.height / 64) old.height (i / (old.width / 64) * 64 + y) (omega (arith, tiles)) place.1)
 
 pub whole_takes : (p : ℕ) (old w o : Cells) (i : ℕ) (tile_solids : TileSolids) (took : Took) → IsLattice old → i < tile_count old → HasSidesOf w old → HasSidesOf o old → AreTileSolids w o i tile_solids
-    → (IsPartOf (whole_part old) w o old old 0 → AreTileSolids w o (tile_in (whole_part old) (old.width / 64) i) tile_solids → IsUnspoilt (whole_part old) old i 0 → took ≡ taken_in (pos p) old w o (tile_rectangle old (tile_in (whole_part old) (old.width / 64) i)))
+    → (IsOwn (whole_part old) old i → IsPartOf (whole_part old) w o old old (64 - p) → AreTileSolids w o (tile_in (whole_part old) (old.width / 64) i) tile_solids → took ≡ taken_in (pos p) old w o (tile_rectangle old (tile_in (whole_part old) (old.width / 64) i)))
     → took ≡ taken_in (pos p) old w o (tile_rectangle old i)
 whole_takes p old w o i tile_solids took is within of_walls of_obstacles known takes =
-    takes (whole_is (old.height / 64) w o old is.sized is.full of_walls of_obstacles refl) (subst (λ j. AreTileSolids w o j tile_solids) (sym (whole_tile old i is within)) known) (whole_unspoilt old i is within)
+    takes (whole_own old i within) (whole_is (old.height / 64) (64 - p) w o old is.sized is.full of_walls of_obstacles refl) (subst (λ j. AreTileSolids w o j tile_solids) (sym (whole_tile old i is within)) known)
     ∙ ap (λ j. taken_in (pos p) old w o (tile_rectangle old j)) (whole_tile old i is within)
 
 -- A strip is a part with a margin.
-pub strip_is : (first down rows : ℕ) (walls obstacles strip lattice : Cells) → is_size (extent lattice) ≡ true → IsFull lattice → HasSidesOf walls lattice → HasSidesOf obstacles lattice → lattice.height ≡ down * 64 → strip.width ≡ lattice.width → strip.height ≡ (rows + 2) * 64 → 0 < rows → first + rows ≤ down
-    → ((x y : ℕ) → x < lattice.width → y < strip.height → has strip x y ≡ has lattice x (((first + down - 1) * 64 + y) % (down * 64)))
-    → IsPartOf (record { first = first; down = down; margin = 1 }) walls obstacles strip lattice 0
-strip_is first down rows walls obstacles strip lattice sized full of_walls of_obstacles high_is wide_is strip_high some within row = grind (arith, wide)
+pub strip_is : (first down rows k : ℕ) (walls obstacles strip lattice : Cells) → is_size (extent lattice) ≡ true → IsFull lattice → HasSidesOf walls lattice → HasSidesOf obstacles lattice → lattice.height ≡ down * 64 → strip.width ≡ lattice.width → strip.height ≡ (rows + 2) * 64 → 0 < rows → first + rows ≤ down
+    → ((x y : ℕ) → x < lattice.width → k ≤ y → y + k < strip.height → has strip x y ≡ has lattice x (((first + down - 1) * 64 + y) % (down * 64)))
+    → IsPartOf (record { first = first; down = down; margin = 1 }) walls obstacles strip lattice k
+strip_is first down rows k walls obstacles strip lattice sized full of_walls of_obstacles high_is wide_is strip_high some within row = grind (arith, wide)
 
 pub strip_flow : (first down rows n : ℕ) (counted : Counted) (d : Dynamics) (strip lattice new : Cells) (answer : Flow) → strip.height ≡ (rows + 2) * 64 → HasRun (record { first = first; down = down; margin = 1 }) counted d n strip lattice new answer
     → answer ≡ flow_counted counted (tiles_flow d.parity d.walls d.obstacles d.leaves lattice (first * (lattice.width / 64)) (rows * (lattice.width / 64)) n)

@@ -1,21 +1,23 @@
--- The tiles of a part are turned one after another.
-use Rattle.std.proofs.Common.{◌≡◌, ℕ, ◌+◌, ◌-◌, ◌*◌, ◌/◌, ◌%◌, ◌<◌, ◌≤◌, ◌==◌, true, if◌then◌else◌, refl, sym, ap, ◌∙◌, subst, arith}
+-- The own tiles of a part are turned or acted on, one after another.
+use Rattle.std.proofs.Common.{◌≡◌, ℕ, ◌+◌, ◌-◌, ◌*◌, ◌/◌, ◌%◌, ◌<◌, ◌≤◌, ◌==◌, true, if◌then◌else◌, refl, sym, ap, ap₂, ◌∙◌, subst, arith}
 use Rattle.std.proofs.Math.Nat.{mod-lt}
-use Rattle.std.proofs.lemmas.Nat.{row-Below, mod-mul-add}
+use Rattle.std.proofs.lemmas.Nat.{row-Below, mod-mul-add, div-mul-add}
 use Rattle.std.proofs.lemmas.Bool.{cases_eq, eq-eqb, ne_eqb}
 use Rattle.bit_tile.specs.Tile as tile
 use Rattle.bit_tile.specs.declared.Tile.{Tile}
-use Rattle.gas_terms.specs.Cells.{Cells, HasSidesOf, has, joined, extent, is_size, tile_count}
+use Rattle.gas_terms.specs.Cells.{Cells, HasSidesOf, has, joined, extent, is_size, tile_count, IsFull}
 use Rattle.gas_terms.specs.Gas.{streamed, arrived, site_of}
 use Rattle.gas_terms.specs.Velocity.{velocity_at}
 use Rattle.gas_terms.proofs.Cells.{has-cells_where, full-cells_where}
 use Rattle.gas_plane.specs.Planes.{IsTileFrom, with_tile, tile_of}
-use Rattle.gas_plane.proofs.Places.{wide, high, cell_below}
+use Rattle.gas_plane.proofs.Places.{wide, high, cell_below, tile_below}
 use Rattle.gas_plane.proofs.Sweeps.{left_of, top_of, tile_column}
 use Rattle.gas_plane.proofs.Tilings.{choose_true, choose_false}
-use Rattle.phase_step.specs.Parts.{row_in, IsTileOf, IsPartOf, AreTurnedUpTo, AreKeptFrom}
+use Rattle.phase_step.specs.Actions.{Leaves, acted}
+use Rattle.phase_step.specs.Parts.{row_in, HasRows, IsOwn, IsTileOf, IsPartOf, AreMadeUpTo, AreKeptFrom}
 use Rattle.phase_step.specs.declared.parts.Part.{Part}
-use Rattle.phase_step.proofs.PartTurns.{rows_next}
+use Rattle.phase_step.proofs.PhaseSweeps.{sized_as}
+use Rattle.phase_step.proofs.OwnTiles.{own_at}
 
 -- the cell (x, y) of tile j, when tile i is replaced
 module _ (cells now : Cells) (i j x y : ℕ) (t : Tile) (sized : is_size (extent cells) ≡ true) (sides : HasSidesOf now cells) (within : j < tile_count cells) (h : x < 64) (k : y < 64) where
@@ -34,35 +36,74 @@ module _ (cells now : Cells) (i j x y : ℕ) (t : Tile) (sized : is_size (extent
   pub with_other : (j ≡ i → ⊥) → has (with_tile now i t) (left_of cells j + x) (top_of cells j + y) ≡ has now (left_of cells j + x) (top_of cells j + y)
   with_other other = made ∙ sym (choose_false _ _ _ _ (ne_eqb _ i (λ e. other (sym place ∙ e))) refl)
 
--- one more tile is turned
-pub turned_next : (part : Part) (p : ℕ) (cells lattice walls obstacles now : Cells) (i k : ℕ) (t : Tile) → is_size (extent cells) ≡ true → HasSidesOf now cells → AreTurnedUpTo i part p cells lattice walls obstacles now k → IsTileOf part p cells lattice walls obstacles k i t
-    → AreTurnedUpTo (i + 1) part p cells lattice walls obstacles (with_tile now i t) k
-turned_next part p cells lattice walls obstacles now i k t sized sides so_far turned = grind (arith, cases_eq, with_here, top_of, has, streamed, joined, left_of, row_in, with_other)
+-- one more own tile has the lattice's cells: it is replaced, or it stays
+pub made_next : (part : Part) (cells lattice now : Cells) (i : ℕ) (t : Tile) → is_size (extent cells) ≡ true → HasSidesOf now cells → AreMadeUpTo i part cells lattice now → IsTileOf part cells lattice i t → AreMadeUpTo (i + 1) part cells lattice (with_tile now i t)
+made_next part cells lattice now i t sized sides so_far made = grind (arith, cases_eq, with_here, top_of, has, left_of, row_in, with_other)
+
+pub made_past : (part : Part) (cells lattice now : Cells) (i : ℕ) → AreMadeUpTo i part cells lattice now → AreKeptFrom i cells now
+    → ((x y : ℕ) → x < 64 → y < 64 → has cells (i % (cells.width / 64) * 64 + x) (i / (cells.width / 64) * 64 + y) ≡ has lattice (i % (cells.width / 64) * 64 + x) (row_in part (i / (cells.width / 64) * 64 + y)))
+    → AreMadeUpTo (i + 1) part cells lattice now
+made_past part cells lattice now i so_far kept same = grind (arith, cases_eq, has, row_in)
 
 pub kept_next : (before now : Cells) (i : ℕ) (t : Tile) → is_size (extent before) ≡ true → HasSidesOf now before → AreKeptFrom i before now → AreKeptFrom (i + 1) before (with_tile now i t)
 kept_next before now i t sized sides so_far = grind (arith, with_other)
 
--- a tile that was not turned yet
+pub kept_past : (before now : Cells) (i : ℕ) → AreKeptFrom i before now → AreKeptFrom (i + 1) before now
+kept_past before now i so_far = record { tile = λ j from. so_far.tile j (omega arith) }
+
+-- a tile that was not replaced yet
 pub tile_before : (before now : Cells) (i : ℕ) (t : Tile) → HasSidesOf now before → i < tile_count before → AreKeptFrom i before now → IsTileFrom t now (left_of now i) (top_of now i) → IsTileFrom t before (left_of before i) (top_of before i)
 tile_before before now i t sides within kept from = grind (arith, has, wide)
 
--- all are turned
-pub all_turned : (part : Part) (p : ℕ) (cells lattice walls obstacles now : Cells) (i k : ℕ) → is_size (extent cells) ≡ true → HasSidesOf now cells → tile_count cells ≤ i → IsPartOf part walls obstacles cells lattice k
-    → AreTurnedUpTo i part p cells lattice walls obstacles now (k + 1) → IsPartOf part walls obstacles now (streamed p lattice (joined walls obstacles)) (k + 1)
-all_turned part p cells lattice walls obstacles now i k sized sides past is turned =
+-- when each own tile has them
+own_rows_made : (part : Part) (cells next now : Cells) → is_size (extent cells) ≡ true → cells.width ≡ next.width → HasSidesOf now cells → ((j : ℕ) → IsOwn part cells j → (x y : ℕ) → x < 64 → y < 64 →
+    has now (left_of cells j + x) (top_of cells j + y) ≡ has next (left_of cells j + x) (row_in part (top_of cells j + y))) → HasRows part now next 64
+own_rows_made part cells next now sized same sides each =
+    record {
+      row = λ x y l low top.
+          let a = cells.width / 64 in
+          let across = wide (extent cells) sized in
+          let down = high (extent cells) sized in
+          let l' : x < cells.width = omega (arith, l, same) in
+          let top' : y + part.margin * 64 < cells.height = omega (arith, top, sides.high) in
+          let c : x / 64 < a = tile_below cells.width x across l' in
+          let i = y / 64 * a + x / 64 in
+          let e : i % a ≡ x / 64 = mod-mul-add (y / 64) a (x / 64) c in
+          let f : i / a ≡ y / 64 = div-mul-add (y / 64) a (x / 64) c in
+          let g : left_of cells i + x % 64 ≡ x = omega (arith, e) in
+          let h : top_of cells i + y % 64 ≡ y = omega (arith, f) in
+          let own : IsOwn part cells i = own_at part cells (y / 64) (x / 64) c (omega (arith, low)) (omega (arith, top', down.tiles)) in
+          sym (ap₂ (has now) g h) ∙ (each i own (x % 64) (y % 64) (omega arith) (omega arith) ∙ ap₂ (λ x y. has next x (row_in part y)) g h);
+    }
+
+pub all_made : (part : Part) (walls obstacles cells lattice next now : Cells) (i k : ℕ) → is_size (extent cells) ≡ true → HasSidesOf now cells → HasSidesOf next lattice → IsFull next → ((j : ℕ) → IsOwn part cells j → j < i) → IsPartOf part walls obstacles cells lattice k
+    → AreMadeUpTo i part cells next now → IsPartOf part walls obstacles now next 64
+all_made part walls obstacles cells lattice next now i k sized sides of_lattice full past is made =
     let placed = is.placed in
     record {
-      sized = is.sized;
-      full = full-cells_where lattice.width lattice.height (λ x y. arrived lattice (joined walls obstacles) (site_of (p + 1) lattice.width lattice.height x y) (velocity_at (p + 1) x y));
-      of_walls = record { wide = is.of_walls.wide; high = is.of_walls.high };
-      of_obstacles = record { wide = is.of_obstacles.wide; high = is.of_obstacles.high };
+      sized = sized_as lattice next (record { wide = sym of_lattice.wide; high = sym of_lattice.high }) is.sized;
+      full = full;
+      of_walls = record { wide = is.of_walls.wide ∙ sym of_lattice.wide; high = is.of_walls.high ∙ sym of_lattice.high };
+      of_obstacles = record { wide = is.of_obstacles.wide ∙ sym of_lattice.wide; high = is.of_obstacles.high ∙ sym of_lattice.high };
       placed = record {
-        wide = sides.wide ∙ placed.wide;
-        down = placed.down;
+        wide = sides.wide ∙ (placed.wide ∙ sym of_lattice.wide);
+        down = of_lattice.high ∙ placed.down;
         some = subst (λ h. 2 * part.margin < h / 64) (sym sides.high) placed.some;
         inside = subst (λ h. part.first + (h / 64 - 2 * part.margin) ≤ part.down) (sym sides.high) placed.inside;
         margin = placed.margin;
-        all = λ e. sides.high ∙ placed.all e;
+        all = λ e. sides.high ∙ (placed.all e ∙ sym of_lattice.high);
       };
-      rows = rows_next p part cells now lattice walls obstacles (k + 1) sized placed.wide sides (λ j within x y h q low top. turned.tile j (omega arith) within x y h q low top);
+      rows = own_rows_made part cells next now sized (placed.wide ∙ sym of_lattice.wide) sides (λ j own. made.tile j own (past j own));
     }
+
+-- after a phase, and after an action
+pub all_turned : (p : ℕ) (part : Part) (walls obstacles cells lattice now : Cells) (i k : ℕ) → is_size (extent cells) ≡ true → HasSidesOf now cells → ((j : ℕ) → IsOwn part cells j → j < i) → IsPartOf part walls obstacles cells lattice k
+    → AreMadeUpTo i part cells (streamed p lattice (joined walls obstacles)) now → IsPartOf part walls obstacles now (streamed p lattice (joined walls obstacles)) 64
+all_turned p part walls obstacles cells lattice now i k sized sides past is made =
+    all_made part walls obstacles cells lattice _ now i k sized sides (record { wide = refl; high = refl })
+    (full-cells_where lattice.width lattice.height (λ x y. arrived lattice (joined walls obstacles) (site_of (p + 1) lattice.width lattice.height x y) (velocity_at (p + 1) x y))) past is made
+
+pub all_acted : (leaves : Leaves) (part : Part) (walls obstacles cells lattice now : Cells) (i k : ℕ) → is_size (extent cells) ≡ true → HasSidesOf now cells → ((j : ℕ) → IsOwn part cells j → j < i) → IsPartOf part walls obstacles cells lattice k
+    → AreMadeUpTo i part cells (acted leaves lattice) now → IsPartOf part walls obstacles now (acted leaves lattice) 64
+all_acted leaves part walls obstacles cells lattice now i k sized sides past is made =
+    all_made part walls obstacles cells lattice _ now i k sized sides (record { wide = refl; high = refl }) (full-cells_where lattice.width lattice.height (λ x y. leaves x y (has lattice x y))) past is made

@@ -1,5 +1,5 @@
 -- What tiles take, in one phase and in many.
-use Rattle.std.proofs.Common.{◌≡◌, ℕ, zero, suc, ◌+◌, ◌-◌, ◌*◌, ◌<◌, ◌≤◌, ◌^◌, ◌⊎◌, inl, inr, Bool, true, false, ℤ, pos, ◌+ℤ◌, ◌*ℤ◌, nat_abs, w64, FitsSigned, refl, sym, ap, ap₂, ◌∙◌, subst, arith, add-one}
+use Rattle.std.proofs.Common.{◌≡◌, ℕ, zero, suc, ◌+◌, ◌*◌, ◌<◌, ◌≤◌, ◌^◌, Bool, true, false, ℤ, pos, ◌+ℤ◌, ◌*ℤ◌, nat_abs, w64, FitsSigned, refl, sym, ap, ap₂, ◌∙◌, subst, arith, add-one}
 use Rattle.std.proofs.lemmas.Int.{ints}
 use Rattle.gas_terms.specs.Cells.{Cells, HasSidesOf, extent, is_size, tile_count, tile_rectangle}
 use Rattle.gas_terms.specs.Gas.{takes_for_walls, takes_for_obstacles}
@@ -144,11 +144,7 @@ counted_within k c t is = record {
     kept_y true p h = h
     kept_y false p h = omega arith
 
--- a tile that is not one of them
-pub own_other : (first end i : ℕ) → first ≤ end → (i < first) ⊎ (end ≤ i) → i + 1 - first - (i + 1 - end) ≡ i - first - (i - end)
-own_other first end i order (inl before) = omega arith
-own_other first end i order (inr after) = omega arith
-
+-- one tile more
 pub own_fits : (p : ℕ) (c w o : Cells) (kept : Counted) (first n i : ℕ) (took here : Took) → n ≤ 4096 → took ≡ counted_of kept (tiles_take p c w o first n) → here ≡ counted_of kept (taken_in (pos p) c w o (tile_rectangle c i))
     → TakenFits (pair_plus took.walls here.walls) × TakenFits (pair_plus took.obstacles here.obstacles)
 own_fits p c w o kept first n i took here few so_far e =

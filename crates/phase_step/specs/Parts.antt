@@ -40,18 +40,24 @@ pub record IsPlaced (part : Part) (cells lattice : Cells) : Type 0 where
   pub margin : part.margin ≤ 1
   pub all : part.margin ≡ 0 → cells.height ≡ lattice.height
 
--- The part's rows are the lattice's, but for k rows at either end if it has margins.
+-- The part's rows are the lattice's, but for k rows at either end if it has margins. With k = 64
+-- these are its own rows. With k = 63 they are its own, and one row of cells more above and below.
 pub record HasRows (part : Part) (cells lattice : Cells) (k : ℕ) : Type 0 where
   pub row : (x y : ℕ) → x < lattice.width → part.margin * k ≤ y
       → y + part.margin * k < cells.height → has cells x y ≡ has lattice x (row_in part y)
 
--- the same of one tile of a part of this size, and of the lattice after a phase of parity p
-abbrev pub IsTileOf : Part → ℕ → Cells → Cells → Cells → Cells → ℕ → ℕ → Tile → Type 0
-IsTileOf part p cells lattice walls obstacles k i t =
+-- tile i is one of its own
+pub record IsOwn (part : Part) (cells : Cells) (i : ℕ) : Type 0 where
+  pub within : i < tile_count cells
+  pub low : part.margin * (cells.width / 64) ≤ i
+  pub high : i < part.margin * (cells.width / 64) + own_rows part cells * (cells.width / 64)
+
+-- the tile has the lattice's cells, from where tile i of a part of this size stands
+abbrev pub IsTileOf : Part → Cells → Cells → ℕ → Tile → Type 0
+IsTileOf part cells lattice i t =
     let left = i % (cells.width / 64) * 64 in
     let top = i / (cells.width / 64) * 64 in
-    (x y : ℕ) → x < 64 → y < 64 → part.margin * k ≤ top + y → top + y + part.margin * k < cells.height
-    → tile.has t x y ≡ has (streamed p lattice (joined walls obstacles)) (left + x) (row_in part (top + y))
+    (x y : ℕ) → x < 64 → y < 64 → tile.has t x y ≡ has lattice (left + x) (row_in part (top + y))
 
 -- what n phases come to in the part's own tiles
 abbrev pub own_flow : Part → Dynamics → Cells → Cells → ℕ → Flow
@@ -70,7 +76,8 @@ own_moves part p cells old new = let across = old.width / 64 in tiles_move (pos 
 abbrev pub whole_part : Cells → Part
 whole_part cells = record { first = 0; down = cells.height / 64; margin = 0 }
 
--- The cells are those of a part of a lattice with these walls and obstacles, but for the rows that k phases spoil.
+-- The cells are those of a part of a lattice with these walls and obstacles, but for k rows at
+-- either end if it has margins.
 pub record IsPartOf (part : Part) (walls obstacles cells lattice : Cells) (k : ℕ) : Type 0 where
   pub sized : is_size (extent lattice) ≡ true
   pub full : IsFull lattice
@@ -79,47 +86,39 @@ pub record IsPartOf (part : Part) (walls obstacles cells lattice : Cells) (k : �
   pub placed : IsPlaced part cells lattice
   pub rows : HasRows part cells lattice k
 
--- A phase of parity p turned a part of each lattice that it is a part of, and took this in its own tiles.
-pub record IsTurned (part : Part) (p : ℕ) (counted : Counted) (walls obstacles old new : Cells) (answer : Took) : Type 0 where
-  pub rows : (lattice : Cells) (k : ℕ) → IsPartOf part walls obstacles old lattice k
-      → IsPartOf part walls obstacles new (streamed p lattice (joined walls obstacles)) (k + 1)
-  pub took : (lattice : Cells) (k : ℕ) → IsPartOf part walls obstacles old lattice k → part.margin * k ≤ 64 → answer ≡ counted_of counted (own_take part p old lattice walls obstacles)
-
--- and of some lattice, so that the part's own rows are not spoilt
+-- the same with some lattice
 pub record IsReady (part : Part) (walls obstacles cells : Cells) (k : ℕ) : Type 0 where
   pub lattice : Cells
   pub is : IsPartOf part walls obstacles cells lattice k
-  pub few : part.margin * k ≤ 64
 
--- What a run of n phases is: the part has the lattice's rows after it, and the flow is that of its own tiles.
+-- and with some walls and obstacles, by its own rows alone
+pub record IsOfSome (part : Part) (cells : Cells) : Type 0 where
+  pub walls : Cells
+  pub obstacles : Cells
+  pub ready : IsReady part walls obstacles cells 64
+
+-- A phase of parity p turned a part's own tiles. At parity 1 it needs one row of cells more above
+-- and below than its own.
+pub record IsTurned (part : Part) (p : ℕ) (counted : Counted) (walls obstacles old new : Cells) (answer : Took) : Type 0 where
+  pub rows : (lattice : Cells) → IsPartOf part walls obstacles old lattice (64 - p)
+      → IsPartOf part walls obstacles new (streamed p lattice (joined walls obstacles)) 64
+  pub took : (lattice : Cells) → IsPartOf part walls obstacles old lattice (64 - p)
+      → answer ≡ counted_of counted (own_take part p old lattice walls obstacles)
+
+-- What a run of n phases is: the part's own rows are the lattice's after it, and the flow is that
+-- of its own tiles.
 pub record HasRun (part : Part) (counted : Counted) (d : Dynamics) (n : ℕ) (old lattice new : Cells) (answer : Flow) : Type 0 where
-  pub is : IsPartOf part d.walls d.obstacles new (after_all d lattice n) n
+  pub is : IsPartOf part d.walls d.obstacles new (after_all d lattice n) 64
   pub flow : answer ≡ flow_counted counted (own_flow part d old lattice n)
 
--- k phases have spoilt no row of the part's tile i
-pub record IsUnspoilt (part : Part) (cells : Cells) (i k : ℕ) : Type 0 where
-  pub low : part.margin * k ≤ i / (cells.width / 64) * 64
-  pub high : i / (cells.width / 64) * 64 + 64 + part.margin * k ≤ cells.height
-
--- so many phases were made, of some lattice
-pub record IsHeld (part : Part) (walls obstacles cells : Cells) : Type 0 where
-  pub made : ℕ
-  pub ready : IsReady part walls obstacles cells made
-
--- The tiles below i are, in the rows that are left, those after the phase.
-pub record AreTurnedUpTo (i : ℕ) (part : Part) (p : ℕ) (cells lattice walls obstacles now : Cells) (k : ℕ) : Type 0 where
-  pub tile : (j : ℕ) → j < i → j < tile_count cells → (x y : ℕ) → x < 64 → y < 64 →
+-- The part's own tiles below i have the cells of this lattice.
+pub record AreMadeUpTo (i : ℕ) (part : Part) (cells lattice now : Cells) : Type 0 where
+  pub tile : (j : ℕ) → IsOwn part cells j → j < i → (x y : ℕ) → x < 64 → y < 64 →
       let left = j % (cells.width / 64) * 64 in let top = j / (cells.width / 64) * 64 in
-      part.margin * k ≤ top + y → top + y + part.margin * k < cells.height
-      → has now (left + x) (top + y) ≡ has (streamed p lattice (joined walls obstacles)) (left + x) (row_in part (top + y))
+      has now (left + x) (top + y) ≡ has lattice (left + x) (row_in part (top + y))
 
 -- and the others are as before
 pub record AreKeptFrom (i : ℕ) (before now : Cells) : Type 0 where
   pub tile : (j : ℕ) → i ≤ j → j < tile_count before → (x y : ℕ) → x < 64 → y < 64 →
       let left = j % (before.width / 64) * 64 in let top = j / (before.width / 64) * 64 in
       has now (left + x) (top + y) ≡ has before (left + x) (top + y)
-
-pub record IsOfSome (part : Part) (cells : Cells) : Type 0 where
-  pub walls : Cells
-  pub obstacles : Cells
-  pub held : IsHeld part walls obstacles cells

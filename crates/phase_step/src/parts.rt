@@ -1,8 +1,9 @@
-//! Parts of a lattice: some of its rows of tiles, one after another round its torus. A run of a part is told by the rows that it
-//! has of the lattice: a strip's run and that of the whole lattice are one.
+//! Parts of a lattice: some of its rows of tiles, one after another round its torus. A run of a
+//! part is told by the lattice's rows that it has. A strip is a part, and so is the whole lattice.
 
-ghost use Rattle.std.specs.Prelude.{◌≡◌, ℕ, ℤ, ◌+◌, ◌-◌, ◌*◌, ◌/◌, ◌%◌, ◌<◌, ◌≤◌, ◌⊎◌, IsTrue, false, pos};
-ghost use Rattle.gas_terms.specs.Cells.{Cells, tile_count, tile_rectangle, HasSidesOf};
+ghost use Rattle.std.specs.Prelude.{◌≡◌, ℕ, ℤ, ◌+◌, ◌-◌, ◌*◌, ◌/◌, ◌%◌, ◌<◌, ◌≤◌, IsTrue, pos};
+ghost use Rattle.gas_terms.specs.Cells.{Cells, joined, tile_count, tile_rectangle, HasSidesOf};
+ghost use Rattle.gas_terms.specs.Gas.{streamed};
 ghost use Rattle.gas_plane.specs.Planes.{IsLattice, IsTileFrom, IsPosition};
 ghost use Rattle.gas_plane.specs.Tiles.{AreRowsRound, AreFullRows, IsColumnOf};
 ghost use Rattle.block_rule.specs.Windows.{taken_in};
@@ -12,7 +13,7 @@ ghost use Rattle.gas_terms.specs.Accounts.{moved_by};
 ghost use Rattle.block_rule.specs.Accounts.{counted_of};
 ghost use Rattle.phase_step.specs.Actions.{acted};
 ghost use Rattle.phase_step.specs.Exchanges.{leaves_of};
-ghost use Rattle.phase_step.specs.Parts.{own_moves, own_rows, tile_in, IsTileOf, IsUnspoilt, IsPartOf, IsTurned, IsReady, IsHeld, IsOfSome, HasRun, whole_part};
+ghost use Rattle.phase_step.specs.Parts.{own_moves, own_rows, tile_in, IsOwn, IsTileOf, IsPartOf, IsTurned, IsReady, IsOfSome, HasRun, whole_part};
 ghost use Rattle.phase_step.specs.WholeRuns.{dynamics, CanRun, HasRunWhole};
 
 use crate::exchanges::{Action, Exchange};
@@ -24,9 +25,11 @@ use gas_plane::{Plane, Position, Tile, TileRows};
 use gas_terms::{Moved, Took};
 use std::mem;
 
-/// Where the rows of some particles stand in a lattice of `down` rows of tiles. Their own rows of tiles are the lattice's from row
-/// `first` on. Above and below these there are `margin` rows of tiles more, which so many phases may spoil as they have rows of
-/// cells: one for a strip, and none for the whole lattice, whose last row meets its first.
+/// Where the rows of some particles stand in a lattice of `down` rows of tiles. Their own rows of
+/// tiles are the lattice's from row `first` on. Above and below these there are `margin` rows of
+/// tiles more: one for a strip, and none for the whole lattice, whose last row meets its first.
+/// A phase turns own tiles only. A phase of parity 1 reads, of the margins, the row of cells next
+/// to the own rows, and a phase of parity 0 reads none of them.
 #[derive(Clone, Copy)]
 pub struct Part {
     pub first: u32,
@@ -34,37 +37,26 @@ pub struct Part {
     pub margin: u32,
 }
 
-// The tiles from `first` up to `end`: those of which a part counts what is taken and moved.
+// A part's own tiles: those from `first` up to `end`.
 #[derive(Clone, Copy)]
-struct CountedTiles {
+struct OwnTiles {
     first: u32,
     end: u32,
 }
 
-impl CountedTiles {
-    // Whether tile i is one of them.
-    #[inline(always)]
-    fn has(self, i: u32) -> bool
-        ensures own { IsTrue result → (self.first ≤ i) × (i < self.end) }
-        ensures other { result ≡ false → (i < self.first) ⊎ (self.end ≤ i) }
-    {
-        self.first <= i && i < self.end
-    }
-}
-
-/// A tile of a part at even parity, in place, among the walled blocks of the lattice's tile that it is.
+/// An own tile of a part at even parity, in place, among the walled blocks of the lattice's tile
+/// that it is.
 #[inline(always)]
 pub fn turn_even_in_part(tile_solids: TileSolids<'_>, counted: Counted, tile: &mut Tile) -> Took
-    ensures cells { (part : Part) (walls obstacles cells lattice : Cells) (i k : ℕ) →
-        IsLattice cells → i < tile_count cells → IsPartOf part walls obstacles cells lattice k →
+    ensures cells { (part : Part) (walls obstacles cells lattice : Cells) (i : ℕ) →
+        IsLattice cells → IsOwn part cells i → IsPartOf part walls obstacles cells lattice 64 →
         AreTileSolids walls obstacles (tile_in part (lattice.width / 64) i) tile_solids.entry →
         IsTileFrom tile.old cells (tile_rectangle cells i).x (tile_rectangle cells i).y →
-        IsTileOf part 0 cells lattice walls obstacles (k + 1) i tile.new }
-    ensures took { (part : Part) (walls obstacles cells lattice : Cells) (i k : ℕ) →
-        IsLattice cells → i < tile_count cells → IsPartOf part walls obstacles cells lattice k →
+        IsTileOf part cells (streamed 0 lattice (joined walls obstacles)) i tile.new }
+    ensures took { (part : Part) (walls obstacles cells lattice : Cells) (i : ℕ) →
+        IsLattice cells → IsOwn part cells i → IsPartOf part walls obstacles cells lattice 64 →
         AreTileSolids walls obstacles (tile_in part (lattice.width / 64) i) tile_solids.entry →
         IsTileFrom tile.old cells (tile_rectangle cells i).x (tile_rectangle cells i).y →
-        IsUnspoilt part cells i k →
         result ≡ counted_of counted (taken_in (pos 0) lattice walls obstacles
         (tile_rectangle lattice (tile_in part (lattice.width / 64) i))) }
 {
@@ -82,14 +74,15 @@ pub fn turn_odd_in_part(
 ) -> Took
     requires full { AreFullRows rows }
     requires column { column < rows.across }
-    ensures cells { (part : Part) (walls obstacles cells lattice : Cells) (i k : ℕ) →
-        IsColumnOf rows.entry column cells i → IsPartOf part walls obstacles cells lattice k →
+    ensures cells { (part : Part) (walls obstacles cells lattice : Cells) (i : ℕ) →
+        IsColumnOf rows.entry column cells i → IsOwn part cells i →
+        IsPartOf part walls obstacles cells lattice 63 →
         AreTileSolids walls obstacles (tile_in part (lattice.width / 64) i) tile_solids.entry →
-        IsTileOf part 1 cells lattice walls obstacles (k + 1) i out.new }
-    ensures took { (part : Part) (walls obstacles cells lattice : Cells) (i k : ℕ) →
-        IsColumnOf rows.entry column cells i → IsPartOf part walls obstacles cells lattice k →
+        IsTileOf part cells (streamed 1 lattice (joined walls obstacles)) i out.new }
+    ensures took { (part : Part) (walls obstacles cells lattice : Cells) (i : ℕ) →
+        IsColumnOf rows.entry column cells i → IsOwn part cells i →
+        IsPartOf part walls obstacles cells lattice 63 →
         AreTileSolids walls obstacles (tile_in part (lattice.width / 64) i) tile_solids.entry →
-        IsUnspoilt part cells i k →
         result ≡ counted_of counted (taken_in (pos 1) lattice walls obstacles
         (tile_rectangle lattice (tile_in part (lattice.width / 64) i))) }
 {
@@ -106,14 +99,16 @@ pub fn turn_odd_in_part(
     )
 }
 
-// The rows of tiles round the tile at this position, by those round the tile before it.
+// The rows of tiles round the tile at this position. `before` are those of the tile before it, if
+// that is in the same row.
 #[inline(always)]
 fn rows_at<'a>(old: &'a Plane, at: Position, before: TileRows<'a>) -> TileRows<'a>
     requires lattice { IsLattice old.now }
     requires tile { at.tile < tile_count old.now }
     requires position { IsPosition (old.now.width / 64) at }
     requires full { AreFullRows before }
-    requires before { AreRowsRound before old.now ((at.tile - 1) / (old.now.width / 64)) }
+    requires before { (at.column ≡ 0 → ⊥) →
+        AreRowsRound before old.now (at.tile / (old.now.width / 64)) }
     ensures column { IsColumnOf result at.column old.now at.tile }
     ensures full { AreFullRows result }
 {
@@ -143,21 +138,21 @@ fn next_there(there: u32, tiles: u32) -> u32
     if there + 1 == tiles { 0 } else { there + 1 }
 }
 
-// A part's own tiles.
-fn counted_tiles(part: Part, cells: &Plane) -> CountedTiles
+fn own_tiles(part: Part, cells: &Plane) -> OwnTiles
     requires { (part.margin ≤ 1) × (2 * part.margin < cells.now.height / 64) }
     ensures first { result.first ≡ part.margin * (cells.now.width / 64) }
     ensures order { (result.first ≤ result.end) × (result.end ≤ tile_count cells.now) }
     ensures count { result.end - result.first ≡ own_rows part cells.now * (cells.now.width / 64) }
+    ensures own { (i : ℕ) → result.first ≤ i → i < result.end → IsOwn part cells.now i }
 {
     let margin = part.margin * cells.across();
-    CountedTiles {
+    OwnTiles {
         first: margin,
         end: cells.size().tiles() - margin,
     }
 }
 
-// The phase of parity 1 of a part. Returns what is taken in its own tiles.
+// The phase of parity 1 of a part's own tiles. Returns what is taken in them.
 #[inline(always)]
 fn turn_odd_part(
     old: &Plane,
@@ -166,57 +161,55 @@ fn turn_odd_part(
     counted: Counted,
     out: &mut Plane,
 ) -> Took
-    requires held { IsHeld part ground.solids.now.walls ground.solids.now.obstacles old.now }
+    requires ready { let s = ground.solids.now in
+        IsReady part s.walls s.obstacles old.now 63 }
     requires out { HasSidesOf out.old old.now }
     ensures sides { HasSidesOf out.new old.now }
     ensures phase { let s = ground.entry.solids.now in
         IsTurned part 1 counted s.walls s.obstacles old.now out.new result }
 {
     let across = old.across();
-    let own = counted_tiles(part, old);
+    let own = own_tiles(part, old);
     let tiles = part.down * across;
     let mut took = Took::ZERO;
-    let mut at = old.position(0);
-    let mut rows = old.rows_round(0);
-    let mut there = tile_there(part, across, 0);
-    for i in 0..out.size().tiles() {
+    let mut at = old.position(own.first);
+    let mut rows = old.rows_round(at.row);
+    let mut there = tile_there(part, across, own.first);
+    for i in own.first..own.end {
         rows = rows_at(old, at, rows);
         let tile_solids = ground.in_tile(there);
         let here = turn_odd_in_part(rows, at.column, tile_solids, counted, out.tile_mut(i));
-        if own.has(i) {
-            took = took.plus(here);
-        }
+        took = took.plus(here);
         at = at.next(across);
         there = next_there(there, tiles);
     }
     took
 }
 
-// The phase of parity 0 of a part, in place.
+// The phase of parity 0 of a part's own tiles, in place.
 #[inline(always)]
 fn turn_even_part(particles: &mut Plane, ground: Ground<'_>, part: Part, counted: Counted) -> Took
-    requires held { IsHeld part ground.solids.now.walls ground.solids.now.obstacles particles.old }
+    requires ready { let s = ground.solids.now in
+        IsReady part s.walls s.obstacles particles.old 64 }
     ensures sides { HasSidesOf particles.new particles.old }
     ensures phase { let s = ground.entry.solids.now in
         IsTurned part 0 counted s.walls s.obstacles particles.old particles.new result }
 {
     let across = particles.across();
-    let own = counted_tiles(part, particles);
+    let own = own_tiles(part, particles);
     let tiles = part.down * across;
     let mut took = Took::ZERO;
-    let mut there = tile_there(part, across, 0);
-    for i in 0..particles.size().tiles() {
+    let mut there = tile_there(part, across, own.first);
+    for i in own.first..own.end {
         let tile_solids = ground.in_tile(there);
         let here = turn_even_in_part(tile_solids, counted, particles.tile_mut(i));
-        if own.has(i) {
-            took = took.plus(here);
-        }
+        took = took.plus(here);
         there = next_there(there, tiles);
     }
     took
 }
 
-// A phase of a part in place. Returns what is taken in its own tiles.
+// A phase of a part's own tiles, in place. Returns what is taken in them.
 #[inline(always)]
 fn turn_part(
     particles: &mut Plane,
@@ -227,7 +220,8 @@ fn turn_part(
     spare: &mut Plane,
 ) -> Took
     requires parity { parity < 2 }
-    requires held { IsHeld part ground.solids.now.walls ground.solids.now.obstacles particles.old }
+    requires ready { let s = ground.solids.now in
+        IsReady part s.walls s.obstacles particles.old (64 - parity) }
     requires spare { HasSidesOf spare.old particles.old }
     ensures sides { HasSidesOf particles.new particles.old × HasSidesOf spare.new particles.old }
     ensures phase { let s = ground.entry.solids.now in
@@ -242,28 +236,29 @@ fn turn_part(
     }
 }
 
-// Acts on a part as on the lattice, at a tick of this parity. Returns what comes in and goes out in its own tiles.
+// Acts on a part's own tiles as on the lattice's, at a tick of this parity. Returns what comes in
+// and goes out.
 fn act_on_part(particles: &mut Plane, exchange: &Exchange, part: Part, parity: u8) -> Moved
     requires parity { parity < 2 }
-    requires held { IsOfSome part particles.old }
+    requires some { IsOfSome part particles.old }
     ensures sides { HasSidesOf particles.new particles.old }
-    ensures rows { (walls obstacles lattice : Cells) (k : ℕ) →
-        IsPartOf part walls obstacles particles.old lattice k →
-        IsPartOf part walls obstacles particles.new (acted (leaves_of exchange.now) lattice) k }
-    ensures moved { (walls obstacles lattice : Cells) (k : ℕ) →
-        IsPartOf part walls obstacles particles.old lattice k → part.margin * k ≤ 64 →
+    ensures rows { (walls obstacles lattice : Cells) →
+        IsPartOf part walls obstacles particles.old lattice 64 →
+        IsPartOf part walls obstacles particles.new (acted (leaves_of exchange.now) lattice) 64 }
+    ensures moved { (walls obstacles lattice : Cells) →
+        IsPartOf part walls obstacles particles.old lattice 64 →
         result ≡ own_moves part parity particles.old lattice
         (acted (leaves_of exchange.now) lattice) }
 {
     let across = particles.across();
-    let own = counted_tiles(part, particles);
+    let own = own_tiles(part, particles);
     let mut moved = Moved::ZERO;
     if exchange.is_still() {
         return moved;
     }
     let tiles = part.down * across;
-    let mut next = tile_there(part, across, 0);
-    for i in 0..particles.size().tiles() {
+    let mut next = tile_there(part, across, own.first);
+    for i in own.first..own.end {
         let there = next;
         next = next_there(there, tiles);
         let left = there % across * 64;
@@ -274,23 +269,22 @@ fn act_on_part(particles: &mut Plane, exchange: &Exchange, part: Part, parity: u
         let here = exchange
             .on_tile(left, top, particles.tile_mut(i))
             .moved(parity);
-        if own.has(i) {
-            moved = moved.plus(here);
-        }
+        moved = moved.plus(here);
     }
     moved
 }
 
-// What the action does to a part after phase k, at a tick of this parity. Returns what comes in and goes out in its own tiles.
+// What the action does to a part's own tiles after phase k, at a tick of this parity. Returns what
+// comes in and goes out.
 fn act_after<A: Action>(particles: &mut Plane, action: &A, k: u16, part: Part, parity: u8) -> Moved
     requires parity { parity < 2 }
-    requires held { IsOfSome part particles.old }
+    requires some { IsOfSome part particles.old }
     ensures sides { HasSidesOf particles.new particles.old }
-    ensures rows { (walls obstacles lattice : Cells) (m : ℕ) →
-        IsPartOf part walls obstacles particles.old lattice m →
-        IsPartOf part walls obstacles particles.new (acted (A.leaves action.now k) lattice) m }
-    ensures moved { (walls obstacles lattice : Cells) (m : ℕ) →
-        IsPartOf part walls obstacles particles.old lattice m → part.margin * m ≤ 64 →
+    ensures rows { (walls obstacles lattice : Cells) →
+        IsPartOf part walls obstacles particles.old lattice 64 →
+        IsPartOf part walls obstacles particles.new (acted (A.leaves action.now k) lattice) 64 }
+    ensures moved { (walls obstacles lattice : Cells) →
+        IsPartOf part walls obstacles particles.old lattice 64 →
         result ≡ own_moves part parity particles.old lattice
         (acted (A.leaves action.now k) lattice) }
 {
@@ -314,11 +308,12 @@ fn run_on<A: Action>(
     requires parity { run.parity < 2 }
     requires walls { IsTrue absent.0 → HasNoBlocks run.solids.now.walls }
     requires obstacles { IsTrue absent.1 → HasNoBlocks run.solids.now.obstacles }
-    requires part { let s = run.solids.now in IsReady part s.walls s.obstacles particles.old 0 }
-    requires few { part.margin * run.n ≤ 64 }
+    requires part { let s = run.solids.now in
+        IsReady part s.walls s.obstacles particles.old (64 - run.parity) }
+    requires few { part.margin * run.n ≤ 1 }
     requires spare { HasSidesOf spare.old particles.old }
     ensures run { (lattice : Cells) → let r = run.entry in let s = r.solids.now in
-        IsPartOf part s.walls s.obstacles particles.old lattice 0 →
+        IsPartOf part s.walls s.obstacles particles.old lattice (64 - r.parity) →
         HasRun part counted (dynamics r.parity s (A.leaves r.action.now)) r.n
         particles.old lattice particles.new result }
     ensures sides { HasSidesOf particles.new particles.old × HasSidesOf spare.new particles.old }
@@ -339,8 +334,9 @@ fn run_on<A: Action>(
     flow
 }
 
-/// A run on a part of a lattice, in place. Returns what it comes to in the part's own tiles; an account that is not kept has 0.
-/// `spare` is overwritten.
+/// A run on a part of a lattice, in place. A part with margins makes one phase at most. Returns
+/// what it comes to in the part's own tiles; an account that is not kept has 0. `spare` is
+/// overwritten.
 pub fn run_part<A: Action>(
     particles: &mut Plane,
     part: Part,
@@ -349,11 +345,12 @@ pub fn run_part<A: Action>(
     spare: &mut Plane,
 ) -> Flow
     requires parity { run.parity < 2 }
-    requires part { let s = run.solids.now in IsReady part s.walls s.obstacles particles.old 0 }
-    requires few { part.margin * run.n ≤ 64 }
+    requires part { let s = run.solids.now in
+        IsReady part s.walls s.obstacles particles.old (64 - run.parity) }
+    requires few { part.margin * run.n ≤ 1 }
     requires spare { HasSidesOf spare.old particles.old }
     ensures run { (lattice : Cells) → let r = run.entry in let s = r.solids.now in
-        IsPartOf part s.walls s.obstacles particles.old lattice 0 →
+        IsPartOf part s.walls s.obstacles particles.old lattice (64 - r.parity) →
         HasRun part counted (dynamics r.parity s (A.leaves r.action.now)) r.n
         particles.old lattice particles.new result }
     ensures sides { HasSidesOf particles.new particles.old × HasSidesOf spare.new particles.old }

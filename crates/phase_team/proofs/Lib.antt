@@ -5,6 +5,8 @@ pub mod DrawnNumbers
 pub mod Closing
 pub mod Copies
 pub mod LaidStrips
+pub mod Courses
 pub mod Loads
-pub mod Batches
+pub mod EdgeRows
+pub mod StripParts
 pub mod Flows

@@ -1,14 +1,14 @@
 -- What strips load from a lattice, and put into it.
-use Rattle.std.proofs.Common.{◌≡◌, ℕ, ◌+◌, ◌-◌, ◌*◌, ◌/◌, ◌%◌, ◌<◌, ◌≤◌, ◌⊎◌, Bool, true, false, sym, ap, ◌∙◌, subst, arith, inl, inr}
+use Rattle.std.proofs.Common.{◌≡◌, ℕ, ◌+◌, ◌-◌, ◌*◌, ◌/◌, ◌%◌, ◌<◌, ◌≤◌, ◌⊎◌, sym, ap, ◌∙◌, subst, arith, inl, inr}
 use Rattle.std.proofs.Math.Nat.{add-mod_right}
 use Rattle.std.proofs.lemmas.Nat.{mod-mul-add}
-use Rattle.std.proofs.lemmas.Bool.{cases_Bool, cases_lt}
+use Rattle.std.proofs.lemmas.Bool.{cases_lt}
 use Rattle.gas_terms.specs.Cells.{Cells, HasSidesOf, extent, has}
 use Rattle.gas_plane.specs.Planes.{IsLattice}
 use Rattle.gas_plane.proofs.Places.{high}
 use Rattle.phase_step.specs.Parts.{HasRows}
 use Rattle.phase_step.proofs.RowPlaces.{row_turns}
-use Rattle.phase_team.specs.Strips.{place_of, IsInside, AreCopied, AreKept, ArePut, HasTileRow, AreLoadable}
+use Rattle.phase_team.specs.Strips.{place_of, IsInside, AreCopied, AreKept, ArePut, HasTileRow}
 use Rattle.phase_team.specs.declared.runs.strip.OwnRows.{OwnRows}
 
 -- row y of a strip, as a row of the lattice's torus
@@ -18,70 +18,51 @@ row_is first down y some =
     ap (λ n. n % (down * 64)) e ∙ row_turns (first + down - 1) (y / 64) down (y % 64) some (omega arith)
 
 -- its own rows have no seam
-own_row : (first down y : ℕ) → 64 ≤ y → first + y / 64 ≤ down → ((first + down - 1) * 64 + y) % (down * 64) ≡ first * 64 + (y - 64)
+pub own_row : (first down y : ℕ) → 64 ≤ y → first + y / 64 ≤ down → ((first + down - 1) * 64 + y) % (down * 64) ≡ first * 64 + (y - 64)
 own_row first down y low within =
     let some : 0 < down = omega arith in
     let e : first + down - 1 + y / 64 ≡ 1 * down + (first + y / 64 - 1) = omega arith in
     let turn : (first + down - 1 + y / 64) % down ≡ first + y / 64 - 1 = ap (λ n. n % down) e ∙ mod-mul-add 1 down (first + y / 64 - 1) (omega arith) in
     row_is first down y some ∙ (ap (λ n. n * 64 + y % 64) turn ∙ (let f : (first + y / 64 - 1) * 64 + y % 64 ≡ first * 64 + (y - 64) = omega arith in f))
 
--- what a strip's cells were, are when its own rows are loaded if the run begins, with the row above, and with that below
-pub record IsLoaded (begins : Bool) (cells old own_loaded above_loaded new : Cells) (own : OwnRows) (above below : ℕ) : Type 0 where
-  pub inside : IsInside (extent cells) own
+-- What was loaded: its own rows, then the row above, then that below.
+pub record IsLoaded (lattice old own_loaded above_loaded new : Cells) (own : OwnRows) (above below : ℕ) : Type 0 where
+  pub inside : IsInside (extent lattice) own
   pub tall : old.height ≡ (own.rows + 2) * 64
-  pub wide : old.width ≡ cells.width
+  pub wide : old.width ≡ lattice.width
   pub one : HasSidesOf own_loaded old
   pub two : HasSidesOf above_loaded own_loaded
   pub three : HasSidesOf new above_loaded
-  pub start : begins ≡ true → AreCopied cells own.first own.rows own_loaded 1
-  pub later : begins ≡ false → own_loaded ≡ old
-  pub above_is : above ≡ (own.first + cells.height / 64 - 1) % (cells.height / 64)
-  pub above_copied : AreCopied cells above 1 above_loaded 0
+  pub own_copied : AreCopied lattice own.first own.rows own_loaded 1
+  pub above_is : above ≡ (own.first + lattice.height / 64 - 1) % (lattice.height / 64)
+  pub above_copied : AreCopied lattice above 1 above_loaded 0
   pub above_kept : AreKept own_loaded 0 1 above_loaded
-  pub below_is : below ≡ (own.first + own.rows - 1 + 1) % (cells.height / 64)
-  pub below_copied : AreCopied cells below 1 new (own.rows + 1)
+  pub below_is : below ≡ (own.first + own.rows - 1 + 1) % (lattice.height / 64)
+  pub below_copied : AreCopied lattice below 1 new (own.rows + 1)
   pub below_kept : AreKept above_loaded (own.rows + 1) 1 new
 
--- a row of tiles of the same lattice
-same_row : (lattice cells : Cells) (r : ℕ) → cells ≡ lattice → HasTileRow lattice cells r
-same_row lattice cells r e = record { cell = λ x y xl yl. ap (λ (c : Cells). has c x (r * 64 + y)) e }
-
-module _ (begins : Bool) (cells old own_loaded above_loaded new : Cells) (own : OwnRows) (above below : ℕ) (l : IsLoaded begins cells old own_loaded above_loaded new own above below)
-    (lattice : Cells) (sides : HasSidesOf cells lattice) (can : AreLoadable begins lattice cells own old) where
-  down_some : 0 < cells.height / 64
+module _ (lattice old own_loaded above_loaded new : Cells) (own : OwnRows) (above below : ℕ) (l : IsLoaded lattice old own_loaded above_loaded new own above below) where
+  down_some : 0 < lattice.height / 64
   down_some = let some = l.inside.some in let inside = l.inside.inside in omega (arith, some, inside)
 
-  row_above : HasTileRow lattice cells above
-  row_above = subst (HasTileRow lattice cells) (sym l.above_is) (elim (cases_Bool begins) [
-    | inl start ↦ same_row lattice cells ((own.first + cells.height / 64 - 1) % (cells.height / 64)) (can.start start)
-    | inr later ↦ (can.later later).above
-  ])
+  below_row : below ≡ (own.first + own.rows) % (lattice.height / 64)
+  below_row = let some = l.inside.some in l.below_is ∙ ap (λ n. n % (lattice.height / 64)) (let e : own.first + own.rows - 1 + 1 ≡ own.first + own.rows = omega (arith, some) in e)
 
-  row_below : HasTileRow lattice cells ((own.first + own.rows) % (cells.height / 64))
-  row_below = elim (cases_Bool begins) [
-    | inl start ↦ same_row lattice cells ((own.first + own.rows) % (cells.height / 64)) (can.start start)
-    | inr later ↦ (can.later later).below
-  ]
-
-  below_row : below ≡ (own.first + own.rows) % (cells.height / 64)
-  below_row = let some = l.inside.some in l.below_is ∙ ap (λ n. n % (cells.height / 64)) (let e : own.first + own.rows - 1 + 1 ≡ own.first + own.rows = omega (arith, some) in e)
-
-  at_above : (x y : ℕ) → x < lattice.width → y < 64 → has above_loaded x y ≡ has lattice x (((own.first + cells.height / 64 - 1) * 64 + y) % (cells.height / 64 * 64))
+  at_above : (x y : ℕ) → x < lattice.width → y < 64 → has above_loaded x y ≡ has lattice x (((own.first + lattice.height / 64 - 1) * 64 + y) % (lattice.height / 64 * 64))
   at_above x y xl yl =
-      let down = cells.height / 64 in
+      let down = lattice.height / 64 in
       let y_is : y ≡ 0 * 64 + y = omega arith in
       let turn : ((own.first + down - 1) * 64 + y) % (down * 64) ≡ above * 64 + y =
       row_is own.first down y down_some
       ∙ ((let e : own.first + down - 1 + y / 64 ≡ own.first + down - 1 = omega arith in let f : y % 64 ≡ y = omega arith in ap (λ n. n % down * 64 + y % 64) e ∙ ap (λ n. (own.first + down - 1) % down * 64 + n) f)
       ∙ ap (λ n. n * 64 + y) (sym l.above_is)) in
       ap (has above_loaded x) y_is
-      ∙ (l.above_copied.cell x y (subst (λ w. x < w) (sym sides.wide) xl) (omega arith)
-      ∙ (row_above.cell x y xl yl
-      ∙ ap (has lattice x) (sym turn)))
+      ∙ (l.above_copied.cell x y xl (omega arith)
+      ∙ ap (has lattice x) (sym turn))
 
-  at_below : (x y : ℕ) → x < lattice.width → (own.rows + 1) * 64 ≤ y → y < (own.rows + 2) * 64 → has new x y ≡ has lattice x (((own.first + cells.height / 64 - 1) * 64 + y) % (cells.height / 64 * 64))
+  at_below : (x y : ℕ) → x < lattice.width → (own.rows + 1) * 64 ≤ y → y < (own.rows + 2) * 64 → has new x y ≡ has lattice x (((own.first + lattice.height / 64 - 1) * 64 + y) % (lattice.height / 64 * 64))
   at_below x y xl low high =
-      let down = cells.height / 64 in
+      let down = lattice.height / 64 in
       let q = y - (own.rows + 1) * 64 in
       let some = l.inside.some in
       let y_is : y ≡ (own.rows + 1) * 64 + q = omega arith in
@@ -94,33 +75,24 @@ module _ (begins : Bool) (cells old own_loaded above_loaded new : Cells) (own : 
       ∙ (ap (λ n. n * 64 + y % 64) (add-mod_right (own.first + own.rows) down ∙ sym below_row)
       ∙ ap (λ n. below * 64 + n) rest)) in
       ap (has new x) y_is
-      ∙ (l.below_copied.cell x q (subst (λ w. x < w) (sym sides.wide) xl) (omega arith)
-      ∙ ((subst (HasTileRow lattice cells) (sym below_row) row_below).cell x q xl (omega arith)
-      ∙ ap (has lattice x) (sym turn)))
+      ∙ (l.below_copied.cell x q xl (omega arith)
+      ∙ ap (has lattice x) (sym turn))
 
-  at_own : (x y : ℕ) → x < lattice.width → 64 ≤ y → y < (own.rows + 1) * 64 → has own_loaded x y ≡ has lattice x (((own.first + cells.height / 64 - 1) * 64 + y) % (cells.height / 64 * 64))
+  at_own : (x y : ℕ) → x < lattice.width → 64 ≤ y → y < (own.rows + 1) * 64 → has own_loaded x y ≡ has lattice x (((own.first + lattice.height / 64 - 1) * 64 + y) % (lattice.height / 64 * 64))
   at_own x y xl low high =
-      let down = cells.height / 64 in
+      let down = lattice.height / 64 in
       let inside = l.inside.inside in
-      elim (cases_Bool begins) [
-        | inl start ↦
-            let y_is : y ≡ 1 * 64 + (y - 64) = omega arith in
-            ap (has own_loaded x) y_is
-            ∙ ((l.start start).cell x (y - 64) (subst (λ w. x < w) (sym sides.wide) xl) (omega arith)
-            ∙ (ap (λ (c : Cells). has c x (own.first * 64 + (y - 64))) (can.start start)
-            ∙ ap (has lattice x) (sym (own_row own.first down y low (omega (arith, inside, high))))))
-        | inr later ↦
-            let tall = l.tall in
-            ap (λ (c : Cells). has c x y) (l.later later)
-            ∙ (can.later later).own_rows.row x y xl (omega arith) (omega (arith, tall, high))
-      ]
+      let y_is : y ≡ 1 * 64 + (y - 64) = omega arith in
+      ap (has own_loaded x) y_is
+      ∙ (l.own_copied.cell x (y - 64) xl (omega arith)
+      ∙ ap (has lattice x) (sym (own_row own.first down y low (omega (arith, inside, high)))))
 
-  pub all_loaded : HasRows (place_of (cells.height / 64) own) new lattice 0
+  pub all_loaded : HasRows (place_of (lattice.height / 64) own) new lattice 0
   all_loaded = record {
     row = λ x y xl low high.
         let tall : new.height ≡ (own.rows + 2) * 64 = l.three.high ∙ (l.two.high ∙ (l.one.high ∙ l.tall)) in
-        let above_wide : above_loaded.width ≡ lattice.width = l.two.wide ∙ (l.one.wide ∙ (l.wide ∙ sides.wide)) in
-        let own_wide : own_loaded.width ≡ lattice.width = l.one.wide ∙ (l.wide ∙ sides.wide) in
+        let above_wide : above_loaded.width ≡ lattice.width = l.two.wide ∙ (l.one.wide ∙ l.wide) in
+        let own_wide : own_loaded.width ≡ lattice.width = l.one.wide ∙ l.wide in
         let above_tall : above_loaded.height ≡ (own.rows + 2) * 64 = l.two.high ∙ (l.one.high ∙ l.tall) in
         let own_tall : own_loaded.height ≡ (own.rows + 2) * 64 = l.one.high ∙ l.tall in
         elim (cases_lt y ((own.rows + 1) * 64)) [
@@ -175,12 +147,3 @@ rows_put own strip old new lattice from rows is_inside few is sides wide_is tall
             ]
           ];
     }
-
--- rows that are put after others leave these
-pub put_both : (lattice one two three : Cells) (a m b n : ℕ) → a + m ≤ lattice.height / 64 → ArePut lattice one a m two → ArePut lattice two b n three
-    → ArePut lattice one a m three × ArePut lattice one b n three
-put_both lattice one two three a m b n few first second =
-    let kept : (r : ℕ) → r < lattice.height / 64 → HasTileRow lattice one r → HasTileRow lattice three r = λ r less was. second.kept r less (first.kept r less was) in (
-      record { put = λ r low less. second.kept r (omega arith) (first.put r low less); kept = kept },
-      record { put = second.put; kept = kept },
-    )

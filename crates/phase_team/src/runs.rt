@@ -1,31 +1,34 @@
-//! Runs: when they are worth strips, and how strips make them. Each strip keeps its particles for the whole run. Between batches
-//! only the rows at the strips' edges move from one to the other.
+//! Runs: when they are worth strips, and how strips make them. Each strip has a thread for the whole run, and shows its
+//! neighbors the rows of cells at its edges.
 
-ghost use Rattle.std.specs.Prelude.{◌≡◌, ◌/◌, ◌<◌, ◌≤◌, All, false, IfSome, map};
+ghost use Rattle.std.specs.Prelude.{◌≡◌, ℕ, ◌+◌, ◌/◌, ◌<◌, ◌≤◌, All, IsTrue, IfSome, IfNone, length, map};
 ghost use Rattle.std.specs.Vec.{vec_capacity};
-ghost use Rattle.gas_terms.specs.Cells.{Cells, extent, HasSidesOf};
+ghost use Rattle.gas_terms.specs.Cells.{extent, HasSidesOf};
 ghost use Rattle.gas_plane.specs.Planes.{IsLattice};
 ghost use Rattle.phase_step.specs.WholeRuns.{dynamics, after_all, flow_all};
 ghost use Rattle.phase_step.specs.Balance.{flow_counted};
-ghost use Rattle.phase_team.specs.Limits.{most_workers, most_phases};
-ghost use Rattle.phase_team.specs.Strips.{IsAhead, AreStrips, HasOwnRows};
-ghost use Rattle.phase_team.specs.Work.{Lists, Batch, batch_of, after_batch, flow_of, CanRunOn, IsReadyFor, IsDone, AreDone, AreSomehowDone, AreReady, AreSomehowReady};
+ghost use Rattle.phase_team.specs.Limits.{most_listed, most_workers};
+ghost use Rattle.phase_team.specs.Courses.{Course, lattice_at, flow_at, Lists};
+ghost use Rattle.phase_team.specs.Strips.{AreStrips, AreSomewhere, IsAt, IsOf};
 ghost use Rattle.phase_team.specs.Worth.{is_worth_strips};
 
-mod batch;
+mod edges;
+mod input;
 mod strip;
 
-use batch::BatchInput;
+use edges::{Board, RunName};
 use gas_plane::Plane;
 use gas_terms::Size;
-use phase_step::{Action, Counted, Exchange, Flow, Later, Run, parity_at};
+use input::RunInput;
+use phase_step::{Action, Counted, Exchange, Flow, Run};
 use std::alloc::Global;
+use std::marker::Brand;
 use std::thread;
 use std::thread::Threads;
 use strip::{OwnRows, Strip};
 
-/// How many phases a strip can make alone: each phase spoils one more row of its margins.
-const AT_ONCE: u16 = 64;
+/// How many exchanges are listed at once, for all strips. Threads last so long; without exchanges, for a whole run.
+const LISTED: u16 = 256;
 
 /// The smallest run that is made by strips: how many phases it has, and how many tiles fewer each worker turns than one thread
 /// would. With 0 for both, each run is made by strips.
@@ -35,15 +38,14 @@ pub struct LeastRun {
     pub tiles: u32,
 }
 
-/// Each batch starts threads, and each run loads the strips and puts them together. That takes about a millisecond, so smaller
-/// runs stay on one thread.
+/// A run by strips starts threads, loads the strips and puts them together. That takes about a millisecond, so smaller runs stay
+/// on one thread.
 pub const USUAL: LeastRun = LeastRun {
     phases: 16,
     tiles: 32_768,
 };
 
-/// Whether a run of n phases is no smaller than the least: what a worker turns, with the margins of its strip, is compared with
-/// the lattice.
+/// Whether a run of n phases is no smaller than the least: what a worker turns is compared with the lattice.
 pub fn is_worth_strips(least: LeastRun, size: Size, workers: u8, n: u16) -> bool
     requires { (0 < workers) × (workers ≤ most_workers) }
     ensures { result ≡ is_worth_strips least.phases least.tiles size workers n }
@@ -51,8 +53,8 @@ pub fn is_worth_strips(least: LeastRun, size: Size, workers: u8, n: u16) -> bool
     let across = u32::from(size.width() / 64);
     let down = u32::from(size.height() / 64);
     let workers = u32::from(workers);
-    let rows = (down + workers - 1) / workers + 2;
-    let saved = across * down.saturating_sub(rows) * u32::from(n.min(AT_ONCE));
+    let rows = (down + workers - 1) / workers;
+    let saved = across * (down - rows) * u32::from(n);
     least.phases <= n && least.tiles <= saved
 }
 
@@ -61,10 +63,10 @@ pub fn is_worth_strips(least: LeastRun, size: Size, workers: u8, n: u16) -> bool
 pub struct Strips {
     pub size: Size,
     strips: Vec<Strip>,
-    // What acts after each phase of a batch.
+    // What acts after each phase.
     exchanges: Vec<Exchange>,
     pub ghost laid: { AreStrips size strips.items },
-    pub ghost room: { most_phases ≤ vec_capacity exchanges },
+    pub ghost room: { most_listed ≤ vec_capacity exchanges },
 }
 
 impl Strips {
@@ -73,12 +75,9 @@ impl Strips {
         requires { (0 < workers) × (workers ≤ most_workers) }
         ensures { IfSome result (λ strips. strips.size ≡ size) }
     {
-        let exchanges = Vec::with_capacity(alloc, AT_ONCE as usize).ok()?;
-        let strips = cut(
-            alloc,
-            size,
-            u32::from(workers).min(u32::from(size.height() / 64)),
-        )?;
+        let exchanges = Vec::with_capacity(alloc, LISTED as usize).ok()?;
+        let count = u32::from(workers).min(u32::from(size.height() / 64));
+        let strips = cut(alloc, size, count)?;
         Some(Strips {
             size,
             strips,
@@ -121,164 +120,163 @@ pub fn strips_for(
     Strips::new(alloc, size, workers)
 }
 
-// Each strip makes the batch: the last one in a thread of its own if it can be started, and so on; the first on the calling thread.
-fn make_all<R: Threads>(rt: &R, input: BatchInput<'_>, strips: &mut [Strip])
-    requires { All (CanRunOn input) strips.old }
-    ensures done { (lattice : Cells) → All (IsReadyFor input.entry lattice) strips.old →
-        All (IsDone (batch_of input.entry) lattice) strips.new }
+// Each strip makes the phases: the last one in a thread of its own if it can be started, and so on; the first on the calling
+// thread. False if a strip has given up.
+fn make_all<R: Threads, N: RunName + Send + Sync>(
+    rt: &R,
+    input: &RunInput<'_, N>,
+    strips: &mut [Strip],
+) -> bool
+    requires strips { All (IsOf (extent N.course.start)) strips.old }
+    requires few { (length strips.old ≤ length input.now.board.now.edges.items)
+        × (length input.now.board.now.edges.items ≤ 64) }
+    requires at { 0 < input.now.from → All (IsAt N.course input.now.from) strips.old }
+    ensures strips { All (IsOf (extent N.course.start)) strips.new }
     ensures own { map (λ s. s.own) strips.new ≡ map (λ s. s.own) strips.old }
+    ensures at { IsTrue result →
+        All (IsAt N.course (input.now.from + input.now.phases)) strips.new }
 {
     let Some((last, rest)) = strips.split_last_mut() else {
-        return;
+        return true;
     };
+    let number = rest.len() as u32;
     if rest.is_empty() {
-        last.run(input);
-        return;
+        return last.run(input, number);
     }
-    thread::join_mut(
+    let (one, others) = thread::join_mut(
         rt,
-        &mut ||
-            requires { CanRunOn input last.now }
-            ensures { ((lattice : Cells) → IsReadyFor input.entry lattice last.entry.now →
-                IsDone (batch_of input.entry) lattice last.exit.now)
-                × (last.exit.now.own ≡ last.entry.now.own) }
-        { last.run(input) },
-        &mut ||
-            requires { All (CanRunOn input) rest.now }
-            ensures { ((lattice : Cells) → All (IsReadyFor input.entry lattice) rest.entry.now →
-                All (IsDone (batch_of input.entry) lattice) rest.exit.now)
-                × (map (λ s. s.own) rest.exit.now ≡ map (λ s. s.own) rest.entry.now) }
+        &mut || -> bool
+            requires { (number < length input.now.board.now.edges.items)
+                × (length input.now.board.now.edges.items ≤ 64)
+                × IsOf (extent N.course.start) last.now
+                × (0 < input.now.from → IsAt N.course input.now.from last.now) }
+            ensures { IsOf (extent N.course.start) last.exit.now
+                × (last.exit.now.own ≡ last.entry.now.own)
+                × (IsTrue result → let i = input.entry.now in
+                IsAt N.course (i.from + i.phases) last.exit.now) }
+        { last.run(input, number) },
+        &mut || -> bool
+            requires { (length rest.now ≤ length input.now.board.now.edges.items)
+                × (length input.now.board.now.edges.items ≤ 64)
+                × All (IsOf (extent N.course.start)) rest.now
+                × (0 < input.now.from → All (IsAt N.course input.now.from) rest.now) }
+            ensures { All (IsOf (extent N.course.start)) rest.exit.now
+                × (map (λ s. s.own) rest.exit.now ≡ map (λ s. s.own) rest.entry.now)
+                × (IsTrue result → let i = input.entry.now in
+                All (IsAt N.course (i.from + i.phases)) rest.exit.now) }
         { make_all(rt, input, rest) },
     );
+    one && others
 }
 
-// Each strip shows its edges in the particles. Returns what the batch comes to in all strips.
-fn share(strips: &[Strip], cells: &mut Plane) -> Flow
+// Puts the strips together: the particles become those of which each strip has its own rows. Returns what the run came to.
+fn gather(strips: &[Strip], cells: &mut Plane) -> Flow
     requires is { IsLattice cells.old }
     requires strips { AreStrips (extent cells.old) strips.now }
-    requires done { AreSomehowDone (extent cells.old) strips.now }
-    ensures sides { HasSidesOf cells.new cells.old }
-    ensures lattice { IsLattice cells.new }
-    ensures shared { (batch : Batch) (lattice : Cells) → HasSidesOf cells.old lattice →
-        AreDone batch lattice strips.now →
-        All (λ s. IsAhead (after_batch batch lattice) cells.new s.own s.cells) strips.now }
-    ensures flow { (batch : Batch) (lattice : Cells) → HasSidesOf cells.old lattice →
-        AreDone batch lattice strips.now → result ≡ flow_of batch lattice }
+    requires at { AreSomewhere cells.old strips.now }
+    ensures cells { (course : Course) (k : ℕ) → course.start ≡ cells.old →
+        All (IsAt course k) strips.now → cells.new ≡ lattice_at course k }
+    ensures flow { (course : Course) (k : ℕ) → course.start ≡ cells.old →
+        All (IsAt course k) strips.now → result ≡ flow_at course k }
 {
     let mut flow = Flow::ZERO;
     for strip in strips {
-        strip.show_edges(cells);
+        strip.put_rows(0, strip.own.rows, cells);
         flow = flow.plus(strip.flow);
     }
     flow
 }
 
-// Puts the strips together: the particles become those of which each strip has its own rows.
-fn gather(strips: &[Strip], cells: &mut Plane)
-    requires is { IsLattice cells.old }
-    requires strips { AreStrips (extent cells.old) strips.now }
-    ensures lattice { IsLattice cells.new }
-    ensures cells { (lattice : Cells) → IsLattice lattice → HasSidesOf cells.old lattice →
-        All (HasOwnRows lattice) strips.now → cells.new ≡ lattice }
-{
-    for strip in strips {
-        strip.put_rows(0, strip.own.rows, cells);
-    }
-}
-
-// Lists what an action does after each of so many phases.
-fn list<A: Action>(action: &A, n: u16, exchanges: &mut Vec<Exchange>)
-    requires { n ≤ vec_capacity exchanges.old }
-    ensures list { Lists exchanges.new.items (A.leaves action.now) n }
+// Lists what an action does after each of the phases from phase `from` on, of which so many are left. Returns how many it lists:
+// all if it does nothing.
+fn list<A: Action>(action: &A, from: u16, left: u16, exchanges: &mut Vec<Exchange>) -> u16
+    requires left { from + left ≤ 65535 }
+    requires room { most_listed ≤ vec_capacity exchanges.old }
+    ensures some { (result ≤ left) × (0 < left → 0 < result) }
+    ensures lists { Lists exchanges.new.items (A.leaves action.now) from result }
     ensures room { vec_capacity exchanges.new ≡ vec_capacity exchanges.old }
 {
     exchanges.clear();
-    for k in 0..n {
-        exchanges.push_reserved(action.after_phase(k));
+    if !action.acts() {
+        return left;
     }
+    let n = left.min(LISTED);
+    for k in 0..n {
+        exchanges.push_reserved(action.after_phase(from + k));
+    }
+    n
 }
 
-// Up to 64 phases of all strips, which then show their edges in `cells`. If the run begins, the strips load all of `cells`.
-fn run_batch<R: Threads, A: Action>(
+// A run that has a name. `None` if memory ran out or a strip gave up; then the particles are as they were.
+fn run_named<R: Threads, N: RunName + Send + Sync, A: Action>(
     rt: &R,
-    strips: &mut Strips,
-    cells: &mut Plane,
-    run: Run<'_, A>,
-    begins: bool,
-    counted: Counted,
-) -> Flow
-    requires size { strips.old.size ≡ extent cells.old }
-    requires few { run.n ≤ most_phases }
-    requires parity { run.parity < 2 }
-    requires walls { HasSidesOf run.solids.now.walls cells.old }
-    requires obstacles { HasSidesOf run.solids.now.obstacles cells.old }
-    requires ready { AreSomehowReady begins cells.old strips.old.strips.items }
-    ensures size { strips.new.size ≡ strips.old.size }
-    ensures sides { HasSidesOf cells.new cells.old }
-    ensures lattice { IsLattice cells.new }
-    ensures ready { (lattice : Cells) → AreReady begins lattice cells.old strips.old.strips.items →
-        let r = run.entry in let d = dynamics r.parity r.solids.now (A.leaves r.action.now) in
-        AreReady false (after_all d lattice r.n) cells.new strips.new.strips.items }
-    ensures flow { (lattice : Cells) → AreReady begins lattice cells.old strips.old.strips.items →
-        let r = run.entry in let d = dynamics r.parity r.solids.now (A.leaves r.action.now) in
-        result ≡ flow_counted counted (flow_all d lattice r.n) }
-{
-    cells.shows_lattice();
-    list(run.action, run.n, &mut strips.exchanges);
-    let input = BatchInput {
-        cells: &*cells,
-        begins,
-        solids: run.solids,
-        exchanges: strips.exchanges.as_slice(),
-        parity: run.parity,
-        phases: run.n,
-        counted,
-    };
-    make_all(rt, input, strips.strips.as_mut_slice());
-    share(strips.strips.as_slice(), cells)
-}
-
-/// A run by the strips of the lattice's size. If a thread can't be started, the calling thread does its part. An account that is
-/// not kept has 0.
-pub fn run_by<R: Threads, A: Action>(
-    rt: &R,
+    alloc: Global,
     strips: &mut Strips,
     particles: &mut Plane,
-    run: Run<'_, A>,
+    run: &Run<'_, A>,
     counted: Counted,
-) -> Flow
+) -> Option<Flow>
     requires size { strips.old.size ≡ extent particles.old }
     requires lattice { IsLattice particles.old }
-    requires parity { run.parity < 2 }
-    requires walls { HasSidesOf run.solids.now.walls particles.old }
-    requires obstacles { HasSidesOf run.solids.now.obstacles particles.old }
-    ensures particles { let r = run.entry in
-        let d = dynamics r.parity r.solids.now (A.leaves r.action.now) in
-        particles.new ≡ after_all d particles.old r.n }
-    ensures flow { let r = run.entry in
-        let d = dynamics r.parity r.solids.now (A.leaves r.action.now) in
-        result ≡ flow_counted counted (flow_all d particles.old r.n) }
+    requires parity { run.now.parity < 2 }
+    requires walls { HasSidesOf run.now.solids.now.walls particles.old }
+    requires obstacles { HasSidesOf run.now.solids.now.obstacles particles.old }
+    requires start { N.course.start ≡ particles.old }
+    requires dynamics { N.course.dynamics
+        ≡ dynamics run.now.parity run.now.solids.now (A.leaves run.now.action.now) }
+    requires counted { N.course.counted ≡ counted }
+    ensures size { strips.new.size ≡ strips.old.size }
+    ensures particles { IfSome result (λ _. particles.new ≡ lattice_at N.course run.now.n) }
+    ensures flow { IfSome result (λ flow. flow ≡ flow_at N.course run.now.n) }
+    ensures none { IfNone result (particles.new ≡ particles.old) }
 {
-    let mut flow = Flow::ZERO;
+    if run.n == 0 {
+        return None;
+    }
+    let board = Board::<N>::new(alloc, particles, strips.strips.len())?;
     let mut done = 0;
     while done < run.n {
-        let next = (run.n - done).min(AT_ONCE);
-        let later = Later {
-            action: run.action,
-            by: done,
-        };
-        let part = Run {
+        let phases = list(run.action, done, run.n - done, &mut strips.exchanges);
+        let input = RunInput {
+            particles: &*particles,
             solids: run.solids,
-            parity: parity_at(run.parity, done),
-            n: next,
-            action: &later,
+            parity: run.parity,
+            from: done,
+            phases,
+            exchanges: strips.exchanges.as_slice(),
+            counted,
+            board: &board,
         };
-        let here = run_batch(rt, strips, particles, part, done == 0, counted);
-        flow = flow.plus(here);
-        done += next;
+        if !make_all(rt, &input, strips.strips.as_mut_slice()) {
+            return None;
+        }
+        done += phases;
     }
-    if done > 0 {
-        gather(strips.strips.as_slice(), particles);
-    }
-    flow
+    Some(gather(strips.strips.as_slice(), particles))
+}
+
+/// A run by the strips of the lattice's size. An account that is not kept has 0. `None` if memory runs out or not all threads can
+/// be started; then the particles are as they were.
+pub fn run_by<R: Threads, A: Action>(
+    rt: &R,
+    alloc: Global,
+    strips: &mut Strips,
+    particles: &mut Plane,
+    run: &Run<'_, A>,
+    counted: Counted,
+) -> Option<Flow>
+    requires size { strips.old.size ≡ extent particles.old }
+    requires lattice { IsLattice particles.old }
+    requires parity { run.now.parity < 2 }
+    requires walls { HasSidesOf run.now.solids.now.walls particles.old }
+    requires obstacles { HasSidesOf run.now.solids.now.obstacles particles.old }
+    ensures particles { let r = run.now in
+        let d = dynamics r.parity r.solids.now (A.leaves r.action.now) in
+        IfSome result (λ _. particles.new ≡ after_all d particles.old r.n) }
+    ensures flow { let r = run.now in
+        let d = dynamics r.parity r.solids.now (A.leaves r.action.now) in
+        IfSome result (λ flow. flow ≡ flow_counted counted (flow_all d particles.old r.n)) }
+    ensures none { IfNone result (particles.new ≡ particles.old) }
+{
+    run_named::<R, Brand, A>(rt, alloc, strips, particles, run, counted)
 }

@@ -25,7 +25,7 @@ const LONG_RUN: u16 = 2;
 /// How many workers a team has at most.
 pub const MOST_WORKERS: u32 = 16;
 
-/// A team of 1 to 16 workers. The calling thread is worker 0; the others are threads that are started for each phase or batch.
+/// A team of 1 to 16 workers. The calling thread is worker 0; the others are threads that are started for each phase or run.
 /// A phase never fails: if memory runs out or a thread can't be started, the calling thread does the rest. In a single phase the
 /// workers draw tiles, never more workers than tiles; the tiles of the other workers are written to buffers, which the team
 /// keeps, and put in place when all are turned. Contracts see the number of workers.
@@ -206,9 +206,12 @@ impl<R: Threads + Drop> Team<R, NoGate> {
         }
         match strips_for(kept, alloc, size, workers) {
             Some(mut strips) => {
-                let flow = run_by(rt, &mut strips, particles, run, counted);
+                let made = run_by(rt, alloc, &mut strips, particles, &run, counted);
                 *kept = Some(strips);
-                flow
+                match made {
+                    Some(flow) => flow,
+                    None => run_whole(particles, run, counted, spare),
+                }
             }
             None => run_whole(particles, run, counted, spare),
         }

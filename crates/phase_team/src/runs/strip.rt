@@ -1,16 +1,18 @@
-//! A strip: some rows of tiles of a lattice, with one more row above and below.
+//! A strip: some rows of tiles of a lattice, with one more row above and below, and how it makes a run.
 
-ghost use Rattle.std.specs.Prelude.{◌≡◌, ℕ, ◌+◌, ◌-◌, ◌*◌, ◌/◌, ◌<◌, ◌≤◌, IfSome};
+ghost use Rattle.std.specs.Prelude.{◌≡◌, ℕ, ◌+◌, ◌*◌, ◌/◌, ◌<◌, ◌≤◌, ◌-◌, IsTrue, IfSome, length};
 ghost use Rattle.gas_terms.specs.Cells.{Cells, extent, HasSidesOf};
 ghost use Rattle.gas_plane.specs.Planes.{IsLattice};
+ghost use Rattle.phase_step.specs.Actions.{flow_plus, no_flow, FlowsFit};
 ghost use Rattle.phase_step.specs.Parts.{HasRows};
-ghost use Rattle.phase_team.specs.Strips.{place_of, AreCopied, AreKept, ArePut, AreLoadable, IsInside, IsOf};
-ghost use Rattle.phase_team.specs.Work.{batch_of, CanRunOn, IsReadyFor, IsDone};
+ghost use Rattle.phase_team.specs.Courses.{lattice_at, rows_give};
+ghost use Rattle.phase_team.specs.Strips.{place_of, AreCopied, AreKept, ArePut, HasOwnRows, IsAt, IsBefore, IsInside, IsOf};
 
-use crate::runs::batch::BatchInput;
+use crate::runs::edges::{RunName, show_row, take_row};
+use crate::runs::input::RunInput;
 use gas_plane::{Plane, after, before};
 use gas_terms::Size;
-use phase_step::{Flow, Listed, Part, Run, run_part};
+use phase_step::{Flow, Later, Listed, Part, Run, parity_at, run_part};
 use std::alloc::Global;
 
 /// The rows of tiles that are a strip's own: `rows` of the lattice's, from row `first` on.
@@ -20,7 +22,7 @@ pub struct OwnRows {
     pub rows: u32,
 }
 
-/// The particles in its own rows and in one row more above and below, and what the last batch came to in its own.
+/// The particles in its own rows and in one row more above and below, and what the last run came to in its own.
 #[derive(Drop)]
 pub struct Strip {
     pub own: OwnRows,
@@ -45,25 +47,21 @@ fn copy_rows(source: &Plane, from: u32, rows: u32, out: &mut Plane, to: u32)
     }
 }
 
-// Makes all rows of a strip those of the lattice: its own if the run begins, and in each batch those above and below.
-fn load(cells: &mut Plane, own: OwnRows, input: BatchInput<'_>)
-    requires inside { IsInside (extent input.cells.now) own }
-    requires wide { cells.old.width ≡ input.cells.now.width }
+// Makes all rows of a strip those of the lattice.
+fn load(cells: &mut Plane, own: OwnRows, particles: &Plane)
+    requires inside { IsInside (extent particles.now) own }
+    requires wide { cells.old.width ≡ particles.now.width }
     requires high { cells.old.height ≡ (own.rows + 2) * 64 }
     ensures sides { HasSidesOf cells.new cells.old }
-    ensures rows { (lattice : Cells) → let i = input.entry in
-        HasSidesOf i.cells.now lattice → AreLoadable i.begins lattice i.cells.now own cells.old →
-        HasRows (place_of (i.cells.now.height / 64) own) cells.new lattice 0 }
+    ensures rows { HasRows (place_of (particles.now.height / 64) own) cells.new particles.now 0 }
 {
     let OwnRows { first, rows } = own;
-    let down = u32::from(input.cells.size().height() / 64);
-    if input.begins {
-        copy_rows(input.cells, first, rows, cells, 1);
-    }
+    let down = u32::from(particles.size().height() / 64);
     let above = before(first, down);
     let below = after(first + rows - 1, down);
-    copy_rows(input.cells, above, 1, cells, 0);
-    copy_rows(input.cells, below, 1, cells, rows + 1);
+    copy_rows(particles, first, rows, cells, 1);
+    copy_rows(particles, above, 1, cells, 0);
+    copy_rows(particles, below, 1, cells, rows + 1);
 }
 
 impl Strip {
@@ -81,36 +79,171 @@ impl Strip {
         })
     }
 
-    /// Makes the phases of a batch: the strip's own rows become those of the lattice after it.
-    pub fn run(&mut self, input: BatchInput<'_>)
-        requires { CanRunOn input self.old }
-        ensures done { (lattice : Cells) → IsReadyFor input.entry lattice self.old →
-            IsDone (batch_of input.entry) lattice self.new }
+    // Loads its rows, and has come to nothing yet.
+    fn begin(&mut self, particles: &Plane)
+        requires strip { IsOf (extent particles.now) self.old }
+        ensures strip { IsOf (extent particles.now) self.new }
         ensures own { self.new.own ≡ self.old.own }
+        ensures flow { self.new.flow ≡ no_flow }
+        ensures rows { let s = self.new in
+            HasRows (place_of (particles.now.height / 64) s.own) s.cells particles.now 0 }
     {
-        let Strip {
-            own,
-            cells,
-            spare,
-            flow,
-        } = self;
-        load(cells, *own, input);
-        let down = u32::from(input.cells.size().height() / 64);
+        load(&mut self.cells, self.own, particles);
+        self.flow = Flow::ZERO;
+    }
+
+    // Phase k of those that are made at a time, and the exchange after it. Returns what it comes to in its own rows.
+    fn make_phase<N: RunName>(&mut self, input: &RunInput<'_, N>, k: u16) -> Flow
+        requires k { k < input.now.phases }
+        requires strip { IsOf (extent N.course.start) self.old }
+        requires rows { IsBefore N.course (input.now.from + k) self.old }
+        ensures strip { IsOf (extent N.course.start) self.new }
+        ensures same { (self.new.own ≡ self.old.own) × (self.new.flow ≡ self.old.flow) }
+        ensures rows { HasOwnRows (lattice_at N.course (input.now.from + k + 1)) self.new }
+        ensures fits { let own = self.old.own in
+            FlowsFit (rows_give N.course (input.now.from + k) own.first own.rows) result }
+        ensures flow { let own = self.old.own in
+            flow_plus (rows_give N.course (input.now.from + k) own.first own.rows) result
+            ≡ rows_give N.course (input.now.from + k + 1) own.first own.rows }
+    {
         let part = Part {
-            first: own.first,
-            down,
+            first: self.own.first,
+            down: u32::from(input.particles.size().height() / 64),
             margin: 1,
         };
-        let action = Listed {
+        let listed = Listed {
             exchanges: input.exchanges,
+        };
+        let action = Later {
+            action: &listed,
+            by: k,
         };
         let run = Run {
             solids: input.solids,
-            parity: input.parity,
-            n: input.phases,
+            parity: parity_at(input.parity, input.from + k),
+            n: 1,
             action: &action,
         };
-        *flow = run_part(cells, part, run, input.counted, spare);
+        let Strip { cells, spare, .. } = self;
+        run_part(cells, part, run, input.counted, spare)
+    }
+
+    // Shows its first and its last row, as they are after so many phases. False if a strip has given up.
+    fn show_edges<N: RunName>(
+        &self,
+        input: &RunInput<'_, N>,
+        number: u32,
+        phases: u16,
+    ) -> bool
+        requires number { number < length input.now.board.now.edges.items }
+        requires strip { IsOf (extent N.course.start) self.now }
+        requires rows { HasOwnRows (lattice_at N.course phases) self.now }
+    {
+        let OwnRows { first, rows } = self.own;
+        let edges = &input.board.edges[number as usize];
+        let top = first * 64;
+        let end = (first + rows) * 64;
+        show_row(
+            edges.first(phases),
+            &self.cells,
+            64,
+            top,
+            phases,
+            &input.board.given_up,
+        ) && show_row(
+            edges.last(phases),
+            &self.cells,
+            rows * 64 + 63,
+            end - 1,
+            phases,
+            &input.board.given_up,
+        )
+    }
+
+    // Takes the rows next to its own from its neighbors. False if a strip has given up.
+    fn take_edges<N: RunName>(
+        &mut self,
+        input: &RunInput<'_, N>,
+        number: u32,
+        phases: u16,
+    ) -> bool
+        requires number { (number < length input.now.board.now.edges.items)
+            × (length input.now.board.now.edges.items ≤ 64) }
+        requires strip { IsOf (extent N.course.start) self.old }
+        requires rows { HasOwnRows (lattice_at N.course phases) self.old }
+        ensures strip { IsOf (extent N.course.start) self.new }
+        ensures same { (self.new.own ≡ self.old.own) × (self.new.flow ≡ self.old.flow) }
+        ensures rows { let lattice = lattice_at N.course phases in
+            IsTrue result →
+            HasRows (place_of (lattice.height / 64) self.new.own) self.new.cells lattice 63 }
+    {
+        let OwnRows { first, rows } = self.own;
+        let height = u32::from(input.particles.size().height());
+        let count = input.board.edges.len() as u32;
+        let above = &input.board.edges[before(number, count) as usize];
+        let below = &input.board.edges[after(number, count) as usize];
+        let upper = before(first * 64, height);
+        let lower = after((first + rows) * 64 - 1, height);
+        let cells = &mut self.cells;
+        take_row(
+            above.last(phases),
+            cells,
+            63,
+            upper,
+            phases,
+            &input.board.given_up,
+        ) && take_row(
+            below.first(phases),
+            cells,
+            rows * 64 + 64,
+            lower,
+            phases,
+            &input.board.given_up,
+        )
+    }
+
+    // Shows and takes edges, if the phase that comes next needs them. False if a strip has given up.
+    fn meet<N: RunName>(
+        &mut self,
+        input: &RunInput<'_, N>,
+        number: u32,
+        phases: u16,
+    ) -> bool
+        requires number { (number < length input.now.board.now.edges.items)
+            × (length input.now.board.now.edges.items ≤ 64) }
+        requires strip { IsOf (extent N.course.start) self.old }
+        requires rows { HasOwnRows (lattice_at N.course phases) self.old }
+        ensures strip { IsOf (extent N.course.start) self.new }
+        ensures same { (self.new.own ≡ self.old.own) × (self.new.flow ≡ self.old.flow) }
+        ensures rows { IsTrue result → IsBefore N.course phases self.new }
+    {
+        if parity_at(input.parity, phases) == 0 {
+            return true;
+        }
+        self.show_edges(input, number, phases) && self.take_edges(input, number, phases)
+    }
+
+    /// Makes so many phases of the run. False if a strip has given up.
+    pub fn run<N: RunName>(&mut self, input: &RunInput<'_, N>, number: u32) -> bool
+        requires number { (number < length input.now.board.now.edges.items)
+            × (length input.now.board.now.edges.items ≤ 64) }
+        requires strip { IsOf (extent N.course.start) self.old }
+        requires at { 0 < input.now.from → IsAt N.course input.now.from self.old }
+        ensures strip { IsOf (extent N.course.start) self.new }
+        ensures own { self.new.own ≡ self.old.own }
+        ensures at { IsTrue result → IsAt N.course (input.now.from + input.now.phases) self.new }
+    {
+        if input.from == 0 {
+            self.begin(input.particles);
+        }
+        for k in 0..input.phases {
+            let here = self.make_phase(input, k);
+            self.flow = self.flow.plus(here);
+            if !self.meet(input, number, input.from + k + 1) {
+                return false;
+            }
+        }
+        true
     }
 
     /// Puts so many of its own rows into the lattice's particles, from own row `from` on.
@@ -125,20 +258,5 @@ impl Strip {
             ArePut lattice out.old (s.own.first + from) rows out.new }
     {
         copy_rows(&self.cells, from + 1, rows, out, self.own.first + from);
-    }
-
-    /// Puts its first and its last own row into the lattice's particles: the rows that its neighbors load.
-    pub fn show_edges(&self, out: &mut Plane)
-        requires is { IsLattice out.old }
-        requires strip { IsOf (extent out.old) self.now }
-        ensures sides { HasSidesOf out.new out.old }
-        ensures lattice { IsLattice out.new }
-        ensures rows { (lattice : Cells) → let s = self.now in HasSidesOf out.old lattice →
-            HasRows (place_of (out.old.height / 64) s.own) s.cells lattice 64 →
-            ArePut lattice out.old s.own.first 1 out.new
-            × ArePut lattice out.old (s.own.first + s.own.rows - 1) 1 out.new }
-    {
-        self.put_rows(0, 1, out);
-        self.put_rows(self.own.rows - 1, 1, out);
     }
 }

@@ -1,9 +1,6 @@
-use Rattle.std.proofs.Common.{◌/◌, ◌∙◌, subst, arith}
-use Rattle.gas_terms.specs.Cells.{extent}
+use Rattle.std.proofs.Common.{subst, arith}
 use Rattle.gas_plane.specs.Tiles.{AreRowsRound}
-use Rattle.gas_plane.proofs.Places.{wide}
 use Rattle.gas_plane.proofs.Rings.{row_in}
-use Rattle.phase_step.proofs.RowPlaces.{row_stays}
 use Rattle.phase_step.proofs.parts.rows_at.Goals as goal
 
 pub rows_round-requires : goal.rows_round-requires
@@ -22,11 +19,9 @@ returns-then-at-eq0-clause-column c =
 pub returns-else-at-eq0-clause-column : goal.returns-else-at-eq0-clause-column
 returns-else-at-eq0-clause-column c =
     let at = c.requires.position in
-    let across = c.args.old.now.width / 64 in
-    let some = (wide (extent c.args.old.now) c.requires.lattice.sized).some in
     record {
       lattice = c.requires.lattice;
       within = c.requires.tile;
-      rows = subst (λ row. AreRowsRound c.args.before c.args.old.now row) (row_stays across c.args.at.tile some (λ e. c.if-at-eq0.false (at.column ∙ e))) c.requires.before;
+      rows = c.requires.before c.if-at-eq0.false;
       place = at.column;
     }

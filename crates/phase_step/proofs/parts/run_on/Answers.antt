@@ -1,10 +1,11 @@
-use Rattle.std.proofs.Common.{◌≡◌, ◌+◌, sym, subst, arith, refl}
+use Rattle.std.proofs.Common.{◌≡◌, ◌+◌, ◌-◌, sym, subst, arith, refl}
 use Rattle.gas_terms.specs.Cells.{Cells, joined}
 use Rattle.gas_terms.specs.Gas.{streamed}
+use Rattle.phase_step.specs.Actions.{flow_plus}
 use Rattle.phase_step.specs.Parts.{IsPartOf, HasRun}
 use Rattle.phase_step.specs.WholeRuns.{dynamics, after_all}
 use Rattle.phase_step.specs.declared.sums.flow.Flow.{Flow}
-use Rattle.phase_step.proofs.RowRuns.{IsPartPhase, run_begins, run_next, run_fits, own_few, sides_on, still_unspoilt}
+use Rattle.phase_step.proofs.RowRuns.{IsPartPhase, run_begins, run_next, run_fits, own_few, sides_on, ready_again}
 use Rattle.phase_step.proofs.parts.run_on.Given.{Over}
 use Rattle.phase_step.proofs.parts.run_on.Goals.{After-act_after-moved}
 use Rattle.phase_step.proofs.parts.run_on.Goals as goal
@@ -15,27 +16,31 @@ loop-k-init g c =
     record {
       sides = record { wide = refl; high = refl };
       spare = c.requires.spare;
-      run = λ lattice is. run_begins c.args.part c.args.counted (dynamics run.parity run.solids.now (g.A.Action.leaves run.action.now)) c.args.particles.now lattice is;
+      run = λ lattice is. run_begins c.args.part c.args.counted (dynamics run.parity run.solids.now (g.A.Action.leaves run.action.now)) c.args.particles.now lattice run.parity is;
+      ready = λ lattice q is some e.
+          let f : run.parity ≡ q = let small = c.requires.parity in omega (arith, small, e) in subst (λ p. IsPartOf c.args.part run.solids.now.walls run.solids.now.obstacles c.args.particles.now lattice (64 - p)) f is;
     }
 
 -- the phase and the action after it
-phase_made : (g : Over) (c : After-act_after-moved g) (lattice : Cells) → IsPartOf c.args.part c.args.run.solids.now.walls c.args.run.solids.now.obstacles c.args.particles.now lattice 0
+phase_made : (g : Over) (c : After-act_after-moved g) (lattice : Cells) → IsPartOf c.args.part c.args.run.solids.now.walls c.args.run.solids.now.obstacles c.args.particles.now lattice (64 - c.args.run.parity)
     → IsPartPhase c.args.part c.args.counted (dynamics c.args.run.parity c.args.run.solids.now (g.A.Action.leaves c.args.run.action.now)) c.parity_at-now.result c.loop-k.k lattice c.args.particles.now c.loop-k.particles c.turn_part-took.new.particles c.act_after-moved.new.particles c.loop-k.flow (record { took = c.turn_part-took.result; moved = c.act_after-moved.result })
 phase_made g c lattice start =
     let run = c.args.run in
     let s = run.solids.now in
     let so_far = c.loop-k.invariant.run lattice start in
     let there = after_all (dynamics run.parity s (g.A.Action.leaves run.action.now)) lattice c.loop-k.k in
-    let come = c.turn_part-took.ensures.phase.rows there c.loop-k.k so_far.is in
+    let ready = c.loop-k.invariant.ready lattice c.parity_at-now.result start (omega arith) c.parity_at-now.ensures.parity in
+    let streamed_there : Cells = streamed c.parity_at-now.result there (joined s.walls s.obstacles) in
+    let come = c.turn_part-took.ensures.phase.rows there ready in
     record {
       small = c.requires.parity;
       parity = c.parity_at-now.ensures.parity;
       now_sides = c.loop-k.invariant.sides;
       come_sides = sides_on _ _ _ c.turn_part-took.ensures.sides.0 c.loop-k.invariant.sides;
       so_far = so_far;
-      action = c.act_after-moved.ensures.rows s.walls s.obstacles _ (c.loop-k.k + 1) come;
-      took = c.turn_part-took.ensures.phase.took there c.loop-k.k so_far.is (still_unspoilt c.args.part.margin c.loop-k.k run.n c.requires.few (omega arith));
-      moved = c.act_after-moved.ensures.moved s.walls s.obstacles _ (c.loop-k.k + 1) come (still_unspoilt c.args.part.margin (c.loop-k.k + 1) run.n c.requires.few (omega arith));
+      action = c.act_after-moved.ensures.rows s.walls s.obstacles streamed_there come;
+      took = c.turn_part-took.ensures.phase.took there ready;
+      moved = c.act_after-moved.ensures.moved s.walls s.obstacles streamed_there come;
     }
 
 pub plus-flow-requires : goal.plus-flow-requires
@@ -46,19 +51,23 @@ plus-flow-requires g c =
     let start = c.requires.part.is in
     run_fits c.args.part c.args.counted (dynamics run.parity s (g.A.Action.leaves run.action.now)) c.parity_at-now.result c.loop-k.k lattice c.args.particles.now c.loop-k.particles c.turn_part-took.new.particles c.act_after-moved.new.particles c.loop-k.flow
     (record { took = c.turn_part-took.result; moved = c.act_after-moved.result }) (phase_made g (goal.at.plus-flow-requires g c).After-act_after-moved lattice start)
-    (omega arith) (own_few c.args.part s.walls s.obstacles c.args.particles.now lattice 0 start)
+    (omega arith) (own_few c.args.part s.walls s.obstacles c.args.particles.now lattice (64 - run.parity) start)
 
 pub loop-k-preserved : goal.loop-k-preserved
 loop-k-preserved g c =
     let run = c.args.run in
-    let d = dynamics run.parity run.solids.now (g.A.Action.leaves run.action.now) in
+    let s = run.solids.now in
+    let d = dynamics run.parity s (g.A.Action.leaves run.action.now) in
+    let after = (goal.at.loop-k-preserved g c).After-act_after-moved in
+    let flow : Flow = record { took = c.turn_part-took.result; moved = c.act_after-moved.result } in
+    let next : (lattice : Cells) → IsPartOf c.args.part s.walls s.obstacles c.args.particles.now lattice (64 - run.parity) → HasRun c.args.part c.args.counted d (c.loop-k.k + 1) c.args.particles.now lattice c.act_after-moved.new.particles (flow_plus c.loop-k.flow flow) =
+    λ lattice start. run_next c.args.part c.args.counted d c.parity_at-now.result c.loop-k.k lattice c.args.particles.now c.loop-k.particles c.turn_part-took.new.particles c.act_after-moved.new.particles c.loop-k.flow flow (phase_made g after lattice start) in
     record {
       sides = sides_on _ _ _ c.act_after-moved.ensures.sides (sides_on _ _ _ c.turn_part-took.ensures.sides.0 c.loop-k.invariant.sides);
       spare = sides_on _ _ _ c.turn_part-took.ensures.sides.1 c.loop-k.invariant.sides;
       run = λ lattice start.
-          subst (λ (f : Flow). HasRun c.args.part c.args.counted d (c.loop-k.k + 1) c.args.particles.now lattice c.act_after-moved.new.particles f) (sym c.plus-flow.ensures)
-          (run_next c.args.part c.args.counted d c.parity_at-now.result c.loop-k.k lattice c.args.particles.now c.loop-k.particles c.turn_part-took.new.particles c.act_after-moved.new.particles c.loop-k.flow
-          (record { took = c.turn_part-took.result; moved = c.act_after-moved.result }) (phase_made g (goal.at.loop-k-preserved g c).After-act_after-moved lattice start));
+          subst (λ (f : Flow). HasRun c.args.part c.args.counted d (c.loop-k.k + 1) c.args.particles.now lattice c.act_after-moved.new.particles f) (sym c.plus-flow.ensures) (next lattice start);
+      ready = λ lattice q start more e. ready_again c.args.part s.walls s.obstacles c.act_after-moved.new.particles _ run.n c.loop-k.k q c.requires.few more (next lattice start).is;
     }
 
 pub returns-clause-run : goal.returns-clause-run
@@ -68,35 +77,26 @@ returns-clause-run g c = λ lattice start.
     let e : c.loop-k.k ≡ run.n = omega arith in
     subst (λ k. HasRun c.args.part c.args.counted d k c.args.particles.now lattice c.loop-k.particles c.loop-k.flow) e (c.loop-k.invariant.run lattice start)
 
-pub turn_part-took-requires-clause-held : goal.turn_part-took-requires-clause-held
-turn_part-took-requires-clause-held g c =
+pub turn_part-took-requires-clause-ready : goal.turn_part-took-requires-clause-ready
+turn_part-took-requires-clause-ready g c =
     let run = c.args.run in
-    let d = dynamics run.parity run.solids.now (g.A.Action.leaves run.action.now) in
     let lattice = c.requires.part.lattice in
     record {
-      made = c.loop-k.k;
-      ready = record {
-        lattice = after_all d lattice c.loop-k.k;
-        is = (c.loop-k.invariant.run lattice c.requires.part.is).is;
-        few = still_unspoilt c.args.part.margin c.loop-k.k run.n c.requires.few (omega arith);
-      };
+      lattice = after_all (dynamics run.parity run.solids.now (g.A.Action.leaves run.action.now)) lattice c.loop-k.k;
+      is = c.loop-k.invariant.ready lattice c.parity_at-now.result c.requires.part.is (omega arith) c.parity_at-now.ensures.parity;
     }
 
-pub act_after-moved-requires-clause-held : goal.act_after-moved-requires-clause-held
-act_after-moved-requires-clause-held g c =
+pub act_after-moved-requires-clause-some : goal.act_after-moved-requires-clause-some
+act_after-moved-requires-clause-some g c =
     let run = c.args.run in
     let s = run.solids.now in
-    let d = dynamics run.parity s (g.A.Action.leaves run.action.now) in
     let lattice = c.requires.part.lattice in
+    let there = after_all (dynamics run.parity s (g.A.Action.leaves run.action.now)) lattice c.loop-k.k in
     record {
       walls = s.walls;
       obstacles = s.obstacles;
-      held = record {
-        made = c.loop-k.k + 1;
-        ready = record {
-          lattice = streamed c.parity_at-now.result (after_all d lattice c.loop-k.k) (joined s.walls s.obstacles);
-          is = c.turn_part-took.ensures.phase.rows (after_all d lattice c.loop-k.k) c.loop-k.k (c.loop-k.invariant.run lattice c.requires.part.is).is;
-          few = still_unspoilt c.args.part.margin (c.loop-k.k + 1) run.n c.requires.few (omega arith);
-        };
+      ready = record {
+        lattice = streamed c.parity_at-now.result there (joined s.walls s.obstacles);
+        is = c.turn_part-took.ensures.phase.rows there (c.loop-k.invariant.ready lattice c.parity_at-now.result c.requires.part.is (omega arith) c.parity_at-now.ensures.parity);
       };
     }

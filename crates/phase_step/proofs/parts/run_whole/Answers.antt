@@ -1,4 +1,4 @@
-use Rattle.std.proofs.Common.{◌*◌, ◌/◌, ◌≤◌, sym, subst, arith}
+use Rattle.std.proofs.Common.{◌*◌, ◌-◌, ◌/◌, ◌≤◌, sym, subst, arith}
 use Rattle.phase_step.specs.Parts.{HasRun}
 use Rattle.phase_step.specs.WholeRuns.{dynamics}
 use Rattle.phase_step.specs.declared.parts.Part.{Part}
@@ -8,11 +8,10 @@ use Rattle.phase_step.proofs.parts.run_whole.Goals as goal
 pub run_part-flow-requires-clause-part : goal.run_part-flow-requires-clause-part
 run_part-flow-requires-clause-part g c =
     let s = c.args.run.solids.now in
-    let none : c.whole-part.result.margin * 0 ≤ 64 = omega arith in
-    record { lattice = c.args.particles.now; is = whole_held c.whole-part.result s.walls s.obstacles c.args.particles.now c.whole-part.ensures.lattice c.whole-part.ensures.part c.requires.walls c.requires.obstacles; few = none }
+    record { lattice = c.args.particles.now; is = whole_held c.whole-part.result s.walls s.obstacles c.args.particles.now (64 - c.args.run.parity) c.whole-part.ensures.lattice c.whole-part.ensures.part c.requires.walls c.requires.obstacles }
 
 pub run_part-flow-requires-clause-few : goal.run_part-flow-requires-clause-few
-run_part-flow-requires-clause-few g c = subst (λ (part : Part). part.margin * c.args.run.n ≤ 64) (sym c.whole-part.ensures.part) (omega arith)
+run_part-flow-requires-clause-few g c = subst (λ (part : Part). part.margin * c.args.run.n ≤ 1) (sym c.whole-part.ensures.part) (omega arith)
 
 pub returns : goal.returns
 returns g c =
@@ -23,11 +22,11 @@ returns g c =
     let down = cells.height / 64 in
     let lattice = c.whole-part.ensures.lattice in
     let new = c.run_part-flow.new.particles in
-    let whole = whole_held c.whole-part.result s.walls s.obstacles cells lattice c.whole-part.ensures.part c.requires.walls c.requires.obstacles in
+    let whole = whole_held c.whole-part.result s.walls s.obstacles cells (64 - run.parity) lattice c.whole-part.ensures.part c.requires.walls c.requires.obstacles in
     let made : HasRun (record { first = 0; down = down; margin = 0 }) c.args.counted d run.n cells cells new c.run_part-flow.result =
     subst (λ (part : Part). HasRun part c.args.counted d run.n cells cells new c.run_part-flow.result) c.whole-part.ensures.part (c.run_part-flow.ensures.run cells whole) in
     record {
-      particles = whole_same down run.n s.walls s.obstacles new _ c.shows_lattice.ensures.full made.is;
+      particles = whole_same down 64 s.walls s.obstacles new _ c.shows_lattice.ensures.full made.is;
       spare = c.run_part-flow.ensures.sides.1;
       flow = whole_flow down run.n c.args.counted d cells new c.run_part-flow.result lattice.sized made;
     }

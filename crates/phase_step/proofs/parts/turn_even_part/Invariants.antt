@@ -1,8 +1,9 @@
-use Rattle.std.proofs.Common.{◌≡◌, ℕ, ◌+◌, ◌-◌, ◌*◌, ◌/◌, ◌≤◌}
-use Rattle.gas_terms.specs.Cells.{Cells, HasSidesOf}
+use Rattle.std.proofs.Common.{◌≡◌, ◌-◌, ◌*◌, ◌/◌, ◌≤◌}
+use Rattle.gas_terms.specs.Cells.{Cells, HasSidesOf, joined}
+use Rattle.gas_terms.specs.Gas.{streamed}
 use Rattle.block_rule.specs.Accounts.{counted_of}
 use Rattle.phase_step.specs.Runs.{tiles_take}
-use Rattle.phase_step.specs.Parts.{tile_in, IsPartOf, AreTurnedUpTo, AreKeptFrom}
+use Rattle.phase_step.specs.Parts.{tile_in, IsPartOf, AreMadeUpTo, AreKeptFrom}
 use Rattle.phase_step.proofs.parts.turn_even_part.Given as goal
 
 abbrev pub invariant-loop-i : goal.invariant-loop-i
@@ -11,9 +12,10 @@ invariant-loop-i l =
     let o = l.ground.solids.now.obstacles in
     let old = l.initial.particles in
     record {
+      from : l.initial.i ≤ l.i;
       there : l.there ≡ tile_in l.fn.part l.across l.i;
       sides : HasSidesOf l.particles old;
-      cells : (lattice : Cells) (k : ℕ) → IsPartOf l.fn.part w o old lattice k → AreTurnedUpTo l.i l.fn.part 0 old lattice w o l.particles (k + 1);
+      cells : (lattice : Cells) → IsPartOf l.fn.part w o old lattice 64 → AreMadeUpTo l.i l.fn.part old (streamed 0 lattice (joined w o)) l.particles;
       rest : AreKeptFrom l.i old l.particles;
-      took : (lattice : Cells) (k : ℕ) → IsPartOf l.fn.part w o old lattice k → l.fn.part.margin * k ≤ 64 → l.took ≡ counted_of l.fn.counted (tiles_take 0 lattice w o (l.fn.part.first * (lattice.width / 64)) (l.i - l.own.first - (l.i - l.own.end)));
+      took : (lattice : Cells) → IsPartOf l.fn.part w o old lattice 64 → l.took ≡ counted_of l.fn.counted (tiles_take 0 lattice w o (l.fn.part.first * (lattice.width / 64)) (l.i - l.initial.i));
     }

@@ -1,24 +1,24 @@
-use Rattle.std.proofs.Common.{of_calls, rules, ◌≡◌, length, arith, subst, All, Some}
+use Rattle.std.proofs.Common.{of_calls, rules, ◌+◌, subst, All, Some}
+use Rattle.std.specs.Bool.{IsTrue}
 use Rattle.std.proofs.lemmas.List.Elements.{All-pop, All-push}
-use Rattle.phase_team.specs.Work.{batch_of, CanRunOn, IsReadyFor, IsDone}
+use Rattle.gas_terms.specs.Cells.{extent}
+use Rattle.phase_team.specs.Strips.{IsAt, IsOf}
 use Rattle.phase_team.proofs.runs.+fn-make_all-join_mut+arg3+make_all.Goals as goal
 
-pub join_mut-requires-after_bounds : goal.join_mut-requires-after_bounds
-join_mut-requires-after_bounds g t c κs within =
-    let can = CanRunOn c.args.input in
-    let parts = All-pop can c.args.strips.now c.in-Some.rest.now (Some c.in-Some.last.now) c.in-Some.ensures.cases.0 c.requires in
-    (parts.1, (search rules, ((λ a m. m), parts.0)))
+pub join_mut-one-requires-after_bounds : goal.join_mut-one-requires-after_bounds
+join_mut-one-requires-after_bounds g t c κs within =
+    let course = g.N.RunName.course in
+    let strips = c.args.strips.now in
+    let cases = c.in-Some.ensures.cases.0 in
+    let of = All-pop (IsOf (extent course.start)) strips c.in-Some.rest.now (Some c.in-Some.last.now) cases c.requires.strips in
+    let at = IsAt course c.args.input.now.from in (
+      (search rules, c.requires.few.1, of.1, (λ some. (All-pop at strips c.in-Some.rest.now (Some c.in-Some.last.now) cases (c.requires.at some)).1)),
+      (search rules, ((λ a m. m), ((λ a m. m), ((search rules, c.requires.few.1, of.0, (λ some. (All-pop at strips c.in-Some.rest.now (Some c.in-Some.last.now) cases (c.requires.at some)).0)), (search rules, search rules))))),
+    )
 
-pub returns-clause-done : goal.returns-clause-done
-returns-clause-done g t c = λ lattice ready.
-    let is = IsReadyFor c.args.input lattice in
-    let done = IsDone (batch_of c.args.input) lattice in
-    let parts = All-pop is c.args.strips.now c.in-Some.rest.now (Some c.in-Some.last.now) c.in-Some.ensures.cases.0 ready in
-    All-push done _ _ (subst (All done) (search (of_calls, rules)) (c.join_mut.ensures.1.met.1.0 lattice parts.0)) (subst done (search (of_calls, rules)) (c.join_mut.ensures.0.met.1.0 lattice parts.1))
-
-pub returns-then-is_empty-clause-done : goal.returns-then-is_empty-clause-done
-returns-then-is_empty-clause-done g t c = λ lattice ready.
-    let is = IsReadyFor c.args.input lattice in
-    let last = (All-pop is c.args.strips.now c.in-Some.rest.now (Some c.in-Some.last.now) c.in-Some.ensures.cases.0 ready).1 in
-    let none : length c.in-Some.rest.now ≡ 0 = search rules in
-    All-push (IsDone (batch_of c.args.input) lattice) c.in-Some.rest.now c.run.new.self (λ k d less. absurd (omega (arith, none, less))) (c.run.ensures.done lattice last)
+pub returns-then-one-clause-at : goal.returns-then-one-clause-at
+returns-then-one-clause-at g t c = λ good.
+    let i = c.args.input.now in
+    let at = IsAt g.N.RunName.course (i.from + i.phases) in
+    let one : IsTrue c.join_mut-one.result.0 = search rules in
+    All-push at _ _ (subst (All at) (search (of_calls, rules)) (c.join_mut-one.ensures.1.met.1.2 good)) (subst at (search (of_calls, rules)) (c.join_mut-one.ensures.0.met.1.2 one))

@@ -34,10 +34,10 @@ returns-then-parity-eq0 c =
       cells =
           subst (λ p. IsTileAfter p old w o i c.turn_even_in_part.new.tile) (sym c.if-parity-eq0.true)
           (whole_turns 0 old w o i _ c.turn_even_in_part.new.tile c.requires.lattice c.requires.tile c.requires.walls c.requires.obstacles tile_solids
-          (λ is tile_solids. c.turn_even_in_part.ensures.cells (whole_part old) w o old old i 0 c.requires.lattice c.requires.tile is tile_solids c.tile.ensures));
+          (λ own is tile_solids. c.turn_even_in_part.ensures.cells (whole_part old) w o old old i c.requires.lattice own is tile_solids c.tile.ensures));
       took =
           whole_takes 0 old w o i _ c.turn_even_in_part.result c.requires.lattice c.requires.tile c.requires.walls c.requires.obstacles tile_solids
-          (λ is tile_solids unspoilt. c.turn_even_in_part.ensures.took (whole_part old) w o old old i 0 c.requires.lattice c.requires.tile is tile_solids c.tile.ensures unspoilt)
+          (λ own is tile_solids. c.turn_even_in_part.ensures.took (whole_part old) w o old old i c.requires.lattice own is tile_solids c.tile.ensures)
           ∙ ap (λ p. taken_in (pos p) old w o (tile_rectangle old i)) (sym c.if-parity-eq0.true);
     }
 
@@ -63,9 +63,9 @@ returns-else-parity-eq0 c =
       cells =
           subst (λ p. IsTileAfter p old w o i c.turn_odd_in_part.new.out) e
           (whole_turns 1 old w o i _ c.turn_odd_in_part.new.out c.requires.lattice c.requires.tile c.requires.walls c.requires.obstacles tile_solids
-          (λ is tile_solids. c.turn_odd_in_part.ensures.cells (whole_part old) w o old old i 0 column is tile_solids));
+          (λ own is tile_solids. c.turn_odd_in_part.ensures.cells (whole_part old) w o old old i column own is tile_solids));
       took =
           whole_takes 1 old w o i _ c.turn_odd_in_part.result c.requires.lattice c.requires.tile c.requires.walls c.requires.obstacles tile_solids
-          (λ is tile_solids unspoilt. c.turn_odd_in_part.ensures.took (whole_part old) w o old old i 0 column is tile_solids unspoilt)
+          (λ own is tile_solids. c.turn_odd_in_part.ensures.took (whole_part old) w o old old i column own is tile_solids)
           ∙ ap (λ p. taken_in (pos p) old w o (tile_rectangle old i)) e;
     }
