@@ -91,7 +91,7 @@ fn by_phases(rt: &impl Abort, run: Setting<'_>, particles: &mut Plane, spare: &m
     took
 }
 
-// A run ends the same by strips of so many workers each and phase by phase.
+// A run ends the same phase by phase and by strips of so many workers each, at either parity of its first phase.
 fn strips_agree<R: Threads + Abort + AllocGlobal + Copy + Drop>(
     rt: &R,
     size: Size,
@@ -100,33 +100,39 @@ fn strips_agree<R: Threads + Abort + AllocGlobal + Copy + Drop>(
 ) {
     let walls = seeded(rt, size, 77172645463325252, 7);
     let obstacles = seeded(rt, size, 66172645463325252, 8);
-    let run = among(&walls, &obstacles, (n / 32 % 2) as u8, n);
-    let mut alone = seeded(rt, size, 88172645463325252, 1);
     let mut spare = seeded(rt, size, 1, 1);
-    let by_one = by_phases(rt, run, &mut alone, &mut spare);
-    for workers in workers {
-        let mut now = seeded(rt, size, 88172645463325252, 1);
-        let took = by_strips(rt, *workers, run, &Still, &mut now, &mut spare).took;
-        expect_that(&rt, took == by_one && have_same_rows(&now, &alone));
+    for parity in [0, 1] {
+        let run = among(&walls, &obstacles, parity, n);
+        let mut alone = seeded(rt, size, 88172645463325252, 1);
+        let by_one = by_phases(rt, run, &mut alone, &mut spare);
+        for workers in workers {
+            let mut now = seeded(rt, size, 88172645463325252, 1);
+            let took = by_strips(rt, *workers, run, &Still, &mut now, &mut spare).took;
+            expect_that(&rt, took == by_one && have_same_rows(&now, &alone));
+        }
     }
 }
 
+// One strip is its own neighbor, and each of two is the other's above and below. Rows are shown before each second phase, in
+// two places by turns.
 #[test]
 fn runs_by_strips_are_the_phases(rt: HostRuntime) {
     for height in [64, 128] {
         let size = Size::new(128, height).expect(&rt, "a size");
-        for n in [1, 31, 32, 33, 63, 64, 65] {
+        for n in [1, 2, 3, 4, 5, 6, 65] {
             strips_agree(&rt, size, n, &[1, 2, 5]);
         }
     }
 }
 
+// Sixteen rows of tiles: strips of one row each, of several, and of unequal heights.
 #[test]
 fn long_and_high_runs_by_strips_are_the_phases(rt: HostRuntime) {
     let low = Size::new(64, 128).expect(&rt, "a size");
     strips_agree(&rt, low, 4096, &[2]);
-    let high = Size::new(64, 4096).expect(&rt, "a size");
-    strips_agree(&rt, high, 65, &[3, 16]);
+    let high = Size::new(64, 1024).expect(&rt, "a size");
+    let workers = [1, 2, 3, 4, 5, 6, 7, 8, 9, 10, 11, 12, 13, 14, 15, 16];
+    strips_agree(&rt, high, 7, &workers);
 }
 
 // A run by strips leaves the spare plane as it was. One phase by phase leaves there what its last phase began with.
@@ -201,7 +207,7 @@ fn strokes(rt: &(impl Abort + AllocGlobal), drained: Rect, filled: Rect, n: u16)
     exchanges
 }
 
-// The sums are those of tools/channel_gas.py, with such an action after its steps.
+// More exchanges than are listed at once. The sums are those of tools/channel_gas.py, with such an action after its steps.
 #[test]
 fn strokes_in_a_run_by_two_strips(rt: HostRuntime) {
     let walls = scattered(&rt, 256, 128, 2, 400);
@@ -211,18 +217,18 @@ fn strokes_in_a_run_by_two_strips(rt: HostRuntime) {
     let size = now.size();
     let drained = Rect::within(size, 60, 50, 10, 30).expect(&rt, "a rectangle");
     let filled = Rect::within(size, 120, 118, 20, 8).expect(&rt, "a rectangle");
-    let exchanges = strokes(&rt, drained, filled, 65);
+    let exchanges = strokes(&rt, drained, filled, 257);
     let action = Listed {
         exchanges: exchanges.as_slice(),
     };
-    let run = among(&walls, &obstacles, 0, 65);
+    let run = among(&walls, &obstacles, 0, 257);
     let found = by_strips(&rt, 2, run, &action, &mut now, &mut spare);
-    let taken = took(pair(-56, 80), pair(-20, -52));
+    let taken = took(pair(260, 772), pair(-174, -346));
     expect_that(
         &rt,
-        found == flow(taken, sums(1322, 0, 96), sums(1019, 51, 37)),
+        found == flow(taken, sums(5469, -13, 437), sums(5216, -178, 30)),
     );
-    expect_that(&rt, places(&now, 128) == (11262, 186152991));
+    expect_that(&rt, places(&now, 128) == (11212, 184767851));
 }
 
 // On 64 by 128 cells, three particles at an even tick: two on their way to the wall, one to the obstacle in the tile below.
@@ -232,7 +238,7 @@ const WALL: &[(u32, u32)] = &[(14, 14)];
 
 const OBSTACLE: &[(u32, u32)] = &[(31, 70)];
 
-// A run of 17 phases comes to this phase by phase, by a team of one, and by strips of one worker and of two.
+// A run of 17 phases comes to this on one thread, by a team of one, and by strips of one worker and of two.
 fn comes_to<R: Threads + Abort + AllocGlobal + Copy + Drop, A: Action>(
     rt: &R,
     walls: &[(u32, u32)],
@@ -269,9 +275,9 @@ fn only_took(walls: Pair, obstacles: Pair) -> Flow {
 
 // A particle goes one cell along its diagonal in each phase. It stays in the phase in which it is turned back, which takes twice
 // its momentum, and goes back from the next phase on. (10, 10) is turned back at (13, 13) in phase 3, (4, 25) at (14, 15) in
-// phase 10, and (41, 60) at (32, 69) in phase 9.
+// phase 10, and (41, 60) at (32, 69) in phase 9. If memory or a thread is refused to strips, the run is made without.
 #[test]
-fn long_runs_find_both_accounts(rt: HostRuntime) {
+fn refused_long_runs_find_both_accounts(rt: HostRuntime) {
     let (none, by_walls, by_obstacles) = (Pair::ZERO, pair(4, 0), pair(-2, 2));
     let both = only_took(by_walls, by_obstacles);
     let cells = &[(0, 0), (8, 21), (39, 62)];
@@ -341,7 +347,7 @@ fn team_runs_as_one_thread(rt: HostRuntime) {
     let mut alone = seeded(&rt, size, 88172645463325252, 1);
     let mut spare = seeded(&rt, size, 1, 1);
     let mut team = team(&rt, rt, rt.alloc(), 16, NoGate);
-    // The strips of the first run serve the second, of which the second batch is of one phase.
+    // The strips of the first run serve the second.
     for (n, parity) in [(64, 0), (65, 1)] {
         let run = among(&walls, &obstacles, parity, n);
         let took = act_along(&rt, &mut team, run, &Still, &mut now, &mut spare).took;
@@ -350,14 +356,24 @@ fn team_runs_as_one_thread(rt: HostRuntime) {
     }
 }
 
-// Seen as in `strips_are_put_together`: 2,048 squared is large enough for four workers and too small for two.
+// Seen as in `strips_are_put_together`. By hand: 32,768 tiles fewer for each worker are enough, from 16 phases on. On 32 by 32
+// tiles each of two workers turns 32 * 16 * 64 = 32,768 fewer in 64 phases and 32,256 in 63, and each of four 32 * 24 * 63 =
+// 48,384 in 63. Of 64 by 64 tiles each of two turns 64 * 32 * 16 = 32,768 fewer in 16 phases, and each of 16 turns
+// 64 * 60 * 15 = 57,600 fewer in 15, which are too few phases.
 #[test]
 fn team_parts_large_runs_into_strips(rt: HostRuntime) {
-    let size = Size::new(2048, 2048).expect(&rt, "a size");
-    let none = Plane::empty(rt.alloc(), size).expect(&rt, "memory");
-    let run = among(&none, &none, 0, 64);
-    let left = seeded(&rt, size, 1, 1);
-    for (workers, in_strips) in [(1, false), (2, false), (4, true)] {
+    for (side, workers, n, in_strips) in [
+        (2048, 1, 64, false),
+        (2048, 2, 63, false),
+        (2048, 2, 64, true),
+        (2048, 4, 63, true),
+        (4096, 2, 16, true),
+        (4096, 16, 15, false),
+    ] {
+        let size = Size::new(side, side).expect(&rt, "a size");
+        let none = Plane::empty(rt.alloc(), size).expect(&rt, "memory");
+        let run = among(&none, &none, 0, n);
+        let left = seeded(&rt, size, 1, 1);
         let mut team = team(&rt, rt, rt.alloc(), workers, NoGate);
         let mut now = seeded(&rt, size, 88172645463325252, 1);
         let mut spare = seeded(&rt, size, 1, 1);
@@ -366,7 +382,8 @@ fn team_parts_large_runs_into_strips(rt: HostRuntime) {
     }
 }
 
-// Three rows of tiles. As in `strips_are_put_together`, the spare plane stays as it was.
+// Three rows of tiles, and exchanges that are listed once, twice and three times, 256 at a time. As in
+// `strips_are_put_together`, the spare plane stays as it was.
 #[test]
 fn small_runs_by_strips_are_those_of_one_thread(rt: HostRuntime) {
     let size = Size::new(128, 192).expect(&rt, "a size");
@@ -374,12 +391,12 @@ fn small_runs_by_strips_are_those_of_one_thread(rt: HostRuntime) {
     let obstacles = seeded(&rt, size, 66172645463325252, 8);
     let drained = Rect::within(size, 30, 50, 60, 30).expect(&rt, "a rectangle");
     let filled = Rect::within(size, 20, 100, 70, 80).expect(&rt, "a rectangle");
-    let exchanges = strokes(&rt, drained, filled, 69);
+    let exchanges = strokes(&rt, drained, filled, 513);
     let action = Listed {
         exchanges: exchanges.as_slice(),
     };
     let left = seeded(&rt, size, 1, 1);
-    for n in [1, 5, 69] {
+    for n in [1, 5, 257, 513] {
         let run = among(&walls, &obstacles, 1, n);
         let mut alone = seeded(&rt, size, 88172645463325252, 1);
         let mut spare = seeded(&rt, size, 1, 1);

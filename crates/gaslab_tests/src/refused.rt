@@ -214,7 +214,8 @@ fn refused_plan_of_a_bad_line(rt: HostRuntime) {
     }
 }
 
-// The channel between two walls, stepped by strips.
+// The channel between two walls, stepped by two strips: it lies in the first, and the other is empty. If these find no memory
+// or no thread, the run is made without.
 const CHANNEL: &[u8] =
     b"wall 0 20 64 1\nwall 0 29 64 1\nput 28 21 8 8\nstep 100\nback 100\ntally\nledger\nread 21\nread 28\nread 29\n";
 
@@ -224,6 +225,7 @@ const CHANNEL_UNDONE: &[u8] =
 #[test]
 fn refused_channel_with_a_team(rt: HostRuntime) {
     let shape = LabShape {
+        height: 128,
         workers: 2,
         by_strips: true,
         ..SMALL
@@ -246,7 +248,8 @@ fn refused_channel_with_a_team(rt: HostRuntime) {
     );
 }
 
-/// On the smallest lattice whose runs the program itself makes by strips: if these find no memory, the run is made without.
+/// A run that the program itself makes by strips: on 9 by 64 tiles each of 16 workers turns 9 * 60 * 64 = 34,560 fewer in it
+/// than one thread would, and 32,768 are enough. If the strips find no memory, the run is made without.
 #[test]
 fn refused_run_that_is_worth_strips(rt: HostRuntime) {
     let shape = LabShape {
