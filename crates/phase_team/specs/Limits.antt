@@ -8,3 +8,7 @@ most_workers = 16
 -- how many exchanges are listed at once: `LISTED`
 abbrev pub most_listed : ℕ
 most_listed = 256
+
+-- in how many phases of a run tiles are counted, to see whether it is worth strips: `COUNTED_PHASES`
+abbrev pub most_counted : ℕ
+most_counted = 512

@@ -30,8 +30,12 @@ use strip::{OwnRows, Strip};
 /// How many exchanges are listed at once, for all strips. Threads last so long; without exchanges, for a whole run.
 const LISTED: u16 = 256;
 
-/// The smallest run that is made by strips: how many phases it has, and how many tiles fewer each worker turns than one thread
-/// would. With 0 for both, each run is made by strips.
+/// In so many phases of a run tiles are counted, to see whether it is worth strips. These wait for each other in every second
+/// phase, so a small lattice isn't worth them, however long the run.
+const COUNTED_PHASES: u16 = 512;
+
+/// The smallest run that is made by strips: how many phases it has, and how many tiles fewer each worker turns in it than one
+/// thread would. With 0 for both, each run is made by strips.
 #[derive(Clone, Copy)]
 pub struct LeastRun {
     pub phases: u16,
@@ -54,7 +58,7 @@ pub fn is_worth_strips(least: LeastRun, size: Size, workers: u8, n: u16) -> bool
     let down = u32::from(size.height() / 64);
     let workers = u32::from(workers);
     let rows = (down + workers - 1) / workers;
-    let saved = across * (down - rows) * u32::from(n);
+    let saved = across * (down - rows) * u32::from(n.min(COUNTED_PHASES));
     least.phases <= n && least.tiles <= saved
 }
 
