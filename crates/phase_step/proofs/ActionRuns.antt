@@ -1,11 +1,10 @@
 -- Runs with an action after each phase, phase by phase, and how much they move.
-use Rattle.std.proofs.Common.{◌≡◌, ℕ, zero, suc, ◌+◌, ◌*◌, ◌/◌, ◌%◌, ◌<◌, ◌≤◌, ◌^◌, Bool, true, ℤ, pos, nat_abs, refl, sym, ap, ap₂, ◌∙◌, subst, arith}
+use Rattle.std.proofs.Common.{◌≡◌, ℕ, zero, suc, ◌+◌, ◌*◌, ◌/◌, ◌%◌, ◌<◌, ◌≤◌, ◌^◌, Bool, true, ℤ, pos, refl, sym, ap, ap₂, ◌∙◌, subst, arith}
 use Rattle.std.proofs.lemmas.Int.{ints}
 use Rattle.gas_terms.specs.Cells.{Cells, HasSidesOf, has, joined, without, extent, is_size, tile_count}
 use Rattle.gas_terms.specs.Gas.{streamed}
 use Rattle.gas_terms.specs.Accounts.{taken, took_plus, SumsFit, IsOfAtMost, moved_by, moved_plus}
 use Rattle.gas_terms.specs.Accounts as accounts
-use Rattle.gas_terms.specs.declared.accounts.Sums.{Sums}
 use Rattle.gas_terms.specs.declared.accounts.Took.{Took}
 use Rattle.gas_terms.proofs.AccountBounds.{plus-bounded}
 use Rattle.gas_terms.proofs.Cells.{same_cells_where}
@@ -14,7 +13,7 @@ use Rattle.phase_step.specs.Runs.{parity_at}
 use Rattle.gas_terms.specs.declared.accounts.Moved.{Moved}
 use Rattle.phase_step.specs.Actions.{Leaves, acted, after_with, takes_with, moves_with}
 use Rattle.phase_step.specs.declared.sums.flow.Flow.{Flow}
-use Rattle.phase_step.proofs.RunTakes.{IsWithin, within_nothing, within_plus, int_fits, taken_within}
+use Rattle.phase_step.proofs.RunTakes.{IsWithin, within_nothing, within_plus, taken_within}
 
 -- what leaves the same cells acts alike
 pub acted_same : (some others : Leaves) (cells : Cells) → ((x y : ℕ) (held : Bool) → some x y held ≡ others x y held) → acted some cells ≡ acted others cells
@@ -87,5 +86,3 @@ moves_with_bounded p solid leaves c (suc k) sized =
       drained = plus-bounded (2 ^ 24 * k) (2 ^ 24) _ _ before.drained now.drained;
     } in both)
 
-pub bounded_fits : (n : ℕ) (s : Sums) → IsOfAtMost n s → n ≤ 2 ^ 48 → SumsFit s
-bounded_fits n s is few = grind (arith, nat_abs, int_fits)

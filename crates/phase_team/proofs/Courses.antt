@@ -1,5 +1,5 @@
 -- How a lattice goes on in a run, phase by phase.
-use Rattle.std.proofs.Common.{◌≡◌, ℕ, zero, suc, ◌+◌, ◌*◌, ◌/◌, ◌<◌, ◌≤◌, Bool, true, pos, refl, sym, ap, ap₂, ◌∙◌, subst, arith}
+use Rattle.std.proofs.Common.{◌≡◌, ℕ, zero, suc, ◌+◌, ◌*◌, ◌/◌, ◌≤◌, Bool, true, pos, refl, sym, ap, ap₂, ◌∙◌, subst, arith}
 use Rattle.gas_terms.specs.Cells.{Cells, Extent, HasSidesOf, IsFull, extent, has, is_size, joined}
 use Rattle.gas_terms.specs.Gas.{streamed}
 use Rattle.gas_terms.specs.Accounts.{took_plus, moved_plus}
@@ -8,7 +8,7 @@ use Rattle.gas_terms.specs.declared.accounts.Moved.{Moved}
 use Rattle.gas_terms.proofs.Cells.{full-cells_where}
 use Rattle.gas_plane.specs.Planes.{IsLattice}
 use Rattle.phase_step.specs.Runs.{parity_at, nothing, tiles_take}
-use Rattle.phase_step.specs.Actions.{Leaves, acted, after_with, flow_plus, flow_with, unmoved, FlowsFit}
+use Rattle.phase_step.specs.Actions.{Leaves, acted, after_with, flow_plus, unmoved, FlowsFit}
 use Rattle.phase_step.specs.Balance.{flow_counted}
 use Rattle.phase_step.specs.TileRuns.{tiles_flow, tiles_move}
 use Rattle.phase_step.specs.WholeRuns.{Dynamics, after_all}
@@ -17,8 +17,8 @@ use Rattle.std.proofs.Math.IntN.{+ℤ_idl}
 use Rattle.gas_terms.proofs.Totals.{same_sums}
 use Rattle.phase_step.proofs.Counting.{same_moved}
 use Rattle.phase_step.proofs.TakenSums.{pair_same, took_same}
-use Rattle.phase_step.proofs.ActionParts.{IsPartWith, part_after_with}
-use Rattle.phase_step.proofs.ActionRuns.{sides_with, same_flow, acted_same}
+use Rattle.phase_step.proofs.ActionParts.{part_after_with}
+use Rattle.phase_step.proofs.ActionRuns.{sides_with, acted_same}
 use Rattle.phase_step.proofs.Balances.{flows_counted, counted_fit}
 use Rattle.phase_step.proofs.OwnPhases.{IsOwnPhase, own_flow_next, own_flow_fits}
 use Rattle.phase_team.specs.Courses.{Course, lattice_at, rows_give}
@@ -66,7 +66,7 @@ module _ (course : Course) (k : ℕ) (turn : Dynamics) (is : IsPhase course k tu
       let d = course.dynamics in
       let now = lattice_at course k in
       ap₂ (λ (w o : Cells). after_with turn.parity (joined w o) turn.leaves now 1) is.walls is.obstacles
-      ∙ part_after_with d.parity d.walls d.obstacles d.leaves course.start k 1 turn.parity now (after_with turn.parity (joined d.walls d.obstacles) turn.leaves now 1) turn.leaves (flow_with turn.parity d.walls d.obstacles turn.leaves now 1)
+      ∙ part_after_with d.parity d.walls d.obstacles d.leaves course.start k 1 turn.parity now (after_with turn.parity (joined d.walls d.obstacles) turn.leaves now 1) turn.leaves
       (record {
         at = refl;
         parity = is.parity;
@@ -75,7 +75,6 @@ module _ (course : Course) (k : ℕ) (turn : Dynamics) (is : IsPhase course k tu
             let f : k ≡ k + j = omega arith in
             ap (λ j. turn.leaves j x y held) e ∙ (is.same x y held ∙ ap (λ n. d.leaves n x y held) f);
         cells = refl;
-        flow = refl;
       })
 
   -- in n tiles from tile a on

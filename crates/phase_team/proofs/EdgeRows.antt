@@ -1,9 +1,9 @@
 -- Rows of cells as strips show them.
-use Rattle.std.proofs.Common.{◌≡◌, ℕ, ◌+◌, ◌-◌, ◌*◌, ◌/◌, ◌%◌, ◌<◌, ◌≤◌, List, ◌++◌, length, take, refl, sym, ap, ◌∙◌, subst, arith, inl, inr}
+use Rattle.std.proofs.Common.{◌≡◌, ℕ, ◌+◌, ◌-◌, ◌*◌, ◌/◌, ◌%◌, ◌<◌, ◌≤◌, List, ◌++◌, length, take, sym, ap, ◌∙◌, subst, arith, inl, inr}
 use Rattle.std.proofs.lemmas.Bool.{cases_eq}
 use Rattle.std.proofs.Math.Nat.{add-mod_right}
 use lib.Seq.{take_at}
-use Rattle.gas_terms.specs.Cells.{Cells, HasSidesOf, extent, has}
+use Rattle.gas_terms.specs.Cells.{Cells, extent, has}
 use Rattle.gas_terms.specs.Rows.{row_has, row_bytes, row_replaced}
 use Rattle.gas_terms.proofs.Bytes.{length-row_bytes, row_has-row_bytes}
 use Rattle.gas_terms.proofs.RowSums.{new_row, other_row}

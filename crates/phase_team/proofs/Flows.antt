@@ -31,10 +31,6 @@ few_cells rows a k few some short =
     let f : 16384 * (rows * a) * k ≤ 2 ^ 26 * 65535 = mul-le (16384 * (rows * a)) k (2 ^ 26) 65535 e short in
     omega (arith, f)
 
--- and nothing of no phases
-pub none_give : (course : Course) (first rows : ℕ) → no_flow ≡ rows_give course 0 first rows
-none_give course first rows = same_flow no_flow (flow_counted course.counted no_flow) (counted_none course.counted) refl
-
 module _ (course : Course) (k : ℕ) where
   pub no_rows_give : no_flow ≡ rows_give course k 0 0
   no_rows_give =

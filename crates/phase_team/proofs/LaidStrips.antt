@@ -1,11 +1,8 @@
 -- The strips of a lattice: where each begins, and which strips it has beside it.
-use Rattle.std.proofs.Common.{◌≡◌, ℕ, zero, suc, ◌+◌, ◌-◌, ◌*◌, ◌/◌, ◌%◌, ◌<◌, ◌≤◌, List, get_or, length, map, sym, ap, ap₂, ◌∙◌, subst, arith, inl, inr}
+use Rattle.std.proofs.Common.{◌≡◌, ℕ, zero, suc, ◌+◌, ◌-◌, ◌*◌, ◌/◌, ◌<◌, ◌≤◌, List, get_or, length, map, sym, ap, ap₂, ◌∙◌, subst, arith}
 use Rattle.std.proofs.Math.Nat.{div-mul-le_self, le-div_iff_mul-le, div-le_self, mul-div_cancel_left}
-use Rattle.std.proofs.lemmas.Nat.{mod-mul-add}
-use Rattle.std.proofs.lemmas.Bool.{cases_lt}
 use Rattle.std.proofs.lemmas.List.{get_or-map, length-map}
-use Rattle.gas_terms.specs.Cells.{Cells}
-use Rattle.phase_team.specs.Strips.{AreLaid, HasTileRow, row_at, own_at}
+use Rattle.phase_team.specs.Strips.{AreLaid, row_at, own_at}
 use Rattle.phase_team.specs.declared.runs.strip.OwnRows.{OwnRows}
 use Rattle.phase_team.specs.declared.runs.strip.Strip.{Strip}
 

@@ -1,5 +1,5 @@
 -- A strip in a run, as a part of the lattice.
-use Rattle.std.proofs.Common.{◌≡◌, ℕ, ◌+◌, ◌-◌, ◌*◌, ◌/◌, ◌%◌, ◌≤◌, List, All, length, map, sym, ap, ◌∙◌, subst, arith}
+use Rattle.std.proofs.Common.{◌≡◌, ℕ, ◌+◌, ◌-◌, ◌*◌, ◌/◌, ◌%◌, List, All, length, map, sym, ap, ◌∙◌, subst, arith}
 use Rattle.std.proofs.lemmas.List.{length-map}
 use Rattle.gas_terms.specs.Cells.{Cells, Extent, HasSidesOf, extent, has}
 use Rattle.gas_plane.specs.Planes.{IsLattice}

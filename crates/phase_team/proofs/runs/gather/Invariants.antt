@@ -1,5 +1,5 @@
 use Rattle.std.proofs.Common.{◌≡◌, ℕ, ◌/◌, ◌<◌, All, length}
-use Rattle.gas_terms.specs.Cells.{Cells, HasSidesOf}
+use Rattle.gas_terms.specs.Cells.{HasSidesOf}
 use Rattle.gas_plane.specs.Planes.{IsLattice}
 use Rattle.phase_team.specs.Courses.{Course, lattice_at, rows_give}
 use Rattle.phase_team.specs.Strips.{HasTileRow, IsAt, row_at}

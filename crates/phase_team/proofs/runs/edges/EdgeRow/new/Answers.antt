@@ -1,4 +1,4 @@
-use Rattle.std.proofs.Common.{rules, ◌≡◌, ◌/◌, drop, length, sym, subst, refl, take, ◌++◌}
+use Rattle.std.proofs.Common.{rules, drop, length, sym, subst, refl, take, ◌++◌}
 use Rattle.gas_terms.specs.Cells.{Cells}
 use Rattle.phase_team.specs.Courses.{IsRow}
 use Rattle.phase_team.proofs.EdgeRows.{row_written}

@@ -1,18 +1,16 @@
-use Rattle.std.proofs.Common.{◌≡◌, ◌+◌, ◌-◌, ◌*◌, ◌/◌, ◌%◌, ◌≤◌, ◌∙◌, min, refl, sym, ap, subst, arith}
+use Rattle.std.proofs.Common.{◌≡◌, ◌+◌, ◌-◌, ◌*◌, ◌/◌, ◌≤◌, ◌∙◌, min, sym, ap, subst, arith}
 use Rattle.std.proofs.Math.Nat.{min-eq_left}
 use Rattle.std.proofs.lemmas.Nat.{mul-le}
-use Rattle.gas_terms.specs.Cells.{Cells, Extent, HasSidesOf, extent, has}
+use Rattle.gas_terms.specs.Cells.{Cells, Extent, HasSidesOf, extent}
 use Rattle.gas_plane.specs.Planes.{IsLattice}
 use Rattle.gas_plane.proofs.Places.{wide, high}
 use Rattle.block_rule.specs.declared.walled.Counted.{Counted}
-use Rattle.phase_step.specs.Parts.{HasRows, HasRun, IsPartOf}
-use Rattle.phase_step.specs.WholeRuns.{Dynamics, after_all, dynamics}
+use Rattle.phase_step.specs.Parts.{HasRows, IsPartOf}
+use Rattle.phase_step.specs.WholeRuns.{Dynamics, dynamics}
 use Rattle.phase_step.specs.Runs.{parity_at}
 use Rattle.phase_step.specs.Balance.{flow_counted}
 use Rattle.phase_step.specs.Exchanges.{listed}
 use Rattle.phase_step.specs.TileRuns.{tiles_flow}
-use Rattle.phase_step.specs.declared.parts.Part.{Part}
-use Rattle.phase_step.specs.declared.sums.flow.Flow.{Flow}
 use Rattle.phase_step.proofs.RowRuns.{strip_flow}
 use Rattle.phase_team.specs.Courses.{lattice_at}
 use Rattle.phase_team.specs.Strips.{place_of}

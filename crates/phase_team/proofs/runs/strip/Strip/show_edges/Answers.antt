@@ -1,4 +1,4 @@
-use Rattle.std.proofs.Common.{◌≡◌, ◌+◌, ◌-◌, ◌*◌, ◌/◌, ◌≤◌, ap, sym, ◌∙◌, arith}
+use Rattle.std.proofs.Common.{◌+◌, ◌-◌, ◌*◌, ◌/◌, ap, sym, ◌∙◌, arith}
 use Rattle.phase_team.specs.Courses.{lattice_at}
 use Rattle.phase_team.proofs.Courses.{course_sides}
 use Rattle.phase_team.proofs.EdgeRows.{own_shown}
