@@ -85,4 +85,3 @@ moves_with_bounded p solid leaves c (suc k) sized =
       injected = plus-bounded (2 ^ 24 * k) (2 ^ 24) _ _ before.injected now.injected;
       drained = plus-bounded (2 ^ 24 * k) (2 ^ 24) _ _ before.drained now.drained;
     } in both)
-

@@ -129,12 +129,7 @@ impl Strip {
     }
 
     // Shows its first and its last row, as they are after so many phases. False if a strip has given up.
-    fn show_edges<N: RunName>(
-        &self,
-        input: &RunInput<'_, N>,
-        number: u32,
-        phases: u16,
-    ) -> bool
+    fn show_edges<N: RunName>(&self, input: &RunInput<'_, N>, number: u32, phases: u16) -> bool
         requires number { number < length input.now.board.now.edges.items }
         requires strip { IsOf (extent N.course.start) self.now }
         requires rows { HasOwnRows (lattice_at N.course phases) self.now }
@@ -161,12 +156,7 @@ impl Strip {
     }
 
     // Takes the rows next to its own from its neighbors. False if a strip has given up.
-    fn take_edges<N: RunName>(
-        &mut self,
-        input: &RunInput<'_, N>,
-        number: u32,
-        phases: u16,
-    ) -> bool
+    fn take_edges<N: RunName>(&mut self, input: &RunInput<'_, N>, number: u32, phases: u16) -> bool
         requires number { (number < length input.now.board.now.edges.items)
             × (length input.now.board.now.edges.items ≤ 64) }
         requires strip { IsOf (extent N.course.start) self.old }
@@ -203,12 +193,7 @@ impl Strip {
     }
 
     // Shows and takes edges, if the phase that comes next needs them. False if a strip has given up.
-    fn meet<N: RunName>(
-        &mut self,
-        input: &RunInput<'_, N>,
-        number: u32,
-        phases: u16,
-    ) -> bool
+    fn meet<N: RunName>(&mut self, input: &RunInput<'_, N>, number: u32, phases: u16) -> bool
         requires number { (number < length input.now.board.now.edges.items)
             × (length input.now.board.now.edges.items ≤ 64) }
         requires strip { IsOf (extent N.course.start) self.old }
