@@ -34,11 +34,11 @@ fn lay(rt: &impl Abort, script: &mut Vec<u8>, y: u32, state: &mut u64) {
 
 // Walls and obstacles among the cells; steps and back; steps with ports, more than are listed at once; then back without them.
 const RUNS: &[u8] =
-    b"wall 0 50 128 1\nwall 127 100 1 700\nblock 60 60 9 7\nblock 30 500 20 129\nsave\nstep 100\nsave\ntally\nledger\nback 100\nsave\ntally\nledger\nsource 10 60 40 9 7\nsource 50 1080 60 8 2\ndrain 100 0 3 1088\ndrain 20 640 60 2\nstep 300\nsave\ntally\nledger\nunport\nback 70\nsave\ntally\nledger\n";
+    b"wall 0 50 128 1\nwall 127 100 1 700\nblock 60 60 9 7\nblock 30 500 20 129\nsave\nstep 30\nsave\ntally\nledger\nback 30\nsave\ntally\nledger\nsource 10 60 40 9 7\nsource 50 1080 60 8 2\ndrain 100 0 3 1088\ndrain 20 640 60 2\nstep 270\nsave\ntally\nledger\nunport\nback 40\nsave\ntally\nledger\n";
 
 // The replies from the first snapshot on. The sums are those of `tools/channel_gas.py` for the same script.
 const TOLD: &[u8] =
-    b"SAVED 548 52246\nOK 548\nSAVED 549 52246\nTALLY 100 34636 62 102\nLEDGER 0 34636 0 0 38 0 -24 0 0 -42 0 -156 12\nOK 549\nSAVED 550 52246\nTALLY 0 34636 38 -42\nLEDGER 0 34636 0 0 38 0 0 0 0 -42 0 0 0\nOK 550\nOK 551\nOK 552\nOK 553\nOK 554\nSAVED 555 52282\nTALLY 300 8578 -638 132\nLEDGER 0 66116 57538 0 -838 12168 -17714 5346 0 -2662 -586 -3786 1578\nOK 555\nOK 556\nSAVED 557 52246\nTALLY 230 8578 -1104 -282\nLEDGER 0 66116 57538 0 -838 12168 -16386 4484 0 -2662 -586 -3142 1348\n";
+    b"SAVED 548 52246\nOK 548\nSAVED 549 52246\nTALLY 30 34636 126 -130\nLEDGER 0 34636 0 0 38 0 -24 -64 0 -42 0 100 -12\nOK 549\nSAVED 550 52246\nTALLY 0 34636 38 -42\nLEDGER 0 34636 0 0 38 0 0 0 0 -42 0 0 0\nOK 550\nOK 551\nOK 552\nOK 553\nOK 554\nSAVED 555 52282\nTALLY 270 8733 -569 137\nLEDGER 0 62969 54236 0 -755 11970 -17214 5058 0 -2403 -492 -3470 1422\nOK 555\nOK 556\nSAVED 557 52246\nTALLY 230 8733 -867 -837\nLEDGER 0 62969 54236 0 -755 11970 -16392 4534 0 -2403 -492 -2364 1290\n";
 
 // Seventeen rows of tiles: one of 16 workers has two of them, and the strip of one worker is its own neighbor.
 const HIGH: LabShape = LabShape {
