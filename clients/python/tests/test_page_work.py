@@ -52,7 +52,6 @@ class Files(PageCase):
         self.assertIn("at tick 300", self.value("document.getElementById('lesson').textContent"))
         self.assertIn("at tick 300", self.value("document.getElementById('spoken').textContent"))
 
-
     def test_a_film_is_a_video_of_the_next_pictures(self):
         """It is no longer than the gas plays: one that stands has none."""
         room = tempfile.TemporaryDirectory()
