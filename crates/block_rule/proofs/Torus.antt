@@ -1,8 +1,9 @@
 -- A tile's blocks and their cells on the torus.
-use Rattle.std.proofs.Common.{◌≡◌, ℕ, ◌+◌, ◌-◌, ◌*◌, ◌%◌, ◌<◌, ◌≤◌, Bool, true, false, ◌||◌, if◌then◌else◌, refl, sym, ◌∙◌, ap, arith}
+use Rattle.std.proofs.Common.{◌≡◌, ℕ, ◌+◌, ◌-◌, ◌%◌, ◌<◌, ◌≤◌, Bool, true, false, ◌||◌, if◌then◌else◌, refl, sym, ◌∙◌, ap, arith}
 use Rattle.std.proofs.Math.Nat.{mod-lt}
 use Rattle.std.proofs.lemmas.Nat.{mod-mul-add}
 use Rattle.std.proofs.lemmas.Bool.{cases_eq, eq-eqb, ne_eqb}
+use Rattle.bit_tile.proofs.Circles.{wraps}
 use Rattle.bit_tile.specs.Tile.{HasCells}
 use Rattle.bit_tile.specs.declared.Tile.{Tile}
 use Rattle.tile_border.specs.declared.border.Border.{Border}
@@ -36,9 +37,6 @@ CellsWalled =
     is_walled walls (site_of p walls.width walls.height x y)
     ≡ (plane.has walls x y || plane.has walls (other_coordinate walls.width p x) (other_coordinate walls.height p y)
     || plane.has walls (other_coordinate walls.width p x) y || plane.has walls x (other_coordinate walls.height p y))
-
-wraps : (w k : ℕ) → k < w → (k + w) % w ≡ k
-wraps w k less = let e : k + w ≡ 1 * w + k = omega arith in ap (λ m. m % w) e ∙ mod-mul-add 1 w k less
 
 next_wraps : (w k : ℕ) → k < w → (k + 1 + w) % w ≡ (k + 1) % w
 next_wraps w k less = grind (arith, cases_eq, mod-mul-add, wraps)

@@ -5,13 +5,14 @@ use Rattle.std.proofs.lemmas.Nat.{mod-mul-add, div-mul-add, div-add-mod'}
 use Rattle.std.proofs.Math.Nat.{mod-lt}
 use Rattle.std.proofs.lemmas.Bool.{cases_eq}
 use Rattle.bit_tile.specs.declared.Tile.{Tile}
+use Rattle.bit_tile.proofs.Circles.{stays, wraps}
 use Rattle.gas_terms.specs.Cells.{Cells, Extent, has, tile_count}
 use Rattle.gas_plane.specs.Tiles.{no_cells, tile_at, IsMarked, Cover}
 use Rattle.gas_plane.specs.Marks.{IsMarkOf}
 use Rattle.gas_plane.specs.declared.marks.Mark.{Mark}
 use Rattle.gas_plane.specs.declared.marks.Mark.TheVariants.{Lent}
 use Rattle.gas_plane.specs.Planes.{IsTileFrom, IsBare, IsBareRound, IsBareFarRound, AreThreeBare, HasNone, place_by}
-use Rattle.gas_plane.proofs.Places.{IsWholeTiles, ring_before, ring_after, ring_in, ring_cases, cell_below, stays}
+use Rattle.gas_plane.proofs.Places.{IsWholeTiles, ring_before, ring_after, ring_in, ring_cases, cell_below}
 use Rattle.gas_plane.proofs.Tilings.{tiled, tile_is, tile_there, set_covers, nothing_there}
 
 -- nothing is both true and false
@@ -48,9 +49,6 @@ one_more_bare cells n before bare k low = grind (arith, cases_eq, subst)
 
 pub is_true : (b : Bool) → b ≡ true → IsTrue b
 is_true b e = grind arith
-
-wraps : (n k : ℕ) → k < n → (k + n) % n ≡ k
-wraps n k less = let e : k + n ≡ 1 * n + k = omega arith in ap (λ m. m % n) e ∙ mod-mul-add 1 n k less
 
 -- the places by d = 0, 1 and 2
 pub by_one : (n k : ℕ) → k < n → place_by k 1 n ≡ k

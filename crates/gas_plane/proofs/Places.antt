@@ -3,6 +3,7 @@ use Rattle.std.proofs.Common.{◌≡◌, ℕ, ◌+◌, ◌-◌, ◌*◌, ◌/◌
 use Rattle.std.proofs.lemmas.Nat.{mod-mul-add}
 use Rattle.std.proofs.lemmas.Bool.{cases_eq}
 use Rattle.std.proofs.lemmas.Bool.Decides.{nat_tests}
+use Rattle.bit_tile.proofs.Circles.{stays, wraps}
 use Rattle.gas_terms.specs.Cells.{Extent, is_side, is_size}
 
 pub record IsWholeTiles (n : ℕ) : Type 0 where
@@ -33,12 +34,6 @@ pub cell_below : (n column x : ℕ) → IsWholeTiles n → column < n / 64 → x
 cell_below n column x is h k = let e = is.tiles in omega arith
 
 -- round a circle of n places
-pub stays : (n k : ℕ) → k < n → k % n ≡ k
-stays n k less = let e : k ≡ 0 * n + k = omega arith in ap (λ m. m % n) e ∙ mod-mul-add 0 n k less
-
-wraps : (n k : ℕ) → k < n → (k + n) % n ≡ k
-wraps n k less = let e : k + n ≡ 1 * n + k = omega arith in ap (λ m. m % n) e ∙ mod-mul-add 1 n k less
-
 pub last_place : (k n : ℕ) → k ≡ 0 → 0 < n → n - 1 ≡ (k + n - 1) % n
 last_place k n e some = sym (ap (λ m. m % n) (omega arith) ∙ stays n (n - 1) (omega arith))
 

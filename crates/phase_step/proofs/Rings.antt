@@ -1,6 +1,7 @@
 -- The 66 by 66 cells of a tile and its border are those of the torus.
-use Rattle.std.proofs.Common.{◌≡◌, ℕ, ◌+◌, ◌-◌, ◌*◌, ◌%◌, ◌<◌, ◌≤◌, ◌==◌, ◌||◌, Bool, true, false, if◌then◌else◌, sym, ◌∙◌, ap, ap₂, arith, inl, inr, ◌⊎◌}
+use Rattle.std.proofs.Common.{◌≡◌, ℕ, ◌+◌, ◌-◌, ◌%◌, ◌<◌, ◌≤◌, ◌==◌, ◌||◌, Bool, true, false, if◌then◌else◌, sym, ◌∙◌, ap, ap₂, arith, inl, inr, ◌⊎◌}
 use Rattle.std.proofs.lemmas.Bool.Decides.{nat_tests}
+use Rattle.bit_tile.proofs.Circles.{wraps}
 use Rattle.bit_tile.specs.Tile as tile
 use Rattle.bit_tile.specs.declared.Tile.{Tile}
 use Rattle.tile_border.specs.Ring.{ring}
@@ -10,10 +11,6 @@ use Rattle.gas_plane.specs.Planes.{IsTileFrom, IsRingRound}
 use Rattle.gas_plane.proofs.Places.{ring_cases}
 use Rattle.block_rule.specs.Around.{around}
 use Rattle.block_rule.specs.Windows.{IsWindow}
-use Rattle.std.proofs.lemmas.Nat.{mod-mul-add}
-
-wraps : (n k : ℕ) → k < n → (k + n) % n ≡ k
-wraps n k less = let e : k + n ≡ 1 * n + k = omega arith in ap (λ m. m % n) e ∙ mod-mul-add 1 n k less
 
 in_ring : (a b : Bool) (r v w : Bool) → (a || b) ≡ true → r ≡ w → (if a || b then r else v) ≡ w
 in_ring a b r v w e same = rw e same
