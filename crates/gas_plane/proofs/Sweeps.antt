@@ -1,16 +1,15 @@
 -- Tiles are replaced one after another: what a plane is in between.
-use Rattle.std.proofs.Common.{◌≡◌, ℕ, ◌+◌, ◌*◌, ◌/◌, ◌%◌, ◌<◌, ◌≤◌, ◌==◌, Bool, true, false, nat_lt, if◌then◌else◌, refl, sym, ◌∙◌, ap, ap₂, subst, arith, inl, inr}
-use Rattle.std.proofs.lemmas.Nat.{mul-add-lt, div-mul-add, mod-mul-add, div-add-mod', row-Below}
-use Rattle.std.proofs.Math.Nat.{mod-lt}
+use Rattle.std.proofs.Common.{◌≡◌, ℕ, ◌+◌, ◌*◌, ◌/◌, ◌%◌, ◌<◌, ◌≤◌, ◌==◌, Bool, true, false, nat_lt, if◌then◌else◌, refl, sym, ◌∙◌, ap₂, arith, inl, inr}
+use Rattle.std.proofs.lemmas.Nat.{mul-add-lt, div-mul-add, mod-mul-add, div-add-mod'}
 use Rattle.std.proofs.lemmas.Bool.{cases_eq, cases_lt, eq-eqb, ne_eqb}
 use Rattle.std.proofs.lemmas.Bool.Decides.{nat_tests}
 use Rattle.bit_tile.specs.Tile as tile
 use Rattle.bit_tile.specs.declared.Tile.{Tile}
 use Rattle.gas_terms.specs.Cells.{Cells, has, cells_where, extent, IsFull, tile_count}
 use Rattle.gas_terms.proofs.Cells.{has-cells_where, full-cells_where, same_cells_where, same_cells}
-use Rattle.gas_plane.specs.Planes.{IsLattice, IsTileFrom, tile_of, with_tile}
+use Rattle.gas_plane.specs.Planes.{IsLattice, tile_of, with_tile}
 pub use Rattle.gas_plane.specs.Planes.{swept}
-use Rattle.gas_plane.proofs.Places.{IsWholeTiles, wide, high, tile_below, cell_below}
+use Rattle.gas_plane.proofs.Places.{IsWholeTiles, wide, high, tile_below}
 use Rattle.gas_plane.proofs.Tilings.{choose_true, choose_false}
 
 is_below : (n i : ℕ) → n < i → nat_lt n i ≡ true
@@ -60,36 +59,8 @@ sweep_tile cells test i t is made =
           ∙ step_cell (tile_of cells x y) i (test x y) (has cells x y) ne)
     ])
 
--- the next tile stays
-pub sweep_past : (cells : Cells) (test : ℕ → ℕ → Bool) (i : ℕ) → IsLattice cells → ((x y : ℕ) → x < 64 → y < 64 → test (left_of cells i + x) (top_of cells i + y) ≡ has cells (left_of cells i + x) (top_of cells i + y)) → swept cells test i ≡ swept cells test (i + 1)
-sweep_past cells test i is same =
-    same_cells_where cells.width cells.height (λ x y. if nat_lt (tile_of cells x y) i then test x y else has cells x y) (λ x y. if nat_lt (tile_of cells x y) (i + 1) then test x y else has cells x y)
-    (λ x y p q.
-    elim (cases_eq (tile_of cells x y) i) [
-      | inl e ↦
-          let a = cell_across cells i x y (wide (extent cells) is.sized) p e in
-          let d = cell_down cells i x y (wide (extent cells) is.sized) p e in
-          let here : test x y ≡ has cells x y = sym (ap₂ test a d) ∙ (same (x % 64) (y % 64) (omega arith) (omega arith) ∙ ap₂ (has cells) a d) in
-          sym (choose_false _ _ _ _ (not_below (tile_of cells x y) i (omega arith)) refl)
-          ∙ choose_true _ _ _ _ (is_below (tile_of cells x y) (i + 1) (omega arith)) (sym here)
-      | inr ne ↦ step_cell (tile_of cells x y) i (test x y) (has cells x y) ne
-    ])
-
 pub tile_column : (n i x y : ℕ) → 0 < n → x < 64 → y < 64 → (i / n * 64 + y) / 64 * n + (i % n * 64 + x) / 64 ≡ i
 tile_column n i x y some p q = rw (div-mul-add (i / n) 64 y q, div-mul-add (i % n) 64 x p) (div-add-mod' i n)
-
--- a tile that has not been replaced yet is as before
-pub sweep_reads : (cells : Cells) (test : ℕ → ℕ → Bool) (i : ℕ) (t : Tile) → IsLattice cells → i < tile_count cells → IsTileFrom t (swept cells test i) (left_of cells i) (top_of cells i) → (x y : ℕ) → x < 64 → y < 64 → tile.has t x y ≡ has cells (left_of cells i + x) (top_of cells i + y)
-sweep_reads cells test i t is within from x y p q = grind (arith, wide, high, tile_column, mod-lt, row-Below, has-cells_where, nat_lt, cell_below, choose_false, not_below)
-
--- the next tile is read, and what is made of it is put in its place
-pub sweep_next : (cells now next : Cells) (test : ℕ → ℕ → Bool) (i : ℕ) (t made : Tile) → IsLattice cells → i < tile_count cells → now ≡ swept cells test i → IsTileFrom t now (left_of now i) (top_of now i) → next ≡ with_tile now i made
-    → ((x y : ℕ) → x < 64 → y < 64 → tile.has t x y ≡ has cells (left_of cells i + x) (top_of cells i + y) → tile.has made x y ≡ test (left_of cells i + x) (top_of cells i + y)) → next ≡ swept cells test (i + 1)
-sweep_next cells now next test i t made is within so_far from put makes =
-    let from_swept : IsTileFrom t (swept cells test i) (left_of cells i) (top_of cells i) = subst (λ (now : Cells). IsTileFrom t now (left_of now i) (top_of now i)) so_far from in
-    put
-    ∙ (ap (λ (now : Cells). with_tile now i made) so_far
-    ∙ sweep_tile cells test i made is (λ x y p q. makes x y p q (sweep_reads cells test i t is within from_swept x y p q)))
 
 pub sweep_begins : (cells : Cells) (test : ℕ → ℕ → Bool) → IsLattice cells → swept cells test 0 ≡ cells
 sweep_begins cells test is = sym (sweep_starts cells test 0 is.full (λ x y p q h. absurd (omega arith)))
