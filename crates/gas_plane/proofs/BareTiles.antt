@@ -7,13 +7,13 @@ use Rattle.std.proofs.lemmas.Bool.{cases_eq}
 use Rattle.bit_tile.specs.declared.Tile.{Tile}
 use Rattle.bit_tile.proofs.Circles.{stays, wraps}
 use Rattle.gas_terms.specs.Cells.{Cells, Extent, has, tile_count}
-use Rattle.gas_plane.specs.Tiles.{no_cells, tile_at, IsMarked, Cover}
+use Rattle.gas_plane.specs.Tiles.{tiled, no_cells, tile_at, IsMarked, Cover}
 use Rattle.gas_plane.specs.Marks.{IsMarkOf}
 use Rattle.gas_plane.specs.declared.marks.Mark.{Mark}
 use Rattle.gas_plane.specs.declared.marks.Mark.TheVariants.{Lent}
 use Rattle.gas_plane.specs.Planes.{IsTileFrom, IsBare, IsBareRound, IsBareFarRound, AreThreeBare, HasNone, place_by}
 use Rattle.gas_plane.proofs.Places.{IsWholeTiles, ring_before, ring_after, ring_in, ring_cases, cell_below}
-use Rattle.gas_plane.proofs.Tilings.{tiled, tile_is, tile_there, set_covers, nothing_there}
+use Rattle.gas_plane.proofs.Tilings.{tile_is, tile_there, set_covers, nothing_there}
 
 -- nothing is both true and false
 pub not_both : (b : Bool) → IsTrue b → b ≡ false → ⊥

@@ -7,13 +7,13 @@ use Rattle.bit_tile.specs.declared.Tile.{Tile}
 use Rattle.gas_terms.specs.Cells.{Cells, Extent, is_size, tile_count}
 use Rattle.gas_plane.specs.Marks.{mark_at, IsMarkOf}
 use Rattle.gas_plane.specs.Planes.{IsTileFrom, with_tile}
-use Rattle.gas_plane.specs.Tiles.{no_cells, tile_at, tiles_of, AreTilesInRow, Cover, IsMarked}
+use Rattle.gas_plane.specs.Tiles.{tiled, no_cells, tile_at, tiles_of, AreTilesInRow, Cover, IsMarked}
 use Rattle.gas_plane.specs.declared.marks.Mark.{Mark}
 use Rattle.gas_plane.specs.declared.marks.Mark.TheVariants.{Bare}
 use Rattle.std.proofs.lemmas.List.{length-replicate}
 use Rattle.gas_plane.specs.declared.room.Room.{Room}
 use Rattle.gas_plane.proofs.BareTiles.{marked_set, lent_is_mark}
-use Rattle.gas_plane.proofs.Tilings.{tiled, tiled_set, tile_place, tile_read}
+use Rattle.gas_plane.proofs.Tilings.{tiled_set, tile_place, tile_read}
 
 -- what is read of a room
 pub room_read : (rooms : List Room) (i : ℕ) (r : Room) → r ≡ get_or rooms i r → r.tile ≡ get_or (tiles_of rooms) i r.tile

@@ -8,7 +8,7 @@ use Rattle.bit_tile.specs.Tile as tile
 use Rattle.bit_tile.specs.declared.Tile.{Tile}
 use Rattle.gas_terms.specs.Cells.{Cells, Extent, has, cells_where, is_size, tile_count}
 use Rattle.gas_terms.proofs.Cells.{has-cells_where, full-cells_where, same_cells_where}
-use Rattle.gas_plane.specs.Tiles.{no_cells, tile_at, tiles_have, Cover}
+use Rattle.gas_plane.specs.Tiles.{no_cells, tile_at, tiled, tiles_have, Cover}
 use Rattle.gas_plane.specs.Planes.{IsLattice, IsTileFrom, with_tile}
 use Rattle.gas_plane.proofs.Places.{wide, high, tile_below, cell_below}
 
@@ -17,9 +17,6 @@ choose_true test a b v e h = rw e h
 
 pub choose_false : (test a b v : Bool) → test ≡ false → v ≡ b → v ≡ (if test then a else b)
 choose_false test a b v e h = rw e h
-
-abbrev pub tiled : List Tile → Extent → Cells
-tiled tiles size = cells_where size.width size.height (tiles_have tiles (size.width / 64))
 
 pub lattice_of : (tiles : List Tile) (size : Extent) (cells : Cells) → Cover tiles size → tiled tiles size ≡ cells → IsLattice cells
 lattice_of tiles size cells cover e = grind (arith, full-cells_where, subst)

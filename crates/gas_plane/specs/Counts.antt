@@ -1,7 +1,11 @@
-use Rattle.std.specs.Prelude.{◌≡◌, ℕ, ◌+◌, ◌*◌, ◌<◌, List, slice_index}
-use Rattle.gas_terms.specs.Cells.{Cells, Rectangle}
+use Rattle.std.specs.Prelude.{◌≡◌, ℕ, ◌+◌, ◌*◌, ◌<◌, IfSome, List, Option, slice_index}
+use Rattle.gas_terms.specs.Cells.{Cells, Rectangle, whole}
 use Rattle.gas_terms.specs.Accounts.{parity_count}
 
 -- Four counts, of even column and even row, odd and even, even and odd, odd and odd: those of a set's cells in a rectangle.
 pub record AreCounts (counts : List ℕ) (cells : Cells) (r : Rectangle) : Type 0 where
   pub count : (a b : ℕ) → a < 2 → b < 2 → slice_index counts (2 * b + a) ≡ parity_count cells r a b
+
+-- counts that are kept, if any are, are those of all cells
+abbrev pub AreKept : Option (List ℕ) → Cells → Type 0
+AreKept kept cells = IfSome kept (λ counts. AreCounts counts cells (whole cells))

@@ -6,7 +6,7 @@ use Rattle.gas_plane.specs.Marks.{mark_at, IsMarkOf}
 use Rattle.gas_plane.specs.declared.marks.Mark.{Mark}
 use Rattle.gas_plane.specs.declared.around.TileRows.{TileRows}
 use Rattle.gas_plane.specs.declared.room.Room.{Room}
-use Rattle.gas_terms.specs.Cells.{Cells, Extent, is_size, tile_count}
+use Rattle.gas_terms.specs.Cells.{Cells, Extent, cells_where, is_size, tile_count}
 use Rattle.gas_plane.specs.Planes.{IsLattice, IsTileFrom}
 
 -- the tiles in these rooms
@@ -19,6 +19,10 @@ tile_at tiles i = slice_index_or tiles i no_cells
 -- Tiles stand row by row, `across` of them in each row: whether the tiles have the cell (x, y)
 unfoldable pub tiles_have : List Tile → ℕ → ℕ → ℕ → Bool
 tiles_have tiles across x y = tile.has (tile_at tiles (y / 64 * across + x / 64)) (x % 64) (y % 64)
+
+-- the lattice of this size that they make up
+abbrev pub tiled : List Tile → Extent → Cells
+tiled tiles size = cells_where size.width size.height (tiles_have tiles (size.width / 64))
 
 -- the rooms begin with those of this row of tiles of a lattice
 pub record AreTilesInRow (rooms : List Room) (cells : Cells) (row : ℕ) : Type 0 where

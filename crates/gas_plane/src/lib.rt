@@ -41,20 +41,21 @@ pub struct Plane {
     // Row by row.
     tiles: Vec<Room>,
     marks: Vec<Mark>,
+    // How many cells there are of each class, if they were counted after the last write.
+    counts: Option<[u64; 4]>,
 }
 
 impl Model for Plane {
-    ghost use Rattle.std.specs.Prelude.{◌/◌};
-    ghost use Rattle.gas_terms.specs.Cells.{Cells, cells_where};
-    ghost use Rattle.gas_plane.specs.Tiles.{tiles_have, tiles_of, IsMarked};
+    ghost use Rattle.gas_terms.specs.Cells.{Cells};
+    ghost use Rattle.gas_plane.specs.Counts.{AreKept};
+    ghost use Rattle.gas_plane.specs.Tiles.{tiled, tiles_of, IsMarked};
 
     ghost Value = { Cells };
 
-    ghost view = { λ p.
-        cells_where p.size.width p.size.height
-        (tiles_have (tiles_of p.tiles.items) (p.size.width / 64)) };
+    ghost view = { λ p. tiled (tiles_of p.tiles.items) p.size };
 
-    ghost invariant = { λ p. IsMarked (tiles_of p.tiles.items) p.marks.items p.size };
+    ghost invariant = { λ p. IsMarked (tiles_of p.tiles.items) p.marks.items p.size
+        × AreKept p.counts (tiled (tiles_of p.tiles.items) p.size) };
 }
 
 impl Plane {
@@ -64,7 +65,12 @@ impl Plane {
     {
         let tiles = rooms(alloc, Tile::empty(), size.tiles() as usize)?;
         let marks = vec![in alloc; Mark::Bare; size.tiles() as usize]?;
-        Ok(Plane { size, tiles, marks })
+        Ok(Plane {
+            size,
+            tiles,
+            marks,
+            counts: None,
+        })
     }
 
     /// A clone. Fails if memory runs out, and then keeps none.
@@ -77,6 +83,7 @@ impl Plane {
             size: self.size,
             tiles,
             marks,
+            counts: self.counts,
         })
     }
 
@@ -134,6 +141,7 @@ impl Plane {
         requires { i < tile_count self.old }
         ensures { self.new ≡ with_tile self.old i tile }
     {
+        self.counts = None;
         self.tiles[i as usize].tile = tile;
         self.marks[i as usize] = mark_of(&tile);
     }
@@ -146,6 +154,7 @@ impl Plane {
         ensures* writes_back { sem 𝓛 (LendsTile self.entry i result) }
         ensures tile { let r = tile_rectangle self.old i in IsTileFrom result.now self.old r.x r.y }
     {
+        self.counts = None;
         self.marks[i as usize] = Mark::Lent;
         &mut self.tiles[i as usize].tile
     }

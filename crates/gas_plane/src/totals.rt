@@ -1,9 +1,10 @@
 //! Sums of the particles of a rectangle and of the whole lattice.
 
 ghost use Rattle.std.specs.Prelude.{◌≡◌, ◌^◌, ◌<◌, ℤ, true};
-ghost use Rattle.gas_terms.specs.Cells.{extent, lies_within};
+ghost use Rattle.gas_terms.specs.Cells.{extent, lies_within, whole};
 ghost use Rattle.gas_terms.specs.Velocity.{parity as of_tick};
 ghost use Rattle.gas_terms.specs.Accounts.{total, total_in, IsOfAtMost};
+ghost use Rattle.gas_plane.specs.Counts.{AreCounts};
 ghost use Rattle.gas_plane.specs.Planes.{IsLattice};
 
 use crate::Plane;
@@ -30,8 +31,31 @@ impl Plane {
         ensures sums { (tick : ℤ) → of_tick tick ≡ parity → result ≡ total tick self.now }
         ensures bounded { IsOfAtMost (2 ^ 24) result }
     {
+        self.shows_lattice();
+        Sums::of_counts(self.counts_of_all(), parity)
+    }
+
+    /// The same, and keeps the counts: until a tile is written, sums of all particles cost nothing.
+    pub fn keep_total(&mut self, parity: u8) -> Sums
+        requires { parity < 2 }
+        ensures plane { self.new ≡ self.old }
+        ensures lattice { IsLattice self.old }
+        ensures sums { (tick : ℤ) → of_tick tick ≡ parity → result ≡ total tick self.old }
+        ensures bounded { IsOfAtMost (2 ^ 24) result }
+    {
+        self.counts = Some(self.counts_of_all());
+        self.total(parity)
+    }
+
+    // How many cells there are of each class.
+    fn counts_of_all(&self) -> [u64; 4]
+        ensures { AreCounts result self.now (whole self.now) }
+    {
+        if let Some(counts) = self.counts {
+            return counts;
+        }
         let size = self.size();
         let all = Rect::within(size, 0, 0, size.width() as u32, size.height() as u32).unwrap();
-        self.sums_in(all, parity)
+        self.counts_in(all)
     }
 }

@@ -5,6 +5,7 @@ ghost use Rattle.gas_terms.specs.Cells.{lies_within, extent};
 
 use crate::borders::{Side, expect_ring};
 use crate::expected::{expect_same, expect_that};
+use crate::gases::sums;
 use crate::lattices::{are_same, expect_cells, holds, plane};
 use gas_plane::{Plane, Tile, word_of};
 use gas_terms::{Rect, Size};
@@ -434,6 +435,18 @@ fn lends_a_tile(rt: HostRuntime) {
     expect_that(&rt, !is_bare_round(&plane, 0));
     lend(&rt, &mut plane, 3, 1, 2, false);
     expect_that(&rt, !holds(&plane, 65, 66));
+}
+
+#[test]
+fn keeps_its_total_until_a_write(rt: HostRuntime) {
+    let mut plane = four_tiles(&rt);
+    lend(&rt, &mut plane, 3, 1, 2, true);
+    expect_same(&rt, plane.keep_total(0), sums(1, -1, 1));
+    expect_same(&rt, plane.total(1), sums(1, 1, -1));
+    empty_tile(&rt, &mut plane, 3);
+    expect_same(&rt, plane.keep_total(0), sums(0, 0, 0));
+    lend(&rt, &mut plane, 0, 0, 0, true);
+    expect_same(&rt, plane.total(0), sums(1, 1, 1));
 }
 
 // One allocation may be refused here: rt try --test --fail-alloc N, with N from 1 to 6.
