@@ -19,9 +19,6 @@ use std::alloc::Global;
 use std::marker::Model;
 use std::thread::Threads;
 
-/// From so many phases on, two sums of the particles cost less than a second account.
-const LONG_RUN: u16 = 2;
-
 /// How many workers a team has at most.
 pub const MOST_WORKERS: u32 = 16;
 
@@ -158,7 +155,8 @@ impl<R: Threads + Drop> Stepper for Team<R, NoGate> {
         self.phase(old, walls, obstacles, parity, out)
     }
 
-    // Among walls, a run of several phases keeps one account, and works the other out from the momentum.
+    // Among walls, a run keeps one account, and works the other out from the momentum. What there is at the end is kept for the
+    // next run.
     fn run_with<A: Action>(
         &mut self,
         particles: &mut Plane,
@@ -166,14 +164,14 @@ impl<R: Threads + Drop> Stepper for Team<R, NoGate> {
         spare: &mut Plane,
     ) -> Flow {
         let walls = run.solids.walls.cells();
-        if run.n < LONG_RUN || walls.is_empty() && run.solids.obstacles.cells().is_empty() {
+        if walls.is_empty() && run.solids.obstacles.cells().is_empty() {
             return self.run_by_worth(particles, run, Counted::BOTH, spare);
         }
         let counted = one_account(walls);
         let end = parity_at(run.parity, run.n);
-        let before = particles.total(run.parity);
+        let before = particles.keep_total(run.parity);
         let flow = self.run_by_worth(particles, run, counted, spare);
-        let after = particles.total(end);
+        let after = particles.keep_total(end);
         completed(before, after, flow, counted)
     }
 }
