@@ -16,6 +16,12 @@ pub record Course : Type 0 where
   pub dynamics : Dynamics
   pub counted : Counted
 
+-- what a run needs of the lattice at its start
+pub record CanGoOn (d : Dynamics) (lattice : Cells) : Type 0 where
+  pub parity : d.parity < 2
+  pub walls : HasSidesOf d.walls lattice
+  pub obstacles : HasSidesOf d.obstacles lattice
+
 -- the lattice after so many phases
 abbrev pub lattice_at : Course → ℕ → Cells
 lattice_at course k = after_all course.dynamics course.start k

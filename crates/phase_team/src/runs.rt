@@ -3,12 +3,12 @@
 
 ghost use Rattle.std.specs.Prelude.{◌≡◌, ℕ, ◌+◌, ◌/◌, ◌<◌, ◌≤◌, All, IsTrue, IfSome, IfNone, length, map};
 ghost use Rattle.std.specs.Vec.{vec_capacity};
-ghost use Rattle.gas_terms.specs.Cells.{extent, HasSidesOf};
+ghost use Rattle.gas_terms.specs.Cells.{extent};
 ghost use Rattle.gas_plane.specs.Planes.{IsLattice};
 ghost use Rattle.phase_step.specs.WholeRuns.{dynamics, after_all, flow_all};
 ghost use Rattle.phase_step.specs.Balance.{flow_counted};
 ghost use Rattle.phase_team.specs.Limits.{most_listed, most_workers};
-ghost use Rattle.phase_team.specs.Courses.{Course, lattice_at, flow_at, Lists};
+ghost use Rattle.phase_team.specs.Courses.{CanGoOn, Course, lattice_at, flow_at, Lists};
 ghost use Rattle.phase_team.specs.Strips.{AreStrips, AreSomewhere, IsAt, IsOf};
 ghost use Rattle.phase_team.specs.Worth.{is_worth_strips};
 
@@ -222,9 +222,8 @@ fn run_named<R: Threads, N: RunName + Send + Sync, A: Action>(
 ) -> Option<Flow>
     requires size { strips.old.size ≡ extent particles.old }
     requires lattice { IsLattice particles.old }
-    requires parity { run.now.parity < 2 }
-    requires walls { HasSidesOf run.now.solids.now.walls particles.old }
-    requires obstacles { HasSidesOf run.now.solids.now.obstacles particles.old }
+    requires run { let r = run.now in
+        CanGoOn (dynamics r.parity r.solids.now (A.leaves r.action.now)) particles.old }
     requires start { N.course.start ≡ particles.old }
     requires dynamics { N.course.dynamics
         ≡ dynamics run.now.parity run.now.solids.now (A.leaves run.now.action.now) }
@@ -271,9 +270,8 @@ pub fn run_by<R: Threads, A: Action>(
 ) -> Option<Flow>
     requires size { strips.old.size ≡ extent particles.old }
     requires lattice { IsLattice particles.old }
-    requires parity { run.now.parity < 2 }
-    requires walls { HasSidesOf run.now.solids.now.walls particles.old }
-    requires obstacles { HasSidesOf run.now.solids.now.obstacles particles.old }
+    requires run { let r = run.now in
+        CanGoOn (dynamics r.parity r.solids.now (A.leaves r.action.now)) particles.old }
     ensures particles { let r = run.now in
         let d = dynamics r.parity r.solids.now (A.leaves r.action.now) in
         IfSome result (λ _. particles.new ≡ after_all d particles.old r.n) }
