@@ -12,6 +12,7 @@
 //   ./hpp classes free 1000    1,000 steps, by tiles of parity classes: even phases in place, walled blocks prepared for
 //                              each parity and masked, one account counted if there are walls and obstacles, and else
 //                              none. The fastest that we have.
+//   ./hpp classes free 1000 2  the same, and the accounts are known after every second step
 //   ./hpp rows free 1000       the same by rows of 64-bit words, as one writes it first
 //   ./hpp lines free           the same lattice as lines of commands for gaslab
 //
@@ -312,21 +313,29 @@ static void begin_classes(void)
             if (get(particles, x, y)) set_in_tiles(first, x, y);
 }
 
-// Walls and obstacles together take the momentum that is missing at the end. If there are both, what obstacles take is
-// counted, and walls took the rest.
-static void run_classes(int steps)
+// Walls and obstacles together took what there was before and is no more. If there are both, what obstacles take is counted,
+// and walls took the rest.
+static void settle(const tile *p, int tick, const long long *before)
+{
+    long long missing[2] = {before[0], before[1]}, *account = some_walls ? took : took + 2;
+    add_all(p, tick, -1, missing);
+    for (int k = 0; k < 2; k++) account[k] = missing[k] - (some_walls ? took[2 + k] : 0);
+}
+
+// The accounts are known after every so many steps.
+static void run_classes(int steps, int each)
 {
     tile *now = first, *spare = second, *old;
     int some = some_walls || some_obstacles, both = some_walls && some_obstacles;
-    long long missing[2] = {0, 0}, *account = some_walls ? took : took + 2;
-    if (some) add_all(now, 0, 1, missing);
-    for (int t = 0; t < steps; t++)
+    long long before[2] = {0, 0};
+    if (some) add_all(now, 0, 1, before);
+    for (int t = 0; t < steps; t++) {
         if (t % 2)
             some ? odd_phase(now, spare, 1, both) : odd_phase(now, spare, 0, 0), old = now, now = spare, spare = old;
         else
             some ? even_phase(now, 1, both) : even_phase(now, 0, 0);
-    if (some) add_all(now, steps, -1, missing);
-    for (int k = 0; k < 2; k++) account[k] = missing[k] - took[2 + k];
+        if (some && (t + 1) % each == 0) settle(now, t + 1, before);
+    }
     if (now != first) memcpy(first, now, sizeof first);
 }
 
@@ -440,16 +449,16 @@ static void tell(double microseconds, int tick)
 
 int main(int count, char **words)
 {
-    int lines = count == 3 && !strcmp(words[1], "lines"), classes = count == 4 && !strcmp(words[1], "classes");
+    int lines = count == 3 && !strcmp(words[1], "lines"), classes = (count == 4 || count == 5) && !strcmp(words[1], "classes");
     if ((!lines && !classes && (count != 4 || strcmp(words[1], "rows"))) || !lay(words[2], lines)) {
-        fprintf(stderr, "usage: hpp classes|rows free|channels|obstacles|mixed STEPS, or hpp lines CASE\n");
+        fprintf(stderr, "usage: hpp classes|rows free|channels|obstacles|mixed STEPS, hpp classes CASE STEPS EACH, or hpp lines CASE\n");
         return 2;
     }
     if (lines) return 0;
     int steps = atoi(words[3]);
     if (classes) begin_classes();
     double begin = now();
-    classes ? run_classes(steps) : run_rows(steps, strcmp(words[2], "free"));
+    classes ? run_classes(steps, count == 5 ? atoi(words[4]) : steps) : run_rows(steps, strcmp(words[2], "free"));
     double end = now();
     if (classes) end_classes();
     tell(1e6 * (end - begin) / steps, steps);
