@@ -1,7 +1,7 @@
-use Rattle.std.proofs.Common.{rules, ◌≡◌, ◌∷◌, [], ℕ, List, length, Ok, ap, sym, ◌∙◌, refl, inl, subst}
+use Rattle.std.proofs.Common.{◌≡◌, ◌∷◌, [], ℕ, List, length, Ok, ap, sym, ◌∙◌, refl, inl, inr, subst}
 use Rattle.gas_text.specs.declared.reply.Reply.TheVariants.{Saved}
 use Rattle.gas_snapshot.specs.Shelved.{Gains}
-use Rattle.gas_talk.specs.Talk.{put_done, snapshot}
+use Rattle.gas_talk.specs.Talk.{put_done, put_failed, snapshot}
 use Rattle.gas_talk.proofs.replying.save.Goals as goal
 
 pub returns-in-Ok-put-clause-saved : goal.returns-in-Ok-put-clause-saved
@@ -18,4 +18,6 @@ returns-in-Ok-put-clause-saved g c =
     )
 
 pub returns-clause-saved : goal.returns-clause-saved
-returns-clause-saved g c = search rules
+returns-clause-saved g c =
+    let failed = c.in-Err-put.ensures.err in
+    (Ok c.in-Ok.copied, put_failed, c.in-Ok.ensures.copied, inr (inl (refl, refl)), failed.0, failed.1)
