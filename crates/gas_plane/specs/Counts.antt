@@ -7,5 +7,5 @@ pub record AreCounts (counts : List ℕ) (cells : Cells) (r : Rectangle) : Type 
   pub count : (a b : ℕ) → a < 2 → b < 2 → slice_index counts (2 * b + a) ≡ parity_count cells r a b
 
 -- counts that are kept, if any are, are those of all cells
-abbrev pub AreKept : Option (List ℕ) → Cells → Type 0
-AreKept kept cells = IfSome kept (λ counts. AreCounts counts cells (whole cells))
+abbrev pub AreOfAll : Option (List ℕ) → Cells → Type 0
+AreOfAll kept cells = IfSome kept (λ counts. AreCounts counts cells (whole cells))

@@ -47,7 +47,7 @@ pub struct Plane {
 
 impl Model for Plane {
     ghost use Rattle.gas_terms.specs.Cells.{Cells};
-    ghost use Rattle.gas_plane.specs.Counts.{AreKept};
+    ghost use Rattle.gas_plane.specs.Counts.{AreOfAll};
     ghost use Rattle.gas_plane.specs.Tiles.{tiled, tiles_of, IsMarked};
 
     ghost Value = { Cells };
@@ -55,7 +55,7 @@ impl Model for Plane {
     ghost view = { λ p. tiled (tiles_of p.tiles.items) p.size };
 
     ghost invariant = { λ p. IsMarked (tiles_of p.tiles.items) p.marks.items p.size
-        × AreKept p.counts (tiled (tiles_of p.tiles.items) p.size) };
+        × AreOfAll p.counts (tiled (tiles_of p.tiles.items) p.size) };
 }
 
 impl Plane {
