@@ -322,7 +322,7 @@ static void settle(const tile *p, int tick, const long long *before)
     for (int k = 0; k < 2; k++) account[k] = missing[k] - (some_walls ? took[2 + k] : 0);
 }
 
-// The accounts are known after every so many steps.
+// The accounts are known after every so many steps, and at the end.
 static void run_classes(int steps, int each)
 {
     tile *now = first, *spare = second, *old;
@@ -334,7 +334,7 @@ static void run_classes(int steps, int each)
             some ? odd_phase(now, spare, 1, both) : odd_phase(now, spare, 0, 0), old = now, now = spare, spare = old;
         else
             some ? even_phase(now, 1, both) : even_phase(now, 0, 0);
-        if (some && (t + 1) % each == 0) settle(now, t + 1, before);
+        if (some && ((t + 1) % each == 0 || t + 1 == steps)) settle(now, t + 1, before);
     }
     if (now != first) memcpy(first, now, sizeof first);
 }
