@@ -105,11 +105,26 @@ pub record IsTurned (part : Part) (p : ℕ) (counted : Counted) (walls obstacles
   pub took : (lattice : Cells) → IsPartOf part walls obstacles old lattice (64 - p)
       → answer ≡ counted_of counted (own_take part p old lattice walls obstacles)
 
+-- A run of n phases can be made of a part, with the spare plane: its rows are those of some lattice,
+-- and with margins it makes one phase at most.
+pub record CanRunPart (part : Part) (d : Dynamics) (n : ℕ) (particles room : Cells) : Type 0 where
+  pub parity : d.parity < 2
+  pub ready : IsReady part d.walls d.obstacles particles (64 - d.parity)
+  pub few : part.margin * n ≤ 1
+  pub spare : HasSidesOf room particles
+
 -- What a run of n phases is: the part's own rows are the lattice's after it, and the flow is that
 -- of its own tiles.
 pub record HasRun (part : Part) (counted : Counted) (d : Dynamics) (n : ℕ) (old lattice new : Cells) (answer : Flow) : Type 0 where
   pub is : IsPartOf part d.walls d.obstacles new (after_all d lattice n) 64
   pub flow : answer ≡ flow_counted counted (own_flow part d old lattice n)
+
+-- So it is with each lattice that the part may be of. Both planes keep their size.
+pub record HasRunPart (part : Part) (counted : Counted) (d : Dynamics) (n : ℕ) (old new room : Cells) (answer : Flow) : Type 0 where
+  pub run : (lattice : Cells) → IsPartOf part d.walls d.obstacles old lattice (64 - d.parity)
+      → HasRun part counted d n old lattice new answer
+  pub sides : HasSidesOf new old
+  pub spare : HasSidesOf room old
 
 -- The part's own tiles below i have the cells of this lattice.
 pub record AreMadeUpTo (i : ℕ) (part : Part) (cells lattice now : Cells) : Type 0 where

@@ -13,7 +13,7 @@ ghost use Rattle.gas_terms.specs.Accounts.{moved_by};
 ghost use Rattle.block_rule.specs.Accounts.{counted_of};
 ghost use Rattle.phase_step.specs.Actions.{acted};
 ghost use Rattle.phase_step.specs.Exchanges.{leaves_of};
-ghost use Rattle.phase_step.specs.Parts.{own_moves, own_rows, tile_in, IsOwn, IsTileOf, IsPartOf, IsTurned, IsReady, IsOfSome, HasRun, whole_part};
+ghost use Rattle.phase_step.specs.Parts.{own_moves, own_rows, tile_in, IsOwn, IsTileOf, IsPartOf, IsTurned, IsReady, IsOfSome, CanRunPart, HasRunPart, whole_part};
 ghost use Rattle.phase_step.specs.WholeRuns.{dynamics, CanRun, HasRunWhole};
 
 use crate::exchanges::{Action, Exchange};
@@ -305,18 +305,14 @@ fn run_on<A: Action>(
     counted: Counted,
     spare: &mut Plane,
 ) -> Flow
-    requires parity { run.parity < 2 }
-    requires walls { IsTrue absent.0 → HasNoBlocks run.solids.now.walls }
-    requires obstacles { IsTrue absent.1 → HasNoBlocks run.solids.now.obstacles }
-    requires part { let s = run.solids.now in
-        IsReady part s.walls s.obstacles particles.old (64 - run.parity) }
-    requires few { part.margin * run.n ≤ 1 }
-    requires spare { HasSidesOf spare.old particles.old }
-    ensures run { (lattice : Cells) → let r = run.entry in let s = r.solids.now in
-        IsPartOf part s.walls s.obstacles particles.old lattice (64 - r.parity) →
-        HasRun part counted (dynamics r.parity s (A.leaves r.action.now)) r.n
-        particles.old lattice particles.new result }
-    ensures sides { HasSidesOf particles.new particles.old × HasSidesOf spare.new particles.old }
+    requires absent { (IsTrue absent.0 → HasNoBlocks run.solids.now.walls)
+        × (IsTrue absent.1 → HasNoBlocks run.solids.now.obstacles) }
+    requires run { let r = run in
+        CanRunPart part (dynamics r.parity r.solids.now (A.leaves r.action.now)) r.n
+        particles.old spare.old }
+    ensures { let r = run.entry in
+        HasRunPart part counted (dynamics r.parity r.solids.now (A.leaves r.action.now)) r.n
+        particles.old particles.new spare.new result }
 {
     let (no_walls, no_obstacles) = absent;
     let ground = Ground {
@@ -344,16 +340,12 @@ pub fn run_part<A: Action>(
     counted: Counted,
     spare: &mut Plane,
 ) -> Flow
-    requires parity { run.parity < 2 }
-    requires part { let s = run.solids.now in
-        IsReady part s.walls s.obstacles particles.old (64 - run.parity) }
-    requires few { part.margin * run.n ≤ 1 }
-    requires spare { HasSidesOf spare.old particles.old }
-    ensures run { (lattice : Cells) → let r = run.entry in let s = r.solids.now in
-        IsPartOf part s.walls s.obstacles particles.old lattice (64 - r.parity) →
-        HasRun part counted (dynamics r.parity s (A.leaves r.action.now)) r.n
-        particles.old lattice particles.new result }
-    ensures sides { HasSidesOf particles.new particles.old × HasSidesOf spare.new particles.old }
+    requires { let r = run in
+        CanRunPart part (dynamics r.parity r.solids.now (A.leaves r.action.now)) r.n
+        particles.old spare.old }
+    ensures { let r = run.entry in
+        HasRunPart part counted (dynamics r.parity r.solids.now (A.leaves r.action.now)) r.n
+        particles.old particles.new spare.new result }
 {
     let Solids { walls, obstacles } = run.solids;
     let absent = (walls.has_no_blocks(), obstacles.has_no_blocks());

@@ -1,7 +1,8 @@
 -- Runs by strips: what the lattice is after some phases, which of its rows strips show each other, and what a strip has done.
 use Rattle.std.specs.Prelude.{◌≡◌, ◌≢◌, ℕ, ◌+◌, ◌*◌, ◌/◌, ◌<◌, Bool, false, List, length}
-use Rattle.gas_terms.specs.Cells.{Cells, cells_where, has, HasSidesOf}
+use Rattle.gas_terms.specs.Cells.{Cells, Extent, cells_where, extent, has, HasSidesOf}
 use Rattle.gas_terms.specs.Rows.{row_has}
+use Rattle.gas_plane.specs.Planes.{IsLattice}
 use Rattle.block_rule.specs.declared.walled.Counted.{Counted}
 use Rattle.phase_step.specs.Actions.{Leaves}
 use Rattle.phase_step.specs.Exchanges.{Areas, listed}
@@ -16,11 +17,8 @@ pub record Course : Type 0 where
   pub dynamics : Dynamics
   pub counted : Counted
 
--- what a run needs of the lattice at its start
-pub record CanGoOn (d : Dynamics) (lattice : Cells) : Type 0 where
-  pub parity : d.parity < 2
-  pub walls : HasSidesOf d.walls lattice
-  pub obstacles : HasSidesOf d.obstacles lattice
+abbrev pub course_of : Cells → Dynamics → Counted → Course
+course_of start d counted = record { start = start; dynamics = d; counted = counted }
 
 -- the lattice after so many phases
 abbrev pub lattice_at : Course → ℕ → Cells
@@ -35,6 +33,19 @@ rows_give course k first rows =
     let d = course.dynamics in
     let across = course.start.width / 64 in
     flow_counted course.counted (tiles_flow d.parity d.walls d.obstacles d.leaves course.start (first * across) (rows * across) k)
+
+-- A run can be made of these particles by the strips of a lattice of this size.
+pub record CanGoOn (whole : Extent) (d : Dynamics) (particles : Cells) : Type 0 where
+  pub size : whole ≡ extent particles
+  pub lattice : IsLattice particles
+  pub parity : d.parity < 2
+  pub walls : HasSidesOf d.walls particles
+  pub obstacles : HasSidesOf d.obstacles particles
+
+-- n phases were made of the particles, and the answer is what they come to in the accounts that are kept.
+pub record HasGoneOn (course : Course) (n : ℕ) (new : Cells) (answer : Flow) : Type 0 where
+  pub particles : new ≡ lattice_at course n
+  pub flow : answer ≡ flow_at course n
 
 -- the list has what an action does after each of n phases of a run, from phase `from` on
 abbrev pub Lists : List Areas → (ℕ → Leaves) → ℕ → ℕ → Type 0

@@ -5,10 +5,9 @@ ghost use Rattle.std.specs.Prelude.{◌≡◌, ℕ, ◌+◌, ◌/◌, ◌<◌, �
 ghost use Rattle.std.specs.Vec.{vec_capacity};
 ghost use Rattle.gas_terms.specs.Cells.{extent};
 ghost use Rattle.gas_plane.specs.Planes.{IsLattice};
-ghost use Rattle.phase_step.specs.WholeRuns.{dynamics, after_all, flow_all};
-ghost use Rattle.phase_step.specs.Balance.{flow_counted};
+ghost use Rattle.phase_step.specs.WholeRuns.{dynamics};
 ghost use Rattle.phase_team.specs.Limits.{most_listed, most_workers};
-ghost use Rattle.phase_team.specs.Courses.{CanGoOn, Course, lattice_at, flow_at, Lists};
+ghost use Rattle.phase_team.specs.Courses.{course_of, CanGoOn, Course, HasGoneOn, lattice_at, flow_at, Lists};
 ghost use Rattle.phase_team.specs.Strips.{AreStrips, AreSomewhere, IsAt, IsOf};
 ghost use Rattle.phase_team.specs.Worth.{is_worth_strips};
 
@@ -220,17 +219,10 @@ fn run_named<R: Threads, N: RunName + Send + Sync, A: Action>(
     run: &Run<'_, A>,
     counted: Counted,
 ) -> Option<Flow>
-    requires size { strips.old.size ≡ extent particles.old }
-    requires lattice { IsLattice particles.old }
-    requires run { let r = run.now in
-        CanGoOn (dynamics r.parity r.solids.now (A.leaves r.action.now)) particles.old }
-    requires start { N.course.start ≡ particles.old }
-    requires dynamics { N.course.dynamics
-        ≡ dynamics run.now.parity run.now.solids.now (A.leaves run.now.action.now) }
-    requires counted { N.course.counted ≡ counted }
-    ensures size { strips.new.size ≡ strips.old.size }
-    ensures particles { IfSome result (λ _. particles.new ≡ lattice_at N.course run.now.n) }
-    ensures flow { IfSome result (λ flow. flow ≡ flow_at N.course run.now.n) }
+    requires course { let r = run.now in N.course
+        ≡ course_of particles.old (dynamics r.parity r.solids.now (A.leaves r.action.now)) counted }
+    requires run { CanGoOn strips.old.size N.course.dynamics particles.old }
+    ensures run { IfSome result (HasGoneOn N.course run.now.n particles.new) }
     ensures none { IfNone result (particles.new ≡ particles.old) }
 {
     if run.n == 0 {
@@ -268,16 +260,13 @@ pub fn run_by<R: Threads, A: Action>(
     run: &Run<'_, A>,
     counted: Counted,
 ) -> Option<Flow>
-    requires size { strips.old.size ≡ extent particles.old }
-    requires lattice { IsLattice particles.old }
-    requires run { let r = run.now in
-        CanGoOn (dynamics r.parity r.solids.now (A.leaves r.action.now)) particles.old }
-    ensures particles { let r = run.now in
-        let d = dynamics r.parity r.solids.now (A.leaves r.action.now) in
-        IfSome result (λ _. particles.new ≡ after_all d particles.old r.n) }
-    ensures flow { let r = run.now in
-        let d = dynamics r.parity r.solids.now (A.leaves r.action.now) in
-        IfSome result (λ flow. flow ≡ flow_counted counted (flow_all d particles.old r.n)) }
+    requires { let r = run.now in
+        CanGoOn strips.old.size (dynamics r.parity r.solids.now (A.leaves r.action.now))
+        particles.old }
+    ensures run { let r = run.now in
+        IfSome result (HasGoneOn
+        (course_of particles.old (dynamics r.parity r.solids.now (A.leaves r.action.now)) counted)
+        r.n particles.new) }
     ensures none { IfNone result (particles.new ≡ particles.old) }
 {
     run_named::<R, Brand, A>(rt, alloc, strips, particles, run, counted)

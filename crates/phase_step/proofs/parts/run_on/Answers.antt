@@ -15,10 +15,10 @@ loop-k-init g c =
     let run = c.args.run in
     record {
       sides = record { wide = refl; high = refl };
-      spare = c.requires.spare;
+      spare = c.requires.run.spare;
       run = λ lattice is. run_begins c.args.part c.args.counted (dynamics run.parity run.solids.now (g.A.Action.leaves run.action.now)) c.args.particles.now lattice run.parity is;
       ready = λ lattice q is some e.
-          let f : run.parity ≡ q = let small = c.requires.parity in omega (arith, small, e) in subst (λ p. IsPartOf c.args.part run.solids.now.walls run.solids.now.obstacles c.args.particles.now lattice (64 - p)) f is;
+          let f : run.parity ≡ q = let small = c.requires.run.parity in omega (arith, small, e) in subst (λ p. IsPartOf c.args.part run.solids.now.walls run.solids.now.obstacles c.args.particles.now lattice (64 - p)) f is;
     }
 
 -- the phase and the action after it
@@ -33,7 +33,7 @@ phase_made g c lattice start =
     let streamed_there : Cells = streamed c.parity_at-now.result there (joined s.walls s.obstacles) in
     let come = c.turn_part-took.ensures.phase.rows there ready in
     record {
-      small = c.requires.parity;
+      small = c.requires.run.parity;
       parity = c.parity_at-now.ensures.parity;
       now_sides = c.loop-k.invariant.sides;
       come_sides = sides_on _ _ _ c.turn_part-took.ensures.sides.0 c.loop-k.invariant.sides;
@@ -47,8 +47,8 @@ pub plus-flow-requires : goal.plus-flow-requires
 plus-flow-requires g c =
     let run = c.args.run in
     let s = run.solids.now in
-    let lattice = c.requires.part.lattice in
-    let start = c.requires.part.is in
+    let lattice = c.requires.run.ready.lattice in
+    let start = c.requires.run.ready.is in
     run_fits c.args.part c.args.counted (dynamics run.parity s (g.A.Action.leaves run.action.now)) c.parity_at-now.result c.loop-k.k lattice c.args.particles.now c.loop-k.particles c.turn_part-took.new.particles c.act_after-moved.new.particles c.loop-k.flow
     (record { took = c.turn_part-took.result; moved = c.act_after-moved.result }) (phase_made g (goal.at.plus-flow-requires g c).After-act_after-moved lattice start)
     (omega arith) (own_few c.args.part s.walls s.obstacles c.args.particles.now lattice (64 - run.parity) start)
@@ -67,36 +67,40 @@ loop-k-preserved g c =
       spare = sides_on _ _ _ c.turn_part-took.ensures.sides.1 c.loop-k.invariant.sides;
       run = λ lattice start.
           subst (λ (f : Flow). HasRun c.args.part c.args.counted d (c.loop-k.k + 1) c.args.particles.now lattice c.act_after-moved.new.particles f) (sym c.plus-flow.ensures) (next lattice start);
-      ready = λ lattice q start more e. ready_again c.args.part s.walls s.obstacles c.act_after-moved.new.particles _ run.n c.loop-k.k q c.requires.few more (next lattice start).is;
+      ready = λ lattice q start more e. ready_again c.args.part s.walls s.obstacles c.act_after-moved.new.particles _ run.n c.loop-k.k q c.requires.run.few more (next lattice start).is;
     }
 
-pub returns-clause-run : goal.returns-clause-run
-returns-clause-run g c = λ lattice start.
+pub returns : goal.returns
+returns g c =
     let run = c.args.run in
     let d = dynamics run.parity run.solids.now (g.A.Action.leaves run.action.now) in
     let e : c.loop-k.k ≡ run.n = omega arith in
-    subst (λ k. HasRun c.args.part c.args.counted d k c.args.particles.now lattice c.loop-k.particles c.loop-k.flow) e (c.loop-k.invariant.run lattice start)
+    record {
+      run = λ lattice start. subst (λ k. HasRun c.args.part c.args.counted d k c.args.particles.now lattice c.loop-k.particles c.loop-k.flow) e (c.loop-k.invariant.run lattice start);
+      sides = c.loop-k.invariant.sides;
+      spare = c.loop-k.invariant.spare;
+    }
 
 pub turn_part-took-requires-clause-ready : goal.turn_part-took-requires-clause-ready
 turn_part-took-requires-clause-ready g c =
     let run = c.args.run in
-    let lattice = c.requires.part.lattice in
+    let lattice = c.requires.run.ready.lattice in
     record {
       lattice = after_all (dynamics run.parity run.solids.now (g.A.Action.leaves run.action.now)) lattice c.loop-k.k;
-      is = c.loop-k.invariant.ready lattice c.parity_at-now.result c.requires.part.is (omega arith) c.parity_at-now.ensures.parity;
+      is = c.loop-k.invariant.ready lattice c.parity_at-now.result c.requires.run.ready.is (omega arith) c.parity_at-now.ensures.parity;
     }
 
 pub act_after-moved-requires-clause-some : goal.act_after-moved-requires-clause-some
 act_after-moved-requires-clause-some g c =
     let run = c.args.run in
     let s = run.solids.now in
-    let lattice = c.requires.part.lattice in
+    let lattice = c.requires.run.ready.lattice in
     let there = after_all (dynamics run.parity s (g.A.Action.leaves run.action.now)) lattice c.loop-k.k in
     record {
       walls = s.walls;
       obstacles = s.obstacles;
       ready = record {
         lattice = streamed c.parity_at-now.result there (joined s.walls s.obstacles);
-        is = c.turn_part-took.ensures.phase.rows there (c.loop-k.invariant.ready lattice c.parity_at-now.result c.requires.part.is (omega arith) c.parity_at-now.ensures.parity);
+        is = c.turn_part-took.ensures.phase.rows there (c.loop-k.invariant.ready lattice c.parity_at-now.result c.requires.run.ready.is (omega arith) c.parity_at-now.ensures.parity);
       };
     }

@@ -5,13 +5,15 @@ use Rattle.phase_step.specs.declared.parts.Part.{Part}
 use Rattle.phase_step.proofs.RowRuns.{whole_held, whole_same, whole_flow}
 use Rattle.phase_step.proofs.parts.run_whole.Goals as goal
 
-pub run_part-flow-requires-clause-part : goal.run_part-flow-requires-clause-part
-run_part-flow-requires-clause-part g c =
+pub run_part-flow-requires : goal.run_part-flow-requires
+run_part-flow-requires g c =
     let s = c.args.run.solids.now in
-    record { lattice = c.args.particles.now; is = whole_held c.whole-part.result s.walls s.obstacles c.args.particles.now (64 - c.args.run.parity) c.whole-part.ensures.lattice c.whole-part.ensures.part c.requires.walls c.requires.obstacles }
-
-pub run_part-flow-requires-clause-few : goal.run_part-flow-requires-clause-few
-run_part-flow-requires-clause-few g c = subst (λ (part : Part). part.margin * c.args.run.n ≤ 1) (sym c.whole-part.ensures.part) (omega arith)
+    record {
+      parity = c.requires.parity;
+      ready = record { lattice = c.args.particles.now; is = whole_held c.whole-part.result s.walls s.obstacles c.args.particles.now (64 - c.args.run.parity) c.whole-part.ensures.lattice c.whole-part.ensures.part c.requires.walls c.requires.obstacles };
+      few = subst (λ (part : Part). part.margin * c.args.run.n ≤ 1) (sym c.whole-part.ensures.part) (omega arith);
+      spare = c.requires.spare;
+    }
 
 pub returns : goal.returns
 returns g c =
@@ -27,6 +29,6 @@ returns g c =
     subst (λ (part : Part). HasRun part c.args.counted d run.n cells cells new c.run_part-flow.result) c.whole-part.ensures.part (c.run_part-flow.ensures.run cells whole) in
     record {
       particles = whole_same down 64 s.walls s.obstacles new _ c.shows_lattice.ensures.full made.is;
-      spare = c.run_part-flow.ensures.sides.1;
+      spare = c.run_part-flow.ensures.spare;
       flow = whole_flow down run.n c.args.counted d cells new c.run_part-flow.result lattice.sized made;
     }

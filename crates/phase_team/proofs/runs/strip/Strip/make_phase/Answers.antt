@@ -55,9 +55,15 @@ is_phase g c =
       same = λ x y held. ap (λ j. listed i.exchanges.now j x y held) k ∙ i.lists c.args.k c.requires.k x y held;
     }
 
-pub run_part-requires-clause-part : goal.run_part-requires-clause-part
-run_part-requires-clause-part g c =
-    let at = (goal.at.run_part-requires-clause-part g c).After-parity_at in record { lattice = before g at; is = is_part g at }
+pub run_part-requires : goal.run_part-requires
+run_part-requires g c =
+    let at = (goal.at.run_part-requires g c).After-parity_at in
+    record {
+      parity = c.parity_at.ensures.small;
+      ready = record { lattice = before g at; is = is_part g at };
+      few = omega arith;
+      spare = c.requires.strip.spare;
+    }
 
 pub returns-clause-rows : goal.returns-clause-rows
 returns-clause-rows g c =
