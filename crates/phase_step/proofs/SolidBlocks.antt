@@ -1,9 +1,9 @@
 -- The blocks with a cell of a set: by what its tiles show, and after the set has changed in a rectangle.
-use Rattle.std.proofs.Common.{◌≡◌, ℕ, ◌+◌, ◌-◌, ◌*◌, ◌/◌, ◌%◌, ◌<◌, ◌≤◌, Bool, true, false, ◌&&◌, ◌||◌, not, nat_le, nat_lt, List, Option, Some, None, get_or, set, length, replicate, inl, inr, refl, sym, ◌∙◌, ap, ap₂, subst, arith, get_or-set_same, get_or-set_other}
+use Rattle.std.proofs.Common.{◌≡◌, ℕ, zero, suc, ◌+◌, ◌-◌, ◌*◌, ◌/◌, ◌%◌, ◌<◌, ◌≤◌, Bool, true, false, ◌&&◌, ◌||◌, not, nat_le, nat_lt, List, Option, Some, None, get_or, set, length, replicate, inl, inr, refl, sym, ◌∙◌, ap, ap₂, subst, arith, get_or-set_same, get_or-set_other}
 use Rattle.std.proofs.lemmas.Bool.{cases_eq, cases_lt}
 use Rattle.std.proofs.lemmas.Bool.Decides.{nat_tests}
-use Rattle.std.proofs.lemmas.Nat.{mod-mul-add, div-mul-add}
-use Rattle.std.proofs.Math.Nat.{mod-lt, add-mod_right, mul_comm, mul-le-mul_right}
+use Rattle.std.proofs.lemmas.Nat.{mod-mul-add}
+use Rattle.std.proofs.Math.Nat.{mod-lt, add-mod_right, mul_comm, mul-le-mul_right, le-div_iff_mul-le, div-lt_iff_lt-mul}
 use Rattle.std.proofs.lemmas.List.{get_or-replicate, length-replicate}
 use Rattle.gas_terms.specs.Velocity.{has_parity}
 use Rattle.gas_terms.specs.Cells.{Cells, Rectangle, HasSidesOf, has, cells_where, filled, cleared, extent, is_size, is_inside, tile_count, tile_rectangle}
@@ -14,6 +14,7 @@ use Rattle.bit_tile.proofs.Bits.{bit-zero, get_or-replicate_zero}
 use Rattle.gas_plane.specs.Planes.{IsLattice, HasNone}
 use Rattle.gas_plane.proofs.Painting.{outside_columns, outside_rows}
 use Rattle.gas_plane.proofs.Places.{wide, high}
+use Rattle.gas_plane.proofs.Places.{high as high_of}
 use Rattle.block_rule.specs.Around.{block_start, is_walled_at}
 use Rattle.block_rule.specs.Windows.{IsView, IsTilePlace}
 use Rattle.block_rule.specs.TileBlocks.{NamesBlocks}
@@ -24,7 +25,7 @@ use Rattle.block_rule.specs.declared.Window.{Window}
 use Rattle.block_rule.proofs.Torus.{walled_same, window_is_view}
 use Rattle.phase_step.specs.Turns.{IsWindowFrom}
 use Rattle.phase_step.proofs.TurnedTiles.{bare_view, bare_window, border_near, tile_window, window_seen}
-use Rattle.phase_step.specs.SolidBlocks.{no_words, blocks_at, is_walled_in, HaveAllTiles, AreBlocksOf, DifferIn, AreRenewedUpTo}
+use Rattle.phase_step.specs.SolidBlocks.{no_words, blocks_at, is_walled_in, HaveAllTiles, AreBlocksOf, DifferIn, IsFar, AreRenewedUpTo}
 use Rattle.phase_step.proofs.PhaseSweeps.{place_is, sized_as, tiles_as}
 use Rattle.block_rule.specs.TileBlocks.{AreGivenBlocks, walled_by}
 use Rattle.block_rule.specs.declared.blocks_in_tile.SetBlocks.{SetBlocks}
@@ -130,38 +131,53 @@ outside_of start end a from none low high = grind (arith, nat_tests)
 pub any_of_three : (a b c : Bool) → (a || b || c) ≡ false → (a ≡ false) × (b ≡ false) × (c ≡ false)
 any_of_three a b c e = grind arith
 
-pub not_near : (start end from size before after : ℕ) → from + 64 ≤ size → (nat_lt start (from + 64) && nat_lt from end) ≡ false → before ≡ (from + size - 1) % size → after ≡ (from + 63 + 1) % size → (nat_le start before && nat_lt before end) ≡ false → (nat_le start after && nat_lt after end) ≡ false
-    → (u : ℕ) → u ≤ 65 → (nat_le start ((from + u + size - 1) % size) && nat_lt ((from + u + size - 1) % size) end) ≡ false
-not_near start end from size before after fits none is_before is_after no_before no_after u small =
+pub not_near : (start end k n before after : ℕ) → k < n → (nat_lt start (k * 64 + 64) && nat_lt (k * 64) end) ≡ false → before ≡ (k * 64 + n * 64 - 1) % (n * 64) → after ≡ (k * 64 + 63 + 1) % (n * 64) → (nat_le start before && nat_lt before end) ≡ false → (nat_le start after && nat_lt after end) ≡ false
+    → (u : ℕ) → u ≤ 65 → (nat_le start ((k * 64 + u + n * 64 - 1) % (n * 64)) && nat_lt ((k * 64 + u + n * 64 - 1) % (n * 64)) end) ≡ false
+not_near start end k n before after fits none is_before is_after no_before no_after u small =
     elim (cases_eq u 0) [
-      | inl first ↦ rw first (ap (λ n. nat_le start n && nat_lt n end) (place_first from size ∙ sym is_before) ∙ no_before)
+      | inl first ↦ rw first (ap (λ c. nat_le start c && nat_lt c end) (place_first (k * 64) (n * 64) ∙ sym is_before) ∙ no_before)
       | inr some ↦ elim (cases_eq u 65) [
-        | inl last ↦ rw last (ap (λ n. nat_le start n && nat_lt n end) (place_last from size ∙ sym is_after) ∙ no_after)
-        | inr other ↦ ap (λ n. nat_le start n && nat_lt n end) (place_inside from size u fits (omega arith) (omega arith)) ∙ outside_of start end (from + u - 1) from none (omega arith) (omega arith)
+        | inl last ↦ rw last (ap (λ c. nat_le start c && nat_lt c end) (place_last (k * 64) (n * 64) ∙ sym is_after) ∙ no_after)
+        | inr other ↦ ap (λ c. nat_le start c && nat_lt c end) (place_inside (k * 64) (n * 64) u (omega arith) (omega arith) (omega arith)) ∙ outside_of start end (k * 64 + u - 1) (k * 64) none (omega arith) (omega arith)
       ]
     ]
 
--- a tile in a column of tiles, or in a row of tiles, that the rectangle does not reach
-column_is : (across row column i : ℕ) → column < across → row * across + column ≤ i → i < row * across + (column + 1) → i % across ≡ column
-column_is across row column i less low high = grind (arith, mod-mul-add)
+far_there : (start len n k a l size : ℕ) → start ≡ a → len ≡ l → n * 64 ≡ size → IsFar start len n k → (u : ℕ) → u ≤ 65 → (nat_le a ((k * 64 + u + size - 1) % size) && nat_lt ((k * 64 + u + size - 1) % size) (a + l)) ≡ false
+far_there start len n k a l size is_start is_len is_size far u small = rw (← is_start, ← is_len, ← is_size) (far u small)
 
-row_is : (across row i : ℕ) → row * across ≤ i → i < (row + 1) * across → i / across ≡ row
-row_is across row i low high = grind (arith, div-mul-add)
+-- a tile in columns of tiles, or in rows of tiles, that the rectangle does not reach
+column_in : (across row from to i : ℕ) → to ≤ across → row * across + from ≤ i → i < row * across + to → (from ≤ i % across) × (i % across < to)
+column_in across row from to i few low high = grind (arith, mod-mul-add)
+
+positive : (across to i : ℕ) → i < to * across → 0 < across
+positive zero to i below = absurd (omega (arith, below))
+positive (suc n) to i below = omega arith
+
+row_in : (across from to i : ℕ) → from * across ≤ i → i < to * across → (from ≤ i / across) × (i / across < to)
+row_in across from to i low below =
+    let some : 0 < across = positive across to i below in
+    ((le-div_iff_mul-le some).1 low, (div-lt_iff_lt-mul some).1 below)
 
 module _ (area : Rectangle) (before now : Cells) (told : List ℕ) (words : List TileBlocks) (sized : is_size (extent now) ≡ true) (differ : DifferIn area before now) where
-  pub far_column : (row column start len size : ℕ) → column < now.width / 64 → start ≡ area.x → len ≡ area.w → size ≡ now.width → ((u : ℕ) → u ≤ 65 → (nat_le start ((column * 64 + u + size - 1) % size) && nat_lt ((column * 64 + u + size - 1) % size) (start + len)) ≡ false)
-      → AreRenewedUpTo (row * (now.width / 64) + column) before now told words → AreRenewedUpTo (row * (now.width / 64) + (column + 1)) before now told words
-  far_column row column start len size less is_start is_len is_size far =
+  pub far_columns : (row from to start len n : ℕ) → from ≤ to → to ≤ n → start ≡ area.x → len ≡ area.w → n ≡ now.width / 64 → ((k : ℕ) → from ≤ k → k < to → IsFar start len n k)
+      → AreRenewedUpTo (row * (now.width / 64) + from) before now told words → AreRenewedUpTo (row * (now.width / 64) + to) before now told words
+  far_columns row from to start len n up few is_start is_len is_n far =
       renewed_past _ _ before now told words (omega arith)
       (λ i low high within. stay area before now differ sized i within
-      (λ u v h k. outside_columns area (column_of now i u) (row_of now i v) (rw (column_is (now.width / 64) row column i less low high, ← is_size, ← is_start, ← is_len) (far u h))))
+      (λ u v h k.
+      let there = column_in (now.width / 64) row from to i (omega (arith, few, is_n)) low high in
+      outside_columns area (column_of now i u) (row_of now i v)
+      (far_there start len n (i % (now.width / 64)) area.x area.w now.width is_start is_len (ap (λ n. n * 64) is_n ∙ (wide (extent now) sized).tiles) (far (i % (now.width / 64)) there.0 there.1) u h)))
 
-  pub far_row : (row start len size : ℕ) → start ≡ area.y → len ≡ area.h → size ≡ now.height → ((u : ℕ) → u ≤ 65 → (nat_le start ((row * 64 + u + size - 1) % size) && nat_lt ((row * 64 + u + size - 1) % size) (start + len)) ≡ false)
-      → AreRenewedUpTo (row * (now.width / 64)) before now told words → AreRenewedUpTo ((row + 1) * (now.width / 64)) before now told words
-  far_row row start len size is_start is_len is_size far =
-      renewed_past _ _ before now told words (omega arith)
+  pub far_rows : (from to start len n : ℕ) → from ≤ to → start ≡ area.y → len ≡ area.h → n ≡ now.height / 64 → ((k : ℕ) → from ≤ k → k < to → IsFar start len n k)
+      → AreRenewedUpTo (from * (now.width / 64)) before now told words → AreRenewedUpTo (to * (now.width / 64)) before now told words
+  far_rows from to start len n up is_start is_len is_n far =
+      renewed_past _ _ before now told words (mul-le-mul_right (now.width / 64) up)
       (λ i low high within. stay area before now differ sized i within
-      (λ u v h k. outside_rows area (column_of now i u) (row_of now i v) (rw (row_is (now.width / 64) row i low high, ← is_size, ← is_start, ← is_len) (far v k))))
+      (λ u v h k.
+      let there = row_in (now.width / 64) from to i low high in
+      outside_rows area (column_of now i u) (row_of now i v)
+      (far_there start len n (i / (now.width / 64)) area.y area.h now.height is_start is_len (ap (λ n. n * 64) is_n ∙ (high_of (extent now) sized).tiles) (far (i / (now.width / 64)) there.0 there.1) v k)))
 
 -- the words of a tile are read
 pub none_named : (told : ℕ) (b : TileBlocks) (test : ℕ → ℕ → ℕ → Bool) → told ≡ 0 → NamesBlocks told b test → (p : ℕ) → p < 2 → (x y : ℕ) → x < 64 → y < 64 → test p x y ≡ false

@@ -1,5 +1,5 @@
 -- The blocks with a cell of a set, tile by tile.
-use Rattle.std.specs.Prelude.{◌≡◌, ℕ, ◌+◌, ◌<◌, ◌≤◌, Bool, false, List, [], length, slice_index, slice_index_or}
+use Rattle.std.specs.Prelude.{◌≡◌, ℕ, ◌+◌, ◌-◌, ◌*◌, ◌%◌, ◌<◌, ◌≤◌, ◌&&◌, nat_le, nat_lt, Bool, false, List, [], length, slice_index, slice_index_or}
 use Rattle.gas_terms.specs.Cells.{Cells, Rectangle, HasSidesOf, has, is_inside, tile_count, tile_rectangle}
 use Rattle.gas_terms.specs.Gas.{site_of, is_walled}
 use Rattle.block_rule.specs.Shown.{HasNoCell}
@@ -45,6 +45,11 @@ pub record DifferIn (area : Rectangle) (before now : Cells) : Type 0 where
   pub sides : HasSidesOf before now
   pub outside : (x y : ℕ) → x < now.width → y < now.height → is_inside area x y ≡ false
       → has before x y ≡ has now x y
+
+-- `len` cells from `start` on have none of those that the blocks of place k reach, of n places of 64 cells on a circle
+abbrev pub IsFar : ℕ → ℕ → ℕ → ℕ → Type 0
+IsFar start len n k =
+    (u : ℕ) → u ≤ 65 → let cell = (k * 64 + u + n * 64 - 1) % (n * 64) in (nat_le start cell && nat_lt cell (start + len)) ≡ false
 
 -- the words of the tiles below n are those of the set as it is now, and the others those of the set as it was before
 pub record AreRenewedUpTo (n : ℕ) (before now : Cells) (told : List ℕ) (words : List TileBlocks) : Type 0 where

@@ -5,7 +5,7 @@ ghost use Rattle.gas_terms.specs.Cells.{Cells, cells_where, filled, cleared, til
 ghost use Rattle.gas_plane.specs.Planes.{IsLattice, HasNone};
 ghost use Rattle.block_rule.specs.TileBlocks.{AreGivenBlocks};
 ghost use Rattle.phase_step.specs.Turns.{IsWindowFrom};
-ghost use Rattle.phase_step.specs.SolidBlocks.{is_walled_in, HasNoBlocks, HaveAllTiles, AreBlocksOf, DifferIn, AreRenewedUpTo};
+ghost use Rattle.phase_step.specs.SolidBlocks.{is_walled_in, HasNoBlocks, HaveAllTiles, AreBlocksOf, DifferIn, IsFar, AreRenewedUpTo};
 
 use block_rule::{SetBlocks, TileBlocks, Window, tile_blocks};
 use gas_plane::{Plane, after, before};
@@ -129,22 +129,42 @@ impl Solid {
     }
 }
 
-// Whether `len` cells from `start` on have one of those that the blocks of a tile reach, along one axis of a torus of this size: its
-// own 64 from `from` on, the one before them and the one after them.
+// Whether `len` cells from `start` on have one of those that the blocks of place k reach, of n places of 64 cells on a circle: its
+// own cells, the one before them and the one after them.
 #[inline]
-fn is_near(start: u32, len: u32, from: u32, size: u32) -> bool
+fn is_near(start: u32, len: u32, k: u32, n: u32) -> bool
     requires start { start + len < 2 ^ 31 }
-    requires from { from + 64 ≤ size }
-    requires size { size < 2 ^ 31 }
-    ensures { result ≡ false → (u : ℕ) → u ≤ 65 →
-        (nat_le start ((from + u + size - 1) % size)
-        && nat_lt ((from + u + size - 1) % size) (start + len)) ≡ false }
+    requires k { (k < n) × (n ≤ 64) }
+    ensures { result ≡ false → IsFar start len n k }
 {
     let end = start + len;
+    let from = k * 64;
     let here = ranges_overlap(start, end, from, from + 64);
-    let left = is_among(before(from, size), start, end);
-    let right = is_among(after(from + 63, size), start, end);
+    let left = is_among(before(from, n * 64), start, end);
+    let right = is_among(after(from + 63, n * 64), start, end);
     here | left | right
+}
+
+// The place after place k that the cells may be near. The first and the last place have each other for a neighbor.
+#[inline]
+fn next_near(start: u32, len: u32, k: u32, n: u32) -> u32
+    requires start { start + len < 2 ^ 31 }
+    requires k { (k < n) × (n ≤ 64) }
+    ensures order { (k < result) × (result ≤ n) }
+    ensures far { (j : ℕ) → k < j → j < result → IsFar start len n j }
+{
+    let next = k + 1;
+    let last = n - 1;
+    let first = ((start + 63) / 64).saturating_sub(1);
+    if next >= last {
+        next
+    } else if next < first {
+        first.min(last)
+    } else if next <= (start + len) / 64 {
+        next
+    } else {
+        last
+    }
 }
 
 // Whether the numbers from `start` up to `end` and those from `from` up to `to` begin before the others end.
@@ -191,13 +211,14 @@ fn renew_row(set: &Plane, area: Rect, row: u32, rows: &mut Vec<u32>, blocks: &mu
         rows.new.items blocks.new.items }
 {
     let across = set.across();
-    let width = set.size().width() as u32;
     let x = area.x() as u32;
     let w = area.w() as u32;
-    for column in 0..across {
-        if is_near(x, w, column * 64, width) {
+    let mut column = 0;
+    while column < across {
+        if is_near(x, w, column, across) {
             renew_tile(set, row * across + column, rows, blocks);
         }
+        column = next_near(x, w, column, across);
     }
 }
 
@@ -208,11 +229,15 @@ fn renew(set: &Plane, area: Rect, rows: &mut Vec<u32>, blocks: &mut Vec<TileBloc
         AreBlocksOf before rows.old.items blocks.old.items →
         AreBlocksOf set.now rows.new.items blocks.new.items }
 {
-    let height = set.size().height() as u32;
-    for row in 0..height / 64 {
-        if is_near(area.y() as u32, area.h() as u32, row * 64, height) {
+    let down = set.size().height() as u32 / 64;
+    let y = area.y() as u32;
+    let h = area.h() as u32;
+    let mut row = 0;
+    while row < down {
+        if is_near(y, h, row, down) {
             renew_row(set, area, row, rows, blocks);
         }
+        row = next_near(y, h, row, down);
     }
 }
 
