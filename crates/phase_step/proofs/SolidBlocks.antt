@@ -1,9 +1,9 @@
 -- The blocks with a cell of a set: by what its tiles show, and after the set has changed in a rectangle.
-use Rattle.std.proofs.Common.{◌≡◌, ℕ, zero, suc, ◌+◌, ◌-◌, ◌*◌, ◌/◌, ◌%◌, ◌<◌, ◌≤◌, Bool, true, false, ◌&&◌, ◌||◌, not, nat_le, nat_lt, List, Option, Some, None, get_or, set, length, replicate, inl, inr, refl, sym, ◌∙◌, ap, ap₂, subst, arith, get_or-set_same, get_or-set_other}
+use Rattle.std.proofs.Common.{◌≡◌, ℕ, zero, suc, ◌+◌, ◌-◌, ◌*◌, ◌/◌, ◌%◌, ◌<◌, ◌≤◌, Bool, true, false, ◌&&◌, not, nat_le, nat_lt, List, Option, Some, None, get_or, set, length, replicate, inl, inr, refl, sym, ◌∙◌, ap, ap₂, subst, arith, get_or-set_same, get_or-set_other}
 use Rattle.std.proofs.lemmas.Bool.{cases_eq, cases_lt}
 use Rattle.std.proofs.lemmas.Bool.Decides.{nat_tests}
 use Rattle.std.proofs.lemmas.Nat.{mod-mul-add}
-use Rattle.std.proofs.Math.Nat.{mod-lt, add-mod_right, mul_comm, mul-le-mul_right, le-div_iff_mul-le, div-lt_iff_lt-mul}
+use Rattle.std.proofs.Math.Nat.{mod-lt, mul_comm, mul-le-mul_right, le-div_iff_mul-le, div-lt_iff_lt-mul}
 use Rattle.std.proofs.lemmas.List.{get_or-replicate, length-replicate}
 use Rattle.gas_terms.specs.Velocity.{has_parity}
 use Rattle.gas_terms.specs.Cells.{Cells, Rectangle, HasSidesOf, has, cells_where, filled, cleared, extent, is_size, is_inside, tile_count, tile_rectangle}
@@ -115,31 +115,37 @@ renewed_starts before now told words sides are = grind (arith, tiles_as)
 pub renewed_ends : (n : ℕ) (before now : Cells) (told : List ℕ) (words : List TileBlocks) → tile_count now ≤ n → HaveAllTiles now told words → AreRenewedUpTo n before now told words → AreBlocksOf now told words
 renewed_ends n before now told words all have so_far = grind (arith)
 
--- one axis: the places that a tile's blocks reach
-pub place_first : (from size : ℕ) → (from + 0 + size - 1) % size ≡ (from + size - 1) % size
-place_first from size = ap (λ n. n % size) (omega arith)
+-- one axis: which cell is cell u round place j, and places all of whose cells are before or after the others
+cell_first : (n a : ℕ) → 0 < n → a ≡ 0 → (a + n * 64 - 1) % (n * 64) ≡ n * 64 - 1
+cell_first n a some none = ap (λ m. m % (n * 64)) (let e : a + n * 64 - 1 ≡ 0 * (n * 64) + (n * 64 - 1) = omega (arith, none) in e) ∙ mod-mul-add 0 (n * 64) (n * 64 - 1) (omega (arith, some))
 
-pub place_inside : (from size u : ℕ) → from + 64 ≤ size → 1 ≤ u → u ≤ 64 → (from + u + size - 1) % size ≡ from + u - 1
-place_inside from size u fits low high = grind (arith, mod-mul-add)
+cell_within : (n j u : ℕ) → 1 ≤ j * 64 + u → j * 64 + u ≤ n * 64 → (j * 64 + u + n * 64 - 1) % (n * 64) ≡ j * 64 + u - 1
+cell_within n j u some less = grind (arith, mod-mul-add)
 
-pub place_last : (from size : ℕ) → (from + 65 + size - 1) % size ≡ (from + 63 + 1) % size
-place_last from size = grind (arith, add-mod_right)
+cell_round : (n j u : ℕ) → j < n → u ≤ 65 → n * 64 < j * 64 + u → (j * 64 + u + n * 64 - 1) % (n * 64) ≡ 0
+cell_round n j u within small more = ap (λ m. m % (n * 64)) (let e : j * 64 + u + n * 64 - 1 ≡ 2 * (n * 64) + 0 = omega (arith, within, small, more) in e) ∙ mod-mul-add 2 (n * 64) 0 (omega (arith, within))
 
-outside_of : (start end a from : ℕ) → (nat_lt start (from + 64) && nat_lt from end) ≡ false → from ≤ a → a < from + 64 → (nat_le start a && nat_lt a end) ≡ false
-outside_of start end a from none low high = grind (arith, nat_tests)
+below : (start c end : ℕ) → c < start → (nat_le start c && nat_lt c end) ≡ false
+below start c end less = grind (arith, nat_tests)
 
-pub any_of_three : (a b c : Bool) → (a || b || c) ≡ false → (a ≡ false) × (b ≡ false) × (c ≡ false)
-any_of_three a b c e = grind arith
+above : (start c end : ℕ) → end ≤ c → (nat_le start c && nat_lt c end) ≡ false
+above start c end less = grind (arith, nat_tests)
 
-pub not_near : (start end k n before after : ℕ) → k < n → (nat_lt start (k * 64 + 64) && nat_lt (k * 64) end) ≡ false → before ≡ (k * 64 + n * 64 - 1) % (n * 64) → after ≡ (k * 64 + 63 + 1) % (n * 64) → (nat_le start before && nat_lt before end) ≡ false → (nat_le start after && nat_lt after end) ≡ false
-    → (u : ℕ) → u ≤ 65 → (nat_le start ((k * 64 + u + n * 64 - 1) % (n * 64)) && nat_lt ((k * 64 + u + n * 64 - 1) % (n * 64)) end) ≡ false
-not_near start end k n before after fits none is_before is_after no_before no_after u small =
-    elim (cases_eq u 0) [
-      | inl first ↦ rw first (ap (λ c. nat_le start c && nat_lt c end) (place_first (k * 64) (n * 64) ∙ sym is_before) ∙ no_before)
-      | inr some ↦ elim (cases_eq u 65) [
-        | inl last ↦ rw last (ap (λ c. nat_le start c && nat_lt c end) (place_last (k * 64) (n * 64) ∙ sym is_after) ∙ no_after)
-        | inr other ↦ ap (λ c. nat_le start c && nat_lt c end) (place_inside (k * 64) (n * 64) u (omega arith) (omega arith) (omega arith)) ∙ outside_of start end (k * 64 + u - 1) (k * 64) none (omega arith) (omega arith)
+pub far_before : (start len n j : ℕ) → j < n → j * 64 + 64 < start → (j ≡ 0 → start + len < n * 64) → IsFar start len n j
+far_before start len n j within less seam u small =
+    elim (cases_eq (j * 64 + u) 0) [
+      | inl none ↦ rw (cell_first n (j * 64 + u) (omega (arith, within)) none) (let high = seam (omega (arith, none)) in above start (n * 64 - 1) (start + len) (omega (arith, high)))
+      | inr some ↦ elim (cases_lt (n * 64) (j * 64 + u)) [
+        | inl round ↦ rw (cell_round n j u within small round) (below start 0 (start + len) (omega (arith, less)))
+        | inr here ↦ rw (cell_within n j u (omega (arith, some)) (omega (arith, here))) (below start (j * 64 + u - 1) (start + len) (omega (arith, less, small)))
       ]
+    ]
+
+pub far_after : (start len n j : ℕ) → j < n → 0 < j → start + len < j * 64 → (j + 1 ≡ n → 0 < start) → IsFar start len n j
+far_after start len n j within some less seam u small =
+    elim (cases_lt (n * 64) (j * 64 + u)) [
+      | inl round ↦ rw (cell_round n j u within small round) (below start 0 (start + len) (seam (omega (arith, within, small, round))))
+      | inr here ↦ rw (cell_within n j u (omega (arith, some)) (omega (arith, here))) (above start (j * 64 + u - 1) (start + len) (omega (arith, less)))
     ]
 
 far_there : (start len n k a l size : ℕ) → start ≡ a → len ≡ l → n * 64 ≡ size → IsFar start len n k → (u : ℕ) → u ≤ 65 → (nat_le a ((k * 64 + u + size - 1) % size) && nat_lt ((k * 64 + u + size - 1) % size) (a + l)) ≡ false

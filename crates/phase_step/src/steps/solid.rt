@@ -1,6 +1,6 @@
 //! A set of cells that particles do not pass, with its blocks: walls, or obstacles.
 
-ghost use Rattle.std.specs.Prelude.{◌↔◌, ◌≡◌, ℕ, ◌+◌, ◌*◌, ◌/◌, ◌-◌, ◌%◌, ◌<◌, ◌≤◌, ◌^◌, ◌&&◌, nat_le, nat_lt, IfOk, IsTrue, false};
+ghost use Rattle.std.specs.Prelude.{◌↔◌, ◌≡◌, ℕ, ◌+◌, ◌*◌, ◌/◌, ◌<◌, ◌≤◌, ◌^◌, IfOk, IsTrue, false};
 ghost use Rattle.gas_terms.specs.Cells.{Cells, cells_where, filled, cleared, tile_count, tile_rectangle};
 ghost use Rattle.gas_plane.specs.Planes.{IsLattice, HasNone};
 ghost use Rattle.block_rule.specs.TileBlocks.{AreGivenBlocks};
@@ -8,7 +8,7 @@ ghost use Rattle.phase_step.specs.Turns.{IsWindowFrom};
 ghost use Rattle.phase_step.specs.SolidBlocks.{is_walled_in, HasNoBlocks, HaveAllTiles, AreBlocksOf, DifferIn, IsFar, AreRenewedUpTo};
 
 use block_rule::{SetBlocks, TileBlocks, Window, tile_blocks};
-use gas_plane::{Plane, after, before};
+use gas_plane::Plane;
 use gas_terms::{NoMemory, Rect, Size};
 use std::alloc::Global;
 use std::marker::Model;
@@ -129,58 +129,30 @@ impl Solid {
     }
 }
 
-// Whether `len` cells from `start` on have one of those that the blocks of place k reach, of n places of 64 cells on a circle: its
-// own cells, the one before them and the one after them.
-#[inline]
-fn is_near(start: u32, len: u32, k: u32, n: u32) -> bool
-    requires start { start + len < 2 ^ 31 }
-    requires k { (k < n) × (n ≤ 64) }
-    ensures { result ≡ false → IsFar start len n k }
-{
-    let end = start + len;
-    let from = k * 64;
-    let here = ranges_overlap(start, end, from, from + 64);
-    let left = is_among(before(from, n * 64), start, end);
-    let right = is_among(after(from + 63, n * 64), start, end);
-    here | left | right
-}
-
-// The place after place k that the cells may be near. The first and the last place have each other for a neighbor.
+// Of n places of 64 cells on a circle, the first from place k on that `len` cells from `start` on may be near, or n. A place's blocks
+// reach its own cells, the one before them and the one after them.
 #[inline]
 fn next_near(start: u32, len: u32, k: u32, n: u32) -> u32
     requires start { start + len < 2 ^ 31 }
-    requires k { (k < n) × (n ≤ 64) }
-    ensures order { (k < result) × (result ≤ n) }
-    ensures far { (j : ℕ) → k < j → j < result → IsFar start len n j }
+    requires k { (k ≤ n) × (n ≤ 64) }
+    ensures order { (k ≤ result) × (result ≤ n) }
+    ensures far { (j : ℕ) → k ≤ j → j < result → IsFar start len n j }
 {
-    let next = k + 1;
-    let last = n - 1;
-    let first = ((start + 63) / 64).saturating_sub(1);
-    if next >= last {
-        next
-    } else if next < first {
-        first.min(last)
-    } else if next <= (start + len) / 64 {
-        next
-    } else {
-        last
+    let end = start + len;
+    // The first place and the last have each other for a neighbor.
+    let near_first = (start <= 64) | (n * 64 <= end);
+    if (k == 0) & near_first {
+        return 0;
     }
-}
-
-// Whether the numbers from `start` up to `end` and those from `from` up to `to` begin before the others end.
-#[inline]
-fn ranges_overlap(start: u32, end: u32, from: u32, to: u32) -> bool
-    ensures { result ≡ (nat_lt start to && nat_lt from end) }
-{
-    start < to && from < end
-}
-
-// Whether k is one of the numbers from `start` up to `end`.
-#[inline]
-fn is_among(k: u32, start: u32, end: u32) -> bool
-    ensures { result ≡ (nat_le start k && nat_lt k end) }
-{
-    start <= k && k < end
+    let first = ((start + 63) / 64).saturating_sub(1);
+    let near = k.max(first);
+    if (near < n) & (near <= end / 64) {
+        near
+    } else if (start == 0) & (k < n) {
+        n - 1
+    } else {
+        n
+    }
 }
 
 // The words of tile i are made anew.
@@ -213,12 +185,10 @@ fn renew_row(set: &Plane, area: Rect, row: u32, rows: &mut Vec<u32>, blocks: &mu
     let across = set.across();
     let x = area.x() as u32;
     let w = area.w() as u32;
-    let mut column = 0;
+    let mut column = next_near(x, w, 0, across);
     while column < across {
-        if is_near(x, w, column, across) {
-            renew_tile(set, row * across + column, rows, blocks);
-        }
-        column = next_near(x, w, column, across);
+        renew_tile(set, row * across + column, rows, blocks);
+        column = next_near(x, w, column + 1, across);
     }
 }
 
@@ -232,12 +202,10 @@ fn renew(set: &Plane, area: Rect, rows: &mut Vec<u32>, blocks: &mut Vec<TileBloc
     let down = set.size().height() as u32 / 64;
     let y = area.y() as u32;
     let h = area.h() as u32;
-    let mut row = 0;
+    let mut row = next_near(y, h, 0, down);
     while row < down {
-        if is_near(y, h, row, down) {
-            renew_row(set, area, row, rows, blocks);
-        }
-        row = next_near(y, h, row, down);
+        renew_row(set, area, row, rows, blocks);
+        row = next_near(y, h, row + 1, down);
     }
 }
 

@@ -1,9 +1,22 @@
 use Rattle.std.proofs.Common.{◌≡◌, ◌+◌, ◌*◌, ◌/◌, ◌∙◌, ap, subst, sym, arith}
-use Rattle.gas_terms.specs.Cells.{Cells}
-use Rattle.phase_step.specs.SolidBlocks.{HaveAllTiles, DifferIn, IsFar, AreRenewedUpTo}
+use Rattle.phase_step.specs.SolidBlocks.{AreRenewedUpTo}
 use Rattle.phase_step.proofs.SolidBlocks.{far_columns}
 use Rattle.phase_step.proofs.steps.solid.renew_row.Goals as goal
-use Rattle.phase_step.proofs.steps.solid.renew_row.Goals.{then-is_near, else-is_near}
+
+pub loop-column-init : goal.loop-column-init
+loop-column-init c =
+    let now = c.args.set.now in
+    let row = c.args.row in
+    let across = c.across-across.ensures.across in
+    let order = c.next_near-column.ensures.order in
+    let none : row * (now.width / 64) ≡ row * (now.width / 64) + 0 = omega arith in
+    record {
+      within = omega (arith, order, across);
+      all = c.requires.all;
+      words = λ before differ start.
+          far_columns c.args.area before now c.args.rows.now.items c.args.blocks.now.items c.across-across.ensures.lattice.sized differ row 0 c.next_near-column.result c.x-x.result c.w-w.result c.across-across.result (omega arith) order.1 c.x-x.ensures c.w-w.ensures across
+          c.next_near-column.ensures.far (subst (λ n. AreRenewedUpTo n before now c.args.rows.now.items c.args.blocks.now.items) none start);
+    }
 
 pub loop-column-preserved : goal.loop-column-preserved
 loop-column-preserved c =
@@ -11,30 +24,15 @@ loop-column-preserved c =
     let row = c.args.row in
     let column = c.loop-column.column in
     let across = c.across-across.ensures.across in
-    let one : (before : Cells) → DifferIn c.args.area before now → AreRenewedUpTo (row * (now.width / 64)) before now c.args.rows.now.items c.args.blocks.now.items → AreRenewedUpTo (row * (now.width / 64) + (column + 1)) before now c.if-is_near.rows.items c.if-is_near.blocks.items =
-    elim c.if-is_near.branch [
-      | then-is_near w ↦ λ before differ start.
-          let here = subst (λ n. AreRenewedUpTo n before now c.loop-column.rows.items c.loop-column.blocks.items) (ap (λ a. row * a + column) (sym across)) (c.loop-column.invariant.words before differ start) in
-          let next : row * (now.width / 64) + column + 1 ≡ row * (now.width / 64) + (column + 1) = omega arith in
-          rw (w.rows-is, w.blocks-is)
-          (subst (λ n. AreRenewedUpTo n before now w.renew_tile.new.rows.items w.renew_tile.new.blocks.items) (ap (λ a. row * a + column + 1) across ∙ next) (w.renew_tile.ensures.words before here))
-      | else-is_near w ↦ λ before differ start.
-          rw (w.rows-is, w.blocks-is)
-          (far_columns c.args.area before now c.loop-column.rows.items c.loop-column.blocks.items c.across-across.ensures.lattice.sized differ row column (column + 1) c.x-x.result c.w-w.result c.across-across.result (omega arith) (omega (arith, c.loop-column-test.true)) c.x-x.ensures c.w-w.ensures across
-          (λ k low high. let e : column ≡ k = omega (arith, low, high) in subst (IsFar c.x-x.result c.w-w.result c.across-across.result) e (c.is_near.ensures w.if-is_near.false)) (c.loop-column.invariant.words before differ start))
-    ] in
-    let all : HaveAllTiles now c.if-is_near.rows.items c.if-is_near.blocks.items =
-    elim c.if-is_near.branch [
-      | then-is_near w ↦ rw (w.rows-is, w.blocks-is) w.renew_tile.ensures.all
-      | else-is_near w ↦ rw (w.rows-is, w.blocks-is) c.loop-column.invariant.all
-    ] in
-    let order = c.next_near-column.ensures.order in
+    let order = c.next_near-column-in-loop-column.ensures.order in
     record {
       within = omega (arith, order, across);
-      all = all;
+      all = c.renew_tile.ensures.all;
       words = λ before differ start.
-          far_columns c.args.area before now c.if-is_near.rows.items c.if-is_near.blocks.items c.across-across.ensures.lattice.sized differ row (column + 1) c.next_near-column.result c.x-x.result c.w-w.result c.across-across.result (omega (arith, order)) order.1 c.x-x.ensures c.w-w.ensures across
-          (λ k low high. c.next_near-column.ensures.far k (omega (arith, low)) high) (one before differ start);
+          let here = subst (λ n. AreRenewedUpTo n before now c.loop-column.rows.items c.loop-column.blocks.items) (ap (λ a. row * a + column) (sym across)) (c.loop-column.invariant.words before differ start) in
+          let next : row * (now.width / 64) + column + 1 ≡ row * (now.width / 64) + (column + 1) = omega arith in
+          far_columns c.args.area before now c.renew_tile.new.rows.items c.renew_tile.new.blocks.items c.across-across.ensures.lattice.sized differ row (column + 1) c.next_near-column-in-loop-column.result c.x-x.result c.w-w.result c.across-across.result order.0 order.1 c.x-x.ensures c.w-w.ensures across
+          c.next_near-column-in-loop-column.ensures.far (subst (λ n. AreRenewedUpTo n before now c.renew_tile.new.rows.items c.renew_tile.new.blocks.items) (ap (λ a. row * a + column + 1) across ∙ next) (c.renew_tile.ensures.words before here));
     }
 
 pub returns-clause-words : goal.returns-clause-words
