@@ -24,7 +24,7 @@ use Rattle.block_rule.specs.Classes.{class, AreCounts}
 use Rattle.block_rule.specs.Rows.{ShowsTile}
 use Rattle.block_rule.specs.Shown.{HasNoCell}
 use Rattle.block_rule.specs.declared.count.Classes.{Classes}
-use Rattle.block_rule.proofs.Around.{turned_by_cells, walled_from, walled_by_cells}
+use Rattle.block_rule.proofs.Around.{turned_by_cells}
 use Rattle.block_rule.proofs.Blank.{walled_either}
 use Rattle.gas_terms.specs.declared.accounts.Took.{Took}
 use Rattle.block_rule.proofs.Took.{pair, twice_momentum-same, twice_momentum-none, pair_same, accounts_same, right_count, left_count, down_count, up_count}
@@ -87,9 +87,6 @@ turned_of_held p tile free out window solid shows is_free is_out x y in_row in_c
 pub turned_of_both : (p : ℕ) (tile free out : Tile) (window walls obstacles : ℕ → ℕ → Bool) → ShowsTile window tile → HasCells free (made (turned_cell false) p window) →
     HasCells out (λ x y. if is_walled_at p walls x y || is_walled_at p obstacles x y then has tile x y else has free x y) → HasCells out (turned p window (either walls obstacles))
 turned_of_both p tile free out window walls obstacles shows is_free is_out = grind (arith, turned_of_held, turned_by_cells, walled_either)
-
-pub walled_places : (p : ℕ) (t : Tile) (window : ℕ → ℕ → Bool) → HasCells t (λ x y. walled_from p window x y) → HasCells t (is_walled_at p window)
-walled_places p t window is x y h k = is x y h k ∙ sym (walled_by_cells p window x y)
 
 -- what is put back of them, and what is taken
 pub took_at : (p : ℕ) (tile places : Tile) (test : ℕ → ℕ → Bool) → HasCells places test → twice_momentum p (λ x y. has tile x y && has places x y) ≡ twice_momentum p (λ x y. has tile x y && test x y)

@@ -196,6 +196,24 @@ module _ (b : OddBlocks) (window : ℕ → ℕ → Bool) (are : AreOddBlocksOf b
   pub begin_last : (words : List ℕ) → ((j : ℕ) → j < 32 → get_or words j 0 ≡ get_or b.begin (j + 1) 0) → IsClass words 1 1 (is_walled_at 1 window)
   begin_last words same i j h k = ap (λ w. bit w i) (same j k) ∙ (are.begin i (j + 1) h (omega arith) ∙ ap (λ y. is_walled_at 1 window (2 * i + 1) y) (next_row j))
 
+  -- none of the tile's cells in two rows, if the words of the blocks there have no bit
+  pub none_there : (x y : ℕ) → x < 64 → y < 64 → bit (get_or b.begin (y / 2) 0) (x / 2) ≡ false → bit (get_or b.end (y / 2) 0) (x / 2) ≡ false → bit (get_or b.begin (y / 2 + 1) 0) (x / 2) ≡ false → bit (get_or b.end (y / 2 + 1) 0) (x / 2) ≡ false
+      → is_walled_at 1 window x y ≡ false
+  none_there x y h k begin_above end_above begin_below end_below =
+      elim (cases_eq (x % 2) 0) [
+        | inl even_x ↦ elim (cases_eq (y % 2) 0) [
+          | inl even_y ↦ at 0 0 (omega (arith, even_x)) (omega (arith, even_y)) (sym (end_first b.end (λ _ _. refl) (x / 2) (y / 2) (omega arith) (omega arith)) ∙ end_above)
+          | inr odd_y ↦ at 0 1 (omega (arith, even_x)) (omega (arith, odd_y)) (ap (λ v. is_walled_at 1 window (2 * (x / 2) + 0) v) (sym (next_row (y / 2))) ∙ (sym (are.end (x / 2) (y / 2 + 1) (omega arith) (omega arith)) ∙ end_below))
+        ]
+        | inr odd_x ↦ elim (cases_eq (y % 2) 0) [
+          | inl even_y ↦ at 1 0 (omega (arith, odd_x)) (omega (arith, even_y)) (sym (begin_first b.begin (λ _ _. refl) (x / 2) (y / 2) (omega arith) (omega arith)) ∙ begin_above)
+          | inr odd_y ↦ at 1 1 (omega (arith, odd_x)) (omega (arith, odd_y)) (ap (λ v. is_walled_at 1 window (2 * (x / 2) + 1) v) (sym (next_row (y / 2))) ∙ (sym (are.begin (x / 2) (y / 2 + 1) (omega arith) (omega arith)) ∙ begin_below))
+        ]
+      ]
+    where
+      at : (p q : ℕ) → 2 * (x / 2) + p ≡ x → 2 * (y / 2) + q ≡ y → is_walled_at 1 window (2 * (x / 2) + p) (2 * (y / 2) + q) ≡ false → is_walled_at 1 window x y ≡ false
+      at p q is_x is_y none = sym (ap₂ (is_walled_at 1 window) is_x is_y) ∙ none
+
 pub even_filled : (words : List ℕ) (window : ℕ → ℕ → Bool) → AreEvenBlocksOf words (is_walled_at 0 window) → HasCells (record { even_even = words; odd_even = words; even_odd = words; odd_odd = words }) (is_walled_at 0 window)
 even_filled words window are =
     by_class _ (is_walled_at 0 window) (even_class words window are 0 0 (omega arith) (omega arith)) (even_class words window are 1 0 (omega arith) (omega arith)) (even_class words window are 0 1 (omega arith) (omega arith)) (even_class words window are 1 1 (omega arith) (omega arith))
@@ -235,10 +253,6 @@ tells_either p rows others walled obstructed first second x y h k e =
 
     or_false_right : (a b : Bool) → (a || b) ≡ false → b ≡ false
     or_false_right a b e = grind arith
-
--- the words of cells for even parity
-pub even_blocks_are : (cells : Tile) (test : ℕ → ℕ → Bool) → HasCells cells test → AreEvenBlocksOf cells.even_even test
-even_blocks_are cells test are i j h k = is_even_even cells i j h k ∙ (are (2 * i + 0) (2 * j + 0) (omega arith) (omega arith) ∙ ap₂ test (omega arith) (omega arith))
 
 -- where one set has no blocks those of the other are all
 or_none : (a b : Bool) → b ≡ false → a ≡ (a || b)

@@ -1,4 +1,4 @@
-use Rattle.std.specs.Prelude.{ℕ, ◌<◌, Bool, Option, MatchOption}
+use Rattle.std.specs.Prelude.{◌≡◌, ℕ, ◌*◌, ◌<◌, ◌≤◌, ◌⊎◌, Bool, Option, MatchOption}
 use Rattle.block_rule.specs.Around.{is_walled_at}
 use Rattle.block_rule.specs.Shown.{HasNoCell, TellsRows}
 use Rattle.block_rule.specs.NamedBlocks.{AreEvenBlocksOf, AreOddBlocksOf}
@@ -18,3 +18,8 @@ AreGivenBlocks given test = MatchOption given ((p : ℕ) → p < 2 → HasNoCell
 -- the test of the blocks that have one of a window's cells
 abbrev pub walled_by : (ℕ → ℕ → Bool) → ℕ → ℕ → ℕ → Bool
 walled_by window p x y = is_walled_at p window x y
+
+-- two windows differ in rows 2 * from to 2 * end - 1 alone
+abbrev pub DifferInRows : ℕ → ℕ → (ℕ → ℕ → Bool) → (ℕ → ℕ → Bool) → Type 0
+DifferInRows from end before now =
+    (u v : ℕ) → u ≤ 65 → v ≤ 65 → (v < 2 * from) ⊎ (2 * end ≤ v) → before u v ≡ now u v

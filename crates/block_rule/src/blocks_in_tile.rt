@@ -1,16 +1,17 @@
 //! The blocks of a tile that have a cell of a set.
 
-ghost use Rattle.std.specs.Prelude.{◌≡◌, ℕ, Bool};
+ghost use Rattle.std.specs.Prelude.{◌≡◌, ℕ, ◌*◌, ◌<◌, ◌≤◌, Bool};
 ghost use Rattle.block_rule.specs.Around.{is_walled_at};
-ghost use Rattle.block_rule.specs.Shown.{IsSeenIn};
-ghost use Rattle.block_rule.specs.NamedBlocks.{AreOddBlocksOf};
-ghost use Rattle.block_rule.specs.TileBlocks.{NamesBlocks, walled_by};
+ghost use Rattle.block_rule.specs.Rows.{ShowsTile, ShowsOddRow};
+ghost use Rattle.block_rule.specs.Shown.{IsSeenIn, TellsRows};
+ghost use Rattle.block_rule.specs.NamedBlocks.{AreEvenBlocksOf, AreOddBlocksOf};
+ghost use Rattle.block_rule.specs.TileBlocks.{NamesBlocks, DifferInRows, walled_by};
 
 use crate::Window;
-use crate::blocks::AnyCorner;
-use crate::made::{made_inner, made_odd, make_even};
-use crate::named::odd_cells;
-use crate::odd_rows::{bottom_row, top_row};
+use crate::blocks::{AnyCorner, Blocks, Rule};
+use crate::made::made_odd;
+use crate::odd_rows::{OddRow, bottom_row, inner_row, top_row};
+use bit_tile::Tile;
 
 /// Blocks of a tile at odd parity: words for the row of blocks at its top, those that begin in its odd rows 0 to 30, and the one at
 /// its bottom. Bit i of a word stands for the block that begins in odd column i, or that ends in even column i.
@@ -28,6 +29,86 @@ pub struct TileBlocks {
     pub odd: OddBlocks,
 }
 
+/// A reference to such words, and a word with a bit for each pair of the tile's rows: bit j is 0 only if no block of either parity
+/// lies in rows 2 * j and 2 * j + 1.
+#[derive(Clone, Copy)]
+pub struct SetBlocks<'a> {
+    pub rows: u32,
+    pub blocks: &'a TileBlocks,
+}
+
+// The row of odd blocks that begins at the window's row 2 * k.
+#[inline]
+fn odd_row(set: &Window, k: usize) -> OddRow
+    requires { k < 33 }
+    ensures { (window : ℕ → ℕ → Bool) → IsSeenIn set.now window →
+        ShowsOddRow window (2 * k) result }
+{
+    let near = &set.round;
+    match k {
+        0 => top_row(set.tile, near),
+        32 => bottom_row(set.tile, near),
+        _ => inner_row(set.tile, near.left, near.right, k - 1),
+    }
+}
+
+// Those of odd parity become the set's.
+fn renew_odd(words: &mut OddBlocks, set: &Window, from: usize, end: usize)
+    requires { end ≤ 33 }
+    ensures { (before now : ℕ → ℕ → Bool) → IsSeenIn set.now now →
+        DifferInRows from end before now →
+        AreOddBlocksOf words.old (is_walled_at 1 before) →
+        AreOddBlocksOf words.new (is_walled_at 1 now) }
+{
+    for k in from..end {
+        let named = made_odd(AnyCorner, odd_row(set, k));
+        words.begin[k] = named.upper_left;
+        words.end[k] = named.upper_right;
+    }
+}
+
+// And those of even parity.
+fn renew_even(words: &mut [u32; 32], set: &Tile, from: usize, end: usize)
+    requires { end ≤ 33 }
+    ensures { (before now : ℕ → ℕ → Bool) → ShowsTile now set.now →
+        DifferInRows from end before now →
+        AreEvenBlocksOf words.old (is_walled_at 0 before) →
+        AreEvenBlocksOf words.new (is_walled_at 0 now) }
+{
+    for j in from.saturating_sub(1)..end.min(32) {
+        let named = AnyCorner.made(Blocks {
+            upper_left: set.even_even[j],
+            upper_right: set.odd_even[j],
+            lower_left: set.even_odd[j],
+            lower_right: set.odd_odd[j],
+        });
+        words[j] = named.upper_left;
+    }
+}
+
+// A word that tells in which of the tile's rows the blocks lie, if `rows` did before.
+fn renew_rows(rows: u32, blocks: &TileBlocks, from: usize, end: usize) -> u32
+    requires { end ≤ 33 }
+    ensures { (before now : ℕ → ℕ → Bool) → DifferInRows from end before now →
+        AreEvenBlocksOf blocks.now.even (is_walled_at 0 now) →
+        AreOddBlocksOf blocks.now.odd (is_walled_at 1 now) →
+        ((p : ℕ) → p < 2 → TellsRows rows (walled_by before p)) →
+        (p : ℕ) → p < 2 → TellsRows result (walled_by now p) }
+{
+    let TileBlocks { even, odd } = blocks;
+    let mut told = rows;
+    for j in from.saturating_sub(1)..end.min(32) {
+        let above = odd.begin[j] | odd.end[j];
+        let below = odd.begin[j + 1] | odd.end[j + 1];
+        if even[j] | above | below != 0 {
+            told |= 1 << j;
+        } else {
+            told &= !(1 << j);
+        }
+    }
+    told
+}
+
 impl TileBlocks {
     /// No block.
     pub const NONE: TileBlocks = TileBlocks {
@@ -37,49 +118,28 @@ impl TileBlocks {
             end: [0; 33],
         },
     };
-}
 
-/// A reference to such words, and a word with a bit for each pair of the tile's rows: bit j is 0 only if no block of either parity
-/// lies in rows 2 * j and 2 * j + 1.
-#[derive(Clone, Copy)]
-pub struct SetBlocks<'a> {
-    pub rows: u32,
-    pub blocks: &'a TileBlocks,
-}
-
-// Those of odd parity that have a cell of the set.
-fn odd_blocks(set: &Window) -> OddBlocks
-    ensures { (window : ℕ → ℕ → Bool) → IsSeenIn set.now window →
-        AreOddBlocksOf result (is_walled_at 1 window) }
-{
-    let tile = set.tile;
-    let near = set.round;
-    let top = made_odd(AnyCorner, top_row(tile, &near));
-    let mut begin = [0; 33];
-    let mut end = [0; 33];
-    begin[0] = top.upper_left;
-    end[0] = top.upper_right;
-    for j in 0..31usize {
-        let row = made_inner(AnyCorner, tile, near.left, near.right, j);
-        begin[j + 1] = row.upper_left;
-        end[j + 1] = row.upper_right;
+    /// They become the blocks with a cell of the set, if they were those of a set that differs from it in rows 2 * from to
+    /// 2 * end - 1 of the window alone. `rows` tells in which of the tile's rows they lay; returns the word that tells it now.
+    pub fn renew(&mut self, rows: u32, set: &Window, from: usize, end: usize) -> u32
+        requires { end ≤ 33 }
+        ensures { (before now : ℕ → ℕ → Bool) → IsSeenIn set.now now →
+            DifferInRows from end before now →
+            NamesBlocks rows self.old (walled_by before) →
+            NamesBlocks result self.new (walled_by now) }
+    {
+        renew_even(&mut self.even, set.tile, from, end);
+        renew_odd(&mut self.odd, set, from, end);
+        renew_rows(rows, self, from, end)
     }
-    let bottom = made_odd(AnyCorner, bottom_row(tile, &near));
-    begin[32] = bottom.upper_left;
-    end[32] = bottom.upper_right;
-    OddBlocks { begin, end }
 }
 
-/// The blocks with a cell of the set, and a word that tells in which of the tile's rows they lie, of either parity.
-#[inline(never)]
+/// The blocks of a tile with a cell of the set, and a word that tells in which of the tile's rows they lie, of either parity.
 pub fn tile_blocks(set: &Window) -> (u32, TileBlocks)
     ensures { (window : ℕ → ℕ → Bool) → IsSeenIn set.now window →
         NamesBlocks result.0 result.1 (walled_by window) }
 {
-    let mut even = *set.tile;
-    make_even(AnyCorner, &mut even);
-    let odd = odd_blocks(set);
-    let rows = even.rows_with_cells() | odd_cells(&odd).rows_with_cells();
-    let even = even.even_even;
-    (rows, TileBlocks { even, odd })
+    let mut blocks = TileBlocks::NONE;
+    let rows = blocks.renew(0, set, 0, 33);
+    (rows, blocks)
 }

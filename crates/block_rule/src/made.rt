@@ -3,10 +3,10 @@
 ghost use Rattle.std.specs.Prelude.{◌≡◌, ℕ, ◌+◌, ◌*◌, ◌/◌, ◌<◌, ◌≤◌, ◌⊎◌, Bool, slice_index};
 ghost use Rattle.bit_tile.specs.Tile.{HasCells};
 ghost use Rattle.block_rule.specs.Cell.{made};
-ghost use Rattle.block_rule.specs.Rows.{ShowsTile, ShowsAllRound, ShowsOddRow, ShowsInnerRows, IsMadeOdd, AreMadeOdd, odd_row, eight_row};
+ghost use Rattle.block_rule.specs.Rows.{ShowsTile, ShowsOddRow, IsMadeOdd, odd_row, eight_row};
 
 use crate::blocks::{Blocks, EightRows, Rule, next, previous};
-use crate::odd_rows::{OddRow, inner_row};
+use crate::odd_rows::OddRow;
 use bit_tile::Tile;
 
 /// Even parity: blocks begin at even columns and rows, so each lies in the tile, which is overwritten.
@@ -55,16 +55,6 @@ pub fn made_odd<R: Rule>(rule: R, row: OddRow) -> Blocks
         lower_left: begin.lower_left,
         lower_right: end.lower_right,
     }
-}
-
-/// The row of odd blocks that begins in the tile's odd row j, and ends in the tile.
-#[inline]
-pub fn made_inner<R: Rule>(rule: R, tile: &Tile, left: &Tile, right: &Tile, j: usize) -> Blocks
-    requires { j < 31 }
-    ensures { (window : ℕ → ℕ → Bool) → ShowsInnerRows window tile.now left.now right.now →
-        IsMadeOdd (R.cell rule) window (2 * j + 2) result }
-{
-    made_odd(rule, inner_row(tile, left, right, j))
 }
 
 /// Writes eight rows of odd blocks. All are made before the first is written, so that the compiler makes them as vectors, wherever

@@ -155,6 +155,13 @@ fn particles_of_named_blocks_stay(rt: HostRuntime) {
     let took = turn_tile_even(&mut tile, given(&named), None, Counted::BOTH);
     expect_that(&rt, has_just(&tile, [(1, 1), (10, 10)].as_slice()));
     expect_same(&rt, (took.walls, took.obstacles), (pair(2, 2), pair(0, 0)));
+
+    // Without those cells, in rows 11 and 12 of the window, no block is walled.
+    let none = Tile::empty();
+    let near = no_border().neighbors();
+    let (rows, mut blocks) = named;
+    expect_same(&rt, blocks.renew(rows, &window(&none, &near), 5, 7), 0);
+    expect_same(&rt, blocks.even[5], 0);
 }
 
 /// A particle of a walled block and one of an obstructed block stay, whatever is counted. At an even tick they were on their way

@@ -16,7 +16,7 @@ use Rattle.phase_step.specs.Turns.{IsPlaceOf}
 use Rattle.phase_step.specs.declared.parts.Part.{Part}
 use Rattle.phase_step.proofs.PhaseSweeps.{place_is}
 use Rattle.phase_step.proofs.RowPlaces.{row_turns, row_seen}
-use Rattle.phase_step.proofs.SolidBlocks.{view_of}
+use Rattle.phase_step.specs.SolidBlocks.{view_of}
 
 -- the tile of the lattice that tile i is: its column and row of tiles
 pub column_there : (part : Part) (a i : ℕ) → 0 < a → tile_in part a i % a ≡ i % a

@@ -1,5 +1,5 @@
 -- The blocks with a cell of a set: by what its tiles show, and after the set has changed in a rectangle.
-use Rattle.std.proofs.Common.{◌≡◌, ℕ, zero, suc, ◌+◌, ◌-◌, ◌*◌, ◌/◌, ◌%◌, ◌<◌, ◌≤◌, Bool, true, false, ◌&&◌, not, nat_le, nat_lt, List, Option, Some, None, get_or, set, length, replicate, inl, inr, refl, sym, ◌∙◌, ap, ap₂, subst, arith, get_or-set_same, get_or-set_other}
+use Rattle.std.proofs.Common.{◌≡◌, ◌⊎◌, ℕ, zero, suc, ◌+◌, ◌-◌, ◌*◌, ◌/◌, ◌%◌, ◌<◌, ◌≤◌, Bool, true, false, ◌&&◌, not, nat_le, nat_lt, List, Option, Some, None, get_or, set, length, replicate, inl, inr, refl, sym, ◌∙◌, ap, ap₂, subst, arith, get_or-set_same, get_or-set_other}
 use Rattle.std.proofs.lemmas.Bool.{cases_eq, cases_lt}
 use Rattle.std.proofs.lemmas.Bool.Decides.{nat_tests}
 use Rattle.std.proofs.lemmas.Nat.{mod-mul-add}
@@ -9,8 +9,7 @@ use Rattle.gas_terms.specs.Velocity.{has_parity}
 use Rattle.gas_terms.specs.Cells.{Cells, Rectangle, HasSidesOf, has, cells_where, filled, cleared, extent, is_size, is_inside, tile_count, tile_rectangle}
 use Rattle.gas_terms.proofs.Blocks.{cell_walled}
 use Rattle.gas_terms.proofs.Cells.{has-cells_where, full-cells_where}
-use Rattle.bit_tile.specs.Bit.{bit}
-use Rattle.bit_tile.proofs.Bits.{bit-zero, get_or-replicate_zero}
+use Rattle.bit_tile.proofs.Bits.{bit-zero}
 use Rattle.gas_plane.specs.Planes.{IsLattice, HasNone}
 use Rattle.gas_plane.proofs.Painting.{outside_columns, outside_rows}
 use Rattle.gas_plane.proofs.Places.{wide, high}
@@ -24,17 +23,14 @@ use Rattle.block_rule.specs.Shown.{IsSeenIn}
 use Rattle.block_rule.specs.declared.Window.{Window}
 use Rattle.block_rule.proofs.Torus.{walled_same, window_is_view}
 use Rattle.phase_step.specs.Turns.{IsWindowFrom}
-use Rattle.phase_step.proofs.TurnedTiles.{bare_view, bare_window, border_near, tile_window, window_seen}
-use Rattle.phase_step.specs.SolidBlocks.{no_words, blocks_at, is_walled_in, HaveAllTiles, AreBlocksOf, DifferIn, IsFar, AreRenewedUpTo}
+use Rattle.phase_step.proofs.TurnedTiles.{bare_view, bare_window, border_near, tile_window, window_seen, window_view}
+use Rattle.phase_step.specs.SolidBlocks.{no_words, blocks_at, is_walled_in, view_of, window_of, is_reached, HaveAllTiles, AreBlocksOf, DifferIn, IsFar, IsNearIn, AreRenewedUpTo}
 use Rattle.phase_step.proofs.PhaseSweeps.{place_is, sized_as, tiles_as}
-use Rattle.block_rule.specs.TileBlocks.{AreGivenBlocks, walled_by}
+use Rattle.block_rule.specs.TileBlocks.{AreGivenBlocks, DifferInRows, walled_by}
+use Rattle.block_rule.proofs.BlockNames.{zero_words, nothing_named}
 use Rattle.block_rule.specs.declared.blocks_in_tile.SetBlocks.{SetBlocks}
 use Rattle.gas_terms.specs.Gas.{site_of, is_walled}
 use Rattle.phase_step.specs.Turns.{IsPlaceOf}
-
--- what the torus has round a place
-abbrev pub view_of : Cells → ℕ → ℕ → ℕ → ℕ → Bool
-view_of cells x0 y0 i j = has cells ((x0 + i + cells.width - 1) % cells.width) ((y0 + j + cells.height - 1) % cells.height)
 
 -- what is named by one test is named by another that says the same
 pub names_same : (told : ℕ) (b : TileBlocks) (test other : ℕ → ℕ → ℕ → Bool) → ((p x y : ℕ) → p < 2 → x < 64 → y < 64 → test p x y ≡ other p x y) → NamesBlocks told b test → NamesBlocks told b other
@@ -79,17 +75,35 @@ abbrev pub row_of : Cells → ℕ → ℕ → ℕ
 row_of set i v = ((tile_rectangle set i).y + v + set.height - 1) % set.height
 
 -- so they stay if the set changes elsewhere
-module _ (area : Rectangle) (before now : Cells) (differ : DifferIn area before now) (sized : is_size (extent now) ≡ true) (i : ℕ) (within : i < tile_count now) (far : (u v : ℕ) → u ≤ 65 → v ≤ 65 → is_inside area (column_of now i u) (row_of now i v) ≡ false) where
-  views_same : (u v : ℕ) → u ≤ 65 → v ≤ 65 → view_of before (tile_rectangle before i).x (tile_rectangle before i).y u v ≡ view_of now (tile_rectangle now i).x (tile_rectangle now i).y u v
-  views_same u v h k = grind (arith, has, wide, high, mod-lt, extent)
+module _ (area : Rectangle) (before now : Cells) (differ : DifferIn area before now) (sized : is_size (extent now) ≡ true) (i : ℕ) (within : i < tile_count now) where
+  pub window_same : (u v : ℕ) → u ≤ 65 → v ≤ 65 → is_inside area (column_of now i u) (row_of now i v) ≡ false → window_of before i u v ≡ window_of now i u v
+  window_same u v h k far = grind (arith, has, wide, high, mod-lt, extent)
 
-  pub stay : (p x y : ℕ) → p < 2 → x < 64 → y < 64 → is_walled_in before i p x y ≡ is_walled_in now i p x y
-  stay p x y two h k =
+  pub stay : ((u v : ℕ) → u ≤ 65 → v ≤ 65 → is_inside area (column_of now i u) (row_of now i v) ≡ false) → (p x y : ℕ) → p < 2 → x < 64 → y < 64 → is_walled_in before i p x y ≡ is_walled_in now i p x y
+  stay far p x y two h k =
       let back : HasSidesOf now before = record { wide = sym differ.sides.wide; high = sym differ.sides.high } in
       let there : i < tile_count before = subst (λ n. i < n) (tiles_as now before back) within in
-      sym (walled_here before i (sized_as now before back sized) there p two (view_of before (tile_rectangle before i).x (tile_rectangle before i).y) (record { cell = λ _ _ _ _. refl }) x y h k)
-      ∙ (walled_alike p (view_of before (tile_rectangle before i).x (tile_rectangle before i).y) (view_of now (tile_rectangle now i).x (tile_rectangle now i).y) x y h k views_same
-      ∙ walled_here now i sized within p two (view_of now (tile_rectangle now i).x (tile_rectangle now i).y) (record { cell = λ _ _ _ _. refl }) x y h k)
+      sym (walled_here before i (sized_as now before back sized) there p two (window_of before i) (record { cell = λ _ _ _ _. refl }) x y h k)
+      ∙ (walled_alike p (window_of before i) (window_of now i) x y h k (λ u v b c. window_same u v b c (far u v b c))
+      ∙ walled_here now i sized within p two (window_of now i) (record { cell = λ _ _ _ _. refl }) x y h k)
+
+-- words that are renewed, from those of another set
+pub named_again : (before now : Cells) (i from end rows told : ℕ) (old new : TileBlocks) (w : Window) → HasSidesOf before now → is_size (extent now) ≡ true → i < tile_count now → IsWindowFrom w now (tile_rectangle now i).x (tile_rectangle now i).y → DifferInRows from end (window_of before i) (window_of now i)
+    → ((some other : ℕ → ℕ → Bool) → IsSeenIn w other → DifferInRows from end some other → NamesBlocks rows old (walled_by some) → NamesBlocks told new (walled_by other)) → NamesBlocks rows old (is_walled_in before i) → NamesBlocks told new (is_walled_in now i)
+named_again before now i from end rows told old new w sides sized within seen differ renew are =
+    let back : HasSidesOf now before = record { wide = sym sides.wide; high = sym sides.high } in
+    let there : i < tile_count before = subst (λ n. i < n) (tiles_as now before back) within in
+    let place = place now i sized within in
+    let near = around w.tile.now (border_near w.round).0 in
+    let view = window_view i now now w refl refl place.right place.bottom seen in
+    names_same told new (λ p. is_walled_at p near) (is_walled_in now i)
+    (λ p x y two h k. walled_here now i sized within p two near (near_view p two view) x y h k)
+    (renew (window_of before i) near (window_seen w) (λ u v h k far. differ u v h k far ∙ sym (view.cell u v (omega (arith, h)) (omega (arith, k))))
+    (names_same rows old (is_walled_in before i) (walled_by (window_of before i))
+    (λ p x y two h k. sym (walled_here before i (sized_as now before back sized) there p two (window_of before i) (record { cell = λ _ _ _ _. refl }) x y h k)) are))
+  where
+    near_view : (p : ℕ) → p < 2 → IsView 1 (around w.tile.now (border_near w.round).0) now (tile_rectangle now i).x (tile_rectangle now i).y → IsView p (around w.tile.now (border_near w.round).0) now (tile_rectangle now i).x (tile_rectangle now i).y
+    near_view p two view = record { cell = λ u v h k. view.cell u v (omega (arith, h)) (omega (arith, k)) }
 
 -- the words are renewed tile by tile
 pub renewed_next : (i word : ℕ) (b : TileBlocks) (before now : Cells) (told : List ℕ) (words : List TileBlocks) → i < tile_count now → HaveAllTiles now told words → NamesBlocks word b (is_walled_in now i) → AreRenewedUpTo i before now told words → AreRenewedUpTo (i + 1) before now (set told i word) (set words i b)
@@ -119,8 +133,8 @@ renewed_ends n before now told words all have so_far = grind (arith)
 cell_first : (n a : ℕ) → 0 < n → a ≡ 0 → (a + n * 64 - 1) % (n * 64) ≡ n * 64 - 1
 cell_first n a some none = ap (λ m. m % (n * 64)) (let e : a + n * 64 - 1 ≡ 0 * (n * 64) + (n * 64 - 1) = omega (arith, none) in e) ∙ mod-mul-add 0 (n * 64) (n * 64 - 1) (omega (arith, some))
 
-cell_within : (n j u : ℕ) → 1 ≤ j * 64 + u → j * 64 + u ≤ n * 64 → (j * 64 + u + n * 64 - 1) % (n * 64) ≡ j * 64 + u - 1
-cell_within n j u some less = grind (arith, mod-mul-add)
+cell_of_window : (n j u : ℕ) → 1 ≤ j * 64 + u → j * 64 + u ≤ n * 64 → (j * 64 + u + n * 64 - 1) % (n * 64) ≡ j * 64 + u - 1
+cell_of_window n j u some less = grind (arith, mod-mul-add)
 
 cell_round : (n j u : ℕ) → j < n → u ≤ 65 → n * 64 < j * 64 + u → (j * 64 + u + n * 64 - 1) % (n * 64) ≡ 0
 cell_round n j u within small more = ap (λ m. m % (n * 64)) (let e : j * 64 + u + n * 64 - 1 ≡ 2 * (n * 64) + 0 = omega (arith, within, small, more) in e) ∙ mod-mul-add 2 (n * 64) 0 (omega (arith, within))
@@ -131,36 +145,56 @@ below start c end less = grind (arith, nat_tests)
 above : (start c end : ℕ) → end ≤ c → (nat_le start c && nat_lt c end) ≡ false
 above start c end less = grind (arith, nat_tests)
 
-pub far_before : (start len n j : ℕ) → j < n → j * 64 + 64 < start → (j ≡ 0 → start + len < n * 64) → IsFar start len n j
-far_before start len n j within less seam u small =
-    elim (cases_eq (j * 64 + u) 0) [
-      | inl none ↦ rw (cell_first n (j * 64 + u) (omega (arith, within)) none) (let high = seam (omega (arith, none)) in above start (n * 64 - 1) (start + len) (omega (arith, high)))
-      | inr some ↦ elim (cases_lt (n * 64) (j * 64 + u)) [
-        | inl round ↦ rw (cell_round n j u within small round) (below start 0 (start + len) (omega (arith, less)))
-        | inr here ↦ rw (cell_within n j u (omega (arith, some)) (omega (arith, here))) (below start (j * 64 + u - 1) (start + len) (omega (arith, less, small)))
+-- cell u of the window of place k
+pub not_reached : (start len n k u : ℕ) → k < n → u ≤ 65 → (k ≡ 0 → u ≡ 0 → start + len < n * 64) → (k + 1 ≡ n → u ≡ 65 → 0 < start) → (k * 64 + u < start + 1) ⊎ (start + len < k * 64 + u) → is_reached start len n k u ≡ false
+not_reached start len n k u within small top bottom there =
+    elim (cases_eq (k * 64 + u) 0) [
+      | inl none ↦ rw (cell_first n (k * 64 + u) (omega (arith, within)) none) (let high = top (omega (arith, none)) (omega (arith, none)) in above start (n * 64 - 1) (start + len) (omega (arith, high)))
+      | inr some ↦ elim (cases_lt (n * 64) (k * 64 + u)) [
+        | inl round ↦ rw (cell_round n k u within small round) (below start 0 (start + len) (bottom (omega (arith, within, small, round)) (omega (arith, within, small, round))))
+        | inr here ↦ rw (cell_of_window n k u (omega (arith, some)) (omega (arith, here))) (elim there [ inl less ↦ below start (k * 64 + u - 1) (start + len) (omega (arith, less, some)) | inr more ↦ above start (k * 64 + u - 1) (start + len) (omega (arith, more)) ])
       ]
     ]
 
-pub far_after : (start len n j : ℕ) → j < n → 0 < j → start + len < j * 64 → (j + 1 ≡ n → 0 < start) → IsFar start len n j
-far_after start len n j within some less seam u small =
-    elim (cases_lt (n * 64) (j * 64 + u)) [
-      | inl round ↦ rw (cell_round n j u within small round) (below start 0 (start + len) (seam (omega (arith, within, small, round))))
-      | inr here ↦ rw (cell_within n j u (omega (arith, some)) (omega (arith, here))) (above start (j * 64 + u - 1) (start + len) (omega (arith, less)))
-    ]
+pub far_before : (start len n j : ℕ) → j < n → j * 64 + 64 < start → (j ≡ 0 → start + len < n * 64) → IsFar start len n j
+far_before start len n j within less seam u small = not_reached start len n j u within small (λ e _. seam e) (λ _ _. omega (arith, less)) (inl (omega (arith, less, small)))
 
-far_there : (start len n k a l size : ℕ) → start ≡ a → len ≡ l → n * 64 ≡ size → IsFar start len n k → (u : ℕ) → u ≤ 65 → (nat_le a ((k * 64 + u + size - 1) % size) && nat_lt ((k * 64 + u + size - 1) % size) (a + l)) ≡ false
-far_there start len n k a l size is_start is_len is_size far u small = rw (← is_start, ← is_len, ← is_size) (far u small)
+pub far_after : (start len n j : ℕ) → j < n → 0 < j → start + len < j * 64 → (j + 1 ≡ n → 0 < start) → IsFar start len n j
+far_after start len n j within some less seam u small = not_reached start len n j u within small (λ e _. absurd (omega (arith, e, some))) (λ e _. seam e) (inr (omega (arith, less)))
+
+pub near_in : (start len k n first last : ℕ) → k < n → last ≤ 33 → ((u : ℕ) → u < 2 * first → k * 64 + u < start + 1) → ((u : ℕ) → u ≤ 65 → 2 * last ≤ u → start + len < k * 64 + u) → (k ≡ 0 → n * 64 ≤ start + len → (first ≡ 0) × (1 ≤ last)) → (k + 1 ≡ n → start ≡ 0 → (first ≡ 0) × (last ≡ 33))
+    → IsNearIn first last start len n k
+near_in start len k n first last inside few low high top bottom =
+    record {
+      within = few;
+      outside = λ u small far.
+          not_reached start len n k u inside small
+          (λ e f.
+          elim (cases_lt (start + len) (n * 64)) [
+            | inl less ↦ less
+            | inr more ↦ let all = top e more in absurd (elim far [ inl before ↦ omega (arith, before, all.0) | inr after ↦ omega (arith, after, f, all.1) ])
+          ])
+          (λ e f.
+          elim (cases_eq start 0) [
+            | inl none ↦ let all = bottom e none in absurd (elim far [ inl before ↦ omega (arith, before, all.0) | inr after ↦ omega (arith, after, small, all.1) ])
+            | inr some ↦ omega (arith, some)
+          ])
+          (elim far [ inl before ↦ inl (low u before) | inr after ↦ inr (high u small after) ]);
+    }
+
+reached_there : (start len n k a l size u : ℕ) → start ≡ a → len ≡ l → n * 64 ≡ size → is_reached start len n k u ≡ false → (nat_le a ((k * 64 + u + size - 1) % size) && nat_lt ((k * 64 + u + size - 1) % size) (a + l)) ≡ false
+reached_there start len n k a l size u is_start is_len is_size none = rw (← is_start, ← is_len, ← is_size) none
 
 -- a tile in columns of tiles, or in rows of tiles, that the rectangle does not reach
-column_in : (across row from to i : ℕ) → to ≤ across → row * across + from ≤ i → i < row * across + to → (from ≤ i % across) × (i % across < to)
-column_in across row from to i few low high = grind (arith, mod-mul-add)
+column_between : (across row from to i : ℕ) → to ≤ across → row * across + from ≤ i → i < row * across + to → (from ≤ i % across) × (i % across < to)
+column_between across row from to i few low high = grind (arith, mod-mul-add)
 
 positive : (across to i : ℕ) → i < to * across → 0 < across
 positive zero to i below = absurd (omega (arith, below))
 positive (suc n) to i below = omega arith
 
-row_in : (across from to i : ℕ) → from * across ≤ i → i < to * across → (from ≤ i / across) × (i / across < to)
-row_in across from to i low below =
+row_between : (across from to i : ℕ) → from * across ≤ i → i < to * across → (from ≤ i / across) × (i / across < to)
+row_between across from to i low below =
     let some : 0 < across = positive across to i below in
     ((le-div_iff_mul-le some).1 low, (div-lt_iff_lt-mul some).1 below)
 
@@ -171,9 +205,9 @@ module _ (area : Rectangle) (before now : Cells) (told : List ℕ) (words : List
       renewed_past _ _ before now told words (omega arith)
       (λ i low high within. stay area before now differ sized i within
       (λ u v h k.
-      let there = column_in (now.width / 64) row from to i (omega (arith, few, is_n)) low high in
+      let there = column_between (now.width / 64) row from to i (omega (arith, few, is_n)) low high in
       outside_columns area (column_of now i u) (row_of now i v)
-      (far_there start len n (i % (now.width / 64)) area.x area.w now.width is_start is_len (ap (λ n. n * 64) is_n ∙ (wide (extent now) sized).tiles) (far (i % (now.width / 64)) there.0 there.1) u h)))
+      (reached_there start len n (i % (now.width / 64)) area.x area.w now.width u is_start is_len (ap (λ n. n * 64) is_n ∙ (wide (extent now) sized).tiles) (far (i % (now.width / 64)) there.0 there.1 u h))))
 
   pub far_rows : (from to start len n : ℕ) → from ≤ to → start ≡ area.y → len ≡ area.h → n ≡ now.height / 64 → ((k : ℕ) → from ≤ k → k < to → IsFar start len n k)
       → AreRenewedUpTo (from * (now.width / 64)) before now told words → AreRenewedUpTo (to * (now.width / 64)) before now told words
@@ -181,9 +215,15 @@ module _ (area : Rectangle) (before now : Cells) (told : List ℕ) (words : List
       renewed_past _ _ before now told words (mul-le-mul_right (now.width / 64) up)
       (λ i low high within. stay area before now differ sized i within
       (λ u v h k.
-      let there = row_in (now.width / 64) from to i low high in
+      let there = row_between (now.width / 64) from to i low high in
       outside_rows area (column_of now i u) (row_of now i v)
-      (far_there start len n (i / (now.width / 64)) area.y area.h now.height is_start is_len (ap (λ n. n * 64) is_n ∙ (high_of (extent now) sized).tiles) (far (i / (now.width / 64)) there.0 there.1) v k)))
+      (reached_there start len n (i / (now.width / 64)) area.y area.h now.height v is_start is_len (ap (λ n. n * 64) is_n ∙ (high_of (extent now) sized).tiles) (far (i / (now.width / 64)) there.0 there.1 v k))))
+
+-- a tile's window before and after
+pub windows_differ : (area : Rectangle) (before now : Cells) (i from end row : ℕ) → DifferIn area before now → is_size (extent now) ≡ true → i < tile_count now → i / (now.width / 64) ≡ row → IsNearIn from end area.y area.h (now.height / 64) row → DifferInRows from end (window_of before i) (window_of now i)
+windows_differ area before now i from end row differ sized within e near u v h k far =
+    window_same area before now differ sized i within u v h k
+    (outside_rows area (column_of now i u) (row_of now i v) (reached_there area.y area.h (now.height / 64) (i / (now.width / 64)) area.y area.h now.height v refl refl (high_of (extent now) sized).tiles (rw e (near.outside v k far))))
 
 -- the words of a tile are read
 pub none_named : (told : ℕ) (b : TileBlocks) (test : ℕ → ℕ → ℕ → Bool) → told ≡ 0 → NamesBlocks told b test → (p : ℕ) → p < 2 → (x y : ℕ) → x < 64 → y < 64 → test p x y ≡ false
@@ -196,9 +236,6 @@ pub all_rows : (set : Cells) (row : ℕ) → set.height / 64 ≤ row → tile_co
 all_rows set row down = omega (arith, mul_comm (set.width / 64) (set.height / 64), mul-le-mul_right (set.width / 64) down)
 
 -- without cells no block is named
-abbrev pub zero_words : TileBlocks
-zero_words = record { even = replicate 32 0; odd = record { begin = replicate 33 0; end = replicate 33 0 } }
-
 pub none_walled : (set : Cells) → IsLattice set → HasNone set → (i : ℕ) → i < tile_count set → (p : ℕ) → p < 2 → (x y : ℕ) → x < 64 → y < 64 → is_walled_in set i p x y ≡ false
 none_walled set lattice none i within p two x y h k =
     let place = place set i lattice.sized within in
@@ -207,14 +244,7 @@ none_walled set lattice none i within p two x y h k =
 module _ (set : Cells) (lattice : IsLattice set) (none : HasNone set) (n : ℕ) (told : List ℕ) (words : List TileBlocks) (count : n ≡ tile_count set) (of_told : told ≡ replicate n 0) (of_words : words ≡ replicate n zero_words) where
   zeros_name : (test : ℕ → ℕ → ℕ → Bool) → ((p x y : ℕ) → p < 2 → x < 64 → y < 64 → test p x y ≡ false) → NamesBlocks 0 zero_words test
   zeros_name test none =
-      record {
-        even = λ i j h k. ap (λ w. bit w i) (get_or-replicate_zero 32 j) ∙ (bit-zero i ∙ sym (none 0 (2 * i) (2 * j) (omega arith) (omega arith) (omega arith)));
-        odd = record {
-          begin = λ i k h below. ap (λ w. bit w i) (get_or-replicate_zero 33 k) ∙ (bit-zero i ∙ sym (none 1 (2 * i + 1) (2 * k - 1) (omega arith) (omega arith) (omega arith)));
-          end = λ i k h below. ap (λ w. bit w i) (get_or-replicate_zero 33 k) ∙ (bit-zero i ∙ sym (none 1 (2 * i + 0) (2 * k - 1) (omega arith) (omega arith) (omega arith)));
-        };
-        rows = λ p two x y h k e. none p x y two h k;
-      }
+      names_same 0 zero_words (walled_by none_there) test (λ p x y two h k. sym (none p x y two h k)) nothing_named
 
   pub no_blocks_named : AreBlocksOf set told words
   no_blocks_named =

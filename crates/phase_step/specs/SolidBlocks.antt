@@ -1,5 +1,5 @@
 -- The blocks with a cell of a set, tile by tile.
-use Rattle.std.specs.Prelude.{◌≡◌, ℕ, ◌+◌, ◌-◌, ◌*◌, ◌%◌, ◌<◌, ◌≤◌, ◌&&◌, nat_le, nat_lt, Bool, false, List, [], length, slice_index, slice_index_or}
+use Rattle.std.specs.Prelude.{◌≡◌, ℕ, ◌+◌, ◌-◌, ◌*◌, ◌%◌, ◌<◌, ◌≤◌, ◌⊎◌, ◌&&◌, nat_le, nat_lt, Bool, false, List, [], length, slice_index, slice_index_or}
 use Rattle.gas_terms.specs.Cells.{Cells, Rectangle, HasSidesOf, has, is_inside, tile_count, tile_rectangle}
 use Rattle.gas_terms.specs.Gas.{site_of, is_walled}
 use Rattle.block_rule.specs.Shown.{HasNoCell}
@@ -46,10 +46,29 @@ pub record DifferIn (area : Rectangle) (before now : Cells) : Type 0 where
   pub outside : (x y : ℕ) → x < now.width → y < now.height → is_inside area x y ≡ false
       → has before x y ≡ has now x y
 
--- `len` cells from `start` on have none of those that the blocks of place k reach, of n places of 64 cells on a circle
+-- what a window that begins at the place (x, y) shows of a set, one cell before it
+abbrev pub view_of : Cells → ℕ → ℕ → ℕ → ℕ → Bool
+view_of set x y i j =
+    has set ((x + i + set.width - 1) % set.width) ((y + j + set.height - 1) % set.height)
+
+abbrev pub window_of : Cells → ℕ → ℕ → ℕ → Bool
+window_of set i = view_of set (tile_rectangle set i).x (tile_rectangle set i).y
+
+-- Whether `len` cells from `start` on have cell u of the window of place k, of n places of 64 cells on a circle. Its cell 1 is the
+-- place's first.
+abbrev pub is_reached : ℕ → ℕ → ℕ → ℕ → ℕ → Bool
+is_reached start len n k u =
+    let cell = (k * 64 + u + n * 64 - 1) % (n * 64) in
+    nat_le start cell && nat_lt cell (start + len)
+
+-- and they have none of that window
 abbrev pub IsFar : ℕ → ℕ → ℕ → ℕ → Type 0
-IsFar start len n k =
-    (u : ℕ) → u ≤ 65 → let cell = (k * 64 + u + n * 64 - 1) % (n * 64) in (nat_le start cell && nat_lt cell (start + len)) ≡ false
+IsFar start len n k = (u : ℕ) → u ≤ 65 → is_reached start len n k u ≡ false
+
+-- or none outside its rows 2 * from to 2 * end - 1
+pub record IsNearIn (from end start len n k : ℕ) : Type 0 where
+  pub within : end ≤ 33
+  pub outside : (u : ℕ) → u ≤ 65 → (u < 2 * from) ⊎ (2 * end ≤ u) → is_reached start len n k u ≡ false
 
 -- the words of the tiles below n are those of the set as it is now, and the others those of the set as it was before
 pub record AreRenewedUpTo (n : ℕ) (before now : Cells) (told : List ℕ) (words : List TileBlocks) : Type 0 where

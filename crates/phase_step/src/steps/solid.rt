@@ -1,13 +1,13 @@
 //! A set of cells that particles do not pass, with its blocks: walls, or obstacles.
 
 ghost use Rattle.std.specs.Prelude.{◌↔◌, ◌≡◌, ℕ, ◌+◌, ◌*◌, ◌/◌, ◌<◌, ◌≤◌, ◌^◌, IfOk, IsTrue, false};
-ghost use Rattle.gas_terms.specs.Cells.{Cells, cells_where, filled, cleared, tile_count, tile_rectangle};
+ghost use Rattle.gas_terms.specs.Cells.{Cells, HasSidesOf, cells_where, filled, cleared, tile_count, tile_rectangle};
 ghost use Rattle.gas_plane.specs.Planes.{IsLattice, HasNone};
-ghost use Rattle.block_rule.specs.TileBlocks.{AreGivenBlocks};
+ghost use Rattle.block_rule.specs.TileBlocks.{AreGivenBlocks, DifferInRows};
 ghost use Rattle.phase_step.specs.Turns.{IsWindowFrom};
-ghost use Rattle.phase_step.specs.SolidBlocks.{is_walled_in, HasNoBlocks, HaveAllTiles, AreBlocksOf, DifferIn, IsFar, AreRenewedUpTo};
+ghost use Rattle.phase_step.specs.SolidBlocks.{is_walled_in, window_of, HasNoBlocks, HaveAllTiles, AreBlocksOf, DifferIn, IsFar, IsNearIn, AreRenewedUpTo};
 
-use block_rule::{SetBlocks, TileBlocks, Window, tile_blocks};
+use block_rule::{SetBlocks, TileBlocks, Window};
 use gas_plane::Plane;
 use gas_terms::{NoMemory, Rect, Size};
 use std::alloc::Global;
@@ -57,7 +57,7 @@ impl Solid {
         let mut rows = vec![in alloc; 0; tiles as usize]?;
         let mut blocks = vec![in alloc; TileBlocks::NONE; tiles as usize]?;
         for i in 0..tiles {
-            renew_tile(&cells, i, &mut rows, &mut blocks);
+            renew_tile(&cells, i, (0, 33), &mut rows, &mut blocks);
         }
         Ok(Solid {
             cells,
@@ -155,25 +155,63 @@ fn next_near(start: u32, len: u32, k: u32, n: u32) -> u32
     }
 }
 
-// The words of tile i are made anew.
-fn renew_tile(set: &Plane, i: u32, rows: &mut Vec<u32>, blocks: &mut Vec<TileBlocks>)
+// Of a window of place k, the rows of odd blocks that those cells reach: from the first up to the second.
+#[inline]
+fn rows_near(start: u32, len: u32, k: u32, n: u32) -> (usize, usize)
+    requires start { start + len < 2 ^ 31 }
+    requires k { (k < n) × (n ≤ 64) }
+    ensures { IsNearIn result.0 result.1 start len n k }
+{
+    let end = start + len;
+    let before = 64 * k;
+    let first = if (k == 0) & (n * 64 <= end) {
+        0
+    } else {
+        (start + 1).saturating_sub(before) / 2
+    };
+    let last = if (k + 1 == n) & (start == 0) {
+        33
+    } else {
+        ((end + 2).saturating_sub(before) / 2).min(33)
+    };
+    (first as usize, last as usize)
+}
+
+// The words of tile i are renewed, in these rows of blocks.
+fn renew_tile(
+    set: &Plane,
+    i: u32,
+    near: (usize, usize),
+    rows: &mut Vec<u32>,
+    blocks: &mut Vec<TileBlocks>,
+)
     requires lattice { IsLattice set.now }
     requires tile { i < tile_count set.now }
+    requires near { near.1 ≤ 33 }
     requires all { HaveAllTiles set.now rows.old.items blocks.old.items }
     ensures all { HaveAllTiles set.now rows.new.items blocks.new.items }
-    ensures words { (before : Cells) →
+    ensures words { (before : Cells) → HasSidesOf before set.now →
+        DifferInRows near.0 near.1 (window_of before i) (window_of set.now i) →
         AreRenewedUpTo i before set.now rows.old.items blocks.old.items →
         AreRenewedUpTo (i + 1) before set.now rows.new.items blocks.new.items }
 {
     let window = window_in(set, i);
-    let (told, named) = tile_blocks(&window);
-    rows[i as usize] = told;
-    blocks[i as usize] = named;
+    let (from, end) = near;
+    let i = i as usize;
+    rows[i] = blocks[i].renew(rows[i], &window, from, end);
 }
 
 // The words of those tiles of a row whose blocks reach the rectangle.
-fn renew_row(set: &Plane, area: Rect, row: u32, rows: &mut Vec<u32>, blocks: &mut Vec<TileBlocks>)
+fn renew_row(
+    set: &Plane,
+    area: Rect,
+    row: u32,
+    near: (usize, usize),
+    rows: &mut Vec<u32>,
+    blocks: &mut Vec<TileBlocks>,
+)
     requires row { row < set.now.height / 64 }
+    requires near { IsNearIn near.0 near.1 area.y area.h (set.now.height / 64) row }
     requires all { HaveAllTiles set.now rows.old.items blocks.old.items }
     ensures all { HaveAllTiles set.now rows.new.items blocks.new.items }
     ensures words { (before : Cells) → DifferIn area before set.now →
@@ -187,7 +225,7 @@ fn renew_row(set: &Plane, area: Rect, row: u32, rows: &mut Vec<u32>, blocks: &mu
     let w = area.w() as u32;
     let mut column = next_near(x, w, 0, across);
     while column < across {
-        renew_tile(set, row * across + column, rows, blocks);
+        renew_tile(set, row * across + column, near, rows, blocks);
         column = next_near(x, w, column + 1, across);
     }
 }
@@ -204,7 +242,8 @@ fn renew(set: &Plane, area: Rect, rows: &mut Vec<u32>, blocks: &mut Vec<TileBloc
     let h = area.h() as u32;
     let mut row = next_near(y, h, 0, down);
     while row < down {
-        renew_row(set, area, row, rows, blocks);
+        let near = rows_near(y, h, row, down);
+        renew_row(set, area, row, near, rows, blocks);
         row = next_near(y, h, row + 1, down);
     }
 }

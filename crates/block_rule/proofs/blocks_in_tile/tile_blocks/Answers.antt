@@ -1,10 +1,7 @@
-use Rattle.block_rule.proofs.Holding.{walled_places}
-use Rattle.block_rule.proofs.BlockNames.{blocks_named}
+use Rattle.std.proofs.Common.{false, arith, inl, inr}
+use Rattle.block_rule.proofs.BlockNames.{nothing_named}
 use Rattle.block_rule.proofs.blocks_in_tile.tile_blocks.Goals as goal
 
 pub returns : goal.returns
 returns c = λ window seen.
-    let are = c.odd_blocks-odd.ensures window seen in
-    blocks_named c.rows_with_cells.result c.rows_with_cells-2.result c.make_even.new.tile c.odd_cells.result c.odd_blocks-odd.result window
-    (walled_places 0 c.make_even.new.tile window (c.make_even.ensures window seen.tile)) (c.odd_cells.ensures window are)
-    c.rows_with_cells.ensures.none c.rows_with_cells-2.ensures.none are
+    c.renew-rows.ensures (λ _ _. false) window seen (λ u v h k far. absurd (elim far [ inl below ↦ omega (arith, below) | inr above ↦ omega (arith, above, k) ])) nothing_named

@@ -8,7 +8,8 @@ use Rattle.block_rule.proofs.TorusTook.{tiles_took}
 use Rattle.phase_step.specs.Parts.{tile_in}
 use Rattle.phase_step.proofs.PhaseSweeps.{place_is}
 use Rattle.phase_step.proofs.PartTurns.{rows_left, tile_place, tile_turned, own_cells}
-use Rattle.phase_step.proofs.SolidBlocks.{view_of, given_in_view}
+use Rattle.phase_step.specs.SolidBlocks.{view_of}
+use Rattle.phase_step.proofs.SolidBlocks.{given_in_view}
 use Rattle.phase_step.proofs.TurnedTiles.{border_near, window_view, window_seen}
 use Rattle.gas_terms.specs.Cells.{Cells}
 use Rattle.gas_plane.specs.Planes.{IsTileFrom}

@@ -1,6 +1,8 @@
-use Rattle.std.proofs.Common.{◌≡◌, ◌+◌, ◌*◌, ◌/◌, ◌∙◌, ap, subst, sym, arith}
+use Rattle.std.proofs.Common.{◌≡◌, ◌+◌, ◌*◌, ◌/◌, ◌<◌, ◌∙◌, ap, subst, sym, arith}
+use Rattle.std.proofs.lemmas.Nat.{div-mul-add, mul-add-lt}
+use Rattle.gas_terms.specs.Cells.{tile_count}
 use Rattle.phase_step.specs.SolidBlocks.{AreRenewedUpTo}
-use Rattle.phase_step.proofs.SolidBlocks.{far_columns}
+use Rattle.phase_step.proofs.SolidBlocks.{far_columns, windows_differ}
 use Rattle.phase_step.proofs.steps.solid.renew_row.Goals as goal
 
 pub loop-column-init : goal.loop-column-init
@@ -25,6 +27,7 @@ loop-column-preserved c =
     let column = c.loop-column.column in
     let across = c.across-across.ensures.across in
     let order = c.next_near-column-in-loop-column.ensures.order in
+    let inside : column < now.width / 64 = omega (arith, across) in
     record {
       within = omega (arith, order, across);
       all = c.renew_tile.ensures.all;
@@ -32,7 +35,7 @@ loop-column-preserved c =
           let here = subst (λ n. AreRenewedUpTo n before now c.loop-column.rows.items c.loop-column.blocks.items) (ap (λ a. row * a + column) (sym across)) (c.loop-column.invariant.words before differ start) in
           let next : row * (now.width / 64) + column + 1 ≡ row * (now.width / 64) + (column + 1) = omega arith in
           far_columns c.args.area before now c.renew_tile.new.rows.items c.renew_tile.new.blocks.items c.across-across.ensures.lattice.sized differ row (column + 1) c.next_near-column-in-loop-column.result c.x-x.result c.w-w.result c.across-across.result order.0 order.1 c.x-x.ensures c.w-w.ensures across
-          c.next_near-column-in-loop-column.ensures.far (subst (λ n. AreRenewedUpTo n before now c.renew_tile.new.rows.items c.renew_tile.new.blocks.items) (ap (λ a. row * a + column + 1) across ∙ next) (c.renew_tile.ensures.words before here));
+          c.next_near-column-in-loop-column.ensures.far (subst (λ n. AreRenewedUpTo n before now c.renew_tile.new.rows.items c.renew_tile.new.blocks.items) (ap (λ a. row * a + column + 1) across ∙ next) (c.renew_tile.ensures.words before differ.sides (windows_differ c.args.area before now (row * c.across-across.result + column) c.args.near.0 c.args.near.1 row differ c.across-across.ensures.lattice.sized (subst (λ a. row * a + column < tile_count now) (sym across) (mul-add-lt row (now.width / 64) column (now.height / 64) c.requires.row inside)) (subst (λ a. (row * a + column) / (now.width / 64) ≡ row) (sym across) (div-mul-add row (now.width / 64) column inside)) c.requires.near) here));
     }
 
 pub returns-clause-words : goal.returns-clause-words

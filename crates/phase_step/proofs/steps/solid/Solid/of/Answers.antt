@@ -1,4 +1,4 @@
-use Rattle.std.proofs.Common.{◌≤◌, ◌*◌, ◌/◌, ◌∙◌, refl, ap, arith}
+use Rattle.std.proofs.Common.{◌≤◌, ◌*◌, ◌/◌, ◌∙◌, refl, ap, inl, inr, arith}
 use Rattle.gas_terms.specs.Cells.{Extent, tile_count}
 use Rattle.phase_step.proofs.SolidBlocks.{nothing_of, zeros_are, renewed_starts, renewed_ends}
 use Rattle.phase_step.proofs.steps.solid.Solid.of.Goals as goal
@@ -17,7 +17,7 @@ pub renew_tile-requires-clause-all : goal.renew_tile-requires-clause-all
 renew_tile-requires-clause-all c = c.loop-i.invariant.all
 
 pub loop-i-preserved : goal.loop-i-preserved
-loop-i-preserved c = record { all = c.renew_tile.ensures.all; words = c.renew_tile.ensures.words (nothing_of c.args.cells) c.loop-i.invariant.words }
+loop-i-preserved c = record { all = c.renew_tile.ensures.all; words = c.renew_tile.ensures.words (nothing_of c.args.cells) (record { wide = refl; high = refl }) (λ u v _ k far. absurd (elim far [ inl before ↦ omega (arith, before) | inr after ↦ omega (arith, after, k) ])) c.loop-i.invariant.words }
 
 pub invariant_of-result : goal.invariant_of-result
 invariant_of-result c =
