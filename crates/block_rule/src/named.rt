@@ -13,7 +13,7 @@ use crate::Window;
 use crate::blocks::Collision;
 use crate::blocks_in_tile::{OddBlocks, SetBlocks};
 use crate::collide_even::collide_even;
-use crate::collide_odd::collide_odd;
+use crate::collide_odd::{collide_odd, collide_odd_apart};
 use crate::count::{Classes, count_class, momentum, momentum_in};
 use crate::made::make_even;
 use crate::walled::{Counted, NoBlocks, OfBoth, OfOne};
@@ -233,13 +233,15 @@ pub fn turn_tile_even(
     took
 }
 
-/// The same at odd parity, where blocks reach into the eight tiles round the tile.
+/// The same at odd parity, where blocks reach into the eight tiles round the tile. In a loop over tiles without walled blocks it is
+/// faster `in_place`.
 #[inline(always)]
 pub fn turn_tile_odd(
     particles: &Window,
     walls: Option<SetBlocks<'_>>,
     obstacles: Option<SetBlocks<'_>>,
     counted: Counted,
+    in_place: bool,
     out: &mut Tile,
 ) -> Took
     ensures cells { (window walled obstructed : ℕ → ℕ → Bool) → IsSeenIn particles.now window →
@@ -254,11 +256,12 @@ pub fn turn_tile_odd(
     let Window { tile, round } = particles;
     let took = taken_among(tile, walls, obstacles, 1, counted);
     match (walls, obstacles) {
-        (None, None) => collide_odd(NoBlocks, tile, round, out),
-        (Some(set), None) => collide_odd(OfOne { set }, tile, round, out),
-        (None, Some(set)) => collide_odd(OfOne { set }, tile, round, out),
+        (None, None) if in_place => collide_odd(NoBlocks, tile, round, out),
+        (None, None) => collide_odd_apart(NoBlocks, tile, round, out),
+        (Some(set), None) => collide_odd_apart(OfOne { set }, tile, round, out),
+        (None, Some(set)) => collide_odd_apart(OfOne { set }, tile, round, out),
         (Some(walls), Some(obstacles)) => {
-            collide_odd(OfBoth { walls, obstacles }, tile, round, out);
+            collide_odd_apart(OfBoth { walls, obstacles }, tile, round, out);
         }
     }
     took

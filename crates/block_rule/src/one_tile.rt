@@ -91,6 +91,7 @@ pub fn turn_tile(
             walls,
             obstacles,
             Counted::BOTH,
+            false,
             &mut out,
         );
         (out, took)

@@ -111,11 +111,12 @@ fn turned_odd(rt: &impl Abort, old: &Tile, border: &Border) -> Tile {
     let near = border.neighbors();
     let particles = window(old, &near);
     let mut out = Tile::full();
-    expect_same(
-        &rt,
-        turn_tile_odd(&particles, None, None, Counted::BOTH, &mut out),
-        Took::ZERO,
-    );
+    let took = turn_tile_odd(&particles, None, None, Counted::BOTH, true, &mut out);
+    expect_same(&rt, took, Took::ZERO);
+    let mut apart = Tile::full();
+    let took = turn_tile_odd(&particles, None, None, Counted::BOTH, false, &mut apart);
+    expect_same(&rt, took, Took::ZERO);
+    expect_that(&rt, apart.has_same_cells(&out));
     out
 }
 
@@ -190,7 +191,7 @@ fn accounts_that_are_not_kept_are_zero(rt: HostRuntime) {
         let walled = given(&odd_walls);
         let obstructed = given(&odd_obstacles);
         let particles = window(&old, &near);
-        let took = turn_tile_odd(&particles, walled, obstructed, counted, &mut tile);
+        let took = turn_tile_odd(&particles, walled, obstructed, counted, false, &mut tile);
         expect_that(&rt, tile.has_same_cells(&old));
         let of_walls = if walls { pair(-2, -2) } else { pair(0, 0) };
         let of_obstacles = if obstacles { pair(-2, 2) } else { pair(0, 0) };

@@ -63,13 +63,15 @@ pub fn turn_even_in_part(tile_solids: TileSolids<'_>, counted: Counted, tile: &m
     turn_tile_even(tile, tile_solids.walls, tile_solids.obstacles, counted)
 }
 
-/// The same at odd parity: its blocks reach into the part's tiles round it.
+/// The same at odd parity: its blocks reach into the part's tiles round it. `in_place` is a word to the compiler, as
+/// `turn_tile_odd` has it.
 #[inline(always)]
 pub fn turn_odd_in_part(
     rows: TileRows<'_>,
     column: u32,
     tile_solids: TileSolids<'_>,
     counted: Counted,
+    in_place: bool,
     out: &mut Tile,
 ) -> Took
     requires full { AreFullRows rows }
@@ -95,14 +97,15 @@ pub fn turn_odd_in_part(
         tile_solids.walls,
         tile_solids.obstacles,
         counted,
+        in_place,
         out,
     )
 }
 
 // The rows of tiles round the tile at this position. `before` are those of the tile before it, if
-// that is in the same row.
+// that is in the same row. They are looked up again if `anew` says so.
 #[inline(always)]
-fn rows_at<'a>(old: &'a Plane, at: Position, before: TileRows<'a>) -> TileRows<'a>
+fn rows_at<'a>(old: &'a Plane, at: Position, anew: bool, before: TileRows<'a>) -> TileRows<'a>
     requires lattice { IsLattice old.now }
     requires tile { at.tile < tile_count old.now }
     requires position { IsPosition (old.now.width / 64) at }
@@ -112,7 +115,7 @@ fn rows_at<'a>(old: &'a Plane, at: Position, before: TileRows<'a>) -> TileRows<'
     ensures column { IsColumnOf result at.column old.now at.tile }
     ensures full { AreFullRows result }
 {
-    if at.column == 0 {
+    if anew | (at.column == 0) {
         old.rows_round(at.row)
     } else {
         before
@@ -171,14 +174,17 @@ fn turn_odd_part(
     let across = old.across();
     let own = own_tiles(part, old);
     let tiles = part.down * across;
+    // Without walls and obstacles the compiler then makes vectors of all that the loop does.
+    let free = ground.no_walls & ground.no_obstacles;
     let mut took = Took::ZERO;
     let mut at = old.position(own.first);
     let mut rows = old.rows_round(at.row);
     let mut there = tile_there(part, across, own.first);
     for i in own.first..own.end {
-        rows = rows_at(old, at, rows);
+        rows = rows_at(old, at, free, rows);
         let tile_solids = ground.in_tile(there);
-        let here = turn_odd_in_part(rows, at.column, tile_solids, counted, out.tile_mut(i));
+        let tile = out.tile_mut(i);
+        let here = turn_odd_in_part(rows, at.column, tile_solids, counted, free, tile);
         took = took.plus(here);
         at = at.next(across);
         there = next_there(there, tiles);
@@ -333,6 +339,8 @@ fn run_on<A: Action>(
 /// A run on a part of a lattice, in place. A part with margins makes one phase at most. Returns
 /// what it comes to in the part's own tiles; an account that is not kept has 0. `spare` is
 /// overwritten.
+// The planes' tiles are then read by reference, which the vectors of its loops need.
+#[inline(never)]
 pub fn run_part<A: Action>(
     particles: &mut Plane,
     part: Part,

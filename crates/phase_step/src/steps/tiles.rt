@@ -52,6 +52,6 @@ pub fn turn_tile_at(
         turn_even_in_part(tile_solids, Counted::BOTH, out)
     } else {
         let rows = old.rows_round(at.row);
-        turn_odd_in_part(rows, at.column, tile_solids, Counted::BOTH, out)
+        turn_odd_in_part(rows, at.column, tile_solids, Counted::BOTH, false, out)
     }
 }

@@ -1,4 +1,5 @@
 use Rattle.std.proofs.Common.{subst, arith}
+use Rattle.std.proofs.lemmas.Bool.Decides.{nat_tests}
 use Rattle.gas_plane.specs.Tiles.{AreRowsRound}
 use Rattle.gas_plane.proofs.Rings.{row_in}
 use Rattle.phase_step.proofs.parts.rows_at.Goals as goal
@@ -6,8 +7,8 @@ use Rattle.phase_step.proofs.parts.rows_at.Goals as goal
 pub rows_round-requires : goal.rows_round-requires
 rows_round-requires c = let row = row_in c.args.old.now c.args.at.tile c.requires.lattice c.requires.tile in let e = c.requires.position.row in omega (arith, row, e)
 
-pub returns-then-at-eq0-clause-column : goal.returns-then-at-eq0-clause-column
-returns-then-at-eq0-clause-column c =
+pub returns-then-anew-at-clause-column : goal.returns-then-anew-at-clause-column
+returns-then-anew-at-clause-column c =
     let at = c.requires.position in
     record {
       lattice = c.requires.lattice;
@@ -16,12 +17,12 @@ returns-then-at-eq0-clause-column c =
       place = at.column;
     }
 
-pub returns-else-at-eq0-clause-column : goal.returns-else-at-eq0-clause-column
-returns-else-at-eq0-clause-column c =
+pub returns-else-anew-at-clause-column : goal.returns-else-anew-at-clause-column
+returns-else-anew-at-clause-column c =
     let at = c.requires.position in
     record {
       lattice = c.requires.lattice;
       within = c.requires.tile;
-      rows = c.requires.before c.if-at-eq0.false;
+      rows = c.requires.before (λ e. let no = c.if-anew-at.false in grind (arith, nat_tests));
       place = at.column;
     }
