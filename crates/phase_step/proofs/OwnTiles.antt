@@ -31,17 +31,9 @@ own_at part cells row column c low high =
 pub own_past : (part : Part) (cells : Cells) (first end i : ℕ) → first ≡ part.margin * (cells.width / 64) → first ≤ end → end - first ≡ own_rows part cells * (cells.width / 64) → end ≤ i → (j : ℕ) → IsOwn part cells j → j < i
 own_past part cells first end i e order count past j own = let h = own.high in omega (arith, e, order, count, past, h)
 
--- the first is less than the most tiles that a lattice has, and begins a row of tiles
+-- the first is less than the most tiles that a lattice has
 pub first_small : (part : Part) (cells : Cells) (first : ℕ) → is_size (extent cells) ≡ true → part.margin ≤ 1 → first ≡ part.margin * (cells.width / 64) → first < 4096
 first_small part cells first sized margin e = let few = (wide (extent cells) sized).few in let most : part.margin * (cells.width / 64) ≤ 1 * 64 = mul-le-mul margin few in omega (arith, e, most)
-
-pub first_row : (part : Part) (cells : Cells) (first : ℕ) → is_size (extent cells) ≡ true → 2 * part.margin < cells.height / 64 → first ≡ part.margin * (cells.width / 64) → first / (cells.width / 64) < cells.height / 64
-first_row part cells first sized some e =
-    let a = cells.width / 64 in
-    let w = (wide (extent cells) sized).some in
-    let f : first ≡ part.margin * a + 0 = omega (arith, e) in
-    let row = ap (λ n. n / a) f ∙ div-mul-add part.margin a 0 w in
-    omega (arith, row, some)
 
 -- its number in the lattice
 pub own_number : (part : Part) (cells lattice : Cells) (i : ℕ) → is_size (extent cells) ≡ true → IsPlaced part cells lattice → IsOwn part cells i → tile_in part (lattice.width / 64) i ≡ part.first * (lattice.width / 64) + (i - part.margin * (cells.width / 64))
@@ -91,3 +83,43 @@ source_is part cells lattice w o k across i j result is e same f = f ∙ ap₂ (
 
 pub source_below : (part : Part) (cells lattice w o set : Cells) (k across i result : ℕ) → IsPartOf part w o cells lattice k → HasSidesOf set lattice → across ≡ cells.width / 64 → result ≡ tile_in part across i → result < tile_count set
 source_below part cells lattice w o set k across i result is sides e f = grind (arith, wide, extent, down_some, source_is, tile_there, tiles_as, high)
+
+-- the tiles of one row, one after another: where they are in the lattice
+in_row : (part : Part) (a row column : ℕ) → column < a → tile_in part a (row * a + column) ≡ (start_of part + row) % part.down * a + column
+in_row part a row column less = ap₂ (λ q r. (start_of part + q) % part.down * a + r) (div-mul-add row a column less) (mod-mul-add row a column less)
+
+pub tile_along : (part : Part) (a row column : ℕ) → column < a → tile_in part a (row * a + column) ≡ tile_in part a (row * a) + column
+tile_along part a row column less =
+    let here = (start_of part + row) % part.down * a in
+    let same : row * a + 0 ≡ row * a = omega arith in
+    let none : here + 0 ≡ here = omega arith in
+    let begins : tile_in part a (row * a) ≡ here = ap (tile_in part a) (sym same) ∙ (in_row part a row 0 (omega (arith, less)) ∙ none) in
+    in_row part a row column less ∙ ap (λ n. n + column) (sym begins)
+
+pub row_small : (cells : Cells) (row across : ℕ) → is_size (extent cells) ≡ true → across ≡ cells.width / 64 → row < cells.height / 64 → row * across < 4096
+row_small cells row across sized e within =
+    let w = (wide (extent cells) sized).few in
+    let h = (high (extent cells) sized).few in
+    let low : row ≤ 63 = omega (arith, within, h) in
+    let few : across ≤ 64 = omega (arith, e, w) in
+    let most : row * across ≤ 63 * 64 = mul-le-mul low few in
+    omega (arith, most)
+
+-- so many tiles are in the rows from the margin on
+pub rows_less : (row margin a : ℕ) → margin ≤ row → (row - margin) * a ≡ row * a - margin * a
+rows_less row margin a low =
+    let q = row - margin in
+    let from : row ≡ margin + q = omega (arith, low) in
+    let e : (margin + q) * a ≡ margin * a + q * a = omega arith in
+    let f : row * a ≡ (margin + q) * a = ap (λ n. n * a) from in
+    omega (arith, e, f)
+
+-- they are all above a row that is past them
+pub own_above : (part : Part) (cells : Cells) (row : ℕ) → part.margin + own_rows part cells ≤ row → (j : ℕ) → IsOwn part cells j → j < row * (cells.width / 64)
+own_above part cells row past j own =
+    let a = cells.width / 64 in
+    let same : a ≤ a = omega arith in
+    let e : (part.margin + own_rows part cells) * a ≡ part.margin * a + own_rows part cells * a = omega arith in
+    let f : (part.margin + own_rows part cells) * a ≤ row * a = mul-le-mul past same in
+    let h = own.high in
+    omega (arith, e, f, h)

@@ -1,8 +1,7 @@
 -- Which rows of a lattice are seen round a tile of a part.
 use Rattle.std.proofs.Common.{◌≡◌, ℕ, zero, suc, ◌+◌, ◌-◌, ◌*◌, ◌/◌, ◌%◌, ◌<◌, ◌≤◌, refl, sym, ap, ◌∙◌, arith}
-use Rattle.std.proofs.lemmas.Bool.{cases_lt}
 use Rattle.std.proofs.Math.Nat.{mod-lt, add-mod_right, mod-add-mod, add-mod-mod}
-use Rattle.std.proofs.lemmas.Nat.{mod-mul-add, div-mul-add, div-add-mod'}
+use Rattle.std.proofs.lemmas.Nat.{mod-mul-add, div-add-mod'}
 
 -- a row of the torus by its row of tiles
 pub row_turns : (a k d y : ℕ) → 0 < d → y < 64 → (a * 64 + (k * 64 + y)) % (d * 64) ≡ (a + k) % d * 64 + y
@@ -49,7 +48,3 @@ row_seen (suc zero) p shift m h top v small some closed parity low high from to 
           ∙ sym (there shift m top v some)));
     }
 row_seen (suc (suc n)) p shift m h top v small some closed parity low high from to = absurd (omega arith)
-
--- a tile that begins no row of tiles is in the row of the one before it
-pub row_stays : (a i : ℕ) → 0 < a → (i % a ≡ 0 → ⊥) → (i - 1) / a ≡ i / a
-row_stays a i some inner = grind (arith, div-add-mod', mod-lt, cases_lt, div-mul-add)

@@ -137,3 +137,12 @@ pub record AreKeptFrom (i : ℕ) (before now : Cells) : Type 0 where
   pub tile : (j : ℕ) → i ≤ j → j < tile_count before → (x y : ℕ) → x < 64 → y < 64 →
       let left = j % (before.width / 64) * 64 in let top = j / (before.width / 64) * 64 in
       has now (left + x) (top + y) ≡ has before (left + x) (top + y)
+
+-- A phase of parity p turned the part's own rows of tiles above this one, and the answer is what
+-- was taken in them.
+pub record AreTurnedTo (row : ℕ) (part : Part) (p : ℕ) (counted : Counted) (walls obstacles old now : Cells) (answer : Took) : Type 0 where
+  pub sides : HasSidesOf now old
+  pub cells : (lattice : Cells) → IsPartOf part walls obstacles old lattice (64 - p)
+      → AreMadeUpTo (row * (old.width / 64)) part old (streamed p lattice (joined walls obstacles)) now
+  pub took : (lattice : Cells) → IsPartOf part walls obstacles old lattice (64 - p)
+      → answer ≡ counted_of counted (tiles_take p lattice walls obstacles (part.first * (lattice.width / 64)) ((row - part.margin) * (old.width / 64)))

@@ -4,8 +4,8 @@
 ghost use Rattle.std.specs.Prelude.{◌≡◌, ℕ, ℤ, ◌+◌, ◌-◌, ◌*◌, ◌/◌, ◌%◌, ◌<◌, ◌≤◌, IsTrue, pos};
 ghost use Rattle.gas_terms.specs.Cells.{Cells, joined, tile_count, tile_rectangle, HasSidesOf};
 ghost use Rattle.gas_terms.specs.Gas.{streamed};
-ghost use Rattle.gas_plane.specs.Planes.{IsLattice, IsTileFrom, IsPosition};
-ghost use Rattle.gas_plane.specs.Tiles.{AreRowsRound, AreFullRows, IsColumnOf};
+ghost use Rattle.gas_plane.specs.Planes.{IsLattice, IsTileFrom};
+ghost use Rattle.gas_plane.specs.Tiles.{AreFullRows, IsColumnOf};
 ghost use Rattle.block_rule.specs.Windows.{taken_in};
 ghost use Rattle.phase_step.specs.SolidBlocks.{AreTileSolids, HasNoBlocks};
 ghost use Rattle.gas_terms.specs.Velocity.{parity as of_tick};
@@ -13,7 +13,7 @@ ghost use Rattle.gas_terms.specs.Accounts.{moved_by};
 ghost use Rattle.block_rule.specs.Accounts.{counted_of};
 ghost use Rattle.phase_step.specs.Actions.{acted};
 ghost use Rattle.phase_step.specs.Exchanges.{leaves_of};
-ghost use Rattle.phase_step.specs.Parts.{own_moves, own_rows, tile_in, IsOwn, IsTileOf, IsPartOf, IsTurned, IsReady, IsOfSome, CanRunPart, HasRunPart, whole_part};
+ghost use Rattle.phase_step.specs.Parts.{own_moves, own_rows, tile_in, IsOwn, IsTileOf, IsPartOf, IsTurned, AreTurnedTo, IsReady, IsOfSome, CanRunPart, HasRunPart, whole_part};
 ghost use Rattle.phase_step.specs.WholeRuns.{dynamics, CanRun, HasRunWhole};
 
 use crate::exchanges::{Action, Exchange};
@@ -21,7 +21,7 @@ use crate::steps::{Ground, Solids, TileSolids};
 use crate::sums::Flow;
 use crate::{Run, parity_at};
 use block_rule::{Counted, Window, turn_tile_even, turn_tile_odd};
-use gas_plane::{Plane, Position, Tile, TileRows};
+use gas_plane::{Plane, Tile, TileRows};
 use gas_terms::{Moved, Took};
 use std::mem;
 
@@ -102,26 +102,6 @@ pub fn turn_odd_in_part(
     )
 }
 
-// The rows of tiles round the tile at this position. `before` are those of the tile before it, if
-// that is in the same row. They are looked up again if `anew` says so.
-#[inline(always)]
-fn rows_at<'a>(old: &'a Plane, at: Position, anew: bool, before: TileRows<'a>) -> TileRows<'a>
-    requires lattice { IsLattice old.now }
-    requires tile { at.tile < tile_count old.now }
-    requires position { IsPosition (old.now.width / 64) at }
-    requires full { AreFullRows before }
-    requires before { (at.column ≡ 0 → ⊥) →
-        AreRowsRound before old.now (at.tile / (old.now.width / 64)) }
-    ensures column { IsColumnOf result at.column old.now at.tile }
-    ensures full { AreFullRows result }
-{
-    if anew | (at.column == 0) {
-        old.rows_round(at.row)
-    } else {
-        before
-    }
-}
-
 // The tile of the lattice that tile i of a part is.
 fn tile_there(part: Part, across: u32, i: u32) -> u32
     requires part { (part.first < part.down) × (part.down ≤ 64) × (part.margin ≤ 1) }
@@ -155,39 +135,38 @@ fn own_tiles(part: Part, cells: &Plane) -> OwnTiles
     }
 }
 
-// The phase of parity 1 of a part's own tiles. Returns what is taken in them.
+// The phase of parity 1 of one of a part's own rows of tiles. `took` is what is taken in those above it; returns the same with
+// this row.
 #[inline(always)]
-fn turn_odd_part(
+fn turn_odd_row(
     old: &Plane,
     ground: Ground<'_>,
     part: Part,
     counted: Counted,
+    row: u32,
+    took: Took,
     out: &mut Plane,
 ) -> Took
     requires ready { let s = ground.solids.now in
         IsReady part s.walls s.obstacles old.now 63 }
-    requires out { HasSidesOf out.old old.now }
-    ensures sides { HasSidesOf out.new old.now }
-    ensures phase { let s = ground.entry.solids.now in
-        IsTurned part 1 counted s.walls s.obstacles old.now out.new result }
+    requires row { (part.margin ≤ row) × (row + part.margin < old.now.height / 64) }
+    requires so_far { let s = ground.solids.now in
+        AreTurnedTo row part 1 counted s.walls s.obstacles old.now out.old took }
+    ensures { let s = ground.entry.solids.now in
+        AreTurnedTo (row + 1) part 1 counted s.walls s.obstacles old.now out.new result }
 {
     let across = old.across();
-    let own = own_tiles(part, old);
-    let tiles = part.down * across;
+    let rows = old.rows_round(row);
+    let first = row * across;
+    let there = tile_there(part, across, first);
     // Without walls and obstacles the compiler then makes vectors of all that the loop does.
     let free = ground.no_walls & ground.no_obstacles;
-    let mut took = Took::ZERO;
-    let mut at = old.position(own.first);
-    let mut rows = old.rows_round(at.row);
-    let mut there = tile_there(part, across, own.first);
-    for i in own.first..own.end {
-        rows = rows_at(old, at, free, rows);
-        let tile_solids = ground.in_tile(there);
-        let tile = out.tile_mut(i);
-        let here = turn_odd_in_part(rows, at.column, tile_solids, counted, free, tile);
+    let mut took = took;
+    for column in 0..across {
+        let tile_solids = ground.in_tile(there + column);
+        let tile = out.tile_mut(first + column);
+        let here = turn_odd_in_part(rows, column, tile_solids, counted, free, tile);
         took = took.plus(here);
-        at = at.next(across);
-        there = next_there(there, tiles);
     }
     took
 }
@@ -234,12 +213,15 @@ fn turn_part(
         IsTurned part parity counted s.walls s.obstacles particles.old particles.new result }
 {
     if parity == 0 {
-        turn_even_part(particles, ground, part, counted)
-    } else {
-        let took = turn_odd_part(particles, ground, part, counted, spare);
-        mem::swap(particles, spare);
-        took
+        return turn_even_part(particles, ground, part, counted);
     }
+    let down = particles.size().height() as u32 / 64;
+    let mut took = Took::ZERO;
+    for row in part.margin..down - part.margin {
+        took = turn_odd_row(particles, ground, part, counted, row, took, spare);
+    }
+    mem::swap(particles, spare);
+    took
 }
 
 // Acts on a part's own tiles as on the lattice's, at a tick of this parity. Returns what comes in
