@@ -23,4 +23,5 @@ pub mod OwnPhases
 pub mod RowRuns
 pub mod RowSweeps
 pub mod OwnTiles
+pub mod TurnedRows
 pub mod PartActs

@@ -113,13 +113,3 @@ rows_less row margin a low =
     let e : (margin + q) * a ≡ margin * a + q * a = omega arith in
     let f : row * a ≡ (margin + q) * a = ap (λ n. n * a) from in
     omega (arith, e, f)
-
--- they are all above a row that is past them
-pub own_above : (part : Part) (cells : Cells) (row : ℕ) → part.margin + own_rows part cells ≤ row → (j : ℕ) → IsOwn part cells j → j < row * (cells.width / 64)
-own_above part cells row past j own =
-    let a = cells.width / 64 in
-    let same : a ≤ a = omega arith in
-    let e : (part.margin + own_rows part cells) * a ≡ part.margin * a + own_rows part cells * a = omega arith in
-    let f : (part.margin + own_rows part cells) * a ≤ row * a = mul-le-mul past same in
-    let h = own.high in
-    omega (arith, e, f, h)

@@ -1,7 +1,7 @@
 -- The own tiles of a part are turned or acted on, one after another.
-use Rattle.std.proofs.Common.{◌≡◌, ℕ, ◌+◌, ◌-◌, ◌*◌, ◌/◌, ◌%◌, ◌<◌, ◌≤◌, ◌==◌, true, if◌then◌else◌, refl, sym, ap, ap₂, ◌∙◌, subst, arith}
+use Rattle.std.proofs.Common.{◌≡◌, ℕ, ◌+◌, ◌-◌, ◌*◌, ◌/◌, ◌%◌, ◌<◌, ◌≤◌, ◌==◌, true, if◌then◌else◌, refl, sym, ap, ap₂, ◌∙◌, subst, arith, inl, inr}
 use Rattle.std.proofs.Math.Nat.{mod-lt}
-use Rattle.std.proofs.lemmas.Nat.{row-Below, mod-mul-add, div-mul-add}
+use Rattle.std.proofs.lemmas.Nat.{row-Below, mul-add-lt, mod-mul-add, div-mul-add}
 use Rattle.std.proofs.lemmas.Bool.{cases_eq, eq-eqb, ne_eqb}
 use Rattle.bit_tile.specs.Tile as tile
 use Rattle.bit_tile.specs.declared.Tile.{Tile}
@@ -54,6 +54,47 @@ kept_past before now i so_far = record { tile = λ j from. so_far.tile j (omega 
 -- a tile that was not replaced yet
 pub tile_before : (before now : Cells) (i : ℕ) (t : Tile) → HasSidesOf now before → i < tile_count before → AreKeptFrom i before now → IsTileFrom t now (left_of now i) (top_of now i) → IsTileFrom t before (left_of before i) (top_of before i)
 tile_before before now i t sides within kept from = grind (arith, has, wide)
+
+-- A row of tiles is made tile by tile: the next one is tile i, in this column.
+module _ (cells now : Cells) (row column i : ℕ) (t : Tile) (sized : is_size (extent cells) ≡ true) (sides : HasSidesOf now cells) (low : row < cells.height / 64) (less : column < cells.width / 64) (place : i ≡ row * (cells.width / 64) + column) where
+  stays : (x y : ℕ) → x < cells.width → y < cells.height → (tile_of cells x y ≡ i → ⊥) → has (with_tile now i t) x y ≡ has now x y
+  stays x y h k other =
+      has-cells_where now.width now.height (λ x y. if tile_of now x y == i then tile.has t (x % 64) (y % 64) else has now x y) x y (subst (λ w. x < w) (sym sides.wide) h) (subst (λ n. y < n) (sym sides.high) k)
+      ∙ sym (choose_false _ _ _ _ (ne_eqb _ i (λ e. other (subst (λ w. y / 64 * (w / 64) + x / 64 ≡ i) sides.wide e))) refl)
+
+  -- its cells
+  pub row_next : (part : Part) (lattice : Cells) → ((x y : ℕ) → x < column * 64 → y < 64 → has now x (row * 64 + y) ≡ has lattice x (row_in part (row * 64 + y))) → IsTileOf part cells lattice i t
+      → (x y : ℕ) → x < (column + 1) * 64 → y < 64 → has (with_tile now i t) x (row * 64 + y) ≡ has lattice x (row_in part (row * 64 + y))
+  row_next part lattice so_far made x y h q =
+      let a = cells.width / 64 in
+      let c : i % a ≡ column = ap (λ n. n % a) place ∙ mod-mul-add row a column less in
+      let r : i / a ≡ row = ap (λ n. n / a) place ∙ div-mul-add row a column less in
+      let across = wide (extent cells) sized in
+      elim (cases_eq (x / 64) column) [
+        | inl e ↦
+            let left : left_of cells i + x % 64 ≡ x = omega (arith, c, e) in
+            let top : top_of cells i + y ≡ row * 64 + y = omega (arith, r) in
+            let within : i < tile_count cells = subst (λ n. n < tile_count cells) (sym place) (mul-add-lt row a column (cells.height / 64) low less) in
+            sym (ap₂ (has (with_tile now i t)) left top)
+            ∙ (with_here cells now i i (x % 64) y t sized sides within (omega arith) q refl
+            ∙ (made (x % 64) y (omega arith) q ∙ ap₂ (λ x y. has lattice x (row_in part y)) left top))
+        | inr ne ↦
+            let down = high (extent cells) sized in
+            let right : x < cells.width = let w = across.tiles in omega (arith, h, less, w) in
+            let bottom : row * 64 + y < cells.height = cell_below cells.height row y down low q in
+            let place_of : tile_of cells x (row * 64 + y) ≡ row * a + x / 64 = ap (λ n. n * a + x / 64) (div-mul-add row 64 y q) in
+            stays x (row * 64 + y) right bottom (λ e. ne (let f : row * a + x / 64 ≡ row * a + column = sym place_of ∙ (e ∙ place) in omega (arith, f)))
+            ∙ so_far x y (omega (arith, h, ne)) q
+      ]
+
+  -- the cells of other rows
+  pub others_next : (before : Cells) → ((x y : ℕ) → x < cells.width → y < cells.height → (y / 64 ≡ row → ⊥) → has now x y ≡ has before x y)
+      → (x y : ℕ) → x < cells.width → y < cells.height → (y / 64 ≡ row → ⊥) → has (with_tile now i t) x y ≡ has before x y
+  others_next before so_far x y h k other =
+      let a = cells.width / 64 in
+      let c : x / 64 < a = tile_below cells.width x (wide (extent cells) sized) h in
+      stays x y h k (λ e. other (sym (div-mul-add (y / 64) a (x / 64) c) ∙ (ap (λ n. n / a) (e ∙ place) ∙ div-mul-add row a column less)))
+      ∙ so_far x y h k other
 
 -- when each own tile has them
 own_rows_made : (part : Part) (cells next now : Cells) → is_size (extent cells) ≡ true → cells.width ≡ next.width → HasSidesOf now cells → ((j : ℕ) → IsOwn part cells j → (x y : ℕ) → x < 64 → y < 64 →

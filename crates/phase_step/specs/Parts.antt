@@ -138,11 +138,18 @@ pub record AreKeptFrom (i : ℕ) (before now : Cells) : Type 0 where
       let left = j % (before.width / 64) * 64 in let top = j / (before.width / 64) * 64 in
       has now (left + x) (top + y) ≡ has before (left + x) (top + y)
 
--- A phase of parity p turned the part's own rows of tiles above this one, and the answer is what
--- was taken in them.
-pub record AreTurnedTo (row : ℕ) (part : Part) (p : ℕ) (counted : Counted) (walls obstacles old now : Cells) (answer : Took) : Type 0 where
+-- A phase of parity 1 turned the part's own rows of tiles from this row up to that one, which is
+-- left out, and the answer is what was taken in them.
+pub record AreTurnedIn (from to : ℕ) (part : Part) (counted : Counted) (walls obstacles old now : Cells) (answer : Took) : Type 0 where
   pub sides : HasSidesOf now old
-  pub cells : (lattice : Cells) → IsPartOf part walls obstacles old lattice (64 - p)
-      → AreMadeUpTo (row * (old.width / 64)) part old (streamed p lattice (joined walls obstacles)) now
-  pub took : (lattice : Cells) → IsPartOf part walls obstacles old lattice (64 - p)
-      → answer ≡ counted_of counted (tiles_take p lattice walls obstacles (part.first * (lattice.width / 64)) ((row - part.margin) * (old.width / 64)))
+  pub rows : (lattice : Cells) → IsPartOf part walls obstacles old lattice 63
+      → (x y : ℕ) → x < old.width → from * 64 ≤ y → y < to * 64
+      → has now x y ≡ has (streamed 1 lattice (joined walls obstacles)) x (row_in part y)
+  pub took : (lattice : Cells) → IsPartOf part walls obstacles old lattice 63
+      → let across = lattice.width / 64 in
+      answer ≡ counted_of counted (tiles_take 1 lattice walls obstacles ((part.first + (from - part.margin)) * across) ((to - from) * across))
+
+-- It turned one of them, and the others are as they were before.
+pub record IsRowTurned (row : ℕ) (part : Part) (counted : Counted) (walls obstacles old before now : Cells) (answer : Took) : Type 0 where
+  pub turned : AreTurnedIn row (row + 1) part counted walls obstacles old now answer
+  pub others : (x y : ℕ) → x < old.width → y < old.height → (y / 64 ≡ row → ⊥) → has now x y ≡ has before x y

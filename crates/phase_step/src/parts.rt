@@ -13,7 +13,7 @@ ghost use Rattle.gas_terms.specs.Accounts.{moved_by};
 ghost use Rattle.block_rule.specs.Accounts.{counted_of};
 ghost use Rattle.phase_step.specs.Actions.{acted};
 ghost use Rattle.phase_step.specs.Exchanges.{leaves_of};
-ghost use Rattle.phase_step.specs.Parts.{own_moves, own_rows, tile_in, IsOwn, IsTileOf, IsPartOf, IsTurned, AreTurnedTo, IsReady, IsOfSome, CanRunPart, HasRunPart, whole_part};
+ghost use Rattle.phase_step.specs.Parts.{own_moves, own_rows, tile_in, IsOwn, IsTileOf, IsPartOf, IsTurned, IsRowTurned, IsReady, IsOfSome, CanRunPart, HasRunPart, whole_part};
 ghost use Rattle.phase_step.specs.WholeRuns.{dynamics, CanRun, HasRunWhole};
 
 use crate::exchanges::{Action, Exchange};
@@ -135,8 +135,7 @@ fn own_tiles(part: Part, cells: &Plane) -> OwnTiles
     }
 }
 
-// The phase of parity 1 of one of a part's own rows of tiles. `took` is what is taken in those above it; returns the same with
-// this row.
+// The phase of parity 1 of one of a part's own rows of tiles. Returns what is taken in it.
 #[inline(always)]
 fn turn_odd_row(
     old: &Plane,
@@ -144,16 +143,14 @@ fn turn_odd_row(
     part: Part,
     counted: Counted,
     row: u32,
-    took: Took,
     out: &mut Plane,
 ) -> Took
     requires ready { let s = ground.solids.now in
         IsReady part s.walls s.obstacles old.now 63 }
     requires row { (part.margin ≤ row) × (row + part.margin < old.now.height / 64) }
-    requires so_far { let s = ground.solids.now in
-        AreTurnedTo row part 1 counted s.walls s.obstacles old.now out.old took }
+    requires sides { HasSidesOf out.old old.now }
     ensures { let s = ground.entry.solids.now in
-        AreTurnedTo (row + 1) part 1 counted s.walls s.obstacles old.now out.new result }
+        IsRowTurned row part counted s.walls s.obstacles old.now out.old out.new result }
 {
     let across = old.across();
     let rows = old.rows_round(row);
@@ -161,7 +158,7 @@ fn turn_odd_row(
     let there = tile_there(part, across, first);
     // Without walls and obstacles the compiler then makes vectors of all that the loop does.
     let free = ground.no_walls & ground.no_obstacles;
-    let mut took = took;
+    let mut took = Took::ZERO;
     for column in 0..across {
         let tile_solids = ground.in_tile(there + column);
         let tile = out.tile_mut(first + column);
@@ -194,13 +191,15 @@ fn turn_even_part(particles: &mut Plane, ground: Ground<'_>, part: Part, counted
     took
 }
 
-// A phase of a part's own tiles, in place. Returns what is taken in them.
+// A phase of a part's own tiles, in place. Returns what is taken in them. At odd parity it goes through the rows of tiles from
+// the last one up, if `back` says so, and else from the first one down.
 #[inline(always)]
 fn turn_part(
     particles: &mut Plane,
     ground: Ground<'_>,
     part: Part,
     parity: u8,
+    back: bool,
     counted: Counted,
     spare: &mut Plane,
 ) -> Took
@@ -217,8 +216,10 @@ fn turn_part(
     }
     let down = particles.size().height() as u32 / 64;
     let mut took = Took::ZERO;
-    for row in part.margin..down - part.margin {
-        took = turn_odd_row(particles, ground, part, counted, row, took, spare);
+    for k in part.margin..down - part.margin {
+        let row = if back { down - 1 - k } else { k };
+        let here = turn_odd_row(particles, ground, part, counted, row, spare);
+        took = took.plus(here);
     }
     mem::swap(particles, spare);
     took
@@ -291,6 +292,7 @@ fn run_on<A: Action>(
     run: Run<'_, A>,
     absent: (bool, bool),
     counted: Counted,
+    back: bool,
     spare: &mut Plane,
 ) -> Flow
     requires absent { (IsTrue absent.0 → HasNoBlocks run.solids.now.walls)
@@ -311,7 +313,8 @@ fn run_on<A: Action>(
     let mut flow = Flow::ZERO;
     for k in 0..run.n {
         let now = parity_at(run.parity, k);
-        let took = turn_part(particles, ground, part, now, counted, spare);
+        let turned = (k & 2 != 0) != back;
+        let took = turn_part(particles, ground, part, now, turned, counted, spare);
         let moved = act_after(particles, run.action, k, part, 1 - now);
         flow = flow.plus(Flow { took, moved });
     }
@@ -320,7 +323,8 @@ fn run_on<A: Action>(
 
 /// A run on a part of a lattice, in place. A part with margins makes one phase at most. Returns
 /// what it comes to in the part's own tiles; an account that is not kept has 0. `spare` is
-/// overwritten.
+/// overwritten. Odd phases go through the rows of tiles down and up in turns, the first one up if `back` says so: the rows that a
+/// phase ends with are those that the cache still has.
 // The planes' tiles are then read by reference, which the vectors of its loops need.
 #[inline(never)]
 pub fn run_part<A: Action>(
@@ -328,6 +332,7 @@ pub fn run_part<A: Action>(
     part: Part,
     run: Run<'_, A>,
     counted: Counted,
+    back: bool,
     spare: &mut Plane,
 ) -> Flow
     requires { let r = run in
@@ -342,28 +347,28 @@ pub fn run_part<A: Action>(
     let Counted { walls, obstacles } = counted;
     // Seven loops: each asks its tiles for the sets that have cells, and knows which accounts it keeps.
     match (absent, walls, obstacles) {
-        ((true, true), ..) => run_on(particles, part, run, (true, true), counted, spare),
+        ((true, true), ..) => run_on(particles, part, run, (true, true), counted, back, spare),
         ((true, false), _, true) => {
             let counted = keeping(walls, true);
-            run_on(particles, part, run, (true, false), counted, spare)
+            run_on(particles, part, run, (true, false), counted, back, spare)
         }
         ((true, false), _, false) => {
             let counted = keeping(walls, false);
-            run_on(particles, part, run, (true, false), counted, spare)
+            run_on(particles, part, run, (true, false), counted, back, spare)
         }
         ((false, true), true, _) => {
             let counted = keeping(true, obstacles);
-            run_on(particles, part, run, (false, true), counted, spare)
+            run_on(particles, part, run, (false, true), counted, back, spare)
         }
         ((false, true), false, _) => {
             let counted = keeping(false, obstacles);
-            run_on(particles, part, run, (false, true), counted, spare)
+            run_on(particles, part, run, (false, true), counted, back, spare)
         }
         ((false, false), false, true) => {
             let counted = keeping(false, true);
-            run_on(particles, part, run, (false, false), counted, spare)
+            run_on(particles, part, run, (false, false), counted, back, spare)
         }
-        ((false, false), ..) => run_on(particles, part, run, (false, false), counted, spare),
+        ((false, false), ..) => run_on(particles, part, run, (false, false), counted, back, spare),
     }
 }
 
@@ -401,7 +406,7 @@ pub fn run_whole<A: Action>(
         particles.old particles.new spare.new result }
 {
     let part = whole(particles);
-    let flow = run_part(particles, part, run, counted, spare);
+    let flow = run_part(particles, part, run, counted, false, spare);
     particles.shows_lattice();
     flow
 }

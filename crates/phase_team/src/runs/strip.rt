@@ -125,7 +125,8 @@ impl Strip {
             action: &action,
         };
         let Strip { cells, spare, .. } = self;
-        run_part(cells, part, run, input.counted, spare)
+        let back = (input.from + k) & 2 != 0;
+        run_part(cells, part, run, input.counted, back, spare)
     }
 
     // Shows its first and its last row, as they are after so many phases. False if a strip has given up.

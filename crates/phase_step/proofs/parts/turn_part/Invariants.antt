@@ -1,11 +1,13 @@
-use Rattle.std.proofs.Common.{◌≤◌}
-use Rattle.phase_step.specs.Parts.{AreTurnedTo}
+use Rattle.std.proofs.Common.{◌≡◌, ◌-◌, ◌≤◌, true, false}
+use Rattle.phase_step.specs.Parts.{AreTurnedIn}
 use Rattle.phase_step.proofs.parts.turn_part.Given as goal
 
-abbrev pub invariant-loop-row : goal.invariant-loop-row
-invariant-loop-row l =
+abbrev pub invariant-loop-k : goal.invariant-loop-k
+invariant-loop-k l =
     let s = l.ground.solids.now in
+    let margin = l.fn.part.margin in
     record {
-      from : l.initial.row ≤ l.row;
-      turned : AreTurnedTo l.row l.fn.part 1 l.fn.counted s.walls s.obstacles l.particles l.spare l.took;
+      from : l.initial.k ≤ l.k;
+      up : l.fn.back ≡ false → AreTurnedIn margin l.k l.fn.part l.fn.counted s.walls s.obstacles l.particles l.spare l.took;
+      back : l.fn.back ≡ true → AreTurnedIn (l.down - l.k) (l.down - margin) l.fn.part l.fn.counted s.walls s.obstacles l.particles l.spare l.took;
     }
