@@ -11,8 +11,10 @@
 //   cc -O3 -march=x86-64-v3 -DSIDE=2048 -o hpp tools/hpp.c
 //   ./hpp classes free 1000    1,000 steps, by tiles of parity classes: even phases in place, walled blocks prepared for
 //                              each parity and masked, one account counted if there are walls and obstacles, and else
-//                              none. The fastest that we have.
-//   ./hpp classes free 1000 2  the same, and the accounts are known after every second step
+//                              none
+//   ./hpp turns free 1000      the same, and odd phases go down and up in turns, as the program's do. The fastest that
+//                              we have.
+//   ./hpp classes free 1000 2  the accounts are known after every second step, by turns too
 //   ./hpp rows free 1000       the same by rows of 64-bit words, as one writes it first
 //   ./hpp lines free           the same lattice as lines of commands for gaslab
 //
@@ -106,7 +108,7 @@ typedef struct {
 
 static tile first[TILES] PAGE, second[TILES] PAGE;
 static held walled[2] PAGE, obstacles_held[2] PAGE; // by parity: blocks with a cell of any set, and with one of an obstacle
-static int some_walls, some_obstacles;
+static int some_walls, some_obstacles, turns;
 static long long took[4];
 
 // what becomes of 32 blocks: each particle crosses, but two that meet head on leave at right angles
@@ -250,14 +252,17 @@ ALWAYS void even_phase(tile *p, const int solid, int counted)
     }
 }
 
-ALWAYS void odd_phase(const tile *from, tile *to, const int solid, int counted)
+// The rows of tiles come from the last one up if `back` is set.
+ALWAYS void odd_phase(const tile *from, tile *to, const int solid, int counted, int back)
 {
-    for (int y = 0, i = 0; y < WORDS; y++)
-        for (int x = 0; x < WORDS; x++, i++) {
+    for (int k = 0; k < WORDS; k++) {
+        int y = back ? WORDS - 1 - k : k;
+        for (int x = 0, i = y * WORDS; x < WORDS; x++, i++) {
             near n = near_of(from, x, y);
             if (counted) book_obstacles(from + i, i, 1);
             odd(from + i, &n, solid ? walled[1].rows[i] : 0, to + i);
         }
+    }
 }
 
 static half *class_of(tile *t, int x, int y) { return y % 2 ? x % 2 ? t->oo : t->eo : x % 2 ? t->oe : t->ee; }
@@ -330,8 +335,9 @@ static void run_classes(int steps, int each)
     long long before[2] = {0, 0};
     if (some) add_all(now, 0, 1, before);
     for (int t = 0; t < steps; t++) {
+        int back = turns && t % 4 == 3; // the rows that the last odd phase ended with are still in the cache
         if (t % 2)
-            some ? odd_phase(now, spare, 1, both) : odd_phase(now, spare, 0, 0), old = now, now = spare, spare = old;
+            some ? odd_phase(now, spare, 1, both, back) : odd_phase(now, spare, 0, 0, back), old = now, now = spare, spare = old;
         else
             some ? even_phase(now, 1, both) : even_phase(now, 0, 0);
         if (some && ((t + 1) % each == 0 || t + 1 == steps)) settle(now, t + 1, before);
@@ -449,9 +455,11 @@ static void tell(double microseconds, int tick)
 
 int main(int count, char **words)
 {
-    int lines = count == 3 && !strcmp(words[1], "lines"), classes = (count == 4 || count == 5) && !strcmp(words[1], "classes");
+    int lines = count == 3 && !strcmp(words[1], "lines"), classes;
+    turns = count > 1 && !strcmp(words[1], "turns");
+    classes = (count == 4 || count == 5) && (turns || !strcmp(words[1], "classes"));
     if ((!lines && !classes && (count != 4 || strcmp(words[1], "rows"))) || !lay(words[2], lines)) {
-        fprintf(stderr, "usage: hpp classes|rows free|channels|obstacles|mixed STEPS, hpp classes CASE STEPS EACH, or hpp lines CASE\n");
+        fprintf(stderr, "usage: hpp classes|turns|rows free|channels|obstacles|mixed STEPS, hpp classes|turns CASE STEPS EACH, or hpp lines CASE\n");
         return 2;
     }
     if (lines) return 0;
