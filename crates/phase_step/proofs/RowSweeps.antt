@@ -57,8 +57,8 @@ tile_before before now i t sides within kept from = grind (arith, has, wide)
 
 -- A row of tiles is made tile by tile: the next one is tile i, in this column.
 module _ (cells now : Cells) (row column i : ℕ) (t : Tile) (sized : is_size (extent cells) ≡ true) (sides : HasSidesOf now cells) (low : row < cells.height / 64) (less : column < cells.width / 64) (place : i ≡ row * (cells.width / 64) + column) where
-  stays : (x y : ℕ) → x < cells.width → y < cells.height → (tile_of cells x y ≡ i → ⊥) → has (with_tile now i t) x y ≡ has now x y
-  stays x y h k other =
+  same_elsewhere : (x y : ℕ) → x < cells.width → y < cells.height → (tile_of cells x y ≡ i → ⊥) → has (with_tile now i t) x y ≡ has now x y
+  same_elsewhere x y h k other =
       has-cells_where now.width now.height (λ x y. if tile_of now x y == i then tile.has t (x % 64) (y % 64) else has now x y) x y (subst (λ w. x < w) (sym sides.wide) h) (subst (λ n. y < n) (sym sides.high) k)
       ∙ sym (choose_false _ _ _ _ (ne_eqb _ i (λ e. other (subst (λ w. y / 64 * (w / 64) + x / 64 ≡ i) sides.wide e))) refl)
 
@@ -83,7 +83,7 @@ module _ (cells now : Cells) (row column i : ℕ) (t : Tile) (sized : is_size (e
             let right : x < cells.width = let w = across.tiles in omega (arith, h, less, w) in
             let bottom : row * 64 + y < cells.height = cell_below cells.height row y down low q in
             let place_of : tile_of cells x (row * 64 + y) ≡ row * a + x / 64 = ap (λ n. n * a + x / 64) (div-mul-add row 64 y q) in
-            stays x (row * 64 + y) right bottom (λ e. ne (let f : row * a + x / 64 ≡ row * a + column = sym place_of ∙ (e ∙ place) in omega (arith, f)))
+            same_elsewhere x (row * 64 + y) right bottom (λ e. ne (let f : row * a + x / 64 ≡ row * a + column = sym place_of ∙ (e ∙ place) in omega (arith, f)))
             ∙ so_far x y (omega (arith, h, ne)) q
       ]
 
@@ -93,7 +93,7 @@ module _ (cells now : Cells) (row column i : ℕ) (t : Tile) (sized : is_size (e
   others_next before so_far x y h k other =
       let a = cells.width / 64 in
       let c : x / 64 < a = tile_below cells.width x (wide (extent cells) sized) h in
-      stays x y h k (λ e. other (sym (div-mul-add (y / 64) a (x / 64) c) ∙ (ap (λ n. n / a) (e ∙ place) ∙ div-mul-add row a column less)))
+      same_elsewhere x y h k (λ e. other (sym (div-mul-add (y / 64) a (x / 64) c) ∙ (ap (λ n. n / a) (e ∙ place) ∙ div-mul-add row a column less)))
       ∙ so_far x y h k other
 
 -- when each own tile has them

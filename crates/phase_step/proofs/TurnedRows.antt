@@ -1,7 +1,6 @@
 -- Rows of tiles that are turned one after another, down a part or up.
 use Rattle.std.proofs.Common.{◌≡◌, ℕ, ◌+◌, ◌-◌, ◌*◌, ◌/◌, ◌%◌, ◌<◌, ◌≤◌, ◌^◌, true, sym, ap, ap₂, ◌∙◌, subst, arith, inl, inr, ◌⊎◌, mul-le-mul}
 use Rattle.std.proofs.Math.Nat.{mod-lt}
-use Rattle.std.proofs.lemmas.Int.{ints}
 use Rattle.std.proofs.lemmas.Bool.{cases_lt}
 use Rattle.gas_terms.specs.Cells.{Cells, HasSidesOf, has, joined, extent, is_size, tile_count}
 use Rattle.gas_terms.specs.Gas.{streamed}
@@ -18,7 +17,7 @@ use Rattle.phase_step.proofs.PartTurns.{own_tops}
 use Rattle.phase_step.proofs.RowSweeps.{all_turned}
 use Rattle.phase_step.proofs.OwnTiles.{own_at, own_number, rows_less}
 use Rattle.phase_step.proofs.RunTakes.{tiles_split, IsWithin, tiles_within, counted_within, counted_none, counted_plus, within_fits}
-use Rattle.phase_step.proofs.TakenSums.{pair_same, took_same}
+use Rattle.phase_step.proofs.TakenSums.{took_plus-comm}
 
 -- the number in the lattice of an own row's first tile
 pub row_number : (part : Part) (cells lattice : Cells) (row : ℕ) → is_size (extent cells) ≡ true → IsPlaced part cells lattice → part.margin ≤ row → row + part.margin < cells.height / 64
@@ -39,9 +38,6 @@ rows_split c w o first m n a =
     ∙ (tiles_split 1 c w o (first * a) (m * a) (n * a)
     ∙ ap (λ f. took_plus (tiles_take 1 c w o (first * a) (m * a)) (tiles_take 1 c w o f (n * a))) (let e : first * a + m * a ≡ (first + m) * a = omega arith in e))
 
-turned_round : (a b : Took) → took_plus a b ≡ took_plus b a
-turned_round a b = grind (arith, took_same, pair_same, ints)
-
 module _ (part : Part) (kept : Counted) (w o old : Cells) where
   -- none of them
   pub none_turned : (now : Cells) (i : ℕ) → HasSidesOf now old → AreTurnedIn i i part kept w o old now nothing
@@ -57,8 +53,8 @@ module _ (part : Part) (kept : Counted) (w o old : Cells) where
             counted_none kept ∙ ap (λ n. counted_of kept (tiles_take 1 lattice w o f n)) e;
       }
 
-  both : (now : Cells) (i j k : ℕ) (took more : Took) → part.margin ≤ i → i ≤ j → j ≤ k → AreTurnedIn i j part kept w o old now took → AreTurnedIn j k part kept w o old now more → AreTurnedIn i k part kept w o old now (took_plus took more)
-  both now i j k took more low up on these those =
+  joined_rows : (now : Cells) (i j k : ℕ) (took more : Took) → part.margin ≤ i → i ≤ j → j ≤ k → AreTurnedIn i j part kept w o old now took → AreTurnedIn j k part kept w o old now more → AreTurnedIn i k part kept w o old now (took_plus took more)
+  joined_rows now i j k took more low up on these those =
       record {
         sides = these.sides;
         rows = λ lattice is x y h from to.
@@ -76,8 +72,8 @@ module _ (part : Part) (kept : Counted) (w o old : Cells) where
       }
 
   -- what was turned before another row
-  stay : (before now : Cells) (i j row : ℕ) (took here : Took) → is_size (extent old) ≡ true → j ≤ old.height / 64 → (j ≤ row) ⊎ (row < i) → AreTurnedIn i j part kept w o old before took → IsRowTurned row part kept w o old before now here → AreTurnedIn i j part kept w o old now took
-  stay before now i j row took here sized within apart these is =
+  kept_rows : (before now : Cells) (i j row : ℕ) (took here : Took) → is_size (extent old) ≡ true → j ≤ old.height / 64 → (j ≤ row) ⊎ (row < i) → AreTurnedIn i j part kept w o old before took → IsRowTurned row part kept w o old before now here → AreTurnedIn i j part kept w o old now took
+  kept_rows before now i j row took here sized within apart these is =
       record {
         sides = is.turned.sides;
         rows = λ lattice part_of x y h from to.
@@ -88,14 +84,14 @@ module _ (part : Part) (kept : Counted) (w o old : Cells) where
       }
 
   -- one row more, below those or above them
-  pub one_below : (before now : Cells) (i j : ℕ) (took here : Took) → is_size (extent old) ≡ true → part.margin ≤ i → i ≤ j → j < old.height / 64 → AreTurnedIn i j part kept w o old before took → IsRowTurned j part kept w o old before now here → AreTurnedIn i (j + 1) part kept w o old now (took_plus took here)
-  one_below before now i j took here sized low up within these is =
-      both now i j (j + 1) took here low up (omega arith) (stay before now i j j took here sized (omega (arith, within)) (inl (omega arith)) these is) is.turned
+  pub row_below : (before now : Cells) (i j : ℕ) (took here : Took) → is_size (extent old) ≡ true → part.margin ≤ i → i ≤ j → j < old.height / 64 → AreTurnedIn i j part kept w o old before took → IsRowTurned j part kept w o old before now here → AreTurnedIn i (j + 1) part kept w o old now (took_plus took here)
+  row_below before now i j took here sized low up within these is =
+      joined_rows now i j (j + 1) took here low up (omega arith) (kept_rows before now i j j took here sized (omega (arith, within)) (inl (omega arith)) these is) is.turned
 
-  pub one_above : (before now : Cells) (i j : ℕ) (took here : Took) → is_size (extent old) ≡ true → part.margin ≤ i → i + 1 ≤ j → j ≤ old.height / 64 → AreTurnedIn (i + 1) j part kept w o old before took → IsRowTurned i part kept w o old before now here → AreTurnedIn i j part kept w o old now (took_plus took here)
-  one_above before now i j took here sized low up within these is =
-      subst (AreTurnedIn i j part kept w o old now) (turned_round here took)
-      (both now i (i + 1) j here took low (omega arith) up is.turned (stay before now (i + 1) j i took here sized within (inr (omega arith)) these is))
+  pub row_above : (before now : Cells) (i j : ℕ) (took here : Took) → is_size (extent old) ≡ true → part.margin ≤ i → i + 1 ≤ j → j ≤ old.height / 64 → AreTurnedIn (i + 1) j part kept w o old before took → IsRowTurned i part kept w o old before now here → AreTurnedIn i j part kept w o old now (took_plus took here)
+  row_above before now i j took here sized low up within these is =
+      subst (AreTurnedIn i j part kept w o old now) (took_plus-comm here took)
+      (joined_rows now i (i + 1) j here took low (omega arith) up is.turned (kept_rows before now (i + 1) j i took here sized within (inr (omega arith)) these is))
 
   -- their sum can be made
   pub rows_fit : (before now lattice : Cells) (i j k l : ℕ) (took here : Took) → IsPartOf part w o old lattice 63 → j - i ≤ 64 → l - k ≤ 64 → AreTurnedIn i j part kept w o old before took → AreTurnedIn k l part kept w o old now here

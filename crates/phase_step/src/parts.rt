@@ -63,8 +63,8 @@ pub fn turn_even_in_part(tile_solids: TileSolids<'_>, counted: Counted, tile: &m
     turn_tile_even(tile, tile_solids.walls, tile_solids.obstacles, counted)
 }
 
-/// The same at odd parity: its blocks reach into the part's tiles round it. `in_place` is a word to the compiler, as
-/// `turn_tile_odd` has it.
+/// The same at odd parity: its blocks reach into the part's tiles round it. `in_place` is a word to
+/// the compiler, as `turn_tile_odd` has it.
 #[inline(always)]
 pub fn turn_odd_in_part(
     rows: TileRows<'_>,
@@ -191,15 +191,15 @@ fn turn_even_part(particles: &mut Plane, ground: Ground<'_>, part: Part, counted
     took
 }
 
-// A phase of a part's own tiles, in place. Returns what is taken in them. At odd parity it goes through the rows of tiles from
-// the last one up, if `back` says so, and else from the first one down.
+// A phase of a part's own tiles, in place. Returns what is taken in them. At odd parity it goes
+// through the rows of tiles from the last one up, if `up` says so, and else from the first one down.
 #[inline(always)]
 fn turn_part(
     particles: &mut Plane,
     ground: Ground<'_>,
     part: Part,
     parity: u8,
-    back: bool,
+    up: bool,
     counted: Counted,
     spare: &mut Plane,
 ) -> Took
@@ -217,7 +217,7 @@ fn turn_part(
     let down = particles.size().height() as u32 / 64;
     let mut took = Took::ZERO;
     for k in part.margin..down - part.margin {
-        let row = if back { down - 1 - k } else { k };
+        let row = if up { down - 1 - k } else { k };
         let here = turn_odd_row(particles, ground, part, counted, row, spare);
         took = took.plus(here);
     }
@@ -284,7 +284,8 @@ fn act_after<A: Action>(particles: &mut Plane, action: &A, k: u16, part: Part, p
     act_on_part(particles, &action.after_phase(k), part, parity)
 }
 
-// The loop of a run. `absent` is what is known: that there are no walls, and that there are no obstacles.
+// The loop of a run. `absent` is what is known: that there are no walls, and that there are no
+// obstacles.
 #[inline(always)]
 fn run_on<A: Action>(
     particles: &mut Plane,
@@ -292,7 +293,7 @@ fn run_on<A: Action>(
     run: Run<'_, A>,
     absent: (bool, bool),
     counted: Counted,
-    back: bool,
+    up: bool,
     spare: &mut Plane,
 ) -> Flow
     requires absent { (IsTrue absent.0 → HasNoBlocks run.solids.now.walls)
@@ -313,8 +314,8 @@ fn run_on<A: Action>(
     let mut flow = Flow::ZERO;
     for k in 0..run.n {
         let now = parity_at(run.parity, k);
-        let turned = (k & 2 != 0) != back;
-        let took = turn_part(particles, ground, part, now, turned, counted, spare);
+        let up_now = (k & 2 != 0) != up;
+        let took = turn_part(particles, ground, part, now, up_now, counted, spare);
         let moved = act_after(particles, run.action, k, part, 1 - now);
         flow = flow.plus(Flow { took, moved });
     }
@@ -323,8 +324,8 @@ fn run_on<A: Action>(
 
 /// A run on a part of a lattice, in place. A part with margins makes one phase at most. Returns
 /// what it comes to in the part's own tiles; an account that is not kept has 0. `spare` is
-/// overwritten. Odd phases go through the rows of tiles down and up in turns, the first one up if `back` says so: the rows that a
-/// phase ends with are those that the cache still has.
+/// overwritten. Odd phases go through the rows of tiles down and up in turns, the first one up if
+/// `up` says so: the rows that a phase ends with are those that the cache still has.
 // The planes' tiles are then read by reference, which the vectors of its loops need.
 #[inline(never)]
 pub fn run_part<A: Action>(
@@ -332,7 +333,7 @@ pub fn run_part<A: Action>(
     part: Part,
     run: Run<'_, A>,
     counted: Counted,
-    back: bool,
+    up: bool,
     spare: &mut Plane,
 ) -> Flow
     requires { let r = run in
@@ -347,28 +348,28 @@ pub fn run_part<A: Action>(
     let Counted { walls, obstacles } = counted;
     // Seven loops: each asks its tiles for the sets that have cells, and knows which accounts it keeps.
     match (absent, walls, obstacles) {
-        ((true, true), ..) => run_on(particles, part, run, (true, true), counted, back, spare),
+        ((true, true), ..) => run_on(particles, part, run, (true, true), counted, up, spare),
         ((true, false), _, true) => {
             let counted = keeping(walls, true);
-            run_on(particles, part, run, (true, false), counted, back, spare)
+            run_on(particles, part, run, (true, false), counted, up, spare)
         }
         ((true, false), _, false) => {
             let counted = keeping(walls, false);
-            run_on(particles, part, run, (true, false), counted, back, spare)
+            run_on(particles, part, run, (true, false), counted, up, spare)
         }
         ((false, true), true, _) => {
             let counted = keeping(true, obstacles);
-            run_on(particles, part, run, (false, true), counted, back, spare)
+            run_on(particles, part, run, (false, true), counted, up, spare)
         }
         ((false, true), false, _) => {
             let counted = keeping(false, obstacles);
-            run_on(particles, part, run, (false, true), counted, back, spare)
+            run_on(particles, part, run, (false, true), counted, up, spare)
         }
         ((false, false), false, true) => {
             let counted = keeping(false, true);
-            run_on(particles, part, run, (false, false), counted, back, spare)
+            run_on(particles, part, run, (false, false), counted, up, spare)
         }
-        ((false, false), ..) => run_on(particles, part, run, (false, false), counted, back, spare),
+        ((false, false), ..) => run_on(particles, part, run, (false, false), counted, up, spare),
     }
 }
 

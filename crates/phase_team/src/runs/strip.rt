@@ -125,8 +125,8 @@ impl Strip {
             action: &action,
         };
         let Strip { cells, spare, .. } = self;
-        let back = (input.from + k) & 2 != 0;
-        run_part(cells, part, run, input.counted, back, spare)
+        let up = (input.from + k) & 2 != 0;
+        run_part(cells, part, run, input.counted, up, spare)
     }
 
     // Shows its first and its last row, as they are after so many phases. False if a strip has given up.

@@ -8,6 +8,6 @@ invariant-loop-k l =
     let margin = l.fn.part.margin in
     record {
       from : l.initial.k ≤ l.k;
-      up : l.fn.back ≡ false → AreTurnedIn margin l.k l.fn.part l.fn.counted s.walls s.obstacles l.particles l.spare l.took;
-      back : l.fn.back ≡ true → AreTurnedIn (l.down - l.k) (l.down - margin) l.fn.part l.fn.counted s.walls s.obstacles l.particles l.spare l.took;
+      downward : l.fn.up ≡ false → AreTurnedIn margin l.k l.fn.part l.fn.counted s.walls s.obstacles l.particles l.spare l.took;
+      upward : l.fn.up ≡ true → AreTurnedIn (l.down - l.k) (l.down - margin) l.fn.part l.fn.counted s.walls s.obstacles l.particles l.spare l.took;
     }
