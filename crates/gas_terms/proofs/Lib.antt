@@ -49,3 +49,4 @@ pub mod Pigeonhole
 pub mod Codes
 pub mod Recurrence
 pub mod Lines
+pub mod Diagonals

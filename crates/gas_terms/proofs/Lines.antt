@@ -17,7 +17,7 @@ use Rattle.gas_terms.proofs.Parity.{parity-small, parity-next}
 use Rattle.gas_terms.proofs.Torus.{solid_sides, obstacles_sides, torus_forward}
 use Rattle.std.proofs.Math.Bool.{and-true, and-false}
 
-abbrev bit : Bool → ℕ
+abbrev pub bit : Bool → ℕ
 bit b = cond b 1 0
 
 -- The other coordinate's other coordinate is the first.
@@ -29,13 +29,13 @@ turned_parity n p x false e l q =
     let odd : (x + p) % 2 ≡ 0 → ⊥ = eqb-false _ _ q in
     has_parity_true p ((x + n - 1) % n) (omega (arith, down_parity n x e l))
 
-other_other : (n p x : ℕ) → n % 2 ≡ 0 → x < n → other_coordinate n p (other_coordinate n p x) ≡ x
+pub other_other : (n p x : ℕ) → n % 2 ≡ 0 → x < n → other_coordinate n p (other_coordinate n p x) ≡ x
 other_other n p x e l = grind (arith, turned_parity, along_back)
 
 module _ (p : ℕ) (cells walls : Cells) (e : HasEvenSides cells.width cells.height) (s : HasSidesOf walls cells)
     (clear : (x y : ℕ) → x < walls.width → y < walls.height → has walls x y ≡ false) where
   -- what a cell gets, by the four cells of its block
-  cell_in_clear : (x y : ℕ) → x < cells.width → y < cells.height →
+  pub cell_in_clear : (x y : ℕ) → x < cells.width → y < cells.height →
       has (streamed p cells walls) x y
       ≡ corner_rule false (has cells x y) (has cells (other_coordinate cells.width p x) (other_coordinate cells.height p y))
       (has cells (other_coordinate cells.width p x) y) (has cells x (other_coordinate cells.height p y))

@@ -1,5 +1,5 @@
 -- A map of cells that commutes with one step is a symmetry.
-use Rattle.std.proofs.Common.{◌≡◌, ℤ, pos, ◌+ℤ◌, ◌-ℤ◌, sym, ap, ◌∙◌, arith}
+use Rattle.std.proofs.Common.{◌≡◌, ℤ, pos, ◌+ℤ◌, ◌-ℤ◌, sym, ap, ◌∙◌}
 use Rattle.gas_terms.specs.Velocity.{parity}
 use Rattle.gas_terms.specs.Cells.{Cells, joined, HasEvenSides, HasSidesOf}
 use Rattle.gas_terms.specs.Gas.{Gas, streamed, unstreamed, solid, forward, back}

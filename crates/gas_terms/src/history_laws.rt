@@ -3,9 +3,9 @@
 ghost use Rattle.std.specs.Prelude.{◌≡◌, ℕ, ◌<◌, Bool};
 ghost use Rattle.std.specs.Fn.{iterate};
 ghost use Rattle.gas_terms.specs.Cells.{Cells, HasSidesOf, IsEvenTorus};
-ghost use Rattle.gas_terms.specs.Gas.{Gas, along, forward};
+ghost use Rattle.gas_terms.specs.Gas.{Gas, along, forward, back};
 ghost use Rattle.gas_terms.specs.Symmetry.{IsOnOneTorus, with_particles};
-ghost use Rattle.gas_terms.specs.Histories.{MoveByOneRule, origin, Recurs, IsClear, in_column, in_row};
+ghost use Rattle.gas_terms.specs.Histories.{MoveByOneRule, origin, Recurs, IsClear, in_column, in_row, ClosesBy, momentum_along};
 
 /// Liouville: on one torus with one set of walls and obstacles, n steps map the sets of particles one to one onto themselves.
 pub fn histories_never_merge()
@@ -48,4 +48,15 @@ pub fn lines_keep_their_numbers()
         y < g.particles.height →
         in_row down (iterate forward n g) (iterate (along g.particles.height down) n y)
         ≡ in_row down g y }
+{}
+
+/// Without walls and obstacles each diagonal, which is a line of the lattice, keeps its momentum along itself: a collision
+/// takes one particle each way from a diagonal, or brings one each way.
+pub fn diagonals_keep_their_momentum()
+    ensures forth { (n m rest : ℕ) (falls : Bool) (g : Gas) →
+        IsOnOneTorus g → IsClear g → ClosesBy m g.particles →
+        momentum_along falls m rest (iterate forward n g) ≡ momentum_along falls m rest g }
+    ensures back { (n m rest : ℕ) (falls : Bool) (g : Gas) →
+        IsOnOneTorus g → IsEvenTorus g.particles → IsClear g → ClosesBy m g.particles →
+        momentum_along falls m rest (iterate back n g) ≡ momentum_along falls m rest g }
 {}
