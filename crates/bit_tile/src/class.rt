@@ -49,21 +49,6 @@ pub fn put(class: &mut [u32; 32], i: u32, j: u32, held: bool)
     };
 }
 
-/// Whether two classes have the same cells.
-pub fn same(class: &[u32; 32], other: &[u32; 32]) -> bool
-    ensures same { IsTrue result →
-        (i j : ℕ) → j < 32 → in_class class.now i j ≡ in_class other.now i j }
-    ensures known { ((i j : ℕ) → i < 32 → j < 32 →
-        in_class class.now i j ≡ in_class other.now i j) → IsTrue result }
-{
-    for j in 0..32usize {
-        if class[j] != other[j] {
-            return false;
-        }
-    }
-    true
-}
-
 /// How many cells a class has: those of two rows at a time.
 pub fn ones(class: &[u32; 32]) -> u32
     ensures count { result ≡ sum_below 32 (λ j. count_below 32 (bit (slice_index class.now j))) }

@@ -1,6 +1,6 @@
 //! A tile: a set of 64 by 64 cells, one bit for each, in 128 words of 32 cells sorted by the parities of column and row.
 //!
-//! The program uses all of it but `Tile::set` and `Tile::count`, which are there for callers of the library.
+//! The program uses all of it but `Tile::set` and `Tile::count`, which are for callers of the library.
 #![tactic(auto)]
 
 ghost use Rattle.std.specs.Prelude.{◌≡◌, ℕ, ◌+◌, ◌*◌, ◌/◌, ◌<◌, ◌≤◌, Bool, true, false, not, ◌&&◌, ◌||◌, ◌==◌, ◌%◌, ◌↔◌, nat_lt, nat_le, if◌then◌else◌, slice_index, IsTrue};
@@ -11,7 +11,7 @@ mod row;
 mod word;
 
 pub use class::span;
-use class::{add, both, ones, put, remove, rows_of, same};
+use class::{add, both, ones, put, remove, rows_of};
 pub use row::counts_in_row;
 pub use word::joined;
 use word::{gather, in_turn};
@@ -212,32 +212,6 @@ impl Tile {
         ensures known { ((x y : ℕ) → x < 64 → y / 2 ≡ j → has self.now x y ≡ false) → result ≡ 0 }
     {
         self.even_even[j] | self.odd_even[j] | self.even_odd[j] | self.odd_odd[j]
-    }
-
-    /// Which pairs of rows have cells: bit j is 0 exactly if rows 2 * j and 2 * j + 1 have none.
-    pub fn rows_with_cells(&self) -> u32
-        ensures none { (x y : ℕ) → x < 64 → y < 64 → bit result (y / 2) ≡ false →
-            has self.now x y ≡ false }
-        ensures known { (j : ℕ) → j < 32 →
-            ((x y : ℕ) → x < 64 → y / 2 ≡ j → has self.now x y ≡ false) → bit result j ≡ false }
-    {
-        let mut rows = 0;
-        for j in 0..32usize {
-            if self.any_in_rows(j) != 0 {
-                rows |= 1 << j;
-            }
-        }
-        rows
-    }
-
-    /// Whether the other has the same cells.
-    pub fn has_same_cells(&self, other: &Tile) -> bool
-        ensures { IsTrue result ↔ HasCells self.now (has other.now) }
-    {
-        same(&self.even_even, &other.even_even)
-            && same(&self.odd_even, &other.odd_even)
-            && same(&self.even_odd, &other.even_odd)
-            && same(&self.odd_odd, &other.odd_odd)
     }
 
     /// How many cells there are.

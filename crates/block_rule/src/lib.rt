@@ -1,7 +1,7 @@
 //! The block rule of the HPP gas: for one block of 2 by 2 cells, and for a tile, 32 blocks at once.
 //!
-//! The program calls `turn_tile_even` and `turn_tile_odd`, and `tile_blocks` for what they take. The module `one_tile`, with
-//! `turn_block` and `turn_tile`, is there for callers of the library.
+//! The program calls `turn_tile_even` and `turn_tile_odd`, and `TileBlocks::renew` for the walled blocks of a tile. `tile_blocks`
+//! serves single phases. The module `one_tile`, with `turn_block` and `turn_tile`, is for callers of the library.
 #![tactic(auto)]
 
 mod blocks;

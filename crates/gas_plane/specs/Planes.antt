@@ -37,19 +37,9 @@ pub record HasNone (cells : Cells) : Type 0 where
 pub record IsBare (cells : Cells) (x0 y0 : ℕ) : Type 0 where
   pub cell : (x y : ℕ) → x < 64 → y < 64 → has cells (x0 + x) (y0 + y) ≡ false
 
--- none of the 192 by 192 cells of the torus that have these in their midst
-pub record IsBareFarRound (cells : Cells) (x0 y0 : ℕ) : Type 0 where
-  pub cell : (i j : ℕ) → i < 192 → j < 192
-      → has cells ((x0 + i + cells.width - 64) % cells.width)
-      ((y0 + j + cells.height - 64) % cells.height) ≡ false
-
 -- round a circle of n places, the one before place k, itself and the one after it, for d = 0, 1 and 2
 abbrev pub place_by : ℕ → ℕ → ℕ → ℕ
 place_by k d n = (k + d + n - 1) % n
-
--- none of three tiles' cells is in the set: of the one in this column and row of tiles, and of the two beside it
-pub record AreThreeBare (cells : Cells) (column row : ℕ) : Type 0 where
-  pub each : (d : ℕ) → d ≤ 2 → IsBare cells (place_by column d (cells.width / 64) * 64) (row * 64)
 
 -- the columns at which tile i, the one to its left and the one to its right begin on the torus, for d = 1, 0 and 2
 abbrev pub column_by : Cells → ℕ → ℕ → ℕ

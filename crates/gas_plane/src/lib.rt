@@ -1,12 +1,13 @@
 //! A plane: a set of cells of a lattice, stored as tiles. The lattice is a torus.
 //!
-//! The program uses all of it but `Plane::get` and `Plane::border`, which are there for callers of the library.
+//! The program uses all of it but `Plane::get` and `Plane::border`, which are for callers of the library, and
+//! `Position::next`, which serves single phases.
 #![tactic(auto)]
 
 ghost use Rattle.std.specs.Borrow.{sem};
 ghost use Rattle.std.specs.Prelude.{◌↔◌, ◌≡◌, IsTrue, ◌*◌, ◌/◌, ◌<◌, ◌≤◌, length, false, IfOk};
 ghost use Rattle.gas_terms.specs.Cells.{has, cells_where, extent, tile_count, tile_rectangle};
-ghost use Rattle.gas_plane.specs.Planes.{IsLattice, IsTileFrom, IsBare, IsBareRound, IsBareFarRound, AreThreeBare, HasNone, with_tile};
+ghost use Rattle.gas_plane.specs.Planes.{IsLattice, IsTileFrom, IsBare, HasNone, with_tile};
 ghost use Rattle.gas_plane.specs.Lending.{LendsTile};
 ghost use Rattle.gas_plane.specs.Tiles.{AreTilesInRow};
 
@@ -123,19 +124,6 @@ impl Plane {
         &self.tiles[i as usize].tile
     }
 
-    /// Tile i, or, if it has no cell, the empty tile that all planes share, which stays in the cache.
-    #[inline]
-    pub fn tile_or_bare(&self, i: u32) -> &Tile
-        requires { i < tile_count self.now }
-        ensures { let r = tile_rectangle self.now i in IsTileFrom result.now self.now r.x r.y }
-    {
-        if self.is_bare(i) {
-            Tile::shared_empty()
-        } else {
-            self.tile(i)
-        }
-    }
-
     /// Replaces tile i.
     pub fn set_tile(&mut self, i: u32, tile: Tile)
         requires { i < tile_count self.old }
@@ -185,43 +173,6 @@ impl Plane {
             }
         }
         true
-    }
-
-    /// Whether neither tile i nor any of the eight tiles round it has a cell: so none is on the ring round it either.
-    #[inline]
-    pub fn is_bare_round(&self, i: u32) -> bool
-        requires { i < tile_count self.now }
-        ensures far { let r = tile_rectangle self.now i in
-            IsTrue result ↔ IsBareFarRound self.now r.x r.y }
-        ensures ring { let r = tile_rectangle self.now i in
-            IsTrue result → IsBareRound self.now r.x r.y }
-    {
-        let across = self.across();
-        let down = self.down();
-        // A tile that has cells needs no look round it.
-        if !self.is_bare(i) {
-            return false;
-        }
-        let column = i % across;
-        let row = i / across;
-        let above = self.are_three_bare(column, before(row, down));
-        let here = self.are_three_bare(column, row);
-        let below = self.are_three_bare(column, after(row, down));
-        above & here & below
-    }
-
-    // Whether the tile in this column and row of tiles has no cell, nor one of the two beside it.
-    #[inline]
-    fn are_three_bare(&self, column: u32, row: u32) -> bool
-        requires column { column < self.now.width / 64 }
-        requires row { row < self.now.height / 64 }
-        ensures { IsTrue result ↔ AreThreeBare self.now column row }
-    {
-        let across = self.across();
-        let left = self.is_bare(row * across + before(column, across));
-        let here = self.is_bare(row * across + column);
-        let right = self.is_bare(row * across + after(column, across));
-        left & here & right
     }
 
     /// How many tiles a row has.

@@ -2,7 +2,7 @@
 
 use crate::expected::{expect_same, expect_that};
 use crate::gases::{Piece, flow, moves, pair, run, sums, tick, took};
-use crate::lattices::{plane, solids};
+use crate::lattices::{plane, same_cells, solids};
 use crate::strips::stroke;
 use gas_ledger::{Flow, Sums, tally};
 use gas_plane::{Plane, Tile};
@@ -172,12 +172,12 @@ fn exchange_of_a_tile(rt: HostRuntime) {
         expect_that(&rt, !exchange.is_still());
         let mut tile = old;
         let change = exchange.on_tile(0, 0, &mut tile);
-        expect_that(&rt, tile.has_same_cells(&want));
+        expect_that(&rt, same_cells(&tile, &want));
         // (0, 0) goes and (2, 0) comes; (1, 0) is drained and filled again.
         expect_same(&rt, change.gained, [1, 0, 0, 0]);
         expect_same(&rt, change.lost, [1, 0, 0, 0]);
         let change = exchange.on_tile(0, 0, &mut tile);
-        expect_that(&rt, tile.has_same_cells(&want));
+        expect_that(&rt, same_cells(&tile, &want));
         expect_same(&rt, change.gained, [0; 4]);
         expect_same(&rt, change.lost, [0; 4]);
         expect_that(&rt, exchange.meets(0, 0));

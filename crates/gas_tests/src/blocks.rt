@@ -2,6 +2,7 @@
 
 use crate::expected::{expect_same, expect_that};
 use crate::gases::pair;
+use crate::lattices::same_cells;
 use bit_tile::Tile;
 use block_rule::{
     Counted, SetBlocks, TileBlocks, Window, tile_blocks, turn_block, turn_tile, turn_tile_even,
@@ -84,7 +85,7 @@ fn no_border() -> Border {
 }
 
 fn has_just(tile: &Tile, cells: &[(u32, u32)]) -> bool {
-    tile.has_same_cells(&tile_of(cells))
+    same_cells(tile, &tile_of(cells))
 }
 
 fn window<'a>(tile: &'a Tile, near: &'a Neighbors) -> Window<'a> {
@@ -116,7 +117,7 @@ fn turned_odd(rt: &impl Abort, old: &Tile, border: &Border) -> Tile {
     let mut apart = Tile::full();
     let took = turn_tile_odd(&particles, None, None, Counted::BOTH, false, &mut apart);
     expect_same(&rt, took, Took::ZERO);
-    expect_that(&rt, apart.has_same_cells(&out));
+    expect_that(&rt, same_cells(&apart, &out));
     out
 }
 
@@ -182,7 +183,7 @@ fn accounts_that_are_not_kept_are_zero(rt: HostRuntime) {
         let walled = given(&even_walls);
         let obstructed = given(&even_obstacles);
         let took = turn_tile_even(&mut tile, walled, obstructed, counted);
-        expect_that(&rt, tile.has_same_cells(&old));
+        expect_that(&rt, same_cells(&tile, &old));
         let of_walls = if walls { pair(2, 2) } else { pair(0, 0) };
         let of_obstacles = if obstacles { pair(2, -2) } else { pair(0, 0) };
         expect_same(&rt, (took.walls, took.obstacles), (of_walls, of_obstacles));
@@ -192,7 +193,7 @@ fn accounts_that_are_not_kept_are_zero(rt: HostRuntime) {
         let obstructed = given(&odd_obstacles);
         let particles = window(&old, &near);
         let took = turn_tile_odd(&particles, walled, obstructed, counted, false, &mut tile);
-        expect_that(&rt, tile.has_same_cells(&old));
+        expect_that(&rt, same_cells(&tile, &old));
         let of_walls = if walls { pair(-2, -2) } else { pair(0, 0) };
         let of_obstacles = if obstacles { pair(-2, 2) } else { pair(0, 0) };
         expect_same(&rt, (took.walls, took.obstacles), (of_walls, of_obstacles));
@@ -252,14 +253,14 @@ fn sixteen_states_walled_and_not(rt: HostRuntime) {
         for (old, new) in TABLE {
             let tile = cells_at(old, x, y);
             let (out, took) = turn_tile(&tile, &border, &none, &border, &none, &border, parity);
-            expect_that(&rt, out.has_same_cells(&cells_at(new, x, y)));
+            expect_that(&rt, same_cells(&out, &cells_at(new, x, y)));
             expect_same(&rt, took, Took::ZERO);
             for wall in [0b1000, 0b0100, 0b0010, 0b0001] {
                 let walls = cells_at(wall, x, y);
                 let (out, _) = turn_tile(&tile, &border, &walls, &border, &none, &border, parity);
-                expect_that(&rt, out.has_same_cells(&tile));
+                expect_that(&rt, same_cells(&out, &tile));
                 let (out, _) = turn_tile(&tile, &border, &none, &border, &walls, &border, parity);
-                expect_that(&rt, out.has_same_cells(&tile));
+                expect_that(&rt, same_cells(&out, &tile));
             }
         }
     }

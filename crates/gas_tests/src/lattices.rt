@@ -4,7 +4,7 @@ ghost use Rattle.std.specs.Prelude.{◌≡◌, IfOk};
 ghost use Rattle.gas_terms.specs.Cells.{HasSidesOf};
 
 use crate::expected::{expect_same, expect_that};
-use gas_plane::Plane;
+use gas_plane::{Plane, Tile};
 use gas_terms::{NoMemory, Rect, Size};
 use phase_step::Solids;
 use std::alloc::Global;
@@ -40,6 +40,11 @@ pub fn expect_cells(rt: &impl Abort, plane: &Plane, cells: &[(u32, u32, bool)]) 
     for (x, y, held) in cells {
         expect_same(&rt, (*x, *y, holds(plane, *x, *y)), (*x, *y, *held));
     }
+}
+
+/// Whether two tiles have the same cells.
+pub fn same_cells(some: &Tile, others: &Tile) -> bool {
+    (0..64usize).all(|y| some.row(y) == others.row(y))
 }
 
 /// Whether two planes hold the same cells.

@@ -257,32 +257,20 @@ fn is_bare(plane: &Plane, i: u32) -> bool {
     i < plane.size().tiles() && plane.is_bare(i)
 }
 
-fn is_bare_round(plane: &Plane, i: u32) -> bool {
-    i < plane.size().tiles() && plane.is_bare_round(i)
-}
-
-// A plane of five by five tiles with a cell in tile 0: over the seams it stands beside tiles 1, 4, 5, 6, 9, 20, 21 and 24.
+// A plane of five by five tiles with a cell in tile 0.
 fn five_by_five(rt: &(impl Abort + AllocGlobal)) -> Plane {
     plane(rt, 320, 320, &[(5, 5)])
 }
 
-const NEAR: [u32; 9] = [0, 1, 4, 5, 6, 9, 20, 21, 24];
-
-fn assert_bare_but_near(rt: &impl Abort, plane: &Plane, name: &str) {
+fn assert_only_first_held(rt: &impl Abort, plane: &Plane, name: &str) {
     for i in 0..25u32 {
-        let found = (is_bare(plane, i), is_bare_round(plane, i));
-        expect_same(
-            &rt,
-            (name, i, found),
-            (name, i, (i > 0, !NEAR.contains(&i))),
-        );
+        expect_same(&rt, (name, i, is_bare(plane, i)), (name, i, i > 0));
     }
 }
 
 fn assert_bare(rt: &impl Abort, plane: &Plane, name: &str) {
     for i in 0..25u32 {
-        let found = (is_bare(plane, i), is_bare_round(plane, i));
-        expect_same(&rt, (name, i, found), (name, i, (true, true)));
+        expect_same(&rt, (name, i, is_bare(plane, i)), (name, i, true));
     }
 }
 
@@ -307,8 +295,6 @@ fn expect_first_in(rt: &impl Abort, i: u32, round: &Round<'_>) {
 fn reads_what_is_round_a_tile(rt: HostRuntime) {
     let mut plane = five_by_five(&rt);
     expect_that(&rt, plane.size().tiles() == 25);
-    expect_that(&rt, plane.tile_or_bare(0).get(5, 5));
-    expect_that(&rt, !plane.tile_or_bare(1).get(5, 5));
     // The tile that has tile 0 in each of the eight places.
     for i in 0..25u32 {
         expect_that(&rt, plane.size().tiles() == 25);
@@ -324,9 +310,9 @@ fn reads_what_is_round_a_tile(rt: HostRuntime) {
 fn knows_where_it_has_no_cells(rt: HostRuntime) {
     assert_bare(&rt, &plane(&rt, 320, 320, &[]), "empty");
     let plane = five_by_five(&rt);
-    assert_bare_but_near(&rt, &plane, "with a cell");
+    assert_only_first_held(&rt, &plane, "with a cell");
     let copy = plane.copy(rt.alloc()).expect(&rt, "memory");
-    assert_bare_but_near(&rt, &copy, "its copy");
+    assert_only_first_held(&rt, &copy, "its copy");
     expect_that(&rt, holds(&copy, 5, 5));
 }
 
@@ -335,7 +321,7 @@ fn knows_again_what_was_cleared(rt: HostRuntime) {
     let mut plane = five_by_five(&rt);
     plane.clear(area(&rt, &plane, 64, 0, 256, 320));
     plane.clear(area(&rt, &plane, 0, 6, 320, 20));
-    assert_bare_but_near(&rt, &plane, "cleared elsewhere");
+    assert_only_first_held(&rt, &plane, "cleared elsewhere");
     plane.clear(area(&rt, &plane, 5, 5, 1, 1));
     assert_bare(&rt, &plane, "cleared there");
     plane.fill(area(&rt, &plane, 0, 0, 320, 320));
@@ -350,14 +336,14 @@ fn knows_what_rows_leave(rt: HostRuntime) {
         let mut row = [0; 40];
         read_row(&rt, &plane, y, &mut row);
         write_row(&rt, &mut plane, y, &row);
-        assert_bare_but_near(&rt, &plane, "rows as they were");
+        assert_only_first_held(&rt, &plane, "rows as they were");
     }
     let mut row = [0; 40];
     write_row(&rt, &mut plane, 5, &row);
     assert_bare(&rt, &plane, "a row of zeros");
     row[0] = 0x01;
     write_row(&rt, &mut plane, 63, &row);
-    assert_bare_but_near(&rt, &plane, "a row with a cell");
+    assert_only_first_held(&rt, &plane, "a row with a cell");
 }
 
 #[test]
@@ -366,13 +352,13 @@ fn knows_what_tiles_leave(rt: HostRuntime) {
     for i in 1..25u32 {
         empty_tile(&rt, &mut plane, i);
     }
-    assert_bare_but_near(&rt, &plane, "tiles without cells");
+    assert_only_first_held(&rt, &plane, "tiles without cells");
     lend(&rt, &mut plane, 12, 63, 0, true);
     for (i, bare) in [(0, false), (11, true), (12, false)] {
         expect_same(&rt, (i, is_bare(&plane, i)), (i, bare));
     }
     lend(&rt, &mut plane, 12, 63, 0, false);
-    assert_bare_but_near(&rt, &plane, "a tile that was lent");
+    assert_only_first_held(&rt, &plane, "a tile that was lent");
     empty_tile(&rt, &mut plane, 0);
     assert_bare(&rt, &plane, "the last one's tile");
 }
@@ -432,7 +418,6 @@ fn lends_a_tile(rt: HostRuntime) {
     let mut plane = four_tiles(&rt);
     lend(&rt, &mut plane, 3, 1, 2, true);
     expect_cells(&rt, &plane, &[(65, 66, true), (1, 2, false)]);
-    expect_that(&rt, !is_bare_round(&plane, 0));
     lend(&rt, &mut plane, 3, 1, 2, false);
     expect_that(&rt, !holds(&plane, 65, 66));
 }

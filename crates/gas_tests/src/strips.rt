@@ -2,7 +2,7 @@
 
 use crate::expected::expect_that;
 use crate::gases::{flow, pair, sums, took};
-use crate::lattices::{are_same, fit, holds, plane, scattered, solids};
+use crate::lattices::{are_same, fit, holds, plane, same_cells, scattered, solids};
 use crate::steppers::{add_taken, step, team};
 use gas_plane::Plane;
 use gas_terms::{Pair, Rect, Size, Took};
@@ -335,7 +335,7 @@ fn seeded(rt: &(impl Abort + AllocGlobal), size: Size, seed: u64, words: u32) ->
 
 fn have_same_rows(some: &Plane, others: &Plane) -> bool {
     let tiles = some.size().tiles().min(others.size().tiles());
-    (0..tiles).all(|i| some.tile(i).has_same_cells(others.tile(i)))
+    (0..tiles).all(|i| same_cells(some.tile(i), others.tile(i)))
 }
 
 #[test]
