@@ -33,7 +33,7 @@ fn missing(before: Sums, after: Sums, flow: Flow) -> Pair
     }
 }
 
-/// The account that a long run keeps: that of a set without cells, if one has none.
+/// The one account that a long run keeps. Which one it is changes nothing but the time: that of a set without cells is quicker.
 pub fn one_account(walls: &Plane) -> Counted
     ensures { result.obstacles ≡ not result.walls }
 {

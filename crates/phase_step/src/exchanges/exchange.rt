@@ -72,7 +72,8 @@ impl Exchange {
         self.drains.len() == 0 && self.sources.len() == 0
     }
 
-    /// Whether a rectangle has cells of the tile that begins at (left, top). If not, all its cells stay.
+    /// False only if all cells of the tile that begins at (left, top) stay. A tile that is met by no rectangle is not looked at
+    /// again.
     #[inline]
     pub fn meets(&self, left: u32, top: u32) -> bool
         requires { IsTileCorner left top }
