@@ -12,7 +12,8 @@ fi
 # what is noted of a build, each as NAME VALUE: version, cpu, sources, program, kit, commit
 mark=$program.mark
 
-say() { echo "gaslab: $*" >&2; }
+# (echo of some shells reads backslashes in names)
+say() { printf 'gaslab: %s\n' "$*" >&2; }
 
 stop() {
     say "$*"
