@@ -20,6 +20,9 @@ stop() {
     exit 6
 }
 
+# Prints a line of an answer on standard output.
+tell() { printf '%s\n' "$*" || not_written 'standard output'; }
+
 not_written() { stop "$1 can't be written. Free disk space or allow writing there, and run this again"; }
 
 need_kit() {
@@ -90,12 +93,12 @@ tell_state() {
     state=$?
     if [ $state = 0 ] && ! runs_here "$(noted cpu)"; then state=3; fi
     case $state in
-    0) echo "built from these sources for $(noted cpu), proved at commit $(noted commit)" && return ;;
+    0) tell "built from these sources for $(noted cpu), proved at commit $(noted commit)" && return ;;
     1) said='built from other sources' again='the program was changed since: unpack the package again' ;;
     2) said='not built' again='the program is missing: unpack the package again' ;;
     3) said="not built for this processor, but for $(noted cpu)" again="$said: use the package for x86-64-v2" state=2 ;;
     esac
-    if is_package; then echo "$again"; else echo "$said: run ./gaslab --build"; fi
+    if is_package; then tell "$again"; else tell "$said: run ./gaslab --build"; fi
     return $state
 }
 
