@@ -1,6 +1,6 @@
 # shellcheck shell=sh
 # Runs a program of the laboratory, and says beneath it what its status means.
-: "${program:?}"
+: "${program:?}" "${signals:?}"
 
 # The value of an option among these words, as in: value_of --load WORDS..
 value_of() {
@@ -78,7 +78,7 @@ explain() {
 
 pass_on() {
     caught=$1
-    kill "$child" 2>/dev/null
+    [ -z "$child" ] || kill "$child" 2>/dev/null
 }
 
 # Waits for the program in the background to end. A signal ends a wait before the program has ended.
@@ -91,30 +91,31 @@ await_program() {
 }
 
 # Runs the program in the background, with our input, until it ends. Such a command is given no input and ignores Ctrl-C. So it
-# gets our input by descriptor 3, and each signal that would end this script ends the program first. A file that grows past the
-# limit of its size is a fault of writing, with its status, and no signal.
+# gets our input by descriptor 3. A file that grows past the limit of its size is a fault of writing, with its status, and no
+# signal.
 run_in_background() {
-    caught=
     exec 3<&0
     trap '' XFSZ
     if [ "$errors" = /dev/null ]; then "$@" <&3 3<&- & else "$@" <&3 3<&- 2>"$errors" & fi
     child=$!
     exec 3<&-
-    for it in INT TERM HUP QUIT; do
+    [ -z "$caught" ] || kill "$child"
+    await_program
+}
+
+# Runs a program: run_program PROGRAM WORDS.. Each signal that would end this script ends the program first. What the program
+# writes to standard error is kept for a while if it loads a file, since only that tells what is wrong with the file.
+run_program() {
+    if ! (: 3<&0) 2>/dev/null; then exec "$@"; fi
+    caught='' child='' errors=/dev/null
+    for it in $signals; do
         # shellcheck disable=SC2064 # the name of the signal is to be that of now
         trap "pass_on $it" "$it"
     done
-    await_program
-    trap - INT TERM HUP QUIT XFSZ
-}
-
-# Runs a program: run_program PROGRAM WORDS.. What it writes to standard error is kept for a while if it loads a file, since only
-# that tells what is wrong with the file.
-run_program() {
-    if ! (: 3<&0) 2>/dev/null; then exec "$@"; fi
-    errors=/dev/null
     if value_of --load "$@" >/dev/null; then errors=$(mktemp 2>/dev/null) || errors=/dev/null; fi
-    run_in_background "$@"
+    [ -n "$caught" ] || run_in_background "$@"
+    # shellcheck disable=SC2086 # names of signals are words
+    trap - $signals XFSZ
     if [ "$errors" != /dev/null ]; then cat "$errors" >&2; fi
     [ -z "$caught" ] || { forget_errors && kill -s "$caught" $$; }
     shift

@@ -12,6 +12,10 @@ fi
 # what is noted of a build, each as NAME VALUE: version, cpu, sources, program, kit, commit
 mark=$program.mark
 
+# the signals that end a script and that it can catch, but for those of its own faults
+# shellcheck disable=SC2034 # other parts read it
+signals='HUP INT QUIT PIPE ALRM TERM USR1 USR2 XCPU VTALRM PROF'
+
 # (echo of some shells reads backslashes in names)
 say() { printf 'gaslab: %s\n' "$*" >&2; }
 
