@@ -35,7 +35,7 @@ refuse_script_word() {
     exit 2
 }
 
-# What the word of a failed load means, for a file: load_fault WORD FILE
+# What the word of a failed load means, for a file: load_fault WORD FILE. No word: no temporary file could be made.
 load_fault() {
     case $1 in
     read) say "$2 can't be opened or read" ;;
@@ -45,6 +45,7 @@ load_fault() {
     tick) say "$2 is not a snapshot: its tick is out of range" ;;
     port) say "$2 is not a snapshot: one of its sources or drains is wrong" ;;
     trailing) say "$2 goes on after the end of the snapshot" ;;
+    *) say "status 3: $2 can't be loaded, and the word above says why. To have it explained, allow writing to ${TMPDIR:-/tmp}" ;;
     esac
 }
 
