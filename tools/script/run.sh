@@ -2,6 +2,14 @@
 # Runs a program of the laboratory, and says beneath it what its status means.
 : "${program:?}" "${signals:?}"
 
+# Stops if the stack is so small that the program, or a tool that this script uses, would end by a fault.
+need_stack() {
+    # shellcheck disable=SC3045 # dash, bash and busybox have it
+    stack=$(ulimit -s)
+    [ "$stack" = unlimited ] || [ "$stack" -ge 128 ] ||
+        stop "the stack is limited to $stack KiB, and the program needs 128: allow 8192, as ulimit -s 8192 does in a new shell"
+}
+
 # The value of an option among these words, as in: value_of --load WORDS..
 value_of() {
     option=$1
