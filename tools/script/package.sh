@@ -1,6 +1,6 @@
 # shellcheck shell=sh
 # Packs the proved program with all that somebody without the kit needs.
-: "${here:?}" "${folder:?}" "${program:?}" "${mark:?}" "${parts:?}"
+: "${here:?}" "${folder:?}" "${program:?}" "${mark:?}" "${parts:?}" "${signals:?}"
 
 # The section of README.md that says what is proved, under a heading that says of which program.
 write_proved() {
@@ -27,8 +27,11 @@ compile_for() {
     room=$folder/out/rooms/$1
     log=$room.log
     packed=$room/crates/gaslab_program/out/gaslab_program
-    mkdir -p "$room" || not_written "$room"
-    (furnish_program && cd "$room/crates/gaslab_program" && rt run --cpu="$1" -- run) >"$log" 2>&1 </dev/null
+    if ! { rm -rf "$room" && mkdir -p "$room"; }; then not_written "$room"; fi
+    (furnish_program && cd "$room/crates/gaslab_program" && exec rt run --cpu="$1" -- run) >"$log" 2>&1 </dev/null &
+    child=$!
+    wait "$child"
+    child=''
     if [ ! -x "$packed" ] || ! grep -q '^crate gaslab_program: .*checked=0$' "$log" || ! grep -q " cpu=$1 " "$log"; then
         tail -n 8 "$log" >&2
         stop "the program was not compiled for $1. The lines above say why"
@@ -74,14 +77,25 @@ stage() {
         copy_program "$1" "$to/lib/gaslab_program" &&
         write_proved "$1" >"$to/PROVED.md" &&
         write_pages "$to" &&
-        chmod -R u=rwX,go=rX "$to" &&
-        write_sums "$to"
+        write_sums "$to" &&
+        chmod -R u=rwX,go=rX,a-st "$to"
 }
 
 # Packs a folder of that name, in a folder, so that the same files give the same bytes.
 pack() {
-    tar -C "$1" --sort=name --owner=0 --group=0 --numeric-owner --mtime='2000-01-01 00:00Z' -cf - "$2" | gzip -9n >"$2.tar.gz.new" &&
-        mv "$2.tar.gz.new" "$2.tar.gz"
+    # shellcheck disable=SC2086 # names of signals are words
+    tar -C "$1" --sort=name --owner=0 --group=0 --numeric-owner --mtime='2000-01-01 00:00Z' -cf "$1/tar" "$2" &&
+        gzip -9n <"$1/tar" >"$draft" &&
+        chmod 644 "$draft" &&
+        trap '' $signals &&
+        mv -T "$draft" "$2.tar.gz"
+}
+
+# Takes away all that packing made, but the package.
+clear_packing() {
+    if [ -n "$child" ]; then kill "$child" 2>/dev/null && wait "$child"; fi
+    rm -rf "$staged" "$draft" "$room" "$log"
+    rmdir "$folder/out/rooms" 2>/dev/null
 }
 
 # Packs the program for the processors that these words name, or for x86-64-v2, into a file in the current folder.
@@ -89,11 +103,14 @@ package_as_asked() {
     take rooms
     asked=x86-64-v2
     [ $# = 0 ] || asked_cpu "$@" || stop "--package takes --cpu x86-64-v2 or --cpu x86-64-v3, or nothing"
+    umask 022
+    child='' staged='' draft='' room='' log=''
+    clear_by clear_packing
     need_program_for "$asked"
     name=gaslab-$(noted version)-$asked
     staged=$(mktemp -d) || not_written "${TMPDIR:-/tmp}"
     stage "$asked" "$staged/$name" || not_written "$staged"
+    draft=$(mktemp ./.gaslab.XXXXXX) || not_written "$PWD"
     pack "$staged" "$name" || not_written "$name.tar.gz"
-    rm -rf "$staged" "$folder/out/rooms"
     sha256sum "$name.tar.gz"
 }

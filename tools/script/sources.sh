@@ -29,6 +29,14 @@ tell() { printf '%s\n' "$*" || not_written 'standard output'; }
 
 not_written() { stop "$1 can't be written. Free disk space or allow writing there, and run this again"; }
 
+# Has a function take away, when this script ends, what was made until then. Each signal that ends it does so by this.
+clear_by() {
+    # shellcheck disable=SC2064 # the function is that of now
+    trap "$1" EXIT
+    # shellcheck disable=SC2086 # names of signals are words
+    trap 'stop "interrupted, and nothing is left of it: run this again"' $signals
+}
+
 need_kit() {
     command -v rt >/dev/null 2>&1 ||
         stop "the command rt was not found. Install the Rattle kit and put its bin folder on the PATH: 'rt version' then prints a line"
