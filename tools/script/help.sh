@@ -23,7 +23,8 @@ help_of_script() {
 END_OF_HELP
     cat <<'END_OF_HELP'
   --is-built         Says whether the program is built. Status 0: from these sources, 1: from others, 2: not built
-  --install PREFIX   Installs the proved program as PREFIX/bin/gaslab, with its man page, lessons and completions
+  --install PREFIX   Installs the proved program as PREFIX/bin/gaslab, with its man page, lessons and completions.
+                     --install --force PREFIX also replaces files that it did not install, but no folder
   --version          Says the version, the commit and the kit
 Exit status 6: there was no program to run.
 END_OF_HELP
