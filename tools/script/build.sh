@@ -35,7 +35,7 @@ free_disk() { df -Pk "$here" | awk 'NR == 2 { print $4 }'; }
 
 # Says why the build has stopped, with the last lines of what was said.
 failed() {
-    trap - INT TERM HUP
+    on_signals -
     # shellcheck disable=SC2086 # numbers of processes are words
     kill $running 2>/dev/null
     log=$here/crates/$1/out/build.log
@@ -46,7 +46,7 @@ failed() {
 }
 
 cut_off() {
-    trap - INT TERM HUP
+    on_signals -
     # shellcheck disable=SC2086 # numbers of processes are words
     kill $running 2>/dev/null
     say "the build was interrupted, and no program was built. Run ./gaslab --build again: it keeps what is proved so far"
@@ -174,14 +174,14 @@ build() {
     fi
     need_disk
     if ! { mkdir -p "$folder/out" && rm -f "$mark" "$program"; }; then not_written "$folder/out"; fi
-    trap cut_off INT TERM HUP
+    on_signals cut_off
     began=$(date +%s)
     before=$(sources_sum)
     say "proving $(with_below gaslab_program | wc -l) crates and building the program for $cpu. The log of each is its out/build.log"
     prove_all
     [ "$(sources_sum)" = "$before" ] || stop "a source was changed meanwhile. Run ./gaslab --build again: it keeps what is proved so far"
     if ! { note_build "$cpu" "$before" && is_built; }; then not_written "$mark"; fi
-    trap - INT TERM HUP
+    on_signals -
     say "built in $(($(date +%s) - began)) s. ./gaslab now starts at once"
 }
 

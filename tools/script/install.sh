@@ -1,6 +1,6 @@
 # shellcheck shell=sh
 # Installs the proved program, with all that a package has, under a prefix.
-: "${here:?}" "${signals:?}"
+: "${here:?}"
 page_places='share/man/man1/gaslab.1 share/bash-completion/completions/gaslab share/zsh/site-functions/_gaslab
     share/fish/vendor_completions.d/gaslab.fish'
 # what is put under the prefix
@@ -111,8 +111,7 @@ remove_folders() {
 
 # Puts all at its places. What was there is kept until all is there.
 put_in_place() {
-    # shellcheck disable=SC2086 # names of signals are words
-    trap '' $signals
+    on_signals ''
     for place in $places; do
         mkdir -p "$new/old/${place%/*}" || return
         if is_there "$prefix/$place"; then mv -T "$prefix/$place" "$new/old/$place" || return; fi
@@ -135,8 +134,7 @@ put_back() {
 
 # Leaves everything as it was before a failed installation.
 undo_installation() {
-    # shellcheck disable=SC2086 # names of signals are words
-    trap '' $signals
+    on_signals ''
     if [ -z "$new" ] || put_back; then remove_folders; fi
 }
 

@@ -1,6 +1,6 @@
 # shellcheck shell=sh
 # Packs the proved program with all that somebody without the kit needs.
-: "${here:?}" "${folder:?}" "${program:?}" "${mark:?}" "${parts:?}" "${signals:?}"
+: "${here:?}" "${folder:?}" "${program:?}" "${mark:?}" "${parts:?}"
 
 # The section of README.md that says what is proved, under a heading that says of which program.
 write_proved() {
@@ -83,11 +83,10 @@ stage() {
 
 # Packs a folder of that name, in a folder, so that the same files give the same bytes.
 pack() {
-    # shellcheck disable=SC2086 # names of signals are words
     tar -C "$1" --sort=name --owner=0 --group=0 --numeric-owner --mtime='2000-01-01 00:00Z' -cf "$1/tar" "$2" &&
         gzip -9n <"$1/tar" >"$draft" &&
         chmod 644 "$draft" &&
-        trap '' $signals &&
+        on_signals '' &&
         mv -T "$draft" "$2.tar.gz"
 }
 

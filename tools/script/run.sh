@@ -123,8 +123,8 @@ run_program() {
     done
     if value_of --load "$@" >/dev/null; then errors=$(mktemp 2>/dev/null) || errors=/dev/null; fi
     [ -n "$caught" ] || run_in_background "$@"
-    # shellcheck disable=SC2086 # names of signals are words
-    trap - $signals XFSZ
+    on_signals -
+    trap - XFSZ
     if [ "$errors" != /dev/null ]; then cat "$errors" >&2; fi
     [ -z "$caught" ] || { forget_errors && kill -s "$caught" $$; }
     shift

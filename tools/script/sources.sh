@@ -13,7 +13,6 @@ fi
 mark=$program.mark
 
 # the signals that end a script and that it can catch, but for those of its own faults
-# shellcheck disable=SC2034 # other parts read it
 signals='HUP INT QUIT PIPE ALRM TERM USR1 USR2 XCPU VTALRM PROF'
 
 # (echo of some shells reads backslashes in names)
@@ -29,12 +28,17 @@ tell() { printf '%s\n' "$*" || not_written 'standard output'; }
 
 not_written() { stop "$1 can't be written. Free disk space or allow writing there, and run this again"; }
 
+# Says what each signal does that ends this script: a command, nothing if that is empty, or what is usual if it is -.
+on_signals() {
+    # shellcheck disable=SC2064,SC2086 # the command is that of now, and names of signals are words
+    trap "$1" $signals
+}
+
 # Has a function take away, when this script ends, what was made until then. Each signal that ends it does so by this.
 clear_by() {
     # shellcheck disable=SC2064 # the function is that of now
     trap "$1" EXIT
-    # shellcheck disable=SC2086 # names of signals are words
-    trap 'stop "interrupted, and nothing is left of it: run this again"' $signals
+    on_signals 'stop "interrupted, and nothing is left of it: run this again"'
 }
 
 need_kit() {

@@ -38,7 +38,7 @@ test_crate() {
 }
 
 tests_cut_off() {
-    trap - INT TERM HUP
+    on_signals -
     # shellcheck disable=SC2086 # numbers of processes are words
     kill $running 2>/dev/null
     wait
@@ -94,11 +94,11 @@ run_tests() {
     [ $# -gt 0 ] || set -- $(test_crates)
     rooms=$(mktemp -d) || not_written "${TMPDIR:-/tmp}"
     if ! { mkfifo "$rooms/ends" && exec 3<>"$rooms/ends"; }; then not_written "$rooms"; fi
-    trap tests_cut_off INT TERM HUP
+    on_signals tests_cut_off
     say "compiling and running the tests of $*"
     say "they are NOT PROVED, and run with checks. 'too_many_reads', 'workers_are_threads' and 'server_workers_are_threads' are left to the gate"
     test_all "$@"
-    trap - INT TERM HUP
+    on_signals -
     rm -rf "$rooms"
     echo "$passed passed, $failed failed"
     [ $failed = 0 ]
