@@ -20,11 +20,24 @@ read_prefix() {
     [ -n "$prefix" ] || not_written "$1"
 }
 
+# The first file in a folder, or in parts of it, that its sums don't name. Python keeps its own there: unlisted FOLDER PARTS..
+unlisted() {
+    (
+        cd "$1" && shift && find "$@" -name __pycache__ -prune -o ! -type d -print |
+            grep -vxF -e ./SHA256SUMS -e "$(cut -c67- SHA256SUMS)" | head -n 1
+    )
+}
+
+# Whether this package is as it was packed. Somebody's files beside its own don't matter.
+is_as_packed() {
+    (cd "$here" && sha256sum -c --quiet --strict SHA256SUMS) >/dev/null 2>&1 && [ -z "$(unlisted "$here" ./gaslab ./lib)" ]
+}
+
 # Stops if there is nothing to install, or this script is what is installed there.
 need_installable() {
     case $here/ in "$(readlink -m -- "$prefix/share/gaslab")"/*) stop "this is what is installed under $prefix" ;; esac
     if is_package; then
-        (cd "$here" && sha256sum -c --quiet --strict SHA256SUMS) >/dev/null 2>&1 ||
+        is_as_packed ||
             stop "this package was changed: unpack it again. 'sha256sum -c --quiet SHA256SUMS' in $here says where"
     else
         take package
@@ -59,13 +72,12 @@ make_installation() {
 # Whether something is at a path, be it a link to nothing.
 is_there() { [ -e "$1" ] || [ -L "$1" ]; }
 
-# Stops if a folder is no installation, or has a file that isn't of the installation. Python keeps its own there.
+# Stops if a folder is no installation, or has a file that isn't of the installation.
 need_own_folder() {
     if [ -d "$1/crates" ] || [ ! -f "$1/SHA256SUMS" ] || ! grep -qs '^program ' "$1/lib/gaslab_program.mark"; then
         stop "$1 is a folder that --install did not make, so it stays. Move it, or install to another folder"
     fi
-    other=$(cd "$1" && find . -name __pycache__ -prune -o ! -type d -print |
-        grep -vxF -e ./SHA256SUMS -e "$(cut -c67- SHA256SUMS)" | head -n 1)
+    other=$(unlisted "$1" .)
     [ -z "$other" ] || stop "$1 has a file that --install did not put there: ${other#./}. Move it, and run this again"
 }
 
