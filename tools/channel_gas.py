@@ -2,9 +2,9 @@
 """The laboratory once more: a second implementation, in Python and straight from the rules of the gas.
 
 It works with sites and channels in a set of cells, and knows nothing of tiles, words or the program. It reads a script of
-commands on standard input and writes the replies, with the options of `gaslab run`. The outputs beside the scripts in examples/
-come from here, so they are not the program's own. It knows no refusals, so its scripts are in order, and it is slow: some
-thousand particles a millisecond.
+commands on standard input and writes the replies, with the options, refusals and statuses of `gaslab run` (docs/FORMATS.md).
+The outputs beside the scripts in examples/ come from here, so they are not the program's own. It is slow: some thousand
+particles a millisecond.
 
     tools/channel_gas.py < examples/4_tunnel.txt
     tools/channel_gas.py --width 256 --height 256 < examples/5_sound.txt
@@ -14,9 +14,18 @@ Scripts that are named are sessions on one gas, one after another, of the seats 
     tools/channel_gas.py examples/8_first.txt examples/8_second.txt examples/8_third.txt
 """
 import argparse
+import os
+import re
 import struct
 import sys
 
+COUNTS = {**dict.fromkeys(("put", "erase", "wall", "block", "unwall", "drain", "probe"), 4), "source": 5, "row": 2,
+          **dict.fromkeys(("step", "back", "read", "entry"), 1),
+          **dict.fromkeys(("unport", "tally", "ledger", "save", "quit"), 0)}
+READINGS = ("probe", "tally", "ledger", "read", "entry", "save", "quit")
+REFUSALS = ("", "line", "word", "count", "number", "rect", "steps", "period", "row", "entry", "full", "ports", "tick", "journal",
+            "memory", "save")
+MOST_TICK, MOST_PORTS = 2 ** 40, 16
 VELOCITIES = [(1, 1), (-1, 1), (1, -1), (-1, -1)]
 HEAD_ON = [{(1, 1), (-1, -1)}, {(1, -1), (-1, 1)}]
 
@@ -149,61 +158,169 @@ def snapshot(gas):
     return b"".join(parts)
 
 
+class LoadFault(Exception):
+    """Bytes that are no snapshot."""
+
+
 def from_snapshot(data):
-    width, height, tick, drains, sources = struct.unpack_from(">HHqBB", data, 8)
-    gas, at = Gas(width, height), 22
-    gas.tick = tick
-    for _ in range(drains):
-        gas.drains.append(struct.unpack_from(">4H", data, at))
-        at += 8
-    for _ in range(sources):
-        gas.sources.append(struct.unpack_from(">5H", data, at))
-        at += 10
-    for cells in (gas.particles, gas.walls, gas.obstacles):
-        for y in range(height):
-            bits = f"{int.from_bytes(data[at:at + width // 8], 'big'):0{width}b}"
-            cells |= {(x, y) for x in range(width) if bits[x] == "1"}
-            at += width // 8
+    """The gas of a snapshot. Raises LoadFault with the word of docs/FORMATS.md for the first fault from the left."""
+    at = 0
+
+    def taken(count):
+        nonlocal at
+        at += count
+        if at > len(data):
+            raise LoadFault("short")
+        return data[at - count:at]
+
+    def need(holds, word):
+        if not holds:
+            raise LoadFault(word)
+
+    def port(kind):
+        numbers = struct.unpack(kind, taken(struct.calcsize(kind)))
+        need(is_within(gas, *numbers[:4]) and numbers[-1] > 0, "port")
+        return numbers
+
+    version = {b"HPPGAS1\n": 1, b"HPPGAS2\n": 2}.get(taken(8))
+    need(version, "magic")
+    sides = struct.unpack(">HH", taken(4))
+    need(all(64 <= side <= 2048 * version and side % 64 == 0 for side in sides), "size")
+    gas = Gas(*sides)
+    gas.tick, = struct.unpack(">q", taken(8))
+    need(abs(gas.tick) <= MOST_TICK, "tick")
+    drains, sources = taken(2)
+    need(max(drains, sources) <= MOST_PORTS, "port")
+    gas.drains = [port(">4H") for _ in range(drains)]
+    gas.sources = [port(">5H") for _ in range(sources)]
+    for cells in (gas.particles, gas.walls, gas.obstacles)[:version + 1]:
+        rows = taken(gas.width * gas.height // 8)
+        for y in range(gas.height):
+            row = rows[y * gas.width // 8:(y + 1) * gas.width // 8]
+            cells |= full_cells(y, f"{int.from_bytes(row, 'big'):0{gas.width}b}")
+    need(at == len(data), "trailing")
     return gas
 
 
-def session(seat, lines, gas, books, journal, save_path):
+def full_cells(y, bits):
+    return {(x, y) for x, bit in enumerate(bits) if bit == "1"}
+
+
+def is_within(gas, x, y, w, h):
+    return w > 0 and h > 0 and x + w <= gas.width and y + h <= gas.height
+
+
+class Refusal(Exception):
+    """A line that is refused. Its number is that of docs/FORMATS.md."""
+
+
+def need(holds, number):
+    if not holds:
+        raise Refusal(number)
+
+
+def parsed(line, gas):
+    """A line's command word, numbers and digits. Raises Refusal 2 to 8."""
+    word, *words = [it for it in line.split(" ") if it] or [""]
+    need(word in COUNTS, 2)
+    need(len(words) == COUNTS[word], 3)
+    digits = words.pop().lower() if word == "row" else ""
+    need(all(re.fullmatch("[0-9]{1,10}", it) and int(it) < 2 ** 32 for it in words), 4)
+    numbers = [int(it) for it in words]
+    if len(numbers) >= 4:
+        need(is_within(gas, *numbers[:4]), 5)
+    if word in ("row", "read"):
+        need(numbers[0] < gas.height, 5)
+    if word in ("step", "back"):
+        need(1 <= numbers[0] <= 4096, 6)
+    if word == "source":
+        need(1 <= numbers[4] <= 65535, 7)
+    if word == "row":
+        need(re.fullmatch(f"[0-9a-f]{{{gas.width // 4}}}", digits), 8)
+    return word, numbers, digits
+
+
+def check(word, numbers, gas, journal, cap):
+    """Raises Refusal 9 to 13: what the laboratory refuses in the state that it is in."""
+    if word == "entry":
+        need(numbers[0] < len(journal), 9)
+    if word in ("source", "drain"):
+        need(len(gas.sources if word == "source" else gas.drains) < MOST_PORTS, 10)
+    if word == "back":
+        need(not gas.sources and not gas.drains, 11)
+        need(gas.tick - numbers[0] >= -MOST_TICK, 12)
+    if word == "step":
+        need(gas.tick + numbers[0] <= MOST_TICK, 12)
+    need(word in READINGS or len(journal) < cap, 13)
+
+
+def session(seat, lines, gas, books, journal, save_path, cap=65536):
+    """The replies to the lines of a session. A line is a text, or bytes as they came in, and has no newline."""
     for line in lines:
-        word, *rest = line.split()
-        numbers = [int(n) for n in rest] if word != "row" else [int(rest[0])]
-        if word == "probe":
-            yield "PROBE", *gas.sums(gas.particles & rectangle(*numbers))
-        elif word == "tally":
-            yield "TALLY", gas.tick, *gas.sums(gas.particles)
-        elif word == "ledger":
-            yield "LEDGER", *books.numbers()
-        elif word == "read":
-            yield "ROW", f"{row_bits(gas.particles, gas.width, numbers[0]):0{gas.width // 4}x}"
-        elif word == "entry":
-            yield "ENTRY", *journal[numbers[0]]
-        elif word == "save":
-            data = snapshot(gas)
-            with open(save_path, "wb") as file:
-                file.write(data)
-            yield "SAVED", len(journal), len(data)
-        elif word == "quit":
-            yield ("BYE",)
+        try:
+            if isinstance(line, bytes):
+                line = decoded(line)
+            word, numbers, digits = parsed(line, gas)
+            check(word, numbers, gas, journal, cap)
+            yield answer(seat, word, numbers, digits, (gas, books, journal, save_path))
+        except Refusal as refused:
+            number, = refused.args
+            yield "ERR", number, REFUSALS[number]
+            if number == 1:
+                return
+            continue
+        if word == "quit":
             return
-        else:
-            change(gas, books, word, numbers, rest)
-            yield "OK", len(journal)
-            journal.append((seat, " ".join([word] + rest).lower()))
 
 
-def change(gas, books, word, numbers, rest):
+def decoded(line):
+    need(len(line) <= 2048, 1)
+    try:
+        return line.removesuffix(b"\r").decode()
+    except UnicodeDecodeError:
+        raise Refusal(1) from None
+
+
+def answer(seat, word, numbers, digits, laboratory):
+    """The reply to a command that is not refused, but for a save that fails."""
+    gas, books, journal, save_path = laboratory
+    if word == "probe":
+        return "PROBE", *gas.sums(gas.particles & rectangle(*numbers))
+    if word == "tally":
+        return "TALLY", gas.tick, *gas.sums(gas.particles)
+    if word == "ledger":
+        return "LEDGER", *books.numbers()
+    if word == "read":
+        return "ROW", f"{row_bits(gas.particles, gas.width, numbers[0]):0{gas.width // 4}x}"
+    if word == "entry":
+        return "ENTRY", *journal[numbers[0]]
+    if word == "save":
+        return saved(gas, journal, save_path)
+    if word == "quit":
+        return ("BYE",)
+    change(gas, books, word, numbers, digits)
+    journal.append((seat, " ".join(map(str, (word, *numbers, *([digits] if digits else []))))))
+    return "OK", len(journal) - 1
+
+
+def saved(gas, journal, path):
+    data = snapshot(gas)
+    try:
+        with open(path or "", "wb") as file:
+            file.write(data)
+    except OSError:
+        raise Refusal(15) from None
+    return "SAVED", len(journal), len(data)
+
+
+def change(gas, books, word, numbers, digits):
     if word == "put":
         books.change(gas, gas.particles | rectangle(*numbers))
     elif word == "erase":
         books.change(gas, gas.particles - rectangle(*numbers))
     elif word == "row":
-        y, bits = numbers[0], f"{int(rest[1], 16):0{gas.width}b}"
-        row = {(x, y) for x in range(gas.width) if bits[x] == "1"}
-        books.change(gas, {cell for cell in gas.particles if cell[1] != y} | row)
+        row = full_cells(numbers[0], f"{int(digits, 16):0{gas.width}b}")
+        books.change(gas, {cell for cell in gas.particles if cell[1] != numbers[0]} | row)
     elif word == "wall":
         gas.walls |= rectangle(*numbers)
     elif word == "block":
@@ -228,27 +345,66 @@ def change(gas, books, word, numbers, rest):
         raise ValueError(word)
 
 
+def lines_of(file):
+    """The lines of a file as bytes, without their newlines. What comes after the last newline is no command.
+
+    A line that is too long is cut, but still too long.
+    """
+    while True:
+        line = file.readline(2050)
+        if line.endswith(b"\n"):
+            yield line[:-1]
+        else:
+            if len(line) > 2048:
+                yield line
+            return
+
+
+def number_in(least, most, step=1):
+    """What reads a number of an option."""
+    def read(text):
+        if not re.fullmatch("[0-9]{1,10}", text) or not least <= int(text) <= most or int(text) % step:
+            raise argparse.ArgumentTypeError(f"{text} is not {'a multiple of 64 ' if step > 1 else ''}from {least} to {most}")
+        return int(text)
+    return read
+
+
 def main():
     options = argparse.ArgumentParser(description=__doc__, formatter_class=argparse.RawDescriptionHelpFormatter)
-    options.add_argument("--width", type=int, default=64, help="columns, a multiple of 64 (64); not used with --load")
-    options.add_argument("--height", type=int, default=64, help="rows, a multiple of 64 (64); not used with --load")
+    side = number_in(64, 4096, 64)
+    options.add_argument("--width", type=side, default=64, help="columns, a multiple of 64 (64); not used with --load")
+    options.add_argument("--height", type=side, default=64, help="rows, a multiple of 64 (64); not used with --load")
+    options.add_argument("--workers", type=number_in(1, 16), default=1, help="taken, but one thread does the work")
+    options.add_argument("--cap", type=number_in(1, 65536), default=1024, help="changes that the journal has room for (1024)")
     options.add_argument("--load", metavar="PATH", help="begin with the gas of this snapshot")
     options.add_argument("--save", metavar="PATH", help="where the command save writes a snapshot")
     options.add_argument("--without-collisions", action="store_true", help="let particles pass through one another")
     options.add_argument("scripts", nargs="*", metavar="SCRIPT", help="sessions, in place of standard input")
     asked = options.parse_args()
-    scripts = [open(path) for path in asked.scripts] or [sys.stdin]
+    try:
+        scripts = [open(path, "rb") for path in asked.scripts] or [sys.stdin.buffer]
+    except OSError as fault:
+        options.error(f"{fault.filename}: {fault.strerror}")
+    gas = Gas(asked.width, asked.height)
     if asked.load:
-        with open(asked.load, "rb") as file:
-            gas = from_snapshot(file.read())
-    else:
-        gas = Gas(asked.width, asked.height)
+        try:
+            with open(asked.load, "rb") as file:
+                gas = from_snapshot(file.read())
+        except (OSError, LoadFault) as fault:
+            print("load:", "read" if isinstance(fault, OSError) else fault, file=sys.stderr)
+            sys.exit(3)
     gas.collides = not asked.without_collisions
-    laboratory = gas, Books(gas.sums(gas.particles)), []
+    laboratory, reply = (gas, Books(gas.sums(gas.particles)), []), ()
     for seat, script in enumerate(scripts):
-        for reply in session(seat, (line for line in script if line.strip()), *laboratory, asked.save):
+        for reply in session(seat, lines_of(script), *laboratory, asked.save, asked.cap):
             print(*reply, flush=True)
+    sys.exit(5 if reply[:2] == ("ERR", 1) else 0)
 
 
 if __name__ == "__main__":
-    main()
+    try:
+        main()
+    except KeyboardInterrupt:
+        sys.exit(130)
+    except OSError:  # the replies or the script can't be written or read any more
+        os._exit(1)

@@ -4,8 +4,7 @@
     stand_in.py run --width 128 --load day.gas --save day.gas
     stand_in.py serve --listen 127.0.0.1:7878 --sessions 3
 
-It has the refusals that the client meets on its way (2 to 6, 9, 11, 13 and 15), and no others. It is
-slow, and independent of both the program and the client.
+It is slow, and independent of both the program and the client.
 """
 import argparse
 import os
@@ -17,12 +16,6 @@ HERE = os.path.dirname(os.path.abspath(__file__))
 sys.path.append(os.path.join(HERE, "..", "..", "..", "tools"))
 
 import channel_gas  # noqa: E402
-
-RECTANGLES = {"put": 0, "erase": 0, "wall": 0, "block": 0, "unwall": 0, "probe": 0, "drain": 0,
-              "source": 1}
-ONE = ("step", "back", "entry", "read")
-READINGS = ("probe", "entry", "read", "tally", "ledger", "save", "quit")
-NONE = ("unport", "tally", "ledger", "save", "quit")
 
 
 class Laboratory:
@@ -37,41 +30,9 @@ class Laboratory:
         self.journal = []
         self.lock = threading.Lock()
 
-    def refusal(self, words):
-        word, numbers = (words or [""])[0], words[1:2] if words[:1] == ["row"] else words[1:]
-        counts = {**{name: 4 + more for name, more in RECTANGLES.items()}, "row": 1,
-                  **dict.fromkeys(ONE, 1), **dict.fromkeys(NONE, 0)}
-        if word not in counts:
-            return "ERR 2 word"
-        if len(numbers) != counts[word]:
-            return "ERR 3 count"
-        if not all(number.isdecimal() and len(number) <= 10 for number in numbers):
-            return "ERR 4 number"
-        return self.refused_range(word, [int(number) for number in numbers])
-
-    def refused_range(self, word, numbers):
-        if word in RECTANGLES:
-            x, y, w, h = numbers[:4]
-            if not w or not h or x + w > self.gas.width or y + h > self.gas.height:
-                return "ERR 5 rect"
-        if word in ("read", "row") and numbers[0] >= self.gas.height:
-            return "ERR 5 rect"
-        if word in ("step", "back") and not 1 <= numbers[0] <= 4096:
-            return "ERR 6 steps"
-        if word == "entry" and numbers[0] >= len(self.journal):
-            return "ERR 9 entry"
-        if word == "back" and (self.gas.sources or self.gas.drains):
-            return "ERR 11 ports"
-        if word not in READINGS and len(self.journal) >= self.cap:
-            return "ERR 13 journal"
-        return "ERR 15 save" if word == "save" and not self.save_path else None
-
     def answer(self, seat, line):
         with self.lock:
-            refused = self.refusal(line.split(" "))
-            if refused:
-                return refused
-            parts = (self.gas, self.books, self.journal, self.save_path)
+            parts = (self.gas, self.books, self.journal, self.save_path, self.cap)
             reply, = channel_gas.session(seat, [line], *parts)
             return " ".join(map(str, reply))
 

@@ -64,19 +64,6 @@ def random_script(draw, width, height, has_ports):
     return [*lines, "step 5", "tally", "ledger", *(f"read {y}" for y in range(height))]
 
 
-def trimmed(lines):
-    """At most 16 ports of a kind stand at a time, since the second implementation refuses nothing."""
-    counts, kept = {}, []
-    for line in lines:
-        word = line.split(" ")[0]
-        counts[word] = counts.get(word, 0) + 1
-        if word == "unport":
-            counts = {}
-        if word not in ("source", "drain") or counts[word] <= 16:
-            kept.append(line)
-    return kept
-
-
 @unittest.skipUnless(NODE, "there is no node")
 class Engine(unittest.TestCase):
     @classmethod
@@ -87,7 +74,7 @@ class Engine(unittest.TestCase):
         draw, cases = random.Random(61), []
         for k in range(200):
             width, height = draw.choice([(64, 64), (64, 64), (128, 64), (64, 128), (192, 64)])
-            cases.append([width, height, [trimmed(random_script(draw, width, height, k % 2))], -1])
+            cases.append([width, height, [random_script(draw, width, height, k % 2)], -1])
         lines = 0
         for (width, height, (script,), _), found in zip(cases, run_engine(cases)):
             wanted = run_second(self.channel_gas, width, height, script)
