@@ -285,7 +285,8 @@ def answer(seat, word, numbers, digits, laboratory):
     """The reply to a command that is not refused, but for a save that fails."""
     gas, books, journal, save_path = laboratory
     if word == "probe":
-        return "PROBE", *gas.sums(gas.particles & rectangle(*numbers))
+        left, top, w, h = numbers
+        return "PROBE", *gas.sums((x, y) for x, y in gas.particles if left <= x < left + w and top <= y < top + h)
     if word == "tally":
         return "TALLY", gas.tick, *gas.sums(gas.particles)
     if word == "ledger":
