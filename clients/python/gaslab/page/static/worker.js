@@ -194,8 +194,8 @@ const WORDS = {
     return sides.every(isSide) ? take(page, gasOf(new Gas(...sides), { name: name.join(" ") })) : "NO size";
   },
   ".fresh"(page) {
-    const { gas } = now.lab;
-    return take(page, { ...now, lab: new Lab(gas, CAP), start: snapshot(gas) });
+    const start = snapshot(now.lab.gas);
+    return take(page, { ...now, lab: new Lab(fromSnapshot(start), CAP), start });
   },
   ".bring": (page) => take(page, old),
 };
