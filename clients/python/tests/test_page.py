@@ -78,11 +78,12 @@ class Main:
                           ".replace(',', '').replace('−', '-')))")
         numbers = [int(it) for it in ledger[0].split(" ")[1:]]
         signs, places = [1, 1, -1, -1, -1], [[0, 3, 8], [1, 4, 9], [2, 5, 10], [None, 6, 11], [None, 7, 12]]
-        wanted = [[None if place is None else sign * numbers[place] for place in row]
-                  for sign, row in zip(signs, places)]
+        wanted = [[None if place is None else numbers[place] for place in row] for row in places]
         self.assertEqual([[int(it) if it else None for it in row] for row in rows[:5]], wanted)
         self.assertEqual([int(it) for it in rows[5]],
-                         [sum(it or 0 for it in column) for column in zip(*wanted)])
+                         [sum(sign * (it or 0) for sign, it in zip(signs, it)) for it in zip(*wanted)])
+        names = self.value("[...document.querySelectorAll('#ledger th')].map((e) => e.textContent[0])")
+        self.assertEqual(names, ["s", *("+" if sign > 0 else "−" for sign in signs[1:]), "="])
 
     def test_undo_takes_the_last_edit(self):
         self.open("8")

@@ -159,19 +159,17 @@ new ResizeObserver(() => {
 
 // ---- readings beside the gas: tick, tally, the ledger as a sum, and the probes
 const GATE = 64;           // particles up to which a gas may be a gate
-const signed = (n) => n > 0 ? `+${say(n)}` : say(n);
 
-for (const name of [...Object.keys(ROWS), "balance"])
-  at("ledger").append(h(name === "balance" ? "tr.sum" : "tr", h("th", { scope: "row" }, name),
+for (const name of [...Object.keys(ROWS), "= balance"])
+  at("ledger").append(h(name in ROWS ? "tr" : "tr.sum", h("th", { scope: "row" }, name),
     h("td"), h("td"), h("td")));
 
-/** Shows the ledger with the sign of each entry, so that a column can be added by eye. */
+/** Shows the numbers of `ledger`. The sign in a row's name says how it counts for the balance. */
 function showLedger({ ledger, tally, mixed }) {
   const { rows } = at("ledger"), sums = [0, 0, 0];
   Object.values(ROWS).forEach(([sign, ...fields], k) => fields.forEach((field, column) => {
-    const value = field === null ? null : sign * ledger[field];
-    setText(rows[k].cells[column + 1], value === null ? "" : k ? signed(value) : say(value));
-    sums[column] += value ?? 0;
+    setText(rows[k].cells[column + 1], field === null ? "" : say(ledger[field]));
+    sums[column] += field === null ? 0 : sign * ledger[field];
   }));
   sums.forEach((n, k) => setText(rows[rows.length - 1].cells[k + 1], say(n)));
   at("ledger").className = Math.max(...ledger.map((n) => say(n).length)) > 9 ? "long" : "";
