@@ -230,6 +230,34 @@ class Main:
         found = self.value(f"laboratory.lab.link.send({json.dumps(asks)})")
         self.assertEqual(run_second(second(), 64, 64, [*lines, *asks])[len(lines):], found)
 
+    def test_buttons_of_a_lesson_act_at_their_tick(self):
+        """Lesson 6: pressed at tick 0, the particle is put at tick 320, and the gas stays spread out. The
+        scene clap: there is no way back from tick 120, so it starts again without drains and sources."""
+        self.open("6")
+        for k, tick in enumerate((320, 0, 320, 0)):
+            self.press(k)
+            self.browser.wait(f"laboratory.lab.picture.tick === {tick} && !laboratory.lab.playing", True)
+        self.assertEqual(self.value("laboratory.lab.link.send(['probe 4 4 20 56'])"), ["PROBE 335 39 3"])
+        self.open("clap")
+        for k, tick in ((0, 120), (1, 0), (2, 80)):
+            self.press(k)
+            self.browser.wait(f"laboratory.lab.picture?.tick === {tick} && !laboratory.lab.playing", True)
+        self.settle()
+        self.assertEqual(self.value("laboratory.lab.link.send(['probe 96 56 8 16'])"), ["PROBE 75 -9 -3"])
+
+    def test_buttons_that_are_pressed_at_once(self):
+        """They act one after the other, each at its tick, in lesson 6 with two clicks each."""
+        self.open("6")
+        self.value("[0, 2, 2, 3, 3, 2].forEach((k) => document.querySelectorAll('.tries button')[k].click())")
+        self.browser.wait("laboratory.lab.picture.tick === 320 && !laboratory.lab.playing", True)
+        self.settle()
+        tally, probe = self.value("laboratory.lab.link.send(['tally', 'probe 33 24 1 1'])")
+        self.assertEqual((tally.split(" ")[1:3], probe.split(" ")[1]), (["320", "1121"], "1"))
+
+    def press(self, k):
+        self.value(f"document.querySelectorAll('.tries button')[{k}].click()")
+        self.settle()
+
 
 class OneFile(Main, PageCase):
     """In Chromium, with what Firefox can't be asked by its protocol."""

@@ -1,6 +1,7 @@
 """The page's engine in JavaScript, by node, against the second implementation; and what its lessons claim."""
 import importlib.machinery
 import importlib.util
+import itertools
 import json
 import math
 import random
@@ -20,13 +21,43 @@ SIZES = {"5_sound": (256, 256), "5_empty": (256, 256), "9_light_cone": (128, 128
          "clap": (128, 128)}
 SESSIONS = ["8_first", "8_second", "8_third"]
 OBSTACLES_X = 8  # its place in a LEDGER reply
+ROWS = [f"read {y}" for y in range(64)]
+
+
+def run_node(name, cases, entry="engine"):
+    """What a script beside this one prints of cases, with a module of the page."""
+    done = subprocess.run([NODE, ROOT / "clients/python/tests" / name], stdout=subprocess.PIPE, text=True,
+                          input=json.dumps({"engine": bundle(entry), "cases": cases}), check=True)
+    return json.loads(done.stdout)
 
 
 def run_engine(cases):
     """The replies to each case: width, height, the lines of each session, and a case to start from or -1."""
-    done = subprocess.run([NODE, ROOT / "clients/python/tests/engine.mjs"], stdout=subprocess.PIPE, text=True,
-                          input=json.dumps({"engine": bundle("engine"), "cases": cases}), check=True)
-    return json.loads(done.stdout)
+    return run_node("engine.mjs", cases)
+
+
+def lines_pressed(lesson, pressed):
+    """The lines of a lesson after some of its buttons, the tick, and which of them changed the gas.
+
+    A button that acts at a tick goes there first. If ports let no way back, the lesson starts again.
+    """
+    lines, tick, changes = list(lesson["setup"]), 0, set()
+    for k in pressed:
+        at = lesson["tries"][k].get("at", tick)
+        has_ports = any(line.startswith(("source", "drain")) for line in lines) and "unport" not in lines
+        if at < tick and has_ports:
+            lines, tick, changes = list(lesson["setup"]), 0, set()
+        for line in ([f".goto {at}"] if at != tick else []) + lesson["tries"][k]["lines"]:
+            word, *words = line.split(" ")
+            aim = {".goto": 0, "step": tick, "back": tick}.get(word)
+            if aim is None:
+                lines.append(line)
+                changes.add(k)
+                continue
+            to = aim + int(words[0]) * (-1 if word == "back" else 1)
+            lines += [f"{'step' if to > tick else 'back'} {abs(to - tick)}"] if to != tick else []
+            tick = to
+    return lines, tick, sorted(changes)
 
 
 def second():
@@ -128,12 +159,12 @@ class Claims(unittest.TestCase):
                       for claim in it["claims"]]
 
     def script(self, lesson, claim):
-        lines = list(self.lessons[lesson]["setup"])
-        for line in claim["lines"]:
-            if line.startswith("try "):
-                lines += self.lessons[lesson]["tries"][int(line[4:])]["lines"]
-            else:
-                lines += [f"read {y}" for y in range(64)] if line == "entropy" else [line]
+        if "press" in claim:
+            pressed = lines_pressed(self.lessons[lesson], claim["press"])[0]
+            lines = pressed + ([claim["ask"]] if "ask" in claim else [])
+        else:
+            lines = self.lessons[lesson]["setup"] + claim["lines"]
+        lines = [it for line in lines for it in (ROWS if line == "entropy" else [line])]
         return lines + (["step 200", "ledger", "step 100", "ledger"] if "drag" in claim else [])
 
     def check(self, lesson, claim, replies):
@@ -143,7 +174,7 @@ class Claims(unittest.TestCase):
             self.assertEqual(late - early, 100 * claim["drag"], claim)
         elif isinstance(claim["reply"], list):
             self.assertEqual([it for it in replies if not it.startswith("OK")], claim["reply"], lesson)
-        elif claim["lines"][-1] == "entropy":
+        elif "entropy" in (claim.get("ask"), *claim.get("lines", [])):
             self.assertEqual(f"{entropy(replies[-64:]):.8f}", claim["reply"], claim)
         else:
             self.assertEqual(replies[-1], claim["reply"], (lesson, claim))
@@ -160,6 +191,48 @@ class Claims(unittest.TestCase):
                  for lesson, claim in self.claims]
         for (lesson, claim), replies in zip(self.claims, run_engine(cases)):
             self.check(lesson, claim, replies)
+
+    @unittest.skipUnless(NODE, "there is no node")
+    def test_buttons_in_any_order(self):
+        """What is claimed at a tick, after some buttons that change the gas, holds in whatever order they and
+        others are pressed: 5 at most, and one of them while the run of another is under way."""
+        lessons = [{"setup": it["setup"], "size": it["size"], "tries": it["tries"],
+                    "claims": [claim for name, claim in self.claims if name == it["id"] and "ask" in claim]}
+                   for it in self.lessons.values()]
+        lessons = [it for it in lessons if it["claims"]]
+        for lesson in lessons:
+            for claim in lesson["claims"]:
+                _, claim["tick"], claim["changes"] = lines_pressed(lesson, claim["press"])
+            lesson["asks"] = sorted({line for claim in lesson["claims"] for line in
+                                     (ROWS if claim["ask"] == "entropy" else [claim["ask"]])})
+        for lesson, states in zip(lessons, run_node("presses.mjs", lessons)):
+            held = dict.fromkeys(range(len(lesson["claims"])), 0)
+            for changes, tick, replies in states:
+                said = dict(zip(lesson["asks"], replies))
+                for k, claim in enumerate(lesson["claims"]):
+                    if (claim["tick"], claim["changes"]) == (tick, changes):
+                        held[k] += 1
+                        found = (f"{entropy([said[row] for row in ROWS]):.8f}" if claim["ask"] == "entropy"
+                                 else said[claim["ask"]])
+                        self.assertEqual(found, claim["reply"], (claim, lesson["tries"]))
+            self.assertGreater(min(held.values()), 0, (held, lesson["claims"]))
+
+    @unittest.skipUnless(NODE, "there is no node")
+    def test_obstacles_of_lesson_4_in_any_order(self):
+        lesson = self.lessons["4"]
+        drags = {claim["press"][-1]: claim["drag"] for name, claim in self.claims
+                 if name == "4" and "press" in claim}
+        self.assertEqual(sorted(drags), list(range(len(lesson["tries"]))))
+        orders = list(itertools.permutations(drags))
+        cases = []
+        for order in orders:
+            lines = list(lesson["setup"])
+            for k in order:
+                lines += ["step 23", *lesson["tries"][k]["lines"]]
+            cases.append([64, 64, [[*lines, "step 200", "ledger", "step 100", "ledger"]], -1])
+        for order, replies in zip(orders, run_engine(cases)):
+            early, late = (int(replies[k].split(" ")[OBSTACLES_X]) for k in (-3, -1))
+            self.assertEqual(late - early, 100 * drags[order[-1]], order)
 
     def test_each_lesson_with_an_answer_claims_something(self):
         for lesson in (it["id"] for it in self.lessons.values() if "expect" in it):

@@ -8,7 +8,8 @@ import { bytesOf, keepForReload, takeKept, lessonOf, pickFile, stored, download,
   saveFilm, snapshotOf } from "./files.js";
 import { connect, edits, join, pause, play, send } from "./session.js";
 import { isWithin } from "./frame.js";
-import { doTry } from "./tools.js";
+import { linesOf } from "./engine.js";
+import "./tools.js";
 
 // ---- what opens a gas: lessons, files and what was kept over a reload; and the text beside it
 const asked = new URLSearchParams(location.search);
@@ -34,9 +35,10 @@ async function open(lesson, size, lines, snapshot = null) {
 async function load(lesson, size = lesson.size) {
   note(`${lesson.name}: ${size[0]} by ${size[1]} cells`);
   const bad = await open(lesson, size, [...lesson.setup, ...watches(lesson.probes)]);
-  if (bad) { notice({ title: `${lesson.name} was not opened`, text: plainWords(bad[1]) }); return; }
+  if (bad) { notice({ title: `${lesson.name} was not opened`, text: plainWords(bad[1]) }); return false; }
   state.change({ speed: lesson.speed });               // pictures of the gas before may have come meanwhile
   if (lesson.play && !matchMedia("(prefers-reduced-motion: reduce)").matches) await play();
+  return true;
 }
 
 /** Opens a script or a snapshot. A script that began from a snapshot asks for that first. */
@@ -107,8 +109,21 @@ function showLesson() {
   at("lesson").scrollTop = 0;
 }
 
-const tryButton = (one) => h("li", h("button", { onclick: () => doTry(one) }, h("span", one.say),
+let pressed = Promise.resolve();       // buttons act one after the other
+
+const press = (one) => { pressed = pressed.then(() => doTry(one)); };
+const tryButton = (one) => h("li", h("button", { onclick: () => press(one) }, h("span", one.say),
   h("code", one.lines.map(shown).join(" · "))));
+
+/** Does what a lesson's button does. If no way leads to its tick, the lesson starts again first. */
+async function doTry(one) {
+  const isTimed = "at" in one || one.lines.some((line) => /^(\.goto|step|back)/.test(line));
+  const [, tally = ""] = isTimed ? await state.link.send([".pause", "tally"]) : [];
+  let lines = linesOf(one, { tick: Number(tally.split(" ")[1]), hasPorts: edits.gas.hasPorts });
+  if (!lines && await load(state.lesson)) lines = linesOf(one, { tick: 0 });
+  if (lines) await send(lines, { isTime: lines.some((line) => line.startsWith("back")) });
+  if (lines && one.view) view.fit(one.view);
+}
 
 /** A question with choices. The answer comes after a choice, and takes the focus. */
 function question({ ask, choices, right, answer }) {

@@ -58,13 +58,6 @@ async function undo() {
   if (note && !replies.some(isRefusal)) notice({ title: "Undone", text: note });
 }
 
-/** Sends the lines of a lesson's button. */
-export async function doTry({ lines, view: rect }) {
-  if (lines.some((line) => /^(\.goto|step|back)/.test(line))) await pause();
-  await send(lines, { isTime: lines.some((line) => line.startsWith("back")) });
-  if (rect) view.fit(rect);
-}
-
 // ---- shooting a particle, and following one
 const FARTHEST = 256;           // steps between two pictures over which a particle is followed
 const TRAIL = 500;         // cells
