@@ -278,8 +278,8 @@ class Time(Halls):
         (line, name, script), (_, other, snapshot) = page.files()
         self.assertEqual((line, name, other), (page.number, "gas.txt", "start.gas"))
         self.assertEqual(snapshot, start.to_bytes())
-        self.assertEqual(script.decode().split("\n")[1:], [
-            "size 64 64", "step 5", "wall 0 0 64 1", "step 1", "back 2", ""])
+        self.assertEqual(script.decode().split("\n"), [
+            "ledger", "step 5", "wall 0 0 64 1", "step 1", "back 2", "tally", "ledger", ""])
         with tempfile.TemporaryDirectory() as room:
             paths = [os.path.join(room, it) for it in ("gas.txt", "start.gas")]
             for path, data in zip(paths, (script, snapshot)):
@@ -304,9 +304,10 @@ class Scripts(unittest.TestCase):
     def test_a_journal_as_a_script(self):
         """Steps that follow one another are joined, as far as one command makes them."""
         commands = ["step 1", "step 2", "put 0 0 1 1", "step 4095", "step 1", "step 1", "back 1", "back 4096"]
-        self.assertEqual(journal_script((128, 64), commands), "size 128 64\nstep 3\nput 0 0 1 1\nstep 4096\n"
-                         "step 1\nback 1\nback 4096\n")
-        self.assertEqual(journal_script((64, 64), [], "it"), "# it\nsize 64 64\n")
+        self.assertEqual(journal_script((128, 64), commands),
+                         "probe 0 0 128 64\nstep 3\nput 0 0 1 1\nstep 4096\nstep 1\nback 1\nback 4096\n"
+                         "tally\nledger\n")
+        self.assertEqual(journal_script((64, 64), [], True), "ledger\ntally\nledger\n")
 
 
 class AServersGas(unittest.TestCase):

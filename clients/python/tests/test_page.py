@@ -224,8 +224,9 @@ class Main:
         self.send("step 40")
         home = self.value("laboratory.lab.link.fetch('.script')"
                           ".then(([f]) => new TextDecoder().decode(f.contents))")
-        size, *lines = home.splitlines()
-        self.assertEqual((size, lines[-2:]), ("size 64 64", ["block 20 24 2 2", "step 40"]))
+        first, *lines = home.splitlines()
+        self.assertEqual((first, lines[-4:]),
+                         ("probe 0 0 64 64", ["block 20 24 2 2", "step 40", "tally", "ledger"]))
         asks = ["tally", "ledger", *(f"read {y}" for y in range(64))]
         found = self.value(f"laboratory.lab.link.send({json.dumps(asks)})")
         self.assertEqual(run_second(second(), 64, 64, [*lines, *asks])[len(lines):], found)

@@ -124,7 +124,8 @@ class Gates(PageCase):
 
     def test_a_script_is_placed_by_an_even_offset(self):
         self.open("empty")
-        script = list(b"put 10 10 1 1\nrow 3 0000000000000c01\nwall 4 4 2 2\nstep 5\nput 0 0 1 1\n")
+        script = list(b"probe 0 0 64 64\nput 10 10 1 1\nrow 3 0000000000000c01\nwall 4 4 2 2\n"
+                      b"step 5\nput 0 0 1 1\n")
         place = "laboratory.placed(Uint8Array.from(%s), %s, laboratory.lab.picture)"
         self.assertEqual(self.value(place % (script, [2, 4]))["fault"],
                          "“row 3 0000000000000c01” would reach outside the lattice.")

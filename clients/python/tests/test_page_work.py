@@ -2,11 +2,14 @@
 import csv
 import io
 import json
+import os
+import subprocess
 import tempfile
 import unittest
 from pathlib import Path
 
 from .page_case import CALLOUT, LESSON, PageCase
+from .test_lab import ROOT
 from .test_page_engine import PAGE
 
 _CAP = 65536
@@ -24,18 +27,62 @@ class Files(PageCase):
         self.open("8")
         self.draw("wall", (5, 5), (8, 6))
         before = self.state()
-        self.open_file(b"# a comment\nput 1 1 1 1\nput 70 0 1 1\nput 2 2 2 2\n")
+        self.open_file(b"# a comment\nput 1 1 1 1\nput 1 1 0 1\nput 2 2 2 2\n")
         self.settle()
-        self.assertIn("Line 3 of 4, “put 70 0 1 1”: The rectangle is empty or reaches outside",
+        self.assertIn("Line 3 of 4, “put 1 1 0 1”: The rectangle is empty or reaches outside",
                       self.value(CALLOUT))
         self.assertEqual((self.state(), self.value(LESSON)), (before, "Three people on one gas"))
 
     def test_a_script_after_a_snapshot_asks_for_it(self):
+        """It reads before it changes anything: the lesson of the next day, too."""
         self.open("8")
-        self.open_file(b"# This began from a snapshot: start.gas\nsize 64 64\nput 1 1 1 1\n")
-        self.assertIn("Choose that file too", self.value(CALLOUT))
-        self.assertEqual(self.value("document.querySelector('#callout .does button').textContent"),
-                         "Choose the snapshot")
+        for data in (b"ledger\nput 1 1 1 1\n", (ROOT / "examples" / "7_next_day.txt").read_bytes()):
+            self.open_file(data)
+            self.assertIn("Choose the snapshot of that too", self.value(CALLOUT))
+        self.value("document.querySelectorAll('#callout .does button')[1].click()")
+        self.browser.wait("laboratory.lab.picture?.tick", -60)
+
+    def test_a_script_opens_on_the_lattice_that_its_lines_need(self):
+        """The lesson with a lattice of its own, one of another size, and what `size` names."""
+        for data, size in (((ROOT / "examples" / "7_kept.txt").read_bytes(), [128, 64]),
+                           ((ROOT / "examples" / "5_empty.txt").read_bytes(), [256, 256]),
+                           (b"probe 0 0 64 192\nput 1 1 1 1\n", [64, 192]), (b"put 1 1 1 1\n", [64, 64]),
+                           (b"size 192 64\nput 1 1 1 1\n", [192, 64])):
+            self.open("8")
+            self.open_file(data)
+            self.settle()
+            self.assertEqual(self.value("[laboratory.view.picture.width, laboratory.view.picture.height]"),
+                             size)
+        self.open("8")
+        self.open_file((ROOT / "examples" / "7_kept.txt").read_bytes())
+        self.settle()
+        self.assertEqual(self.value("laboratory.lab.link.send(['tally'])"), ["TALLY 60 768 -52 -8"])
+
+    def test_a_saved_script_is_replayed_by_the_command_that_is_shown(self):
+        """By the second implementation, to tally and ledger; and the page opens it again as it was."""
+        room = tempfile.TemporaryDirectory()
+        self.addCleanup(room.cleanup)
+        os.symlink(ROOT / "tools", Path(room.name, "tools"))
+        self.open("7")
+        self.browser.download_to(room.name)
+        self.draw("wall", (5, 5), (8, 6))
+        self.send("step 25")
+        shown, state = self.value("laboratory.lab.link.send(['tally', 'ledger'])"), self.state()
+        self.value("document.getElementById('script').click()")
+        self.browser.wait_for_file(Path(room.name, "gas.txt"))
+        self.browser.wait("document.querySelectorAll('#popover .replay').length", 2)
+        commands = self.value("[...document.querySelectorAll('#popover .replay')].map((e) => e.textContent)")
+        self.assertEqual(commands[0], "./gaslab run --width 128 --height 64 < gas.txt")
+        done = subprocess.run(commands[1], shell=True, cwd=room.name, capture_output=True, text=True)
+        replies = done.stdout.splitlines()
+        self.assertEqual((done.stderr, [it for it in replies if it.startswith("ERR")], replies[-2:]),
+                         ("", [], shown))
+        self.value("document.getElementById('popover').close()")
+        self.open("8")
+        self.open_file(Path(room.name, "gas.txt").read_bytes())
+        self.settle()
+        self.assertEqual((self.value("laboratory.lab.link.send(['tally', 'ledger'])"), self.state()),
+                         (shown, state))
 
     def test_a_name_of_two_lines_sends_no_second_line(self):
         self.open("8")
@@ -170,7 +217,7 @@ class Journal(PageCase):
         self.browser.wait("laboratory.lab.picture?.journal", 1)
         self.assertEqual(self.value("laboratory.lab.link.send(['entry 0'])"), ["ENTRY 0 wall 30 30 2 2"])
         self.assertEqual(self.value("laboratory.view.picture.probes.map((p) => p.rect)"), [[4, 4, 20, 56]])
-        self.assertEqual(len((Path(room.name) / "gas.txt").read_text().splitlines()), _CAP + 1)
+        self.assertEqual(len((Path(room.name) / "gas.txt").read_text().splitlines()), _CAP + 3)
 
 
 class Seats(PageCase):

@@ -150,7 +150,7 @@ def lab_of(asked: argparse.Namespace) -> Iterator[Lab]:
         start = Snapshot.read(load) if load else None
         lab = Lab.join(*asked.join, timeout=asked.timeout, start=start)
     else:
-        width, height = script.size or (64, 64)
+        width, height = script.lattice
         lab = Lab.run(asked.width or width, asked.height or height, asked.workers, asked.cap, load,
                       asked.save, asked.program, asked.timeout)
     with lab:

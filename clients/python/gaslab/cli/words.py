@@ -167,7 +167,7 @@ def _own(asked: argparse.Namespace, means: Means) -> Laboratory:
     elif asked.file:
         script = parse_script(read_text(asked.file))
     start, name = Snapshot.read(load) if load else None, _name(asked.file or load or "")
-    laboratory = Laboratory.own(means, script.size or (64, 64), start, name)
+    laboratory = Laboratory.own(means, script.lattice, start, name)
     try:
         laboratory.lab.play(until_quit(script))
     except BaseException:

@@ -28,6 +28,13 @@ class Script(NamedTuple):
     size: Optional[tuple[int, int]]
     parts: list[Any]
 
+    @property
+    def lattice(self) -> tuple[int, int]:
+        """The size that it names, or else that its first command probes whole, or else 64 by 64."""
+        place = re.fullmatch(r"probe 0 0 (\d+) (\d+)", str(self.parts[0][1])) if self.parts else None
+        probed = tuple(map(int, place.groups())) if place else ()
+        return self.size or ((probed[0], probed[1]) if probed and set(probed) <= set(SIDES) else (64, 64))
+
     def commands(self) -> Iterator[tuple[int, str]]:
         """The commands with their line numbers from 1, with each `repeat` carried out."""
         return _unrolled(self.parts)
@@ -43,13 +50,13 @@ def parse_script(text: Union[str, Iterable[str]]) -> Script:
     return Script(size, parts)
 
 
-def journal_script(size: tuple[int, int], commands: Iterable[str], note: str = "") -> str:
-    """The script of a journal: its size, then its commands, with steps that follow one another joined.
+def journal_script(size: tuple[int, int], commands: Iterable[str], is_after_snapshot: object = False) -> str:
+    """The script of a journal, of lines that a laboratory takes: steps that follow one another are joined.
 
-    A note is its first line, as a comment.
+    Its first line probes the whole lattice, which tells its size. If the journal began from a snapshot, it
+    asks for the ledger instead. The last two lines ask for tally and ledger.
     """
-    lines = [f"# {note}"] if note else []
-    lines.append("size {} {}".format(*size))
+    lines = ["ledger" if is_after_snapshot else "probe 0 0 {} {}".format(*size)]
     for command in commands:
         word, *words = command.split(" ")
         before, *steps = lines[-1].split(" ")
@@ -58,7 +65,7 @@ def journal_script(size: tuple[int, int], commands: Iterable[str], note: str = "
             lines[-1] = f"{word} {total}"
         else:
             lines.append(command)
-    return "\n".join(lines) + "\n"
+    return "\n".join([*lines, "tally", "ledger"]) + "\n"
 
 
 def is_open(text: str) -> bool:

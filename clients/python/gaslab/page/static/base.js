@@ -47,7 +47,7 @@ export const plural = (n, one) => `${say(n)} ${one}${n === 1 ? "" : "s"}`;
 export const { colours: COLOURS, curves: CURVES, ramp: RAMP, zoom: ZOOM, commands: COMMANDS, keys: KEYS,
   always: ALWAYS, moves: MOVES, cursor: CURSOR, tools: TOOLS, icons: ICONS, truth: TRUTH, plots: PLOTS,
   ledgerRows: ROWS, ways: WAYS, choices: CHOICES, shares: SHARES, kinds: KINDS, fates: FATES,
-  speeds: SPEEDS, sides: SIDES, empty: EMPTY } = facts;
+  speeds: SPEEDS, sides: SIDES, empty: EMPTY, saved: SAVED, gives: GIVES } = facts;
 export const toolOf = (id) => TOOLS.find((tool) => tool.id === id);
 export const isRefusal = (reply) => /^(NO|ERR|GONE)/.test(reply);
 

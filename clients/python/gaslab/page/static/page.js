@@ -1,14 +1,14 @@
 // The page: what opens a gas, and the header with its dialog.
-import { ALL, ALWAYS, EMPTY, KEYS, LESSONS, SCENES, SIDES, TOOLS, TRUTH, at, button, choose, fill, find, h,
-  isRefusal, kindOf, plainWords, plural, rove, say, state, words } from "./base.js";
+import { ALL, ALWAYS, EMPTY, GIVES, KEYS, LESSONS, SAVED, SCENES, SIDES, TOOLS, TRUTH, at, button, choose,
+  fill, find, h, isRefusal, kindOf, plainWords, plural, rove, say, state, words } from "./base.js";
 import { view } from "./canvas.js";
 import { plots } from "./plots.js";
 import { notice, banner, hideBanner, speak, note } from "./notices.js";
 import { bytesOf, keepForReload, takeKept, lessonOf, pickFile, stored, download, saveFile, savePicture,
   saveFilm, snapshotOf } from "./files.js";
 import { connect, edits, join, pause, play, send } from "./session.js";
+import { linesOf, replays } from "./engine.js";
 import { isWithin } from "./frame.js";
-import { linesOf } from "./engine.js";
 import "./tools.js";
 
 // ---- what opens a gas: lessons, files and what was kept over a reload; and the text beside it
@@ -42,13 +42,14 @@ async function load(lesson, size = lesson.size) {
 }
 
 /** Opens a script or a snapshot. A script that began from a snapshot asks for that first. */
-async function openBytes(name, bytes, lesson = null, snapshot = null) {
+async function openBytes(name, bytes, lesson = null, snapshot = null, wasEmpty = false) {
   const read = lessonOf(bytes), found = snapshot && lessonOf(snapshot);
   const refused = (text, does) => notice({ title: `${name} was not opened`, text, does });
   if (read.fault) return refused(read.fault);
-  if (read.isAfterSnapshot && !snapshot)
-    return refused("This script began from a snapshot. Choose that file too.",
-      [["Choose the snapshot", () => pickFile((file) => openBytes(name, bytes, lesson, file.bytes))]]);
+  if (read.isAfterSnapshot && !snapshot && !wasEmpty)
+    return refused("This script began with a gas. Choose the snapshot of that too.",
+      [["Choose the snapshot", () => pickFile((file) => openBytes(name, bytes, lesson, file.bytes))],
+        ["It began empty", () => openBytes(name, bytes, lesson, null, true)]]);
   if (found && !found.snapshot) return refused(found.fault ?? "This is a script, not a snapshot.");
   const own = lesson ?? { ...EMPTY, id: "own", name, own: true, text: [] }, start = read.snapshot ?? snapshot;
   const bad = await open(own, read.size, [...read.lines ?? [], ...watches(own.probes)], start);
@@ -110,7 +111,6 @@ function showLesson() {
 }
 
 let pressed = Promise.resolve();       // buttons act one after the other
-
 const press = (one) => { pressed = pressed.then(() => doTry(one)); };
 const tryButton = (one) => h("li", h("button", { onclick: () => press(one) }, h("span", one.say),
   h("code", one.lines.map(shown).join(" · "))));
@@ -153,7 +153,7 @@ const tabs = [...document.querySelectorAll(".tabs button")];
 function openDialog(fill) {
   box.replaceChildren(...fill());
   box.querySelector("h2").id = "popover-name";
-  box.showModal();
+  if (!box.open) box.showModal();
 }
 
 const form = (onsubmit, ...children) => h("form", { method: "dialog", onsubmit }, ...children);
@@ -176,9 +176,9 @@ function placed(bytes, [dx, dy], picture) {
     return { fault: `At tick ${tick} both numbers must be ${tick & 1 ? "odd" : "even"}: `
       + "else the particles would move another way." };
   for (const line of read.lines) {
-    const [word, ...words] = line.split(/ +/), n = words.map(Number);
+    const [word, ...words] = line.split(/ +/), n = words.map(Number), area = n.length > 3 && word !== "probe";
     if (word === "step" || word === "back") break;
-    const rects = word === "row" ? runs(words[1]).map(([x, w]) => [x, n[0], w, 1]) : n.length > 3 ? [n] : [];
+    const rects = word === "row" ? runs(words[1]).map(([x, w]) => [x, n[0], w, 1]) : area ? [n] : [];
     const moved = rects.map(([x, y, ...rest]) => [x + dx, y + dy, ...rest]);
     if (!moved.every((rect) => isWithin(rect, picture)))
       return { fault: `“${line.slice(0, 40)}” would reach outside the lattice.` };
@@ -219,7 +219,14 @@ const lessons = () => [h("h2.unseen", "Lessons and scenes"), h("div.shelves",
 function truth() {
   const [, title, texts] = TRUTH[state.program] ?? TRUTH.none;
   return [h("h2", title), ...texts.map((text) => h("p", text)),
-    button("Save the script", () => saveFile(".script"))];
+    button("Save the script", saveScript)];
+}
+
+/** Saves the script, and says what replays it. */
+async function saveScript() {
+  const files = await saveFile(".script"), [title, ...texts] = SAVED;
+  if (files.length) openDialog(() => [h("h2", title), ...replays(files).flatMap((line, k) =>
+    [h("p", texts[k]), h("p", h("code.replay", line))]), h("p", texts[2])]);
 }
 
 function seats() {
@@ -250,26 +257,20 @@ function give(name, text, act, label = "Save", more = null) {
   return h("div.give", h("b", name), h("p", text), does, more);
 }
 
-const bytesIn = (n) => n < 1 << 20 ? `${say(Math.round(n / 102.4) / 10)} KB`
-  : `${say(Math.round(n / 104857.6) / 10)} MB`;
-
 function share() {
-  const { picture: { journal }, cap } = state, size = snapshotOf(view).length;
+  const { picture: { journal }, cap } = state, size = say(snapshotOf(view).length / 1024);
+  const named = (id, act, more = "") => give(GIVES[id][0], `${GIVES[id][1]} ${more}`, act);
   return [h("h2", "Take it home, or show it"),
-    give("Script", "gas.txt: the journal as command lines, with the size. "
-      + `${say(journal)} of ${say(cap)} entries.`, () => saveFile(".script")),
-    give("Snapshot", `day.gas: the gas as it is now, without ledger and journal. ${bytesIn(size)}.`,
-      () => saveFile(".snapshot")),
-    give("Readings", "Tick, tally, ledger, probes and entropy of each picture, as comma-separated values.",
-      () => download("readings.csv", plots.table(), "text/csv")),
+    named("script", saveScript, `${say(journal)} of ${say(cap)} entries.`),
+    named("snapshot", () => saveFile(".snapshot"), `${size} KB.`),
+    named("readings", () => download("readings.csv", plots.table(), "text/csv")),
     ...plots.shown.filter((id) => plots.graphs[id]).map((id) =>
       give(`Plot: ${id}`, "The curve with its axes, as PNG.", () => savePicture(plots.picture(id), id))),
-    give("Picture", "The cells as they are shown, as PNG.", () => savePicture()),
-    give("Film", "The next 60 pictures, as video. Press play first.", saveFilm),
+    named("picture", () => savePicture()),
+    named("film", saveFilm),
     ...Object.entries(state.links).map(giveLink),
-    ...state.program === "page" ? [] : [give("A page of its own",
-      "One HTML file with lessons and engine, which needs no program and no network.",
-      () => h("a", { href: "gas.html", download: "gas.html" }).click())]];
+    ...state.program === "page" ? []
+      : [named("page", () => h("a", { href: "gas.html", download: "gas.html" }).click())]];
 }
 
 function giveLink([what, token]) {
@@ -279,8 +280,7 @@ function giveLink([what, token]) {
     input.select();
     does.textContent = document.execCommand("copy") ? "Copied" : "Copy it by hand";
   };
-  return give(name, what === "watch" ? "Who opens it sees this gas, and can change nothing."
-    : "Who opens it takes a seat on this gas.", copy, "Copy", input);
+  return give(name, GIVES[what][1], copy, "Copy", input);
 }
 
 // ---- truth tables
@@ -324,9 +324,8 @@ function table() {
     result.replaceChildren(await filled(inputs.value, ticks.valueAsNumber, probes)
       .catch((fault) => fault.message));
   };
-  return [h("h2", "Truth table"), h("p", "Each input cell is full or empty. After the steps the probes are "
-    + "read, and the gas is stepped back. It is as before in the end."),
-  form(fill, h("label", "Inputs ", inputs), h("label", " Steps ", ticks), " ", button("Fill the table")),
+  return [h("h2", "Truth table"), h("p", GIVES.table[1]),
+    form(fill, h("label", "Inputs ", inputs), h("label", " Steps ", ticks), " ", button("Fill the table")),
   result];
 }
 
@@ -345,7 +344,7 @@ async function filled(text, ticks, probes) {
 for (const [id, fill] of Object.entries({ truth, seats, "lessons-open": lessons, "share-open": share,
   "help-open": help, "table-open": table }))
   at(id).onclick = () => { if (state.picture || id !== "share-open") openDialog(fill); };
-at("script").onclick = () => saveFile(".script");
+at("script").onclick = saveScript;
 
 // ---- the header, the tabs, and what is remembered
 function showHeader() {

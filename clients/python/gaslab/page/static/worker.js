@@ -116,17 +116,17 @@ function opened() {
   return `* open ${width} ${height} ${journal.length} ${name}`.trim();
 }
 
-/** The journal as a script, with steps that follow one another joined. */
+/** The journal as lines that a laboratory takes: MESSAGES.md. Steps that follow one another are joined. */
 function script() {
-  const { lab: { gas, journal }, start } = now, lines = [`size ${gas.width} ${gas.height}`];
+  const { lab: { gas, journal }, start } = now;
+  const lines = [start ? "ledger" : `probe 0 0 ${gas.width} ${gas.height}`];
   for (const { text } of journal) {
     const [[word, n], [before, m]] = [text, lines.at(-1)].map((line) => line.split(" "));
     const sum = Number(n) + Number(m), isTime = word === "step" || word === "back";
     if (isTime && word === before && sum <= LONGEST) lines[lines.length - 1] = `${word} ${sum}`;
     else lines.push(text);
   }
-  const note = "# This began from a snapshot: gaslab-client draw gas.txt --load start.gas";
-  return new TextEncoder().encode([...start ? [note] : [], ...lines, ""].join("\n"));
+  return new TextEncoder().encode([...lines, "tally", "ledger", ""].join("\n"));
 }
 
 function clock() {
