@@ -258,11 +258,11 @@ function give(name, text, act, label = "Save", more = null) {
 }
 
 function share() {
-  const { picture: { journal }, cap } = state, size = say(snapshotOf(view).length / 1024);
+  const { picture: { journal }, cap } = state, size = say(snapshotOf(view).length);
   const named = (id, act, more = "") => give(GIVES[id][0], `${GIVES[id][1]} ${more}`, act);
   return [h("h2", "Take it home, or show it"),
     named("script", saveScript, `${say(journal)} of ${say(cap)} entries.`),
-    named("snapshot", () => saveFile(".snapshot"), `${size} KB.`),
+    named("snapshot", () => saveFile(".snapshot"), `${size} bytes.`),
     named("readings", () => download("readings.csv", plots.table(), "text/csv")),
     ...plots.shown.filter((id) => plots.graphs[id]).map((id) =>
       give(`Plot: ${id}`, "The curve with its axes, as PNG.", () => savePicture(plots.picture(id), id))),
