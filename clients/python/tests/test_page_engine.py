@@ -238,6 +238,15 @@ class Claims(unittest.TestCase):
         for lesson in (it["id"] for it in self.lessons.values() if "expect" in it):
             self.assertTrue([it for it in self.claims if it[0] == lesson], lesson)
 
+    def test_texts_name_nothing_that_the_page_lacks(self):
+        """The examples have scripts, tables and seats, and the page of one file has none."""
+        for lesson in self.lessons.values():
+            expect = lesson.get("expect", {})
+            told = [*lesson["text"], lesson["about"], expect.get("ask", ""), expect.get("answer", ""),
+                    *(one["say"] for one in lesson["tries"])]
+            self.assertNotRegex(" ".join(told), r"(?i)(the|first|second|third|this) script (?!home)|\w+\.txt"
+                                r"|first \d+ lines|\btables?\b|\bseats?\b|the picture")
+
     def test_lessons_are_made_from_the_examples(self):
         done = subprocess.run([sys.executable, ROOT / "tools" / "page_lessons", "--check"],
                               stderr=subprocess.PIPE, text=True)
