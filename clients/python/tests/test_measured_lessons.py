@@ -1,5 +1,6 @@
 """What pages say of random and even gases, in short, over the second implementation."""
 import csv
+import math
 import os
 import re
 import subprocess
@@ -21,7 +22,7 @@ def measured(*words):
 class MeasuredLessons(unittest.TestCase):
     def test_two_waves_decay_and_two_do_not(self):
         """An amplitude over n cells deviates by (2 * density / n) ** 0.5, and a share is of two of them."""
-        density, height, runs = 0.3, 0.6, 2
+        density, height, runs = 0.5, 0.6, 2
         deviation = (2 * density / (64 * 64) * 2 / runs) ** 0.5 / (density * height)
         rows = measured("waves", "--runs", str(runs), "--height", str(height))
         self.assertEqual([row["tick"] for row in rows], list(range(0, 161, 16)))
@@ -30,6 +31,18 @@ class MeasuredLessons(unittest.TestCase):
         for name in ("sound along the diagonal", "shear along the axis"):
             self.assertEqual(rows[0][name], 1)
             self.assertLess(rows[-1][name], 1 - 4 * deviation)
+
+    def test_a_viscosity(self):
+        """At density 1/2 Boltzmann's theory gives 1/2. A wave of 64 columns falls in a tick by the factor
+        exp(-viscosity * (2 pi / 64) ** 2), and each height deviates as in the test above."""
+        density, height, runs = 0.5, 0.6, 3
+        deviation = (2 * density / (64 * 64) / runs) ** 0.5 / (density * height)
+        rows = measured("viscosity", "--runs", str(runs), "--height", str(height))
+        self.assertEqual([(row["from"], row["to"]) for row in rows],
+                         [(0, 32), (32, 64), (64, 96), (96, 128), (128, 160), (32, 128)])
+        scale = (64 / (2 * math.pi)) ** 2
+        late = math.exp(-0.5 * 128 / scale)
+        self.assertLess(abs(rows[-1]["viscosity"] - 0.5), 4 * scale / 96 * 2 ** 0.5 * deviation / late)
 
     def test_the_drag_at_first(self):
         """At density 1/4 and speed 1, two columns of right-movers with half of their cells full arrive in the
