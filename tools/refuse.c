@@ -1,4 +1,9 @@
-/* A malloc that refuses one allocation: the one whose number the variable REFUSED says. */
+/* A malloc that refuses one allocation: the one whose number the variable REFUSED says. And a pthread_create that refuses
+   threads: those from the number on that THREADS says, or that one alone if ONLY is set. */
+#define _GNU_SOURCE
+#include <dlfcn.h>
+#include <errno.h>
+#include <pthread.h>
 #include <stddef.h>
 #include <stdlib.h>
 #include <unistd.h>
@@ -31,4 +36,17 @@ void *malloc(size_t size)
 void *realloc(void *old, size_t size)
 {
     return is_refused() ? NULL : __libc_realloc(old, size);
+}
+
+int pthread_create(pthread_t *thread, const pthread_attr_t *attr, void *(*run)(void *), void *with)
+{
+    static long threads;
+    static int (*create)(pthread_t *, const pthread_attr_t *, void *(*)(void *), void *);
+    const char *from = getenv("THREADS");
+    long number = __atomic_add_fetch(&threads, 1, __ATOMIC_SEQ_CST);
+    if (from && (getenv("ONLY") ? number == atol(from) : number >= atol(from)))
+        return EAGAIN;
+    if (!create)
+        create = (int (*)(pthread_t *, const pthread_attr_t *, void *(*)(void *), void *))dlsym(RTLD_NEXT, "pthread_create");
+    return create(thread, attr, run, with);
 }

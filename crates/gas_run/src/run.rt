@@ -18,6 +18,7 @@ use phase_team::{NoGate, Team};
 use std::alloc::Global;
 use std::io::{Read, Write};
 use std::thread::Threads;
+use std::time::Clock;
 
 /// The program's exit status after a session that ended so.
 fn status_of(end: SessionEnd) -> Status
@@ -52,7 +53,7 @@ pub fn opened<S: Stepper>(
 /// Opens a laboratory with the given gas, or with the empty gas of the setup's size, and serves one session on it. Returns
 /// the program's exit status. If memory runs out for the opening it is 4, and nothing is read or written. One worker is the
 /// calling thread; more start threads through `rt`.
-pub fn run_on<T: Threads + Drop, R: Read, W: Write, K: Shelf>(
+pub fn run_on<T: Threads + Clock + Drop, R: Read, W: Write, K: Shelf>(
     rt: T,
     alloc: Global,
     setup: Setup,

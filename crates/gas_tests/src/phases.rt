@@ -13,13 +13,14 @@ use phase_step::{Serial, Solid, turn_tile_at};
 use phase_team::NoGate;
 use std::process::Abort;
 use std::thread::Threads;
+use std::time::Clock;
 
 const WIDE: u32 = 192;
 
 const HIGH: u32 = 128;
 
 // A phase on one thread. Teams of 1, 2 and 7 workers make the same of it, whatever was there before.
-fn phase<R: Threads + Abort + AllocGlobal + Copy + Drop>(
+fn phase<R: Threads + Clock + Abort + AllocGlobal + Copy + Drop>(
     rt: &R,
     old: &Plane,
     walls: &Plane,
@@ -39,7 +40,7 @@ fn phase<R: Threads + Abort + AllocGlobal + Copy + Drop>(
 }
 
 // A phase leaves these cells, whatever was there before, and walls and obstacles take this. Gives the particles.
-fn comes_to<R: Threads + Abort + AllocGlobal + Copy + Drop>(
+fn comes_to<R: Threads + Clock + Abort + AllocGlobal + Copy + Drop>(
     rt: &R,
     old: &Plane,
     walls: &Plane,
@@ -230,7 +231,7 @@ fn one_wall_in_each_row(rt: HostRuntime) {
 }
 
 // A particle in each of the four corners steps over the seams to the corner across, and back.
-fn cross_the_seams<R: Threads + Abort + AllocGlobal + Copy + Drop>(
+fn cross_the_seams<R: Threads + Clock + Abort + AllocGlobal + Copy + Drop>(
     rt: &R,
     width: u32,
     height: u32,

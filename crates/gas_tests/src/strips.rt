@@ -12,6 +12,7 @@ use phase_step::{
 use phase_team::{LeastRun, NoGate, Team};
 use std::process::Abort;
 use std::thread::Threads;
+use std::time::Clock;
 
 // Walls and obstacles of a run of n phases, the first of this parity.
 #[derive(Clone, Copy)]
@@ -52,8 +53,8 @@ fn act_along<S: Stepper, A: Action>(
     stepper.run_with(particles, run, spare)
 }
 
-// A run by a team that makes each by strips, however short and low.
-fn by_strips<R: Threads + Abort + AllocGlobal + Copy + Drop, A: Action>(
+// A run by a team that makes each by strips, however short and low, on a busy machine too.
+fn by_strips<R: Threads + Clock + Abort + AllocGlobal + Copy + Drop, A: Action>(
     rt: &R,
     workers: u8,
     setting: Setting<'_>,
@@ -65,6 +66,7 @@ fn by_strips<R: Threads + Abort + AllocGlobal + Copy + Drop, A: Action>(
     let least = LeastRun {
         phases: 0,
         tiles: 0,
+        patience: 60_000,
     };
     let mut team = Team::with_least_run(*rt, rt.alloc(), workers, NoGate, least);
     act_along(rt, &mut team, setting, action, particles, spare)
@@ -92,7 +94,7 @@ fn by_phases(rt: &impl Abort, run: Setting<'_>, particles: &mut Plane, spare: &m
 }
 
 // A run ends the same phase by phase and by strips of so many workers each, at either parity of its first phase.
-fn strips_agree<R: Threads + Abort + AllocGlobal + Copy + Drop>(
+fn strips_agree<R: Threads + Clock + Abort + AllocGlobal + Copy + Drop>(
     rt: &R,
     size: Size,
     n: u16,
@@ -239,7 +241,7 @@ const WALL: &[(u32, u32)] = &[(14, 14)];
 const OBSTACLE: &[(u32, u32)] = &[(31, 70)];
 
 // A run of 17 phases comes to this on one thread, by a team of one, and by strips of one worker and of two.
-fn comes_to<R: Threads + Abort + AllocGlobal + Copy + Drop, A: Action>(
+fn comes_to<R: Threads + Clock + Abort + AllocGlobal + Copy + Drop, A: Action>(
     rt: &R,
     walls: &[(u32, u32)],
     obstacles: &[(u32, u32)],
@@ -374,7 +376,12 @@ fn team_parts_large_runs_into_strips(rt: HostRuntime) {
         let none = Plane::empty(rt.alloc(), size).expect(&rt, "memory");
         let run = among(&none, &none, 0, n);
         let left = seeded(&rt, size, 1, 1);
-        let mut team = team(&rt, rt, rt.alloc(), workers, NoGate);
+        expect_that(&rt, 0 < workers && workers <= 16);
+        let least = LeastRun {
+            patience: 60_000,
+            ..LeastRun::USUAL
+        };
+        let mut team = Team::with_least_run(rt, rt.alloc(), workers, NoGate, least);
         let mut now = seeded(&rt, size, 88172645463325252, 1);
         let mut spare = seeded(&rt, size, 1, 1);
         act_along(&rt, &mut team, run, &Still, &mut now, &mut spare);

@@ -17,6 +17,7 @@ use std::fmt;
 use std::io::Write;
 use std::sync::Wait;
 use std::thread::Threads;
+use std::time::Clock;
 
 /// What was served, as it is told at the end.
 #[derive(Clone, Copy)]
@@ -60,7 +61,7 @@ fn tell<W: Write, S: Stepper>(writer: &mut W, served: &TurnServed<S>) -> bool
 /// seat's shelf. When all have ended, it writes `SERVED` with the number of seats that were served, of those that were not,
 /// and of the entries that all made. Returns the program's exit status: 0, or 1 if that line could not be written. If memory
 /// runs out for the opening it is 4, and nothing is accepted or written.
-pub fn serve_on<T: Threads + Wait + Sync, L: Lobby, K: Shelf + Drop + Send, W: Write>(
+pub fn serve_on<T: Threads + Clock + Wait + Sync, L: Lobby, K: Shelf + Drop + Send, W: Write>(
     rt: &T,
     alloc: Global,
     setup: Setup,

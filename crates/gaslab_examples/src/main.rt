@@ -16,6 +16,7 @@ use std::process::ExitCode;
 use std::rt::Files;
 use std::sync::Wait;
 use std::thread::Threads;
+use std::time::Clock;
 use std::{fs, io, thread};
 use test_types::faults::{FaultAt, Store};
 
@@ -89,7 +90,7 @@ fn tell(rt: &(impl Print + Files + AllocGlobal), name: &str, output: &[u8]) -> i
 
 // Runs the script from the gas, or else from an empty one, and tells whether it gives what is expected.
 fn run_script(
-    rt: &(impl Threads + Print + Files + AllocGlobal),
+    rt: &(impl Threads + Clock + Print + Files + AllocGlobal),
     name: &str,
     setup: Setup,
     start: Option<Gas>,
@@ -115,7 +116,7 @@ fn run_script(
     tell(rt, name, output.as_slice())
 }
 
-fn run_all(rt: &(impl Threads + Print + Files + AllocGlobal)) -> io::Result<bool> {
+fn run_all(rt: &(impl Threads + Clock + Print + Files + AllocGlobal)) -> io::Result<bool> {
     let mut are_same = true;
     let mut shelf = Store::new(rt.alloc(), FaultAt::never());
     for (name, width, height) in LESSONS {
@@ -126,7 +127,7 @@ fn run_all(rt: &(impl Threads + Print + Files + AllocGlobal)) -> io::Result<bool
 }
 
 // Work that is kept, and gone on with from what was saved.
-fn run_kept(rt: &(impl Threads + Print + Files + AllocGlobal)) -> io::Result<bool> {
+fn run_kept(rt: &(impl Threads + Clock + Print + Files + AllocGlobal)) -> io::Result<bool> {
     let setup = setup(128, 64)?;
     let mut shelf = Store::new(rt.alloc(), FaultAt::never());
     let is_first_same = run_script(rt, "7_kept", setup, None, &mut shelf)?;
@@ -142,7 +143,7 @@ fn run_kept(rt: &(impl Threads + Print + Files + AllocGlobal)) -> io::Result<boo
 
 // Serves three sessions, and gives what is said of them.
 fn serve_three(
-    rt: &(impl Threads + Wait + Sync + AllocGlobal),
+    rt: &(impl Threads + Clock + Wait + Sync + AllocGlobal),
     listener: TcpListener,
 ) -> io::Result<Vec<u8>> {
     let setup = setup(64, 64)?;
@@ -186,6 +187,7 @@ fn meet_all(
 fn meet(
     rt: &(impl Net<Listener = TcpListener, Stream = TcpStream>
         + Threads
+        + Clock
         + Wait
         + Sync
         + Print

@@ -17,6 +17,7 @@ use std::process::ExitCode;
 use std::rt::Files;
 use std::sync::Wait;
 use std::thread::Threads;
+use std::time::Clock;
 use std::{env, fs, io};
 
 // The gas of the snapshot in the file.
@@ -75,7 +76,7 @@ fn shelves_of<'r, R: Files + AllocGlobal>(
 
 // One session, on standard input and output.
 fn run(
-    rt: &(impl Threads + Input + Print + Files + AllocGlobal),
+    rt: &(impl Threads + Clock + Input + Print + Files + AllocGlobal),
     setup: Setup,
     start: Option<Gas>,
     save: Option<&str>,
@@ -111,6 +112,7 @@ fn listen(
 // sent to a thread if it rests on a bound.
 fn serve<K: Shelf + Drop + Send>(
     rt: &(impl Threads
+        + Clock
         + Wait
         + Sync
         + Net<Listener = TcpListener, Stream = TcpStream>

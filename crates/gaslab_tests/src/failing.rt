@@ -9,6 +9,7 @@ use gas_terms::Size;
 use phase_team::{NoGate, Team};
 use std::process::Abort;
 use std::thread::Threads;
+use std::time::Clock;
 use test_types::faults::{FaultAt, Feed, Sink, Store};
 
 const CHANNEL: &str =
@@ -28,7 +29,11 @@ struct Dialogue {
     output: Vec<u8>,
 }
 
-fn dialogue_of(rt: &(impl Abort + AllocGlobal + Threads), input: &str, output: &str) -> Dialogue {
+fn dialogue_of(
+    rt: &(impl Abort + AllocGlobal + Threads + Clock),
+    input: &str,
+    output: &str,
+) -> Dialogue {
     Dialogue {
         input: lines(rt, input),
         output: lines(rt, output),
@@ -102,7 +107,7 @@ fn first_lines(text: &[u8], count: usize) -> &[u8] {
     text
 }
 
-fn opened<R: Abort + AllocGlobal + Threads>(rt: &R) -> Lab<Team<&R, NoGate>> {
+fn opened<R: Abort + AllocGlobal + Threads + Clock>(rt: &R) -> Lab<Team<&R, NoGate>> {
     let size = Size::new(64, 64).expect(rt, "a size");
     let gas = Gas::empty(rt.alloc(), size).expect(rt, "memory");
     Lab::open(rt.alloc(), gas, 1024, Team::new(rt, rt.alloc(), 1, NoGate)).expect(rt, "memory")
@@ -116,7 +121,7 @@ struct Session {
     end: SessionEnd,
 }
 
-fn sits<R: Abort + AllocGlobal + Threads>(
+fn sits<R: Abort + AllocGlobal + Threads + Clock>(
     rt: &R,
     lab: &mut Lab<Team<&R, NoGate>>,
     input: &[u8],
@@ -130,7 +135,10 @@ fn sits<R: Abort + AllocGlobal + Threads>(
 }
 
 // All that can be seen of a laboratory: its tick, accounts and journal, and its gas as a snapshot.
-fn view_of<R: Abort + AllocGlobal + Threads>(rt: &R, lab: &mut Lab<Team<&R, NoGate>>) -> Vec<u8> {
+fn view_of<R: Abort + AllocGlobal + Threads + Clock>(
+    rt: &R,
+    lab: &mut Lab<Team<&R, NoGate>>,
+) -> Vec<u8> {
     let questions = lines(
         rt,
         "tally; ledger; entry 0; entry 1; entry 2; entry 3; entry 4; entry 5; save",
@@ -152,7 +160,7 @@ fn seen_by(rt: &(impl Abort + AllocGlobal), session: &Session) -> Vec<u8> {
 
 // A session on an empty laboratory, and what is then seen of that.
 fn session_and_view(
-    rt: &(impl Abort + AllocGlobal + Threads),
+    rt: &(impl Abort + AllocGlobal + Threads + Clock),
     input: &[u8],
     failing: Failing,
 ) -> (Session, Vec<u8>) {
@@ -171,7 +179,7 @@ pub fn are_same(rt: &impl Abort, found: &[Vec<u8>], wanted: &[Vec<u8>]) {
 
 // The laboratory is as after the lines, and the shelf has taken what it then has.
 fn is_as_after(
-    rt: &(impl Abort + AllocGlobal + Threads),
+    rt: &(impl Abort + AllocGlobal + Threads + Clock),
     found: &[u8],
     store: &Store,
     input: &[u8],
@@ -183,7 +191,7 @@ fn is_as_after(
 }
 
 fn runs(
-    rt: &(impl Abort + AllocGlobal + Threads),
+    rt: &(impl Abort + AllocGlobal + Threads + Clock),
     dialogue: &Dialogue,
     failing: Failing,
     wanted: FailingOutcome,
@@ -202,7 +210,7 @@ fn runs(
 
 // The run, and a session on a laboratory that is then looked at, go like this.
 fn goes(
-    rt: &(impl Abort + AllocGlobal + Threads),
+    rt: &(impl Abort + AllocGlobal + Threads + Clock),
     dialogue: &Dialogue,
     failing: Failing,
     wanted: FailingOutcome,
@@ -253,7 +261,7 @@ fn end_after(dialogue: &Dialogue, calls: usize) -> SessionEnd {
     }
 }
 
-fn readers_fail(rt: &(impl Abort + AllocGlobal + Threads), dialogue: &Dialogue) {
+fn readers_fail(rt: &(impl Abort + AllocGlobal + Threads + Clock), dialogue: &Dialogue) {
     for calls in 0..dialogue.input.len().saturating_add(2) {
         let cut = after_bytes(dialogue, calls, end_after(dialogue, calls));
         goes(
@@ -273,7 +281,7 @@ fn readers_fail(rt: &(impl Abort + AllocGlobal + Threads), dialogue: &Dialogue) 
 }
 
 // One read gives all, and a second is the end.
-fn whole_readers_fail(rt: &(impl Abort + AllocGlobal + Threads), dialogue: &Dialogue) {
+fn whole_readers_fail(rt: &(impl Abort + AllocGlobal + Threads + Clock), dialogue: &Dialogue) {
     let ends = [
         (0, SessionEnd::ReadFault),
         (ALL, SessionEnd::ReadFault),
@@ -325,7 +333,7 @@ fn cut_by_bytes(output: &[u8], calls: usize) -> FailingOutcome {
 
 // A write or flush fails in this way, be replies written whole or byte by byte.
 fn writer_fails(
-    rt: &(impl Abort + AllocGlobal + Threads),
+    rt: &(impl Abort + AllocGlobal + Threads + Clock),
     dialogue: &Dialogue,
     writes: FaultAt,
     calls: usize,
@@ -346,7 +354,7 @@ fn writer_fails(
 }
 
 // A write or flush fails, or takes nothing.
-fn writers_fail(rt: &(impl Abort + AllocGlobal + Threads), dialogue: &Dialogue) {
+fn writers_fail(rt: &(impl Abort + AllocGlobal + Threads + Clock), dialogue: &Dialogue) {
     let output = dialogue.output.as_slice();
     let all_calls = output.len().saturating_add(count_lines(output));
     for calls in 0..all_calls.saturating_add(1) {
@@ -383,7 +391,7 @@ fn writers_fail_at_a_save(rt: HostRuntime) {
 
 // The output where the put after so many fails, and how many puts fail.
 fn puts(
-    rt: &(impl Abort + AllocGlobal + Threads),
+    rt: &(impl Abort + AllocGlobal + Threads + Clock),
     input: &str,
     calls: u64,
     output: &str,

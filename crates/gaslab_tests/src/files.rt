@@ -10,6 +10,7 @@ use gaslab::load_from;
 use std::process::Abort;
 use std::rt::Files as HasFiles;
 use std::thread::Threads;
+use std::time::Clock;
 use std::{fs, process};
 
 /// A shelf that is a file, or none: all shelves of files here are of this type.
@@ -72,7 +73,7 @@ fn load_from_a_file_of_seat_0(rt: HostRuntime) {
 
 // A run from this gas whose shelf is the file of seat 0.
 fn runs_in(
-    rt: &(impl Abort + AllocGlobal + HasFiles + Threads + Copy + Drop),
+    rt: &(impl Abort + AllocGlobal + HasFiles + Threads + Clock + Copy + Drop),
     folder: &str,
     shape: LabShape,
     start: Option<Gas>,

@@ -4,6 +4,7 @@ use crate::expected::{expect_same, expect_that};
 use crate::script::{ALL, LabShape, SMALL, answers, gives, lines, status_on};
 use std::process::Abort;
 use std::thread::Threads;
+use std::time::Clock;
 use test_types::faults::{FaultAt, Feed, Sink, Store};
 
 const REFUSED: &str =
@@ -120,7 +121,7 @@ fn count_tallies(rt: &impl Abort, output: &[u8]) -> usize {
 }
 
 // The status of a run over this feed, and how many tallies it writes.
-fn tallied(rt: &(impl Abort + AllocGlobal + Threads), feed: &mut Feed<'_>) -> (u8, usize) {
+fn tallied(rt: &(impl Abort + AllocGlobal + Threads + Clock), feed: &mut Feed<'_>) -> (u8, usize) {
     let mut sink = Sink::new(rt.alloc(), ALL, ALL, FaultAt::never());
     let mut store = Store::new(rt.alloc(), FaultAt::never());
     let status = status_on(rt, SMALL, None, feed, &mut sink, &mut store);

@@ -7,6 +7,7 @@ use std::io;
 use std::io::Read;
 use std::process::Abort;
 use std::thread::Threads;
+use std::time::Clock;
 use test_types::faults::FaultAt;
 
 /// The head of a snapshot of version 1: 64 by 64, tick -1, the drain 1 1 1 1 and the source 10 10 1 1 of period 2.
@@ -69,7 +70,7 @@ fn cut(rt: &impl AllocGlobal, len: usize) -> Option<LoadFault> {
 }
 
 /// The snapshot of the same gas as it is written now: version 2, without obstacles.
-pub fn written_now(rt: &(impl Abort + AllocGlobal + Threads)) -> Vec<u8> {
+pub fn written_now(rt: &(impl Abort + AllocGlobal + Threads + Clock)) -> Vec<u8> {
     let mut bytes = Vec::from_slice(rt.alloc(), &WITH_PORTS).expect(rt, "memory");
     if bytes.len() > 6 {
         bytes[6] = 0x32;

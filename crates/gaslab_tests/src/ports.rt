@@ -3,6 +3,7 @@
 use crate::script::{LabShape, SMALL, gives, gives_on};
 use std::process::Abort;
 use std::thread::Threads;
+use std::time::Clock;
 
 #[test]
 fn drained_particle_is_booked(rt: HostRuntime) {
@@ -53,7 +54,12 @@ const SIXTEEN: &str =
     "OK 0; OK 1; OK 2; OK 3; OK 4; OK 5; OK 6; OK 7; OK 8; OK 9; OK 10; OK 11; OK 12; OK 13; OK 14; OK 15; ";
 
 // Sixteen such ports are added, the seventeenth is refused, and the lines after them are answered.
-fn seventeen(rt: &(impl Abort + AllocGlobal + Threads), port: &str, then: &str, told: &str) {
+fn seventeen(
+    rt: &(impl Abort + AllocGlobal + Threads + Clock),
+    port: &str,
+    then: &str,
+    told: &str,
+) {
     let mut script = String::new(rt.alloc());
     for _ in 0..17u32 {
         script.push_str(port).expect(rt, "memory");

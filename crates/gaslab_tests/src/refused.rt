@@ -7,6 +7,7 @@ use gas_snapshot::{Shelf, ShelfFault, SnapFault};
 use gaslab::{LoadFault, PlanFault, load_from, plan};
 use std::process::Abort;
 use std::thread::Threads;
+use std::time::Clock;
 use test_types::faults::FaultAt;
 use test_types::pages::OutputPage;
 
@@ -59,7 +60,7 @@ fn stops_for_memory(found: &[u8], known: &[u8]) -> bool {
 // Runs over an input. What is written is the known output, or one of those where one line has found no memory; or the run
 // stops for want of memory.
 fn runs_with(
-    rt: &(impl Abort + AllocGlobal + Threads),
+    rt: &(impl Abort + AllocGlobal + Threads + Clock),
     shape: LabShape,
     input: &[u8],
     known: &[u8],
@@ -88,7 +89,7 @@ fn no_snapshots() -> CountedShelf {
 
 // The same over an input that saves nothing: the run is done, or stops for want of memory.
 fn runs(
-    rt: &(impl Abort + AllocGlobal + Threads),
+    rt: &(impl Abort + AllocGlobal + Threads + Clock),
     shape: LabShape,
     input: &[u8],
     known: &[u8],
@@ -170,7 +171,7 @@ fn refused_load(rt: HostRuntime) {
 }
 
 // Whether the words are understood, or memory was refused.
-fn is_planned(rt: &(impl Abort + AllocGlobal + Threads), words: &[&str]) -> bool {
+fn is_planned(rt: &(impl Abort + AllocGlobal + Threads + Clock), words: &[&str]) -> bool {
     match plan(rt.alloc(), words) {
         Ok(found) => {
             expect_same(&rt, found.setup.cap, 5000);

@@ -15,6 +15,7 @@ use phase_team::{LeastRun, NoGate, Team};
 use std::io::{Read, Write};
 use std::process::Abort;
 use std::thread::Threads;
+use std::time::Clock;
 use test_types::faults::{FaultAt, Feed, Sink, Store};
 
 /// No limit of what is read or written at once.
@@ -49,7 +50,7 @@ pub const LARGE: LabShape = LabShape {
 };
 
 /// Lines, written with `; ` between them. No text has no line.
-pub fn lines(rt: &(impl Abort + AllocGlobal + Threads), text: &str) -> Vec<u8> {
+pub fn lines(rt: &(impl Abort + AllocGlobal + Threads + Clock), text: &str) -> Vec<u8> {
     let mut bytes = Vec::new(rt.alloc());
     let mut is_parted = false;
     for byte in text.as_bytes() {
@@ -85,8 +86,8 @@ pub fn setup_of(rt: &impl Abort, shape: LabShape) -> Setup
     Setup { size, workers, cap }
 }
 
-/// A laboratory whose team makes every run by strips. `None` if memory runs out.
-pub fn opened_by_strips<R: AllocGlobal + Threads>(
+/// A laboratory whose team makes every run by strips, on a busy machine too. `None` if memory runs out.
+pub fn opened_by_strips<R: AllocGlobal + Threads + Clock>(
     rt: &R,
     setup: Setup,
     start: Option<Gas>,
@@ -97,6 +98,7 @@ pub fn opened_by_strips<R: AllocGlobal + Threads>(
     let least = LeastRun {
         phases: 0,
         tiles: 0,
+        patience: 60_000,
     };
     let team = Team::with_least_run(rt, rt.alloc(), setup.workers, NoGate, least);
     opened(rt.alloc(), setup, start, team).ok()
@@ -113,7 +115,7 @@ fn status_after(end: SessionEnd) -> u8 {
 /// The status of a run. The program itself makes no small run by strips, so a shape `by_strips` gets a laboratory of the
 /// test's own.
 pub fn status_on<R: Read, W: Write, K: Shelf>(
-    rt: &(impl Abort + AllocGlobal + Threads),
+    rt: &(impl Abort + AllocGlobal + Threads + Clock),
     shape: LabShape,
     start: Option<Gas>,
     reader: &mut R,
@@ -134,7 +136,7 @@ pub fn status_on<R: Read, W: Write, K: Shelf>(
 
 /// The run over this feed writes these bytes, and has this status.
 pub fn writes<K: Shelf>(
-    rt: &(impl Abort + AllocGlobal + Threads),
+    rt: &(impl Abort + AllocGlobal + Threads + Clock),
     shape: LabShape,
     start: Option<Gas>,
     feed: &mut Feed<'_>,
@@ -150,7 +152,7 @@ pub fn writes<K: Shelf>(
 
 /// The same for these bytes, which are read at most `step` at once, on a lattice without anything.
 pub fn answers(
-    rt: &(impl Abort + AllocGlobal + Threads),
+    rt: &(impl Abort + AllocGlobal + Threads + Clock),
     shape: LabShape,
     input: &[u8],
     step: usize,
@@ -164,7 +166,7 @@ pub fn answers(
 
 /// The script gives this output, from this gas or on a lattice without anything, with this shelf.
 pub fn gives_with<K: Shelf>(
-    rt: &(impl Abort + AllocGlobal + Threads),
+    rt: &(impl Abort + AllocGlobal + Threads + Clock),
     shape: LabShape,
     start: Option<Gas>,
     shelf: &mut K,
@@ -179,7 +181,7 @@ pub fn gives_with<K: Shelf>(
 
 /// The script gives this output, on a lattice without anything.
 pub fn gives_on(
-    rt: &(impl Abort + AllocGlobal + Threads),
+    rt: &(impl Abort + AllocGlobal + Threads + Clock),
     shape: LabShape,
     script: &str,
     output: &str,
@@ -190,7 +192,7 @@ pub fn gives_on(
 
 /// The same on one thread, and by two, three and seven workers: as the program runs it, and all by strips.
 pub fn gives_by_teams(
-    rt: &(impl Abort + AllocGlobal + Threads),
+    rt: &(impl Abort + AllocGlobal + Threads + Clock),
     shape: LabShape,
     script: &str,
     output: &str,
@@ -208,6 +210,6 @@ pub fn gives_by_teams(
 }
 
 /// The script gives this output on a lattice of 64 by 64 with room for 1,024 changes.
-pub fn gives(rt: &(impl Abort + AllocGlobal + Threads), script: &str, output: &str) {
+pub fn gives(rt: &(impl Abort + AllocGlobal + Threads + Clock), script: &str, output: &str) {
     gives_on(rt, SMALL, script, output);
 }

@@ -8,6 +8,7 @@ use gas_snapshot::{MaybeShelf, NoShelf, Shelf, decode};
 use gaslab::load_from;
 use std::process::Abort;
 use std::thread::Threads;
+use std::time::Clock;
 use test_types::faults::{FaultAt, Store};
 
 // The head of a gas of 64 by 64 at tick 0 without ports.
@@ -21,7 +22,7 @@ const LAST: [u8; 22] = [
 ];
 
 /// The head, then zeros up to the length of a snapshot without ports, but for one byte.
-pub fn snapshot(rt: &(impl Abort + AllocGlobal + Threads), at: usize, byte: u8) -> Vec<u8> {
+pub fn snapshot(rt: &(impl Abort + AllocGlobal + Threads + Clock), at: usize, byte: u8) -> Vec<u8> {
     let mut bytes = Vec::from_slice(rt.alloc(), &HEAD).expect(rt, "memory");
     for i in HEAD.len()..1558 {
         let byte = if i == at { byte } else { 0 };
@@ -31,7 +32,11 @@ pub fn snapshot(rt: &(impl Abort + AllocGlobal + Threads), at: usize, byte: u8) 
 }
 
 // The one snapshot that is saved while the script gives this output.
-fn saved_by(rt: &(impl Abort + AllocGlobal + Threads), script: &str, output: &str) -> Vec<u8> {
+fn saved_by(
+    rt: &(impl Abort + AllocGlobal + Threads + Clock),
+    script: &str,
+    output: &str,
+) -> Vec<u8> {
     let mut store = Store::new(rt.alloc(), FaultAt::never());
     gives_with(rt, SMALL, None, &mut store, script, output);
     expect_same(&rt, store.failures(), 0);
@@ -42,13 +47,18 @@ fn saved_by(rt: &(impl Abort + AllocGlobal + Threads), script: &str, output: &st
 }
 
 // The gas of a head, then zeros.
-fn loaded(rt: &(impl Abort + AllocGlobal + Threads), head: &[u8], len: usize) -> Gas {
+fn loaded(rt: &(impl Abort + AllocGlobal + Threads + Clock), head: &[u8], len: usize) -> Gas {
     let mut reader = Padded::new(head, len, ALL, FaultAt::never());
     load_from(rt.alloc(), &mut reader).expect(rt, "a gas")
 }
 
 /// A run from this gas, whose script gives this output.
-pub fn goes_on(rt: &(impl Abort + AllocGlobal + Threads), start: Gas, script: &str, output: &str) {
+pub fn goes_on(
+    rt: &(impl Abort + AllocGlobal + Threads + Clock),
+    start: Gas,
+    script: &str,
+    output: &str,
+) {
     let mut store = Store::new(rt.alloc(), FaultAt::never());
     gives_with(rt, SMALL, Some(start), &mut store, script, output);
 }

@@ -16,7 +16,7 @@ use std::{io, thread};
 use test_types::pages::OutputPage;
 
 // What the server says after so many sessions of the listener, and its status.
-fn serve_some<R: Threads + Wait + Sync + Abort + AllocGlobal>(
+fn serve_some<R: Threads + Clock + Wait + Sync + Abort + AllocGlobal>(
     rt: &R,
     listener: TcpListener,
     seats: u32,

@@ -66,7 +66,11 @@ struct Told {
     store: Store,
 }
 
-fn told_by(rt: &(impl Abort + AllocGlobal + Threads), script: &[u8], shape: LabShape) -> Told {
+fn told_by(
+    rt: &(impl Abort + AllocGlobal + Threads + Clock),
+    script: &[u8],
+    shape: LabShape,
+) -> Told {
     let mut feed = Feed::new(script, ALL, FaultAt::never());
     let mut sink = Sink::new(rt.alloc(), ALL, ALL, FaultAt::never());
     let mut store = Store::new(rt.alloc(), FaultAt::never());
@@ -163,7 +167,7 @@ const LONG_STEPS: LabShape = LabShape {
 };
 
 // A run of them, and then the flag is set.
-fn step_by_two(rt: &(impl Abort + AllocGlobal + Threads), is_over: &AtomicBool) {
+fn step_by_two(rt: &(impl Abort + AllocGlobal + Threads + Clock), is_over: &AtomicBool) {
     gives_on(rt, LONG_STEPS, "step 512", "OK 0");
     is_over.store(true, Ordering::SeqCst);
 }

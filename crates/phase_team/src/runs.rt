@@ -14,6 +14,7 @@ ghost use Rattle.phase_team.specs.Worth.{is_worth_strips};
 mod edges;
 mod input;
 mod strip;
+mod watch;
 
 use edges::{Board, RunName};
 use gas_plane::Plane;
@@ -22,9 +23,12 @@ use input::RunInput;
 use phase_step::{Action, Counted, Exchange, Flow, Run};
 use std::alloc::Global;
 use std::marker::Brand;
+use std::sync::atomic::Ordering;
 use std::thread;
 use std::thread::Threads;
+use std::time::Clock;
 use strip::{OwnRows, Strip};
+use watch::{NoWatch, Stopwatch};
 
 /// How many exchanges are listed at once, for all strips. Threads last so long; without exchanges, for a whole run.
 const LISTED: u16 = 256;
@@ -34,19 +38,24 @@ const LISTED: u16 = 256;
 const COUNTED_PHASES: u16 = 512;
 
 /// The smallest run that is made by strips: how many phases it has, and how many tiles fewer each worker turns in it than one
-/// thread would. With 0 for both, each run is made by strips.
+/// thread would. With 0 for both, each run is made by strips. And how many milliseconds strips may wait for each other in a run,
+/// however little they have worked.
 #[derive(Clone, Copy)]
 pub struct LeastRun {
     pub phases: u16,
     pub tiles: u32,
+    pub patience: u64,
 }
 
-/// A run by strips starts threads, loads the strips and puts them together. That takes about a millisecond, so smaller runs stay
-/// on one thread.
-pub const USUAL: LeastRun = LeastRun {
-    phases: 16,
-    tiles: 32_768,
-};
+impl LeastRun {
+    /// That of the program. A run by strips starts threads, loads the strips and puts them together. That takes about a
+    /// millisecond, so smaller runs stay on one thread.
+    pub const USUAL: LeastRun = LeastRun {
+        phases: 16,
+        tiles: 32_768,
+        patience: 10,
+    };
+}
 
 /// Whether a run of n phases is no smaller than the least: what a worker turns is compared with the lattice.
 pub fn is_worth_strips(least: LeastRun, size: Size, workers: u8, n: u16) -> bool
@@ -123,9 +132,24 @@ pub fn strips_for(
     Strips::new(alloc, size, workers)
 }
 
+// The first strip makes the phases, on the calling thread, once all others have begun. False if a strip has given up.
+fn lead<R: Clock, N: RunName>(rt: &R, input: &RunInput<'_, N>, strip: &mut Strip) -> bool
+    requires edges { (0 < length input.now.board.now.edges.items)
+        × (length input.now.board.now.edges.items ≤ 64) }
+    requires strip { IsOf (extent N.course.start) strip.old }
+    requires at { 0 < input.now.from → IsAt N.course input.now.from strip.old }
+    ensures strip { IsOf (extent N.course.start) strip.new }
+    ensures own { strip.new.own ≡ strip.old.own }
+    ensures at { IsTrue result → IsAt N.course (input.now.from + input.now.phases) strip.new }
+{
+    let others = input.board.edges.len() as u32 - 1;
+    let mut watch = Stopwatch::start(rt, others, input.patience);
+    input.board.wait_for_all(&watch) && strip.run(input, 0, &mut watch)
+}
+
 // Each strip makes the phases: the last one in a thread of its own if it can be started, and so on; the first on the calling
 // thread. False if a strip has given up.
-fn make_all<R: Threads, N: RunName + Send + Sync>(
+fn make_all<R: Threads + Clock, N: RunName + Send + Sync>(
     rt: &R,
     input: &RunInput<'_, N>,
     strips: &mut [Strip],
@@ -144,7 +168,7 @@ fn make_all<R: Threads, N: RunName + Send + Sync>(
     };
     let number = rest.len() as u32;
     if rest.is_empty() {
-        return last.run(input, number);
+        return lead(rt, input, last);
     }
     let (one, others) = thread::join_mut(
         rt,
@@ -157,7 +181,7 @@ fn make_all<R: Threads, N: RunName + Send + Sync>(
                 × (last.exit.now.own ≡ last.entry.now.own)
                 × (IsTrue result → let i = input.entry.now in
                 IsAt N.course (i.from + i.phases) last.exit.now) }
-        { last.run(input, number) },
+        { last.run(input, number, &mut NoWatch) },
         &mut || -> bool
             requires { (length rest.now ≤ length input.now.board.now.edges.items)
                 × (length input.now.board.now.edges.items ≤ 64)
@@ -211,13 +235,14 @@ fn list<A: Action>(action: &A, from: u16, left: u16, exchanges: &mut Vec<Exchang
 }
 
 // A run that has a name. `None` if memory ran out or a strip gave up; then the particles are as they were.
-fn run_named<R: Threads, N: RunName + Send + Sync, A: Action>(
+fn run_named<R: Threads + Clock, N: RunName + Send + Sync, A: Action>(
     rt: &R,
     alloc: Global,
     strips: &mut Strips,
     particles: &mut Plane,
     run: &Run<'_, A>,
     counted: Counted,
+    patience: u64,
 ) -> Option<Flow>
     requires course { let r = run.now in N.course
         ≡ course_of particles.old (dynamics r.parity r.solids.now (A.leaves r.action.now)) counted }
@@ -241,7 +266,9 @@ fn run_named<R: Threads, N: RunName + Send + Sync, A: Action>(
             exchanges: strips.exchanges.as_slice(),
             counted,
             board: &board,
+            patience,
         };
+        board.begun.store(0, Ordering::Relaxed);
         if !make_all(rt, &input, strips.strips.as_mut_slice()) {
             return None;
         }
@@ -250,15 +277,16 @@ fn run_named<R: Threads, N: RunName + Send + Sync, A: Action>(
     Some(gather(strips.strips.as_slice(), particles))
 }
 
-/// A run by the strips of the lattice's size. An account that is not kept has 0. `None` if memory runs out or not all threads can
-/// be started; then the particles are as they were.
-pub fn run_by<R: Threads, A: Action>(
+/// A run by the strips of the lattice's size. An account that is not kept has 0. `None` if memory runs out, not all threads can be
+/// started or a strip waits too long; then the particles are as they were.
+pub fn run_by<R: Threads + Clock, A: Action>(
     rt: &R,
     alloc: Global,
     strips: &mut Strips,
     particles: &mut Plane,
     run: &Run<'_, A>,
     counted: Counted,
+    patience: u64,
 ) -> Option<Flow>
     requires { let r = run.now in
         CanGoOn strips.old.size (dynamics r.parity r.solids.now (A.leaves r.action.now))
@@ -269,5 +297,5 @@ pub fn run_by<R: Threads, A: Action>(
         r.n particles.new) }
     ensures none { IfNone result (particles.new ≡ particles.old) }
 {
-    run_named::<R, Brand, A>(rt, alloc, strips, particles, run, counted)
+    run_named::<R, Brand, A>(rt, alloc, strips, particles, run, counted, patience)
 }

@@ -9,7 +9,7 @@ ghost use Rattle.phase_team.specs.Limits.{most_workers};
 ghost use Rattle.phase_team.specs.Teamwork.{IsRoom, cells_after, taken_in_all};
 
 use crate::phase::{Crew, Gate, NoGate, Shift, Task, Turned, crew_of, hand_in, work_together};
-use crate::runs::{LeastRun, Strips, USUAL, is_worth_strips, run_by, strips_for};
+use crate::runs::{LeastRun, Strips, is_worth_strips, run_by, strips_for};
 use gas_plane::Plane;
 use gas_terms::Took;
 use phase_step::{
@@ -18,9 +18,43 @@ use phase_step::{
 use std::alloc::Global;
 use std::marker::Model;
 use std::thread::Threads;
+use std::time::Clock;
 
 /// How many workers a team has at most.
 pub const MOST_WORKERS: u32 = 16;
+
+// How many of the next runs one thread makes, since strips gave up in the last one: 2, then 4, .. and at most 64, until strips
+// work again.
+#[derive(Clone, Copy)]
+struct Solo {
+    left: u8,
+    last: u8,
+}
+
+impl Solo {
+    const NONE: Solo = Solo { left: 0, last: 1 };
+
+    // Whether the next run is one of these.
+    fn takes_next(&mut self) -> bool {
+        if self.left == 0 {
+            return false;
+        }
+        self.left -= 1;
+        true
+    }
+
+    // What follows a run by strips.
+    fn after(self, gave_up: bool) -> Solo {
+        if !gave_up {
+            return Solo::NONE;
+        }
+        let next = self.last.min(32) * 2;
+        Solo {
+            left: next,
+            last: next,
+        }
+    }
+}
 
 /// A team of 1 to 16 workers. The calling thread is worker 0; the others are threads that are started for each phase or run.
 /// A phase never fails: if memory runs out or a thread can't be started, the calling thread does the rest. In a single phase the
@@ -35,6 +69,7 @@ pub struct Team<R: Threads + Drop, G: Gate + Drop> {
     rooms: Vec<Vec<Turned>>,
     strips: Option<Strips>,
     least: LeastRun,
+    solo: Solo,
 }
 
 impl<R: Threads + Drop, G: Gate + Drop> Model for Team<R, G> {
@@ -55,7 +90,7 @@ impl<R: Threads + Drop, G: Gate + Drop> Team<R, G> {
         requires { (0 < workers) × (workers ≤ most_workers) }
         ensures { result ≡ workers }
     {
-        Team::with_least_run(rt, alloc, workers, gate, USUAL)
+        Team::with_least_run(rt, alloc, workers, gate, LeastRun::USUAL)
     }
 
     /// The same, with the smallest run that is made by strips. Smaller runs stay on one thread.
@@ -71,6 +106,7 @@ impl<R: Threads + Drop, G: Gate + Drop> Team<R, G> {
             rooms: Vec::new(alloc),
             strips: None,
             least,
+            solo: Solo::NONE,
         }
     }
 
@@ -140,7 +176,7 @@ impl<R: Threads + Drop, G: Gate + Drop> Team<R, G> {
     }
 }
 
-impl<R: Threads + Drop> Stepper for Team<R, NoGate> {
+impl<R: Threads + Clock + Drop> Stepper for Team<R, NoGate> {
     fn phase(
         &mut self,
         old: &Plane,
@@ -176,7 +212,7 @@ impl<R: Threads + Drop> Stepper for Team<R, NoGate> {
     }
 }
 
-impl<R: Threads + Drop> Team<R, NoGate> {
+impl<R: Threads + Clock + Drop> Team<R, NoGate> {
     // A run by strips, if these are worth it. An account that is not kept has 0.
     fn run_by_worth<A: Action>(
         &mut self,
@@ -197,15 +233,26 @@ impl<R: Threads + Drop> Team<R, NoGate> {
         let Team {
             rt,
             strips: kept,
+            solo,
+            least,
             ..
         } = self;
-        if !is_worth_strips(self.least, size, workers, run.n) {
+        if !is_worth_strips(*least, size, workers, run.n) || solo.takes_next() {
             return run_whole(particles, run, counted, spare);
         }
         match strips_for(kept, alloc, size, workers) {
             Some(mut strips) => {
-                let made = run_by(rt, alloc, &mut strips, particles, &run, counted);
+                let made = run_by(
+                    rt,
+                    alloc,
+                    &mut strips,
+                    particles,
+                    &run,
+                    counted,
+                    least.patience,
+                );
                 *kept = Some(strips);
+                *solo = solo.after(made.is_none());
                 match made {
                     Some(flow) => flow,
                     None => run_whole(particles, run, counted, spare),

@@ -4,15 +4,17 @@
 ghost use Rattle.std.specs.Prelude.{◌≡◌, ℕ, ◌<◌, IsTrue, IfSome, length};
 ghost use Rattle.phase_team.specs.Courses.{lattice_at, IsRow, HasRow, AreOthersKept};
 
+use crate::runs::watch::{NoWatch, Stopwatch, Watch};
 use gas_plane::Plane;
 use std::alloc::Global;
 use std::hint::spin_loop;
 use std::marker::{Brand, PhantomData};
 use std::sync::Mutex;
-use std::sync::atomic::{AtomicBool, Ordering};
+use std::sync::atomic::{AtomicBool, AtomicU32, Ordering};
 use std::thread::yield_now;
+use std::time::Clock;
 
-/// How often a strip looks for a neighbor's row before it gives up. A thread that was started shows its rows long before.
+/// How often a strip looks for a neighbor's row before it gives up, if nobody has given up before.
 const PATIENCE: u32 = 1 << 22;
 
 /// How many of these times it only spins between two looks.
@@ -80,24 +82,25 @@ impl<N: RunName> EdgeRow<N> {
     }
 }
 
-// Lets others go on between two looks. False if a strip has given up.
-fn pause(looks: u32, given_up: &AtomicBool) -> bool {
+// Lets others go on between two looks. False if a strip has given up, or waits too long.
+fn pause<W: Watch>(looks: u32, given_up: &AtomicBool, watch: &W) -> bool {
     if looks < SPINS {
         spin_loop();
-    } else {
-        yield_now();
+        return !given_up.load(Ordering::Relaxed);
     }
-    !given_up.load(Ordering::Relaxed)
+    yield_now();
+    !given_up.load(Ordering::Relaxed) && !watch.is_late()
 }
 
-/// Shows row y of a strip as this row of the lattice. False if a neighbor never let go of what it read.
-pub fn show_row<N: RunName>(
+/// Shows row y of a strip as this row of the lattice. False if a strip has given up, since a neighbor never let go of what it read.
+pub fn show_row<N: RunName, W: Watch>(
     edge: &Mutex<EdgeRow<N>>,
     cells: &Plane,
     y: u32,
     row: u32,
     phases: u16,
     given_up: &AtomicBool,
+    watch: &W,
 ) -> bool
     requires y { y < cells.now.height }
     requires is { HasRow (lattice_at N.course phases) row cells.now y }
@@ -107,7 +110,7 @@ pub fn show_row<N: RunName>(
             shown.show(cells, y, row, phases);
             return true;
         }
-        if !pause(looks, given_up) {
+        if !pause(looks, given_up, watch) {
             break;
         }
     }
@@ -116,13 +119,14 @@ pub fn show_row<N: RunName>(
 }
 
 /// Puts this row of the lattice into row y of a strip, as soon as it is shown. False if it never was; then all stays as it was.
-pub fn take_row<N: RunName>(
+pub fn take_row<N: RunName, W: Watch>(
     edge: &Mutex<EdgeRow<N>>,
     cells: &mut Plane,
     y: u32,
     row: u32,
     phases: u16,
     given_up: &AtomicBool,
+    watch: &W,
 ) -> bool
     requires y { y < cells.old.height }
     requires wide { cells.old.width ≡ N.course.start.width }
@@ -136,7 +140,7 @@ pub fn take_row<N: RunName>(
                 return true;
             }
         }
-        if !pause(looks, given_up) {
+        if !pause(looks, given_up, watch) {
             break;
         }
     }
@@ -177,10 +181,11 @@ impl<N: RunName> Edges<N> {
     }
 }
 
-/// Where the strips of a run show each other their edges, and whether one of them has given up.
+/// Where the strips of a run show each other their edges, how many have begun, and whether one of them has given up.
 #[derive(Drop)]
 pub struct Board<N: RunName> {
     pub edges: Vec<Edges<N>>,
+    pub begun: AtomicU32,
     pub given_up: AtomicBool,
 }
 
@@ -196,7 +201,22 @@ impl<N: RunName> Board<N> {
         }
         Some(Board {
             edges,
+            begun: AtomicU32::new(0),
             given_up: AtomicBool::new(false),
         })
+    }
+
+    /// Waits until the other strips have begun. False if they don't in time, since a thread could not be started.
+    pub fn wait_for_all<R: Clock>(&self, watch: &Stopwatch<'_, R>) -> bool {
+        for looks in 0..PATIENCE {
+            if self.begun.load(Ordering::Relaxed) >= watch.others {
+                return true;
+            }
+            if !pause(looks, &self.given_up, &NoWatch) || watch.is_late_to_begin() {
+                break;
+            }
+        }
+        self.given_up.store(true, Ordering::Relaxed);
+        false
     }
 }

@@ -10,7 +10,7 @@ use gas_plane::Plane;
 use phase_step::{Counted, Exchange, Solids};
 
 /// So many phases of a run, from phase `from` on, with the exchange after each. If they are its first, the strips load the
-/// particles.
+/// particles. `patience` is that of `LeastRun`.
 #[derive(Drop)]
 pub struct RunInput<'a, N: RunName> {
     pub particles: &'a Plane,
@@ -21,6 +21,7 @@ pub struct RunInput<'a, N: RunName> {
     pub exchanges: &'a [Exchange],
     pub counted: Counted,
     pub board: &'a Board<N>,
+    pub patience: u64,
     pub ghost few: { from + phases ≤ 65535 },
     pub ghost small: { parity < 2 },
     pub ghost lattice: { IsLattice particles.now },

@@ -10,10 +10,12 @@ ghost use Rattle.phase_team.specs.Strips.{place_of, AreCopied, AreKept, ArePut, 
 
 use crate::runs::edges::{RunName, show_row, take_row};
 use crate::runs::input::RunInput;
+use crate::runs::watch::Watch;
 use gas_plane::{Plane, after, before};
 use gas_terms::Size;
 use phase_step::{Flow, Later, Listed, Part, Run, parity_at, run_part};
 use std::alloc::Global;
+use std::sync::atomic::Ordering;
 
 /// The rows of tiles that are a strip's own: `rows` of the lattice's, from row `first` on.
 #[derive(Clone, Copy)]
@@ -130,7 +132,13 @@ impl Strip {
     }
 
     // Shows its first and its last row, as they are after so many phases. False if a strip has given up.
-    fn show_edges<N: RunName>(&self, input: &RunInput<'_, N>, number: u32, phases: u16) -> bool
+    fn show_edges<N: RunName, W: Watch>(
+        &self,
+        input: &RunInput<'_, N>,
+        number: u32,
+        phases: u16,
+        watch: &W,
+    ) -> bool
         requires number { number < length input.now.board.now.edges.items }
         requires strip { IsOf (extent N.course.start) self.now }
         requires rows { HasOwnRows (lattice_at N.course phases) self.now }
@@ -146,6 +154,7 @@ impl Strip {
             top,
             phases,
             &input.board.given_up,
+            watch,
         ) && show_row(
             edges.last(phases),
             &self.cells,
@@ -153,11 +162,18 @@ impl Strip {
             end - 1,
             phases,
             &input.board.given_up,
+            watch,
         )
     }
 
     // Takes the rows next to its own from its neighbors. False if a strip has given up.
-    fn take_edges<N: RunName>(&mut self, input: &RunInput<'_, N>, number: u32, phases: u16) -> bool
+    fn take_edges<N: RunName, W: Watch>(
+        &mut self,
+        input: &RunInput<'_, N>,
+        number: u32,
+        phases: u16,
+        watch: &W,
+    ) -> bool
         requires number { (number < length input.now.board.now.edges.items)
             × (length input.now.board.now.edges.items ≤ 64) }
         requires strip { IsOf (extent N.course.start) self.old }
@@ -183,6 +199,7 @@ impl Strip {
             upper,
             phases,
             &input.board.given_up,
+            watch,
         ) && take_row(
             below.first(phases),
             cells,
@@ -190,11 +207,18 @@ impl Strip {
             lower,
             phases,
             &input.board.given_up,
+            watch,
         )
     }
 
     // Shows and takes edges, if the phase that comes next needs them. False if a strip has given up.
-    fn meet<N: RunName>(&mut self, input: &RunInput<'_, N>, number: u32, phases: u16) -> bool
+    fn meet<N: RunName, W: Watch>(
+        &mut self,
+        input: &RunInput<'_, N>,
+        number: u32,
+        phases: u16,
+        watch: &mut W,
+    ) -> bool
         requires number { (number < length input.now.board.now.edges.items)
             × (length input.now.board.now.edges.items ≤ 64) }
         requires strip { IsOf (extent N.course.start) self.old }
@@ -206,11 +230,20 @@ impl Strip {
         if parity_at(input.parity, phases) == 0 {
             return true;
         }
-        self.show_edges(input, number, phases) && self.take_edges(input, number, phases)
+        watch.begin_wait();
+        let met = self.show_edges(input, number, phases, watch)
+            && self.take_edges(input, number, phases, watch);
+        watch.end_wait();
+        met
     }
 
     /// Makes so many phases of the run. False if a strip has given up.
-    pub fn run<N: RunName>(&mut self, input: &RunInput<'_, N>, number: u32) -> bool
+    pub fn run<N: RunName, W: Watch>(
+        &mut self,
+        input: &RunInput<'_, N>,
+        number: u32,
+        watch: &mut W,
+    ) -> bool
         requires number { (number < length input.now.board.now.edges.items)
             × (length input.now.board.now.edges.items ≤ 64) }
         requires strip { IsOf (extent N.course.start) self.old }
@@ -219,13 +252,17 @@ impl Strip {
         ensures own { self.new.own ≡ self.old.own }
         ensures at { IsTrue result → IsAt N.course (input.now.from + input.now.phases) self.new }
     {
+        input.board.begun.fetch_add(1, Ordering::Relaxed);
+        if input.board.given_up.load(Ordering::Relaxed) {
+            return false;
+        }
         if input.from == 0 {
             self.begin(input.particles);
         }
         for k in 0..input.phases {
             let here = self.make_phase(input, k);
             self.flow = self.flow.plus(here);
-            if !self.meet(input, number, input.from + k + 1) {
+            if !self.meet(input, number, input.from + k + 1, watch) {
                 return false;
             }
         }
