@@ -20,6 +20,9 @@ use std::thread::Threads;
 use std::time::Clock;
 use std::{env, fs, io};
 
+const NOT_UTF8: &str =
+    "gaslab: a word of the command line is not UTF-8. Try ./gaslab --help for more\n";
+
 // The gas of the snapshot in the file.
 fn load(rt: &(impl Files + AllocGlobal), path: &str) -> Result<Gas, LoadFault> {
     let Ok(mut file) = fs::open(rt, path) else {
@@ -156,11 +159,15 @@ fn plan_of<'a>(rt: &(impl Eprint + AllocGlobal), words: &'a [String]) -> Result<
 }
 
 // The words of the command line, or else what the program exits with.
-fn words_of(rt: &(impl Env + AllocGlobal)) -> Result<Vec<String>, Status> {
+fn words_of(rt: &(impl Env + Eprint + AllocGlobal)) -> Result<Vec<String>, Status> {
     match env::args(rt) {
         Ok(words) => words.collect(rt.alloc()).map_err(|_| Status::NoMemory),
         Err(fault) if fault.kind() == io::ErrorKind::OutOfMemory => Err(Status::NoMemory),
-        Err(_) => Err(Status::NoPlan),
+        Err(_) => {
+            // The status tells of the fault, whether or not this can be written.
+            drop(eprint!(rt; "{NOT_UTF8}"));
+            Err(Status::NoPlan)
+        }
     }
 }
 
