@@ -12,7 +12,8 @@ use std::{fs, io};
 
 /// Keeps the last snapshot in a file. A snapshot is first written to the draft `PATH.SEAT.tmp`, which is renamed to the path
 /// once it is whole. The draft is a new file with the old file's mode: what was at its path is removed, and never followed. A
-/// put that fails leaves the old file, and removes the draft.
+/// put that fails leaves the old file, and removes the draft. A put fails if anything but a regular file is at the path: a
+/// folder, a device, a pipe or a link stays as it is.
 #[derive(Drop)]
 pub struct FileShelf<R: Files> {
     files: R,
@@ -46,6 +47,14 @@ fn fill<R: Files>(files: &R, file: &mut R::File, path: &str, bytes: &[u8]) -> io
     file.sync_all()
 }
 
+// Whether there is nothing at the path, or a regular file.
+fn is_replaceable<R: Files>(files: &R, path: &str) -> bool {
+    match fs::symlink_metadata(files, path) {
+        Ok(found) => found.is_file(),
+        Err(_) => true,
+    }
+}
+
 fn replace<R: Files>(files: &R, draft: &str, path: &str, bytes: &[u8]) -> io::Result<()> {
     // A draft that was left here; if it can't be removed, the next call fails.
     fs::remove_file(files, draft).ok();
@@ -62,13 +71,14 @@ impl<R: Files> Shelf for FileShelf<R> {
     ghost failures = { λ s. s.failures };
 
     fn put(&mut self, bytes: &[u8]) -> Result<(), ShelfFault> {
-        match replace(&self.files, self.draft.as_str(), self.path.as_str(), bytes) {
-            Ok(()) => Ok(()),
-            Err(_) => {
-                self.failures = self.failures.saturating_add(1);
-                Err(ShelfFault)
-            }
+        let path = self.path.as_str();
+        let done = is_replaceable(&self.files, path)
+            && replace(&self.files, self.draft.as_str(), path, bytes).is_ok();
+        if done {
+            return Ok(());
         }
+        self.failures = self.failures.saturating_add(1);
+        Err(ShelfFault)
     }
 
     fn failures(&self) -> u64 {

@@ -76,15 +76,21 @@ fn follows_no_draft<K: Shelf>(
     expect_same(&rt, told.permissions().mode() & 0o777, 0o600);
 }
 
-// A put whose draft can't be renamed, since its path is a folder, leaves no draft.
-fn removes_a_failed_draft<K: Shelf>(
+// What is no regular file stays: the put fails and leaves no draft.
+fn leaves_links_and_folders<K: Shelf>(
     rt: &(impl Abort + AllocGlobal + Files),
     shelf: &mut K,
     path: &str,
+    target: &str,
 ) {
     fs::remove_file(rt, path).expect(rt, "a file");
-    fs::create_dir_all(rt, path).expect(rt, "a new folder");
+    unix_fs::symlink(rt, target, path).expect(rt, "a link");
     puts(rt, shelf, snapshot().as_slice(), false, 2);
+    let read = fs::read(rt, path).expect(rt, "the link's file");
+    expect_same(&rt, read.as_slice(), b"a text".as_slice());
+    fs::remove_file(rt, path).expect(rt, "a link");
+    fs::create_dir_all(rt, path).expect(rt, "a new folder");
+    puts(rt, shelf, snapshot().as_slice(), false, 3);
     has_no_draft(rt, path);
 }
 
@@ -110,10 +116,10 @@ fn file_shelf_keeps_the_last_put_that_succeeds(rt: HostRuntime) {
     let target = format!(in rt.alloc(); "{folder}/target").expect(&rt, "memory");
     follows_no_draft(&rt, &mut shelf, path.as_str(), target.as_str());
     fails_and_leaves_the_file(&rt, &mut shelf, path.as_str());
-    removes_a_failed_draft(&rt, &mut shelf, path.as_str());
+    leaves_links_and_folders(&rt, &mut shelf, path.as_str(), target.as_str());
     fs::remove_dir_all(&rt, folder.as_str()).expect(&rt, "no folder");
     // If the folder is gone, the put fails and is counted.
-    puts(&rt, &mut shelf, snapshot().as_slice(), false, 3);
+    puts(&rt, &mut shelf, snapshot().as_slice(), false, 4);
 }
 
 #[test]
