@@ -58,7 +58,8 @@ impl<C: Clock> TestGate<C> {
         TestGate::new(clock, Waiting::Nobody)
     }
 
-    /// Holds seat 1's first call until seat 0 has made its first, and seat 0's second until seat 1 has made its first.
+    /// Holds seat 1's first call until seat 0 has made its first. Holds seat 0 after its first call until seat 1 has made its
+    /// first, which it can only if the lock is free by then.
     pub fn turns(clock: C) -> TestGate<C> {
         TestGate::new(clock, Waiting::ByTurns)
     }
@@ -92,16 +93,18 @@ impl<C: Clock> HallGate for &TestGate<C> {
     fn before(&self, seat: u16, call: u32) {
         match (self.waiting, seat, call) {
             (Waiting::ByTurns, 1, 0) => self.hold(&self.first_made),
-            (Waiting::ByTurns, 0, 1) => self.hold(&self.second_made),
             (Waiting::UntilAllHaveCome(seats), _, 0) => self.come_and_wait(seats),
             _ => {}
         }
     }
 
     fn after(&self, seat: u16, call: u32) {
-        match (seat, call) {
-            (0, 0) => self.first_made.store(true, Ordering::SeqCst),
-            (1, 0) => self.second_made.store(true, Ordering::SeqCst),
+        match (self.waiting, seat, call) {
+            (Waiting::ByTurns, 0, 0) => {
+                self.first_made.store(true, Ordering::SeqCst);
+                self.hold(&self.second_made);
+            }
+            (Waiting::ByTurns, 1, 0) => self.second_made.store(true, Ordering::SeqCst),
             _ => {}
         }
     }
