@@ -49,19 +49,23 @@ class Looks(Session):
 
     def journal(self) -> list[Entry]:
         """All entries of the journal so far. Those that are known are not asked for again."""
-        ahead, is_whole = 1, False
-        while not is_whole:
-            first = len(self.known)
-            lines = [f"entry {k}" for k in range(first, first + ahead)]
-            for line, reply in zip(lines, self.send(lines)):
-                if isinstance(reply, Refused) and reply.number == 9:
-                    is_whole = True
-                elif not is_whole:
-                    self.known.append(self._checked(Entry, line, reply))
-            if len(self.known) > MOST_ENTRIES:
-                raise Strange(f"the journal has more than {MOST_ENTRIES} entries")
+        ahead = 1
+        while not self.read_on(ahead):
             ahead = min(2 * ahead, _AHEAD)
         return list(self.known)
+
+    def read_on(self, most: int = _AHEAD) -> bool:
+        """Reads the next entries of the journal, so many at most. Returns whether all are known then."""
+        is_whole, first = False, len(self.known)
+        lines = [f"entry {k}" for k in range(first, first + most)]
+        for line, reply in zip(lines, self.send(lines)):
+            if isinstance(reply, Refused) and reply.number == 9:
+                is_whole = True
+            elif not is_whole:
+                self.known.append(self._checked(Entry, line, reply))
+        if len(self.known) > MOST_ENTRIES:
+            raise Strange(f"the journal has more than {MOST_ENTRIES} entries")
+        return is_whole
 
     def particles(self) -> Any:
         """The particles at one tick, an array of bool of shape (height, width)."""
@@ -100,13 +104,19 @@ class Looks(Session):
 
     def scene(self) -> Scene:
         """Walls, obstacles and ports, from the start and the journal."""
+        self.enacted()  # which says first if the start doesn't fit
+        self.journal()
+        return self.enacted()
+
+    def enacted(self) -> Scene:
+        """Walls, obstacles and ports after the entries that are known."""
         if self._scene is None:
             start = self._start or Snapshot(*self.size)
             if (start.width, start.height) != self.size:
                 raise ValueError("the start has {} by {} cells, and this gas {} by {}".format(
                     start.width, start.height, *self.size))
             self._scene = Scene(start)
-        for entry in self.journal()[self._enacted:]:
+        for entry in self.known[self._enacted:]:
             self._scene.enact(entry.command)
             self._enacted += 1
         return self._scene

@@ -88,3 +88,11 @@ def parse_change(text: str, size: Optional[tuple[int, int]] = None) -> Optional[
     else:
         fits = all(0 < steps <= MOST_STEPS for steps in numbers)
     return Change(word, numbers) if fits else None
+
+
+def canonical(line: str) -> str:
+    """The text that a journal has for a change: one space between words, no leading zeros, small digits."""
+    word, *rest = [it for it in line.split(" ") if it] or [""]
+    if word == "row":
+        return " ".join((word, *(it.lstrip("0") or "0" for it in rest[:1]), *(it.lower() for it in rest[1:])))
+    return " ".join((word, *(it.lstrip("0") or "0" for it in rest)))

@@ -50,22 +50,28 @@ def parse_script(text: Union[str, Iterable[str]]) -> Script:
     return Script(size, parts)
 
 
-def journal_script(size: tuple[int, int], commands: Iterable[str], is_after_snapshot: object = False) -> str:
+def journal_script(size: tuple[int, int], commands: Iterable[str], is_after_snapshot: bool = False) -> str:
     """The script of a journal, of lines that a laboratory takes: steps that follow one another are joined.
 
     Its first line probes the whole lattice, which tells its size. If the journal began from a snapshot, it
     asks for the ledger instead. The last two lines ask for tally and ledger.
     """
-    lines = ["ledger" if is_after_snapshot else "probe 0 0 {} {}".format(*size)]
+    return "".join(journal_lines(size, commands, is_after_snapshot))
+
+
+def journal_lines(size: tuple[int, int], commands: Iterable[str], is_after_snapshot: bool = False) -> Iterator[str]:
+    """The lines of that script, with their newlines."""
+    last = "ledger" if is_after_snapshot else "probe 0 0 {} {}".format(*size)
     for command in commands:
         word, *words = command.split(" ")
-        before, *steps = lines[-1].split(" ")
+        before, *steps = last.split(" ")
         total = int(words[0]) + int(steps[0]) if word == before and word in ("step", "back") else 0
         if 0 < total <= MOST_STEPS:
-            lines[-1] = f"{word} {total}"
+            last = f"{word} {total}"
         else:
-            lines.append(command)
-    return "\n".join([*lines, "tally", "ledger"]) + "\n"
+            yield last + "\n"
+            last = command
+    yield from (last + "\n", "tally\n", "ledger\n")
 
 
 def is_open(text: str) -> bool:
