@@ -11,21 +11,23 @@ import numpy
 from gaslab import Gone, Lab, Snapshot
 from gaslab.page.hall import Hall
 from gaslab.page.laboratory import Laboratory, Means
+from gaslab.page.outbox import Outbox
 from gaslab.protocol.scripts import journal_script
 
 from .test_lab import STAND_IN
 
 MEANS = Means(str(STAND_IN))
+NOBODY = 2 ** 32 - 1
 
 
 def decoded(data):
     """A picture, read by its table of bytes and not by the layout that the server is made from."""
-    kind, flags, player, width, height, tick = struct.unpack_from(">BBHHHq", data)
-    number, journal, steps, rate, probes = struct.unpack_from(">IIIHH", data, 16)
+    kind, flags, probes, rate, width, height, tick = struct.unpack_from(">BBBBHHq", data)
+    number, journal, steps, player = struct.unpack_from(">IIII", data, 16)
     found = {"kind": kind, "flags": flags, "player": player, "size": (width, height), "tick": tick,
              "number": number, "journal": journal, "speed": (steps, rate),
              "tally": struct.unpack_from(">3q", data, 32), "ledger": struct.unpack_from(">13q", data, 56),
-             "probes": [struct.unpack_from(">6H3q", data, 160 + 36 * k) for k in range(probes)]}
+             "probes": [struct.unpack_from(">I4H3q", data, 160 + 36 * k) for k in range(probes)]}
     at, cells = 160 + 36 * probes, width * height // 8
     names = ("particles", "walls", "obstacles") if flags & 1 else ("particles",)
     for name in names:
@@ -44,23 +46,37 @@ def decoded(data):
 
 
 class Page:
-    """A page of a test: what came, and numbered lines."""
+    """A page of a test: what came, text line by line, and numbered lines."""
     def __init__(self, hall, rights="all", draws=True):
-        self.hall, self.draws, self.came, self.number = hall, draws, [], 0
-        self.seat = hall.join(rights, self.came.append)
+        self.hall, self.draws, self.number, self.out, self._came = hall, draws, 0, Outbox(), []
+        self.seat = hall.join(rights, self.out)
         self.draw()
+
+    @property
+    def came(self):
+        for message in iter(self.out.take, None):
+            self._came += message.split("\n") if isinstance(message, str) else [message]
+        return self._came
 
     def draw(self):
         while self.draws and self.seat.undrawn:
-            self.hall.said(self.seat, "0 .drawn")
+            self.send("0 .drawn")
+
+    def send(self, message):
+        """Sends a message, and reads all that comes meanwhile. Returns how many slices it took."""
+        slices = 1
+        for _ in self.hall.said(self.seat, message):
+            slices += bool(self.came)
+        while self.seat.is_behind and self.came:
+            self.hall.give(self.seat)
+        return slices
 
     def ask(self, *lines):
         """The replies to lines that are sent as one message."""
         first, self.number = self.number + 1, self.number + len(lines)
-        self.hall.said(self.seat, "\n".join(f"{first + k} {line}" for k, line in enumerate(lines)))
+        self.send("\n".join(f"{first + k} {line}" for k, line in enumerate(lines)))
         self.draw()
-        told = dict(line.split(" ", 1) for text in self.came if isinstance(text, str)
-                    for line in text.split("\n"))
+        told = dict(text.split(" ", 1) for text in self.came if isinstance(text, str))
         return [told.get(str(first + k)) for k in range(len(lines))]
 
     def events(self, word=""):
@@ -86,6 +102,7 @@ class Halls(unittest.TestCase):
         means = MEANS._replace(cap=cap)
         hall = Hall(Laboratory.own(means, size, start), means, ("a", "b"))
         self.addCleanup(hall.close)
+        hall.begin()
         return hall
 
     def play(self, hall, page):
@@ -120,8 +137,8 @@ class Messages(Halls):
         tally, ledger, probe = page.ask("tally", "ledger", "probe 0 40 64 24")
         self.assertEqual((it["tick"], *it["tally"]), tuple(map(int, tally.split(" ")[1:])))
         self.assertEqual(it["ledger"], tuple(map(int, ledger.split(" ")[1:])))
-        self.assertEqual(it["probes"], [(1, 0, 40, 64, 24, 0, *map(int, probe.split(" ")[1:]))])
-        self.assertEqual((it["flags"], it["player"], it["journal"], it["speed"]), (3, 65535, 7, (0, 0)))
+        self.assertEqual(it["probes"], [(1, 0, 40, 64, 24, *map(int, probe.split(" ")[1:]))])
+        self.assertEqual((it["flags"], it["player"], it["journal"], it["speed"]), (3, NOBODY, 7, (0, 0)))
 
     def test_walls_come_again_only_when_they_changed(self):
         page = Page(self.hall())
@@ -137,7 +154,7 @@ class Messages(Halls):
         for text in ("", "tally", "x tally", "-1 tally", "1234567890 tally", "1 tally\n", "² tally", "\n",
                      "1 tally\n" * 70_001):
             with self.assertRaises(ValueError, msg=text[:20]):
-                hall.said(page.seat, text)
+                page.send(text)
         self.assertEqual(page.ask("tally"), ["TALLY 0 0 0 0"])
 
     def test_lines_that_would_end_the_session(self):
@@ -182,7 +199,7 @@ class Seats(Halls):
         hall.beat()
         self.assertEqual((one.last()["tick"], two.last()["tick"], one.last()["player"]), (3, 3, 1))
         hall.leave(two.seat)
-        self.assertEqual(one.events()[-2:], ["* pause 65535 left", "* seat 1 left"])
+        self.assertEqual(one.events()[-2:], [f"* pause {NOBODY} left", "* seat 1 left"])
         one.draw()
         self.assertEqual(one.last()["flags"] & 4, 0)
 
@@ -193,9 +210,9 @@ class Seats(Halls):
         for _ in range(10):
             quick.ask("step 1")
         self.assertEqual([len(slow.pictures()), len(quick.pictures())], [2, 11])
-        hall.said(slow.seat, "0 .drawn")
+        slow.send("0 .drawn")
         self.assertEqual([it["tick"] for it in slow.pictures()], [0, 1, 10])
-        hall.said(slow.seat, "0 .drawn")
+        slow.send("0 .drawn")
         self.assertEqual(len(slow.pictures()), 3)
 
     def test_a_watcher_changes_nothing(self):
@@ -206,7 +223,7 @@ class Seats(Halls):
         lines = ["put 0 0 1 1", " put 0 0 1 1", "save", "step 1", ".play 1 1", ".goto 5 1 1", ".pause",
                  ".open 64 64", ".fresh", ".bring", ".watch 0 0 1 1", ".unwatch 1"]
         self.assertEqual(watcher.ask(*lines), ["NO watch"] * len(lines))
-        hall.said(watcher.seat, Snapshot(64, 64).to_bytes())
+        watcher.send(Snapshot(64, 64).to_bytes())
         self.assertEqual(watcher.came[-1], "0 NO watch")
         self.assertEqual(watcher.ask("tally", "read 0"), ["TALLY 0 0 0 0", "ROW 0000000000000000"])
         self.assertEqual((page.events("entry"), hall.laboratory.lab.journal()), ([], []))
@@ -246,7 +263,7 @@ class Time(Halls):
         self.assertFalse((page.last()["particles"] == start).all())
         page.ask(".goto 0 32 60")
         self.play(hall, page)
-        self.assertEqual((page.last()["tick"], page.events("pause")), (0, ["* pause 65535 there"] * 2))
+        self.assertEqual((page.last()["tick"], page.events("pause")), (0, [f"* pause {NOBODY} there"] * 2))
         self.assertTrue((page.last()["particles"] == start).all())
         self.assertEqual(len(page.events("entry")), 3, "steps of play are not told")
 
@@ -260,18 +277,18 @@ class Time(Halls):
         page = Page(hall)
         page.ask("put 3 3 1 1", "wall 9 9 1 1", ".watch 0 0 8 8", ".play 1 60")
         self.play(hall, page)
-        self.assertEqual(page.events("pause"), ["* pause 65535 ERR 13 journal"])
+        self.assertEqual(page.events("pause"), [f"* pause {NOBODY} ERR 13 journal"])
         before = page.last()
         self.assertEqual((before["tick"], before["journal"]), (2, 4))
         self.assertEqual(page.ask("put 0 0 1 1", ".fresh", "step 1"), ["ERR 13 journal", "DONE", "OK 0"])
         self.assertEqual((page.last()["tick"], page.last()["ledger"][0]), (3, 1))
-        self.assertEqual(page.last()["probes"][0][:6], (1, 0, 0, 8, 8, 0))
+        self.assertEqual(page.last()["probes"][0][:5], (1, 0, 0, 8, 8))
 
     def test_a_script_with_the_snapshot_that_it_began_from(self):
         start = Snapshot.from_arrays(numpy.arange(64 * 64).reshape(64, 64) % 5 == 0, tick=7)
         hall = self.hall()
         page = Page(hall)
-        hall.said(page.seat, start.to_bytes())
+        page.send(start.to_bytes())
         self.assertIn("0 DONE", page.came)
         page.ask("step 2", "step 3", "wall 0 0 64 1", "step 1", "back 1", "back 1")
         page.ask(".script")
@@ -295,7 +312,7 @@ class Time(Halls):
         page = Page(hall)
         page.ask("put 0 0 1 1")
         for data in (b"", b"HPPGAS2\n", Snapshot(64, 64).to_bytes() + b"x", os.urandom(999)):
-            hall.said(page.seat, data)
+            page.send(data)
             self.assertEqual(page.came[-1], "0 NO snapshot")
         self.assertEqual(page.ask("tally"), ["TALLY 0 1 1 1"])
 
@@ -323,6 +340,7 @@ class AServersGas(unittest.TestCase):
         self.other.do(["wall 0 9 64 1", "put 3 3 1 1"])
         self.hall = Hall(Laboratory.joined("127.0.0.1", port, 60, None), Means())
         self.addCleanup(self.hall.close)
+        self.hall.begin()
         self.page = Page(self.hall)
 
     def test_what_others_do_is_shown(self):
@@ -331,9 +349,9 @@ class AServersGas(unittest.TestCase):
         self.other.step(5)
         self.other.block(1, 2, 3, 4)
         self.hall.beat()
-        self.assertEqual(self.page.events()[-4:], [
-            "* seat 256 name seat 0 of the server", "* entry 2 256 step 5",
-            "* seat 256 name seat 0 of the server", "* entry 3 256 block 1 2 3 4"])
+        self.assertEqual(self.page.events()[-3:], [
+            "* seat -1 name seat 0 of the server", "* entry 2 -1 step 5",
+            "* entry 3 -1 block 1 2 3 4"])
         it = self.page.last()
         self.assertEqual((it["tick"], it["flags"] & 8), (5, 0))
         self.assertTrue((it["particles"] == self.other.particles()).all())
@@ -342,7 +360,7 @@ class AServersGas(unittest.TestCase):
 
     def test_its_gas_is_not_replaced(self):
         self.assertEqual(self.page.ask(".open 64 64", ".fresh", ".bring"), ["NO server"] * 3)
-        self.hall.said(self.page.seat, Snapshot(64, 64).to_bytes())
+        self.page.send(Snapshot(64, 64).to_bytes())
         self.assertEqual(self.page.came[-1], "0 NO server")
 
     def test_a_server_that_goes(self):

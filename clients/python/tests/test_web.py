@@ -152,7 +152,7 @@ class Safety(Served):
 
     async def test_a_watchers_link(self):
         watcher, page = await self.join("watch"), await self.join()
-        self.assertEqual((await watcher.receive(60)).data, "* hello 0 watch named 65536 new")
+        self.assertEqual((await watcher.receive(60)).data.split("\n")[0], "* hello 0 watch named 65536 new")
         for line in ("put 0 0 1 1", ".play 1 1", ".open 64 64"):
             self.assertEqual(await self.ask(watcher, line), "NO watch")
         self.assertEqual(await self.ask(page, "tally"), "TALLY 0 0 0 0")

@@ -1,25 +1,23 @@
 """The laboratory behind the pages: a program of their own, or a seat of a running server."""
-import os
 from collections.abc import Iterator
 from contextlib import ExitStack, suppress
 from pathlib import Path
-from tempfile import TemporaryDirectory
 from typing import NamedTuple, Optional
 
 from ..lab.lab import Lab
-from ..protocol.commands import MOST_ENTRIES
+from ..protocol.commands import MOST_ENTRIES, canonical
 from ..protocol.doors import PathLike, is_script
-from ..protocol.errors import Refused
+from ..protocol.errors import Refused, Strange
 from ..protocol.link import LINE_LIMIT
 from ..protocol.replies import Ok, Reply, reply_text
-from ..protocol.scripts import journal_script
+from ..protocol.scripts import journal_lines
 from ..snapshot.files import Snapshot
 from .pictures import LAYOUT, Reading
+from .rooms import room
 
-OTHERS = 256
-"""What is added to the number of a server's seat, since pages count their seats from 0."""
-_MEMORY = "/dev/shm"  # files there are never written to a disk
 _TRIES = 3  # looks at a gas that others change
+_MOST_AHEAD = 512  # entries that are asked for at once
+_PART = 1 << 17  # characters of a script that are made at once
 
 
 class Means(NamedTuple):
@@ -34,29 +32,30 @@ class Laboratory:
 
     `start` is the snapshot that it began from, `name` what the pages call it, and `program` what computes it:
     `proved`, `named` if somebody named the program, or `server`. Pages may open another gas in place of one
-    that `is_own`. It is for one thread at a time.
+    that `is_own`. `makers` are those of the entries that were read so far: a page's seat, -1 - k for seat k
+    of a server, or None for a step of play. It is for one thread at a time.
     """
     def __init__(self, lab: Lab, start: Optional[Snapshot], name: str, program: str, cap: int) -> None:
         self.lab, self.start, self.name, self.program, self.cap = lab, start, name, program, cap
         self.probes: dict[int, tuple[int, ...]] = {}
-        self.keys = self._told = 0
-        self._makers: dict[int, Optional[int]] = {}
+        self.keys = 0
+        self.makers: list[Optional[int]] = []
+        self._made: dict[int, tuple[str, Optional[int]]] = {}
         self._room, self._files, self.is_own = "", ExitStack(), False
 
     @classmethod
     def own(cls, means: Means, size: tuple[int, int] = (64, 64), start: Optional[Snapshot] = None,
             name: str = "") -> "Laboratory":
         """Starts a program, with a snapshot or an empty lattice. It saves to a file that nobody else sees."""
-        place = _MEMORY if os.access(_MEMORY, os.W_OK) else None
         with ExitStack() as files:
-            room = files.enter_context(TemporaryDirectory(prefix="gaslab-", dir=place))
-            path = Path(room, "start.gas")
+            folder = files.enter_context(room())
+            path = Path(folder, "start.gas")
             if start:
                 start.write(path)
-            lab = Lab.run(*size, cap=means.cap, load=path if start else None, save=Path(room, "now.gas"),
+            lab = Lab.run(*size, cap=means.cap, load=path if start else None, save=Path(folder, "now.gas"),
                           program=means.program, timeout=means.timeout)
             it = cls(lab, start, name, "proved" if is_script(means.program) else "named", means.cap)
-            it._room, it._files, it.is_own = room, files.pop_all(), True
+            it._room, it._files, it.is_own = folder, files.pop_all(), True
         return it
 
     @classmethod
@@ -69,16 +68,17 @@ class Laboratory:
         self.lab.close(polite=False)
         self._files.close()
 
-    def replies(self, seat: int, lines: list[str]) -> list[str]:
-        """The replies to lines of a page's seat."""
+    def replies(self, seat: Optional[int], lines: list[str]) -> list[str]:
+        """The replies to lines of a page's seat, or of play."""
         ready = [self._ready_reply(line) for line in lines]
-        found = self.lab.send([line for line, reply in zip(lines, ready) if not reply])
-        return [reply or self._noted(seat, next(found)) for reply in ready]
+        asked = [line for line, reply in zip(lines, ready) if not reply]
+        found = (self._noted(seat, *it) for it in zip(asked, self.lab.send(asked)))
+        return [reply or next(found) for reply in ready]
 
-    def _noted(self, seat: Optional[int], reply: Reply) -> str:
+    def _noted(self, seat: Optional[int], line: str, reply: Reply) -> str:
         """The text of a reply. Who made an entry is noted."""
         if isinstance(reply, Ok):
-            self._makers[reply.index] = seat
+            self._made[reply.index] = line, seat
         return reply_text(reply)
 
     def _ready_reply(self, line: str) -> str:
@@ -91,26 +91,48 @@ class Laboratory:
     def move(self, steps: int) -> str:
         """Makes steps of play, backwards if negative. Returns the refusal, or an empty text."""
         lines = [f"{'step' if steps > 0 else 'back'} {abs(steps)}"] if steps else []
-        replies = [self._noted(None, reply) for reply in self.lab.send(lines)]
-        return next((reply for reply in replies if not reply.startswith("OK")), "")
+        return next((reply for reply in self.replies(None, lines) if not reply.startswith("OK")), "")
 
-    def news(self) -> Iterator[tuple[int, int, str]]:
-        """Each entry since the last call, but for steps of play: its index, who made it, and the command.
+    def read_on(self) -> bool:
+        """Reads the next entries, a thousand at most. Returns whether these are all.
 
-        The maker is a page's seat, or `OTHERS` and a server's seat.
+        Raises `Strange` if a server said `OK k` to a line, and entry k is another one.
         """
-        first, entries = self._told, self.lab.journal()
-        self._told = len(entries)
-        for k, entry in enumerate(entries[first:], first):
-            maker = self._makers.pop(k, OTHERS + entry.seat)
+        ahead, is_whole = 1, False
+        while not is_whole and ahead <= _MOST_AHEAD:
+            is_whole, ahead = self.lab.read_on(ahead), 2 * ahead
+        for k, entry in enumerate(self.lab.known[len(self.makers):], len(self.makers)):
+            line, maker = self._made.pop(k, (entry.command, -1 - entry.seat))
+            if not self.is_own and canonical(line) != entry.command:
+                raise Strange(f"OK {k} to {line[:60]!r}, and entry {k} is {entry.command[:60]!r}")
+            self.makers.append(maker)
+        if is_whole and self._made:
+            raise Strange(f"OK {min(self._made)} to a line that made no such entry")
+        if not self.is_own:
+            self.lab.enacted()
+        return is_whole
+
+    @property
+    def is_owed(self) -> bool:
+        """Whether a line was accepted whose entry was not read yet."""
+        return bool(self._made)
+
+    def entries(self, first: int, last: int) -> str:
+        """These entries as events, a line each, but for the steps of play."""
+        lines, named = [], set()
+        for k, maker in enumerate(self.makers[first:last], first):
+            if maker is not None and maker < 0 and maker not in named:
+                lines.append(f"* seat {maker} name seat {-1 - maker} of the server")
+                named.add(maker)
             if maker is not None:
-                yield k, maker, entry.command
+                lines.append(f"* entry {k} {maker} {self.lab.known[k].command}")
+        return "\n".join(lines)
 
     def watch(self, words: list[str]) -> str:
         """Watches a rectangle. Returns the page's reply."""
         if len(self.probes) >= LAYOUT["probes"]:
             return "NO probes"
-        reply, = self.replies(0, [" ".join(["probe", *words])])
+        reply, = self.replies(None, [" ".join(["probe", *words])])
         if not reply.startswith("PROBE"):
             return reply
         self.keys += 1
@@ -132,7 +154,16 @@ class Laboratory:
                 return Snapshot.read(Path(self._room, "now.gas"))
         return self.lab.look(tries=_TRIES)
 
-    def script(self) -> str:
-        """The journal as a script, with the size first, and steps that follow one another joined."""
+    def script(self) -> Iterator[str]:
+        """The entries that were read so far as a script, in parts: its size first, and steps joined."""
         note = "This began from a snapshot: gaslab-client draw gas.txt --load start.gas" if self.start else ""
-        return journal_script(self.lab.size, (entry.command for entry in self.lab.journal()), note)
+        known = self.lab.known
+        commands = (known[k].command for k in range(len(known)))
+        part, size = [], 0
+        for line in journal_lines(self.lab.size, commands, note):
+            part.append(line)
+            size += len(line)
+            if size > _PART:
+                yield "".join(part)
+                part, size = [], 0
+        yield "".join(part)

@@ -19,6 +19,7 @@ LAYOUT: dict[str, Any] = json.loads(read("layout.json"))
 """Kinds, flags and fields of the messages."""
 NOBODY: int = LAYOUT["nobody"]
 """The seat that plays while nobody does."""
+_WRAPS = 2 ** 32  # what counts in 4 bytes begins anew there
 _HEAD, _PROBE, _FILE = _form("head"), _form("probe"), _form("fileHead")
 
 
@@ -49,9 +50,10 @@ def picture(reading: Reading, number: int, play: Optional[Play], with_solids: bo
     has = {"solids": with_solids, "ports": with_solids, "playing": play, "mixed": reading.is_mixed}
     bits = sum(bit for name, bit in flags.items() if has[name])
     seat, steps, rate, _ = play or Play(NOBODY, 0, 0)
-    head = _HEAD.pack(LAYOUT["picture"], bits, seat, gas.width, gas.height, gas.tick, number, reading.entries,
-                      steps, rate, len(reading.probes), *reading.tally[1:], *reading.ledger)
-    parts = [head, *(_PROBE.pack(key, *area, 0, *sums) for key, area, sums in reading.probes)]
+    head = _HEAD.pack(LAYOUT["picture"], bits, len(reading.probes), rate, gas.width, gas.height, gas.tick,
+                      number % _WRAPS, reading.entries, steps, seat % _WRAPS, *reading.tally[1:],
+                      *reading.ledger)
+    parts = [head, *(_PROBE.pack(key % _WRAPS, *area, *sums) for key, area, sums in reading.probes)]
     parts.append(gas.particle_bytes)
     if with_solids:
         parts += [gas.wall_bytes, gas.obstacle_bytes, bytes((len(gas.drains), len(gas.sources)))]
