@@ -65,12 +65,20 @@ def parser() -> argparse.ArgumentParser:
     return whole
 
 
+def _take_signals() -> None:
+    """Has signals end what was started too."""
+    if signal.getsignal(signal.SIGINT) == signal.SIG_DFL:
+        signal.signal(signal.SIGINT, signal.default_int_handler)
+    for number in (signal.SIGTERM, signal.SIGHUP):
+        if signal.getsignal(number) == signal.SIG_DFL:
+            signal.signal(number, lambda number, _: sys.exit(128 + number))
+
+
 def main(arguments: Optional[Sequence[str]] = None) -> int:
     """Runs a word. The status is 0, 1 after a fault, which is said, or 2 for wrong options."""
     asked = parser().parse_args(arguments)
-    for number in (signal.SIGTERM, signal.SIGHUP):  # what was started is then ended too
-        if signal.getsignal(number) == signal.SIG_DFL:
-            signal.signal(number, lambda number, _: sys.exit(128 + number))
+    if asked.word != "page":  # whose server takes signals by its loop
+        _take_signals()
     try:
         status = asked.run(asked)
         sys.stdout.flush()

@@ -1,14 +1,13 @@
 """The words of the command line."""
 import argparse
-import asyncio
 import os
 import re
 import shutil
 import sys
 import time
-from collections.abc import Callable, Iterator
+from collections.abc import Iterator
 from contextlib import nullcontext
-from typing import Optional
+from typing import Optional, Union
 
 import numpy
 
@@ -18,7 +17,6 @@ from ..measure.tables import chart, csv_text
 from ..page.hall import Hall
 from ..page.laboratory import Laboratory, Means
 from ..page.one_file import one_file
-from ..page.web import Web
 from ..pictures.drawing import film, picture
 from ..pictures.text import text_picture
 from ..protocol.doors import find_program
@@ -28,13 +26,11 @@ from ..protocol.scripts import Script, parse_script, read_text
 from ..snapshot.files import Snapshot
 from ..snapshot.rectangles import cover
 from .options import gas_of, is_snapshot, lab_of, until_quit
+from .serving import serve
 from .shell import Shell, columns, is_coloured, prompted
 
 _LAST = 8  # entries that are shown
 _CLEAR = "\x1b[H\x1b[2J"
-_SHARED = """\
-Whoever reaches {} and has the first link draws, plays and opens another gas. With the second they
-watch. Nothing is encrypted: others on the network can read the links. Ctrl-C ends it."""
 _PIECE = 4096  # bytes of a line that are read at once
 
 
@@ -115,27 +111,18 @@ def journal(asked: argparse.Namespace) -> None:
         print(entry.command)
 
 
-def page(asked: argparse.Namespace) -> None:
+def page(asked: argparse.Namespace) -> Optional[int]:
     """The laboratory as a page: served, or as one HTML file, with what it opens first."""
     if len(asked.gas) > 2:
         raise ValueError("it takes a script, a snapshot, or an address and a port")
-    if len(asked.gas) == 2:
-        if asked.to:
-            raise ValueError("--to makes a file of a script or a snapshot, not of a server's gas")
-        _serve(asked, lambda links: Hall(_joined(asked), Means(), links))
-        return
-    asked.file, = asked.gas or [None]
+    if len(asked.gas) == 2 and asked.to:
+        raise ValueError("--to makes a file of a script or a snapshot, not of a server's gas")
+    asked.file = asked.gas[0] if len(asked.gas) == 1 else None
     if asked.to:
         with open(asked.to, "w", encoding="utf-8") as made:
             made.write(one_file(*_contents(asked)))
-        return
-    try:
-        means = Means(find_program(asked.program), asked.cap, asked.timeout)
-    except Unreachable as fault:
-        print(f"NOT PROVED: {fault}. The page computes by an engine of its own.", file=sys.stderr)
-        _serve(asked, None, _contents(asked))
-    else:
-        _serve(asked, lambda links: Hall(_own(asked, means), means, links))
+        return None
+    return serve(asked, _joined if len(asked.gas) == 2 else _own)
 
 
 def _contents(asked: argparse.Namespace) -> tuple[str, Optional[bytes]]:
@@ -159,8 +146,13 @@ def _name(path: str) -> str:
     return "a script" if path == "-" else os.path.basename(path)
 
 
-def _own(asked: argparse.Namespace, means: Means) -> Laboratory:
-    """A program of the page's own, after the script or with the snapshot."""
+def _own(asked: argparse.Namespace, links: tuple[str, str]) -> Union[Hall, tuple[str, Optional[bytes]]]:
+    """A program of the page's own, with a script or a snapshot. Without one, what the page opens itself."""
+    try:
+        means = Means(find_program(asked.program), asked.cap, asked.timeout)
+    except Unreachable as fault:
+        print(f"NOT PROVED: {fault}. The page computes by an engine of its own.", file=sys.stderr)
+        return _contents(asked)
     load, script = asked.load, Script(None, [])
     if is_snapshot(asked.file):
         load = asked.file
@@ -168,36 +160,16 @@ def _own(asked: argparse.Namespace, means: Means) -> Laboratory:
         script = parse_script(read_text(asked.file))
     start, name = Snapshot.read(load) if load else None, _name(asked.file or load or "")
     laboratory = Laboratory.own(means, script.lattice, start, name)
-    try:
-        laboratory.lab.play(until_quit(script))
-    except BaseException:
-        laboratory.close()
-        raise
-    return laboratory
+    return Hall(laboratory, means, links, until_quit(script))
 
 
-def _joined(asked: argparse.Namespace) -> Laboratory:
+def _joined(asked: argparse.Namespace, links: tuple[str, str]) -> Hall:
+    """A seat of a server for all pages together."""
     host, port = asked.gas
     if not re.fullmatch("[0-9]{1,5}", port):
         raise ValueError(f"{port[:40]!r} is no port")
     start = Snapshot.read(asked.load) if asked.load else None
-    return Laboratory.joined(host, int(port), asked.timeout, start)
-
-
-def _serve(asked: argparse.Namespace, make_hall: Optional[Callable[[tuple[str, str]], Hall]],
-           opened: tuple[str, Optional[bytes]] = ("", None)) -> None:
-    """Serves until Ctrl-C, or until the laboratory is gone."""
-    web = Web(make_hall, asked.share or "127.0.0.1", opened)
-
-    def ready(web: Web) -> None:
-        print(f"PAGE {web.link('all')}", flush=True)
-        if make_hall:
-            print(f"WATCH {web.link('watch')}", flush=True)
-        if asked.share:
-            print(_SHARED.format(asked.share), flush=True)
-        elif sys.stdout.isatty():
-            print("Open the first link in a browser. Ctrl-C ends the page.")
-    asyncio.run(web.run(asked.page_port, ready))
+    return Hall(Laboratory.joined(host, int(port), asked.timeout, start), Means(), links)
 
 
 def rows(asked: argparse.Namespace) -> None:
