@@ -1,6 +1,6 @@
 // The page's seat at a server.
 import { EMPTY, SPEEDS, isRefusal, otherLesson, plainWords, state } from "./base.js";
-import { decode } from "./frame.js";
+import { decode, joined } from "./frame.js";
 import { around, cover, view } from "./canvas.js";
 import { plots } from "./plots.js";
 import { notice, hideNotice, banner, hideBanner, speak, note, exchanges, entryOf } from "./notices.js";
@@ -80,7 +80,7 @@ class Link {
   /** Asks for files: `.script` or `.snapshot`. Resolves to them, or to none if they are refused. */
   async fetch(word) {
     const [{ promise, files }] = this.ask([word]);
-    return await promise === "DONE" ? files : [];
+    return await promise === "DONE" ? joined(files) : [];
   }
 
   /** Says that the newest picture is drawn, and with it those that it has replaced. */
