@@ -3,16 +3,16 @@
 
     still.py run --width 2048 --height 2048 --cap 65536 --save now.gas
 
-It keeps a journal and the tick, and saves one snapshot again and again. It is for trials of what is around the
-laboratory: how many messages, bytes and seconds.
+It keeps a journal and the tick, and saves one snapshot again and again. It is for trials of what is
+around the laboratory: how many messages, bytes and seconds.
 """
 import argparse
-import os
 import struct
 import sys
 
-COUNTS = {"put": 4, "erase": 4, "wall": 4, "block": 4, "unwall": 4, "row": 2, "source": 5, "drain": 4, "unport": 0,
-          "step": 1, "back": 1, "probe": 4, "tally": 0, "ledger": 0, "read": 1, "entry": 1, "save": 0, "quit": 0}
+COUNTS = {"put": 4, "erase": 4, "wall": 4, "block": 4, "unwall": 4, "row": 2, "source": 5, "drain": 4,
+          "unport": 0, "step": 1, "back": 1, "probe": 4, "tally": 0, "ledger": 0, "read": 1, "entry": 1,
+          "save": 0, "quit": 0}
 READINGS = {"probe": "PROBE 0 0 0", "ledger": "LEDGER" + 13 * " 0", "quit": "BYE"}
 
 

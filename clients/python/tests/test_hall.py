@@ -5,15 +5,19 @@ import subprocess
 import sys
 import tempfile
 import unittest
+from itertools import count
+from pathlib import Path
 
 import numpy
 
-from gaslab import Gone, Lab, Snapshot
+from gaslab import Gone, Lab, Snapshot, Strange
 from gaslab.page.hall import Hall
 from gaslab.page.laboratory import Laboratory, Means
 from gaslab.page.outbox import Outbox
+from gaslab.page.rooms import place, room, sweep
 from gaslab.protocol.scripts import journal_script
 
+from .fake import Fake
 from .test_lab import STAND_IN
 
 MEANS = Means(str(STAND_IN))
@@ -181,6 +185,146 @@ class Messages(Halls):
                          [f"WATCH {k}" for k in range(1, 9)] + ["NO probes"])
         self.assertEqual(page.ask(".unwatch 3", ".watch 9 0 1 1"), ["DONE", "WATCH 9"])
         self.assertEqual([it[0] for it in page.last()["probes"]], [1, 2, 4, 5, 6, 7, 8, 9])
+
+
+class Slices(Halls):
+    """A page's message is done in parts, and the others have their turns between two."""
+    def test_another_page_is_answered_in_between(self):
+        hall = self.hall()
+        long, other = Page(hall), Page(hall, "watch")
+        work = hall.said(long.seat, "\n".join(f"{k + 1} put 0 0 1 1" for k in range(2000)))
+        next(work)
+        self.assertEqual(other.ask("tally"), ["TALLY 0 1 1 1"])
+        self.assertNotIn("2000 OK 1999", long.came)
+        self.assertGreater(sum(1 for _ in work), 1)
+        self.assertEqual(long.came[-1] if isinstance(long.came[-1], str) else long.came[-2], "2000 OK 1999")
+        self.assertEqual(len(long.events("entry")), 2000)
+        self.assertEqual(long.events("entry"), other.events("entry"))
+
+    def test_which_messages_change_the_gas(self):
+        hall = self.hall()
+        page, watcher = Page(hall), Page(hall, "watch")
+        for line in ("tally", "probe 0 0 1 1", "read 0", ".drawn", ".snapshot", ".name put", "entry 0"):
+            self.assertFalse(hall.changes(page.seat, f"1 tally\n2 {line}"), line)
+        for line in ("put 0 0 1 1", " tally", "", "step 1", "save", ".play 1 1", ".pause", "tallyx"):
+            self.assertTrue(hall.changes(page.seat, f"1 tally\n2 {line}"), line)
+            self.assertFalse(hall.changes(watcher.seat, f"1 {line}"), line)
+        self.assertTrue(hall.changes(page.seat, b""))
+
+    def test_what_a_watcher_asks_at_a_time(self):
+        watcher = Page(self.hall(), "watch")
+        self.assertEqual(watcher.ask(*["tally"] * 514), ["TALLY 0 0 0 0"] * 512 + ["NO lines"] * 2)
+        self.assertEqual(watcher.ask(".name a", ".name b"), ["DONE", "NO busy"])
+
+    def test_many_entries_are_few_messages(self):
+        """A page that has not read them meanwhile gets them all."""
+        hall = self.hall()
+        page, out = Page(hall), Outbox()
+        hall.join("all", out)
+        while out.take():
+            pass
+        page.ask(*["put 0 0 1 1"] * 5000)
+        texts = [text for text in iter(out.take, None) if isinstance(text, str)]
+        self.assertLess(len(texts), 5)
+        self.assertEqual("\n".join(texts).count("* entry "), 5000)
+
+    def test_a_page_that_reads_nothing_gets_no_more(self):
+        """It is told the entries when it has room, and gets a picture after them."""
+        hall = self.hall()
+        page, idle = Page(hall), Page(hall, draws=False)
+        idle.came
+        idle.out.put("x" * (2 << 20))
+        page.ask(*["put 0 0 1 1"] * 3000)
+        self.assertTrue(idle.seat.is_behind)
+        self.assertLess(idle.out.size, (2 << 20) + 1000)
+        while idle.seat.is_behind:
+            self.assertTrue(idle.came)
+            idle.out.take()
+            hall.give(idle.seat)
+        self.assertEqual(idle.events("entry"), page.events("entry"))
+        self.assertEqual(idle.last()["journal"], 3000)
+
+    def test_a_large_script_comes_in_parts(self):
+        page = Page(self.hall())
+        page.ask(*["put 0 0 1 1", "wall 9 9 1 1"] * 8000)
+        slices = page.send("9 .script")
+        self.assertGreater(slices, 1)
+        parts = [data for _, _, data in page.files()]
+        self.assertGreater(len(parts), 1)
+        self.assertEqual(b"".join(parts).decode(), "size 64 64\n" + "put 0 0 1 1\nwall 9 9 1 1\n" * 8000)
+
+
+class Counts(Halls):
+    """Nothing that is counted ends a gas."""
+    def test_keys_of_probes(self):
+        hall = self.hall()
+        page = Page(hall)
+        for last in (2 ** 16 - 1, 100_000, 2 ** 32 + 4):
+            hall.laboratory.keys = last
+            self.assertEqual(page.ask(".watch 0 0 2 3"), [f"WATCH {last + 1}"])
+            self.assertEqual(page.last()["probes"][0][:5], ((last + 1) % 2 ** 32, 0, 0, 2, 3))
+            self.assertEqual(page.ask(f".unwatch {last + 1}"), ["DONE"])
+
+    def test_numbers_of_seats(self):
+        hall = self.hall()
+        first = Page(hall)
+        hall._count = count(100_000)
+        late = Page(hall)
+        self.assertEqual(late.ask(".play 1 60", "put 0 0 1 1"), ["DONE", "OK 0"])
+        self.assertEqual(late.last()["player"], 100_000)
+        self.assertEqual(first.events("entry"), ["* entry 0 100000 put 0 0 1 1"])
+        hall._number = 2 ** 32 + 7
+        self.assertEqual(late.ask(".pause"), ["DONE"])
+        self.assertEqual(late.last()["number"], 8)
+
+    def test_an_outbox_that_is_full_is_cut(self):
+        out, part = Outbox(), "x" * (1 << 20)
+        for _ in range(100):
+            out.put(part)
+        self.assertTrue(out.is_cut)
+        self.assertLessEqual(out.size, 16 << 20)
+
+
+class Lies(unittest.TestCase):
+    def told(self, ok, entry, line="put 00 0  1 1"):
+        """What is noted of one line whose reply is `ok` and whose entry is `entry`, or the complaint."""
+        sides = {"probe 63 0 1 1": b"PROBE 0 0 0\n", "probe 0 63 1 1": b"PROBE 0 0 0\n"}
+        known = {line: ok, "tally": b"TALLY 0 0 0 0\n", "entry 0": entry, **sides}
+        other = {"entry": b"ERR 9 entry\n", "probe": b"ERR 5 rect\n"}
+        with Fake(lambda it: known.get(it) or other[it.partition(" ")[0]]) as fake:
+            laboratory = Laboratory.joined("127.0.0.1", fake.port, 60, None)
+            try:
+                laboratory.replies(7, [line])
+                laboratory.read_on()
+                return laboratory.makers
+            except Strange as fault:
+                return str(fault)
+            finally:
+                laboratory.close()
+
+    def test_an_ok_is_compared_with_its_entry(self):
+        self.assertEqual(self.told(b"OK 0\n", b"ENTRY 3 put 0 0 1 1\n"), [7])
+        row = b"ENTRY 3 row 5 00000000000000ff\n"
+        self.assertEqual(self.told(b"OK 0\n", row, "row 05 00000000000000FF"), [7])
+        self.assertIn("and entry 0 is 'put 0 0 2 1'", self.told(b"OK 0\n", b"ENTRY 3 put 0 0 2 1\n"))
+        self.assertIn("OK 5 to a line that made no", self.told(b"OK 5\n", b"ENTRY 3 put 0 0 1 1\n"))
+
+
+class Rooms(unittest.TestCase):
+    def test_a_sweep_takes_what_nobody_uses(self):
+        """A folder that a living process holds stays, and so does what is no folder of ours."""
+        with room() as held, tempfile.TemporaryDirectory() as beside:
+            left, other = Path(place(), "gaslab-page-test-left"), Path(place(), "gaslab-page-test-link")
+            left.mkdir()
+            (left / "now.gas").write_bytes(b"x")
+            other.symlink_to(beside)
+            self.addCleanup(other.unlink)
+            found = sweep()
+            self.assertIn(str(left), found)
+            self.assertFalse(left.exists())
+            self.assertNotIn(held, found)
+            self.assertTrue(os.path.isdir(held) and os.path.isdir(beside))
+        self.assertFalse(os.path.exists(held))
 
 
 class Seats(Halls):

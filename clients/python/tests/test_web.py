@@ -14,7 +14,7 @@ from gaslab import Gone, Snapshot
 from gaslab.page.hall import Hall
 from gaslab.page.laboratory import Laboratory, Means
 from gaslab.page.one_file import one_file
-from gaslab.page.web import Web
+from gaslab.page.web import Web, names_of
 
 from .test_hall import decoded
 from .test_lab import ROOT, STAND_IN
@@ -157,6 +157,12 @@ class Safety(Served):
             self.assertEqual(await self.ask(watcher, line), "NO watch")
         self.assertEqual(await self.ask(page, "tally"), "TALLY 0 0 0 0")
 
+    async def test_browsers_leave_out_port_80(self):
+        self.assertEqual(names_of("127.0.0.1", 80),
+                         ["127.0.0.1:80", "127.0.0.1", "localhost:80", "localhost"])
+        self.assertEqual(names_of("::1", 80), ["[::1]:80", "[::1]"])
+        self.assertEqual(names_of("192.168.1.5", 8080), ["192.168.1.5:8080"])
+
     async def test_this_machine_alone(self):
         self.assertEqual(self.web.link("all").split("/")[2], f"127.0.0.1:{self.web.port}")
         for name in ("0.0.0.0", "::", "elsewhere.example", ""):
@@ -202,6 +208,35 @@ class Pages(Served):
         with self.assertRaises(Gone):
             await self.task
 
+    async def test_an_idle_page_hears_of_a_program_that_died(self):
+        page = await self.join()
+        self.assertEqual(await self.ask(page, "tally"), "TALLY 0 0 0 0")
+        self.web.hall.laboratory.lab._door._process.kill()
+        self.assertEqual(await asyncio.wait_for(self.end_of(page), 10), 1001)
+        with self.assertRaises(Gone):
+            await self.task
+
+    async def test_an_exception_that_nobody_expected(self):
+        """It ends the server, and not its clock alone."""
+        page = await self.join()
+
+        def beat():
+            raise KeyError("it")
+        self.web.hall.beat = beat
+        self.assertEqual(await self.end_of(page), 1001)
+        with self.assertRaises(KeyError):
+            await self.task
+
+    async def test_two_pages_that_change_at_a_time(self):
+        """The lines of one message have no other seat's changes between them."""
+        one, two = await self.join(), await self.join()
+        await one.send_str("\n".join(f"{k + 1} put 0 0 1 1" for k in range(400)))
+        await two.send_str("\n".join(f"{k + 1} erase 0 0 1 1" for k in range(400)))
+        self.assertIn(await self.reply(one, 400), ("OK 399", "OK 799"))
+        self.assertIn(await self.reply(two, 400), ("OK 399", "OK 799"))
+        words = [entry.command.split(" ")[0] for entry in self.web.hall.laboratory.lab.known]
+        self.assertEqual(sorted([words[:400], words[400:]]), [["erase"] * 400, ["put"] * 400])
+
     async def test_a_page_of_its_own(self):
         async with self.client.get(self.web.link("watch") + "gas.html") as answer:
             self.assertEqual(await answer.text(), one_file())
@@ -237,6 +272,23 @@ class TheCommand(unittest.TestCase):
             started.terminate()
             self.assertRegex(started.stderr.read(), "^NOT PROVED: no program to start: /nothing/there ")
             self.assertEqual(started.wait(60), 143)
+
+    def test_the_script_so_far_is_saved(self):
+        """A program that dies ends the command with a sentence that names the file."""
+        with tempfile.TemporaryDirectory() as folder:
+            words = [sys.executable, ROOT / "clients" / "python", "page", "--program", STAND_IN, "script.txt"]
+            Path(folder, "script.txt").write_text("size 128 64\nwall 0 9 64 1\nstep 2; step 3\n")
+            with subprocess.Popen(words, cwd=folder, stdout=subprocess.PIPE, stderr=subprocess.PIPE,
+                                  text=True) as started:
+                for _ in range(2):
+                    started.stdout.readline()
+                subprocess.run(["pkill", "-KILL", "-P", str(started.pid)], check=True)
+                said = started.stderr.read()
+                self.assertEqual(started.wait(60), 1)
+            saved, = Path(folder).glob("gaslab-*.txt")
+            self.assertRegex(said, "^gaslab page: the other side left .*; the script so far is in ")
+            self.assertIn(str(saved), said)
+            self.assertEqual(saved.read_text(), "size 128 64\nwall 0 9 64 1\nstep 5\n")
 
     def test_what_it_can_not_do(self):
         with tempfile.TemporaryDirectory() as room:
