@@ -20,9 +20,9 @@ Files = dict[str, Iterable[bytes]]
 MOST_LINES = {"all": 70_000, "watch": 512}
 """The most lines of one message that are done: a full journal and some more, or what a watcher may ask."""
 _LONGEST_NAME, _LONGEST_TITLE, _MOST_RATE = 24, 80, 60
-_SLICE = 0.008  # seconds after which a message gives others their turn, and what it changed is told
-_QUICK, _TOGETHER = 0.002, 32  # so many commands are sent at once while they take less than these seconds
-_MOST_REPLIES = 1 << 17  # signs of a slice
+_SLICE = 0.004  # seconds after which a message gives others their turn, and what it changed is told
+_QUICK, _TOGETHER = 0.001, 32  # so many commands are sent at once while they take less than these seconds
+_MOST_REPLIES = 1 << 16  # signs of a slice
 _MOST_TOLD = 1024  # entries that are told at once
 _PART = 1 << 20  # bytes of a file that are sent at once
 _RENAMED = 1.0  # seconds between two names of a seat

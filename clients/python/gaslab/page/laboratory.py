@@ -17,7 +17,7 @@ from .rooms import room
 
 _TRIES = 3  # looks at a gas that others change
 _MOST_AHEAD = 512  # entries that are asked for at once
-_PART = 1 << 17  # characters of a script that are made at once
+_PART = 1 << 15  # characters of a script that are made at once
 
 
 class Means(NamedTuple):
