@@ -20,8 +20,8 @@ Files = dict[str, Iterable[bytes]]
 MOST_LINES = {"all": 70_000, "watch": 512}
 """The most lines of one message that are done: a full journal and some more, or what a watcher may ask."""
 _LONGEST_NAME, _LONGEST_TITLE, _MOST_RATE = 24, 80, 60
-_SLICE = 0.004  # seconds after which a message gives others their turn, and what it changed is told
-_QUICK, _TOGETHER = 0.001, 32  # so many commands are sent at once while they take less than these seconds
+_SLICE, _TELL = 0.004, 0.025  # seconds until a message gives others their turn, and tells what it did
+_QUICK, _TOGETHER = 0.002, 64  # so many commands are sent at once while they take less than these seconds
 _MOST_REPLIES = 1 << 16  # signs of a slice
 _MOST_TOLD = 1024  # entries that are told at once
 _PART = 1 << 20  # bytes of a file that are sent at once
@@ -173,23 +173,26 @@ class Hall:
             seat.out.wake()
 
     def _lines(self, seat: Seat, message: str) -> Iterator[None]:
-        """Does lines until a slice is over, tells the entries that they made, then the replies."""
+        """Does lines slice by slice, and tells now and then the entries that they made and the replies."""
         if not _MESSAGE.fullmatch(message) or message.count("\n") >= MOST_LINES["all"]:
             raise NoMessage
         lines, replies, size = message.split("\n"), [], 0
-        most, began = MOST_LINES[seat.rights], time.monotonic()
+        most = MOST_LINES[seat.rights]
+        began = told = time.monotonic()
         for part in self._parts(lines[:most]):
             found = self._replies(seat, part)
             if isinstance(found, dict):
                 yield from self._send_files(seat, part[0][0], found)
                 found = ["DONE"]
             replies += [f"{number} {reply}" for (number, _), reply in zip(part, found) if reply]
-            size += sum(map(len, found))
-            if time.monotonic() - began > _SLICE or size > _MOST_REPLIES:
+            size, now = size + sum(map(len, found)), time.monotonic()
+            if now - told > _TELL or size > _MOST_REPLIES:
                 yield from self._reply(seat, replies)
                 self._show()
+                replies, size, told = [], 0, time.monotonic()
+            if now - began > _SLICE:
                 yield
-                replies, size, began = [], 0, time.monotonic()
+                began = time.monotonic()
         replies += [line.partition(" ")[0] + " NO lines" for line in lines[most:]]
         yield from self._reply(seat, replies)
 
@@ -223,7 +226,7 @@ class Hall:
         if self.laboratory.is_owed:
             self._change()
         is_quick = time.monotonic() - began < _QUICK
-        self._together = min(2 * self._together, _TOGETHER) if is_quick else max(1, self._together // 4)
+        self._together = min(2 * self._together, _TOGETHER) if is_quick else max(1, self._together // 2)
         return replies
 
     def _reply(self, seat: Seat, replies: list[str]) -> Iterator[None]:
