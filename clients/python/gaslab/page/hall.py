@@ -303,7 +303,7 @@ class Hall:
 
     def _script_parts(self, it: Laboratory) -> Iterator[bytes]:
         """A script with all entries. Parts without bytes let others have their turn."""
-        while not it.read_on():
+        while self._read_on() if it is self.laboratory else not it.read_on():
             yield b""
         yield from (part.encode() for part in it.script())
 
@@ -349,10 +349,14 @@ class Hall:
 
     def _bring(self, seat: Seat, words: list[str]) -> str:
         old, self._old = self._old, None
+        if not old:
+            return "NO old"
         try:
-            return self._take(old) if old and old.lab.tally() else "NO old"
+            old.lab.tally()
         except GaslabError:
+            old.close()
             return "NO program"
+        return self._take(old)
 
     def _upload(self, seat: Seat, data: bytes) -> str:
         try:

@@ -16,7 +16,7 @@ from .one_file import one_file, served_file
 from .outbox import ROOM, Outbox
 
 _LONGEST = {"all": 8 << 20, "watch": 1 << 20}  # bytes of a message; the longest snapshot has 6.3 million
-_MOST_PAGES = 256  # at a time
+_MOST_PAGES = 256  # that draw at a time, and that watch
 _PATIENCE = 3.0  # seconds that connections get to end
 _START = 20.0  # seconds that a program gets to start before it is left alone
 _SLOWEST = 10.0  # seconds that a page which changes the gas may take to read its replies
@@ -41,7 +41,7 @@ class Web:
         self.hall: Optional[Hall] = None
         self._make_hall, self.is_stuck = make_hall, False
         self._desk = ThreadPoolExecutor(1)  # its thread asks the laboratory, one job after the other
-        self._sockets: set[Any] = set()
+        self._sockets: dict[Any, str] = {}  # and the rights of each
 
     def link(self, rights: str) -> str:
         """The link of a seat."""
@@ -64,6 +64,7 @@ class Web:
             await asyncio.wait([clock, self._lost], return_when=asyncio.FIRST_COMPLETED)
             await (self._lost if self._lost.done() else clock)
         finally:
+            self._lost.cancel()  # nothing more is told, if nothing was
             if clock:
                 clock.cancel()
             await self._end(runner)
@@ -101,7 +102,7 @@ class Web:
             raise
 
     async def _end(self, runner: Any) -> None:
-        await asyncio.gather(*(_patient(socket.close(code=1001)) for socket in self._sockets))
+        await asyncio.gather(*(_patient(socket.close(code=1001)) for socket in [*self._sockets]))
         await _patient(runner.cleanup())
         closed = self._loop.run_in_executor(self._desk, self._close)
         self._desk.shutdown(wait=False)
@@ -149,18 +150,21 @@ class Web:
     async def _socket(self, request: Any) -> Any:
         if not self.hall or "Origin" not in request.headers:
             raise self.http.HTTPForbidden(text="This server answers its own pages alone.\n")
-        if len(self._sockets) >= _MOST_PAGES:
-            raise self.http.HTTPServiceUnavailable(text="There are too many pages.\n")
         rights = request["rights"]
+        if list(self._sockets.values()).count(rights) >= _MOST_PAGES:
+            raise self.http.HTTPServiceUnavailable(text="There are too many pages.\n")
         socket = self.http.WebSocketResponse(max_msg_size=_LONGEST[rights], heartbeat=30.0, compress=False)
-        self._sockets.add(socket)
+        self._sockets[socket] = rights
         page = None
         try:
             await socket.prepare(request)
             page = Page(self, socket)
             await page.run(rights)
+        except Exception:
+            if not self._lost.done():
+                raise
         finally:
-            self._sockets.discard(socket)
+            del self._sockets[socket]
             if page is None or not page.out.is_cut:
                 await _patient(socket.close(code=1001 if self._lost.done() else 1008))
             if request.transport and request.transport.get_write_buffer_size():
