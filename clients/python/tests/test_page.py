@@ -371,10 +371,11 @@ class Style(unittest.TestCase):
 
     def test_the_server_has_no_more_code(self):
         """Lines that are neither blank nor comment nor in a docstring."""
-        parts = [STATIC.parent / f"{it}.py" for it in ("hall", "web", "laboratory", "pictures")]
+        names = "hall", "web", "laboratory", "pictures", "outbox", "rooms"
+        parts = [STATIC.parent / f"{it}.py" for it in names]
         text = "".join(it.read_text("utf-8") for it in parts)
         bare = re.sub(r'^ *"""[\s\S]*?"""\n', "", text, flags=re.M)
-        self.assertLessEqual(len(re.findall(r"^ *[^\s#]", bare, re.M)), 500)
+        self.assertLessEqual(len(re.findall(r"^ *[^\s#]", bare, re.M)), 780)
 
     def test_lines_are_short(self):
         for path in (STATIC / "page.css", STATIC / "index.html"):
