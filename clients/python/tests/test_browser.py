@@ -45,7 +45,7 @@ class InABrowser(unittest.TestCase):
                 const socket = new WebSocket({json.dumps(server.links[1].replace('http', 'ws') + 'socket')});
                 socket.onopen = () => socket.send({json.dumps('1 .name ' + MARKUP)});
                 socket.onmessage = ({{ data }}) => {{
-                    if (/^1 /.test(data)) {{ socket.close(); done(0); }} }}; }})""")
+                    if (/^1 /m.test(data)) {{ socket.close(); done(0); }} }}; }})""")
             browser.value(f"laboratory.send([{json.dumps(MARKUP)}])")
             browser.wait("document.getElementById('log').textContent.includes('onerror=alert')", True)
             self.assertEqual(browser.value("document.querySelectorAll('img').length"), 0)
