@@ -1,6 +1,7 @@
 """The pages' server over HTTP and WebSockets, with aiohttp's client. It is skipped without aiohttp."""
 import asyncio
 import importlib.util
+import os
 import subprocess
 import sys
 import tempfile
@@ -289,6 +290,22 @@ class TheCommand(unittest.TestCase):
             self.assertRegex(said, "^gaslab page: the other side left .*; the script so far is in ")
             self.assertIn(str(saved), said)
             self.assertEqual(saved.read_text(), "size 128 64\nwall 0 9 64 1\nstep 5\n")
+
+    def test_a_fault_is_told_with_its_place(self):
+        """Here the clock divides by zero, a second after the start."""
+        code = ("import sys, time; from gaslab.page.hall import Hall; from gaslab.__main__ import main\n"
+                "beat, end = Hall.beat, time.monotonic() + 1\n"
+                "Hall.beat = lambda hall: beat(hall) if time.monotonic() < end else 1 // 0\n"
+                "sys.exit(main(sys.argv[1:]))")
+        with tempfile.TemporaryDirectory() as folder:
+            Path(folder, "script.txt").write_text("put 1 2 3 4\n")
+            done = subprocess.run([sys.executable, "-c", code, "page", "script.txt", "--program", STAND_IN],
+                                  cwd=folder, stdout=subprocess.PIPE, stderr=subprocess.PIPE, text=True,
+                                  env={**os.environ, "PYTHONPATH": str(ROOT / "clients/python")}, timeout=60)
+            self.assertRegex(done.stderr, "^gaslab page: a fault of this program, ZeroDivisionError in <lambda> "
+                             "of <string>:3: integer division .*; the script so far is in .*\n$")
+            saved, = Path(folder).glob("gaslab-*.txt")
+            self.assertEqual((done.returncode, saved.read_text()), (1, "size 64 64\nput 1 2 3 4\n"))
 
     def test_what_it_can_not_do(self):
         with tempfile.TemporaryDirectory() as room:
