@@ -302,8 +302,8 @@ class TheCommand(unittest.TestCase):
             done = subprocess.run([sys.executable, "-c", code, "page", "script.txt", "--program", STAND_IN],
                                   cwd=folder, stdout=subprocess.PIPE, stderr=subprocess.PIPE, text=True,
                                   env={**os.environ, "PYTHONPATH": str(ROOT / "clients/python")}, timeout=60)
-            self.assertRegex(done.stderr, "^gaslab page: a fault of this program, ZeroDivisionError in <lambda> "
-                             "of <string>:3: integer division .*; the script so far is in .*\n$")
+            self.assertRegex(done.stderr, "^gaslab page: a fault of this program, ZeroDivisionError in "
+                             "<lambda> of <string>:3: .*; the script so far is in .*\\n$")
             saved, = Path(folder).glob("gaslab-*.txt")
             self.assertEqual((done.returncode, saved.read_text()), (1, "size 64 64\nput 1 2 3 4\n"))
 
