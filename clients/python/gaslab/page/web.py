@@ -210,9 +210,17 @@ class Page:
                 if is_change:
                     await stack.enter_async_context(self.web._changing)
                 work = hall.said(seat, message.data)
-                while await self.web._do(next, work, self) is not self:
+                while await self._slice(seat, work):
                     await asyncio.wait_for(self._room(seat), _SLOWEST if is_change else None)
             self.web._wake.set()
+
+    async def _slice(self, seat: Seat, work: Any) -> bool:
+        """Does a slice. Who watches rests as long as it took, which leaves the others half of the time."""
+        began = time.monotonic()
+        is_more = await self.web._do(next, work, self) is not self
+        if seat.rights == "watch":
+            await asyncio.sleep(time.monotonic() - began)
+        return is_more
 
     async def _room(self, seat: Seat) -> None:
         """Waits until the page has taken what waited for it."""
