@@ -251,7 +251,8 @@ class Slices(Halls):
         self.assertGreater(slices, 1)
         parts = [data for _, _, data in page.files()]
         self.assertGreater(len(parts), 1)
-        self.assertEqual(b"".join(parts).decode(), "size 64 64\n" + "put 0 0 1 1\nwall 9 9 1 1\n" * 8000)
+        changes = "put 0 0 1 1\nwall 9 9 1 1\n" * 8000
+        self.assertEqual(b"".join(parts).decode(), f"probe 0 0 64 64\n{changes}tally\nledger\n")
 
 
 class Counts(Halls):

@@ -289,7 +289,7 @@ class TheCommand(unittest.TestCase):
             saved, = Path(folder).glob("gaslab-*.txt")
             self.assertRegex(said, "^gaslab page: the other side left .*; the script so far is in ")
             self.assertIn(str(saved), said)
-            self.assertEqual(saved.read_text(), "size 128 64\nwall 0 9 64 1\nstep 5\n")
+            self.assertEqual(saved.read_text(), "probe 0 0 128 64\nwall 0 9 64 1\nstep 5\ntally\nledger\n")
 
     def test_a_fault_is_told_with_its_place(self):
         """Here the clock divides by zero, a second after the start."""
@@ -305,7 +305,8 @@ class TheCommand(unittest.TestCase):
             self.assertRegex(done.stderr, "^gaslab page: a fault of this program, ZeroDivisionError in "
                              "<lambda> of <string>:3: .*; the script so far is in .*\\n$")
             saved, = Path(folder).glob("gaslab-*.txt")
-            self.assertEqual((done.returncode, saved.read_text()), (1, "size 64 64\nput 1 2 3 4\n"))
+            self.assertEqual(done.returncode, 1)
+            self.assertEqual(saved.read_text(), "probe 0 0 64 64\nput 1 2 3 4\ntally\nledger\n")
 
     def test_what_it_can_not_do(self):
         with tempfile.TemporaryDirectory() as room:

@@ -155,12 +155,11 @@ class Laboratory:
         return self.lab.look(tries=_TRIES)
 
     def script(self) -> Iterator[str]:
-        """The entries that were read so far as a script, in parts: its size first, and steps joined."""
-        note = "This began from a snapshot: gaslab-client draw gas.txt --load start.gas" if self.start else ""
+        """The entries that were read so far as a script, in parts, with steps joined."""
         known = self.lab.known
         commands = (known[k].command for k in range(len(known)))
         part, size = [], 0
-        for line in journal_lines(self.lab.size, commands, note):
+        for line in journal_lines(self.lab.size, commands, self.start is not None):
             part.append(line)
             size += len(line)
             if size > _PART:

@@ -59,7 +59,8 @@ def journal_script(size: tuple[int, int], commands: Iterable[str], is_after_snap
     return "".join(journal_lines(size, commands, is_after_snapshot))
 
 
-def journal_lines(size: tuple[int, int], commands: Iterable[str], is_after_snapshot: bool = False) -> Iterator[str]:
+def journal_lines(size: tuple[int, int], commands: Iterable[str],
+                  is_after_snapshot: bool = False) -> Iterator[str]:
     """The lines of that script, with their newlines."""
     last = "ledger" if is_after_snapshot else "probe 0 0 {} {}".format(*size)
     for command in commands:
