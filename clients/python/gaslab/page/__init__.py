@@ -1,1 +1,1 @@
-"""The page of `watch --page`."""
+"""The page: what `gaslab-client page` serves, and the one file that it writes."""
