@@ -70,7 +70,7 @@ stage() {
         mkdir -p "$to/lib" "$to/docs" &&
         cp "$here/gaslab" "$here/gaslab.html" "$here/CHANGELOG.md" "$to/" &&
         cp "$parts/sources.sh" "$parts/run.sh" "$parts/help.sh" "$parts/install.sh" "$to/lib/" &&
-        cp "$here/docs/FORMATS.md" "$here/docs/CLASS.md" "$here/docs/GAS.md" "$to/docs/" &&
+        cp "$here/docs/FORMATS.md" "$here/docs/CLASS.md" "$here/docs/TEACH.md" "$here/docs/GAS.md" "$to/docs/" &&
         cp "$here/docs/PACKAGE.md" "$to/README.md" &&
         cp -RL "$here/examples" "$to/" &&
         copy_client "$to" &&
