@@ -4,7 +4,7 @@
 import { readFileSync } from "node:fs";
 
 const { engine, cases } = JSON.parse(readFileSync(0, "utf8"));
-const { Gas, Lab, snapshot, fromSnapshot } = new Function(`${engine}return module_engine;`)();
+const { Gas, Lab, snapshot, fromSnapshot } = new Function(`${engine}return { ...module_gas, ...module_engine };`)();
 
 const labs = [];
 const replies = cases.map(([width, height, sessions, from]) => {

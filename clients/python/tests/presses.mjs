@@ -5,7 +5,7 @@ import { readFileSync } from "node:fs";
 
 const MOST = 5; // buttons, one after the other
 const { engine, cases } = JSON.parse(readFileSync(0, "utf8"));
-const { Gas, Lab, snapshot, fromSnapshot, linesOf } = new Function(`${engine}return module_engine;`)();
+const { Gas, Lab, snapshot, fromSnapshot, linesOf } = new Function(`${engine}return { ...module_gas, ...module_engine };`)();
 
 function begun({ size, setup }) {
   const lab = new Lab(new Gas(...size));

@@ -7,7 +7,7 @@ import { readFileSync } from "node:fs";
 const { engine, cases } = JSON.parse(readFileSync(0, "utf8"));
 let due = null;
 const clock = [(act) => { due = act; return 1; }, () => { due = null; }, { now: () => 0 }];
-const { replays } = new Function("setTimeout", "clearTimeout", "performance", `${engine}return module_engine;`)(...clock);
+const { replays } = new Function("setTimeout", "clearTimeout", "performance", `${engine}return { ...module_gas, ...module_engine };`)(...clock);
 
 function session(parts) {
   const told = [], port = { postMessage: (message) => told.push(message) };

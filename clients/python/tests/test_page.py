@@ -6,8 +6,9 @@ import shutil
 import subprocess
 import time
 import unittest
+from unittest import mock
 
-from gaslab.page.one_file import MOST, STATIC, bundle, one_file
+from gaslab.page.one_file import MOST, STATIC, bundle, one_file, read
 
 from .firefox import FIREFOX, Firefox
 from .page_case import CALLOUT, LESSON, READY, PageCase
@@ -363,11 +364,18 @@ class Style(unittest.TestCase):
                                env={**os.environ, "NODE_PATH": "/usr/share/nodejs"}, stdout=subprocess.PIPE)
         self.assertEqual((found.stdout, found.returncode), ("", 0))
 
-    def test_there_are_no_more_lines(self):
-        """See docs/DECISIONS.md. Where more are needed, some can go first."""
-        paths = [it for it in STATIC.iterdir() if it.suffix in (".js", ".css", ".html")]
-        ours = [it.read_text("utf-8") for it in paths if not it.name.startswith("dygraph")]
-        self.assertLessEqual(sum(len(it.splitlines()) for it in ours), 3510)
+    def test_each_module_is_short(self):
+        """See docs/DECISIONS.md: one subject each, at most 250 lines."""
+        for path in STATIC.glob("*.js"):
+            if not path.name.startswith("dygraph"):
+                self.assertLessEqual(len(path.read_text("utf-8").splitlines()), 250, path.name)
+
+    def test_painting_reads_no_form(self):
+        """What is painted comes from the gas and from the page's state. `at` finds elements."""
+        for name in ("cells", "painter", "viewport", "view"):
+            text = read(f"{name}.js")
+            self.assertLessEqual(set(re.findall(r"(?<![.\w])at\((\".*?\")\)", text)), {'"gas"'}, name)
+            self.assertNotRegex(text, r"\.(checked|value)\b|querySelector|getElementById", name)
 
     def test_the_server_has_no_more_code(self):
         """Lines that are neither blank nor comment nor in a docstring."""
@@ -415,3 +423,14 @@ class Bundle(unittest.TestCase):
             text = bundle(entry)
             self.assertEqual(text.count("const module_frame = "), 1)
             self.assertNotRegex(text, r"(?m)^(import|export)\b")
+
+    def test_modules_that_import_each_other_are_refused(self):
+        """In the page there are none: its bundle is made. Here gas.js imports engine.js, which imports it."""
+        text, gas = read("gas.js"), 'import { Lab } from "./engine.js";\n'
+
+        def changed(name):
+            return gas + text if name == "gas.js" else read(name)
+
+        with mock.patch("gaslab.page.one_file.read", changed):
+            with self.assertRaisesRegex(ValueError, "import each other: engine.js gas.js engine.js"):
+                bundle("engine")

@@ -1,7 +1,10 @@
 // The plots: values of each picture by tick, kept in runs, and drawn by dygraphs.
-import { COLOURS, CURVES, PLOTS, SANS, at, fill, h, say, setText, toolOf } from "./base.js";
+import { COLOURS, CURVES, PLOTS, toolOf } from "./facts.js";
+import { say } from "./wording.js";
+import { SANS, at, fill, h, setText } from "./elements.js";
 import { LEDGER } from "./frame.js";
-import { parts, countSquares } from "./canvas.js";
+import { countSquares } from "./cells.js";
+import { parts } from "./painter.js";
 
 const WINDOW = 20;         // ticks over which a rate is a mean
 const POINTS = 1500;       // points of a plot before every second one is dropped

@@ -1,11 +1,16 @@
 // The page's seat at a server.
-import { EMPTY, SPEEDS, isRefusal, otherLesson, plainWords, state } from "./base.js";
+import { EMPTY, SPEEDS } from "./facts.js";
+import { isRefusal, plainWords } from "./wording.js";
+import { otherLesson } from "./lessons.js";
+import { state } from "./state.js";
 import { decode, joined } from "./frame.js";
-import { around, cover, view } from "./canvas.js";
+import { squareOf } from "./cells.js";
+import { view } from "./view.js";
 import { plots } from "./plots.js";
-import { notice, hideNotice, banner, hideBanner, speak, note, exchanges, entryOf } from "./notices.js";
-import { saveFile, savePicture, snapshotOf } from "./files.js";
-import { Lab, fromSnapshot, hexOf } from "./engine.js";
+import { banner, hideBanner, hideNotice, notice, speak } from "./notices.js";
+import { entryOf, exchanges, note } from "./log.js";
+import { saveFile, savePicture } from "./files.js";
+import { edits } from "./edits.js";
 
 // ---- messages over a WebSocket or to a worker: lines get numbers, and replies are paired with them
 const EVENTS = ["hello", "links", "open", "seat", "entry", "pause"];
@@ -107,126 +112,6 @@ class Link {
   }
 }
 
-// ---- edits that can be undone: one list of all, newest last. What can't be undone stays in it and says why
-const MOST = 100, CELLS = ["particles"], SOLIDS = ["walls", "obstacles"];
-/** The planes that a command can change. Others change ports. */
-const CHANGES = { put: CELLS, erase: CELLS, row: CELLS, wall: SOLIDS, block: SOLIDS, unwall: SOLIDS };
-const textOf = (word) => (rect) => `${word} ${rect.join(" ")}`;
-
-class Edits {
-  list = [];
-  open = null;             // the edit whose lines still come
-  made = null;             // the gas after the last line, made when it is first needed
-  isMoving = false;        // steps come between the lines
-  depth = 0;               // of sends: lines that are sent together are one edit
-  isOff = false;           // what comes is no edit
-  changed = () => {};      // called when the list changes
-
-  clear() {
-    Object.assign(this, { list: [], open: null, made: null });
-    this.changed();
-  }
-
-  picture({ playing }) { Object.assign(this, { isMoving: playing, made: null }); }
-
-  get lab() { return this.made ??= new Lab(fromSnapshot(snapshotOf(view))); }
-  get gas() { return this.lab.gas; }
-
-  /** Keeps of the planes before the edit only the rows that it can have changed. */
-  close() {
-    const { open } = this;
-    this.open = null;
-    if (!open?.rect) return;
-    const { gas: { words, particles } } = this, [, y, , h] = open.rect;
-    const cut = (set) => set.slice(y * words, (y + h) * words);
-    for (const [name, it] of Object.entries(open.before)) if (name !== "ports") open.before[name] = cut(it);
-    open.after = cut(particles);
-  }
-
-  /** An entry of the journal. `by` is the seat if it is another one, and else null. */
-  entry(line, by) {
-    const [word, ...words] = line.split(" "), isEdit = !(this.isOff || state.loading);
-    if (!view.picture) return;
-    if (word === "step" || word === "back") {
-      this.isMoving = true;
-      if (this.open) this.open.hasMoved = true;
-      return;
-    }
-    if (isEdit) this.note(word, words.map(Number), line, by);
-    this.lab.line(0, line);
-    if (this.depth === 0 || by !== null) this.close();
-    if (isEdit) this.changed();
-  }
-
-  note(word, numbers, line, by) {
-    const { gas } = this, { drains, sources, tick, width } = gas;
-    if (!this.open) {
-      this.open = { lines: [], by, rect: null, tick, hasMoved: this.isMoving, before: {} };
-      this.list = [...this.list, this.open].slice(-MOST);
-    }
-    const { open, open: { before } } = this;
-    open.lines.push(line);
-    for (const name of CHANGES[word] ?? []) before[name] ??= gas[name].slice();
-    if (!CHANGES[word]) before.ports ??= { drains, sources };
-    else open.rect = around(word === "row" ? [0, numbers[0], width, 1] : numbers, open.rect);
-  }
-
-  label() {
-    const lines = this.list.at(-1)?.lines ?? [""], n = lines.length;
-    return n > 1 ? `${lines.at(-1).slice(0, 30)} and ${n - 1} more` : lines[0].slice(0, 40);
-  }
-
-  /** What undoes the last edit: { lines }, with a note if the particles stay, or { why } if it can't. */
-  plan() {
-    const last = this.list.at(-1);
-    if (!last) return { why: "There is nothing to undo." };
-    if (last.by !== null)
-      return { why: `Seat ${last.by} made the last change: ${this.label()}. Undo stops at it.` };
-    const { gas } = this, { before, rect } = last;
-    const lines = [...before.ports ? this.portLines(last) : [], ...before.walls ? this.solidLines(last) : []];
-    if (!before.particles) return { lines };
-    const isSame = !last.hasMoved && !this.isMoving && gas.tick === last.tick
-      && last.after.every((v, k) => v === gas.particles[rect[1] * gas.words + k]);
-    if (isSame) return { lines: [...lines, ...this.cellLines(last)] };
-    if (lines.length) return { lines, note: "The particles stay as they are: they have moved on." };
-    return { why: `${this.label()} can't be undone: its particles have moved on. Undo stops at it.` };
-  }
-
-  portLines({ before: { ports } }) {
-    return [...this.gas.hasPorts ? ["unport"] : [], ...ports.drains.map(textOf("drain")),
-      ...ports.sources.map(textOf("source"))];
-  }
-
-  /** Tests of whether a cell of a plane is full now, and was before an edit. */
-  tests(name, { rect, before }) {
-    const { gas } = this;
-    return [(x, y) => gas.has(x, y, gas[name]), (x, y) => gas.has(x, y - rect[1], before[name])];
-  }
-
-  solidLines(edit) {
-    const { rect } = edit, lines = (word, test) => cover(rect, test).map(textOf(word));
-    const [hasWall, hadWall] = this.tests("walls", edit);
-    const [hasBlock, hadBlock] = this.tests("obstacles", edit);
-    const isGone = (x, y) => hasWall(x, y) && !hadWall(x, y) || hasBlock(x, y) && !hadBlock(x, y);
-    const isLost = (has, had) => (x, y) => had(x, y) && (!has(x, y) || isGone(x, y));
-    return [...lines("unwall", isGone), ...lines("wall", isLost(hasWall, hadWall)),
-      ...lines("block", isLost(hasBlock, hadBlock))];
-  }
-
-  /** Rectangles, or whole rows where these are fewer. */
-  cellLines(edit) {
-    const { rect, before: { particles } } = edit, { words } = this.gas;
-    const [has, had] = this.tests("particles", edit);
-    const least = [...cover(rect, (x, y) => has(x, y) && !had(x, y)).map(textOf("erase")),
-      ...cover(rect, (x, y) => had(x, y) && !has(x, y)).map(textOf("put"))];
-    if (least.length <= rect[3]) return least;
-    return Array.from({ length: rect[3] }, (_, k) =>
-      `row ${rect[1] + k} ${hexOf(particles.subarray(k * words, (k + 1) * words))}`);
-  }
-}
-
-export const edits = new Edits();
-
 // ---- the page's seat at a server: joins, sends lines, takes events and pictures in
 let isJoining = false, keepsPlots = false;
 const seen = { since: performance.now(), drawn: 0, made: 0, number: 0, tick: 0 };
@@ -279,6 +164,7 @@ const events = {
     seen.made += seen.number && p.playing ? Math.max(1, p.number - seen.number) : 1;
     seen.number = p.number;
     edits.picture(p);
+    if (isResized) state.change({ square: squareOf(p) });
     if (state.playing && !p.playing) speak(`Paused at tick ${p.tick}.`);
     if (speed >= 0 && speed !== state.speed) state.change({ speed });
     state.change({ picture: p, acted: hasPorts ? p.tick : state.acted, least: Math.min(state.least, p.tick),
@@ -352,10 +238,6 @@ async function goOn({ lines = [], wasPlaying = false }) {
   keepsPlots = false;
   if (!isRefusal(reply)) await send([...lines, ...wasPlaying ? [playLine()] : []]);
 }
-
-const fault = (what) => banner(`This page has a fault: ${what}. Load it again.`, [], true);
-addEventListener("error", ({ message }) => fault(message));
-addEventListener("unhandledrejection", ({ reason }) => fault(reason));
 
 /** Pauses, and waits for the picture that stays. */
 export async function pause() {

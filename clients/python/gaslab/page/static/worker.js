@@ -1,6 +1,7 @@
 // The server of a page without a network, in a worker: seats, play and pictures over the engine.
-import { isSide, NOBODY, UNDRAWN, PROBES } from "./frame.js";
-import { Gas, Lab, LONGEST, toBytes, snapshot, fromSnapshot } from "./engine.js";
+import { NOBODY, PROBES, UNDRAWN, isSide } from "./frame.js";
+import { Gas, toBytes } from "./gas.js";
+import { LONGEST, Lab, fromSnapshot, snapshot } from "./engine.js";
 
 const CAP = 65536, IDLE = { seat: NOBODY, steps: 0, rate: 0 };
 const pages = new Map();   // of each seat

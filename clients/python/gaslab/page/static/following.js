@@ -1,0 +1,58 @@
+// Following a particle.
+import { state } from "./state.js";
+import { toBytes } from "./gas.js";
+import { Lab, fromSnapshot } from "./engine.js";
+import { view } from "./view.js";
+import { notice } from "./notices.js";
+import { snapshotOf } from "./files.js";
+
+const FARTHEST = 256;           // steps between two pictures over which a particle is followed
+const TRAIL = 500;         // cells
+
+let followed = null;       // a snapshot of the gas in which a trail ends
+
+/** Marks a particle's cells up to the present one. */
+function mark(trail) {
+  view.trail = trail.slice(-TRAIL);
+  followed = trail.length ? snapshotOf(view) : null;
+}
+
+/** Follows the particle of a cell, or none if the cell is empty. */
+export function followAt([x, y]) {
+  mark(view.has(x, y) ? [[x, y]] : []);
+  view.redraw();
+  if (!followed)
+    notice({ title: "None to follow", text: `There is no particle in ${x} ${y}.`, rect: [x, y, 1, 1] });
+}
+
+/** The cell after a step, or before one. Of two that meet head on each turns to its right. */
+function nextCell(gas, [x, y], isBack) {
+  const { width, height } = gas, t = isBack ? gas.tick - 1 : gas.tick, [u, v] = [(x + t) & 1, (y + t) & 1];
+  const cell = (i, j) => [(x - u + i + width) % width, (y - v + j + height) % height];
+  const fate = view.fate(...cell(0, 0), gas);
+  if (fate === "bounces") return [x, y];
+  if (fate === "passes") return cell(1 - u, 1 - v);
+  return (u === v) !== isBack ? cell(u, 1 - v) : cell(1 - u, v);
+}
+
+function lose(text) {
+  followed = null;
+  notice({ title: "No longer followed", text });
+}
+
+function followOn() {
+  const lab = new Lab(fromSnapshot(followed)), { gas } = lab, { picture } = view, trail = [...view.trail];
+  const n = picture.tick - gas.tick, isBack = n < 0;
+  if (gas.width !== picture.width || gas.height !== picture.height) { mark([]); return; }
+  if (Math.abs(n) > FARTHEST) { lose(`Its way is lost: ${Math.abs(n)} steps were made at once.`); return; }
+  while (gas.tick !== picture.tick) {
+    trail.push(nextCell(gas, trail.at(-1), isBack));
+    if (isBack) lab.back(); else lab.forward();
+    if (!gas.has(...trail.at(-1))) { lose("It was drained."); return; }
+  }
+  const isSame = n === 0 || toBytes(gas.particles).every((byte, k) => byte === picture.particles[k]);
+  if (isSame && view.has(...trail.at(-1))) mark(trail);
+  else lose("Its way is lost: the gas was changed.");
+}
+
+state.on(["picture"], () => { if (followed && state.picture) followOn(); });

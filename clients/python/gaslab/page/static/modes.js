@@ -1,0 +1,56 @@
+// What is shown: particles, velocities or density, zoom, and the key of colours.
+import { COLOURS, WAYS, ZOOM } from "./facts.js";
+import { at, choose, fill, h, rove } from "./elements.js";
+import { state } from "./state.js";
+import { view } from "./view.js";
+import { plots } from "./plots.js";
+
+const modes = [...at("modes").children];
+
+function showMode() {
+  choose(modes, ({ id }) => id === state.mode, "aria-checked");
+  at("density-box").hidden = state.mode !== "density";
+  view.redraw();
+}
+
+/** What the colours mean. It says nothing that isn't drawn. */
+function showKey() {
+  const { mode } = state, hasArrows = view.scale >= ZOOM.arrows;
+  const isNear = view.scale >= ZOOM.grid && mode !== "density";
+  const [low, high] = view.shades.map((share) => `${Math.round(share * 100)} %`);
+  const entry = (look, text) => h("span", h("i", { style: look }), text);
+  const name = [mode, isNear, hasArrows, low, high].join();
+  if (at("key").dataset.name === name) return;
+  const marks = [h("span", h("i.ring"), "collides next"), h("span", h("i.ring.dashed"), "bounces")];
+  at("key").dataset.name = name;
+  if (mode === "density") fill(at("key"), h("span", low), h("span.ramp"), h("span", high));
+  else if (mode === "velocity" && !hasArrows) fill(at("key"),
+    WAYS.map(([arrow, colour]) => entry(`background:${COLOURS[colour]}`, arrow)), isNear && marks);
+  else fill(at("key"), isNear ? marks
+    : entry("background:var(--hit);outline:var(--strong)", "particle on a wall"));
+}
+
+for (const button of modes) button.onclick = () => state.change({ mode: button.id });
+rove(at("modes"), modes, true);
+for (const id of ["square", "range", "mean"]) at(id).onchange = () => state.change({
+  square: Number(at("square").value), range: at("range").value, isMean: at("mean").checked });
+at("zoom-in").onclick = () => view.zoom(1.5);
+at("zoom-out").onclick = () => view.zoom(1 / 1.5);
+at("zoom-fit").onclick = () => view.fit();
+state.on(["mode"], showMode);
+state.on(["lesson"], () => {
+  const { range = "full", mean = false } = state.lesson;
+  state.change({ range, isMean: mean });
+});
+state.on(["square", "range", "isMean"], () => {
+  at("square").value = state.square;
+  at("range").value = state.range;
+  at("mean").checked = state.isMean;
+  view.redraw();
+});
+view.onDraw = showKey;
+new ResizeObserver(() => {
+  if (view.picture && view.fitted) view.fit(view.fitted === true ? null : view.fitted);
+  view.redraw();
+  plots.resize();
+}).observe(at("mat"));

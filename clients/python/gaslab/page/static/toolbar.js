@@ -1,0 +1,66 @@
+// The toolbar, and the line of words below the gas.
+import { ALWAYS, CHOICES, ICONS, SHARES, TOOLS, toolOf } from "./facts.js";
+import { at, button, choices, choose, fill, h, icon, rove } from "./elements.js";
+import { state } from "./state.js";
+import { view } from "./view.js";
+import { edits } from "./edits.js";
+import { act, hasShapes, options, undo } from "./drawing.js";
+
+const undoButton = h("button.parted", { onclick: undo }, icon(ICONS.undo), h("span", "Undo"));
+const buttons = [...TOOLS.map(({ id, name, hint, key, gap, icon: shapes }) =>
+  h(gap ? "button.parted" : "button",
+    { "data-tool": id, title: `${hint} (${key})`, onclick: () => state.change({ tool: id }) },
+    icon(shapes), h("span", name))), undoButton];
+
+/** Says something below the gas, or what is to be done there. */
+export function showWords(...children) {
+  const { task } = state.tried ? {} : state.lesson, { name, hint } = toolOf(state.tool);
+  at("said").classList.toggle("task", Boolean(task && !children.length));
+  fill(at("said"), children.length ? children : task ?? [h("b", `${name}.`), ` ${hint}`]);
+}
+
+function share([name, min, text]) {
+  const shown = h("span.value", `${options[name]}%`);
+  const oninput = ({ target }) => {
+    options[name] = target.valueAsNumber;
+    shown.textContent = `${target.value}%`;
+  };
+  return h("label", text,
+    h("input", { type: "range", min, max: "100", step: "5", value: options[name], oninput }), shown);
+}
+
+export const lastCell = () => [view.picture.width - 1, view.picture.height - 1];
+
+function showOptions() {
+  const tool = toolOf(state.tool), set = (name) => (value) => { options[name] = value; };
+  const choice = (name) => choices(...CHOICES[name], options[name], set(name));
+  const oninput = ({ target }) => { options.period = target.valueAsNumber || 1; };
+  const period = h("input", { type: "number", min: "1", max: "65535", value: options.period, oninput });
+  fill(at("options"), hasShapes(tool) && choice("shape"), tool.line && !tool.cell && choice("snap"),
+    tool.id === "source" && h("label", "every ", period, " ticks"), tool.id === "shoot" && choice("way"),
+    tool.id === "random" && [...SHARES.map(share), button("Fill all", () => act([[0, 0], lastCell()]))]);
+  at("options").hidden = !at("options").childElementCount;
+}
+
+function showTool() {
+  document.body.dataset.tool = state.tool;
+  choose(buttons, ({ dataset }) => dataset.tool === state.tool, "aria-pressed");
+  undoButton.ariaPressed = null;
+  showOptions();
+  showHint();
+}
+
+function showHint() {
+  view.redraw();
+  showWords();
+}
+
+edits.changed = () => {
+  undoButton.ariaDisabled = edits.list.length === 0;
+  undoButton.title = `Undo ${edits.label() || "the last edit"} (${ALWAYS.undo.shown})`;
+};
+
+at("tools").append(...buttons);
+rove(at("tools"), buttons);
+state.on(["tool"], showTool);
+state.on(["lesson", "tried"], showHint);
