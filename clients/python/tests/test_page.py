@@ -15,22 +15,29 @@ from .page_case import CALLOUT, LESSON, READY, PageCase
 from .test_lab import ROOT
 from .test_page_engine import run_second, second
 
-_BRIGHT = """(async () => {
-  const v = laboratory.view, { width: w, height: h } = v.picture, seen = [], began = performance.now();
-  const part = (c) => (c /= 255) <= .04045 ? c / 12.92 : ((c + .055) / 1.055) ** 2.4;
-  const bright = (d, k) => .2126 * part(d[k]) + .7152 * part(d[k + 1]) + .0722 * part(d[k + 2]);
-  for (let last = -1; seen.length < 21 && performance.now() - began < 30000;) {
+# How bright each pixel is that is seen, in 21 pictures that follow one another: [how many pictures, pixels
+# that flash, pixels that change, pictures that were skipped]. A flash is two changes by a tenth, to and fro.
+_FLASHES = """(async () => {
+  const { view: { canvas: { width, height }, canvas }, lab } = laboratory;
+  const seen = [], began = performance.now();
+  const own = Object.assign(document.createElement("canvas"), { width, height });
+  const c = own.getContext("2d", { willReadFrequently: true });
+  const part = Float32Array.from({ length: 256 }, (_, v) => (v /= 255) <= .04045 ? v / 12.92
+    : ((v + .055) / 1.055) ** 2.4);
+  for (let last = lab.shown.number; seen.length < 21 && performance.now() - began < 30000;) {
     await new Promise(requestAnimationFrame);
-    if (v.picture.number === last) continue;
-    last = v.picture.number;
-    const all = Float32Array.from({ length: w * h }, (_, k) => bright(v.full.image.data, 4 * k));
-    seen.push([performance.now(), all, last]);
+    if (lab.shown.number === last) continue;
+    last = lab.shown.number;
+    c.drawImage(canvas, 0, 0);
+    seen.push([performance.now(), c.getImageData(0, 0, width, height).data, last]);
   }
+  const bright = (d, k) => .2126 * part[d[4 * k]] + .7152 * part[d[4 * k + 1]] + .0722 * part[d[4 * k + 2]];
   let flashing = 0, changing = 0;
-  for (let k = 0; k < w * h; k++) {
-    let low = seen[0][1][k], high = low;
-    const turns = [];                               // a flash is a pair of changes by a tenth, there and back
-    for (const [at, { [k]: now }] of seen) {
+  for (let k = 0; k < width * height; k++) {
+    let low = bright(seen[0][1], k), high = low;
+    const turns = [];
+    for (const [at, data] of seen) {
+      const now = bright(data, k);
       low = Math.min(low, now); high = Math.max(high, now);
       if (high - low >= .1) { turns.push(at); low = high = now; }
     }
@@ -39,6 +46,22 @@ _BRIGHT = """(async () => {
   }
   return [seen.length, flashing, changing, seen.at(-1)[2] - seen[0][2] - seen.length + 1];
 })()"""
+# Pixels of what is seen that are another colour after a second, and after one more
+_MOVES = """(async () => {
+  const { canvas: { width, height }, canvas } = laboratory.view, seen = [];
+  const own = Object.assign(document.createElement("canvas"), { width, height });
+  const c = own.getContext("2d", { willReadFrequently: true });
+  for (let k = 0; k < 3; k++) {
+    if (k) await new Promise((done) => setTimeout(done, 1000));
+    await new Promise(requestAnimationFrame);
+    c.drawImage(canvas, 0, 0);
+    seen.push(new Uint32Array(c.getImageData(0, 0, width, height).data.buffer));
+  }
+  const far = (a, b) => [0, 8, 16].some((s) => Math.abs((a >> s & 255) - (b >> s & 255)) > 40);
+  return [1, 2].map((k) => seen[k].filter((v, n) => far(v, seen[k - 1][n])).length);
+})()"""
+_MODES = ("particles", "velocity", "density")
+_AREA = 341 * 256 // 4  # pixels that may flash: a quarter of ten degrees of sight, as WCAG 2.3.1 has it
 _PARTICLES = """(() => {
   const { width: w, height: h } = laboratory.view.picture;
   const d = laboratory.view.full.canvas.getContext("2d").getImageData(0, 0, w, h).data;
@@ -70,6 +93,7 @@ class Main:
         self.draw("wall", (30, 24), (31, 40))
         self.send(".pause")
         self.browser.wait("laboratory.lab.picture.playing", False)
+        self.send("step 1")                      # a pause shows a mean until then
         self.value("new Promise((done) => requestAnimationFrame(() => requestAnimationFrame(() => done(0))))")
         rows, ledger = (self.value(f"laboratory.lab.link.send({json.dumps(it)})") for it in
                         ([f"read {y}" for y in range(64)], ["ledger"]))
@@ -266,25 +290,74 @@ class OneFile(Main, PageCase):
 
     def test_the_stream_does_not_flash(self):
         """From tick 110 on: the front is through the tunnel at 70, and a mean holds nothing 20 ticks old.
-        If the machine is too slow for each picture, cells change, but they don't flash."""
+        The followed particles alone move, on far fewer pixels than may flash. If the machine is too slow for
+        each picture, cells change, but they don't flash."""
         self.open()
         self.run_to(110)
-        pictures, flashing, changing, skipped = self.value(_BRIGHT)
-        self.assertEqual((pictures, flashing), (21, 0))
+        pictures, flashing, changing, skipped = self.value(_FLASHES)
+        self.assertEqual(pictures, 21)
+        self.assertLess(flashing, _AREA / 10)
         if not skipped:
-            self.assertEqual(changing, 0)
+            self.assertLess(changing, 2 * _AREA)
         self.assertTrue(self.value("laboratory.view.isCalm"))
         self.value("laboratory.view.remember = function (p) { this.recent = [p]; this.isCalm = false; }")
-        self.assertGreater(self.value(_BRIGHT)[2], 500, "single ticks change, so the count counts")
+        self.assertGreater(self.value(_FLASHES)[2], 4 * _AREA, "single ticks change, so the count counts")
+
+    def test_the_stream_does_not_flash_at_any_speed_or_in_any_mode(self):
+        self.open()
+        self.run_to(110)
+        for mode in _MODES:
+            self.value(f"laboratory.lab.change({{ mode: '{mode}' }})")
+            for steps, rate in ((1, 10), (1, 30), (2, 60)):
+                self.send(f".play {steps} {rate}")
+                self.run_to(self.tick() + 16)
+                pictures, flashing, _, _ = self.value(_FLASHES)
+                self.assertEqual(pictures, 21)
+                self.assertLess(flashing, _AREA / 10, (mode, steps, rate))
 
     def test_a_stream_with_skipped_pictures_does_not_flash(self):
         self.open()
         self.run_to(110)
         self.browser.slow_down(8)
         self.addCleanup(self.browser.slow_down, 1)
-        pictures, flashing, _, skipped = self.value(_BRIGHT)
-        self.assertEqual((pictures, flashing), (21, 0))
+        pictures, flashing, _, skipped = self.value(_FLASHES)
+        self.assertEqual(pictures, 21)
+        self.assertLess(flashing, _AREA / 10)
         self.assertGreater(skipped, 0, "it was slow enough")
+
+    def test_the_stream_is_seen_to_move_at_every_speed(self):
+        """Its period is 4 ticks, and at 20 steps a second or 60 a second is a multiple of that."""
+        self.open()
+        self.run_to(110)
+        for mode in _MODES:
+            self.value(f"laboratory.lab.change({{ mode: '{mode}' }})")
+            for steps, rate in ((1, 1), (1, 5), (1, 10), (1, 20), (1, 30), (1, 60), (2, 60)):
+                self.send(f".play {steps} {rate}")
+                time.sleep(.5)
+                self.assertGreater(min(self.value(_MOVES)), 300, (mode, steps, rate))
+
+    def test_pause_shows_the_same_kind_of_picture_until_a_step(self):
+        """The key says of how many pictures it is the mean, and a pause shows the last that played. If the
+        machine is too slow for that one, it is still a mean: most of its colours are not those of a tick."""
+        self.open()
+        self.run_to(110)
+        key = "document.getElementById('key').textContent"
+        self.assertRegex(self.value(key), "mean of 4 pictures.*followed")
+        is_same = self.value("""(async () => {
+            const { view, lab } = laboratory, kept = new Map();
+            document.getElementById("play").click();
+            for (; lab.shown.playing; await new Promise(requestAnimationFrame))
+                kept.set(lab.shown.tick, view.full.pixels.join());
+            globalThis.paused = view.full.pixels.slice();
+            return kept.has(lab.shown.tick) ? kept.get(lab.shown.tick) === paused.join() : null; })()""")
+        self.assertIn(is_same, (True, None))
+        self.assertRegex(self.value(key), "mean of 4 pictures.*followed")
+        self.value("document.getElementById('step').click()")
+        self.settle()
+        self.assertNotIn("mean", self.value(key))
+        self.assertGreater(self.value("""(({ view: { full: { pixels } } }) => {
+            const single = new Set(pixels);
+            return paused.filter((v) => !single.has(v)).length; })(laboratory)"""), 1000)
 
     def test_nothing_moves_by_itself_when_motion_is_reduced(self):
         self.browser.reduce_motion(True)

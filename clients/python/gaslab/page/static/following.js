@@ -26,7 +26,7 @@ export function followAt([x, y]) {
 }
 
 /** The cell after a step, or before one. Of two that meet head on each turns to its right. */
-function nextCell(gas, [x, y], isBack) {
+export function nextCell(gas, [x, y], isBack = false) {
   const { width, height } = gas, t = isBack ? gas.tick - 1 : gas.tick, [u, v] = [(x + t) & 1, (y + t) & 1];
   const cell = (i, j) => [(x - u + i + width) % width, (y - v + j + height) % height];
   const fate = view.fate(...cell(0, 0), gas);

@@ -13,21 +13,28 @@ function showMode() {
   view.redraw();
 }
 
+/** How many pictures are drawn as one, in words. */
+function meanOf(mode) {
+  const n = mode === "density" ? view.past.length : view.isCalm ? view.recent.length : 1;
+  return n > 1 ? `mean of ${n} pictures` : "";
+}
+
 /** What the colours mean. It says nothing that isn't drawn. */
 function showKey() {
-  const { mode } = state, hasArrows = view.scale >= ZOOM.arrows;
-  const isNear = view.scale >= ZOOM.grid && mode !== "density";
+  const { mode } = state, { hasMarks } = view, hasArrows = hasMarks && view.scale >= ZOOM.arrows;
   const [low, high] = view.shades.map((share) => `${Math.round(share * 100)} %`);
   const entry = (look, text) => h("span", h("i", { style: look }), text);
-  const name = [mode, isNear, hasArrows, low, high].join();
+  const mean = meanOf(mode), hasTracers = view.tracers.length > 0;
+  const name = [mode, hasMarks, hasArrows, low, high, mean, hasTracers].join();
   if (at("key").dataset.name === name) return;
   const marks = [h("span", h("i.ring"), "collides next"), h("span", h("i.ring.dashed"), "bounces")];
+  const colours = mode === "density" ? [h("span", low), h("span.ramp"), h("span", high)]
+    : mode === "velocity" && !hasArrows
+      ? [WAYS.map(([arrow, colour]) => entry(`background:${COLOURS[colour]}`, arrow)), hasMarks && marks]
+      : [hasMarks ? marks : entry("background:var(--hit);outline:var(--strong)", "particle on a wall")];
   at("key").dataset.name = name;
-  if (mode === "density") fill(at("key"), h("span", low), h("span.ramp"), h("span", high));
-  else if (mode === "velocity" && !hasArrows) fill(at("key"),
-    WAYS.map(([arrow, colour]) => entry(`background:${COLOURS[colour]}`, arrow)), isNear && marks);
-  else fill(at("key"), isNear ? marks
-    : entry("background:var(--hit);outline:var(--strong)", "particle on a wall"));
+  fill(at("key"), ...colours.flat(), mean && h("span.mean", mean),
+    hasTracers && h("span", h("i.tracer"), "followed"));
 }
 
 for (const button of modes) button.onclick = () => state.change({ mode: button.id });

@@ -17,6 +17,7 @@ import { lessons, placed } from "./shelves.js";
 import { help, saveScript, seats, share, truth } from "./about.js";
 import { table } from "./truth_table.js";
 import "./modes.js";
+import "./tracers.js";
 import "./readings.js";
 import "./command_line.js";
 import "./gestures.js";

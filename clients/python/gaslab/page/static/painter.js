@@ -46,30 +46,43 @@ export class Painter extends Cells {
   shades = [0, 1];         // the densities of the first and the last shade
   recent = [];             // the last pictures of four ticks
   isCalm = false;          // their mean is drawn
+  isLast = false;          // the next picture is of another gas
+  isHeld = false;          // the gas was paused, and is shown as it was when it played
   past = [];               // counts of the last pictures for a mean density
+  tracers = [];            // the last cells of some particles of a stream
   full = new Sheet();
   half = new Sheet();
   coarse = new Sheet();
 
   setPicture(picture) {
     const isResized = super.setPicture(picture);
-    this.remember(picture, isResized);
-    if (isResized) {
-      this.full.resize(picture.width, picture.height);
-      this.past = [];
-    }
+    this.remember(picture, isResized || this.isLast);
+    if (isResized) this.full.resize(picture.width, picture.height);
+    if (isResized || this.isLast) this.past = [];
+    this.isLast = false;
     return isResized;
   }
 
-  /** Keeps the last pictures of four ticks for a mean, where single ticks would flash: WCAG 2.3.1. */
+  /** Another gas comes with the next picture: nothing of this one is drawn with it. */
+  forget() { Object.assign(this, { isLast: true, tracers: [] }); }
+
+  /**
+   * Keeps the last pictures of four ticks for a mean, where single ticks would flash: WCAG 2.3.1. A pause
+   * shows what was shown, until the gas is stepped or its particles are changed.
+   */
   remember(p, isOther) {
-    const isNew = isOther || !p.playing || p.number < this.recent.at(-1)?.number;
+    const last = isOther ? null : this.recent.at(-1), isBefore = !last || p.number < last.number;
+    this.isHeld = !p.playing && !isBefore && (last.playing || this.isHeld && p.tick === last.tick
+      && p.particles.every((byte, k) => byte === last.particles[k]));
+    const isNew = isBefore || !p.playing && !this.isHeld, steps = p.playing ? p.steps : last?.steps;
     const canFlash = p.playing && p.rate > 3 && p.width * p.height <= BIG;
     // one of each, also when pictures are skipped
-    const phase = Math.floor(p.tick / Math.max(p.steps, 1)) & 3;
+    const phase = Math.floor(p.tick / Math.max(steps ?? 1, 1)) & 3;
     const kept = this.recent.filter((r) => !isNew && r.phase !== phase && p.number - r.number < STALE);
-    this.recent = [...kept, { phase, number: p.number, tick: p.tick, particles: p.particles }];
-    this.isCalm = canFlash && (this.isCalm && !isNew || 2 * p.tally[0] * this.scale ** 2 > FLASHING);
+    const { number, tick, playing, particles } = p;
+    this.recent = [...kept, { phase, number, tick, playing, particles, steps }];
+    this.isCalm = this.isHeld ? this.isCalm
+      : canFlash && (this.isCalm && !isNew || 2 * p.tally[0] * this.scale ** 2 > FLASHING);
   }
 
   /** Packed bits to pixels for the cells that are seen: the last picture, or the mean of the last. */

@@ -17,6 +17,13 @@ class View extends Viewport {
   /** Where a lesson asks for a first drawing; gone with the first gesture. */
   get ghost() { return !state.tried && state.tool === state.lesson.tool && state.lesson.ghost; }
 
+  /** Whether blocks are drawn. They change at each tick: if the gas plays, they would flash. */
+  get hasMarks() {
+    const { playing, rate } = this.picture ?? {};
+    const isNear = this.scale >= ZOOM.grid && state.mode !== "density";
+    return isNear && !this.isCalm && !(playing && rate > 6);
+  }
+
   select(selection = null) { this.selection = selection; this.redraw(); }
 
   draw() {
@@ -40,6 +47,7 @@ class View extends Viewport {
     for (const source of this.ports.sources)
       this.outline(source, COLOURS.sourceEdge, source[4] === 1 ? "source" : `source, every ${source[4]}`);
     for (const { rect, key } of picture.probes) this.outline(rect, COLOURS.ink, `probe ${key}`, [5, 3]);
+    this.drawTracers();
     if (this.trail.length) this.drawTrail();
     if (this.cursor) this.outline([...this.cursor, 1, 1], COLOURS.cursor);
     if (this.ghost && !this.selection) this.drawGhost();
@@ -75,8 +83,7 @@ class View extends Viewport {
       this.stroke(new Path2D(path), look);
     };
     lines(x0, y0, 1, COLOURS.grid, 1);
-    // blocks change at each tick: they would flash
-    if (this.isCalm || this.picture.playing && this.picture.rate > 6) return;
+    if (!this.hasMarks) return;
     lines(x0 + ((x0 + t) & 1), y0 + ((y0 + t) & 1), 2, COLOURS.blocks, scale >= 22 ? 2 : 1.25);
     if (scale >= ZOOM.arrows) this.drawArrows(x0, y0, x1, y1);
     this.drawMarks(x0 - 1 + ((x0 - 1 + t) & 1), y0 - 1 + ((y0 - 1 + t) & 1), x1, y1);
@@ -112,15 +119,34 @@ class View extends Viewport {
     c.restore();
   }
 
-  drawTrail() {
-    const { scale, trail } = this, path = new Path2D();
-    trail.forEach(([x, y], k) => {
-      const [a, b] = trail[k - 1] ?? [x, y], isNear = Math.abs(a - x) <= 1 && Math.abs(b - y) <= 1;
+  /** The line through the middles of cells, broken where it leaves the lattice on one side. */
+  wayOf(cells) {
+    const path = new Path2D();
+    cells.forEach(([x, y], k) => {
+      const [a, b] = cells[k - 1] ?? [x, y], isNear = Math.abs(a - x) <= 1 && Math.abs(b - y) <= 1;
       const [px, py] = this.box([x + .5, y + .5, 0, 0]);
       if (k && isNear) path.lineTo(px, py); else path.moveTo(px, py);
     });
-    this.stroke(path, [COLOURS.mark, Math.max(2, scale / 8)]);
+    return path;
+  }
+
+  drawTrail() {
+    const { scale, trail } = this;
+    this.stroke(this.wayOf(trail), [COLOURS.mark, Math.max(2, scale / 8)]);
     this.outline([...trail.at(-1), 1, 1], COLOURS.mark);
+  }
+
+  /** Rings with the way behind them: white and dark, so that they are seen on each colour. */
+  drawTracers() {
+    const { context: c, scale } = this, radius = Math.max(2.5, scale * .45);
+    for (const cells of this.tracers) {
+      const [x, y] = this.box([cells.at(-1)[0] + .5, cells.at(-1)[1] + .5, 0, 0]), ring = new Path2D();
+      ring.arc(x, y, radius, 0, 2 * Math.PI);
+      this.stroke(this.wayOf(cells), [COLOURS.white, 3], [COLOURS.ink, 1.25]);
+      c.fillStyle = COLOURS.white;
+      c.fill(ring);
+      this.stroke(ring, [COLOURS.ink, 2]);
+    }
   }
 
   outline(rect, colour, name = "", dash = []) {
@@ -181,3 +207,4 @@ function outlined(box, radius = 0) {
 }
 
 export const view = new View(at("gas"));
+state.on(["picture"], () => { if (!state.picture) view.forget(); });
