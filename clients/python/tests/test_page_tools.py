@@ -79,6 +79,28 @@ class Gates(PageCase):
             self.send("back 6")
             self.assertEqual(self.value("laboratory.view.trail.at(-1)"), [10, 10])
 
+    def test_the_particle_of_lesson_1_stays_in_sight(self):
+        """Over the edges too, for 70 ticks."""
+        self.open("1")
+        for tick in range(71):
+            if tick:
+                self.send("step 1")
+                self.settle()
+            cell, *seen = self.value("""(({ view: v }) => {
+                const [x, y] = v.trail.at(-1), [px, py] = v.box([x + .5, y + .5, 0, 0]), [w, h] = v.size;
+                return [[x, y], px > 0 && py > 0 && px < w && py < h, v.has(x, y)]; })(laboratory)""")
+            self.assertEqual((cell, seen), ([tick % 64, tick % 64], [1, 1]))
+        self.assertLess(self.value("laboratory.view.visible().x1 - laboratory.view.visible().x0"), 64)
+
+    def test_the_button_of_lesson_1_keeps_its_particle(self):
+        """It goes back to tick 0 and puts a second one, all at once."""
+        self.open("1")
+        self.send("step 30")
+        self.value("document.querySelector('.tries button').click()")
+        self.settle()
+        self.browser.wait("laboratory.lab.picture.tick", 1)
+        self.assertEqual((self.value("laboratory.view.trail"), self.value(CALLOUT)), ([[0, 0], [1, 1]], ""))
+
     def test_a_particle_that_is_gone_is_said(self):
         self.open("3")
         self.click("follow", (10, 10))

@@ -272,6 +272,23 @@ class Key(PageCase):
 
 
 class Waves(PageCase):
+    def test_lesson_5_opens_where_its_ring_is_seen(self):
+        """At tick 40 far more squares stand out from the background than by all shades from 0 to 100 %."""
+        out = """(({ view: { coarse: { pixels } } }) => {
+            const sums = [...pixels].map((v) => (v & 255) + (v >> 8 & 255) + (v >> 16 & 255)), most = {};
+            for (const sum of sums) most[sum] = (most[sum] ?? 0) + 1;
+            const ground = Number(Object.keys(most).sort((a, b) => most[b] - most[a])[0]);
+            return sums.filter((sum) => Math.abs(sum - ground) > 150).length; })(laboratory)"""
+        self.open("5")
+        self.send("step 40")
+        self.settle()
+        self.assertEqual(self.value("document.getElementById('key').textContent"), "25 %75 %")
+        seen = self.value(out)
+        self.value(_CHOOSE % ("range", "full"))
+        self.settle()
+        self.assertGreater(seen, 3 * self.value(out))
+        self.assertGreater(seen, 200)
+
     def test_the_density_has_squares_a_range_and_a_mean(self):
         """A full and an empty half: the shades of squares of 8 by 8 are the ends of the range."""
         self.open("empty")

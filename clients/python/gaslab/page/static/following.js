@@ -10,11 +10,13 @@ const FARTHEST = 256;           // steps between two pictures over which a parti
 const TRAIL = 500;         // cells
 
 let followed = null;       // a snapshot of the gas in which a trail ends
+let isNew = false;         // another gas comes: its lesson may have a particle that is followed
 
-/** Marks a particle's cells up to the present one. */
+/** Marks a particle's cells up to the present one, which stays in sight. */
 function mark(trail) {
   view.trail = trail.slice(-TRAIL);
   followed = trail.length ? snapshotOf(view) : null;
+  if (followed) view.keepInSight(trail.at(-1));
 }
 
 /** Follows the particle of a cell, or none if the cell is empty. */
@@ -35,9 +37,25 @@ export function nextCell(gas, [x, y], isBack = false) {
   return (u === v) !== isBack ? cell(u, 1 - v) : cell(1 - u, v);
 }
 
+/** The cells of the lesson's particle from tick 0 on, or none if it has no such particle. */
+function wayOfLesson() {
+  const { follow } = state.lesson, { hasPorts, picture: { tick } } = view;
+  if (!follow || hasPorts || Math.abs(tick) > FARTHEST) return [];
+  const lab = new Lab(fromSnapshot(snapshotOf(view))), { gas } = lab;
+  for (let n = tick; n > 0; n--) lab.back();
+  for (let n = tick; n < 0; n++) lab.forward();
+  if (!gas.has(...follow)) return [];
+  const way = [follow], isBack = tick < 0;
+  for (let n = Math.abs(tick); n > 0; n--) {
+    way.push(nextCell(gas, way.at(-1), isBack));
+    if (isBack) lab.back(); else lab.forward();
+  }
+  return way;
+}
+
 function lose(text) {
-  followed = null;
-  notice({ title: "No longer followed", text });
+  mark(wayOfLesson());
+  if (!followed) notice({ title: "No longer followed", text });
 }
 
 function followOn() {
@@ -55,4 +73,13 @@ function followOn() {
   else lose("Its way is lost: the gas was changed.");
 }
 
-state.on(["picture"], () => { if (followed && state.picture) followOn(); });
+state.on(["picture"], () => {
+  if (!state.picture) {
+    mark([]);
+    isNew = true;
+  } else if (followed) followOn();
+  else if (isNew && state.lesson.follow) {
+    mark(wayOfLesson());
+    isNew = !followed;
+  }
+});

@@ -60,6 +60,12 @@ export class Viewport extends Painter {
     if (dx || dy) this.pan(dx, dy);
   }
 
+  /** Moves a cell that is out of sight into the middle. */
+  keepInSight([x, y]) {
+    const { size: [cw, ch] } = this, [px, py] = this.box([x + .5, y + .5, 0, 0]);
+    if (px < 0 || py < 0 || px > cw || py > ch) this.pan(cw / 2 - px, ch / 2 - py);
+  }
+
   holds([x, y]) { return x >= 0 && y >= 0 && x < this.picture.width && y < this.picture.height; }
 
   /** A rectangle of cells in CSS pixels of the canvas. */
