@@ -151,24 +151,53 @@ class Fingers(PageCase):
         self.settle()
         return self.value("laboratory.edits.list.map((e) => e.lines.join())")
 
-    def test_a_swipe_and_a_tap_draw_nothing(self):
-        self.touch()
-        start, end = self.places([20, 40], [20, 10])
+    def swipe(self, start, *others):
         self.browser.touch("touchStart", start)
-        self.browser.touch("touchMove", [start[0], start[1] - 20])
-        self.browser.touch("touchMove", end)
+        for place in others:
+            self.browser.touch("touchMove", place)
         self.browser.touch("touchEnd")
+
+    def test_a_swipe_draws_at_once(self):
+        """And so does a tap, in one cell. The page stays where it is."""
+        self.touch()
+        self.swipe(*self.places([20, 20], [22, 20], [23, 21]))
         self.browser.tap(*self.places([30, 30])[0])
+        self.assertEqual(self.edits(), ["wall 20 20 4 2", "wall 30 30 1 1"])
+        self.assertEqual(self.value("scrollY"), 0)
+
+    def test_a_swipe_without_a_drawing_tool_scrolls_the_page(self):
+        self.touch("look")
+        self.value("document.getElementById('mat').scrollIntoView()")
+        before = self.value("scrollY")
+        start, = self.places([30, 60])
+        self.swipe(start, [start[0], start[1] - 20], [start[0], start[1] - 60])
+        self.assertEqual(self.edits(), [])
+        self.assertGreater(self.value("scrollY"), before + 30)
+
+    def test_two_fingers_zoom_and_draw_nothing(self):
+        """Also if one of them came first and had begun to draw."""
+        self.touch()
+        a, b, c = self.places([20, 20], [40, 40], [22, 22])
+        before = self.value("laboratory.view.scale")
+        self.browser.touch("touchStart", a)
+        self.browser.touch("touchMove", c)
+        self.assertEqual(self.value("laboratory.view.selection.line"), "wall 20 20 3 3")
+        self.browser.touch("touchStart", c, b)
+        self.browser.touch("touchMove", a, [b[0] + 30, b[1] + 30])
+        self.browser.touch("touchEnd")
+        self.assertGreater(self.value("laboratory.view.scale"), before)
         self.assertEqual(self.edits(), [])
 
-    def test_a_finger_that_stays_draws(self):
+    def test_the_hint_speaks_of_fingers(self):
+        said = "document.getElementById('said').textContent"
         self.touch()
-        start, end = self.places([20, 20], [23, 21])
-        self.browser.touch("touchStart", start)
-        self.browser.wait("laboratory.view.selection !== null", True)
-        self.browser.touch("touchMove", end)
-        self.browser.touch("touchEnd")
-        self.assertEqual(self.edits(), ["wall 20 20 4 2"])
+        self.assertIn("One finger draws. Two move and zoom.", self.value(said))
+        self.touch("look")
+        self.assertRegex(self.value(said), "One finger scrolls the page.* Choose a tool to draw")
+        self.open("4", size=(390, 844))
+        self.assertRegex(self.value(said), "Watch the drag. Move. One finger scrolls .* Choose a tool")
+        self.open("4", size=(1280, 800))
+        self.assertNotIn("finger", self.value(said))
 
     def test_a_finger_that_stays_after_a_pinch_draws_nothing(self):
         self.touch()

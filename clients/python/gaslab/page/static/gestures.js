@@ -8,7 +8,6 @@ import { act, nameOf, preview } from "./drawing.js";
 import { showWords } from "./toolbar.js";
 import { leaveCursor } from "./cursor.js";
 
-const HOLD = 150;          // milliseconds that a finger stays before it draws
 const FAR = 8;             // pixels that a finger moves before it scrolls
 const pointers = new Map();
 const { canvas } = view;
@@ -22,13 +21,11 @@ canvas.onpointerdown = (e) => {
   pointers.set(e.pointerId, e);
   hideNotice();
   leaveCursor();
-  clearTimeout(gesture?.timer);
   const cell = cellOf(e), before = spread(), isLone = pointers.size === 1;
   const canDraw = state.tool !== "look" && !e.altKey && view.holds(cell) && e.button === 0;
   if (isLone && e.button > 1) return;
-  if (isLone && e.pointerType === "touch")
-    gesture = { kind: "wait", cell, before, timer: canDraw && setTimeout(draw, HOLD, cell) };
-  else if (isLone && canDraw) draw(cell);
+  if (isLone && canDraw) draw(cell);
+  else if (isLone && e.pointerType === "touch") gesture = { kind: "wait", cell, before };
   else {
     gesture = { kind: "move", before };
     view.select();
@@ -48,7 +45,6 @@ canvas.onpointerup = canvas.onpointercancel = (e) => {
   const was = gesture;
   pointers.delete(e.pointerId);
   gesture = pointers.size > 0 ? { kind: "over" } : null;           // a finger that stays draws nothing
-  clearTimeout(was?.timer);
   if (was?.kind === "wait") describe(was.cell);
   else if (was?.kind === "draw" && e.type === "pointerup") act(was.cells);
   else view.select();
@@ -75,9 +71,8 @@ function spread() {
 
 /** Moves the gas, and zooms it by two fingers. One on a gas that is seen whole scrolls the page. */
 function move({ pointerType }) {
-  const now = spread(), { kind, before, timer } = gesture, dx = now.x - before.x, dy = now.y - before.y;
+  const now = spread(), { kind, before } = gesture, dx = now.x - before.x, dy = now.y - before.y;
   if (kind === "wait" && Math.hypot(dx, dy) <= FAR) return;
-  clearTimeout(timer);
   const { left, top } = canvas.getBoundingClientRect();
   if (pointers.size > 1) view.zoom(now.far / before.far, now.x - left, now.y - top);
   if (pointerType === "touch" && view.fitted) scrollBy(0, -dy);

@@ -1,5 +1,5 @@
 // The toolbar, and the line of words below the gas.
-import { ALWAYS, CHOICES, ICONS, SHARES, TOOLS, toolOf } from "./facts.js";
+import { ALWAYS, CHOICES, FINGERS, ICONS, SHARES, TOOLS, toolOf } from "./facts.js";
 import { at, button, choices, choose, fill, h, icon, rove } from "./elements.js";
 import { state } from "./state.js";
 import { view } from "./view.js";
@@ -12,11 +12,19 @@ const buttons = [...TOOLS.map(({ id, name, hint, key, gap, icon: shapes }) =>
     { "data-tool": id, title: `${hint} (${key})`, onclick: () => state.change({ tool: id }) },
     icon(shapes), h("span", name))), undoButton];
 
+const hasFingers = matchMedia("(pointer: coarse)");
+
+/** What the chosen tool does. Where there are fingers and no wheel, it says what fingers do. */
+function hintOf({ name, hint, fingers = `${hint} ${FINGERS}` }) {
+  return [h("b", `${name}.`), ` ${hasFingers.matches ? fingers : hint}`];
+}
+
 /** Says something below the gas, or what is to be done there. */
 export function showWords(...children) {
-  const { task } = state.tried ? {} : state.lesson, { name, hint } = toolOf(state.tool);
-  at("said").classList.toggle("task", Boolean(task && !children.length));
-  fill(at("said"), children.length ? children : task ?? [h("b", `${name}.`), ` ${hint}`]);
+  const { task } = state.tried ? {} : state.lesson, isTask = Boolean(task && !children.length);
+  const hint = isTask && !hasFingers.matches ? [] : hintOf(toolOf(state.tool));
+  at("said").classList.toggle("task", isTask);
+  fill(at("said"), ...children.length ? children : [isTask && `${task} `, ...hint]);
 }
 
 function share([name, min, text]) {
