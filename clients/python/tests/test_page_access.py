@@ -127,6 +127,11 @@ class Spoken(PageCase):
                              "!(e.ariaLabel || e.textContent.trim() || e.title || e.labels?.length))"
                              ".map((e) => e.id)")
         self.assertEqual(unnamed, [])
+        plots = self.value("[...document.querySelectorAll('figure, .plot')]"
+                           ".map((e) => [e.role, e.ariaLabel])")
+        self.assertEqual([role for role, _ in plots], [None, "img"])
+        self.assertEqual(plots[0][1], "Drag")
+        self.assertRegex(plots[1][1], r"^Drag, momentum to the right per tick, mean of about 20 ticks: ")
 
     def test_a_watcher_is_answered(self):
         self.open("8")
@@ -195,7 +200,7 @@ class Fingers(PageCase):
         self.touch("look")
         self.assertRegex(self.value(said), "One finger scrolls the page.* Choose a tool to draw")
         self.open("4", size=(390, 844))
-        self.assertRegex(self.value(said), "Watch the drag. Move. One finger scrolls .* Choose a tool")
+        self.assertRegex(self.value(said), "Watch the drag. Choose a tool to draw with a finger.")
         self.open("4", size=(1280, 800))
         self.assertNotIn("finger", self.value(said))
 
@@ -216,7 +221,26 @@ class Fingers(PageCase):
         self.assertEqual(self.value(_SMALL), [])
 
 
+_COVERED = """[...document.querySelectorAll("#tools button, #play")].filter((e) => {
+  const { x, y, width, height } = e.getBoundingClientRect();
+  const ends = [[4, 4], [width / 2, height / 2], [width - 4, height - 4]];
+  return !ends.every(([a, b]) => e.contains(document.elementFromPoint(x + a, y + b)));
+}).map((e) => e.textContent)"""
+
+
 class Sizes(PageCase):
+    def test_every_tool_is_in_reach(self):
+        """Nothing covers a tool or Play, and the gas is so many pixels high. Nothing has to be scrolled, but
+        on a phone with the sliders of Random."""
+        for size, tall in (((1280, 800), 400), ((960, 540), 220), ((844, 390), 200), ((390, 844), 380)):
+            self.open("4", size=size)
+            for tool in ("look", "block", "random"):
+                self.value(f"laboratory.chooseTool('{tool}')")
+                if tool == "random":
+                    self.value("document.getElementById('play').scrollIntoView({ block: 'nearest' })")
+                self.assertEqual(self.value(_COVERED), [], (size, tool))
+                self.assertGreaterEqual(self.value("laboratory.view.size[1]"), tall, (size, tool))
+
     def test_nothing_overflows(self):
         for size in ((1024, 768), (390, 844), (320, 640), (720, 450)):
             for lesson in ("4", "5", "6"):

@@ -58,9 +58,9 @@ class Plots {
       chip.ariaPressed = ids.includes(chip.dataset.plot);
     for (const graph of Object.values(this.graphs)) graph.destroy();
     this.graphs = {};
-    fill(at("plot-list"), this.shown.map((id) => h("figure",
+    fill(at("plot-list"), this.shown.map((id) => h("figure", { "aria-label": PLOTS[id].name },
       h("figcaption", h("b", PLOTS[id].name), h("span.unit", PLOTS[id].unit), h("span.number")),
-      h("div.plot", { id: `plot-${id}` }))));
+      h("div.plot", { id: `plot-${id}`, role: "img" }))));
     this.redraw(true);
   }
 
@@ -142,6 +142,7 @@ class Plots {
   drawOne(id) {
     const box = at(`plot-${id}`), curves = this.curves(id), hasCurve = curves.rows.length > 1;
     setText(box.parentElement.querySelector(".number"), this.value(id));
+    box.ariaLabel = `${PLOTS[id].name}, ${PLOTS[id].unit}: ${this.value(id) || "no single value"}`;
     box.classList.toggle("empty", !hasCurve);
     if (hasCurve) this.drawCurve(id, box, curves);
     else {

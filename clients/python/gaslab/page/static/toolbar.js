@@ -15,16 +15,16 @@ const buttons = [...TOOLS.map(({ id, name, hint, key, gap, icon: shapes }) =>
 const hasFingers = matchMedia("(pointer: coarse)");
 
 /** What the chosen tool does. Where there are fingers and no wheel, it says what fingers do. */
-function hintOf({ name, hint, fingers = `${hint} ${FINGERS}` }) {
+function hintOf({ name, hint, fingers = `${hint} ${FINGERS.draw}` }) {
   return [h("b", `${name}.`), ` ${hasFingers.matches ? fingers : hint}`];
 }
 
 /** Says something below the gas, or what is to be done there. */
 export function showWords(...children) {
   const { task } = state.tried ? {} : state.lesson, isTask = Boolean(task && !children.length);
-  const hint = isTask && !hasFingers.matches ? [] : hintOf(toolOf(state.tool));
+  const fingers = hasFingers.matches ? ` ${state.tool === "look" ? FINGERS.choose : FINGERS.draw}` : "";
   at("said").classList.toggle("task", isTask);
-  fill(at("said"), ...children.length ? children : [isTask && `${task} `, ...hint]);
+  fill(at("said"), ...isTask ? [task, fingers] : children.length ? children : hintOf(toolOf(state.tool)));
 }
 
 function share([name, min, text]) {

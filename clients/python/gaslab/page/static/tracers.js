@@ -2,11 +2,13 @@
 import { toBytes } from "./gas.js";
 import { Lab, fromSnapshot } from "./engine.js";
 import { state } from "./state.js";
+import { clamp } from "./shapes.js";
 import { view } from "./view.js";
 import { snapshotOf } from "./files.js";
 import { nextCell } from "./following.js";
 
-const MANY = 16, TAIL = 8;      // particles, and cells of the way behind each
+const MANY = 16, FEW = 6;       // particles, by the size at which the gas is seen
+const TAIL = 8;                 // cells of the way behind each
 const CELLS = 1 << 16;          // of the largest lattice in which they are followed
 const FARTHEST = 64;            // steps between two pictures over which they are followed
 const TRIES = 40;               // cells that are looked at for another particle
@@ -14,9 +16,11 @@ let lab = null;                 // the gas of the last picture, from which it is
 
 /** One more particle: one that a source sent, or any if few are followed. None if no such cell is found. */
 function another() {
-  const { tracers, picture: { width, height }, ports: { sources } } = view;
+  const { tracers, scale, picture: { width, height }, ports: { sources } } = view;
+  const most = clamp(Math.round(2 * scale), FEW, MANY);
+  if (tracers.length >= most) return [];
   for (let k = 0; k < TRIES; k++) {
-    const [x, y, w, h] = tracers.length < MANY / 2 ? [0, 0, width, height]
+    const [x, y, w, h] = tracers.length < most / 2 ? [0, 0, width, height]
       : sources[Math.floor(Math.random() * sources.length)];
     const cell = [x + Math.floor(Math.random() * w), y + Math.floor(Math.random() * h)];
     if (view.has(...cell) && !view.isSolidAt(...cell)) return [[cell]];
@@ -43,7 +47,7 @@ function trace() {
   const isNear = isFollowed && isSized && far >= 0 && far <= FARTHEST;
   view.tracers = isNear ? moveAll(p) : [];
   const isLost = view.tracers.length === 0;
-  if (isFollowed && p.playing && view.tracers.length < MANY) view.tracers.push(...another());
+  if (isFollowed && p.playing) view.tracers.push(...another());
   if (!isFollowed) lab = null;
   else if (!isNear || p.walls || p.ports || isLost) lab = new Lab(fromSnapshot(snapshotOf(view)));
 }
