@@ -114,6 +114,10 @@ class Browser:
         self._ask("Emulation.setEmulatedMedia",
                   features=[{"name": "prefers-reduced-motion", "value": value}])
 
+    def prefer(self, scheme: str) -> None:
+        """Sets the colours that a person asks of all pages: dark or light."""
+        self._ask("Emulation.setEmulatedMedia", features=[{"name": "prefers-color-scheme", "value": scheme}])
+
     def slow_down(self, times: float) -> None:
         """Lets the page compute as if on a slower machine; 1 is as it is."""
         self._ask("Emulation.setCPUThrottlingRate", rate=times)

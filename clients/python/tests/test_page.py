@@ -9,6 +9,7 @@ import unittest
 from unittest import mock
 
 from gaslab.page.one_file import MOST, STATIC, bundle, one_file, read
+from gaslab.pictures import palette
 
 from .firefox import FIREFOX, Firefox
 from .page_case import CALLOUT, LESSON, READY, PageCase
@@ -482,6 +483,37 @@ class Once(unittest.TestCase):
             if not path.name.startswith("dygraph"):
                 text = re.sub(r"^ *//.*|/\*\*[\s\S]*?\*/", "", path.read_text("utf-8"), flags=re.M)
                 self.assertNotRegex(text, rf"\b({words})\b|\bkey\b(\.toLowerCase\(\))? === [\"']", path.name)
+
+
+class Contrast(unittest.TestCase):
+    """In both themes, as WCAG 2.2 has it: 4.5 for text (1.4.3), and 3 for a focus ring (1.4.11)."""
+    TEXTS = {"white": "ink soft task accent bad good", "ground": "ink soft task accent", "hover": "ink soft",
+             "accent": "white", "ink": "white", "warnSoft": "warn", "badSoft": "bad", "goodSoft": "good",
+             "accentSoft": "ink task", "off": "soft offInk", "track": "ink", "line": "ink",
+             "consoleGround": "consoleInk consoleSoft consoleGood consoleBad",
+             "consoleBadGround": "consoleInk consoleBad", "consoleButton": "consoleInk"}
+
+    def contrast(self, one, other):
+        def light(colour):
+            parts = [int(colour[k:k + 2], 16) / 255 for k in (1, 3, 5)]
+            red, green, blue = (it / 12.92 if it <= .04045 else ((it + .055) / 1.055) ** 2.4 for it in parts)
+            return .2126 * red + .7152 * green + .0722 * blue + .05
+
+        low, high = sorted((light(one), light(other)))
+        return high / low
+
+    def test_texts(self):
+        for name, colours in (("light", palette.COLOURS), ("dark", palette.DARK)):
+            for ground, texts in self.TEXTS.items():
+                for text in texts.split():
+                    self.assertGreaterEqual(self.contrast(colours[text], colours[ground]), 4.5,
+                                            (name, text, ground))
+
+    def test_focus_rings(self):
+        for name, colours in (("light", palette.COLOURS), ("dark", palette.DARK)):
+            for ground in ("white", "ground", "mat", "hover", "track", "consoleGround"):
+                ring = colours["consoleFocus" if ground == "consoleGround" else "focus"]
+                self.assertGreaterEqual(self.contrast(ring, colours[ground]), 3, (name, ground))
 
 
 class Bundle(unittest.TestCase):

@@ -143,6 +143,38 @@ class Spoken(PageCase):
             self.assertIn("Your seat only watches", self.value(CALLOUT))
 
 
+class Themes(PageCase):
+    GROUND = "getComputedStyle(document.querySelector('.panel')).backgroundColor"
+    MAT = "(({ view: { context } }) => [...context.getImageData(2, 2, 1, 1).data].join())(laboratory)"
+
+    def test_the_system_asks_and_a_person_chooses(self):
+        """What was chosen stays over a reload. The gas is as on paper, on a mat of the theme."""
+        light, dark = "rgb(255, 255, 255)", "rgb(24, 33, 43)"
+        self.addCleanup(self.value, "localStorage.removeItem('gaslab-theme')")
+        self.addCleanup(self.browser.prefer, "light")
+        self.browser.prefer("dark")
+        self.open("8")
+        self.assertEqual((self.value(self.GROUND), self.value(self.MAT)), (dark, "38,49,61,255"))
+        self.assertEqual(self.value("document.getElementById('theme').ariaPressed"), "true")
+        self.browser.prefer("light")
+        self.browser.wait(self.GROUND, light)
+        self.value("document.getElementById('theme').click()")
+        self.assertEqual(self.value(self.GROUND), dark)
+        self.open("8")
+        self.assertEqual(self.value(self.GROUND), dark)
+        self.value("document.getElementById('theme').click()")
+        self.settle()
+        self.assertEqual((self.value(self.GROUND), self.value(self.MAT)), (light, "227,231,236,255"))
+
+    def test_the_focus_ring_is_seen(self):
+        """It has the colour whose contrast is measured."""
+        self.open("8")
+        self.value("document.getElementById('play').focus()")
+        self.browser.key("Tab", 9)
+        self.assertEqual(self.value("(({ outlineColor, outlineWidth }) => [outlineColor, outlineWidth])("
+                                    "getComputedStyle(document.activeElement))"), ["rgb(179, 107, 0)", "3px"])
+
+
 class Fingers(PageCase):
     def places(self, *cells):
         return self.value(PLACES.replace("CELLS", json.dumps(cells)))

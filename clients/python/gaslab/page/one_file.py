@@ -98,13 +98,22 @@ def facts() -> dict[str, Any]:
     known: dict[str, Any] = json.loads(text)
     known["commands"] = {word: [f"{word} {it.words}".rstrip(), it.what] for word, it in COMMANDS.items()
                          if word != "quit"}
-    return {**known, "colours": palette.COLOURS, "curves": palette.CURVES, "ramp": palette.SHADES}
+    return {**known, "colours": palette.COLOURS, "darkMat": palette.DARK["mat"],
+            "curves": palette.CURVES, "ramp": palette.SHADES}
 
 
 def _properties() -> str:
-    """The colours as properties of the style, which names them as the page's scripts do."""
-    colours = {**palette.COLOURS, "ramp": ", ".join(palette.SHADES)}
-    return ":root { " + " ".join(f"--{name}: {colour};" for name, colour in colours.items()) + " }\n"
+    """The colours as properties of the style, which names them as the page's scripts do.
+
+    What is shown as on paper has those of the light theme in the dark one too.
+    """
+    def block(colours: dict[str, str]) -> str:
+        return "{ " + " ".join(f"--{name}: {colour};" for name, colour in colours.items()) + " }\n"
+
+    light = {**palette.COLOURS, "ramp": ", ".join(palette.SHADES)}
+    dark = {name: colour for name, colour in palette.DARK.items() if palette.COLOURS[name] != colour}
+    return (f":root, .plot, #tools svg, #key i {block(light)}"
+            f"@media screen {{ [data-theme=dark] {block(dark)}}}\n")
 
 
 def _bare(text: str) -> str:

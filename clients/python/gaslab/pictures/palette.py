@@ -25,6 +25,8 @@ def _parts(colour: str) -> Colour:
 
 COLOURS: dict[str, str] = {**_DATA["page"], **_DATA["cells"]}
 """Each colour of the page and of cells by its name, as #rrggbb."""
+DARK: dict[str, str] = {**COLOURS, **_DATA["dark"]}
+"""The same of the page's dark theme. Cells have no other colours there: they are as on paper."""
 CURVES: list[str] = _DATA["curves"]
 """The page's colours of curves."""
 SHADES: list[str] = _DATA["ramp"]

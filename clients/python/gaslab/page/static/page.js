@@ -46,6 +46,22 @@ function setLarge(isLarge) {
   plots.redraw(true);
 }
 
+const dark = matchMedia("(prefers-color-scheme: dark)");
+
+/** Shows the theme that a person chose, or else the one that the system asks for. */
+function showTheme() {
+  const theme = stored("localStorage", "gaslab-theme") ?? (dark.matches ? "dark" : "light");
+  document.documentElement.dataset.theme = theme;
+  at("theme").ariaPressed = theme === "dark";
+  state.change({ isDark: theme === "dark" });
+}
+
+at("theme").onclick = () => {
+  stored("localStorage", "gaslab-theme", state.isDark ? "light" : "dark");
+  showTheme();
+};
+dark.onchange = showTheme;
+showTheme();
 at("larger").onclick = () => setLarge(at("larger").ariaPressed !== "true");
 state.on(["program", "people", "rights", "seat", "status"], showHeader);
 setLarge(stored("localStorage", "gaslab-large") === "true");

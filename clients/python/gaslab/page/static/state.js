@@ -29,6 +29,7 @@ class State extends EventTarget {
   pace = null;                 // a second's pictures and steps: { drawn, made, steps, asked }
   refusedAt = -Infinity;       // when a way back was asked for that is none
   keysOn = true;               // single keys act
+  isDark = false;              // the dark theme is shown
 
   constructor() { super(); Object.seal(this); }
 

@@ -1,5 +1,5 @@
 // What is drawn: the cells, and above them grid, ports, probes and marks.
-import { COLOURS, KINDS, ZOOM } from "./facts.js";
+import { COLOURS, DARK_MAT, KINDS, ZOOM } from "./facts.js";
 import { SANS, at } from "./elements.js";
 import { state } from "./state.js";
 import { clamp } from "./shapes.js";
@@ -32,7 +32,7 @@ class View extends Viewport {
     const isDensity = state.mode === "density";
     if (canvas.width !== width || canvas.height !== height) Object.assign(canvas, { width, height });
     c.setTransform(ratio, 0, 0, ratio, 0, 0);
-    this.fill(COLOURS.mat, [0, 0, cw, ch]);
+    this.fill(state.isDark ? DARK_MAT : COLOURS.mat, [0, 0, cw, ch]);
     if (!picture) return;
     const all = this.box([0, 0, picture.width, picture.height]), pixels = scale * ratio, least = 1 / scale;
     const shown = isDensity ? this.paintDensity() : pixels <= .5 ? this.paintHalf()
@@ -207,4 +207,5 @@ function outlined(box, radius = 0) {
 }
 
 export const view = new View(at("gas"));
+state.on(["isDark"], () => view.redraw());
 state.on(["picture"], () => { if (!state.picture) view.forget(); });
