@@ -18,7 +18,7 @@ EXAMPLES = ROOT / "examples"
 PAGE = ROOT / "clients" / "python" / "gaslab" / "page"
 NODE = shutil.which("node")
 SIZES = {"5_sound": (256, 256), "5_empty": (256, 256), "9_light_cone": (128, 128), "7_kept": (128, 64),
-         "clap": (128, 128)}
+         "clap": (128, 128), "seams": (128, 128)}
 SESSIONS = ["8_first", "8_second", "8_third"]
 OBSTACLES_X = 8  # its place in a LEDGER reply
 ROWS = [f"read {y}" for y in range(64)]
