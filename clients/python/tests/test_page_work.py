@@ -152,6 +152,25 @@ class Readings(PageCase):
         self.browser.wait("document.querySelector('#plot-list .number').textContent",
                           f"{float(claim['reply']):.3f}".rstrip("0"))
 
+    def test_the_drag_shows_single_ticks_on_request(self):
+        """What the obstacle took since the picture before, by the ledger. Their mean of 20 ticks is 6."""
+        self.open("4")
+        self.send(".pause")
+        self.send("erase 0 18 64 28", "block 30 30 4 4", "step 200")
+        single = "document.querySelector('figcaption .plain')"
+        self.value(f"{single}.click()")
+        self.assertEqual(self.value(f"{single}.ariaPressed"), "true")
+        found, took = [], [self.value("laboratory.lab.picture.ledger[7]")]
+        for _ in range(20):
+            self.send("step 1")
+            self.settle()
+            took.append(self.value("laboratory.lab.picture.ledger[7]"))
+            found.append(float(self.value("laboratory.plots.value('drag')")))
+        self.assertEqual(found, [after - before for before, after in zip(took, took[1:])])
+        self.assertGreater(len(set(found)), 1)
+        self.value(f"{single}.click()")
+        self.assertEqual(self.value("document.querySelector('#plot-list .number').textContent"), "6")
+
     def test_readings_go_home_as_a_table(self):
         self.open("6")
         self.send("step 3")

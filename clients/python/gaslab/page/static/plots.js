@@ -4,6 +4,7 @@ import { say } from "./wording.js";
 import { SANS, at, fill, h, setText } from "./elements.js";
 import { LEDGER } from "./frame.js";
 import { countSquares } from "./cells.js";
+import { pictureOf } from "./plot_picture.js";
 import { parts } from "./painter.js";
 
 const WINDOW = 20;         // ticks over which a rate is a mean
@@ -23,17 +24,18 @@ function entropy(picture) {
 const halved = (list) => list.filter((_, k) => k % 2 === 0 || k === list.length - 1);
 const paler = (hex) => `rgb(${parts(hex).map((v) => Math.round(255 - (255 - v) * .4)).join()})`;
 
-/** The values of a plot in a record, with its tick and the names of their columns. */
-function valuesOf(id, { run, way, tick, probes, [id]: value }) {
+/** The values of a plot in a record, under `key`, with its tick and the names of their columns. */
+function valuesOf(id, key, { run, way, tick, probes, [key]: value }) {
   const name = `run ${run}${way}`;
   if (id !== "probe") return value === null ? [] : [{ tick, name, value }];
-  return probes.map(({ key, rect: [, , w, h], sums: [count] }) =>
-    ({ tick, name: `probe ${key}, ${name}`, value: count / (w * h) }));
+  return probes.map(({ key: probe, rect: [, , w, h], sums: [count] }) =>
+    ({ tick, name: `probe ${probe}, ${name}`, value: count / (w * h) }));
 }
 
 class Plots {
   shown = [];
   graphs = {};
+  isSingle = false;        // the drag of each picture alone is shown, and not the mean of several ticks
   #timer = null;
 
   constructor() {
@@ -59,10 +61,21 @@ class Plots {
     for (const graph of Object.values(this.graphs)) graph.destroy();
     this.graphs = {};
     fill(at("plot-list"), this.shown.map((id) => h("figure", { "aria-label": PLOTS[id].name },
-      h("figcaption", h("b", PLOTS[id].name), h("span.unit", PLOTS[id].unit), h("span.number")),
+      h("figcaption", h("b", PLOTS[id].name), h("span.unit", this.unitOf(id), PLOTS[id].single
+        && h("button.plain", { ariaPressed: this.isSingle, onclick: () => this.showSingle(!this.isSingle) },
+          "single ticks")), h("span.number")),
       h("div.plot", { id: `plot-${id}`, role: "img" }))));
     this.redraw(true);
   }
+
+  showSingle(isSingle) {
+    this.isSingle = isSingle;
+    this.choose(this.shown);
+  }
+
+  isSingleOf(id) { return this.isSingle && "single" in PLOTS[id]; }
+  unitOf(id) { return this.isSingleOf(id) ? PLOTS[id].single : PLOTS[id].unit; }
+  valuesOf(id, record) { return valuesOf(id, this.isSingleOf(id) ? "single" : id, record); }
 
   /** Takes the values of a picture. A change of way begins a new run, whose values stay apart. */
   add(p) {
@@ -88,9 +101,16 @@ class Plots {
     return Math.abs(span) >= 4 ? (ledger[7] - first.sum) / span : null;
   }
 
+  /** The drag since the picture before, or null. */
+  single({ tick, ledger }) {
+    const before = this.recent.findLast((r) => r.tick !== tick);
+    return before ? (ledger[7] - before.sum) / (tick - before.tick) : null;
+  }
+
   putValues(p) {
     const { tick, tally, ledger, probes } = p, { run, way } = this;
-    this.records.push({ run, way, tick, tally, ledger, probes, drag: this.drag(p), flux: tally[1] / p.width,
+    this.records.push({ run, way, tick, tally, ledger, probes, drag: this.drag(p),
+      single: this.single(p), flux: tally[1] / p.width,
       count: tally[0], entropy: this.shown.includes("entropy") ? entropy(p) : null });
     if (this.records.length > RECORDS) this.records = halved(this.records);
     this.redraw();
@@ -100,7 +120,7 @@ class Plots {
   curves(id) {
     let kept = this.records.filter(({ run }) => run > this.run - KEPT);
     while (kept.length > POINTS) kept = halved(kept);
-    const all = kept.flatMap((record) => valuesOf(id, record));
+    const all = kept.flatMap((record) => this.valuesOf(id, record));
     const names = [...new Set(all.map(({ name }) => name))];
     const rows = [...Map.groupBy(all, ({ tick }) => tick)].map(([tick, values]) =>
       [tick, ...names.map((name) => values.findLast((one) => one.name === name)?.value ?? null)]);
@@ -142,7 +162,7 @@ class Plots {
   drawOne(id) {
     const box = at(`plot-${id}`), curves = this.curves(id), hasCurve = curves.rows.length > 1;
     setText(box.parentElement.querySelector(".number"), this.value(id));
-    box.ariaLabel = `${PLOTS[id].name}, ${PLOTS[id].unit}: ${this.value(id) || "no single value"}`;
+    box.ariaLabel = `${PLOTS[id].name}, ${this.unitOf(id)}: ${this.value(id) || "no single value"}`;
     box.classList.toggle("empty", !hasCurve);
     if (hasCurve) this.drawCurve(id, box, curves);
     else {
@@ -155,8 +175,8 @@ class Plots {
 
   /** The present value, if the plot has one: of several probes none is the value. */
   value(id) {
-    const record = this.records.findLast((one) => one.run === this.run && valuesOf(id, one).length);
-    const values = record && this.last ? valuesOf(id, record) : [];
+    const record = this.records.findLast((one) => one.run === this.run && this.valuesOf(id, one).length);
+    const values = record && this.last ? this.valuesOf(id, record) : [];
     return values.length === 1 ? say(values[0].value) : "";
   }
 
@@ -210,24 +230,7 @@ class Plots {
     c.restore();
   }
 
-  picture(id) {
-    const box = at(`plot-${id}`), from = box.getBoundingClientRect(), ratio = 2;
-    const canvas = h("canvas", { width: from.width * ratio, height: (from.height + 26) * ratio });
-    const c = canvas.getContext("2d");
-    c.fillStyle = COLOURS.white;
-    c.fillRect(0, 0, canvas.width, canvas.height);
-    c.setTransform(ratio, 0, 0, ratio, -from.left * ratio, (26 - from.top) * ratio);
-    Object.assign(c, { fillStyle: COLOURS.ink, font: `600 14px ${SANS}`, textBaseline: "middle" });
-    c.fillText(`${PLOTS[id].name}: ${PLOTS[id].unit}`, from.left + 4, from.top - 13);
-    for (const part of box.querySelectorAll("canvas, .dygraph-axis-label")) {
-      const { left, top, width, height } = part.getBoundingClientRect();
-      const { font, textAlign } = getComputedStyle(part), share = { right: 1, center: .5 }[textAlign] ?? 0;
-      Object.assign(c, { font, textAlign });
-      if (part instanceof HTMLCanvasElement) c.drawImage(part, left, top, width, height);
-      else c.fillText(part.textContent, left + share * width, top + height / 2);
-    }
-    return canvas;
-  }
+  picture(id) { return pictureOf(at(`plot-${id}`), `${PLOTS[id].name}: ${this.unitOf(id)}`); }
 
   resize() { for (const graph of Object.values(this.graphs)) graph.resize(); }
 }
