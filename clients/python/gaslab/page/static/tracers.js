@@ -10,7 +10,7 @@ import { nextCell } from "./following.js";
 const MANY = 16, FEW = 6;       // particles, by the size at which the gas is seen
 const TAIL = 8;                 // cells of the way behind each
 const CELLS = 1 << 16;          // of the largest lattice in which they are followed
-const FARTHEST = 64;            // steps between two pictures over which they are followed
+const WORK = 1 << 18;           // cells, times steps between two pictures, over which they are followed
 const TRIES = 40;               // cells that are looked at for another particle
 let lab = null;                 // the gas of the last picture, from which it is stepped to the next
 
@@ -44,7 +44,7 @@ function trace() {
   const { picture: p, ports: { sources }, isHeld } = view, far = lab ? p.tick - lab.gas.tick : -1;
   const isSized = lab?.gas.width === p.width && lab.gas.height === p.height;
   const isFollowed = (p.playing || isHeld) && sources.length > 0 && p.width * p.height <= CELLS;
-  const isNear = isFollowed && isSized && far >= 0 && far <= FARTHEST;
+  const isNear = isFollowed && isSized && far >= 0 && far * p.width * p.height <= WORK;
   view.tracers = isNear ? moveAll(p) : [];
   const isLost = view.tracers.length === 0;
   if (isFollowed && p.playing) view.tracers.push(...another());
