@@ -253,11 +253,11 @@ class Fingers(PageCase):
         self.assertEqual(self.value(_SMALL), [])
 
 
-_COVERED = """[...document.querySelectorAll("#tools button, #play")].filter((e) => {
+_COVERED = """[...document.querySelectorAll("%s")].filter((e) => e.checkVisibility()).filter((e) => {
   const { x, y, width, height } = e.getBoundingClientRect();
   const ends = [[4, 4], [width / 2, height / 2], [width - 4, height - 4]];
   return !ends.every(([a, b]) => e.contains(document.elementFromPoint(x + a, y + b)));
-}).map((e) => e.textContent)"""
+}).map((e) => e.id || e.textContent)"""
 
 
 class Sizes(PageCase):
@@ -270,7 +270,7 @@ class Sizes(PageCase):
                 self.value(f"laboratory.chooseTool('{tool}')")
                 if tool == "random":
                     self.value("document.getElementById('play').scrollIntoView({ block: 'nearest' })")
-                self.assertEqual(self.value(_COVERED), [], (size, tool))
+                self.assertEqual(self.value(_COVERED % "#tools button, #play"), [], (size, tool))
                 self.assertGreaterEqual(self.value("laboratory.view.size[1]"), tall, (size, tool))
 
     def test_nothing_overflows(self):
@@ -279,6 +279,15 @@ class Sizes(PageCase):
                 self.open(lesson, size=size)
                 width = self.value("document.documentElement.scrollWidth")
                 self.assertLessEqual(width, size[0], (size, lesson))
+
+    def test_what_is_shown_and_time_are_in_reach(self):
+        """In lesson 5, which has a density to choose and a slider of ticks."""
+        for size in ((1280, 800), (960, 540), (844, 390)):
+            self.open("5", size=size)
+            self.settle()
+            parts = ", ".join(f"#{it} :is(button, select, input)" for it in ("viewbar", "time"))
+            self.assertEqual(self.value(_COVERED % parts), [], size)
+            self.assertGreaterEqual(self.value("laboratory.view.size[1]"), 120, size)
 
     def test_play_and_gas_are_seen_together_on_a_low_screen(self):
         self.open("4", size=(1000, 450))
