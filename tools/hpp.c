@@ -12,8 +12,9 @@
 //   ./hpp classes free 1000    1,000 steps, by tiles of parity classes: even phases in place, walled blocks prepared for
 //                              each parity and masked, one account counted if there are walls and obstacles, and else
 //                              none
-//   ./hpp turns free 1000      the same, and odd phases go down and up in turns, as the program's do. The fastest that
-//                              we have.
+//   ./hpp turns free 1000      the same, and odd phases go down and up in turns, as the program's do.
+//   ./hpp place free 1000      in place: each odd block is turned once, and two phases go in one sweep. The fastest that
+//                              we have. Steps and those of a command are even numbers.
 //   ./hpp classes free 1000 2  the accounts are known after every second step, by turns too
 //   ./hpp rows free 1000       the same by rows of 64-bit words, as one writes it first
 //   ./hpp lines free           the same lattice as lines of commands for gaslab
@@ -353,6 +354,108 @@ static void end_classes(void)
             if (get_in_tiles(first, x, y)) set(particles, x, y);
 }
 
+// ---- in place: an odd block is turned by the tile in which it begins. What its right corners become is carried on to the tile
+// to the right, and a row of tiles turns the blocks that reach into the row below too. So nothing is worked out twice, and there
+// is no second lattice. An even phase and the odd one after it go through the rows together: a row of tiles is turned at even
+// parity just before the row above it needs it.
+#ifdef __AVX2__
+enum { LANES = 8, GROUPS = 4 };
+static const int group_at[GROUPS] = {0, 8, 16, 23};
+#else
+enum { LANES = 4, GROUPS = 8 };
+static const int group_at[GROUPS] = {0, 4, 8, 12, 16, 20, 24, 27};
+#endif
+typedef half vec __attribute__((vector_size(4 * LANES), aligned(4), may_alias));
+#define ROWS(p) (*(vec *)(p))
+typedef struct { vec ul, ur, ll, lr; } group;
+typedef struct { vec upper[GROUPS], lower[GROUPS]; half up, low; } leaving;
+
+ALWAYS group group_of(const tile *t, const tile *r, const half *walls, const int j, const int solid)
+{
+    vec ul = ROWS(t->oo + j), ll = ROWS(t->oe + j + 1);
+    vec ur = ROWS(t->eo + j) >> 1 | ROWS(r->eo + j) << 31, lr = ROWS(t->ee + j + 1) >> 1 | ROWS(r->ee + j + 1) << 31;
+    vec down = ul ^ lr, up = ur ^ ll, diagonal = (ul ^ ur) & ~(down | up);
+    if (!solid) return (group){lr ^ diagonal, ll ^ diagonal, ur ^ diagonal, ul ^ diagonal};
+    vec w = ROWS(walls + j + 1);
+    down = (down ^ diagonal) & ~w, up = (up ^ diagonal) & ~w;
+    return (group){ul ^ down, ur ^ up, ll ^ up, lr ^ down};
+}
+
+ALWAYS void put_group(tile *t, group b, leaving *c, const int g, const int j)
+{
+    ROWS(t->oo + j) = b.ul, ROWS(t->oe + j + 1) = b.ll;
+    ROWS(t->eo + j) = b.ur << 1 | c->upper[g] >> 31, ROWS(t->ee + j + 1) = b.lr << 1 | c->lower[g] >> 31;
+    c->upper[g] = b.ur, c->lower[g] = b.lr;
+}
+
+ALWAYS blocks seam_of(const tile *t, const tile *r, const tile *below, const tile *below_r, const half *walls, const int solid)
+{
+    return turned_but(solid ? walls[32] : 0, t->oo[31], t->eo[31] >> 1 | r->eo[31] << 31, below->oe[0], below->ee[0] >> 1 | below_r->ee[0] << 31);
+}
+
+ALWAYS void odd_in_place(tile *t, const tile *r, tile *below, const tile *below_r, const half *walls, leaving *c, const int solid)
+{
+    blocks s = seam_of(t, r, below, below_r, walls, solid);
+    // The last two groups share a row: both are made before either is written.
+    for (int g = 0; g < GROUPS - 2; g++) put_group(t, group_of(t, r, walls, group_at[g], solid), c, g, group_at[g]);
+    group a = group_of(t, r, walls, group_at[GROUPS - 2], solid), b = group_of(t, r, walls, group_at[GROUPS - 1], solid);
+    put_group(t, a, c, GROUPS - 2, group_at[GROUPS - 2]), put_group(t, b, c, GROUPS - 1, group_at[GROUPS - 1]);
+    t->oo[31] = s.ul, t->eo[31] = s.ur << 1 | c->up >> 31, below->oe[0] = s.ll, below->ee[0] = s.lr << 1 | c->low >> 31;
+    c->up = s.ur, c->low = s.lr;
+}
+
+ALWAYS void odd_row_in_place(tile *tiles, int y, const int solid)
+{
+    const int z = WORDS - 1;
+    tile *row = tiles + y * WORDS, *below = tiles + (y + 1) % WORDS * WORDS;
+    const half (*walls)[33] = walled[1].begin + y * WORDS;
+    const half *rows = walled[1].rows + y * WORDS;
+    leaving c;
+    for (int g = 0; g < GROUPS; g++) {
+        group b = group_of(row + z, row, walls[z], group_at[g], solid);
+        c.upper[g] = b.ur, c.lower[g] = b.lr;
+    }
+    blocks s = seam_of(row + z, row, below + z, below, walls[z], solid);
+    c.up = s.ur, c.low = s.lr;
+    tile first_was, below_was;
+    memcpy(first_was.ee, row->ee, 128), memcpy(first_was.eo, row->eo, 128);
+    below_was.ee[0] = below->ee[0];
+    for (int x = 0; x < z; x++) {
+        if (solid && rows[x]) odd_in_place(row + x, row + x + 1, below + x, below + x + 1, walls[x], &c, 1);
+        else odd_in_place(row + x, row + x + 1, below + x, below + x + 1, walls[x], &c, 0);
+    }
+    odd_in_place(row + z, &first_was, below + z, &below_was, walls[z], &c, solid);
+}
+
+ALWAYS void even_tiles(tile *p, int y, const int solid, const int counted)
+{
+    for (int i = y * WORDS; i < (y + 1) * WORDS; i++) {
+        if (counted) book_obstacles(p + i, i, 0);
+        even(p + i, walled[0].begin[i], solid ? walled[0].rows[i] : 0);
+        if (counted) book_obstacles(p + i, i, 1);
+    }
+}
+
+ALWAYS void two_phases(tile *p, const int solid, const int counted)
+{
+    even_tiles(p, 0, solid, counted);
+    for (int y = 0; y < WORDS; y++) {
+        if (y + 1 < WORDS) even_tiles(p, y + 1, solid, counted);
+        odd_row_in_place(p, y, solid);
+    }
+}
+
+static void run_in_place(int steps, int each)
+{
+    int some = some_walls || some_obstacles, both = some_walls && some_obstacles;
+    long long before[2] = {0, 0};
+    if (some) add_all(first, 0, 1, before);
+    for (int t = 0; t < steps; t += 2) {
+        both ? two_phases(first, 1, 1) : some ? two_phases(first, 1, 0) : two_phases(first, 0, 0);
+        if (some && ((t + 2) % each == 0 || t + 2 == steps)) settle(first, t + 2, before);
+    }
+}
+
 // ---- by rows
 
 static plane other PAGE;
@@ -455,18 +558,23 @@ static void tell(double microseconds, int tick)
 
 int main(int count, char **words)
 {
-    int lines = count == 3 && !strcmp(words[1], "lines"), classes;
+    int lines = count == 3 && !strcmp(words[1], "lines"), place = count > 1 && !strcmp(words[1], "place"), classes;
     turns = count > 1 && !strcmp(words[1], "turns");
-    classes = (count == 4 || count == 5) && (turns || !strcmp(words[1], "classes"));
+    classes = (count == 4 || count == 5) && (turns || place || !strcmp(words[1], "classes"));
     if ((!lines && !classes && (count != 4 || strcmp(words[1], "rows"))) || !lay(words[2], lines)) {
-        fprintf(stderr, "usage: hpp classes|turns|rows free|channels|obstacles|mixed STEPS, hpp classes|turns CASE STEPS EACH, or hpp lines CASE\n");
+        fprintf(stderr, "usage: hpp place|classes|turns|rows free|channels|obstacles|mixed STEPS, hpp place|classes|turns CASE STEPS EACH, or hpp lines CASE\n");
         return 2;
     }
     if (lines) return 0;
     int steps = atoi(words[3]);
     if (classes) begin_classes();
+    int each = count == 5 ? atoi(words[4]) : steps;
+    if (place && (steps % 2 || each % 2)) {
+        fprintf(stderr, "hpp place takes even numbers of steps\n");
+        return 2;
+    }
     double begin = now();
-    classes ? run_classes(steps, count == 5 ? atoi(words[4]) : steps) : run_rows(steps, strcmp(words[2], "free"));
+    place ? run_in_place(steps, each) : classes ? run_classes(steps, each) : run_rows(steps, strcmp(words[2], "free"));
     double end = now();
     if (classes) end_classes();
     tell(1e6 * (end - begin) / steps, steps);

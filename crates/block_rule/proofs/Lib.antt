@@ -10,3 +10,5 @@ pub mod TorusTook
 pub mod Borders
 pub mod NamedBlocks
 pub mod BlockNames
+pub mod InPlace
+pub mod Beyond

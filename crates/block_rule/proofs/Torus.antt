@@ -53,7 +53,7 @@ partner_along w from x true within =
     ap (λ m. m % w) (let e : from + (x + 2) + w - 1 ≡ from + x + 1 + w = omega arith in e) ∙ next_wraps w (from + x) within
 partner_along w from x false within = refl
 
-partner_place : (w from p x : ℕ) → from % 2 ≡ 0 → from + x < w → (from + partner p x + w - 1) % w ≡ other_coordinate w p (from + x)
+pub partner_place : (w from p x : ℕ) → from % 2 ≡ 0 → from + x < w → (from + partner p x + w - 1) % w ≡ other_coordinate w p (from + x)
 partner_place w from p x even within = grind (arith, partner_along, parity_same)
 
 partner_reached : (p x : ℕ) → p < 2 → x < 64 → IsReached p (partner p x)
@@ -73,13 +73,13 @@ module _ (p : ℕ) (window : ℕ → ℕ → Bool) (cells : Cells) (x0 y0 x y : 
   pub across_same : window (partner p x) (partner p y) ≡ plane.has cells (other_coordinate cells.width p (x0 + x)) (other_coordinate cells.height p (y0 + y))
   across_same = grind (arith, partner_reached, partner_place)
 
-any_of_four : (a b c d e f g h : Bool) → a ≡ e → b ≡ f → c ≡ g → d ≡ h → ((a || b) || (c || d)) ≡ (e || h || g || f)
+pub any_of_four : (a b c d e f g h : Bool) → a ≡ e → b ≡ f → c ≡ g → d ≡ h → ((a || b) || (c || d)) ≡ (e || h || g || f)
 any_of_four a b c d e f g h ae bf cg dh = grind arith
 
 corner_is_cell : (w own beside facing across : Bool) → corner_rule w own across beside facing ≡ turned_cell w own beside facing across
 corner_is_cell w own beside facing across = grind arith
 
-cell_same : (w v own beside facing across a b c d : Bool) → w ≡ v → own ≡ a → beside ≡ b → facing ≡ c → across ≡ d → turned_cell w own beside facing across ≡ corner_rule v a d b c
+pub cell_same : (w v own beside facing across a b c d : Bool) → w ≡ v → own ≡ a → beside ≡ b → facing ≡ c → across ≡ d → turned_cell w own beside facing across ≡ corner_rule v a d b c
 cell_same w v own beside facing across a b c d wv oa sb fc ad = rw (wv, oa, sb, fc, ad) (sym (corner_is_cell v a b c d))
 
 pub walled_same : CellsWalled → (p : ℕ) (window : ℕ → ℕ → Bool) (cells : Cells) (w h x0 y0 x y : ℕ) → p < 2 → cells.width ≡ w → cells.height ≡ h → IsView p window cells x0 y0 → x0 % 2 ≡ 0 → y0 % 2 ≡ 0 → x < 64 → y < 64 → x0 + x < w → y0 + y < h →

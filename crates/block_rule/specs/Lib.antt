@@ -8,3 +8,4 @@ pub mod Shown
 pub mod Accounts
 pub mod NamedBlocks
 pub mod TileBlocks
+pub mod InPlace

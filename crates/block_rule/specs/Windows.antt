@@ -1,4 +1,4 @@
-use Rattle.std.specs.Prelude.{◌≡◌, ℕ, ◌+◌, ◌-◌, ◌%◌, ◌≤◌, Bool, ℤ}
+use Rattle.std.specs.Prelude.{◌≡◌, ℕ, ◌+◌, ◌-◌, ◌%◌, ◌<◌, ◌≤◌, ◌⊎◌, Bool, ℤ}
 use Rattle.gas_terms.specs.Velocity.{parity}
 use Rattle.gas_terms.specs.Cells.{Cells, Rectangle, HasEvenSides, HasSidesOf}
 use Rattle.gas_terms.specs.Cells as plane
@@ -29,6 +29,10 @@ pub record IsTilePlace (particles walls obstacles : Cells) (x0 y0 : ℕ) : Type 
   pub even_row : y0 % 2 ≡ 0
   pub right : x0 + 64 ≤ particles.width
   pub bottom : y0 + 64 ≤ particles.height
+
+-- column or row n of a torus with so many, or the first one after the last
+abbrev pub IsAround : ℕ → ℕ → ℕ → Type 0
+IsAround size n there = ((n < size) × (there ≡ n)) ⊎ ((n ≡ size) × (there ≡ 0))
 
 -- these 64 by 64 cells
 abbrev pub square : ℕ → ℕ → Rectangle

@@ -98,9 +98,8 @@ fn collide_eight<W: Walled>(walled: W, tile: &Tile, near: &Round, from: usize, o
     write_eight(&rows, from, out);
 }
 
-/// Puts the tile into `out` as it is after the blocks of odd parity have turned. Where the compiler knows the tiles round it by one
-/// read each, this code in the place of the call is fastest. Elsewhere it makes no vectors of it there: see `collide_odd_apart`.
-#[inline(always)]
+/// Puts the tile into `out` as it is after the blocks of odd parity have turned.
+#[inline(never)]
 pub fn collide_odd<W: Walled>(walled: W, tile: &Tile, round: &Round, out: &mut Tile)
     ensures { (window solid : ℕ → ℕ → Bool) → ShowsTile window tile.now →
         ShowsAllRound window round.now → NameBlocks (W.begins walled) (W.ends walled) solid →
@@ -120,15 +119,4 @@ pub fn collide_odd<W: Walled>(walled: W, tile: &Tile, round: &Round, out: &mut T
     let bottom = collided_odd(bottom_row(tile, &near), walled.begin(32), walled.end(32));
     out.odd_odd[31] = bottom.upper_left;
     out.even_odd[31] = bottom.upper_right;
-}
-
-/// The same as one call.
-#[inline(never)]
-pub fn collide_odd_apart<W: Walled>(walled: W, tile: &Tile, round: &Round, out: &mut Tile)
-    ensures { (window solid : ℕ → ℕ → Bool) → ShowsTile window tile.now →
-        ShowsAllRound window round.now → NameBlocks (W.begins walled) (W.ends walled) solid →
-        TellsRows (W.told walled) (is_walled_at 1 solid) →
-        HasCells out.new (turned 1 window solid) }
-{
-    collide_odd(walled, tile, round, out)
 }

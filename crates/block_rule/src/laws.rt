@@ -14,7 +14,7 @@ ghost use Rattle.gas_terms.specs.declared.accounts.Pair.{Pair};
 ghost use Rattle.gas_terms.specs.declared.accounts.Took.{Took};
 ghost use Rattle.block_rule.specs.Around.{around, turned, either, none, taken};
 ghost use Rattle.block_rule.specs.Rows.{ShowsTile, ShowsRound};
-ghost use Rattle.block_rule.specs.Windows.{IsWindow, IsView, IsTilePlace, square, taken_in};
+ghost use Rattle.block_rule.specs.Windows.{IsWindow, IsView, IsTilePlace, IsAround, square, taken_in};
 
 /// A tile and its border have all cells of the torus that the tile's blocks need. At even parity the tile alone has them.
 pub fn tiles_see_the_torus()
@@ -60,4 +60,18 @@ pub fn tiles_take_as_the_torus()
     ensures nothing { (p : ℕ) (tile : TileRows) →
         let zero : Pair = record { x = pos 0; y = pos 0 } in
         taken p tile none none ≡ record { walls = zero; obstacles = zero } }
+{}
+
+/// The blocks of odd parity that begin in a tile reach one column and one row beyond it. There too the block rule on the tile is the
+/// step of the torus.
+pub fn odd_blocks_reach_beyond()
+    ensures { (particles walls obstacles : Cells) (x0 y0 : ℕ)
+        (near near_walls near_obstacles : ℕ → ℕ → Bool) →
+        IsTilePlace particles walls obstacles x0 y0 →
+        IsView 1 near particles x0 y0 → IsView 1 near_walls walls x0 y0 →
+        IsView 1 near_obstacles obstacles x0 y0 →
+        (x y column row : ℕ) → x ≤ 64 → y ≤ 64 →
+        IsAround particles.width (x0 + x) column → IsAround particles.height (y0 + y) row →
+        turned 1 near (either near_walls near_obstacles) x y ≡
+        plane.has (streamed 1 particles (joined walls obstacles)) column row }
 {}

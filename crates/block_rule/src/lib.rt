@@ -1,7 +1,8 @@
 //! The block rule of the HPP gas: for one block of 2 by 2 cells, and for a tile, 32 blocks at once.
 //!
-//! The program calls `turn_tile_even` and `turn_tile_odd`, and `TileBlocks::renew` for the walled blocks of a tile. `tile_blocks`
-//! serves single phases. The module `one_tile`, with `turn_block` and `turn_tile`, is for callers of the library.
+//! The program calls `turn_tile_even`, the functions of `in_place` at odd parity, `taken_among` before both if an account is kept,
+//! and `TileBlocks::renew` for the walled blocks of a tile. `turn_tile_odd` and `tile_blocks` serve single phases. The module
+//! `one_tile`, with `turn_block` and `turn_tile`, is for callers of the library.
 #![tactic(auto)]
 
 mod blocks;
@@ -9,6 +10,7 @@ mod blocks_in_tile;
 mod collide_even;
 mod collide_odd;
 mod count;
+mod in_place;
 pub mod laws;
 mod made;
 mod named;
@@ -17,8 +19,10 @@ mod one_tile;
 mod walled;
 
 use bit_tile::Tile;
+pub use blocks::Beside;
 pub use blocks_in_tile::{OddBlocks, SetBlocks, TileBlocks, tile_blocks};
-pub use named::{turn_tile_even, turn_tile_odd};
+pub use in_place::{Carry, SeamRow, TurnedRow, WalledSets, put_bottom, put_top, seam_row};
+pub use named::{taken_among, turn_tile_even, turn_tile_odd};
 pub use one_tile::{turn_block, turn_tile};
 use tile_border::Round;
 pub use walled::Counted;

@@ -13,7 +13,7 @@ use crate::Window;
 use crate::blocks::Collision;
 use crate::blocks_in_tile::{OddBlocks, SetBlocks};
 use crate::collide_even::collide_even;
-use crate::collide_odd::{collide_odd, collide_odd_apart};
+use crate::collide_odd::collide_odd;
 use crate::count::{Classes, count_class, momentum, momentum_in};
 use crate::made::make_even;
 use crate::walled::{Counted, NoBlocks, OfBoth, OfOne};
@@ -184,9 +184,10 @@ fn taken_by_walls(
     }
 }
 
-// What walls and obstacles take of a tile's particles, in the accounts that are kept.
+/// The momentum that walls and obstacles take in a phase of a tile's own particles: twice that of the particles in their blocks. An
+/// account that is not kept has 0.
 #[inline(always)]
-fn taken_among(
+pub fn taken_among(
     tile: &Tile,
     walls: Option<SetBlocks<'_>>,
     obstacles: Option<SetBlocks<'_>>,
@@ -204,65 +205,45 @@ fn taken_among(
     }
 }
 
-/// Turns the blocks of a tile in place, at even parity, among the blocks that have a wall and those that have an obstacle. Returns
-/// the momentum that these take of the tile's own particles: twice that of the particles in them. An account that is not kept
-/// has 0.
+/// Turns the blocks of a tile in place, at even parity, among the blocks that have a wall and those that have an obstacle.
 #[inline(always)]
 pub fn turn_tile_even(
     tile: &mut Tile,
     walls: Option<SetBlocks<'_>>,
     obstacles: Option<SetBlocks<'_>>,
-    counted: Counted,
-) -> Took
-    ensures cells { (window walled obstructed : ℕ → ℕ → Bool) → ShowsTile window tile.old →
+)
+    ensures { (window walled obstructed : ℕ → ℕ → Bool) → ShowsTile window tile.old →
         AreGivenBlocks walls.entry (walled_by walled) →
         AreGivenBlocks obstacles.entry (walled_by obstructed) →
         HasCells tile.new (turned 0 window (either walled obstructed)) }
-    ensures took { (walled obstructed : ℕ → ℕ → Bool) →
-        AreGivenBlocks walls.entry (walled_by walled) →
-        AreGivenBlocks obstacles.entry (walled_by obstructed) →
-        result ≡ counted_of counted (taken 0 tile.old walled obstructed) }
 {
-    let took = taken_among(tile, walls, obstacles, 0, counted);
     match (walls, obstacles) {
         (None, None) => make_even(Collision, tile),
         (Some(set), None) => collide_even(OfOne { set }, tile),
         (None, Some(set)) => collide_even(OfOne { set }, tile),
         (Some(walls), Some(obstacles)) => collide_even(OfBoth { walls, obstacles }, tile),
     }
-    took
 }
 
-/// The same at odd parity, where blocks reach into the eight tiles round the tile. In a loop over tiles without walled blocks it is
-/// faster `in_place`.
-#[inline(always)]
+/// Puts a tile into `out` as it is after its blocks have turned at odd parity, where they reach into the eight tiles round it.
 pub fn turn_tile_odd(
     particles: &Window,
     walls: Option<SetBlocks<'_>>,
     obstacles: Option<SetBlocks<'_>>,
-    counted: Counted,
-    in_place: bool,
     out: &mut Tile,
-) -> Took
-    ensures cells { (window walled obstructed : ℕ → ℕ → Bool) → IsSeenIn particles.now window →
+)
+    ensures { (window walled obstructed : ℕ → ℕ → Bool) → IsSeenIn particles.now window →
         AreGivenBlocks walls.entry (walled_by walled) →
         AreGivenBlocks obstacles.entry (walled_by obstructed) →
         HasCells out.new (turned 1 window (either walled obstructed)) }
-    ensures took { (walled obstructed : ℕ → ℕ → Bool) →
-        AreGivenBlocks walls.entry (walled_by walled) →
-        AreGivenBlocks obstacles.entry (walled_by obstructed) →
-        result ≡ counted_of counted (taken 1 particles.now.tile.now walled obstructed) }
 {
     let Window { tile, round } = particles;
-    let took = taken_among(tile, walls, obstacles, 1, counted);
     match (walls, obstacles) {
-        (None, None) if in_place => collide_odd(NoBlocks, tile, round, out),
-        (None, None) => collide_odd_apart(NoBlocks, tile, round, out),
-        (Some(set), None) => collide_odd_apart(OfOne { set }, tile, round, out),
-        (None, Some(set)) => collide_odd_apart(OfOne { set }, tile, round, out),
+        (None, None) => collide_odd(NoBlocks, tile, round, out),
+        (Some(set), None) => collide_odd(OfOne { set }, tile, round, out),
+        (None, Some(set)) => collide_odd(OfOne { set }, tile, round, out),
         (Some(walls), Some(obstacles)) => {
-            collide_odd_apart(OfBoth { walls, obstacles }, tile, round, out);
+            collide_odd(OfBoth { walls, obstacles }, tile, round, out);
         }
     }
-    took
 }

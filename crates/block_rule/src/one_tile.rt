@@ -11,7 +11,7 @@ ghost use Rattle.tile_border.specs.declared.border.Border.{Border as BorderValue
 
 use crate::Window;
 use crate::blocks_in_tile::{SetBlocks, tile_blocks};
-use crate::named::{turn_tile_even, turn_tile_odd};
+use crate::named::{taken_among, turn_tile_even, turn_tile_odd};
 use crate::walled::Counted;
 use bit_tile::Tile;
 use gas_terms::Took;
@@ -79,21 +79,13 @@ pub fn turn_tile(
         rows,
         blocks: &blocks,
     });
+    let took = taken_among(tile, walls, obstacles, parity, Counted::BOTH);
+    let mut out = *tile;
     if parity == 0 {
-        let mut out = *tile;
-        let took = turn_tile_even(&mut out, walls, obstacles, Counted::BOTH);
-        (out, took)
+        turn_tile_even(&mut out, walls, obstacles);
     } else {
         let near = border.neighbors();
-        let mut out = Tile::empty();
-        let took = turn_tile_odd(
-            &window_of(tile, &near),
-            walls,
-            obstacles,
-            Counted::BOTH,
-            false,
-            &mut out,
-        );
-        (out, took)
+        turn_tile_odd(&window_of(tile, &near), walls, obstacles, &mut out);
     }
+    (out, took)
 }

@@ -1,6 +1,6 @@
 -- What a laboratory's type keeps.
 use Rattle.std.proofs.Common.{◌≡◌, ℕ, true, ◌≤◌, ◌<◌, ◌^◌, nat_lt, List, [], ◌∷◌, ◌++◌, length, sym, ap, ap₂, ◌∙◌, subst, arith}
-use Rattle.gas_terms.specs.Cells.{Cells, extent, HasSidesOf, IsEvenTorus}
+use Rattle.gas_terms.specs.Cells.{extent, HasSidesOf, IsEvenTorus}
 use Rattle.gas_terms.specs.Gas.{Gas}
 use Rattle.gas_terms.specs.Commands.{fits, is_tick}
 use Rattle.gas_terms.specs.BookedGas.{BookedGas, opened, book}
@@ -37,23 +37,23 @@ row_within lab lab' command y same is in_order =
     subst (λ (l : Laboratory). y < l.gas.particles.height) same (ltb-true y lab.gas.particles.height here)
 
 -- The gas is a torus, as the start is.
-pub kept_torus : (lab : Laboratory) (others : Cells) → IsKept lab others → IsEvenTorus lab.gas.particles
-kept_torus lab others kept =
+pub kept_torus : (lab : Laboratory) → IsKept lab → IsEvenTorus lab.gas.particles
+kept_torus lab kept =
     subst (λ (b : BookedGas). IsEvenTorus b.gas.particles) (sym (all_booked lab kept.sound))
     (book_all-torus (commands lab.journal) (opened lab.start) (torus_of lab.start.particles kept.lattice))
 
 -- Whatever the next command is, the accounts fit.
-pub kept_affords : (lab : Laboratory) (others : Cells) (entry : Entry) → IsKept lab others → IsAcceptable lab entry → Affords (booked lab)
-kept_affords lab others entry kept acceptable = λ command few.
+pub kept_affords : (lab : Laboratory) (entry : Entry) → IsKept lab → IsAcceptable lab entry → Affords (booked lab)
+kept_affords lab entry kept acceptable = λ command few.
     let room : length lab.journal < lab.cap = (let h = has_room lab entry.command acceptable.change acceptable.no_cause in omega (arith, h)) in
     ledger_fits (2 ^ 52) (book (booked lab) command).ledger (omega arith) (next_accounts_fit lab command kept.lattice.sized kept.cap kept.sound room few)
 
 -- A change keeps it all.
-pub kept_by_change : (start : Gas) (cap : ℕ) (b b' : BookedGas) (journal journal' : List Entry) (others others' : Cells) (entry : Entry) →
-    IsKept (lab_of start cap b journal) others → IsAcceptable (lab_of start cap b journal) entry → TickHolds b.gas.tick entry.command →
-    b' ≡ book b entry.command → HasSidesOf others' b'.gas.particles → journal' ≡ journal ++ entry ∷ [] →
-    IsKept (lab_of start cap b' journal') others'
-kept_by_change start cap b b' journal journal' others others' entry kept acceptable ticks e sides grown =
+pub kept_by_change : (start : Gas) (cap : ℕ) (b b' : BookedGas) (journal journal' : List Entry) (entry : Entry) →
+    IsKept (lab_of start cap b journal) → IsAcceptable (lab_of start cap b journal) entry → TickHolds b.gas.tick entry.command →
+    b' ≡ book b entry.command → journal' ≡ journal ++ entry ∷ [] →
+    IsKept (lab_of start cap b' journal')
+kept_by_change start cap b b' journal journal' entry kept acceptable ticks e grown =
     let lab : Laboratory = lab_of start cap b journal in
     let after : IsSound (accepted lab entry) = accepted_sound lab entry (torus_of start.particles kept.lattice) kept.sound acceptable in
     let Sound : BookedGas → List Entry → Type 0 = λ c j. IsSound (lab_of start cap c j) in
@@ -62,20 +62,18 @@ kept_by_change start cap b b' journal journal' others others' entry kept accepta
       cap = kept.cap;
       lattice = kept.lattice;
       tick = subst (λ (c : BookedGas). is_tick c.gas.tick ≡ true) (sym e) (book_tick b entry.command ticks kept.tick);
-      spare = sides;
     }
 
 -- A laboratory opens with it.
-pub kept_at_opening : (start : Gas) (cap : ℕ) (b : BookedGas) (journal : List Entry) (others : Cells) →
-    IsLattice start.particles → is_tick start.tick ≡ true → cap ≤ 65536 → b ≡ opened start → journal ≡ [] → HasSidesOf others start.particles →
-    IsKept (lab_of start cap b journal) others
-kept_at_opening start cap b journal others lattice tick small booked none sides =
-    let there : IsKept (opening start cap) others = record {
+pub kept_at_opening : (start : Gas) (cap : ℕ) (b : BookedGas) (journal : List Entry) →
+    IsLattice start.particles → is_tick start.tick ≡ true → cap ≤ 65536 → b ≡ opened start → journal ≡ [] →
+    IsKept (lab_of start cap b journal)
+kept_at_opening start cap b journal lattice tick small booked none =
+    let there : IsKept (opening start cap) = record {
       sound = opening_sound start cap (torus_of start.particles lattice);
       cap = small;
       lattice = lattice;
       tick = tick;
-      spare = sides;
     } in
-    subst (λ c. IsKept (lab_of start cap c journal) others) (sym booked)
-    (subst (λ j. IsKept (lab_of start cap (opened start) j) others) (sym none) there)
+    subst (λ c. IsKept (lab_of start cap c journal)) (sym booked)
+    (subst (λ j. IsKept (lab_of start cap (opened start) j)) (sym none) there)

@@ -1,5 +1,4 @@
 use Rattle.std.specs.Prelude.{◌≡◌, ◌≤◌, ℕ, List, true, length, Result, Ok, Err, ◌⊎◌}
-use Rattle.gas_terms.specs.Cells.{Cells, HasSidesOf}
 use Rattle.gas_terms.specs.Gas.{Gas}
 use Rattle.gas_terms.specs.Commands.{is_tick}
 use Rattle.gas_terms.specs.BookedGas.{BookedGas}
@@ -18,12 +17,11 @@ lab_of start cap b journal =
     record { start = start; cap = cap; gas = b.gas; ledger = b.ledger; journal = journal }
 
 -- What a laboratory's type keeps beside what the types of its parts keep.
-pub record IsKept (lab : Laboratory) (others : Cells) : Type 0 where
+pub record IsKept (lab : Laboratory) : Type 0 where
   pub sound : IsSound lab
   pub cap : lab.cap ≤ most_entries
   pub lattice : IsLattice lab.start.particles
   pub tick : is_tick lab.gas.tick ≡ true
-  pub spare : HasSidesOf others lab.gas.particles
 
 -- a seat's command as an entry of the journal
 abbrev pub entry_of : ℕ → Command → Entry

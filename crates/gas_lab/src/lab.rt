@@ -12,7 +12,6 @@ ghost use Rattle.gas_terms.specs.Symmetry.{IsOnOneTorus};
 ghost use Rattle.gas_lab.specs.Labs.{Changes, entry_of};
 
 use gas_ledger::{Books, Gas, Port, probe, tally};
-use gas_plane::Plane;
 use gas_terms::{Answer, Command, Entry, Ledger, NoMemory, Refusal, RowBits, Size};
 use phase_step::Stepper;
 use std::alloc::Global;
@@ -28,8 +27,6 @@ pub struct Lab<S: Stepper> {
     cap: u32,
     books: Books,
     journal: Vec<Entry>,
-    // What a step writes into, of the size of the gas.
-    spare: Plane,
     stepper: S,
 }
 
@@ -42,26 +39,25 @@ impl<S: Stepper> Model for Lab<S> {
 
     ghost view = { λ l. lab_of l.start l.cap (books_of l.books) l.journal.items };
 
-    ghost invariant = { λ l.
-        IsKept (lab_of l.start l.cap (books_of l.books) l.journal.items) l.spare };
+    ghost invariant = { λ l. IsKept (lab_of l.start l.cap (books_of l.books) l.journal.items) };
 }
 
 impl<S: Stepper> Lab<S> {
     /// A laboratory with this gas, an empty journal of at most `cap` entries, from 1 to 65,536, and a ledger with the
-    /// gas's sums at the start and nothing else.
+    /// gas's sums at the start and nothing else. Fails if memory runs out: the gas that changes is a copy of the start.
     pub fn open(alloc: Global, start: Gas, cap: u32, stepper: S) -> Result<Lab<S>, NoMemory>
         requires some { 1 ≤ cap }
         requires cap { cap ≤ most_entries }
         ensures { IfOk result (λ lab. lab ≡ opening start cap) }
     {
+        // A gas's type keeps that it is sound.
+        start.size();
         let books = Books::open(alloc, &start)?;
-        let spare = Plane::empty(alloc, start.size())?;
         Ok(Lab {
             start,
             cap,
             books,
             journal: Vec::new(alloc),
-            spare,
             stepper,
         })
     }
@@ -264,8 +260,7 @@ impl<S: Stepper> Lab<S> {
     {
         let count = self.journal.len();
         self.journal.reserve(1)?;
-        self.books
-            .enact(&command, &mut self.spare, &mut self.stepper);
+        self.books.enact(&command, &mut self.stepper);
         self.journal.push_reserved(Entry { seat, command });
         Ok(Answer::Taken(count as u32))
     }

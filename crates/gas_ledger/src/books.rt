@@ -41,46 +41,39 @@ impl Books {
     }
 
     // Steps forward in one run, and books what walls and obstacles take and what the ports bring in and take out.
-    fn steps<S: Stepper>(&mut self, n: u16, spare: &mut Plane, stepper: &mut S)
+    fn steps<S: Stepper>(&mut self, n: u16, stepper: &mut S)
         requires tick { is_tick (self.old.gas.tick +ℤ pos n) ≡ true }
-        requires spare { HasSidesOf spare.old self.old.gas.particles }
         requires fits { FitsI64 (iterate stepped n (books_of self.old)).ledger }
         ensures booked { books_of self.new ≡ iterate stepped n (books_of self.old) }
-        ensures spare { HasSidesOf spare.new self.new.gas.particles }
     {
-        let flow = self.gas.step_on(n, spare, stepper);
+        let flow = self.gas.step_on(n, stepper);
         let taken = self.ledger.with_taken(flow.took);
         self.ledger = taken.with_moved(flow.moved);
     }
 
     // Steps back in one run: walls and obstacles give back what they took.
-    fn steps_back<S: Stepper>(&mut self, n: u16, spare: &mut Plane, stepper: &mut S)
+    fn steps_back<S: Stepper>(&mut self, n: u16, stepper: &mut S)
         requires torus { IsEvenTorus self.old.gas.particles }
         requires tick { is_tick (self.old.gas.tick -ℤ pos n) ≡ true }
-        requires spare { HasSidesOf spare.old self.old.gas.particles }
         requires fits { FitsI64 (iterate stepped_back n (books_of self.old)).ledger }
         ensures booked { books_of self.new ≡ iterate stepped_back n (books_of self.old) }
-        ensures spare { HasSidesOf spare.new self.new.gas.particles }
     {
-        let took = self.gas.run_back(n, spare, stepper);
+        let took = self.gas.run_back(n, stepper);
         self.ledger = self.ledger.with_given_back(took);
     }
 
-    /// Does a command: steps, or an edit, which is booked as one change of the particles. A reading leaves gas and ledger. The
-    /// spare plane is for steps alone.
-    pub fn enact<S: Stepper>(&mut self, command: &Command, spare: &mut Plane, stepper: &mut S)
+    /// Does a command: steps, or an edit, which is booked as one change of the particles. A reading leaves gas and ledger.
+    pub fn enact<S: Stepper>(&mut self, command: &Command, stepper: &mut S)
         requires in_order { fits (extent self.old.gas.particles) command.now ≡ true }
         requires place { has_all_ports self.old.gas command.now ≡ false }
         requires torus { IsEvenTorus self.old.gas.particles }
         requires tick { TickHolds self.old.gas.tick command.now }
-        requires spare { HasSidesOf spare.old self.old.gas.particles }
         requires fits { Affords (books_of self.old) }
         ensures booked { books_of self.new ≡ book (books_of self.old) command.now }
-        ensures spare { HasSidesOf spare.new self.new.gas.particles }
     {
         match command {
-            Command::Step(n) => self.steps(*n, spare, stepper),
-            Command::Back(n) => self.steps_back(*n, spare, stepper),
+            Command::Step(n) => self.steps(*n, stepper),
+            Command::Back(n) => self.steps_back(*n, stepper),
             edit => {
                 let moved = edited(&mut self.gas, edit);
                 self.ledger = self.ledger.with_moved(moved);

@@ -220,12 +220,10 @@ impl Gas {
     }
 
     /// Steps n ticks forward, with the port action at each. Returns what walls and obstacles took, and what the ports brought
-    /// in and took out. `spare` must have the gas's size; its cells are overwritten.
-    pub fn step_on<S: Stepper>(&mut self, n: u16, spare: &mut Plane, stepper: &mut S) -> Flow
+    /// in and took out.
+    pub fn step_on<S: Stepper>(&mut self, n: u16, stepper: &mut S) -> Flow
         requires tick { is_tick (self.old.tick +ℤ pos n) ≡ true }
-        requires spare { HasSidesOf spare.old self.old.particles }
         ensures gas { self.new ≡ gas_stepped n self.old }
-        ensures spare { HasSidesOf spare.new self.new.particles }
         ensures took { result.took ≡ steps_take n self.old }
         ensures moved { result.moved ≡ steps_move n self.old }
     {
@@ -244,15 +242,13 @@ impl Gas {
             n,
             action,
         };
-        stepper.run_with(particles, run, spare)
+        stepper.run_with(particles, run)
     }
 
     /// Steps n ticks back. Returns what walls and obstacles took in the steps forward that are undone.
-    pub fn run_back<S: Stepper>(&mut self, n: u16, spare: &mut Plane, stepper: &mut S) -> Took
+    pub fn run_back<S: Stepper>(&mut self, n: u16, stepper: &mut S) -> Took
         requires tick { is_tick (self.old.tick -ℤ pos n) ≡ true }
-        requires spare { HasSidesOf spare.old self.old.particles }
         ensures gas { self.new ≡ gas_before n self.old }
-        ensures spare { HasSidesOf spare.new self.new.particles }
         ensures took { result ≡ takes_before n self.old }
     {
         let first = 1 - self.tick.parity();
@@ -267,6 +263,6 @@ impl Gas {
             n,
             action,
         };
-        stepper.run_with(particles, run, spare).took
+        stepper.run_with(particles, run).took
     }
 }

@@ -3,3 +3,4 @@ pub mod Tiles
 pub mod Planes
 pub mod Lending
 pub mod Counts
+pub mod Beside

@@ -12,6 +12,7 @@ ghost use Rattle.gas_plane.specs.Lending.{LendsTile};
 ghost use Rattle.gas_plane.specs.Tiles.{AreTilesInRow};
 
 mod around;
+mod beside;
 mod circle;
 mod counts;
 pub mod laws;
@@ -23,6 +24,7 @@ mod rows;
 mod totals;
 
 pub use around::{Position, TileRows};
+pub use beside::Turner;
 pub use bit_tile::Tile;
 pub use circle::{after, before};
 pub use counts::sums;
@@ -185,8 +187,8 @@ impl Plane {
         (self.size.width() / 64) as u32
     }
 
-    // How many rows of tiles there are.
-    fn down(&self) -> u32
+    /// How many rows of tiles there are.
+    pub fn down(&self) -> u32
         ensures down { result ≡ self.now.height / 64 }
         ensures lattice { IsLattice self.now }
         ensures positive { 0 < self.now.height / 64 }

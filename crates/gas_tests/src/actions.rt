@@ -82,7 +82,6 @@ fn two(rt: &(impl Abort + AllocGlobal)) -> Plane {
 // A run of three phases on one thread, the first at an even tick.
 fn act_thrice(rt: &(impl Abort + AllocGlobal), particles: &mut Plane, action: &Listed<'_>) -> Flow {
     let size = particles.size();
-    let mut spare = Plane::empty(rt.alloc(), size).expect(rt, "memory");
     let none = Plane::empty(rt.alloc(), size).expect(rt, "memory");
     let solids = solids(rt, &none, &none);
     let run = Run {
@@ -91,7 +90,7 @@ fn act_thrice(rt: &(impl Abort + AllocGlobal), particles: &mut Plane, action: &L
         n: 3,
         action,
     };
-    Serial.run_with(particles, run, &mut spare)
+    Serial.run_with(particles, run)
 }
 
 #[test]

@@ -5,8 +5,8 @@ use crate::gases::pair;
 use crate::lattices::same_cells;
 use bit_tile::Tile;
 use block_rule::{
-    Counted, SetBlocks, TileBlocks, Window, tile_blocks, turn_block, turn_tile, turn_tile_even,
-    turn_tile_odd,
+    Beside, Carry, Counted, SetBlocks, TileBlocks, WalledSets, Window, put_bottom, put_top,
+    seam_row, taken_among, tile_blocks, turn_block, turn_tile, turn_tile_even, turn_tile_odd,
 };
 use gas_terms::Took;
 use std::process::Abort;
@@ -107,17 +107,11 @@ fn given(named: &(u32, TileBlocks)) -> Option<SetBlocks<'_>> {
     })
 }
 
-// The tile with this border after the rule at an odd tick, without walls, of which nothing is taken.
-fn turned_odd(rt: &impl Abort, old: &Tile, border: &Border) -> Tile {
+// The tile with this border after the rule at an odd tick, without walls.
+fn turned_odd(old: &Tile, border: &Border) -> Tile {
     let near = border.neighbors();
-    let particles = window(old, &near);
     let mut out = Tile::full();
-    let took = turn_tile_odd(&particles, None, None, Counted::BOTH, true, &mut out);
-    expect_same(&rt, took, Took::ZERO);
-    let mut apart = Tile::full();
-    let took = turn_tile_odd(&particles, None, None, Counted::BOTH, false, &mut apart);
-    expect_same(&rt, took, Took::ZERO);
-    expect_that(&rt, same_cells(&apart, &out));
+    turn_tile_odd(&window(old, &near), None, None, &mut out);
     out
 }
 
@@ -128,18 +122,19 @@ fn particles_cross_their_blocks(rt: HostRuntime) {
     // A lone particle crosses its block, and a pair that meets head on turns.
     let even = [(1, 1), (11, 10), (10, 11), (62, 63)].as_slice();
     let mut free = old;
-    let took = turn_tile_even(&mut free, None, None, Counted::BOTH);
+    turn_tile_even(&mut free, None, None);
     expect_that(&rt, has_just(&free, even));
-    expect_same(&rt, took, Took::ZERO);
     let mut among_none = old;
     let named = blocks_of(&none);
-    let took = turn_tile_even(&mut among_none, given(&named), given(&named), Counted::BOTH);
-    expect_that(&rt, has_just(&among_none, even));
+    let blocks = given(&named);
+    let took = taken_among(&old, blocks, blocks, 0, Counted::BOTH);
     expect_same(&rt, took, Took::ZERO);
+    turn_tile_even(&mut among_none, blocks, blocks);
+    expect_that(&rt, has_just(&among_none, even));
 
     // At odd parity (10, 10) and (11, 11) are in blocks of their own, and (0, 0) and (63, 62) leave the tile.
     let odd = [(9, 9), (12, 12)].as_slice();
-    expect_that(&rt, has_just(&turned_odd(&rt, &old, &no_border()), odd));
+    expect_that(&rt, has_just(&turned_odd(&old, &no_border()), odd));
     let border = no_border();
     let (again, took) = turn_tile(&old, &border, &none, &border, &none, &border, 1);
     expect_that(&rt, has_just(&again, odd));
@@ -154,9 +149,10 @@ fn particles_of_named_blocks_stay(rt: HostRuntime) {
     // Blocks at even places have them in rows 10 and 11, those at odd places in rows 9 to 12: a bit for each pair of rows.
     expect_same(&rt, named.0, 1 << 4 | 1 << 5 | 1 << 6);
     expect_same(&rt, named.1.even[5], 1 << 5);
-    let took = turn_tile_even(&mut tile, given(&named), None, Counted::BOTH);
-    expect_that(&rt, has_just(&tile, [(1, 1), (10, 10)].as_slice()));
+    let took = taken_among(&tile, given(&named), None, 0, Counted::BOTH);
     expect_same(&rt, (took.walls, took.obstacles), (pair(2, 2), pair(0, 0)));
+    turn_tile_even(&mut tile, given(&named), None);
+    expect_that(&rt, has_just(&tile, [(1, 1), (10, 10)].as_slice()));
 
     // Without those cells, in rows 11 and 12 of the window, no block is walled.
     let none = Tile::empty();
@@ -182,7 +178,8 @@ fn accounts_that_are_not_kept_are_zero(rt: HostRuntime) {
         let mut tile = old;
         let walled = given(&even_walls);
         let obstructed = given(&even_obstacles);
-        let took = turn_tile_even(&mut tile, walled, obstructed, counted);
+        let took = taken_among(&tile, walled, obstructed, 0, counted);
+        turn_tile_even(&mut tile, walled, obstructed);
         expect_that(&rt, same_cells(&tile, &old));
         let of_walls = if walls { pair(2, 2) } else { pair(0, 0) };
         let of_obstacles = if obstacles { pair(2, -2) } else { pair(0, 0) };
@@ -192,7 +189,8 @@ fn accounts_that_are_not_kept_are_zero(rt: HostRuntime) {
         let walled = given(&odd_walls);
         let obstructed = given(&odd_obstacles);
         let particles = window(&old, &near);
-        let took = turn_tile_odd(&particles, walled, obstructed, counted, false, &mut tile);
+        let took = taken_among(&old, walled, obstructed, 1, counted);
+        turn_tile_odd(&particles, walled, obstructed, &mut tile);
         expect_that(&rt, same_cells(&tile, &old));
         let of_walls = if walls { pair(-2, -2) } else { pair(0, 0) };
         let of_obstacles = if obstacles { pair(-2, 2) } else { pair(0, 0) };
@@ -208,17 +206,17 @@ fn particles_come_in_over_the_corners(rt: HostRuntime) {
     let last = tile_of([(63, 63)].as_slice());
 
     // From the tile above to the left, and from the tile below to the right.
-    let out = turned_odd(&rt, &none, &border_of(&none, &none, &corner, &first));
+    let out = turned_odd(&none, &border_of(&none, &none, &corner, &first));
     expect_that(&rt, has_just(&out, [(0, 0), (63, 63)].as_slice()));
 
     // A head-on pair across the corner goes to the tiles above and to the left.
-    let out = turned_odd(&rt, &first, &border_of(&none, &none, &corner, &none));
+    let out = turned_odd(&first, &border_of(&none, &none, &corner, &none));
     expect_that(&rt, has_just(&out, [].as_slice()));
 
     // And a pair of those tiles comes to the corner.
     let above = tile_of([(0, 63)].as_slice());
     let left = tile_of([(63, 0)].as_slice());
-    let out = turned_odd(&rt, &last, &border_of(&above, &left, &none, &none));
+    let out = turned_odd(&last, &border_of(&above, &left, &none, &none));
     expect_that(&rt, has_just(&out, [(0, 0)].as_slice()));
 }
 
@@ -323,4 +321,66 @@ fn walls_and_obstacles_turn_particles_back(rt: HostRuntime) {
     expect_that(&rt, has_just(&out, [(0, 0), (5, 8), (20, 31)].as_slice()));
     expect_same(&rt, took.walls, pair(0, 0));
     expect_same(&rt, took.obstacles, pair(-2, -2));
+}
+
+// Walls and obstacles of a tile of which these blocks are walled.
+fn walled_by(named: &(u32, TileBlocks)) -> WalledSets<'_> {
+    WalledSets {
+        walls: given(named),
+        obstacles: None,
+    }
+}
+
+const FREE: WalledSets<'static> = WalledSets {
+    walls: None,
+    obstacles: None,
+};
+
+/// At an odd tick blocks begin in odd columns and rows. Those of the last column end in the tile to the right: a particle from (63, 5)
+/// goes to its (0, 6), and one from its (0, 10) comes to (63, 9). What the tile to the left carries on arrives in column 0.
+#[test]
+fn particles_are_carried_on_along_a_row_of_tiles(rt: HostRuntime) {
+    let mut tile = tile_of([(1, 1), (63, 5), (20, 0), (20, 63)].as_slice());
+    let right = tile_of([(0, 10)].as_slice());
+    let left = tile_of([(63, 3), (63, 49)].as_slice());
+    let mut carry = FREE.carried_on(&left, &tile);
+    FREE.turn_inner(&mut tile, &right, &mut carry);
+    // Rows 0 and 63 stay for the rows of tiles above and below.
+    let cells = [(2, 2), (63, 9), (0, 4), (0, 50), (20, 0), (20, 63)].as_slice();
+    expect_that(&rt, has_just(&tile, cells));
+    // The tile to the right gets the particle, and its own (0, 10) has left.
+    let mut next = right;
+    FREE.turn_inner(&mut next, &Tile::empty(), &mut carry);
+    expect_that(&rt, has_just(&next, [(0, 6)].as_slice()));
+
+    // A walled block keeps its particles on both sides of the seam.
+    let mut tile = tile_of([(63, 5)].as_slice());
+    let named = blocks_of(&tile_of([(63, 5)].as_slice()));
+    let mut carry = Carry::ZERO;
+    walled_by(&named).turn_inner(&mut tile, &right, &mut carry);
+    expect_that(&rt, has_just(&tile, [(63, 5), (63, 9)].as_slice()));
+}
+
+/// The blocks that begin in row 63 end in the tile below. A particle from (7, 63) goes to (8, 0) there, one from (12, 0) there to
+/// (11, 63), and one from (63, 63) is carried on.
+#[test]
+fn particles_cross_the_seam_below_a_tile(rt: HostRuntime) {
+    let mut tile = tile_of([(7, 63), (63, 63), (30, 30)].as_slice());
+    let mut below = tile_of([(12, 0), (31, 31)].as_slice());
+    let none = Tile::empty();
+    let row = seam_row(&tile, &none, &below, &none);
+    let coming = Beside {
+        upper: 1 << 31,
+        lower: 0,
+    };
+    let turned = FREE.turned_seam(row, coming);
+    put_bottom(&mut tile, &turned.own);
+    put_top(&mut below, &turned.own);
+    expect_that(
+        &rt,
+        has_just(&tile, [(0, 63), (11, 63), (30, 30)].as_slice()),
+    );
+    expect_that(&rt, has_just(&below, [(8, 0), (31, 31)].as_slice()));
+    let Beside { upper, lower } = turned.leaving;
+    expect_same(&rt, (upper >> 31, lower >> 31), (0, 1));
 }

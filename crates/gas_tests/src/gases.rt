@@ -97,10 +97,9 @@ pub fn add(rt: &impl Abort, gas: &mut Gas, piece: Piece, x: u32, y: u32, w: u32,
     }
 }
 
-pub fn step_on(rt: &(impl Abort + AllocGlobal), gas: &mut Gas, n: u16) -> Flow {
-    let mut spare = Plane::empty(rt.alloc(), gas.size()).expect(rt, "memory");
+pub fn step_on(rt: &impl Abort, gas: &mut Gas, n: u16) -> Flow {
     expect_that(&rt, gas.tick().ahead(n).is_some());
-    gas.step_on(n, &mut spare, &mut Serial)
+    gas.step_on(n, &mut Serial)
 }
 
 /// A rectangle, and what it is for.

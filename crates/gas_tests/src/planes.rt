@@ -1,13 +1,14 @@
 //! Worked examples of planes, with values found by hand.
 
-ghost use Rattle.std.specs.Prelude.{◌≡◌, true};
+ghost use Rattle.std.specs.Prelude.{◌≡◌, true, ◌||◌};
+ghost use Rattle.bit_tile.specs.Tile.{has, HasCells};
 ghost use Rattle.gas_terms.specs.Cells.{lies_within, extent};
 
 use crate::borders::{Side, expect_ring};
 use crate::expected::{expect_same, expect_that};
 use crate::gases::sums;
 use crate::lattices::{are_same, expect_cells, holds, plane};
-use gas_plane::{Plane, Tile, word_of};
+use gas_plane::{Plane, Tile, Turner, word_of};
 use gas_terms::{Rect, Size};
 use std::process::Abort;
 use tile_border::Round;
@@ -420,6 +421,29 @@ fn lends_a_tile(rt: HostRuntime) {
     expect_cells(&rt, &plane, &[(65, 66, true), (1, 2, false)]);
     lend(&rt, &mut plane, 3, 1, 2, false);
     expect_that(&rt, !holds(&plane, 65, 66));
+}
+
+// Adds the cells of the tile to the right.
+#[derive(Drop)]
+struct AddRight;
+
+impl Turner for AddRight {
+    ghost turns = { λ before t right made after.
+        HasCells made (λ x y. has t x y || has right x y) };
+
+    fn turn(&mut self, tile: &mut Tile, right: &Tile) {
+        tile.join(right);
+    }
+}
+
+#[test]
+fn turns_a_tile_beside_the_next_one(rt: HostRuntime) {
+    let mut plane = plane(&rt, 128, 64, &[(3, 4), (70, 5)]);
+    expect_same(&rt, (plane.across(), plane.down()), (2, 1));
+    expect_that(&rt, plane.size().tiles() == 2);
+    plane.turn_beside(0, &mut AddRight);
+    let cells = [(3, 4, true), (6, 5, true), (70, 5, true), (67, 4, false)];
+    expect_cells(&rt, &plane, &cells);
 }
 
 #[test]

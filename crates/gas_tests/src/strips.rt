@@ -39,10 +39,9 @@ fn act_along<S: Stepper, A: Action>(
     setting: Setting<'_>,
     action: &A,
     particles: &mut Plane,
-    spare: &mut Plane,
 ) -> Flow {
     expect_that(&rt, setting.parity < 2);
-    fit(rt, particles, setting.walls, setting.obstacles, spare);
+    fit(rt, particles, setting.walls, setting.obstacles, particles);
     let solids = solids(rt, setting.walls, setting.obstacles);
     let run = Run {
         solids: &solids,
@@ -50,31 +49,35 @@ fn act_along<S: Stepper, A: Action>(
         n: setting.n,
         action,
     };
-    stepper.run_with(particles, run, spare)
+    stepper.run_with(particles, run)
 }
 
-// A run by a team that makes each by strips, however short and low, on a busy machine too.
+// A team that makes each run by strips, however short and low, on a busy machine too.
+const EACH_BY_STRIPS: LeastRun = LeastRun {
+    phases: 0,
+    tiles: 0,
+    patience: 60_000,
+};
+
+// A run by strips of so many workers.
 fn by_strips<R: Threads + Clock + Abort + AllocGlobal + Copy + Drop, A: Action>(
     rt: &R,
     workers: u8,
     setting: Setting<'_>,
     action: &A,
     particles: &mut Plane,
-    spare: &mut Plane,
 ) -> Flow {
     expect_that(&rt, 0 < workers && workers <= 16);
-    let least = LeastRun {
-        phases: 0,
-        tiles: 0,
-        patience: 60_000,
-    };
-    let mut team = Team::with_least_run(*rt, rt.alloc(), workers, NoGate, least);
-    act_along(rt, &mut team, setting, action, particles, spare)
+    let mut team = Team::with_least_run(*rt, rt.alloc(), workers, NoGate, EACH_BY_STRIPS);
+    let flow = act_along(rt, &mut team, setting, action, particles);
+    expect_that(&rt, team.was_by_strips());
+    flow
 }
 
 // The same on one thread, phase by phase.
-fn by_phases(rt: &impl Abort, run: Setting<'_>, particles: &mut Plane, spare: &mut Plane) -> Took {
+fn by_phases(rt: &(impl Abort + AllocGlobal), run: Setting<'_>, particles: &mut Plane) -> Took {
     expect_that(&rt, run.parity < 2);
+    let mut out = Plane::empty(rt.alloc(), particles.size()).expect(rt, "memory");
     let mut took = Took::ZERO;
     for k in 0..run.n {
         let turn = parity_at(run.parity, k);
@@ -85,10 +88,10 @@ fn by_phases(rt: &impl Abort, run: Setting<'_>, particles: &mut Plane, spare: &m
             run.walls,
             run.obstacles,
             turn,
-            spare,
+            &mut out,
         );
         add_taken(&mut took, more);
-        std::mem::swap(particles, spare);
+        std::mem::swap(particles, &mut out);
     }
     took
 }
@@ -102,14 +105,13 @@ fn strips_agree<R: Threads + Clock + Abort + AllocGlobal + Copy + Drop>(
 ) {
     let walls = seeded(rt, size, 77172645463325252, 7);
     let obstacles = seeded(rt, size, 66172645463325252, 8);
-    let mut spare = seeded(rt, size, 1, 1);
     for parity in [0, 1] {
         let run = among(&walls, &obstacles, parity, n);
         let mut alone = seeded(rt, size, 88172645463325252, 1);
-        let by_one = by_phases(rt, run, &mut alone, &mut spare);
+        let by_one = by_phases(rt, run, &mut alone);
         for workers in workers {
             let mut now = seeded(rt, size, 88172645463325252, 1);
-            let took = by_strips(rt, *workers, run, &Still, &mut now, &mut spare).took;
+            let took = by_strips(rt, *workers, run, &Still, &mut now).took;
             expect_that(&rt, took == by_one && have_same_rows(&now, &alone));
         }
     }
@@ -137,25 +139,18 @@ fn long_and_high_runs_by_strips_are_the_phases(rt: HostRuntime) {
     strips_agree(&rt, high, 7, &workers);
 }
 
-// A run by strips leaves the spare plane as it was. One phase by phase leaves there what its last phase began with.
+// Sixty-four rows of tiles: strips of 32, of 21 and 22, and of 4 rows.
 #[test]
 fn strips_are_put_together(rt: HostRuntime) {
     let size = Size::new(64, 4096).expect(&rt, "a size");
     let none = Plane::empty(rt.alloc(), size).expect(&rt, "memory");
     let run = among(&none, &none, 1, 64);
-    let left = seeded(&rt, size, 1, 1);
     let mut alone = seeded(&rt, size, 88172645463325252, 1);
-    let mut spare = seeded(&rt, size, 1, 1);
-    by_phases(&rt, run, &mut alone, &mut spare);
-    expect_that(&rt, !have_same_rows(&spare, &left));
+    by_phases(&rt, run, &mut alone);
     for workers in [2, 3, 16] {
         let mut now = seeded(&rt, size, 88172645463325252, 1);
-        let mut spare = seeded(&rt, size, 1, 1);
-        by_strips(&rt, workers, run, &Still, &mut now, &mut spare);
-        expect_that(
-            &rt,
-            have_same_rows(&spare, &left) && have_same_rows(&now, &alone),
-        );
+        by_strips(&rt, workers, run, &Still, &mut now);
+        expect_that(&rt, have_same_rows(&now, &alone));
     }
 }
 
@@ -179,9 +174,8 @@ fn run_of_sixty_five_by_two_strips(rt: HostRuntime) {
     let walls = scattered(&rt, 256, 128, 2, 400);
     let obstacles = scattered(&rt, 256, 128, 3, 700);
     let mut now = scattered(&rt, 256, 128, 1, 3);
-    let mut spare = scattered(&rt, 256, 128, 4, 2);
     let run = among(&walls, &obstacles, 0, 65);
-    let found = by_strips(&rt, 2, run, &Still, &mut now, &mut spare).took;
+    let found = by_strips(&rt, 2, run, &Still, &mut now).took;
     expect_that(&rt, found == took(pair(-82, 18), pair(0, -80)));
     expect_that(&rt, places(&now, 128) == (10959, 179345058));
 }
@@ -215,7 +209,6 @@ fn strokes_in_a_run_by_two_strips(rt: HostRuntime) {
     let walls = scattered(&rt, 256, 128, 2, 400);
     let obstacles = scattered(&rt, 256, 128, 3, 700);
     let mut now = scattered(&rt, 256, 128, 1, 3);
-    let mut spare = scattered(&rt, 256, 128, 4, 2);
     let size = now.size();
     let drained = Rect::within(size, 60, 50, 10, 30).expect(&rt, "a rectangle");
     let filled = Rect::within(size, 120, 118, 20, 8).expect(&rt, "a rectangle");
@@ -224,7 +217,7 @@ fn strokes_in_a_run_by_two_strips(rt: HostRuntime) {
         exchanges: exchanges.as_slice(),
     };
     let run = among(&walls, &obstacles, 0, 257);
-    let found = by_strips(&rt, 2, run, &action, &mut now, &mut spare);
+    let found = by_strips(&rt, 2, run, &action, &mut now);
     let taken = took(pair(260, 772), pair(-174, -346));
     expect_that(
         &rt,
@@ -255,15 +248,24 @@ fn comes_to<R: Threads + Clock + Abort + AllocGlobal + Copy + Drop, A: Action>(
     let run = among(&walls, &obstacles, 0, 17);
     for way in 0..4u8 {
         let mut now = plane(rt, 64, 128, &START);
-        let mut spare = plane(rt, 64, 128, &[]);
         let found = match way {
-            0 => act_along(rt, &mut Serial, run, action, &mut now, &mut spare),
+            0 => act_along(rt, &mut Serial, run, action, &mut now),
             1 => {
                 let mut alone = team(rt, *rt, rt.alloc(), 1, NoGate);
-                act_along(rt, &mut alone, run, action, &mut now, &mut spare)
+                act_along(rt, &mut alone, run, action, &mut now)
             }
-            2 => by_strips(rt, 1, run, action, &mut now, &mut spare),
-            _ => by_strips(rt, 2, run, action, &mut now, &mut spare),
+            _ => {
+                let workers = way.saturating_sub(1);
+                expect_that(&rt, 0 < workers && workers <= 16);
+                let mut team = Team::with_least_run(
+                    *rt,
+                    rt.alloc(),
+                    workers,
+                    NoGate,
+                    EACH_BY_STRIPS,
+                );
+                act_along(rt, &mut team, run, action, &mut now)
+            }
         };
         expect_that(&rt, found == flow);
         expect_that(&rt, are_same(&now, &want, 64, 128));
@@ -347,18 +349,17 @@ fn team_runs_as_one_thread(rt: HostRuntime) {
     let obstacles = seeded(&rt, size, 66172645463325252, 10);
     let mut now = seeded(&rt, size, 88172645463325252, 1);
     let mut alone = seeded(&rt, size, 88172645463325252, 1);
-    let mut spare = seeded(&rt, size, 1, 1);
     let mut team = team(&rt, rt, rt.alloc(), 16, NoGate);
     // The strips of the first run serve the second.
     for (n, parity) in [(64, 0), (65, 1)] {
         let run = among(&walls, &obstacles, parity, n);
-        let took = act_along(&rt, &mut team, run, &Still, &mut now, &mut spare).took;
-        let by_one = act_along(&rt, &mut Serial, run, &Still, &mut alone, &mut spare).took;
+        let took = act_along(&rt, &mut team, run, &Still, &mut now).took;
+        let by_one = act_along(&rt, &mut Serial, run, &Still, &mut alone).took;
         expect_that(&rt, took == by_one && have_same_rows(&now, &alone));
     }
 }
 
-// Seen as in `strips_are_put_together`. By hand: 32,768 tiles fewer for each worker are enough, from 16 phases on. On 32 by 32
+// By hand: 32,768 tiles fewer for each worker are enough, from 16 phases on. On 32 by 32
 // tiles each of two workers turns 32 * 16 * 64 = 32,768 fewer in 64 phases and 32,256 in 63, and each of four 32 * 24 * 63 =
 // 48,384 in 63. Of 64 by 64 tiles each of two turns 64 * 32 * 16 = 32,768 fewer in 16 phases, and each of 16 turns
 // 64 * 60 * 15 = 57,600 fewer in 15, which are too few phases.
@@ -375,7 +376,6 @@ fn team_parts_large_runs_into_strips(rt: HostRuntime) {
         let size = Size::new(side, side).expect(&rt, "a size");
         let none = Plane::empty(rt.alloc(), size).expect(&rt, "memory");
         let run = among(&none, &none, 0, n);
-        let left = seeded(&rt, size, 1, 1);
         expect_that(&rt, 0 < workers && workers <= 16);
         let least = LeastRun {
             patience: 60_000,
@@ -383,14 +383,12 @@ fn team_parts_large_runs_into_strips(rt: HostRuntime) {
         };
         let mut team = Team::with_least_run(rt, rt.alloc(), workers, NoGate, least);
         let mut now = seeded(&rt, size, 88172645463325252, 1);
-        let mut spare = seeded(&rt, size, 1, 1);
-        act_along(&rt, &mut team, run, &Still, &mut now, &mut spare);
-        expect_that(&rt, have_same_rows(&spare, &left) == in_strips);
+        act_along(&rt, &mut team, run, &Still, &mut now);
+        expect_that(&rt, team.was_by_strips() == in_strips);
     }
 }
 
-// Three rows of tiles, and exchanges that are listed once, twice and three times, 256 at a time. As in
-// `strips_are_put_together`, the spare plane stays as it was.
+// Three rows of tiles, and exchanges that are listed once, twice and three times, 256 at a time.
 #[test]
 fn small_runs_by_strips_are_those_of_one_thread(rt: HostRuntime) {
     let size = Size::new(128, 192).expect(&rt, "a size");
@@ -402,18 +400,14 @@ fn small_runs_by_strips_are_those_of_one_thread(rt: HostRuntime) {
     let action = Listed {
         exchanges: exchanges.as_slice(),
     };
-    let left = seeded(&rt, size, 1, 1);
     for n in [1, 5, 257, 513] {
         let run = among(&walls, &obstacles, 1, n);
         let mut alone = seeded(&rt, size, 88172645463325252, 1);
-        let mut spare = seeded(&rt, size, 1, 1);
-        let by_one = act_along(&rt, &mut Serial, run, &action, &mut alone, &mut spare);
+        let by_one = act_along(&rt, &mut Serial, run, &action, &mut alone);
         for workers in [2, 3, 7] {
             let mut now = seeded(&rt, size, 88172645463325252, 1);
-            let mut spare = seeded(&rt, size, 1, 1);
-            let flow = by_strips(&rt, workers, run, &action, &mut now, &mut spare);
+            let flow = by_strips(&rt, workers, run, &action, &mut now);
             expect_that(&rt, flow == by_one && have_same_rows(&now, &alone));
-            expect_that(&rt, have_same_rows(&spare, &left));
         }
         let moved = by_one.moved.injected.count > 0 && by_one.moved.drained.count > 0;
         expect_that(&rt, moved == (n > 1));

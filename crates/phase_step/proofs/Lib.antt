@@ -12,6 +12,7 @@ pub mod TurnedTiles
 pub mod PhaseSweeps
 pub mod TakenSums
 pub mod RunTakes
+pub mod Untaken
 pub mod RunSteps
 pub mod Balances
 pub mod SolidBlocks
@@ -23,5 +24,9 @@ pub mod OwnPhases
 pub mod RowRuns
 pub mod RowSweeps
 pub mod OwnTiles
-pub mod TurnedRows
+pub mod OddParts
 pub mod PartActs
+pub mod RowTiles
+pub mod RowWindows
+pub mod InnerRows
+pub mod SeamRows

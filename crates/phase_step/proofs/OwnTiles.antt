@@ -104,12 +104,3 @@ row_small cells row across sized e within =
     let few : across ≤ 64 = omega (arith, e, w) in
     let most : row * across ≤ 63 * 64 = mul-le-mul low few in
     omega (arith, most)
-
--- so many tiles are in the rows from the margin on
-pub rows_less : (row margin a : ℕ) → margin ≤ row → (row - margin) * a ≡ row * a - margin * a
-rows_less row margin a low =
-    let q = row - margin in
-    let from : row ≡ margin + q = omega (arith, low) in
-    let e : (margin + q) * a ≡ margin * a + q * a = omega arith in
-    let f : row * a ≡ (margin + q) * a = ap (λ n. n * a) from in
-    omega (arith, e, f)

@@ -1,5 +1,5 @@
 -- Which rows of a lattice are seen round a tile of a part.
-use Rattle.std.proofs.Common.{◌≡◌, ℕ, zero, suc, ◌+◌, ◌-◌, ◌*◌, ◌/◌, ◌%◌, ◌<◌, ◌≤◌, refl, sym, ap, ◌∙◌, arith}
+use Rattle.std.proofs.Common.{◌≡◌, ℕ, zero, suc, ◌+◌, ◌-◌, ◌*◌, ◌%◌, ◌<◌, ◌≤◌, refl, sym, ap, ◌∙◌, arith}
 use Rattle.std.proofs.Math.Nat.{mod-lt, add-mod_right, mod-add-mod, add-mod-mod}
 use Rattle.std.proofs.lemmas.Nat.{mod-mul-add, div-add-mod'}
 

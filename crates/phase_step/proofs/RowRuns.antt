@@ -161,10 +161,10 @@ whole_turns p old w o i tile_solids t is within of_walls of_obstacles known turn
     ∙ ap (has (streamed p old (joined w o)) (i % (old.width / 64) * 64 + x)) (whole_row (old.height / 64) old.height (i / (old.width / 64) * 64 + y) (omega (arith, tiles)) place.1)
 
 pub whole_takes : (p : ℕ) (old w o : Cells) (i : ℕ) (tile_solids : TileSolids) (took : Took) → IsLattice old → i < tile_count old → HasSidesOf w old → HasSidesOf o old → AreTileSolids w o i tile_solids
-    → (IsOwn (whole_part old) old i → IsPartOf (whole_part old) w o old old (64 - p) → AreTileSolids w o (tile_in (whole_part old) (old.width / 64) i) tile_solids → took ≡ taken_in (pos p) old w o (tile_rectangle old (tile_in (whole_part old) (old.width / 64) i)))
+    → (IsOwn (whole_part old) old i → IsPartOf (whole_part old) w o old old 64 → AreTileSolids w o (tile_in (whole_part old) (old.width / 64) i) tile_solids → took ≡ taken_in (pos p) old w o (tile_rectangle old (tile_in (whole_part old) (old.width / 64) i)))
     → took ≡ taken_in (pos p) old w o (tile_rectangle old i)
 whole_takes p old w o i tile_solids took is within of_walls of_obstacles known takes =
-    takes (whole_own old i within) (whole_is (old.height / 64) (64 - p) w o old is.sized is.full of_walls of_obstacles refl) (subst (λ j. AreTileSolids w o j tile_solids) (sym (whole_tile old i is within)) known)
+    takes (whole_own old i within) (whole_is (old.height / 64) 64 w o old is.sized is.full of_walls of_obstacles refl) (subst (λ j. AreTileSolids w o j tile_solids) (sym (whole_tile old i is within)) known)
     ∙ ap (λ j. taken_in (pos p) old w o (tile_rectangle old j)) (whole_tile old i is within)
 
 -- A strip is a part with a margin.

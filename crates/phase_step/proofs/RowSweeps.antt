@@ -57,7 +57,7 @@ tile_before before now i t sides within kept from = grind (arith, has, wide)
 
 -- A row of tiles is made tile by tile: the next one is tile i, in this column.
 module _ (cells now : Cells) (row column i : ℕ) (t : Tile) (sized : is_size (extent cells) ≡ true) (sides : HasSidesOf now cells) (low : row < cells.height / 64) (less : column < cells.width / 64) (place : i ≡ row * (cells.width / 64) + column) where
-  same_elsewhere : (x y : ℕ) → x < cells.width → y < cells.height → (tile_of cells x y ≡ i → ⊥) → has (with_tile now i t) x y ≡ has now x y
+  pub same_elsewhere : (x y : ℕ) → x < cells.width → y < cells.height → (tile_of cells x y ≡ i → ⊥) → has (with_tile now i t) x y ≡ has now x y
   same_elsewhere x y h k other =
       has-cells_where now.width now.height (λ x y. if tile_of now x y == i then tile.has t (x % 64) (y % 64) else has now x y) x y (subst (λ w. x < w) (sym sides.wide) h) (subst (λ n. y < n) (sym sides.high) k)
       ∙ sym (choose_false _ _ _ _ (ne_eqb _ i (λ e. other (subst (λ w. y / 64 * (w / 64) + x / 64 ≡ i) sides.wide e))) refl)
@@ -117,9 +117,9 @@ own_rows_made part cells next now sized same sides each =
           sym (ap₂ (has now) g h) ∙ (each i own (x % 64) (y % 64) (omega arith) (omega arith) ∙ ap₂ (λ x y. has next x (row_in part y)) g h);
     }
 
-pub all_made : (part : Part) (walls obstacles cells lattice next now : Cells) (i k : ℕ) → is_size (extent cells) ≡ true → HasSidesOf now cells → HasSidesOf next lattice → IsFull next → ((j : ℕ) → IsOwn part cells j → j < i) → IsPartOf part walls obstacles cells lattice k
-    → AreMadeUpTo i part cells next now → IsPartOf part walls obstacles now next 64
-all_made part walls obstacles cells lattice next now i k sized sides of_lattice full past is made =
+-- a part that has its own rows of another lattice of the same sides
+pub has_own_rows : (part : Part) (walls obstacles cells lattice next now : Cells) (k : ℕ) → HasSidesOf now cells → HasSidesOf next lattice → IsFull next → IsPartOf part walls obstacles cells lattice k → HasRows part now next 64 → IsPartOf part walls obstacles now next 64
+has_own_rows part walls obstacles cells lattice next now k sides of_lattice full is rows =
     let placed = is.placed in
     record {
       sized = sized_as lattice next (record { wide = sym of_lattice.wide; high = sym of_lattice.high }) is.sized;
@@ -134,15 +134,23 @@ all_made part walls obstacles cells lattice next now i k sized sides of_lattice 
         margin = placed.margin;
         all = λ e. sides.high ∙ (placed.all e ∙ sym of_lattice.high);
       };
-      rows = own_rows_made part cells next now sized (placed.wide ∙ sym of_lattice.wide) sides (λ j own. made.tile j own (past j own));
+      rows = rows;
     }
+
+pub full_streamed : (p : ℕ) (lattice solid : Cells) → IsFull (streamed p lattice solid)
+full_streamed p lattice solid = full-cells_where lattice.width lattice.height (λ x y. arrived lattice solid (site_of (p + 1) lattice.width lattice.height x y) (velocity_at (p + 1) x y))
+
+pub all_made : (part : Part) (walls obstacles cells lattice next now : Cells) (i k : ℕ) → is_size (extent cells) ≡ true → HasSidesOf now cells → HasSidesOf next lattice → IsFull next → ((j : ℕ) → IsOwn part cells j → j < i) → IsPartOf part walls obstacles cells lattice k
+    → AreMadeUpTo i part cells next now → IsPartOf part walls obstacles now next 64
+all_made part walls obstacles cells lattice next now i k sized sides of_lattice full past is made =
+    let same = is.placed.wide ∙ sym of_lattice.wide in
+    has_own_rows part walls obstacles cells lattice next now k sides of_lattice full is (own_rows_made part cells next now sized same sides (λ j own. made.tile j own (past j own)))
 
 -- after a phase, and after an action
 pub all_turned : (p : ℕ) (part : Part) (walls obstacles cells lattice now : Cells) (i k : ℕ) → is_size (extent cells) ≡ true → HasSidesOf now cells → ((j : ℕ) → IsOwn part cells j → j < i) → IsPartOf part walls obstacles cells lattice k
     → AreMadeUpTo i part cells (streamed p lattice (joined walls obstacles)) now → IsPartOf part walls obstacles now (streamed p lattice (joined walls obstacles)) 64
 all_turned p part walls obstacles cells lattice now i k sized sides past is made =
-    all_made part walls obstacles cells lattice _ now i k sized sides (record { wide = refl; high = refl })
-    (full-cells_where lattice.width lattice.height (λ x y. arrived lattice (joined walls obstacles) (site_of (p + 1) lattice.width lattice.height x y) (velocity_at (p + 1) x y))) past is made
+    all_made part walls obstacles cells lattice _ now i k sized sides (record { wide = refl; high = refl }) (full_streamed p lattice (joined walls obstacles)) past is made
 
 pub all_acted : (leaves : Leaves) (part : Part) (walls obstacles cells lattice now : Cells) (i k : ℕ) → is_size (extent cells) ≡ true → HasSidesOf now cells → ((j : ℕ) → IsOwn part cells j → j < i) → IsPartOf part walls obstacles cells lattice k
     → AreMadeUpTo i part cells (acted leaves lattice) now → IsPartOf part walls obstacles now (acted leaves lattice) 64

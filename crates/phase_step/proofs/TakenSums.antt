@@ -28,9 +28,6 @@ pair_same e f = ap₂ (λ x y. let p : Pair = record { x = x; y = y } in p) e f
 pub took_same : {a b c d : Pair} → a ≡ c → b ≡ d → (let p : Took = record { walls = a; obstacles = b } in p) ≡ (let q : Took = record { walls = c; obstacles = d } in q)
 took_same e f = ap₂ (λ x y. let p : Took = record { walls = x; obstacles = y } in p) e f
 
-pub took_plus-comm : (a b : Took) → took_plus a b ≡ took_plus b a
-took_plus-comm a b = grind (arith, took_same, pair_same, ints)
-
 twice-plus : (a b : Sums) → twice_momentum (plus a b) ≡ pair_plus (twice_momentum a) (twice_momentum b)
 twice-plus a b = pair_same (omega (arith, ints)) (omega (arith, ints))
 

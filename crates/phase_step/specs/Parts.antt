@@ -6,7 +6,6 @@ use Rattle.gas_terms.specs.Cells.{Cells, HasSidesOf, has, joined, extent, is_siz
 use Rattle.gas_terms.specs.Gas.{streamed}
 use Rattle.gas_terms.specs.declared.accounts.Took.{Took}
 use Rattle.gas_terms.specs.declared.accounts.Moved.{Moved}
-use Rattle.block_rule.specs.Accounts.{counted_of}
 use Rattle.block_rule.specs.declared.walled.Counted.{Counted}
 use Rattle.phase_step.specs.Runs.{tiles_take}
 use Rattle.phase_step.specs.Balance.{flow_counted}
@@ -99,19 +98,16 @@ pub record IsOfSome (part : Part) (cells : Cells) : Type 0 where
 
 -- A phase of parity p turned a part's own tiles. At parity 1 it needs one row of cells more above
 -- and below than its own.
-pub record IsTurned (part : Part) (p : ℕ) (counted : Counted) (walls obstacles old new : Cells) (answer : Took) : Type 0 where
-  pub rows : (lattice : Cells) → IsPartOf part walls obstacles old lattice (64 - p)
-      → IsPartOf part walls obstacles new (streamed p lattice (joined walls obstacles)) 64
-  pub took : (lattice : Cells) → IsPartOf part walls obstacles old lattice (64 - p)
-      → answer ≡ counted_of counted (own_take part p old lattice walls obstacles)
+abbrev pub IsTurned : Part → ℕ → Cells → Cells → Cells → Cells → Type 0
+IsTurned part p walls obstacles old new = (lattice : Cells) → IsPartOf part walls obstacles old lattice (64 - p)
+    → IsPartOf part walls obstacles new (streamed p lattice (joined walls obstacles)) 64
 
--- A run of n phases can be made of a part, with the spare plane: its rows are those of some lattice,
--- and with margins it makes one phase at most.
-pub record CanRunPart (part : Part) (d : Dynamics) (n : ℕ) (particles room : Cells) : Type 0 where
+-- A run of n phases can be made of a part: its rows are those of some lattice, and with margins it
+-- makes one phase at most.
+pub record CanRunPart (part : Part) (d : Dynamics) (n : ℕ) (particles : Cells) : Type 0 where
   pub parity : d.parity < 2
   pub ready : IsReady part d.walls d.obstacles particles (64 - d.parity)
   pub few : part.margin * n ≤ 1
-  pub spare : HasSidesOf room particles
 
 -- What a run of n phases is: the part's own rows are the lattice's after it, and the flow is that
 -- of its own tiles.
@@ -119,12 +115,11 @@ pub record HasRun (part : Part) (counted : Counted) (d : Dynamics) (n : ℕ) (ol
   pub is : IsPartOf part d.walls d.obstacles new (after_all d lattice n) 64
   pub flow : answer ≡ flow_counted counted (own_flow part d old lattice n)
 
--- So it is with each lattice that the part may be of. Both planes keep their size.
-pub record HasRunPart (part : Part) (counted : Counted) (d : Dynamics) (n : ℕ) (old new room : Cells) (answer : Flow) : Type 0 where
+-- So it is with each lattice that the part may be of. The particles keep their size.
+pub record HasRunPart (part : Part) (counted : Counted) (d : Dynamics) (n : ℕ) (old new : Cells) (answer : Flow) : Type 0 where
   pub run : (lattice : Cells) → IsPartOf part d.walls d.obstacles old lattice (64 - d.parity)
       → HasRun part counted d n old lattice new answer
   pub sides : HasSidesOf new old
-  pub spare : HasSidesOf room old
 
 -- The part's own tiles below i have the cells of this lattice.
 pub record AreMadeUpTo (i : ℕ) (part : Part) (cells lattice now : Cells) : Type 0 where
@@ -137,19 +132,3 @@ pub record AreKeptFrom (i : ℕ) (before now : Cells) : Type 0 where
   pub tile : (j : ℕ) → i ≤ j → j < tile_count before → (x y : ℕ) → x < 64 → y < 64 →
       let left = j % (before.width / 64) * 64 in let top = j / (before.width / 64) * 64 in
       has now (left + x) (top + y) ≡ has before (left + x) (top + y)
-
--- A phase of parity 1 turned the part's own rows of tiles from this row up to that one, which is
--- left out, and the answer is what was taken in them.
-pub record AreTurnedIn (from to : ℕ) (part : Part) (counted : Counted) (walls obstacles old now : Cells) (answer : Took) : Type 0 where
-  pub sides : HasSidesOf now old
-  pub rows : (lattice : Cells) → IsPartOf part walls obstacles old lattice 63
-      → (x y : ℕ) → x < old.width → from * 64 ≤ y → y < to * 64
-      → has now x y ≡ has (streamed 1 lattice (joined walls obstacles)) x (row_in part y)
-  pub took : (lattice : Cells) → IsPartOf part walls obstacles old lattice 63
-      → let across = lattice.width / 64 in
-      answer ≡ counted_of counted (tiles_take 1 lattice walls obstacles ((part.first + (from - part.margin)) * across) ((to - from) * across))
-
--- It turned one of them, and the others are as they were before.
-pub record IsRowTurned (row : ℕ) (part : Part) (counted : Counted) (walls obstacles old before now : Cells) (answer : Took) : Type 0 where
-  pub turned : AreTurnedIn row (row + 1) part counted walls obstacles old now answer
-  pub others : (x y : ℕ) → x < old.width → y < old.height → (y / 64 ≡ row → ⊥) → has now x y ≡ has before x y

@@ -28,15 +28,13 @@ flow_all d lattice n = flow_with d.parity d.walls d.obstacles d.leaves lattice n
 abbrev pub every : Counted
 every = record { walls = true; obstacles = true }
 
--- A run can be made of the particles, with the spare plane: all is of one size.
-pub record CanRun (d : Dynamics) (particles room : Cells) : Type 0 where
+-- A run can be made of the particles: all is of one size.
+pub record CanRun (d : Dynamics) (particles : Cells) : Type 0 where
   pub parity : d.parity < 2
   pub walls : HasSidesOf d.walls particles
   pub obstacles : HasSidesOf d.obstacles particles
-  pub spare : HasSidesOf room particles
 
 -- n phases were made, and the answer is what they come to in the accounts that are kept.
-pub record HasRunWhole (counted : Counted) (d : Dynamics) (n : ℕ) (old new room : Cells) (answer : Flow) : Type 0 where
+pub record HasRunWhole (counted : Counted) (d : Dynamics) (n : ℕ) (old new : Cells) (answer : Flow) : Type 0 where
   pub particles : new ≡ after_all d old n
-  pub spare : HasSidesOf room old
   pub flow : answer ≡ flow_counted counted (flow_all d old n)

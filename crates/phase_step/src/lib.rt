@@ -15,6 +15,7 @@ ghost use Rattle.phase_step.specs.WholeRuns.{dynamics, every, CanRun, HasRunWhol
 mod balance;
 mod exchanges;
 pub mod laws;
+mod odd_phase;
 mod parts;
 mod steps;
 mod sums;
@@ -59,19 +60,13 @@ pub trait Stepper: Drop {
         ensures took { result ≡ taken parity old.now walls.now obstacles.now };
 
     /// A run of n phases of alternating parities, with the action after each. `particles` become those after the run. Returns
-    /// what walls and obstacles took in all of it, and what the action brought in and took out. `spare` is overwritten.
-    fn run_with<A: Action>(
-        &mut self,
-        particles: &mut Plane,
-        run: Run<'_, A>,
-        spare: &mut Plane,
-    ) -> Flow
+    /// what walls and obstacles took in all of it, and what the action brought in and took out.
+    fn run_with<A: Action>(&mut self, particles: &mut Plane, run: Run<'_, A>) -> Flow
         requires { let r = run in
-            CanRun (dynamics r.parity r.solids.now (A.leaves r.action.now))
-            particles.old spare.old }
+            CanRun (dynamics r.parity r.solids.now (A.leaves r.action.now)) particles.old }
         ensures { let r = run.entry in
             HasRunWhole every (dynamics r.parity r.solids.now (A.leaves r.action.now)) r.n
-            particles.old particles.new spare.new result };
+            particles.old particles.new result };
 }
 
 /// The parity of phase k of a run whose first phase has the given one.
@@ -99,12 +94,7 @@ impl Stepper for Serial {
         turn_each(old, walls, obstacles, parity, out)
     }
 
-    fn run_with<A: Action>(
-        &mut self,
-        particles: &mut Plane,
-        run: Run<'_, A>,
-        spare: &mut Plane,
-    ) -> Flow {
-        run_whole(particles, run, Counted::BOTH, spare)
+    fn run_with<A: Action>(&mut self, particles: &mut Plane, run: Run<'_, A>) -> Flow {
+        run_whole(particles, run, Counted::BOTH)
     }
 }

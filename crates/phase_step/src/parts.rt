@@ -13,17 +13,18 @@ ghost use Rattle.gas_terms.specs.Accounts.{moved_by};
 ghost use Rattle.block_rule.specs.Accounts.{counted_of};
 ghost use Rattle.phase_step.specs.Actions.{acted};
 ghost use Rattle.phase_step.specs.Exchanges.{leaves_of};
-ghost use Rattle.phase_step.specs.Parts.{own_moves, own_rows, tile_in, IsOwn, IsTileOf, IsPartOf, IsTurned, IsRowTurned, IsReady, IsOfSome, CanRunPart, HasRunPart, whole_part};
+ghost use Rattle.phase_step.specs.Parts.{start_of, own_moves, own_rows, own_take, tile_in, IsOwn, IsTileOf, IsPartOf, IsTurned, IsReady, IsOfSome, CanRunPart, HasRunPart, whole_part};
+ghost use Rattle.phase_step.specs.OddPhase.{AreTurnedTo};
 ghost use Rattle.phase_step.specs.WholeRuns.{dynamics, CanRun, HasRunWhole};
 
 use crate::exchanges::{Action, Exchange};
+use crate::odd_phase::{RowPlace, turn_inner_row, turn_seam};
 use crate::steps::{Ground, Solids, TileSolids};
 use crate::sums::Flow;
 use crate::{Run, parity_at};
-use block_rule::{Counted, Window, turn_tile_even, turn_tile_odd};
-use gas_plane::{Plane, Tile, TileRows};
+use block_rule::{Counted, Window, taken_among, turn_tile_even, turn_tile_odd};
+use gas_plane::{Plane, Tile, TileRows, after};
 use gas_terms::{Moved, Took};
-use std::mem;
 
 /// Where the rows of some particles stand in a lattice of `down` rows of tiles. Their own rows of
 /// tiles are the lattice's from row `first` on. Above and below these there are `margin` rows of
@@ -44,62 +45,67 @@ struct OwnTiles {
     end: u32,
 }
 
-/// An own tile of a part at even parity, in place, among the walled blocks of the lattice's tile
-/// that it is.
+/// Turns an own tile of a part at even parity, in place, among the walled blocks of the lattice's
+/// tile that it is.
 #[inline(always)]
-pub fn turn_even_in_part(tile_solids: TileSolids<'_>, counted: Counted, tile: &mut Tile) -> Took
-    ensures cells { (part : Part) (walls obstacles cells lattice : Cells) (i : ℕ) →
+pub fn turn_even_in_part(tile_solids: TileSolids<'_>, tile: &mut Tile)
+    ensures { (part : Part) (walls obstacles cells lattice : Cells) (i : ℕ) →
         IsLattice cells → IsOwn part cells i → IsPartOf part walls obstacles cells lattice 64 →
         AreTileSolids walls obstacles (tile_in part (lattice.width / 64) i) tile_solids.entry →
         IsTileFrom tile.old cells (tile_rectangle cells i).x (tile_rectangle cells i).y →
         IsTileOf part cells (streamed 0 lattice (joined walls obstacles)) i tile.new }
-    ensures took { (part : Part) (walls obstacles cells lattice : Cells) (i : ℕ) →
-        IsLattice cells → IsOwn part cells i → IsPartOf part walls obstacles cells lattice 64 →
-        AreTileSolids walls obstacles (tile_in part (lattice.width / 64) i) tile_solids.entry →
-        IsTileFrom tile.old cells (tile_rectangle cells i).x (tile_rectangle cells i).y →
-        result ≡ counted_of counted (taken_in (pos 0) lattice walls obstacles
-        (tile_rectangle lattice (tile_in part (lattice.width / 64) i))) }
 {
-    turn_tile_even(tile, tile_solids.walls, tile_solids.obstacles, counted)
+    turn_tile_even(tile, tile_solids.walls, tile_solids.obstacles);
 }
 
-/// The same at odd parity: its blocks reach into the part's tiles round it. `in_place` is a word to
-/// the compiler, as `turn_tile_odd` has it.
+/// Puts an own tile into `out` as it is after a phase of parity 1, from the part's tiles round it.
 #[inline(always)]
 pub fn turn_odd_in_part(
     rows: TileRows<'_>,
     column: u32,
     tile_solids: TileSolids<'_>,
-    counted: Counted,
-    in_place: bool,
     out: &mut Tile,
-) -> Took
+)
     requires full { AreFullRows rows }
     requires column { column < rows.across }
-    ensures cells { (part : Part) (walls obstacles cells lattice : Cells) (i : ℕ) →
+    ensures { (part : Part) (walls obstacles cells lattice : Cells) (i : ℕ) →
         IsColumnOf rows.entry column cells i → IsOwn part cells i →
         IsPartOf part walls obstacles cells lattice 63 →
         AreTileSolids walls obstacles (tile_in part (lattice.width / 64) i) tile_solids.entry →
         IsTileOf part cells (streamed 1 lattice (joined walls obstacles)) i out.new }
-    ensures took { (part : Part) (walls obstacles cells lattice : Cells) (i : ℕ) →
-        IsColumnOf rows.entry column cells i → IsOwn part cells i →
-        IsPartOf part walls obstacles cells lattice 63 →
-        AreTileSolids walls obstacles (tile_in part (lattice.width / 64) i) tile_solids.entry →
-        result ≡ counted_of counted (taken_in (pos 1) lattice walls obstacles
-        (tile_rectangle lattice (tile_in part (lattice.width / 64) i))) }
 {
     let particles = Window {
         tile: rows.tile(column),
         round: rows.round(column),
     };
-    turn_tile_odd(
-        &particles,
-        tile_solids.walls,
-        tile_solids.obstacles,
-        counted,
-        in_place,
-        out,
-    )
+    let TileSolids { walls, obstacles } = tile_solids;
+    turn_tile_odd(&particles, walls, obstacles, out);
+}
+
+/// What is taken of the particles of an own tile of a part in a phase of this parity, in the
+/// accounts that are kept.
+#[inline(always)]
+pub fn count_in_part(tile: &Tile, tile_solids: TileSolids<'_>, parity: u8, counted: Counted) -> Took
+    requires { parity < 2 }
+    ensures { (part : Part) (walls obstacles cells lattice : Cells) (i : ℕ) →
+        IsLattice cells → IsOwn part cells i → IsPartOf part walls obstacles cells lattice 64 →
+        AreTileSolids walls obstacles (tile_in part (lattice.width / 64) i) tile_solids.entry →
+        IsTileFrom tile.now cells (tile_rectangle cells i).x (tile_rectangle cells i).y →
+        result ≡ counted_of counted (taken_in (pos parity) lattice walls obstacles
+        (tile_rectangle lattice (tile_in part (lattice.width / 64) i))) }
+{
+    let TileSolids { walls, obstacles } = tile_solids;
+    taken_among(tile, walls, obstacles, parity, counted)
+}
+
+// The row of tiles of the lattice that a part's row of tiles is.
+#[inline(always)]
+fn row_there(part: Part, row: u32) -> u32
+    requires part { (part.first < part.down) × (part.down ≤ 64) × (part.margin ≤ 1) }
+    requires row { row < 4096 }
+    ensures { result ≡ (start_of part + row) % part.down }
+{
+    (part.first + part.down - part.margin + row) % part.down
 }
 
 // The tile of the lattice that tile i of a part is.
@@ -109,7 +115,7 @@ fn tile_there(part: Part, across: u32, i: u32) -> u32
     requires i { i < 4096 }
     ensures { result ≡ tile_in part across i }
 {
-    (part.first + part.down - part.margin + i / across) % part.down * across + i % across
+    row_there(part, i / across) * across + i % across
 }
 
 // The one after it, round the lattice's torus.
@@ -135,48 +141,29 @@ fn own_tiles(part: Part, cells: &Plane) -> OwnTiles
     }
 }
 
-// The phase of parity 1 of one of a part's own rows of tiles. Returns what is taken in it.
+// What is taken in a phase of this parity of a part's own tiles, in the accounts that are kept. It
+// reads these tiles alone, at either parity, and none if no set that is counted has a block.
 #[inline(always)]
-fn turn_odd_row(
-    old: &Plane,
+fn count_part(
+    particles: &Plane,
     ground: Ground<'_>,
     part: Part,
+    parity: u8,
     counted: Counted,
-    row: u32,
-    out: &mut Plane,
 ) -> Took
+    requires parity { parity < 2 }
     requires ready { let s = ground.solids.now in
-        IsReady part s.walls s.obstacles old.now 63 }
-    requires row { (part.margin ≤ row) × (row + part.margin < old.now.height / 64) }
-    requires sides { HasSidesOf out.old old.now }
+        IsReady part s.walls s.obstacles particles.now 64 }
     ensures { let s = ground.entry.solids.now in
-        IsRowTurned row part counted s.walls s.obstacles old.now out.old out.new result }
+        (lattice : Cells) → IsPartOf part s.walls s.obstacles particles.now lattice 64 →
+        result ≡ counted_of counted
+        (own_take part parity particles.now lattice s.walls s.obstacles) }
 {
-    let across = old.across();
-    let rows = old.rows_round(row);
-    let first = row * across;
-    let there = tile_there(part, across, first);
-    // Without walls and obstacles the compiler then makes vectors of all that the loop does.
-    let free = ground.no_walls & ground.no_obstacles;
-    let mut took = Took::ZERO;
-    for column in 0..across {
-        let tile_solids = ground.in_tile(there + column);
-        let tile = out.tile_mut(first + column);
-        let here = turn_odd_in_part(rows, column, tile_solids, counted, free, tile);
-        took = took.plus(here);
+    let of_walls = counted.walls & !ground.no_walls;
+    let of_obstacles = counted.obstacles & !ground.no_obstacles;
+    if !(of_walls | of_obstacles) {
+        return Took::ZERO;
     }
-    took
-}
-
-// The phase of parity 0 of a part's own tiles, in place.
-#[inline(always)]
-fn turn_even_part(particles: &mut Plane, ground: Ground<'_>, part: Part, counted: Counted) -> Took
-    requires ready { let s = ground.solids.now in
-        IsReady part s.walls s.obstacles particles.old 64 }
-    ensures sides { HasSidesOf particles.new particles.old }
-    ensures phase { let s = ground.entry.solids.now in
-        IsTurned part 0 counted s.walls s.obstacles particles.old particles.new result }
-{
     let across = particles.across();
     let own = own_tiles(part, particles);
     let tiles = part.down * across;
@@ -184,45 +171,142 @@ fn turn_even_part(particles: &mut Plane, ground: Ground<'_>, part: Part, counted
     let mut there = tile_there(part, across, own.first);
     for i in own.first..own.end {
         let tile_solids = ground.in_tile(there);
-        let here = turn_even_in_part(tile_solids, counted, particles.tile_mut(i));
+        let here = count_in_part(particles.tile(i), tile_solids, parity, counted);
         took = took.plus(here);
         there = next_there(there, tiles);
     }
     took
 }
 
-// A phase of a part's own tiles, in place. Returns what is taken in them. At odd parity it goes
-// through the rows of tiles from the last one up, if `up` says so, and else from the first one down.
+// The phase of parity 1 of the blocks that begin in a row of tiles of a part, in place. In a row of the margin only those across
+// the seam reach the part's own rows.
 #[inline(always)]
-fn turn_part(
-    particles: &mut Plane,
-    ground: Ground<'_>,
-    part: Part,
-    parity: u8,
-    up: bool,
-    counted: Counted,
-    spare: &mut Plane,
-) -> Took
+fn turn_odd_row(particles: &mut Plane, ground: Ground<'_>, part: Part, row: u32)
+    requires part { (part.first < part.down) × (part.down ≤ 64) × (part.margin ≤ 1) }
+    requires row { row + part.margin < particles.old.height / 64 }
+    requires walls { let s = ground.solids.now in
+        tile_count s.walls ≡ part.down * (particles.old.width / 64) }
+    requires obstacles { let s = ground.solids.now in
+        tile_count s.obstacles ≡ part.down * (particles.old.width / 64) }
+    ensures sides { HasSidesOf particles.new particles.old }
+    ensures turned { let s = ground.entry.solids.now in (old lattice : Cells) →
+        IsPartOf part s.walls s.obstacles old lattice 63 →
+        let next = streamed 1 lattice (joined s.walls s.obstacles) in
+        AreTurnedTo row part next old particles.old →
+        AreTurnedTo (row + 1) part next old particles.new }
+{
+    let down = particles.down();
+    let place = RowPlace {
+        row,
+        below: after(row, down),
+        there: row_there(part, row),
+    };
+    if row >= part.margin {
+        turn_inner_row(particles, ground, place);
+    }
+    turn_seam(particles, ground, place);
+}
+
+// The phase of parity 1 of a part's own tiles, in place. A part with margins begins with the seam above its first own row.
+#[inline(always)]
+fn turn_odd_rows(particles: &mut Plane, ground: Ground<'_>, part: Part)
+    requires ready { let s = ground.solids.now in
+        IsReady part s.walls s.obstacles particles.old 63 }
+    ensures sides { HasSidesOf particles.new particles.old }
+    ensures phase { let s = ground.entry.solids.now in
+        IsTurned part 1 s.walls s.obstacles particles.old particles.new }
+{
+    for row in 0..particles.down() - part.margin {
+        turn_odd_row(particles, ground, part, row);
+    }
+}
+
+// The same, compiled for no walls and obstacles. The compiler makes vectors of it only apart from
+// the loops of a run.
+#[inline(never)]
+fn turn_odd_free(particles: &mut Plane, solids: &Solids, part: Part)
+    requires none { HasNoBlocks solids.now.walls × HasNoBlocks solids.now.obstacles }
+    requires ready { let s = solids.now in
+        IsReady part s.walls s.obstacles particles.old 63 }
+    ensures sides { HasSidesOf particles.new particles.old }
+    ensures phase { let s = solids.now in
+        IsTurned part 1 s.walls s.obstacles particles.old particles.new }
+{
+    let ground = Ground {
+        solids,
+        no_walls: true,
+        no_obstacles: true,
+    };
+    turn_odd_rows(particles, ground, part);
+}
+
+// And among some.
+#[inline(never)]
+fn turn_odd_among(particles: &mut Plane, solids: &Solids, part: Part)
+    requires ready { let s = solids.now in
+        IsReady part s.walls s.obstacles particles.old 63 }
+    ensures sides { HasSidesOf particles.new particles.old }
+    ensures phase { let s = solids.now in
+        IsTurned part 1 s.walls s.obstacles particles.old particles.new }
+{
+    let ground = Ground {
+        solids,
+        no_walls: false,
+        no_obstacles: false,
+    };
+    turn_odd_rows(particles, ground, part);
+}
+
+#[inline(always)]
+fn turn_odd_part(particles: &mut Plane, ground: Ground<'_>, part: Part)
+    requires ready { let s = ground.solids.now in
+        IsReady part s.walls s.obstacles particles.old 63 }
+    ensures sides { HasSidesOf particles.new particles.old }
+    ensures phase { let s = ground.entry.solids.now in
+        IsTurned part 1 s.walls s.obstacles particles.old particles.new }
+{
+    if ground.no_walls && ground.no_obstacles {
+        turn_odd_free(particles, ground.solids, part);
+    } else {
+        turn_odd_among(particles, ground.solids, part);
+    }
+}
+
+// The phase of parity 0 of a part's own tiles, in place.
+#[inline(always)]
+fn turn_even_part(particles: &mut Plane, ground: Ground<'_>, part: Part)
+    requires ready { let s = ground.solids.now in
+        IsReady part s.walls s.obstacles particles.old 64 }
+    ensures sides { HasSidesOf particles.new particles.old }
+    ensures phase { let s = ground.entry.solids.now in
+        IsTurned part 0 s.walls s.obstacles particles.old particles.new }
+{
+    let across = particles.across();
+    let own = own_tiles(part, particles);
+    let tiles = part.down * across;
+    let mut there = tile_there(part, across, own.first);
+    for i in own.first..own.end {
+        let tile_solids = ground.in_tile(there);
+        turn_even_in_part(tile_solids, particles.tile_mut(i));
+        there = next_there(there, tiles);
+    }
+}
+
+// A phase of a part's own tiles, in place.
+#[inline(always)]
+fn turn_part(particles: &mut Plane, ground: Ground<'_>, part: Part, parity: u8)
     requires parity { parity < 2 }
     requires ready { let s = ground.solids.now in
         IsReady part s.walls s.obstacles particles.old (64 - parity) }
-    requires spare { HasSidesOf spare.old particles.old }
-    ensures sides { HasSidesOf particles.new particles.old × HasSidesOf spare.new particles.old }
+    ensures sides { HasSidesOf particles.new particles.old }
     ensures phase { let s = ground.entry.solids.now in
-        IsTurned part parity counted s.walls s.obstacles particles.old particles.new result }
+        IsTurned part parity s.walls s.obstacles particles.old particles.new }
 {
     if parity == 0 {
-        return turn_even_part(particles, ground, part, counted);
+        turn_even_part(particles, ground, part);
+    } else {
+        turn_odd_part(particles, ground, part);
     }
-    let down = particles.size().height() as u32 / 64;
-    let mut took = Took::ZERO;
-    for k in part.margin..down - part.margin {
-        let row = if up { down - 1 - k } else { k };
-        let here = turn_odd_row(particles, ground, part, counted, row, spare);
-        took = took.plus(here);
-    }
-    mem::swap(particles, spare);
-    took
 }
 
 // Acts on a part's own tiles as on the lattice's, at a tick of this parity. Returns what comes in
@@ -293,17 +377,15 @@ fn run_on<A: Action>(
     run: Run<'_, A>,
     absent: (bool, bool),
     counted: Counted,
-    up: bool,
-    spare: &mut Plane,
 ) -> Flow
     requires absent { (IsTrue absent.0 → HasNoBlocks run.solids.now.walls)
         × (IsTrue absent.1 → HasNoBlocks run.solids.now.obstacles) }
     requires run { let r = run in
         CanRunPart part (dynamics r.parity r.solids.now (A.leaves r.action.now)) r.n
-        particles.old spare.old }
+        particles.old }
     ensures { let r = run.entry in
         HasRunPart part counted (dynamics r.parity r.solids.now (A.leaves r.action.now)) r.n
-        particles.old particles.new spare.new result }
+        particles.old particles.new result }
 {
     let (no_walls, no_obstacles) = absent;
     let ground = Ground {
@@ -314,8 +396,8 @@ fn run_on<A: Action>(
     let mut flow = Flow::ZERO;
     for k in 0..run.n {
         let now = parity_at(run.parity, k);
-        let up_now = (k & 2 != 0) != up;
-        let took = turn_part(particles, ground, part, now, up_now, counted, spare);
+        let took = count_part(particles, ground, part, now, counted);
+        turn_part(particles, ground, part, now);
         let moved = act_after(particles, run.action, k, part, 1 - now);
         flow = flow.plus(Flow { took, moved });
     }
@@ -323,9 +405,7 @@ fn run_on<A: Action>(
 }
 
 /// A run on a part of a lattice, in place. A part with margins makes one phase at most. Returns
-/// what it comes to in the part's own tiles; an account that is not kept has 0. `spare` is
-/// overwritten. Odd phases go through the rows of tiles down and up in turns, the first one up if
-/// `up` says so: the rows that a phase ends with are those that the cache still has.
+/// what it comes to in the part's own tiles; an account that is not kept has 0.
 // The planes' tiles are then read by reference, which the vectors of its loops need.
 #[inline(never)]
 pub fn run_part<A: Action>(
@@ -333,52 +413,23 @@ pub fn run_part<A: Action>(
     part: Part,
     run: Run<'_, A>,
     counted: Counted,
-    up: bool,
-    spare: &mut Plane,
 ) -> Flow
     requires { let r = run in
         CanRunPart part (dynamics r.parity r.solids.now (A.leaves r.action.now)) r.n
-        particles.old spare.old }
+        particles.old }
     ensures { let r = run.entry in
         HasRunPart part counted (dynamics r.parity r.solids.now (A.leaves r.action.now)) r.n
-        particles.old particles.new spare.new result }
+        particles.old particles.new result }
 {
     let Solids { walls, obstacles } = run.solids;
     let absent = (walls.has_no_blocks(), obstacles.has_no_blocks());
-    let Counted { walls, obstacles } = counted;
-    // Seven loops: each asks its tiles for the sets that have cells, and knows which accounts it keeps.
-    match (absent, walls, obstacles) {
-        ((true, true), ..) => run_on(particles, part, run, (true, true), counted, up, spare),
-        ((true, false), _, true) => {
-            let counted = keeping(walls, true);
-            run_on(particles, part, run, (true, false), counted, up, spare)
-        }
-        ((true, false), _, false) => {
-            let counted = keeping(walls, false);
-            run_on(particles, part, run, (true, false), counted, up, spare)
-        }
-        ((false, true), true, _) => {
-            let counted = keeping(true, obstacles);
-            run_on(particles, part, run, (false, true), counted, up, spare)
-        }
-        ((false, true), false, _) => {
-            let counted = keeping(false, obstacles);
-            run_on(particles, part, run, (false, true), counted, up, spare)
-        }
-        ((false, false), false, true) => {
-            let counted = keeping(false, true);
-            run_on(particles, part, run, (false, false), counted, up, spare)
-        }
-        ((false, false), ..) => run_on(particles, part, run, (false, false), counted, up, spare),
+    // Four loops: each asks its tiles for the sets that have cells.
+    match absent {
+        (true, true) => run_on(particles, part, run, (true, true), counted),
+        (true, false) => run_on(particles, part, run, (true, false), counted),
+        (false, true) => run_on(particles, part, run, (false, true), counted),
+        (false, false) => run_on(particles, part, run, (false, false), counted),
     }
-}
-
-// Keeps these accounts.
-#[inline(always)]
-fn keeping(walls: bool, obstacles: bool) -> Counted
-    ensures { result ≡ record { walls = walls; obstacles = obstacles } }
-{
-    Counted { walls, obstacles }
 }
 
 // The whole lattice, which is a part of itself.
@@ -394,20 +445,15 @@ fn whole(cells: &Plane) -> Part
 }
 
 /// A run on the whole lattice, on the calling thread. An account that is not kept has 0.
-pub fn run_whole<A: Action>(
-    particles: &mut Plane,
-    run: Run<'_, A>,
-    counted: Counted,
-    spare: &mut Plane,
-) -> Flow
+pub fn run_whole<A: Action>(particles: &mut Plane, run: Run<'_, A>, counted: Counted) -> Flow
     requires { let r = run in
-        CanRun (dynamics r.parity r.solids.now (A.leaves r.action.now)) particles.old spare.old }
+        CanRun (dynamics r.parity r.solids.now (A.leaves r.action.now)) particles.old }
     ensures { let r = run.entry in
         HasRunWhole counted (dynamics r.parity r.solids.now (A.leaves r.action.now)) r.n
-        particles.old particles.new spare.new result }
+        particles.old particles.new result }
 {
     let part = whole(particles);
-    let flow = run_part(particles, part, run, counted, false, spare);
+    let flow = run_part(particles, part, run, counted);
     particles.shows_lattice();
     flow
 }

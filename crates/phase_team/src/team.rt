@@ -70,6 +70,7 @@ pub struct Team<R: Threads + Drop, G: Gate + Drop> {
     strips: Option<Strips>,
     least: LeastRun,
     solo: Solo,
+    by_strips: bool,
 }
 
 impl<R: Threads + Drop, G: Gate + Drop> Model for Team<R, G> {
@@ -107,7 +108,13 @@ impl<R: Threads + Drop, G: Gate + Drop> Team<R, G> {
             strips: None,
             least,
             solo: Solo::NONE,
+            by_strips: false,
         }
+    }
+
+    /// Whether the last run was made by strips, and not by the calling thread alone.
+    pub fn was_by_strips(&self) -> bool {
+        self.by_strips
     }
 
     /// `Stepper::phase` by the workers, with any gate.
@@ -193,20 +200,15 @@ impl<R: Threads + Clock + Drop> Stepper for Team<R, NoGate> {
 
     // Among walls, a run keeps one account, and works the other out from the momentum. What there is at the end is kept for the
     // next run.
-    fn run_with<A: Action>(
-        &mut self,
-        particles: &mut Plane,
-        run: Run<'_, A>,
-        spare: &mut Plane,
-    ) -> Flow {
+    fn run_with<A: Action>(&mut self, particles: &mut Plane, run: Run<'_, A>) -> Flow {
         let walls = run.solids.walls.cells();
         if walls.is_empty() && run.solids.obstacles.cells().is_empty() {
-            return self.run_by_worth(particles, run, Counted::BOTH, spare);
+            return self.run_by_worth(particles, run, Counted::BOTH);
         }
         let counted = one_account(walls);
         let end = parity_at(run.parity, run.n);
         let before = particles.keep_total(run.parity);
-        let flow = self.run_by_worth(particles, run, counted, spare);
+        let flow = self.run_by_worth(particles, run, counted);
         let after = particles.keep_total(end);
         completed(before, after, flow, counted)
     }
@@ -219,14 +221,12 @@ impl<R: Threads + Clock + Drop> Team<R, NoGate> {
         particles: &mut Plane,
         run: Run<'_, A>,
         counted: Counted,
-        spare: &mut Plane,
     ) -> Flow
         requires { let r = run in
-            CanRun (dynamics r.parity r.solids.now (A.leaves r.action.now))
-            particles.old spare.old }
+            CanRun (dynamics r.parity r.solids.now (A.leaves r.action.now)) particles.old }
         ensures { let r = run.entry in
             HasRunWhole counted (dynamics r.parity r.solids.now (A.leaves r.action.now)) r.n
-            particles.old particles.new spare.new result }
+            particles.old particles.new result }
     {
         let size = particles.size();
         let (alloc, workers) = (self.alloc, self.workers);
@@ -235,10 +235,12 @@ impl<R: Threads + Clock + Drop> Team<R, NoGate> {
             strips: kept,
             solo,
             least,
+            by_strips,
             ..
         } = self;
+        *by_strips = false;
         if !is_worth_strips(*least, size, workers, run.n) || solo.takes_next() {
-            return run_whole(particles, run, counted, spare);
+            return run_whole(particles, run, counted);
         }
         match strips_for(kept, alloc, size, workers) {
             Some(mut strips) => {
@@ -253,12 +255,13 @@ impl<R: Threads + Clock + Drop> Team<R, NoGate> {
                 );
                 *kept = Some(strips);
                 *solo = solo.after(made.is_none());
+                *by_strips = made.is_some();
                 match made {
                     Some(flow) => flow,
-                    None => run_whole(particles, run, counted, spare),
+                    None => run_whole(particles, run, counted),
                 }
             }
-            None => run_whole(particles, run, counted, spare),
+            None => run_whole(particles, run, counted),
         }
     }
 }

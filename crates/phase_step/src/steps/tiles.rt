@@ -6,7 +6,7 @@ ghost use Rattle.gas_plane.specs.Planes.{IsLattice, IsPosition};
 ghost use Rattle.block_rule.specs.Windows.{taken_in};
 ghost use Rattle.phase_step.specs.Turns.{IsTileAfter};
 
-use crate::parts::{turn_even_in_part, turn_odd_in_part};
+use crate::parts::{count_in_part, turn_even_in_part, turn_odd_in_part};
 use crate::steps::solid::window_in;
 use crate::steps::solids::TileSolids;
 use block_rule::{Counted, SetBlocks, tile_blocks};
@@ -47,11 +47,14 @@ pub fn turn_tile_at(
         walls: of_walls,
         obstacles: of_obstacles,
     };
+    let tile = old.tile(at.tile);
+    let took = count_in_part(tile, tile_solids, parity, Counted::BOTH);
     if parity == 0 {
-        *out = *old.tile(at.tile);
-        turn_even_in_part(tile_solids, Counted::BOTH, out)
+        *out = *tile;
+        turn_even_in_part(tile_solids, out);
     } else {
         let rows = old.rows_round(at.row);
-        turn_odd_in_part(rows, at.column, tile_solids, Counted::BOTH, false, out)
+        turn_odd_in_part(rows, at.column, tile_solids, out);
     }
+    took
 }

@@ -29,7 +29,6 @@ pub struct OwnRows {
 pub struct Strip {
     pub own: OwnRows,
     cells: Plane,
-    spare: Plane,
     pub flow: Flow,
 }
 
@@ -76,7 +75,6 @@ impl Strip {
         Some(Strip {
             own,
             cells: Plane::empty(alloc, size).ok()?,
-            spare: Plane::empty(alloc, size).ok()?,
             flow: Flow::ZERO,
         })
     }
@@ -126,9 +124,7 @@ impl Strip {
             n: 1,
             action: &action,
         };
-        let Strip { cells, spare, .. } = self;
-        let up = (input.from + k) & 2 != 0;
-        run_part(cells, part, run, input.counted, up, spare)
+        run_part(&mut self.cells, part, run, input.counted)
     }
 
     // Shows its first and its last row, as they are after so many phases. False if a strip has given up.

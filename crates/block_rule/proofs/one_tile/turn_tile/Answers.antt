@@ -1,35 +1,46 @@
-use Rattle.std.proofs.Common.{◌≡◌, sym, arith}
-use Rattle.block_rule.specs.Around.{around}
+use Rattle.std.proofs.Common.{◌≡◌, ℕ, Bool, arith}
+use Rattle.block_rule.specs.Around.{around, taken}
+use Rattle.block_rule.specs.TileBlocks.{NamesBlocks, walled_by}
 use Rattle.block_rule.proofs.Borders.{shows_tile}
 use Rattle.block_rule.proofs.Took.{took_together}
 use Rattle.block_rule.proofs.one_tile.turn_tile.Goals as goal
+use Rattle.block_rule.proofs.one_tile.turn_tile.Goals.{After-taken_among-took}
+
+-- walls and obstacles with those round them, their words, and what is taken
+module _ (c : After-taken_among-took) where
+  abbrev w : ℕ → ℕ → Bool
+  w = around c.args.walls.now c.args.wall_border.now
+
+  abbrev o : ℕ → ℕ → Bool
+  o = around c.args.obstacles.now c.args.obstacle_border.now
+
+  of_walls : NamesBlocks c.tile_blocks-rows.result.0 c.tile_blocks-rows.result.1 (walled_by w)
+  of_walls = c.tile_blocks-rows.ensures w (c.window_of.ensures.seen c.args.wall_border.now c.neighbors-near_walls.ensures)
+
+  of_obstacles : NamesBlocks c.tile_blocks-rows-2.result.0 c.tile_blocks-rows-2.result.1 (walled_by o)
+  of_obstacles = c.tile_blocks-rows-2.ensures o (c.window_of-2.ensures.seen c.args.obstacle_border.now c.neighbors-near_obstacles.ensures)
+
+  took : c.taken_among-took.result ≡ taken c.args.parity c.args.tile.now w o
+  took = c.taken_among-took.ensures w o of_walls of_obstacles
 
 pub returns-then-parity-eq0 : goal.returns-then-parity-eq0
 returns-then-parity-eq0 c =
     let a = c.args in
-    let w = around a.walls.now a.wall_border.now in
-    let o = around a.obstacles.now a.obstacle_border.now in
-    let of_walls = c.tile_blocks-rows.ensures w (c.window_of.ensures.seen a.wall_border.now c.neighbors-near_walls.ensures) in
-    let of_obstacles = c.tile_blocks-rows-2.ensures o (c.window_of-2.ensures.seen a.obstacle_border.now c.neighbors-near_obstacles.ensures) in
+    let b = (goal.at.returns-then-parity-eq0 c).After-taken_among-took in
     let e : a.parity ≡ 0 = c.if-parity-eq0.true in
-    let took = c.turn_tile_even-took.ensures.took w o of_walls of_obstacles in
     record {
-      cells = rw e (c.turn_tile_even-took.ensures.cells (around a.tile.now a.border.now) w o (shows_tile a.tile.now a.border.now) of_walls of_obstacles);
-      took = rw e took;
-      together = rw e (took_together 0 a.tile.now w o _ took);
+      cells = rw e (c.turn_tile_even.ensures (around a.tile.now a.border.now) (w b) (o b) (shows_tile a.tile.now a.border.now) (of_walls b) (of_obstacles b));
+      took = took b;
+      together = took_together a.parity a.tile.now (w b) (o b) c.taken_among-took.result (took b);
     }
 
 pub returns-else-parity-eq0 : goal.returns-else-parity-eq0
 returns-else-parity-eq0 c =
     let a = c.args in
-    let w = around a.walls.now a.wall_border.now in
-    let o = around a.obstacles.now a.obstacle_border.now in
-    let of_walls = c.tile_blocks-rows.ensures w (c.window_of.ensures.seen a.wall_border.now c.neighbors-near_walls.ensures) in
-    let of_obstacles = c.tile_blocks-rows-2.ensures o (c.window_of-2.ensures.seen a.obstacle_border.now c.neighbors-near_obstacles.ensures) in
-    let seen = c.window_of-else-parity-eq0.ensures in
+    let b = (goal.at.returns-else-parity-eq0 c).After-taken_among-took in
     let e : a.parity ≡ 1 = omega arith in
     record {
-      cells = rw e (c.turn_tile_odd-took.ensures.cells (around a.tile.now a.border.now) w o (seen.seen a.border.now c.neighbors-near.ensures) of_walls of_obstacles);
-      took = rw (e, sym seen.tile) (c.turn_tile_odd-took.ensures.took w o of_walls of_obstacles);
-      together = rw e (took_together 1 a.tile.now w o c.turn_tile_odd-took.result (rw (sym seen.tile) (c.turn_tile_odd-took.ensures.took w o of_walls of_obstacles)));
+      cells = rw e (c.turn_tile_odd.ensures (around a.tile.now a.border.now) (w b) (o b) (c.window_of-else-parity-eq0.ensures.seen a.border.now c.neighbors-near.ensures) (of_walls b) (of_obstacles b));
+      took = took b;
+      together = took_together a.parity a.tile.now (w b) (o b) c.taken_among-took.result (took b);
     }

@@ -12,7 +12,6 @@ run_part-flow-requires g c =
       parity = c.requires.parity;
       ready = record { lattice = c.args.particles.now; is = whole_held c.whole-part.result s.walls s.obstacles c.args.particles.now (64 - c.args.run.parity) c.whole-part.ensures.lattice c.whole-part.ensures.part c.requires.walls c.requires.obstacles };
       few = subst (λ (part : Part). part.margin * c.args.run.n ≤ 1) (sym c.whole-part.ensures.part) (omega arith);
-      spare = c.requires.spare;
     }
 
 pub returns : goal.returns
@@ -29,6 +28,5 @@ returns g c =
     subst (λ (part : Part). HasRun part c.args.counted d run.n cells cells new c.run_part-flow.result) c.whole-part.ensures.part (c.run_part-flow.ensures.run cells whole) in
     record {
       particles = whole_same down 64 s.walls s.obstacles new _ c.shows_lattice.ensures.full made.is;
-      spare = c.run_part-flow.ensures.spare;
       flow = whole_flow down run.n c.args.counted d cells new c.run_part-flow.result lattice.sized made;
     }

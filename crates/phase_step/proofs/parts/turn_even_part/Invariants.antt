@@ -1,8 +1,6 @@
-use Rattle.std.proofs.Common.{◌≡◌, ◌-◌, ◌*◌, ◌/◌, ◌≤◌}
+use Rattle.std.proofs.Common.{◌≡◌, ◌≤◌}
 use Rattle.gas_terms.specs.Cells.{Cells, HasSidesOf, joined}
 use Rattle.gas_terms.specs.Gas.{streamed}
-use Rattle.block_rule.specs.Accounts.{counted_of}
-use Rattle.phase_step.specs.Runs.{tiles_take}
 use Rattle.phase_step.specs.Parts.{tile_in, IsPartOf, AreMadeUpTo, AreKeptFrom}
 use Rattle.phase_step.proofs.parts.turn_even_part.Given as goal
 
@@ -17,5 +15,4 @@ invariant-loop-i l =
       sides : HasSidesOf l.particles old;
       cells : (lattice : Cells) → IsPartOf l.fn.part w o old lattice 64 → AreMadeUpTo l.i l.fn.part old (streamed 0 lattice (joined w o)) l.particles;
       rest : AreKeptFrom l.i old l.particles;
-      took : (lattice : Cells) → IsPartOf l.fn.part w o old lattice 64 → l.took ≡ counted_of l.fn.counted (tiles_take 0 lattice w o (l.fn.part.first * (lattice.width / 64)) (l.i - l.initial.i));
     }

@@ -1,13 +1,10 @@
-use Rattle.std.proofs.Common.{ℕ, ◌*◌, ◌%◌, ◌/◌, subst, ◌∙◌, ap, refl, pos, arith}
-use Rattle.std.proofs.Math.Nat.{mul-le-mul_left}
+use Rattle.std.proofs.Common.{ℕ, ◌*◌, ◌%◌, ◌/◌, subst, refl, arith}
 use Rattle.gas_terms.specs.Cells.{tile_rectangle}
-use Rattle.block_rule.specs.Accounts.{counted_of}
 use Rattle.block_rule.specs.Around.{around}
 use Rattle.block_rule.specs.declared.Window.{Window}
-use Rattle.block_rule.proofs.TorusTook.{tiles_took}
 use Rattle.phase_step.specs.Parts.{tile_in}
 use Rattle.phase_step.proofs.PhaseSweeps.{place_is}
-use Rattle.phase_step.proofs.PartTurns.{rows_left, tile_place, tile_turned, own_cells}
+use Rattle.phase_step.proofs.PartTurns.{tile_place, tile_turned}
 use Rattle.phase_step.specs.SolidBlocks.{view_of}
 use Rattle.phase_step.proofs.SolidBlocks.{given_in_view}
 use Rattle.phase_step.proofs.TurnedTiles.{border_near, window_view, window_seen}
@@ -22,25 +19,14 @@ tile_of_column : (rows : TileRows) (column : ℕ) (cells : Cells) (i : ℕ) (t :
 tile_of_column rows column cells i t at from = subst (λ c. IsTileFrom t cells (c * 64) (i / (cells.width / 64) * 64)) at.place from
 
 pub returns : goal.returns
-returns c =
+returns c = λ part w o old lattice i at own is tile_solids.
     let t = c.tile.result.now in
     let particles : Window = record { tile = c.tile.result; round = c.round.result } in
     let near = around t (border_near c.round.result).0 in
-    record {
-      cells = λ part w o old lattice i at own is tile_solids.
-          let j = tile_in part (lattice.width / 64) i in
-          let r = tile_rectangle lattice j in
-          let there = tile_place part w o old lattice i 63 is in
-          let here = place_is old old old i at.lattice.sized at.within (record { wide = refl; high = refl }) (record { wide = refl; high = refl }) in
-          let view = window_view i old old particles refl refl here.right here.bottom (record { tile = tile_of_column c.args.rows c.args.column old i t at (c.tile.ensures old _ at.rows); round = λ b is. c.round.ensures.ring old i b at is }) in
-          tile_turned 1 part old lattice w o i near c.turn_tile_odd.new.out (omega arith) at.lattice.sized own is view
-          (c.turn_tile_odd.ensures.cells near (view_of w r.x r.y) (view_of o r.x r.y) (window_seen particles) (given_in_view lattice w o w j c.args.tile_solids.walls there is.of_walls tile_solids.of_walls) (given_in_view lattice w o o j c.args.tile_solids.obstacles there is.of_obstacles tile_solids.of_obstacles));
-      took = λ part w o old lattice i at own is tile_solids.
-          let j = tile_in part (lattice.width / 64) i in
-          let r = tile_rectangle lattice j in
-          let there = tile_place part w o old lattice i 63 is in
-          let from = tile_of_column c.args.rows c.args.column old i t at (c.tile.ensures old _ at.rows) in
-          let rows = rows_left part w o old lattice 63 64 (mul-le-mul_left part.margin (omega arith)) is in
-          c.turn_tile_odd.ensures.took (view_of w r.x r.y) (view_of o r.x r.y) (given_in_view lattice w o w j c.args.tile_solids.walls there is.of_walls tile_solids.of_walls) (given_in_view lattice w o o j c.args.tile_solids.obstacles there is.of_obstacles tile_solids.of_obstacles)
-          ∙ ap (counted_of c.args.counted) (tiles_took (pos 1) t lattice w o r.x r.y (view_of w r.x r.y) (view_of o r.x r.y) there (own_cells part w o old lattice i t at.lattice.sized own rows from) (record { cell = λ _ _ _ _. refl }) (record { cell = λ _ _ _ _. refl }));
-    }
+    let j = tile_in part (lattice.width / 64) i in
+    let r = tile_rectangle lattice j in
+    let there = tile_place part w o old lattice i 63 is in
+    let here = place_is old old old i at.lattice.sized at.within (record { wide = refl; high = refl }) (record { wide = refl; high = refl }) in
+    let view = window_view i old old particles refl refl here.right here.bottom (record { tile = tile_of_column c.args.rows c.args.column old i t at (c.tile.ensures old _ at.rows); round = λ b is. c.round.ensures.ring old i b at is }) in
+    tile_turned 1 part old lattice w o i near c.turn_tile_odd.new.out (omega arith) at.lattice.sized own is view
+    (c.turn_tile_odd.ensures near (view_of w r.x r.y) (view_of o r.x r.y) (window_seen particles) (given_in_view lattice w o w j c.args.tile_solids.walls there is.of_walls tile_solids.of_walls) (given_in_view lattice w o o j c.args.tile_solids.obstacles there is.of_obstacles tile_solids.of_obstacles))

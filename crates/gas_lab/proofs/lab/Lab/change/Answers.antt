@@ -13,22 +13,22 @@ enact-requires-clause-in_order g c =
 pub enact-requires-clause-fits : goal.enact-requires-clause-fits
 enact-requires-clause-fits g c =
     let l = c.self.inside in
-    kept_affords (lab_of l.start l.cap (books_of l.books) l.journal.items) l.spare (entry_of c.args.seat c.args.command) c.self.invariant
+    kept_affords (lab_of l.start l.cap (books_of l.books) l.journal.items) (entry_of c.args.seat c.args.command) c.self.invariant
     (subst (λ v. IsAcceptable v (entry_of c.args.seat c.args.command)) (sym c.self.view_is) c.requires.acceptable)
 
 pub invariant_of-self-2 : goal.invariant_of-self-2
 invariant_of-self-2 g c =
     let l = c.self.inside in
-    kept_by_change l.start l.cap (books_of l.books) (books_of c.enact.new.self) l.journal.items c.push_reserved.new.self.items l.spare c.enact.new.spare
+    kept_by_change l.start l.cap (books_of l.books) (books_of c.enact.new.self) l.journal.items c.push_reserved.new.self.items
     (entry_of c.args.seat c.args.command) c.self.invariant
     (subst (λ v. IsAcceptable v (entry_of c.args.seat c.args.command)) (sym c.self.view_is) c.requires.acceptable)
-    (search rules) c.enact.ensures.booked c.enact.ensures.spare
+    (search rules) c.enact.ensures.booked
     (c.push_reserved.ensures.items ∙ ap (λ j. j ++ entry_of c.args.seat c.args.command ∷ []) c.reserve.ensures.items)
 
 pub enact-requires-clause-torus : goal.enact-requires-clause-torus
 enact-requires-clause-torus g c =
     let l = c.self.inside in
-    kept_torus (lab_of l.start l.cap (books_of l.books) l.journal.items) l.spare c.self.invariant
+    kept_torus (lab_of l.start l.cap (books_of l.books) l.journal.items) c.self.invariant
 
 pub returns-clause-sound : goal.returns-clause-sound
 returns-clause-sound g c = (invariant_of-self-2 g c).sound

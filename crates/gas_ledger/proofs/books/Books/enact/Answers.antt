@@ -27,9 +27,11 @@ with_moved-self-requires g c =
     let fits = edit_fits (pair c.edited-moved.new.gas (with_moved b.ledger c.edited-moved.result)) _ same (c.requires.fits c.args.command.now (few_changes _ c.args.command.now c.requires.in_order)) in
     record { injected = fits.injected; drained = fits.drained }
 
-pub returns-in_default-clause-booked : goal.returns-in_default-clause-booked
-returns-in_default-clause-booked g c =
+pub returns-in_default : goal.returns-in_default
+returns-in_default g c =
     let b = books_of c.args.self.now in
     let still : is_move c.args.command.now ≡ false = search rules in
-    ap (pair c.edited-moved.new.gas) c.with_moved-self.ensures
-    ∙ edit_booked b.gas c.edited-moved.new.gas b.ledger c.edited-moved.result c.args.command.now still c.edited-moved.ensures.gas c.edited-moved.ensures.moved
+    record {
+      booked = ap (pair c.edited-moved.new.gas) c.with_moved-self.ensures
+          ∙ edit_booked b.gas c.edited-moved.new.gas b.ledger c.edited-moved.result c.args.command.now still c.edited-moved.ensures.gas c.edited-moved.ensures.moved;
+    }

@@ -16,6 +16,6 @@ pub with_moved-self-requires-clause-drained : goal.with_moved-self-requires-clau
 with_moved-self-requires-clause-drained g c =
     (moved_fits (books_of c.args.self.now) c.with_taken-taken.result c.step_on-flow.result c.args.n c.step_on-flow.ensures.took c.step_on-flow.ensures.moved c.requires.fits c.with_taken-taken.ensures).1
 
-pub returns-clause-booked : goal.returns-clause-booked
-returns-clause-booked g c =
-    stepped_to (books_of c.args.self.now) c.step_on-flow.new.self c.with_taken-taken.result c.with_moved-self.result c.step_on-flow.result c.args.n c.step_on-flow.ensures.gas c.step_on-flow.ensures.took c.step_on-flow.ensures.moved c.with_taken-taken.ensures c.with_moved-self.ensures
+pub returns : goal.returns
+returns g c =
+    record { booked = stepped_to (books_of c.args.self.now) c.step_on-flow.new.self c.with_taken-taken.result c.with_moved-self.result c.step_on-flow.result c.args.n c.step_on-flow.ensures.gas c.step_on-flow.ensures.took c.step_on-flow.ensures.moved c.with_taken-taken.ensures c.with_moved-self.ensures }

@@ -12,8 +12,10 @@ pub with_given_back-self-requires-clause-obstacles : goal.with_given_back-self-r
 with_given_back-self-requires-clause-obstacles g c =
     (given_fits (books_of c.args.self.now) c.run_back-took.result c.args.n c.run_back-took.ensures.took c.requires.torus c.requires.fits).obstacles
 
-pub returns-clause-booked : goal.returns-clause-booked
-returns-clause-booked g c =
+pub returns : goal.returns
+returns g c =
     let b = books_of c.args.self.now in
-    ran_back_to b c.run_back-took.new.self c.with_given_back-self.result c.run_back-took.result c.args.n c.run_back-took.ensures.gas c.run_back-took.ensures.took c.with_given_back-self.ensures
-    ∙ sym (back_run c.args.n b c.requires.torus.sides)
+    record {
+      booked = ran_back_to b c.run_back-took.new.self c.with_given_back-self.result c.run_back-took.result c.args.n c.run_back-took.ensures.gas c.run_back-took.ensures.took c.with_given_back-self.ensures
+          ∙ sym (back_run c.args.n b c.requires.torus.sides);
+    }

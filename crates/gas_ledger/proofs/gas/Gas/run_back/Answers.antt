@@ -5,7 +5,6 @@ use Rattle.gas_terms.proofs.Parity.{parity-small, parity-last}
 use Rattle.phase_step.specs.Runs.{after, run_takes}
 use Rattle.phase_step.specs.declared.sums.flow.Flow.{Flow}
 use Rattle.phase_step.proofs.ActionParts.{still_after, still_takes}
-use Rattle.phase_step.proofs.RunTakes.{sides_as}
 use Rattle.gas_ledger.specs.Gases.{gas_of}
 use Rattle.gas_ledger.proofs.Running.{fit_after, chosen}
 use Rattle.gas_ledger.proofs.gas.Gas.run_back.Goals as goal
@@ -16,13 +15,6 @@ invariant_of-self g c =
     let p = 1 - c.parity-first.result in
     fit_after p (joined l.solids.walls l.solids.obstacles) l.particles c.run_with.new.particles l.solids.walls l.solids.obstacles l.ports c.args.n
     (c.run_with.ensures.particles ∙ still_after p (joined l.solids.walls l.solids.obstacles) l.particles c.args.n) c.self.invariant
-
-pub returns-clause-spare : goal.returns-clause-spare
-returns-clause-spare g c =
-    let l = c.self.inside in
-    let p = 1 - c.parity-first.result in
-    sides_as p (joined l.solids.walls l.solids.obstacles) l.particles c.run_with.new.particles c.run_with.new.spare c.args.n
-    (c.run_with.ensures.particles ∙ still_after p (joined l.solids.walls l.solids.obstacles) l.particles c.args.n) c.run_with.ensures.spare
 
 pub returns-clause-gas : goal.returns-clause-gas
 returns-clause-gas g c =

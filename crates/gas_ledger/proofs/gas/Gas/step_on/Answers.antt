@@ -3,7 +3,6 @@ use Rattle.gas_terms.specs.Cells.{Cells, joined}
 use Rattle.gas_terms.specs.Velocity.{parity}
 use Rattle.phase_step.specs.Actions.{Leaves, after_with, takes_with, moves_with}
 use Rattle.phase_step.specs.declared.sums.flow.Flow.{Flow}
-use Rattle.phase_step.proofs.ActionRuns.{sides_as_with}
 use Rattle.gas_ledger.specs.PortLists.{left_by}
 use Rattle.gas_ledger.specs.Gases.{gas_of}
 use Rattle.gas_ledger.proofs.Running.{fit_with, chosen}
@@ -13,11 +12,6 @@ pub invariant_of-self : goal.invariant_of-self
 invariant_of-self g c =
     let l = c.self.inside in
     fit_with c.parity-parity.result (joined l.solids.walls l.solids.obstacles) (λ k. left_by l.ports (l.tick +ℤ pos k +ℤ pos 1)) l.particles c.run_with.new.particles l.solids.walls l.solids.obstacles l.ports c.args.n c.run_with.ensures.particles c.self.invariant
-
-pub returns-clause-spare : goal.returns-clause-spare
-returns-clause-spare g c =
-    let l = c.self.inside in
-    sides_as_with c.parity-parity.result (joined l.solids.walls l.solids.obstacles) (λ k. left_by l.ports (l.tick +ℤ pos k +ℤ pos 1)) l.particles c.run_with.new.particles c.run_with.new.spare c.args.n c.run_with.ensures.particles c.run_with.ensures.spare
 
 pub returns-clause-gas : goal.returns-clause-gas
 returns-clause-gas g c =

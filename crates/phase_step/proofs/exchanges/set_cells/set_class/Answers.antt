@@ -1,12 +1,12 @@
-use Rattle.std.proofs.Common.{◌≡◌, ℕ, Bool, false, not, ◌&&◌, ◌<◌, ◌^◌, ◌∙◌, if◌then◌else◌, refl, sym, ap, ap₂, get_or, length-set, arith}
+use Rattle.std.proofs.Common.{◌≡◌, ℕ, Bool, not, ◌&&◌, ◌<◌, ◌^◌, ◌∙◌, if◌then◌else◌, refl, sym, ap₂, get_or, length-set, arith}
 use Rattle.std.proofs.lemmas.Grind.{common_steps}
 use Rattle.std.proofs.lemmas.Nat.{ones-le}
 use Rattle.bit_tile.specs.Bit.{bit}
-use Rattle.bit_tile.proofs.Bits.{either, bit-xor, bit-zero}
+use Rattle.bit_tile.proofs.Bits.{either, bit-xor}
 use Rattle.bit_tile.proofs.Classes.{rows_more_within}
 use Rattle.bit_tile.proofs.Sums.{sum_below-zero}
 use Rattle.phase_step.specs.Counts.{changes}
-use Rattle.phase_step.proofs.SetCells.{flips, row_more, none_counted}
+use Rattle.phase_step.proofs.SetCells.{flips, row_more}
 use Rattle.phase_step.proofs.exchanges.set_cells.set_class.Goals as goal
 
 pub loop-j-init : goal.loop-j-init
@@ -16,11 +16,11 @@ pub loop-j-preserved : goal.loop-j-preserved
 loop-j-preserved c =
     let j = c.loop-j.j in
     let was = c.args.class.now in
-    let cell : ℕ → ℕ → Bool = λ i k. (bit c.args.columns i && bit c.args.rows k) && not (bit (get_or c.args.kept.now k 0) i) in
+    let cell : ℕ → ℕ → Bool = λ i k. bit (get_or c.args.cells.now k 0) i && not (bit (get_or c.args.kept.now k 0) i) in
     let same = c.loop-j.invariant.left j (omega arith) in
     let changed = c.changed_in-changed in
     let fits : changed.result < 2 ^ 32 = omega arith in
-    let here : (i : ℕ) → i < 32 → bit changed.result i ≡ (cell i j && changes c.args.held (bit (get_or was j 0) i)) = λ i h. changed.ensures i h ∙ ap₂ (λ a w. a && changes c.args.held (bit w i)) (c.cells_in_row-cells.ensures i h) same in
+    let here : (i : ℕ) → i < 32 → bit changed.result i ≡ (cell i j && changes c.args.held (bit (get_or was j 0) i)) = λ i h. changed.ensures i h ∙ ap₂ (λ a w. a && changes c.args.held (bit w i)) (c.cells_but.ensures i h) same in
     record {
       long = length-set c.loop-j.class j _ ∙ c.loop-j.invariant.long;
       done = rows_more_within c.loop-j.class j _ (λ i k. if cell i k then c.args.held else bit (get_or was k 0) i) (omega arith) c.loop-j.invariant.done
@@ -29,13 +29,3 @@ loop-j-preserved c =
       so_far = row_more c.loop-j.n j changed.result (λ i k. cell i k && changes c.args.held (bit (get_or was k 0) i)) fits here c.loop-j.invariant.so_far;
       bound = omega (arith, ones-le 32 changed.result fits, c.loop-j.invariant.bound);
     }
-
--- no columns
-none_set : (c : goal.Then-columns-eq0) → (i j : ℕ) → ((bit c.args.columns i && bit c.args.rows j) && not (bit (get_or c.args.kept.now j 0) i)) ≡ false
-none_set c i j = ap (λ n. (bit n i && bit c.args.rows j) && not (bit (get_or c.args.kept.now j 0) i)) c.if-columns-eq0.true ∙ ap (λ b. (b && bit c.args.rows j) && not (bit (get_or c.args.kept.now j 0) i)) (bit-zero i)
-
-pub returns-then-columns-eq0-clause-cells : goal.returns-then-columns-eq0-clause-cells
-returns-then-columns-eq0-clause-cells c = λ i j h k. sym (ap (λ b. if b then c.args.held else bit (get_or c.args.class.now j 0) i) (none_set c i j))
-
-pub returns-then-columns-eq0-clause-count : goal.returns-then-columns-eq0-clause-count
-returns-then-columns-eq0-clause-count c = none_counted _ (λ i k h l. ap (λ b. b && changes c.args.held (bit (get_or c.args.class.now k 0) i)) (none_set c i k))

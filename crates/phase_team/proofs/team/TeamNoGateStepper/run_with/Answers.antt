@@ -19,10 +19,9 @@ returns g c =
     let run = c.args.run in
     let leaves = g.A.Action.leaves run.action.now in
     let d = dynamics run.parity run.solids.now leaves in
-    let made = subst (λ (old : Cells). HasRunWhole c.one_account-counted.result d run.n old c.run_by_worth-flow.new.particles c.run_by_worth-flow.new.spare c.run_by_worth-flow.result) c.keep_total-before.ensures.plane c.run_by_worth-flow.ensures in
+    let made = subst (λ (old : Cells). HasRunWhole c.one_account-counted.result d run.n old c.run_by_worth-flow.new.particles c.run_by_worth-flow.result) c.keep_total-before.ensures.plane c.run_by_worth-flow.ensures in
     record {
       particles = c.keep_total-after.ensures.plane ∙ made.particles;
-      spare = made.spare;
       flow = c.completed.ensures (flow_all d c.args.particles.now run.n) made.flow
           (left_after run.parity c.parity_at-end.result run.n run.solids.now.walls run.solids.now.obstacles leaves c.args.particles.now c.run_by_worth-flow.new.particles c.keep_total-before.result c.keep_total-after.result c.requires.parity c.keep_total-before.ensures.lattice.sized c.parity_at-end.ensures.parity made.particles c.keep_total-before.ensures.sums c.keep_total-after.ensures.sums);
     }

@@ -62,7 +62,6 @@ run_part-requires g c =
       parity = c.parity_at.ensures.small;
       ready = record { lattice = before g at; is = is_part g at };
       few = omega arith;
-      spare = c.requires.strip.spare;
     }
 
 pub returns-clause-rows : goal.returns-clause-rows

@@ -7,7 +7,6 @@ returns c = (
     inside = c.requires;
     wide = search rules;
     high = search rules;
-    spare = record { wide = search rules; high = search rules };
   },
   refl,
 )

@@ -1,0 +1,260 @@
+-- The collision at odd parity in place.
+use Rattle.std.proofs.Common.{◌≡◌, ◌⊎◌, ℕ, ◌+◌, ◌-◌, ◌*◌, ◌/◌, ◌%◌, ◌<◌, ◌≤◌, ◌==◌, Bool, false, if◌then◌else◌, List, Option, Some, None, bit_or, length, get_or, set, refl, sym, subst, ◌∙◌, ap, ap₂, arith, inl, inr, get_or-set_other, get_or-set_same}
+use Rattle.std.proofs.lemmas.Bool.{cases_eq, cases_lt, eq-eqb, ne_eqb}
+use Rattle.bit_tile.specs.Bit.{bit}
+use Rattle.bit_tile.specs.Tile.{has}
+use Rattle.bit_tile.specs.declared.Tile.{Tile}
+use Rattle.bit_tile.proofs.Bits.{bit-zero}
+use Rattle.bit_tile.proofs.Classes.{in_even_even, in_odd_even, in_even_odd, in_odd_odd, row_even, row_odd, even_even_at, odd_even_at, even_odd_at, odd_odd_at}
+use Rattle.block_rule.specs.Around.{block_start, either, is_block_walled, is_walled_at, turned}
+use Rattle.block_rule.specs.Cell.{partner, turned_cell}
+use Rattle.block_rule.specs.Rows.{IsMade, odd_row, eight_row, beside_right}
+use Rattle.block_rule.specs.InPlace.{ShowsBegun, NamesRow, IsRowTurned, IsLeaving, IsInnerSeen, IsSeamSeen, AreNamed, HaveTurned, AreEndsKept}
+use Rattle.block_rule.specs.NamedBlocks.{NameBlocks}
+use Rattle.block_rule.specs.Shown.{HasNoCell, TellsRows}
+use Rattle.block_rule.specs.declared.blocks.Blocks.{Blocks}
+use Rattle.block_rule.specs.declared.blocks.Beside.{Beside}
+use Rattle.block_rule.specs.declared.blocks.EightRows.{EightRows}
+use Rattle.block_rule.proofs.Around.{turned_by_cells}
+use Rattle.block_rule.proofs.Windows.{cell_by, next_shown}
+use Rattle.block_rule.proofs.NamedBlocks.{words_given, nothing_given, first_alone, second_alone, one_named, both_named, tells_alike, tells_either}
+use Rattle.block_rule.specs.TileBlocks.{AreGivenBlocks, walled_by}
+use Rattle.block_rule.specs.declared.blocks_in_tile.SetBlocks.{SetBlocks}
+
+-- A column or row x of a tile: where its block begins, where the window has it, and where the window has the block's other one.
+record IsPlaced (x b o f : ℕ) : Type 0 where
+  pub begin : block_start 1 x ≡ b
+  pub own : x + 1 ≡ o
+  pub far : partner 1 x ≡ f
+
+-- the first and the second of block i
+first_placed : (i : ℕ) → IsPlaced (2 * i + 1) (2 * i + 2) (2 * i + 2) (2 * i + 3)
+first_placed i =
+    let odd : ((2 * i + 1 + 1) % 2 == 0) ≡ Bool.true = eq-eqb ((2 * i + 1 + 1) % 2) 0 (omega arith) in
+    record { begin = rw odd (let e : 2 * i + 1 + 1 ≡ 2 * i + 2 = omega arith in e); own = omega arith; far = rw odd (let e : 2 * i + 1 + 2 ≡ 2 * i + 3 = omega arith in e) }
+
+second_placed : (i : ℕ) → IsPlaced (2 * i + 2) (2 * i + 2) (2 * i + 3) (2 * i + 2)
+second_placed i =
+    let even : ((2 * i + 2 + 1) % 2 == 0) ≡ false = ne_eqb ((2 * i + 2 + 1) % 2) 0 (λ e. omega arith) in
+    record { begin = rw even refl; own = omega arith; far = rw even refl }
+
+-- what the collision makes of a corner
+turned_corner : (window solid : ℕ → ℕ → Bool) (x y bx by ox oy fx fy : ℕ) (w a b c d : Bool) → IsPlaced x bx ox fx → IsPlaced y by oy fy → w ≡ is_block_walled solid bx by → a ≡ window ox oy → b ≡ window fx oy → c ≡ window ox fy → d ≡ window fx fy → turned_cell w a b c d ≡ turned 1 window solid x y
+turned_corner window solid x y bx by ox oy fx fy w a b c d column row is_w is_a is_b is_c is_d =
+    ap (λ u. turned_cell u a b c d) (is_w ∙ sym (ap₂ (is_block_walled solid) column.begin row.begin))
+    ∙ (cell_by (turned_cell (is_walled_at 1 solid x y)) a b c d _ _ _ _ (is_a ∙ sym (ap₂ window column.own row.own)) (is_b ∙ sym (ap₂ window column.far row.own)) (is_c ∙ sym (ap₂ window column.own row.far)) (is_d ∙ sym (ap₂ window column.far row.far))
+    ∙ sym (turned_by_cells 1 window (is_walled_at 1 solid x y) x y))
+
+module _ (window solid : ℕ → ℕ → Bool) (j : ℕ) (own : Blocks) (right : Beside) (walled upper lower : ℕ) (made : Blocks) (s : ShowsBegun window j own right) (named : NamesRow walled solid j) (is_upper : (i : ℕ) → i < 32 → bit upper i ≡ (if i == 31 then bit right.upper 0 else bit own.upper_right (i + 1))) (is_lower : (i : ℕ) → i < 32 → bit lower i ≡ (if i == 31 then bit right.lower 0 else bit own.lower_right (i + 1)))
+    (is : IsMade (λ i. turned_cell (bit walled i)) (record { upper_left = own.upper_left; upper_right = upper; lower_left = own.lower_left; lower_right = lower }) made) where
+  upper_shown : (i : ℕ) → i < 32 → bit upper i ≡ window (2 * i + 3) (2 * j + 2)
+  upper_shown = next_shown window (2 * j + 2) own.upper_right right.upper upper s.upper_right s.right_upper is_upper
+
+  lower_shown : (i : ℕ) → i < 32 → bit lower i ≡ window (2 * i + 3) (2 * j + 3)
+  lower_shown = next_shown window (2 * j + 3) own.lower_right right.lower lower s.lower_right s.right_lower is_lower
+
+  pub upper_left_turned : (i : ℕ) → i < 32 → bit made.upper_left i ≡ turned 1 window solid (2 * i + 1) (2 * j + 1)
+  upper_left_turned i h = is.upper_left i h ∙ turned_corner window solid (2 * i + 1) (2 * j + 1) _ _ _ _ _ _ _ _ _ _ _ (first_placed i) (first_placed j) (named i h) (sym (s.upper_left i h)) (upper_shown i h) (sym (s.lower_left i h)) (lower_shown i h)
+
+  pub upper_right_turned : (i : ℕ) → i < 32 → bit made.upper_right i ≡ turned 1 window solid (2 * i + 2) (2 * j + 1)
+  upper_right_turned i h = is.upper_right i h ∙ turned_corner window solid (2 * i + 2) (2 * j + 1) _ _ _ _ _ _ _ _ _ _ _ (second_placed i) (first_placed j) (named i h) (upper_shown i h) (sym (s.upper_left i h)) (lower_shown i h) (sym (s.lower_left i h))
+
+  pub lower_left_turned : (i : ℕ) → i < 32 → bit made.lower_left i ≡ turned 1 window solid (2 * i + 1) (2 * j + 2)
+  lower_left_turned i h = is.lower_left i h ∙ turned_corner window solid (2 * i + 1) (2 * j + 2) _ _ _ _ _ _ _ _ _ _ _ (first_placed i) (second_placed j) (named i h) (sym (s.lower_left i h)) (lower_shown i h) (sym (s.upper_left i h)) (upper_shown i h)
+
+  pub lower_right_turned : (i : ℕ) → i < 32 → bit made.lower_right i ≡ turned 1 window solid (2 * i + 2) (2 * j + 2)
+  lower_right_turned i h = is.lower_right i h ∙ turned_corner window solid (2 * i + 2) (2 * j + 2) _ _ _ _ _ _ _ _ _ _ _ (second_placed i) (second_placed j) (named i h) (lower_shown i h) (sym (s.lower_left i h)) (upper_shown i h) (sym (s.upper_left i h))
+
+-- right corners in their columns
+pub landed : (test : ℕ → Bool) (word coming made : ℕ) → ((i : ℕ) → i < 32 → bit word i ≡ (if i == 0 then bit coming 31 else bit made (i - 1))) → bit coming 31 ≡ test 0 → ((i : ℕ) → i < 32 → bit made i ≡ test (2 * i + 2)) → (i : ℕ) → i < 32 → bit word i ≡ test (2 * i)
+landed test word coming made is first others i h =
+    elim (cases_eq i 0) [
+      | inl e ↦ is i h ∙ (rw (eq-eqb i 0 e) first ∙ ap test (let z : 0 ≡ 2 * i = omega arith in z))
+      | inr ne ↦ is i h ∙ (rw (ne_eqb i 0 ne) (others (i - 1) (omega arith)) ∙ ap test (let z : 2 * (i - 1) + 2 ≡ 2 * i = omega arith in z))
+    ]
+
+-- a tile after one of its rows of blocks is written
+abbrev pub row_written : Tile → ℕ → Blocks → Tile
+row_written t j new =
+    record {
+      even_even = set t.even_even (j + 1) new.lower_right;
+      odd_even = set t.odd_even (j + 1) new.lower_left;
+      even_odd = set t.even_odd j new.upper_right;
+      odd_odd = set t.odd_odd j new.upper_left;
+    }
+
+pub rows_more : (P : ℕ → Blocks → Type 0) (t : Tile) (new : Blocks) (j : ℕ) → j + 1 < length t.even_even → j + 1 < length t.odd_even → j < length t.even_odd → j < length t.odd_odd → ((m : ℕ) → m < j → P m (odd_row t m)) → P j new → (m : ℕ) → m < j + 1 → P m (odd_row (row_written t j new) m)
+rows_more P t new j ee oe eo oo before here m below = grind (arith, cases_eq, get_or-set_same, get_or-set_other)
+
+pub rows_left : (t old : Tile) (new : Blocks) (j : ℕ) → ((m : ℕ) → j ≤ m → odd_row t m ≡ odd_row old m) → (m : ℕ) → j + 1 ≤ m → odd_row (row_written t j new) m ≡ odd_row old m
+rows_left t old new j before m above = grind (arith, cases_eq, get_or-set_other)
+
+pub beside_more : (P : ℕ → Beside → Type 0) (upper lower : List ℕ) (u l j : ℕ) → j < length upper → j < length lower → ((m : ℕ) → m < j → P m (record { upper = get_or upper m 0; lower = get_or lower m 0 })) → P j (record { upper = u; lower = l }) → (m : ℕ) → m < j + 1 → P m (record { upper = get_or (set upper j u) m 0; lower = get_or (set lower j l) m 0 })
+beside_more P upper lower u l j up low before here m below = grind (arith, cases_eq, get_or-set_same, get_or-set_other)
+
+pub words_left : (words old : List ℕ) (u j : ℕ) → ((m : ℕ) → j ≤ m → get_or words m 0 ≡ get_or old m 0) → (m : ℕ) → j + 1 ≤ m → get_or (set words j u) m 0 ≡ get_or old m 0
+words_left words old u j before m above = grind (arith, get_or-set_other)
+
+-- what is shown of a row of blocks whose words are as before
+pub begun_shown : (window : ℕ → ℕ → Bool) (j : ℕ) (own old : Blocks) (right beside : Beside) → own ≡ old → right ≡ beside → ShowsBegun window j old beside → ShowsBegun window j own right
+begun_shown window j own old right beside e f s = rw (e, f) s
+
+pub leaving_same : (column : ℕ → Bool) (j u l v m : ℕ) → u ≡ v → l ≡ m → IsLeaving (record { upper = v; lower = m }) column j → IsLeaving (record { upper = u; lower = l }) column j
+leaving_same column j u l v m e f is = rw (e, f) is
+
+pub ends_left : (t old : Tile) (new : Blocks) (j : ℕ) → j < 31 → AreEndsKept old t → AreEndsKept old (row_written t j new)
+ends_left t old new j below are = grind (arith, get_or-set_other)
+
+pub row_named : (word begin : ℕ) (solid : ℕ → ℕ → Bool) (j : ℕ) → word ≡ begin → NamesRow begin solid j → NamesRow word solid j
+row_named word begin solid j e named = rw e named
+
+-- a tile's rows of blocks in a window
+module _ (window : ℕ → ℕ → Bool) (t r : Tile) (s : IsInnerSeen window t r) where
+  tile_seen : (x y u v : ℕ) (b : Bool) → x < 64 → 1 ≤ y → y < 63 → x + 1 ≡ u → y + 1 ≡ v → has t x y ≡ b → window u v ≡ b
+  tile_seen x y u v b h low high e f is = sym (ap₂ window e f) ∙ (s.tile x y h low high ∙ is)
+
+  right_seen : (y v : ℕ) (b : Bool) → 1 ≤ y → y < 63 → y + 1 ≡ v → has r 0 y ≡ b → window 65 v ≡ b
+  right_seen y v b low high f is = sym (ap (window 65) f) ∙ (s.right y low high ∙ is)
+
+  pub rows_seen : (j : ℕ) → j < 31 → ShowsBegun window j (odd_row t j) (beside_right r j)
+  rows_seen j h =
+      record {
+        upper_left = λ i k. tile_seen (2 * i + 1) (2 * j + 1) _ _ _ (omega arith) (omega arith) (omega arith) (omega arith) (omega arith) (odd_odd_at t i j);
+        upper_right = λ i k. tile_seen (2 * i) (2 * j + 1) _ _ _ (omega arith) (omega arith) (omega arith) refl (omega arith) (even_odd_at t i j);
+        lower_left = λ i k. tile_seen (2 * i + 1) (2 * (j + 1)) _ _ _ (omega arith) (omega arith) (omega arith) (omega arith) (omega arith) (odd_even_at t i (j + 1));
+        lower_right = λ i k. tile_seen (2 * i) (2 * (j + 1)) _ _ _ (omega arith) (omega arith) (omega arith) refl (omega arith) (even_even_at t i (j + 1));
+        right_upper = right_seen (2 * j + 1) _ _ (omega arith) (omega arith) (omega arith) (even_odd_at r 0 j);
+        right_lower = right_seen (2 * (j + 1)) _ _ (omega arith) (omega arith) (omega arith) (even_even_at r 0 (j + 1));
+      }
+
+-- a tile's cells by its rows of blocks
+pub cells_turned : (t : Tile) (test : ℕ → ℕ → Bool) → HaveTurned 31 t test → (x y : ℕ) → x < 64 → 1 ≤ y → y < 63 → has t x y ≡ test x y
+cells_turned t test rows x y h low high =
+    elim (cases_eq (y % 2) 0) [
+      | inl even_y ↦
+          let row : 2 * (y / 2 - 1 + 1) ≡ y = omega (arith, even_y) in
+          let also : 2 * (y / 2 - 1) + 2 ≡ y = omega (arith, even_y) in
+          let is = rows (y / 2 - 1) (omega arith) in
+          elim (cases_eq (x % 2) 0) [
+            | inl even_x ↦
+                let column : 2 * (x / 2) ≡ x = omega (arith, even_x) in
+                sym (ap₂ (has t) column row) ∙ (even_even_at t (x / 2) (y / 2 - 1 + 1) ∙ (is.lower_right (x / 2) (omega arith) ∙ ap₂ test column also))
+            | inr odd_x ↦
+                let column : 2 * (x / 2) + 1 ≡ x = omega (arith, odd_x) in
+                sym (ap₂ (has t) column row) ∙ (odd_even_at t (x / 2) (y / 2 - 1 + 1) ∙ (is.lower_left (x / 2) (omega arith) ∙ ap₂ test column also))
+          ]
+      | inr odd_y ↦
+          let row : 2 * (y / 2) + 1 ≡ y = omega (arith, odd_y) in
+          let is = rows (y / 2) (omega arith) in
+          elim (cases_eq (x % 2) 0) [
+            | inl even_x ↦
+                let column : 2 * (x / 2) ≡ x = omega (arith, even_x) in
+                sym (ap₂ (has t) column row) ∙ (even_odd_at t (x / 2) (y / 2) ∙ (is.upper_right (x / 2) (omega arith) ∙ ap₂ test column row))
+            | inr odd_x ↦
+                let column : 2 * (x / 2) + 1 ≡ x = omega (arith, odd_x) in
+                sym (ap₂ (has t) column row) ∙ (odd_odd_at t (x / 2) (y / 2) ∙ (is.upper_left (x / 2) (omega arith) ∙ ap₂ test column row))
+          ]
+    ]
+
+row_kept : (test : ℕ → ℕ → Bool) (t u : Tile) (j : ℕ) → (get_or u.odd_odd j 0 ≡ get_or t.odd_odd j 0) × (get_or u.even_odd j 0 ≡ get_or t.even_odd j 0) → (get_or u.odd_even (j + 1) 0 ≡ get_or t.odd_even (j + 1) 0) × (get_or u.even_even (j + 1) 0 ≡ get_or t.even_even (j + 1) 0)
+    → IsRowTurned (odd_row t j) test j → IsRowTurned (odd_row u j) test j
+row_kept test t u j e f is = rw (e.0, e.1, f.0, f.1) is
+
+-- all rows: the last eight are written after the others have turned
+pub all_turned : (test : ℕ → ℕ → Bool) (mid new : Tile) (rows : EightRows) → HaveTurned 24 mid test → ((k : ℕ) → k < 8 → IsRowTurned (eight_row rows k) test (23 + k))
+    → ((k : ℕ) → k < 8 → odd_row new (23 + k) ≡ eight_row rows k)
+    → ((j : ℕ) → (j < 23) ⊎ (31 ≤ j) → (get_or new.odd_odd j 0 ≡ get_or mid.odd_odd j 0) × (get_or new.even_odd j 0 ≡ get_or mid.even_odd j 0))
+    → ((j : ℕ) → (j ≤ 23) ⊎ (31 < j) → (get_or new.odd_even j 0 ≡ get_or mid.odd_even j 0) × (get_or new.even_even j 0 ≡ get_or mid.even_even j 0))
+    → HaveTurned 31 new test
+all_turned test mid new rows first last written upper_rest lower_rest j below =
+    elim (cases_lt j 23) [
+      | inl less ↦ row_kept test mid new j (upper_rest j (inl less)) (lower_rest (j + 1) (inl (omega arith))) (first j (omega arith))
+      | inr more ↦
+          let at : 23 + (j - 23) ≡ j = omega arith in
+          subst (λ m. IsRowTurned (odd_row new m) test m) at (subst (λ row. IsRowTurned row test (23 + (j - 23))) (sym (written (j - 23) (omega arith))) (last (j - 23) (omega arith)))
+    ]
+
+-- the first and the last row of cells
+pub top_same : (old new : Tile) → AreEndsKept old new → (x : ℕ) → x < 64 → has new x 0 ≡ has old x 0
+top_same old new are x h = sym (row_even new x 0 refl) ∙ (ap₂ (λ a b. if x % 2 == 0 then bit a (x / 2) else bit b (x / 2)) are.top_even are.top_odd ∙ row_even old x 0 refl)
+
+pub bottom_same : (old new : Tile) → AreEndsKept old new → (x : ℕ) → x < 64 → has new x 63 ≡ has old x 63
+bottom_same old new are x h = sym (row_odd new x 63 refl) ∙ (ap₂ (λ a b. if x % 2 == 0 then bit a (x / 2) else bit b (x / 2)) are.bottom_even are.bottom_odd ∙ row_odd old x 63 refl)
+
+pub ends_kept : (old mid new : Tile) → AreEndsKept old mid → (get_or new.odd_odd 31 0 ≡ get_or mid.odd_odd 31 0) × (get_or new.even_odd 31 0 ≡ get_or mid.even_odd 31 0) → (get_or new.odd_even 0 0 ≡ get_or mid.odd_even 0 0) × (get_or new.even_even 0 0 ≡ get_or mid.even_even 0 0) → AreEndsKept old new
+ends_kept old mid new are e f = record { top_even = f.1 ∙ are.top_even; top_odd = f.0 ∙ are.top_odd; bottom_even = e.1 ∙ are.bottom_even; bottom_odd = e.0 ∙ are.bottom_odd }
+
+-- the seam
+pub seam_shown : (window : ℕ → ℕ → Bool) (t r d dr : Tile) → IsSeamSeen window t r d dr
+    → ShowsBegun window 31 (record { upper_left = get_or t.odd_odd 31 0; upper_right = get_or t.even_odd 31 0; lower_left = get_or d.odd_even 0 0; lower_right = get_or d.even_even 0 0 }) (record { upper = get_or r.even_odd 31 0; lower = get_or dr.even_even 0 0 })
+seam_shown window t r d dr s =
+    record {
+      upper_left = λ i k. ap (λ u. window u 64) (let e : 2 * i + 2 ≡ 2 * i + 1 + 1 = omega arith in e) ∙ (s.tile (2 * i + 1) (omega arith) ∙ odd_odd_at t i 31);
+      upper_right = λ i k. s.tile (2 * i) (omega arith) ∙ even_odd_at t i 31;
+      lower_left = λ i k. ap (λ u. window u 65) (let e : 2 * i + 2 ≡ 2 * i + 1 + 1 = omega arith in e) ∙ (s.below (2 * i + 1) (omega arith) ∙ odd_even_at d i 0);
+      lower_right = λ i k. s.below (2 * i) (omega arith) ∙ even_even_at d i 0;
+      right_upper = s.right ∙ even_odd_at r 0 31;
+      right_lower = s.below_right ∙ even_even_at dr 0 0;
+    }
+
+-- a row of cells by the words of its classes
+pub odd_row_of : (t : Tile) (test : ℕ → Bool) (y odd even : ℕ) → y % 2 ≡ 1 → get_or t.odd_odd (y / 2) 0 ≡ odd → get_or t.even_odd (y / 2) 0 ≡ even → ((i : ℕ) → i < 32 → bit odd i ≡ test (2 * i + 1)) → ((i : ℕ) → i < 32 → bit even i ≡ test (2 * i)) → (x : ℕ) → x < 64 → has t x y ≡ test x
+odd_row_of t test y odd even odd_y e f is_odd is_even x h =
+    elim (cases_eq (x % 2) 0) [
+      | inl even_x ↦ in_even_odd t x y even_x odd_y ∙ (ap (λ w. bit w (x / 2)) f ∙ (is_even (x / 2) (omega arith) ∙ ap test (let z : 2 * (x / 2) ≡ x = omega (arith, even_x) in z)))
+      | inr odd_x ↦ in_odd_odd t x y (omega (arith, odd_x)) odd_y ∙ (ap (λ w. bit w (x / 2)) e ∙ (is_odd (x / 2) (omega arith) ∙ ap test (let z : 2 * (x / 2) + 1 ≡ x = omega (arith, odd_x) in z)))
+    ]
+
+pub even_row_of : (t : Tile) (test : ℕ → Bool) (y odd even : ℕ) → y % 2 ≡ 0 → get_or t.odd_even (y / 2) 0 ≡ odd → get_or t.even_even (y / 2) 0 ≡ even → ((i : ℕ) → i < 32 → bit odd i ≡ test (2 * i + 1)) → ((i : ℕ) → i < 32 → bit even i ≡ test (2 * i)) → (x : ℕ) → x < 64 → has t x y ≡ test x
+even_row_of t test y odd even even_y e f is_odd is_even x h =
+    elim (cases_eq (x % 2) 0) [
+      | inl even_x ↦ in_even_even t x y even_x even_y ∙ (ap (λ w. bit w (x / 2)) f ∙ (is_even (x / 2) (omega arith) ∙ ap test (let z : 2 * (x / 2) ≡ x = omega (arith, even_x) in z)))
+      | inr odd_x ↦ in_odd_even t x y (omega (arith, odd_x)) even_y ∙ (ap (λ w. bit w (x / 2)) e ∙ (is_odd (x / 2) (omega arith) ∙ ap test (let z : 2 * (x / 2) + 1 ≡ x = omega (arith, odd_x) in z)))
+    ]
+
+-- cells of other rows are as before
+pub bottom_rest : (t : Tile) (odd even : ℕ) (x y : ℕ) → x < 64 → y < 63 → has (record { even_even = t.even_even; odd_even = t.odd_even; even_odd = set t.even_odd 31 even; odd_odd = set t.odd_odd 31 odd }) x y ≡ has t x y
+bottom_rest t odd even x y h k = grind (arith, cases_eq, in_even_even, in_even_odd, in_odd_even, in_odd_odd, get_or-set_other)
+
+pub top_rest : (t : Tile) (odd even : ℕ) (x y : ℕ) → x < 64 → 1 ≤ y → y < 64 → has (record { even_even = set t.even_even 0 even; odd_even = set t.odd_even 0 odd; even_odd = t.even_odd; odd_odd = t.odd_odd }) x y ≡ has t x y
+top_rest t odd even x y h low k = grind (arith, cases_eq, in_even_even, in_even_odd, in_odd_even, in_odd_odd, get_or-set_other)
+
+-- the words of walled blocks that begin in a tile
+pub begins_named : (begins ends : ℕ → ℕ) (solid : ℕ → ℕ → Bool) → NameBlocks begins ends solid → AreNamed begins solid
+begins_named begins ends solid are j h i k = are.begin i (j + 1) k (omega arith) ∙ ap (is_block_walled solid (2 * i + 2)) (let e : 2 * (j + 1) ≡ 2 * j + 2 = omega arith in e)
+
+pub none_begins : (solid : ℕ → ℕ → Bool) → HasNoCell (is_walled_at 1 solid) → AreNamed (λ _. 0) solid
+none_begins solid none j h i k = bit-zero i ∙ (sym (none (2 * i + 1) (2 * j + 1) (omega arith) (omega arith)) ∙ ap₂ (is_block_walled solid) (IsPlaced.begin (first_placed i)) (IsPlaced.begin (first_placed j)))
+
+-- where a word tells that no block is walled
+pub told_none : (told : ℕ) (test : ℕ → ℕ → Bool) → told ≡ 0 → TellsRows told test → HasNoCell test
+told_none told test e tells x y h k = tells x y h k (ap (λ w. bit w (y / 2)) e ∙ bit-zero (y / 2))
+
+-- the blocks of two sets that are given
+module _ (walls obstacles : Option SetBlocks) (walled obstructed : ℕ → ℕ → Bool) (of_walls : AreGivenBlocks walls (walled_by walled)) (of_obstacles : AreGivenBlocks obstacles (walled_by obstructed)) where
+  abbrev solid : ℕ → ℕ → Bool
+  solid = either walled obstructed
+
+  pub none_given : walls ≡ None → obstacles ≡ None → AreNamed (λ _. 0) (either walled obstructed)
+  none_given e f =
+      let no_walls = nothing_given walls (walled_by walled) e of_walls 1 (omega arith) in
+      let no_obstacles = nothing_given obstacles (walled_by obstructed) f of_obstacles 1 (omega arith) in
+      none_begins solid (λ x y h k. sym (first_alone 1 walled obstructed no_obstacles x y h k) ∙ no_walls x y h k)
+
+  pub walls_given : (set : SetBlocks) → walls ≡ Some set → obstacles ≡ None → AreNamed (λ k. get_or set.blocks.now.odd.begin k 0) (either walled obstructed) × TellsRows set.rows (is_walled_at 1 (either walled obstructed))
+  walls_given set e f =
+      let same = first_alone 1 walled obstructed (nothing_given obstacles (walled_by obstructed) f of_obstacles 1 (omega arith)) in
+      let named = words_given walls set (walled_by walled) e of_walls in
+      (begins_named _ _ solid (one_named set.blocks.now.odd (is_walled_at 1 walled) solid same named.odd), tells_alike set.rows (is_walled_at 1 walled) (is_walled_at 1 solid) same (named.rows 1 (omega arith)))
+
+  pub obstacles_given : (set : SetBlocks) → walls ≡ None → obstacles ≡ Some set → AreNamed (λ k. get_or set.blocks.now.odd.begin k 0) (either walled obstructed) × TellsRows set.rows (is_walled_at 1 (either walled obstructed))
+  obstacles_given set e f =
+      let same = second_alone 1 walled obstructed (nothing_given walls (walled_by walled) e of_walls 1 (omega arith)) in
+      let named = words_given obstacles set (walled_by obstructed) f of_obstacles in
+      (begins_named _ _ solid (one_named set.blocks.now.odd (is_walled_at 1 obstructed) solid same named.odd), tells_alike set.rows (is_walled_at 1 obstructed) (is_walled_at 1 solid) same (named.rows 1 (omega arith)))
+
+  pub both_given : (w o : SetBlocks) → walls ≡ Some w → obstacles ≡ Some o → AreNamed (λ k. bit_or (get_or w.blocks.now.odd.begin k 0) (get_or o.blocks.now.odd.begin k 0)) (either walled obstructed) × TellsRows (bit_or w.rows o.rows) (is_walled_at 1 (either walled obstructed))
+  both_given w o e f =
+      let named_walls = words_given walls w (walled_by walled) e of_walls in
+      let named_obstacles = words_given obstacles o (walled_by obstructed) f of_obstacles in
+      (begins_named _ _ solid (both_named w.blocks.now.odd o.blocks.now.odd walled obstructed named_walls.odd named_obstacles.odd), tells_either 1 w.rows o.rows walled obstructed (named_walls.rows 1 (omega arith)) (named_obstacles.rows 1 (omega arith)))

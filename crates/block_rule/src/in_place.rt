@@ -1,0 +1,394 @@
+//! The collision at odd parity in place. A tile turns the blocks that begin in it. Their right corners lie in the next column of
+//! their class, those of the last blocks in the tile to the right. So what becomes of the right corners goes to the next column,
+//! and is carried on from tile to tile.
+
+ghost use Rattle.std.specs.Prelude.{◌≡◌, ℕ, ◌+◌, ◌*◌, ◌<◌, ◌≤◌, Bool, slice_index};
+ghost use Rattle.bit_tile.specs.Tile.{has};
+ghost use Rattle.block_rule.specs.Around.{turned, either};
+ghost use Rattle.block_rule.specs.TileBlocks.{AreGivenBlocks, walled_by};
+ghost use Rattle.block_rule.specs.Rows.{odd_row, eight_row, beside_right};
+ghost use Rattle.block_rule.specs.InPlace.{ShowsBegun, NamesRow, IsRowTurned, IsLeaving, IsInnerSeen, IsSeamSeen, AreRowsSeen, AreNamed, IsCarried, carried_row, last_carried_row, eight_leaving, HaveTurned, AreEndsKept};
+
+use crate::blocks::{Beside, Blocks, EightRows, collided, next, previous};
+use crate::blocks_in_tile::SetBlocks;
+use crate::made::write_eight;
+use crate::walled::{NoBlocks, OfBoth, OfOne, Walled};
+use bit_tile::Tile;
+
+/// What the blocks that begin in a tile carry on to the tile to the right: of each word the last bit is for its first column. The
+/// rows of blocks 0 to 23, and the rows 23 to 30. Row 23 is there twice.
+#[derive(Clone, Copy)]
+pub struct Carry {
+    pub upper: [u32; 24],
+    pub lower: [u32; 24],
+    pub last_upper: [u32; 8],
+    pub last_lower: [u32; 8],
+}
+
+impl Carry {
+    /// Nothing is carried on.
+    pub const ZERO: Carry = Carry {
+        upper: [0; 24],
+        lower: [0; 24],
+        last_upper: [0; 8],
+        last_lower: [0; 8],
+    };
+}
+
+/// A row of blocks that has turned: its words in the tile in which it begins, and what it carries on.
+#[derive(Clone, Copy)]
+pub struct TurnedRow {
+    pub own: Blocks,
+    pub leaving: Beside,
+}
+
+/// Turns the row of blocks that begin in a tile's row 2 * j + 1. `own` has the tile's words, and `right` those of the tile to the
+/// right. Bit i of `walled` is set if the block is walled that begins in odd column i. `coming` is what the row of blocks in the
+/// tile to the left carries on.
+#[inline(always)]
+pub fn turned_row(own: Blocks, right: Beside, walled: u32, coming: Beside) -> TurnedRow
+    ensures own { (window solid : ℕ → ℕ → Bool) (j : ℕ) → ShowsBegun window j own right →
+        NamesRow walled solid j → IsLeaving coming (turned 1 window solid 0) j →
+        IsRowTurned result.own (turned 1 window solid) j }
+    ensures leaving { (window solid : ℕ → ℕ → Bool) (j : ℕ) → ShowsBegun window j own right →
+        NamesRow walled solid j → IsLeaving result.leaving (turned 1 window solid 64) j }
+{
+    let made = collided(
+        Blocks {
+            upper_left: own.upper_left,
+            upper_right: next(own.upper_right, right.upper),
+            lower_left: own.lower_left,
+            lower_right: next(own.lower_right, right.lower),
+        },
+        walled,
+    );
+    TurnedRow {
+        own: Blocks {
+            upper_left: made.upper_left,
+            upper_right: previous(made.upper_right, coming.upper),
+            lower_left: made.lower_left,
+            lower_right: previous(made.lower_right, coming.lower),
+        },
+        leaving: Beside {
+            upper: made.upper_right,
+            lower: made.lower_right,
+        },
+    }
+}
+
+// The words of a row of blocks that begin in a tile.
+#[inline(always)]
+fn begun_row(tile: &Tile, j: usize) -> Blocks
+    requires { j < 31 }
+    ensures { result ≡ odd_row tile.now j }
+{
+    Blocks {
+        upper_left: tile.odd_odd[j],
+        upper_right: tile.even_odd[j],
+        lower_left: tile.odd_even[j + 1],
+        lower_right: tile.even_even[j + 1],
+    }
+}
+
+// And those of the tile to its right.
+#[inline(always)]
+fn right_row(right: &Tile, j: usize) -> Beside
+    requires { j < 31 }
+    ensures { result ≡ beside_right right.now j }
+{
+    Beside {
+        upper: right.even_odd[j],
+        lower: right.even_even[j + 1],
+    }
+}
+
+// The rows of blocks 0 to 23, in one loop that the compiler makes vectors of.
+#[inline(always)]
+fn turn_rows<W: Walled>(walled: W, tile: &mut Tile, right: &Tile, carry: &mut Carry)
+    ensures turned { (window solid : ℕ → ℕ → Bool) → AreRowsSeen window tile.old right.now →
+        AreNamed (W.begins walled) solid →
+        ((j : ℕ) → j < 24 → IsLeaving (carried_row carry.old j) (turned 1 window solid 0) j) →
+        HaveTurned 24 tile.new (turned 1 window solid) }
+    ensures leaving { (window solid : ℕ → ℕ → Bool) → AreRowsSeen window tile.old right.now →
+        AreNamed (W.begins walled) solid →
+        (j : ℕ) → j < 24 → IsLeaving (carried_row carry.new j) (turned 1 window solid 64) j }
+    ensures ends { AreEndsKept tile.old tile.new }
+    ensures others { (j : ℕ) → 24 ≤ j → odd_row tile.new j ≡ odd_row tile.old j }
+{
+    for j in 0..24usize {
+        let coming = Beside {
+            upper: carry.upper[j],
+            lower: carry.lower[j],
+        };
+        let own = begun_row(tile, j);
+        let beside = right_row(right, j);
+        let row = turned_row(own, beside, walled.begin(j + 1), coming);
+        tile.odd_odd[j] = row.own.upper_left;
+        tile.even_odd[j] = row.own.upper_right;
+        tile.odd_even[j + 1] = row.own.lower_left;
+        tile.even_even[j + 1] = row.own.lower_right;
+        carry.upper[j] = row.leaving.upper;
+        carry.lower[j] = row.leaving.lower;
+    }
+}
+
+// Eight rows of blocks that have turned, and what they carry on.
+#[derive(Clone, Copy)]
+struct TurnedEight {
+    own: EightRows,
+    upper: [u32; 8],
+    lower: [u32; 8],
+}
+
+// The rows of blocks 23 to 30.
+#[inline(always)]
+fn turned_last<W: Walled>(walled: W, tile: &Tile, right: &Tile, carry: &Carry) -> TurnedEight
+    ensures turned { (window solid : ℕ → ℕ → Bool) → AreRowsSeen window tile.now right.now →
+        AreNamed (W.begins walled) solid →
+        ((k : ℕ) → k < 8 →
+        IsLeaving (last_carried_row carry.now k) (turned 1 window solid 0) (23 + k)) →
+        (k : ℕ) → k < 8 → IsRowTurned (eight_row result.own k) (turned 1 window solid) (23 + k) }
+    ensures leaving { (window solid : ℕ → ℕ → Bool) → AreRowsSeen window tile.now right.now →
+        AreNamed (W.begins walled) solid → (k : ℕ) → k < 8 →
+        IsLeaving (eight_leaving result.upper result.lower k) (turned 1 window solid 64) (23 + k) }
+{
+    let mut eight = TurnedEight {
+        own: EightRows::ZERO,
+        upper: [0; 8],
+        lower: [0; 8],
+    };
+    for k in 0..8usize {
+        let coming = Beside {
+            upper: carry.last_upper[k],
+            lower: carry.last_lower[k],
+        };
+        let own = begun_row(tile, 23 + k);
+        let beside = right_row(right, 23 + k);
+        let row = turned_row(own, beside, walled.begin(23 + k + 1), coming);
+        eight.own.upper_left[k] = row.own.upper_left;
+        eight.own.upper_right[k] = row.own.upper_right;
+        eight.own.lower_left[k] = row.own.lower_left;
+        eight.own.lower_right[k] = row.own.lower_right;
+        eight.upper[k] = row.leaving.upper;
+        eight.lower[k] = row.leaving.lower;
+    }
+    eight
+}
+
+/// Turns, in place, the rows of blocks that begin in a tile and lie in its row of tiles: its rows 1 to 62. `right` is the tile to
+/// the right as it was before the phase. `carry` has what the tile to the left carries on, and gets what this one does.
+// Row 23 is turned twice, so that all are whole vectors. It is made before its words are written.
+#[inline(always)]
+pub fn turn_begun<W: Walled>(walled: W, tile: &mut Tile, right: &Tile, carry: &mut Carry)
+    ensures turned { (window solid : ℕ → ℕ → Bool) → IsInnerSeen window tile.old right.now →
+        AreNamed (W.begins walled) solid → IsCarried carry.old (turned 1 window solid 0) →
+        (x y : ℕ) → x < 64 → 1 ≤ y → y < 63 → has tile.new x y ≡ turned 1 window solid x y }
+    ensures leaving { (window solid : ℕ → ℕ → Bool) → IsInnerSeen window tile.old right.now →
+        AreNamed (W.begins walled) solid → IsCarried carry.new (turned 1 window solid 64) }
+    ensures top { (x : ℕ) → x < 64 → has tile.new x 0 ≡ has tile.old x 0 }
+    ensures bottom { (x : ℕ) → x < 64 → has tile.new x 63 ≡ has tile.old x 63 }
+{
+    let last = turned_last(walled, tile, right, carry);
+    turn_rows(walled, tile, right, carry);
+    write_eight(&last.own, 23, tile);
+    carry.last_upper = last.upper;
+    carry.last_lower = last.lower;
+}
+
+/// What a tile carries on, without turning it. A row of tiles begins with what its last tile carries on to the first.
+#[inline(always)]
+pub fn carried_on<W: Walled>(walled: W, tile: &Tile, right: &Tile) -> Carry
+    ensures { (window solid : ℕ → ℕ → Bool) → IsInnerSeen window tile.now right.now →
+        AreNamed (W.begins walled) solid → IsCarried result (turned 1 window solid 64) }
+{
+    let mut upper = [0; 24];
+    let mut lower = [0; 24];
+    let none = Beside { upper: 0, lower: 0 };
+    for j in 0..24usize {
+        let own = begun_row(tile, j);
+        let beside = right_row(right, j);
+        let row = turned_row(own, beside, walled.begin(j + 1), none);
+        upper[j] = row.leaving.upper;
+        lower[j] = row.leaving.lower;
+    }
+    let before = Carry::ZERO;
+    let TurnedEight {
+        upper: last_upper,
+        lower: last_lower,
+        ..
+    } = turned_last(walled, tile, right, &before);
+    Carry {
+        upper,
+        lower,
+        last_upper,
+        last_lower,
+    }
+}
+
+/// The row of blocks that begin in a tile's last row and end in the tiles below.
+#[derive(Clone, Copy)]
+pub struct SeamRow {
+    pub own: Blocks,
+    pub right: Beside,
+}
+
+/// Its words, of a tile, the one to the right, and those below both.
+#[inline(always)]
+pub fn seam_row(tile: &Tile, right: &Tile, below: &Tile, below_right: &Tile) -> SeamRow
+    ensures { (window : ℕ → ℕ → Bool) →
+        IsSeamSeen window tile.now right.now below.now below_right.now →
+        ShowsBegun window 31 result.own result.right }
+{
+    SeamRow {
+        own: Blocks {
+            upper_left: tile.odd_odd[31],
+            upper_right: tile.even_odd[31],
+            lower_left: below.odd_even[0],
+            lower_right: below.even_even[0],
+        },
+        right: Beside {
+            upper: right.even_odd[31],
+            lower: below_right.even_even[0],
+        },
+    }
+}
+
+/// Writes the upper words of such a row, after it has turned.
+#[inline(always)]
+pub fn put_bottom(tile: &mut Tile, row: &Blocks)
+    ensures row { (test : ℕ → ℕ → Bool) → IsRowTurned row.now test 31 →
+        (x : ℕ) → x < 64 → has tile.new x 63 ≡ test x 63 }
+    ensures rest { (x y : ℕ) → x < 64 → y < 63 → has tile.new x y ≡ has tile.old x y }
+{
+    tile.odd_odd[31] = row.upper_left;
+    tile.even_odd[31] = row.upper_right;
+}
+
+/// Writes the lower words, into the tile below.
+#[inline(always)]
+pub fn put_top(tile: &mut Tile, row: &Blocks)
+    ensures row { (test : ℕ → ℕ → Bool) → IsRowTurned row.now test 31 →
+        (x : ℕ) → x < 64 → has tile.new x 0 ≡ test x 64 }
+    ensures rest { (x y : ℕ) → x < 64 → 1 ≤ y → y < 64 → has tile.new x y ≡ has tile.old x y }
+{
+    tile.odd_even[0] = row.lower_left;
+    tile.even_even[0] = row.lower_right;
+}
+
+// Among walled blocks as one call, which the loops without walls don't hold.
+#[inline(never)]
+fn turn_apart<W: Walled>(walled: W, tile: &mut Tile, right: &Tile, carry: &mut Carry)
+    ensures turned { (window solid : ℕ → ℕ → Bool) → IsInnerSeen window tile.old right.now →
+        AreNamed (W.begins walled) solid → IsCarried carry.old (turned 1 window solid 0) →
+        (x y : ℕ) → x < 64 → 1 ≤ y → y < 63 → has tile.new x y ≡ turned 1 window solid x y }
+    ensures leaving { (window solid : ℕ → ℕ → Bool) → IsInnerSeen window tile.old right.now →
+        AreNamed (W.begins walled) solid → IsCarried carry.new (turned 1 window solid 64) }
+    ensures top { (x : ℕ) → x < 64 → has tile.new x 0 ≡ has tile.old x 0 }
+    ensures bottom { (x : ℕ) → x < 64 → has tile.new x 63 ≡ has tile.old x 63 }
+{
+    turn_begun(walled, tile, right, carry)
+}
+
+// The same as one call.
+#[inline(never)]
+fn carried_apart<W: Walled>(walled: W, tile: &Tile, right: &Tile) -> Carry
+    ensures { (window solid : ℕ → ℕ → Bool) → IsInnerSeen window tile.now right.now →
+        AreNamed (W.begins walled) solid → IsCarried result (turned 1 window solid 64) }
+{
+    carried_on(walled, tile, right)
+}
+
+/// The walls and the obstacles of a tile: the words that name the walled blocks, if there may be any.
+#[derive(Clone, Copy)]
+pub struct WalledSets<'a> {
+    pub walls: Option<SetBlocks<'a>>,
+    pub obstacles: Option<SetBlocks<'a>>,
+}
+
+impl<'a> WalledSets<'a> {
+    /// Turns, in place, the rows of odd blocks that begin in a tile and end in its row of tiles: its rows 1 to 62. `right` is the
+    /// tile to the right as it was before the phase. `carry` has what the tile to the left carries on, and gets what this one does.
+    #[inline(always)]
+    pub fn turn_inner(self, tile: &mut Tile, right: &Tile, carry: &mut Carry)
+        ensures turned { (window walled obstructed : ℕ → ℕ → Bool) →
+            IsInnerSeen window tile.old right.now →
+            AreGivenBlocks self.entry.walls (walled_by walled) →
+            AreGivenBlocks self.entry.obstacles (walled_by obstructed) →
+            IsCarried carry.old (turned 1 window (either walled obstructed) 0) →
+            (x y : ℕ) → x < 64 → 1 ≤ y → y < 63 →
+            has tile.new x y ≡ turned 1 window (either walled obstructed) x y }
+        ensures leaving { (window walled obstructed : ℕ → ℕ → Bool) →
+            IsInnerSeen window tile.old right.now →
+            AreGivenBlocks self.entry.walls (walled_by walled) →
+            AreGivenBlocks self.entry.obstacles (walled_by obstructed) →
+            IsCarried carry.new (turned 1 window (either walled obstructed) 64) }
+        ensures top { (x : ℕ) → x < 64 → has tile.new x 0 ≡ has tile.old x 0 }
+        ensures bottom { (x : ℕ) → x < 64 → has tile.new x 63 ≡ has tile.old x 63 }
+    {
+        match (self.walls, self.obstacles) {
+            (None, None) => turn_begun(NoBlocks, tile, right, carry),
+            (Some(set), None) => turn_apart(OfOne { set }, tile, right, carry),
+            (None, Some(set)) => turn_apart(OfOne { set }, tile, right, carry),
+            (Some(walls), Some(obstacles)) => {
+                turn_apart(OfBoth { walls, obstacles }, tile, right, carry);
+            }
+        }
+    }
+
+    /// What a tile carries on. A row of tiles begins with what its last tile carries on to the first.
+    #[inline(always)]
+    pub fn carried_on(self, tile: &Tile, right: &Tile) -> Carry
+        ensures { (window walled obstructed : ℕ → ℕ → Bool) →
+            IsInnerSeen window tile.now right.now →
+            AreGivenBlocks self.entry.walls (walled_by walled) →
+            AreGivenBlocks self.entry.obstacles (walled_by obstructed) →
+            IsCarried result (turned 1 window (either walled obstructed) 64) }
+    {
+        match (self.walls, self.obstacles) {
+            (None, None) => carried_on(NoBlocks, tile, right),
+            (Some(set), None) => carried_apart(OfOne { set }, tile, right),
+            (None, Some(set)) => carried_apart(OfOne { set }, tile, right),
+            (Some(walls), Some(obstacles)) => carried_apart(
+                OfBoth { walls, obstacles },
+                tile,
+                right,
+            ),
+        }
+    }
+
+    /// Turns the row of blocks that begin in a tile's last row. `coming` is what the row of blocks in the tile to the left carries
+    /// on.
+    #[inline(always)]
+    pub fn turned_seam(self, row: SeamRow, coming: Beside) -> TurnedRow
+        ensures own { (window walled obstructed : ℕ → ℕ → Bool) →
+            ShowsBegun window 31 row.own row.right →
+            AreGivenBlocks self.entry.walls (walled_by walled) →
+            AreGivenBlocks self.entry.obstacles (walled_by obstructed) →
+            IsLeaving coming (turned 1 window (either walled obstructed) 0) 31 →
+            IsRowTurned result.own (turned 1 window (either walled obstructed)) 31 }
+        ensures leaving { (window walled obstructed : ℕ → ℕ → Bool) →
+            ShowsBegun window 31 row.own row.right →
+            AreGivenBlocks self.entry.walls (walled_by walled) →
+            AreGivenBlocks self.entry.obstacles (walled_by obstructed) →
+            IsLeaving result.leaving (turned 1 window (either walled obstructed) 64) 31 }
+    {
+        let SeamRow { own, right } = row;
+        turned_row(own, right, self.seam_word(), coming)
+    }
+
+    // Its walled blocks.
+    #[inline(always)]
+    fn seam_word(self) -> u32
+        ensures { (walled obstructed : ℕ → ℕ → Bool) →
+            AreGivenBlocks self.entry.walls (walled_by walled) →
+            AreGivenBlocks self.entry.obstacles (walled_by obstructed) →
+            NamesRow result (either walled obstructed) 31 }
+    {
+        match (self.walls, self.obstacles) {
+            (None, None) => 0,
+            (Some(set), None) => OfOne { set }.begin(32),
+            (None, Some(set)) => OfOne { set }.begin(32),
+            (Some(walls), Some(obstacles)) => OfBoth { walls, obstacles }.begin(32),
+        }
+    }
+}

@@ -1,0 +1,273 @@
+-- The phase of parity 1 of a part, row of tiles by row.
+use Rattle.std.proofs.Common.{◌≡◌, ◌⊎◌, ℕ, ◌+◌, ◌-◌, ◌*◌, ◌/◌, ◌%◌, ◌<◌, ◌≤◌, true, refl, sym, ap, ◌∙◌, subst, arith, inl, inr}
+use Rattle.std.proofs.Math.Nat.{mod-lt, mod-eq_of_lt, mod-add-mod, add-mod_right}
+use Rattle.std.proofs.lemmas.Nat.{mod-mul-add}
+use Rattle.std.proofs.lemmas.Bool.{cases_eq}
+use Rattle.gas_terms.specs.Cells.{Cells, HasSidesOf, has, joined, extent, is_size}
+use Rattle.gas_terms.specs.Gas.{streamed}
+use Rattle.gas_plane.proofs.Places.{IsWholeTiles, high, cell_below}
+use Rattle.phase_step.specs.Parts.{start_of, row_in, IsPartOf}
+use Rattle.phase_step.specs.OddPhase.{IsRowThere, below_there, HasInner, HasSeam, IsInnerOf, IsSeamOf, IsSeamRowTurned, begins_in, AreTurnedTo}
+use Rattle.phase_step.specs.declared.odd_phase.RowPlace.{RowPlace}
+use Rattle.phase_step.specs.declared.parts.Part.{Part}
+use Rattle.phase_step.proofs.PartTurns.{down_some}
+use Rattle.phase_step.proofs.RowPlaces.{row_turns}
+use Rattle.phase_step.proofs.RowSweeps.{has_own_rows, full_streamed}
+
+-- the row of cells above one, round a torus of h
+above : (h y : ℕ) → 0 < h → y < h → ((1 ≤ y) × ((y + h - 1) % h ≡ y - 1)) ⊎ ((y ≡ 0) × ((y + h - 1) % h ≡ h - 1))
+above h y some within =
+    elim (cases_eq y 0) [
+      | inl e ↦ inr (e, ap (λ n. n % h) (let z : y + h - 1 ≡ h - 1 = omega (arith, e) in z) ∙ mod-eq_of_lt (let z : h - 1 < h = omega (arith, some) in z))
+      | inr ne ↦ inl (omega (arith, ne), ap (λ n. n % h) (let z : y + h - 1 ≡ 1 * h + (y - 1) = omega (arith, ne) in z) ∙ mod-mul-add 1 h (y - 1) (let z : y - 1 < h = omega (arith, within, ne) in z))
+    ]
+
+-- the row of tiles below one, round a circle of n
+below_is : (n row : ℕ) → row < n → ((row + 1 < n) × ((row + 1) % n ≡ row + 1)) ⊎ ((row + 1 ≡ n) × ((row + 1) % n ≡ 0))
+below_is n row low =
+    elim (cases_eq (row + 1) n) [
+      | inl e ↦ inr (e, ap (λ m. m % n) (let z : row + 1 ≡ 1 * n + 0 = omega (arith, e) in z) ∙ mod-mul-add 1 n 0 (omega (arith, low)))
+      | inr ne ↦ let l : row + 1 < n = omega (arith, ne, low) in inl (l, mod-eq_of_lt l)
+    ]
+
+module _ (cells : Cells) (sized : is_size (extent cells) ≡ true) where
+  down : IsWholeTiles cells.height
+  down = high (extent cells) sized
+
+  some : 0 < cells.height
+  some = let t = down.tiles in let s = down.some in omega (arith, t, s)
+
+  -- the blocks of these rows of cells begin in this row of tiles
+  inner_begins : (row y : ℕ) → row < cells.height / 64 → 1 ≤ y → y < 64 → begins_in cells (row * 64 + y) ≡ row
+  inner_begins row y low k l =
+      elim (above cells.height (row * 64 + y) some (cell_below cells.height row y down low l)) [
+        | inl a ↦ let e = a.1 in omega (arith, e, k, l)
+        | inr a ↦ let e = a.0 in absurd (omega (arith, e, k))
+      ]
+
+  top_in : (row : ℕ) → row < cells.height / 64 → row * 64 < cells.height
+  top_in row low = let t = down.tiles in omega (arith, t, low)
+
+  seam_begins : (row : ℕ) → row < cells.height / 64 → begins_in cells ((row + 1) % (cells.height / 64) * 64) ≡ row
+  seam_begins row low =
+      let t = down.tiles in
+      elim (below_is (cells.height / 64) row low) [
+        | inl b ↦
+            let l = b.0 in
+            let e = b.1 in
+            elim (above cells.height ((row + 1) % (cells.height / 64) * 64) some (omega (arith, e, l, t))) [
+              | inl a ↦ let f = a.1 in omega (arith, e, f)
+              | inr a ↦ let f = a.0 in absurd (omega (arith, e, f))
+            ]
+        | inr b ↦
+            let l = b.0 in
+            let e = b.1 in
+            elim (above cells.height ((row + 1) % (cells.height / 64) * 64) some (omega (arith, e, t, low))) [
+              | inl a ↦ let f = a.0 in absurd (omega (arith, e, f))
+              | inr a ↦ let f = a.1 in omega (arith, e, f, l, t)
+            ]
+      ]
+
+  -- and these rows alone
+  begins_cases : (row y : ℕ) → row < cells.height / 64 → y < cells.height → begins_in cells y ≡ row → ((y / 64 ≡ row) × (1 ≤ y % 64)) ⊎ (y ≡ (row + 1) % (cells.height / 64) * 64)
+  begins_cases row y low within is =
+      let t = down.tiles in
+      elim (above cells.height y some within) [
+        | inr a ↦
+            let z = a.0 in
+            let e = a.1 in
+            elim (below_is (cells.height / 64) row low) [
+              | inl b ↦ let l = b.0 in absurd (omega (arith, e, is, l, t))
+              | inr b ↦ let f = b.1 in inr (omega (arith, z, f))
+            ]
+        | inl a ↦
+            let s = a.0 in
+            let e = a.1 in
+            elim (cases_eq (y % 64) 0) [
+              | inl f ↦
+                  elim (below_is (cells.height / 64) row low) [
+                    | inl b ↦ let g = b.1 in inr (omega (arith, f, e, is, g, s))
+                    | inr b ↦ let l = b.0 in absurd (omega (arith, f, e, is, l, t, within, s))
+                  ]
+              | inr nf ↦ inl (omega (arith, nf, e, is, s), omega (arith, nf))
+            ]
+      ]
+
+-- the rows of cells 1 to 62 of a row of tiles have turned, if it is no margin
+pub record IsInnerDone (part : Part) (place : RowPlace) (next now mid : Cells) : Type 0 where
+  pub sides : HasSidesOf mid now
+  pub made : part.margin ≤ place.row → HasInner place next.width mid next
+  pub rest : (x y : ℕ) → x < now.width → y < now.height → (IsInnerOf place y → ⊥) → has mid x y ≡ has now x y
+
+-- where a row of tiles of a part stands in the lattice
+abbrev pub place_in : Part → Cells → ℕ → RowPlace
+place_in part cells row = record { row = row; below = (row + 1) % (cells.height / 64); there = (start_of part + row) % part.down }
+
+module _ (part : Part) (walls obstacles old : Cells) (row : ℕ) (sized : is_size (extent old) ≡ true) (low : row + part.margin < old.height / 64) where
+  abbrev place : RowPlace
+  place = place_in part old row
+
+  pub less : row < old.height / 64
+  less = omega (arith, low)
+
+  inner_at : (y : ℕ) → IsInnerOf place y → begins_in old y ≡ row
+  inner_at y at =
+      let e = at.0 in
+      let g = at.1.1 in
+      let same : row * 64 + y % 64 ≡ y = omega (arith, e) in
+      subst (λ n. begins_in old n ≡ row) same (inner_begins old sized row (y % 64) less at.1.0 (omega (arith, g)))
+
+  seam_at : (y : ℕ) → IsSeamOf place y → begins_in old y ≡ row
+  seam_at y at =
+      elim at [
+        | inl e ↦ subst (λ n. begins_in old n ≡ row) (sym e) (inner_begins old sized row 63 less (omega arith) (omega arith))
+        | inr e ↦ subst (λ n. begins_in old n ≡ row) (sym e) (seam_begins old sized row less)
+      ]
+
+  module _ (lattice : Cells) (is : IsPartOf part walls obstacles old lattice 63) where
+    abbrev next : Cells
+    next = streamed 1 lattice (joined walls obstacles)
+
+    some_down : 0 < part.down
+    some_down = down_some part old lattice is.placed is.sized
+
+    lattice_down : lattice.height / 64 ≡ part.down
+    lattice_down = let e = is.placed.down in omega (arith, e)
+
+    pub row_there_is : (now : Cells) → HasSidesOf now old → IsRowThere place walls obstacles now lattice
+    row_there_is now sides =
+        record {
+          sized = is.sized;
+          of_walls = is.of_walls;
+          of_obstacles = is.of_obstacles;
+          wide = sides.wide ∙ is.placed.wide;
+          low = subst (λ n. place.there < n) (sym lattice_down) (mod-lt (start_of part + row) some_down);
+        }
+
+    -- its rows of cells in the lattice
+    inner_there : (y : ℕ) → y < 64 → row_in part (row * 64 + y) ≡ place.there * 64 + y
+    inner_there y h = row_turns (start_of part) row part.down y some_down h
+
+    turn_there : (start_of part + place.below) % part.down ≡ (place.there + 1) % part.down
+    turn_there =
+        elim (below_is (old.height / 64) row less) [
+          | inl b ↦
+              ap (λ n. (start_of part + n) % part.down) b.1
+              ∙ (ap (λ n. n % part.down) (let z : start_of part + (row + 1) ≡ start_of part + row + 1 = omega arith in z) ∙ sym (mod-add-mod (start_of part + row) part.down 1))
+          | inr b ↦
+              let l = b.0 in
+              let none : part.margin ≡ 0 = omega (arith, l, low) in
+              let all : old.height ≡ part.down * 64 = is.placed.all none ∙ is.placed.down in
+              let turn : row + 1 ≡ part.down = omega (arith, l, all) in
+              ap (λ n. (start_of part + n) % part.down) b.1
+              ∙ (ap (λ n. n % part.down) (let z : start_of part + 0 ≡ start_of part = omega arith in z)
+              ∙ (sym (add-mod_right (start_of part) part.down)
+              ∙ (ap (λ n. n % part.down) (let z : start_of part + part.down ≡ start_of part + row + 1 = omega (arith, turn) in z) ∙ sym (mod-add-mod (start_of part + row) part.down 1))))
+        ]
+
+    below_in : row_in part (place.below * 64) ≡ below_there place lattice * 64
+    below_in =
+        let z : place.below * 64 ≡ place.below * 64 + 0 = omega arith in
+        let n : below_there place lattice * 64 + 0 ≡ below_there place lattice * 64 = omega arith in
+        ap (row_in part) z
+        ∙ (row_turns (start_of part) place.below part.down 0 some_down (omega arith)
+        ∙ (ap (λ t. t * 64 + 0) (turn_there ∙ ap (λ m. (place.there + 1) % m) (sym lattice_down)) ∙ n))
+
+    module _ (now : Cells) (so_far : AreTurnedTo row part next old now) where
+      -- a row of cells whose blocks begin here is the lattice's
+      still : (x y : ℕ) → x < lattice.width → y < old.height → begins_in old y ≡ row → part.margin * 63 ≤ y → y + part.margin * 63 < old.height → has now x y ≡ has lattice x (row_in part y)
+      still x y h k begins from to = so_far.rest x y (subst (λ w. x < w) (sym is.placed.wide) h) k (omega (arith, begins)) ∙ is.rows.row x y h from to
+
+      inner_in : (y : ℕ) → y < 64 → row * 64 + y < old.height
+      inner_in y h = cell_below old.height row y (high (extent old) sized) less h
+
+      pub inner_ready : part.margin ≤ row → HasInner place lattice.width now lattice
+      inner_ready own x y h k l =
+          let t = (high (extent old) sized).tiles in
+          let m = is.placed.margin in
+          still x (row * 64 + y) h (inner_in y (omega (arith, l))) (inner_begins old sized row y less k (omega (arith, l))) (omega (arith, own)) (omega (arith, low, l, t, m))
+          ∙ ap (has lattice x) (inner_there y (omega (arith, l)))
+
+      pub seam_ready : (mid : Cells) → IsInnerDone part place next now mid → HasSeam place lattice.width mid lattice
+      seam_ready mid inner =
+          let t = (high (extent old) sized).tiles in
+          let m = is.placed.margin in
+          let kept : (x y : ℕ) → x < lattice.width → y < old.height → (IsInnerOf place y → ⊥) → has mid x y ≡ has now x y = λ x y h k. inner.rest x y (subst (λ w. x < w) (sym (so_far.sides.wide ∙ is.placed.wide)) h) (subst (λ n. y < n) (sym so_far.sides.high) k) in
+          record {
+            bottom = λ x h.
+                kept x (row * 64 + 63) h (inner_in 63 (omega arith)) (λ at. let g = at.1.1 in absurd (omega (arith, g)))
+                ∙ (still x (row * 64 + 63) h (inner_in 63 (omega arith)) (inner_begins old sized row 63 less (omega arith) (omega arith)) (omega (arith, m)) (omega (arith, low, t, m))
+                ∙ ap (has lattice x) (inner_there 63 (omega arith)));
+            top = λ x h.
+                let within : place.below * 64 < old.height = top_in old sized place.below (mod-lt (row + 1) (high (extent old) sized).some) in
+                let range : (part.margin * 63 ≤ place.below * 64) × (place.below * 64 + part.margin * 63 < old.height) =
+                elim (below_is (old.height / 64) row less) [
+                  | inl b ↦ let e = b.1 in (omega (arith, e, m), omega (arith, e, low, t, m))
+                  | inr b ↦ let l = b.0 in let none : part.margin ≡ 0 = omega (arith, l, low) in (omega (arith, none), omega (arith, none, within))
+                ]
+                in
+                kept x (place.below * 64) h within (λ at. let g = at.1.0 in absurd (omega (arith, g)))
+                ∙ (still x (place.below * 64) h within (seam_begins old sized row less) range.0 range.1 ∙ ap (has lattice x) below_in);
+          }
+
+    -- one row of tiles more
+    pub odd_row_next : (now mid new : Cells) → AreTurnedTo row part next old now → IsInnerDone part place next now mid → HasSidesOf new mid → IsSeamRowTurned place next mid new → AreTurnedTo (row + 1) part next old new
+    odd_row_next now mid new so_far inner sides_new seam =
+        let sides_now = so_far.sides in
+        let sides_mid = inner.sides in
+        let mid_old : HasSidesOf mid old = record { wide = sides_mid.wide ∙ sides_now.wide; high = sides_mid.high ∙ sides_now.high } in
+        let rest_inner : (x y : ℕ) → x < old.width → y < old.height → (IsInnerOf place y → ⊥) → has mid x y ≡ has now x y = λ x y h k. inner.rest x y (subst (λ w. x < w) (sym sides_now.wide) h) (subst (λ n. y < n) (sym sides_now.high) k) in
+        let rest_seam : (x y : ℕ) → x < old.width → y < old.height → (IsSeamOf place y → ⊥) → has new x y ≡ has mid x y = λ x y h k. seam.rest x y (subst (λ w. x < w) (sym mid_old.wide) h) (subst (λ n. y < n) (sym mid_old.high) k) in
+        let kept : (x y : ℕ) → x < old.width → y < old.height → (begins_in old y ≡ row → ⊥) → has new x y ≡ has now x y = λ x y h k other. rest_seam x y h k (λ at. other (seam_at y at)) ∙ rest_inner x y h k (λ at. other (inner_at y at)) in
+        record {
+          sides = record { wide = sides_new.wide ∙ mid_old.wide; high = sides_new.high ∙ mid_old.high };
+          rest = λ x y h k later. kept x y h k (λ e. absurd (omega (arith, e, later))) ∙ so_far.rest x y h k (omega (arith, later));
+          made = λ x y h from to before.
+              let k : y < old.height = omega (arith, to) in
+              let l : x < lattice.width = subst (λ w. x < w) is.placed.wide h in
+              elim (cases_eq (begins_in old y) row) [
+                | inr ne ↦ kept x y h k (λ e. ne e) ∙ so_far.made x y h from to (omega (arith, ne, before))
+                | inl e ↦ elim (begins_cases old sized row y less k e) [
+                  | inr b ↦ subst (λ n. has new x n ≡ has next x (row_in part n)) (sym b) (seam.made.top x l ∙ ap (has next x) (sym below_in))
+                  | inl b ↦
+                      let f = b.0 in
+                      let g = b.1 in
+                      let same : row * 64 + y % 64 ≡ y = omega (arith, f) in
+                      subst (λ n. has new x n ≡ has next x (row_in part n)) same
+                      (elim (cases_eq (y % 64) 63) [
+                        | inl last ↦
+                            subst (λ v. has new x (row * 64 + v) ≡ has next x (row_in part (row * 64 + v))) (sym last)
+                            (seam.made.bottom x l ∙ ap (has next x) (sym (inner_there 63 (omega arith))))
+                        | inr not_last ↦
+                            let m = is.placed.margin in
+                            let own : part.margin ≤ row = omega (arith, from, f, not_last, m) in
+                            let low_y : y % 64 < 63 = omega (arith, not_last) in
+                            rest_seam x (row * 64 + y % 64) h (subst (λ n. n < old.height) (sym same) k) (λ at. elim at [ inl z ↦ not_last (omega (arith, z)) | inr z ↦ absurd (omega (arith, z, g)) ])
+                            ∙ (inner.made own x (y % 64) l g low_y ∙ ap (has next x) (sym (inner_there (y % 64) (omega arith))))
+                      ])
+                ]
+              ];
+        }
+
+-- none at the beginning
+pub none_turned : (part : Part) (next old : Cells) → AreTurnedTo 0 part next old old
+none_turned part next old = record { sides = record { wide = refl; high = refl }; made = λ x y h from to before. absurd (omega (arith, before)); rest = λ x y h k later. refl }
+
+-- and all in the end
+pub odd_part_turned : (part : Part) (walls obstacles old lattice now : Cells) (rows : ℕ) → is_size (extent old) ≡ true → rows + part.margin ≡ old.height / 64 → IsPartOf part walls obstacles old lattice 63 → AreTurnedTo rows part (streamed 1 lattice (joined walls obstacles)) old now
+    → IsPartOf part walls obstacles now (streamed 1 lattice (joined walls obstacles)) 64
+odd_part_turned part walls obstacles old lattice now rows sized all is turned =
+    let t = (high (extent old) sized).tiles in
+    let s = some old sized in
+    has_own_rows part walls obstacles old lattice (streamed 1 lattice (joined walls obstacles)) now 63 turned.sides (record { wide = refl; high = refl }) (full_streamed 1 lattice (joined walls obstacles)) is
+    (record {
+      row = λ x y h from to.
+          let k : y + part.margin * 64 < old.height = subst (λ n. y + part.margin * 64 < n) turned.sides.high to in
+          let begins : begins_in old y < rows =
+          elim (above old.height y s (omega (arith, k))) [
+            | inl a ↦ let e = a.1 in let l = a.0 in omega (arith, e, k, all, t, l)
+            | inr a ↦ let e = a.1 in let z = a.0 in omega (arith, e, z, from, all, t, s)
+          ]
+          in
+          turned.made x y (subst (λ w. x < w) (sym is.placed.wide) h) (omega (arith, from)) (omega (arith, k)) begins;
+    })

@@ -1,0 +1,142 @@
+-- A tile of a plane that is replaced, by its row and column of tiles: what its rows of blocks become at odd parity.
+use Rattle.std.proofs.Common.{◌≡◌, ℕ, ◌+◌, ◌*◌, ◌/◌, ◌%◌, ◌<◌, ◌≤◌, Bool, true, refl, sym, ap, ap₂, ◌∙◌, subst, arith, inl, inr}
+use Rattle.std.proofs.lemmas.Nat.{mul-add-lt, mod-mul-add, div-mul-add}
+use Rattle.std.proofs.lemmas.Bool.{cases_eq}
+use Rattle.bit_tile.specs.Tile as tile
+use Rattle.bit_tile.specs.declared.Tile.{Tile}
+use Rattle.gas_terms.specs.Cells.{Cells, HasSidesOf, has, extent, is_size, tile_count, tile_rectangle}
+use Rattle.gas_plane.specs.Planes.{IsTileFrom, with_tile}
+use Rattle.gas_plane.proofs.Places.{wide, high, tile_below}
+use Rattle.gas_plane.specs.Beside.{IsTurnedBeside}
+use Rattle.block_rule.specs.InPlace.{IsRowTurned, IsInnerSeen, IsSeamSeen}
+use Rattle.block_rule.specs.declared.blocks.Blocks.{Blocks}
+use Rattle.phase_step.specs.OddPhase.{TurnsInner, IsSeamPut, IsInnerTurned, IsEdge}
+use Rattle.phase_step.specs.declared.odd_phase.RowTurner.{RowTurner}
+use Rattle.phase_step.proofs.RowSweeps.{with_here, same_elsewhere}
+
+-- a tile of a lattice that is replaced, by its column and row of tiles
+module _ (cells : Cells) (row column i : ℕ) (t : Tile) (sized : is_size (extent cells) ≡ true) (low : row < cells.height / 64) (less : column < cells.width / 64) (place : i ≡ row * (cells.width / 64) + column) where
+  same : HasSidesOf cells cells
+  same = record { wide = refl; high = refl }
+
+  is_column : i % (cells.width / 64) * 64 ≡ column * 64
+  is_column = ap (λ n. n % (cells.width / 64) * 64) place ∙ ap (λ n. n * 64) (mod-mul-add row (cells.width / 64) column less)
+
+  is_row : i / (cells.width / 64) * 64 ≡ row * 64
+  is_row = ap (λ n. n / (cells.width / 64) * 64) place ∙ ap (λ n. n * 64) (div-mul-add row (cells.width / 64) column less)
+
+  pub tile_here : (x y : ℕ) → x < 64 → y < 64 → has (with_tile cells i t) (column * 64 + x) (row * 64 + y) ≡ tile.has t x y
+  tile_here x y h k =
+      let within : i < tile_count cells = subst (λ n. n < tile_count cells) (sym place) (mul-add-lt row (cells.width / 64) column (cells.height / 64) low less) in
+      sym (ap₂ (λ u v. has (with_tile cells i t) (u + x) (v + y)) is_column is_row) ∙ with_here cells cells i i x y t sized same within h k refl
+
+  pub tile_there : (x y : ℕ) → x < cells.width → y < cells.height → (x / 64 ≡ column → y / 64 ≡ row → ⊥) → has (with_tile cells i t) x y ≡ has cells x y
+  tile_there x y h k other =
+      let a = cells.width / 64 in
+      let c : x / 64 < a = tile_below cells.width x (wide (extent cells) sized) h in
+      same_elsewhere cells cells row column i t sized same low less place x y h k
+      (λ e.
+      let f : y / 64 * a + x / 64 ≡ row * a + column = e ∙ place in
+      other (sym (mod-mul-add (y / 64) a (x / 64) c) ∙ (ap (λ n. n % a) f ∙ mod-mul-add row a column less)) (sym (div-mul-add (y / 64) a (x / 64) c) ∙ (ap (λ n. n / a) f ∙ div-mul-add row a column less)))
+
+  pub tile_from : (old : Tile) → (let r = tile_rectangle cells i in IsTileFrom old cells r.x r.y) → (x y : ℕ) → x < 64 → y < 64 → tile.has old x y ≡ has cells (column * 64 + x) (row * 64 + y)
+  tile_from old is x y h k = is.cell x y h k ∙ ap₂ (λ u v. has cells (u + x) (v + y)) is_column is_row
+
+  -- one whose cells are as before where a test of its rows says no
+  pub tile_others : (old : Tile) (P : ℕ → Type 0) → (let r = tile_rectangle cells i in IsTileFrom old cells r.x r.y) → ((x y : ℕ) → x < 64 → y < 64 → (P y → ⊥) → tile.has t x y ≡ tile.has old x y)
+      → (x y : ℕ) → x < cells.width → y < cells.height → (x / 64 ≡ column → y / 64 ≡ row → P (y % 64) → ⊥) → has (with_tile cells i t) x y ≡ has cells x y
+  tile_others old P is kept x y h k other =
+      elim (cases_eq (x / 64) column) [
+        | inl e ↦ elim (cases_eq (y / 64) row) [
+          | inl f ↦
+              let left : column * 64 + x % 64 ≡ x = omega (arith, e) in
+              let top : row * 64 + y % 64 ≡ y = omega (arith, f) in
+              sym (ap₂ (has (with_tile cells i t)) left top)
+              ∙ (tile_here (x % 64) (y % 64) (omega arith) (omega arith)
+              ∙ (kept (x % 64) (y % 64) (omega arith) (omega arith) (other e f)
+              ∙ (tile_from old is (x % 64) (y % 64) (omega arith) (omega arith) ∙ ap₂ (has cells) left top)))
+          | inr ne ↦ tile_there x y h k (λ _ f. ne f)
+        ]
+        | inr ne ↦ tile_there x y h k (λ e _. ne e)
+      ]
+
+pub seam_put : (cells : Cells) (row below column i d : ℕ) (words : Blocks) (old bottom upper top : Tile) → is_size (extent cells) ≡ true → row < cells.height / 64 → below < cells.height / 64 → column < cells.width / 64 → i ≡ row * (cells.width / 64) + column → d ≡ below * (cells.width / 64) + column
+    → (let r = tile_rectangle cells i in IsTileFrom old cells r.x r.y) → (let r = tile_rectangle cells d in IsTileFrom upper (with_tile cells i bottom) r.x r.y)
+    → ((test : ℕ → ℕ → Bool) → IsRowTurned words test 31 → (x : ℕ) → x < 64 → tile.has bottom x 63 ≡ test x 63) → ((x y : ℕ) → x < 64 → y < 63 → tile.has bottom x y ≡ tile.has old x y)
+    → ((test : ℕ → ℕ → Bool) → IsRowTurned words test 31 → (x : ℕ) → x < 64 → tile.has top x 0 ≡ test x 64) → ((x y : ℕ) → x < 64 → 1 ≤ y → y < 64 → tile.has top x y ≡ tile.has upper x y)
+    → IsSeamPut row below column words cells (with_tile (with_tile cells i bottom) d top)
+seam_put cells row below column i d words old bottom upper top sized low low_below less place place_below of_old of_upper bottom_row bottom_rest top_row top_rest =
+    let mid = with_tile cells i bottom in
+    let across = wide (extent cells) sized in
+    let down = high (extent cells) sized in
+    let first_rest : (x y : ℕ) → x < cells.width → y < cells.height → (x / 64 ≡ column → y / 64 ≡ row → y % 64 ≡ 63 → ⊥) → has mid x y ≡ has cells x y =
+    tile_others cells row column i bottom sized low less place old (λ y. y ≡ 63) of_old (λ x y h k ne. bottom_rest x y h (let s : y ≡ 63 → ⊥ = ne in elim (cases_eq y 63) [ inl e ↦ absurd (s e) | inr n ↦ omega (arith, n, k) ])) in
+    let second_rest : (x y : ℕ) → x < cells.width → y < cells.height → (x / 64 ≡ column → y / 64 ≡ below → y % 64 ≡ 0 → ⊥) → has (with_tile mid d top) x y ≡ has mid x y =
+    tile_others mid below column d top sized low_below less place_below upper (λ y. y ≡ 0) of_upper (λ x y h k ne. top_rest x y h (elim (cases_eq y 0) [ inl e ↦ absurd (ne e) | inr n ↦ omega (arith, n) ]) k) in
+    record {
+      sides = record { wide = refl; high = refl };
+      bottom = λ test is x h.
+          let half : (row * 64 + 63) % 64 ≡ 63 = omega arith in
+          second_rest (column * 64 + x) (row * 64 + 63) (omega (arith, h, less, across.tiles)) (omega (arith, low, down.tiles)) (λ _ _ e. absurd (omega (arith, e, half)))
+          ∙ (tile_here cells row column i bottom sized low less place x 63 h (omega arith) ∙ bottom_row test is x h);
+      top = λ test is x h. ap (has (with_tile mid d top) (column * 64 + x)) (let z : below * 64 ≡ below * 64 + 0 = omega arith in z) ∙ (tile_here mid below column d top sized low_below less place_below x 0 h (omega arith) ∙ top_row test is x h);
+      others = λ x y h k other.
+          second_rest x y h k (λ e f g. other e (inr (let z : y ≡ below * 64 = omega (arith, f, g) in z)))
+          ∙ first_rest x y h k (λ e f g. other e (inl (let z : y ≡ row * 64 + 63 = omega (arith, f, g) in z)));
+    }
+
+-- the rows of blocks that lie in a row of tiles
+pub inner_turned : (cells : Cells) (row column i : ℕ) (t r made : Tile) (before after : RowTurner) (edge : ℕ → Bool) → is_size (extent cells) ≡ true → row < cells.height / 64 → column < cells.width / 64 → i ≡ row * (cells.width / 64) + column → (let r = tile_rectangle cells i in IsTileFrom t cells r.x r.y)
+    → ((y : ℕ) → 1 ≤ y → y < 63 → tile.has r 0 y ≡ edge y) → TurnsInner before t r made after → IsInnerTurned row column edge before after cells (with_tile cells i made)
+inner_turned cells row column i t r made before after edge sized low less place of_t of_r turns =
+    let seen : (window : ℕ → ℕ → Bool) → ((x y : ℕ) → x < 64 → 1 ≤ y → y < 63 → window (x + 1) (y + 1) ≡ has cells (column * 64 + x) (row * 64 + y)) → ((y : ℕ) → 1 ≤ y → y < 63 → window 65 (y + 1) ≡ edge y) → IsInnerSeen window t r =
+    λ window own beside. record {
+      tile = λ x y h k l. own x y h k l ∙ sym (tile_from cells row column i made sized low less place t of_t x y h (omega (arith, l)));
+      right = λ y k l. beside y k l ∙ sym (of_r y k l);
+    } in
+    record {
+      sides = record { wide = refl; high = refl };
+      sets = turns.sets;
+      cells = λ window walled obstructed own beside of_walls of_obstacles carried x y h k l. tile_here cells row column i made sized low less place x y h (omega (arith, l)) ∙ turns.cells window walled obstructed (seen window own beside) of_walls of_obstacles carried x y h k l;
+      leaving = λ window walled obstructed own beside. turns.leaving window walled obstructed (seen window own beside);
+      others = λ x y h k other.
+          tile_others cells row column i made sized low less place t (λ y. (1 ≤ y) × (y < 63)) of_t
+          (λ x y h k not_inner.
+          elim (cases_eq y 0) [
+            | inl e ↦ subst (λ y. tile.has made x y ≡ tile.has t x y) (sym e) (turns.top x h)
+            | inr some ↦ elim (cases_eq y 63) [
+              | inl e ↦ subst (λ y. tile.has made x y ≡ tile.has t x y) (sym e) (turns.bottom x h)
+              | inr few ↦ absurd (not_inner (omega (arith, some), omega (arith, few, k)))
+            ]
+          ])
+          x y h k (λ e f g. other e f g.0 g.1);
+    }
+
+-- beside the next tile
+pub beside_turned : (cells now : Cells) (row column i : ℕ) (first : Tile) (before after : RowTurner) (edge : ℕ → Bool) → is_size (extent cells) ≡ true → row < cells.height / 64 → column < cells.width / 64 → (column + 1 ≡ cells.width / 64 → ⊥) → i ≡ row * (cells.width / 64) + column → IsEdge row column first cells edge
+    → IsTurnedBeside (λ t r made after. TurnsInner before t r made after) after cells i now → IsInnerTurned row column edge before after cells now
+beside_turned cells now row column i first before after edge sized low less inside place is turned =
+    let next : column + 1 < cells.width / 64 = omega (arith, less, inside) in
+    let place_next : i + 1 ≡ row * (cells.width / 64) + (column + 1) = omega (arith, place) in
+    subst (λ n. IsInnerTurned row column edge before after cells n) (sym turned.replaced)
+    (inner_turned cells row column i turned.before turned.right turned.made before after edge sized low less place turned.of_before
+    (λ y k l.
+    tile_from cells row (column + 1) (i + 1) turned.made sized low next place_next turned.right turned.of_right 0 y (omega arith) (omega (arith, l))
+    ∙ (ap (λ u. has cells u (row * 64 + y)) (let z : (column + 1) * 64 + 0 ≡ (column + 1) * 64 = omega arith in z) ∙ is.next next y k l))
+    turned.related)
+
+-- the row of blocks that begins in a tile's last row
+pub seam_seen : (cells : Cells) (row below column i d : ℕ) (t r under r_under : Tile) (upper lower : Bool) → is_size (extent cells) ≡ true → row < cells.height / 64 → below < cells.height / 64 → column < cells.width / 64 → i ≡ row * (cells.width / 64) + column → d ≡ below * (cells.width / 64) + column
+    → (let r = tile_rectangle cells i in IsTileFrom t cells r.x r.y) → (let r = tile_rectangle cells d in IsTileFrom under cells r.x r.y) → tile.has r 0 63 ≡ upper → tile.has r_under 0 0 ≡ lower
+    → (window : ℕ → ℕ → Bool) → ((x : ℕ) → x < 64 → window (x + 1) 64 ≡ has cells (column * 64 + x) (row * 64 + 63)) → ((x : ℕ) → x < 64 → window (x + 1) 65 ≡ has cells (column * 64 + x) (below * 64)) → window 65 64 ≡ upper → window 65 65 ≡ lower → IsSeamSeen window t r under r_under
+seam_seen cells row below column i d t r under r_under upper lower sized low low_below less place place_below of_t of_under of_r of_r_under window bottom top right right_below =
+    record {
+      tile = λ x h. bottom x h ∙ sym (tile_from cells row column i t sized low less place t of_t x 63 h (omega arith));
+      right = right ∙ sym of_r;
+      below = λ x h. top x h ∙ (ap (has cells (column * 64 + x)) (let z : below * 64 ≡ below * 64 + 0 = omega arith in z) ∙ sym (tile_from cells below column d under sized low_below less place_below under of_under x 0 h (omega arith)));
+      below_right = right_below ∙ sym of_r_under;
+    }
+
+-- what stands in the first column of a tile
+pub first_column : (cells : Cells) (row column i : ℕ) (t : Tile) (y : ℕ) → is_size (extent cells) ≡ true → row < cells.height / 64 → column < cells.width / 64 → i ≡ row * (cells.width / 64) + column → (let r = tile_rectangle cells i in IsTileFrom t cells r.x r.y) → y < 64 → tile.has t 0 y ≡ has cells (column * 64) (row * 64 + y)
+first_column cells row column i t y sized low less place of_t h = tile_from cells row column i t sized low less place t of_t 0 y (omega arith) h ∙ ap (λ u. has cells u (row * 64 + y)) (let z : column * 64 + 0 ≡ column * 64 = omega arith in z)

@@ -1,0 +1,90 @@
+use Rattle.std.proofs.Common.{◌≡◌, ℕ, ◌+◌, ◌-◌, ◌*◌, ◌/◌, ◌<◌, ◌≤◌, ◌∙◌, refl, ap, subst, arith, mul-le-mul}
+use Rattle.bit_tile.specs.Tile as tile
+use Rattle.gas_terms.specs.Cells.{Cells, has, extent}
+use Rattle.gas_plane.proofs.Places.{wide}
+use Rattle.block_rule.specs.TileBlocks.{AreGivenBlocks}
+use Rattle.phase_step.specs.SolidBlocks.{is_walled_in}
+use Rattle.phase_step.specs.OddPhase.{IsRowThere}
+use Rattle.phase_step.specs.declared.odd_phase.RowTurner.{RowTurner}
+use Rattle.phase_step.proofs.RowTiles.{tile_from, first_column}
+use Rattle.phase_step.proofs.RowWindows.{window, walled, obstructed, edge, walls_in_view, obstacles_in_view}
+use Rattle.phase_step.proofs.InnerRows.{last_seen, row_begun, is_edge, inner_next, inner_row}
+use Rattle.phase_step.proofs.odd_phase.turn_inner_row.Goals as goal
+use Rattle.phase_step.proofs.odd_phase.turn_inner_row.Goals.{After-carried_on-carry}
+
+pub overflow_mul-there : goal.overflow_mul-there
+overflow_mul-there c =
+    let few : c.across-across.result ≤ 64 = let f = (wide (extent c.args.particles.now) c.across-across.ensures.lattice.sized).few in let e = c.across-across.ensures.across in omega (arith, e, f) in
+    let low : c.args.place.there ≤ 63 = let t = c.requires.there in omega (arith, t) in
+    let most : c.args.place.there * c.across-across.result ≤ 63 * 64 = mul-le-mul low few in
+    omega (arith, most)
+
+module _ (c : After-carried_on-carry) where
+  first_is : (y : ℕ) → 1 ≤ y → y < 63 → tile.has c.tile.result.now 0 y ≡ has c.args.particles.now 0 (c.args.place.row * 64 + y)
+  first_is y k l =
+      first_column c.args.particles.now c.args.place.row 0 _ c.tile.result.now y c.across-across.ensures.lattice.sized c.requires.row c.across-across.ensures.positive (ap (λ a. c.args.place.row * a) c.across-across.ensures.across ∙ omega arith) c.tile.ensures (omega (arith, l))
+
+  module _ (lattice : Cells) (is : IsRowThere c.args.place c.args.ground.solids.now.walls c.args.ground.solids.now.obstacles c.args.particles.now lattice) where
+    across_is : c.across-across.result ≡ lattice.width / 64
+    across_is = c.across-across.ensures.across ∙ ap (λ w. w / 64) is.wide
+
+    last_is : c.across-across.result - 1 + 1 ≡ lattice.width / 64
+    last_is = let e = across_is in let e2 = c.across-across.ensures.across in let s = c.across-across.ensures.positive in omega (arith, e, e2, s)
+
+    last_less : c.across-across.result - 1 < lattice.width / 64
+    last_less = let e = last_is in omega (arith, e)
+
+pub loop-column-init : goal.loop-column-init
+loop-column-init c =
+    let after = (goal.at.loop-column-init c).After-carried_on-carry in
+    let s = c.args.ground.solids.now in
+    let old = c.args.particles.now in
+    let place = c.args.place in
+    let column = c.across-across.result - 1 in
+    let sets = c.sets_at-sets.result in
+    let sized = c.across-across.ensures.lattice.sized in
+    record {
+      sides = record { wide = refl; high = refl };
+      turned = λ lattice is ready.
+          let less = last_less after lattice is in
+          let e = across_is after lattice is in
+          let w = walls_in_view place column s.walls s.obstacles old lattice is less sets (subst (λ a. AreGivenBlocks sets.walls (is_walled_in s.walls (place.there * a + column))) e c.sets_at-sets.ensures.walls) in
+          let o = obstacles_in_view place column s.walls s.obstacles old lattice is less sets (subst (λ a. AreGivenBlocks sets.obstacles (is_walled_in s.obstacles (place.there * a + column))) e c.sets_at-sets.ensures.obstacles) in
+          let less_old : column < old.width / 64 = let k = c.across-across.ensures.across in let p = c.across-across.ensures.positive in omega (arith, k, p) in
+          let seen = last_seen place column s.walls s.obstacles old lattice is less sized c.requires.row ready (last_is after lattice is) c.tile.result.now (first_is after) c.tile-2.result.now
+          (tile_from old place.row column _ c.tile-2.result.now sized c.requires.row less_old (ap (λ a. place.row * a + column) c.across-across.ensures.across) c.tile-2.result.now c.tile-2.ensures) in
+          row_begun place column s.walls s.obstacles old lattice is less sized c.requires.row ready (last_is after lattice is) c.tile.result.now (first_is after) c.carried_on-carry.result
+          (c.carried_on-carry.ensures (window place column s.walls s.obstacles old lattice is less) (walled place column s.walls s.obstacles old lattice is less) (obstructed place column s.walls s.obstacles old lattice is less) seen w o);
+    }
+
+pub loop-column-preserved : goal.loop-column-preserved
+loop-column-preserved c =
+    let after = (goal.at.loop-column-preserved c).After-carried_on-carry in
+    let s = c.args.ground.solids.now in
+    let old = c.args.particles.now in
+    let place = c.args.place in
+    let l = c.loop-column in
+    let column = l.column in
+    let sets = c.sets_at-sets-in-loop-column.result in
+    let given = c.sets_at-sets-in-loop-column.ensures in
+    let sized = c.across-across.ensures.lattice.sized in
+    let sides = c.turn_inner_at.ensures.sides in
+    let before : RowTurner = record { sets = sets; carry = l.turner.carry } in
+    record {
+      sides = record { wide = sides.wide ∙ l.invariant.sides.wide; high = sides.high ∙ l.invariant.sides.high };
+      turned = λ lattice is ready.
+          let e = across_is after lattice is in
+          let less : column < lattice.width / 64 = subst (λ a. column < a) e c.loop-column-test.true in
+          let so_far = l.invariant.turned lattice is ready in
+          let w = walls_in_view place column s.walls s.obstacles old lattice is less sets (subst (λ a. AreGivenBlocks sets.walls (is_walled_in s.walls (place.there * a + column))) e given.walls) in
+          let o = obstacles_in_view place column s.walls s.obstacles old lattice is less sets (subst (λ a. AreGivenBlocks sets.obstacles (is_walled_in s.obstacles (place.there * a + column))) e given.obstacles) in
+          inner_next place column s.walls s.obstacles old lattice is less sized c.requires.row ready l.particles l.turner.carry so_far before c.turn_inner_at.new.turner c.turn_inner_at.new.particles refl
+          (c.turn_inner_at.ensures.turned (edge place column s.walls s.obstacles old lattice is less) (is_edge place column s.walls s.obstacles old lattice is less sized c.requires.row ready l.particles l.turner.carry so_far c.tile.result.now (first_is after))) w o;
+    }
+
+pub returns-clause-turned : goal.returns-clause-turned
+returns-clause-turned c = λ lattice is ready.
+    let after = (goal.at.returns-clause-turned c).After-carried_on-carry in
+    let l = c.loop-column in
+    let all : l.column ≡ lattice.width / 64 = omega (arith, c.loop-column-test.false, l.auto.column-end) ∙ across_is after lattice is in
+    inner_row c.args.place l.column _ c.args.particles.now l.particles l.turner.carry is.sized all (l.invariant.turned lattice is ready)

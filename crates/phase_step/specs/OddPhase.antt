@@ -1,0 +1,127 @@
+-- The phase of parity 1 in place. The blocks that begin in a tile's rows 1 to 61 lie in its row of tiles. Those that begin in its last
+-- row end in the first row of the tiles below.
+use Rattle.std.specs.Prelude.{◌≡◌, ◌⊎◌, ℕ, ◌+◌, ◌-◌, ◌*◌, ◌/◌, ◌%◌, ◌<◌, ◌≤◌, ◌==◌, Bool, true, if◌then◌else◌}
+use Rattle.bit_tile.specs.Bit.{bit}
+use Rattle.bit_tile.specs.Tile as tile
+use Rattle.bit_tile.specs.declared.Tile.{Tile}
+use Rattle.gas_terms.specs.Cells.{Cells, HasSidesOf, has, extent, is_size}
+use Rattle.block_rule.specs.Around.{turned, either}
+use Rattle.block_rule.specs.InPlace.{ShowsBegun, IsInnerSeen, IsRowTurned, IsCarried}
+use Rattle.block_rule.specs.TileBlocks.{AreGivenBlocks, walled_by}
+use Rattle.block_rule.specs.declared.blocks.Blocks.{Blocks}
+use Rattle.block_rule.specs.declared.blocks.Beside.{Beside}
+use Rattle.block_rule.specs.declared.in_place.Carry.{Carry}
+use Rattle.phase_step.specs.Parts.{row_in}
+use Rattle.phase_step.specs.declared.parts.Part.{Part}
+use Rattle.phase_step.specs.declared.odd_phase.RowPlace.{RowPlace}
+use Rattle.phase_step.specs.declared.odd_phase.RowTurner.{RowTurner}
+
+-- what a turner makes of a tile beside the one to its right, and what it carries on
+pub record TurnsInner (before : RowTurner) (t r made : Tile) (after : RowTurner) : Type 0 where
+  pub cells : (window walled obstructed : ℕ → ℕ → Bool) → IsInnerSeen window t r → AreGivenBlocks before.sets.walls (walled_by walled) → AreGivenBlocks before.sets.obstacles (walled_by obstructed) → IsCarried before.carry (turned 1 window (either walled obstructed) 0)
+      → (x y : ℕ) → x < 64 → 1 ≤ y → y < 63 → tile.has made x y ≡ turned 1 window (either walled obstructed) x y
+  pub leaving : (window walled obstructed : ℕ → ℕ → Bool) → IsInnerSeen window t r → AreGivenBlocks before.sets.walls (walled_by walled) → AreGivenBlocks before.sets.obstacles (walled_by obstructed) → IsCarried after.carry (turned 1 window (either walled obstructed) 64)
+  pub top : (x : ℕ) → x < 64 → tile.has made x 0 ≡ tile.has t x 0
+  pub bottom : (x : ℕ) → x < 64 → tile.has made x 63 ≡ tile.has t x 63
+  pub sets : after.sets ≡ before.sets
+
+-- the rows of cells 1 to 62 of a tile have turned, where `edge` has what stood to their right
+pub record IsInnerTurned (row column : ℕ) (edge : ℕ → Bool) (before after : RowTurner) (old new : Cells) : Type 0 where
+  pub sides : HasSidesOf new old
+  pub sets : after.sets ≡ before.sets
+  pub cells : (window walled obstructed : ℕ → ℕ → Bool) → ((x y : ℕ) → x < 64 → 1 ≤ y → y < 63 → window (x + 1) (y + 1) ≡ has old (column * 64 + x) (row * 64 + y)) → ((y : ℕ) → 1 ≤ y → y < 63 → window 65 (y + 1) ≡ edge y)
+      → AreGivenBlocks before.sets.walls (walled_by walled) → AreGivenBlocks before.sets.obstacles (walled_by obstructed) → IsCarried before.carry (turned 1 window (either walled obstructed) 0)
+      → (x y : ℕ) → x < 64 → 1 ≤ y → y < 63 → has new (column * 64 + x) (row * 64 + y) ≡ turned 1 window (either walled obstructed) x y
+  pub leaving : (window walled obstructed : ℕ → ℕ → Bool) → ((x y : ℕ) → x < 64 → 1 ≤ y → y < 63 → window (x + 1) (y + 1) ≡ has old (column * 64 + x) (row * 64 + y)) → ((y : ℕ) → 1 ≤ y → y < 63 → window 65 (y + 1) ≡ edge y)
+      → AreGivenBlocks before.sets.walls (walled_by walled) → AreGivenBlocks before.sets.obstacles (walled_by obstructed) → IsCarried after.carry (turned 1 window (either walled obstructed) 64)
+  pub others : (x y : ℕ) → x < old.width → y < old.height → (x / 64 ≡ column → y / 64 ≡ row → 1 ≤ y % 64 → y % 64 < 63 → ⊥) → has new x y ≡ has old x y
+
+-- what stands to the right of a tile in its rows 1 to 62: in the next tile, and for the last one of a row in the first one as it was
+pub record IsEdge (row column : ℕ) (first : Tile) (cells : Cells) (edge : ℕ → Bool) : Type 0 where
+  pub next : column + 1 < cells.width / 64 → (y : ℕ) → 1 ≤ y → y < 63 → has cells ((column + 1) * 64) (row * 64 + y) ≡ edge y
+  pub last : column + 1 ≡ cells.width / 64 → (y : ℕ) → 1 ≤ y → y < 63 → tile.has first 0 y ≡ edge y
+
+-- the row of blocks that begins in a tile's last row was put into the lattice
+pub record IsSeamPut (row below column : ℕ) (words : Blocks) (old new : Cells) : Type 0 where
+  pub sides : HasSidesOf new old
+  pub bottom : (test : ℕ → ℕ → Bool) → IsRowTurned words test 31 → (x : ℕ) → x < 64 → has new (column * 64 + x) (row * 64 + 63) ≡ test x 63
+  pub top : (test : ℕ → ℕ → Bool) → IsRowTurned words test 31 → (x : ℕ) → x < 64 → has new (column * 64 + x) (below * 64) ≡ test x 64
+  pub others : (x y : ℕ) → x < old.width → y < old.height → (x / 64 ≡ column → (y ≡ row * 64 + 63) ⊎ (y ≡ below * 64) → ⊥) → has new x y ≡ has old x y
+
+-- what stands to the right of that row of blocks
+pub record IsSeamEdge (row below column : ℕ) (first first_below : Tile) (cells : Cells) (upper lower : Bool) : Type 0 where
+  pub next : column + 1 < cells.width / 64 → (has cells ((column + 1) * 64) (row * 64 + 63) ≡ upper) × (has cells ((column + 1) * 64) (below * 64) ≡ lower)
+  pub last : column + 1 ≡ cells.width / 64 → (tile.has first 0 63 ≡ upper) × (tile.has first_below 0 0 ≡ lower)
+
+-- the words show that row of blocks
+abbrev pub ShowsSeam : ℕ → ℕ → ℕ → Cells → Bool → Bool → Blocks → Beside → Type 0
+ShowsSeam row below column cells upper lower own right =
+    (window : ℕ → ℕ → Bool) → ((x : ℕ) → x < 64 → window (x + 1) 64 ≡ has cells (column * 64 + x) (row * 64 + 63)) → ((x : ℕ) → x < 64 → window (x + 1) 65 ≡ has cells (column * 64 + x) (below * 64)) → window 65 64 ≡ upper → window 65 65 ≡ lower → ShowsBegun window 31 own right
+
+-- The row of tiles stands there in a lattice with these walls and obstacles.
+pub record IsRowThere (place : RowPlace) (walls obstacles cells lattice : Cells) : Type 0 where
+  pub sized : is_size (extent lattice) ≡ true
+  pub of_walls : HasSidesOf walls lattice
+  pub of_obstacles : HasSidesOf obstacles lattice
+  pub wide : cells.width ≡ lattice.width
+  pub low : place.there < lattice.height / 64
+
+-- the lattice's row of tiles below it, round the torus
+abbrev pub below_there : RowPlace → Cells → ℕ
+below_there place lattice = (place.there + 1) % (lattice.height / 64)
+
+-- Its rows of cells 1 to 62 are the lattice's, in the columns up to `to`.
+abbrev pub HasInner : RowPlace → ℕ → Cells → Cells → Type 0
+HasInner place to cells lattice = (x y : ℕ) → x < to → 1 ≤ y → y < 63 → has cells x (place.row * 64 + y) ≡ has lattice x (place.there * 64 + y)
+
+-- Its last row of cells is the lattice's, and so is the first one of the row of tiles below.
+pub record HasSeam (place : RowPlace) (to : ℕ) (cells lattice : Cells) : Type 0 where
+  pub bottom : (x : ℕ) → x < to → has cells x (place.row * 64 + 63) ≡ has lattice x (place.there * 64 + 63)
+  pub top : (x : ℕ) → x < to → has cells x (place.below * 64) ≡ has lattice x (below_there place lattice * 64)
+
+-- which rows of cells these are
+abbrev pub IsInnerOf : RowPlace → ℕ → Type 0
+IsInnerOf place y = (y / 64 ≡ place.row) × ((1 ≤ y % 64) × (y % 64 < 63))
+
+abbrev pub IsSeamOf : RowPlace → ℕ → Type 0
+IsSeamOf place y = (y ≡ place.row * 64 + 63) ⊎ (y ≡ place.below * 64)
+
+-- the column of cells after so many tiles, round the torus
+abbrev pub after_tiles : Cells → ℕ → ℕ
+after_tiles lattice column = if column == lattice.width / 64 then 0 else column * 64
+
+-- So many tiles of the row have turned within it: those cells are the next lattice's, all others are as before, and what is carried on
+-- is the next column.
+pub record AreInnersTurned (place : RowPlace) (column : ℕ) (next old now : Cells) (carry : Carry) : Type 0 where
+  pub sides : HasSidesOf now old
+  pub made : HasInner place (column * 64) now next
+  pub rest : (x y : ℕ) → x < old.width → y < old.height → (x < column * 64 → IsInnerOf place y → ⊥) → has now x y ≡ has old x y
+  pub carried : IsCarried carry (λ y. has next (after_tiles next column) (place.there * 64 + y))
+
+-- the same across the seam
+pub record AreSeamsTurned (place : RowPlace) (column : ℕ) (next old now : Cells) (coming : Beside) : Type 0 where
+  pub sides : HasSidesOf now old
+  pub made : HasSeam place (column * 64) now next
+  pub rest : (x y : ℕ) → x < old.width → y < old.height → (x < column * 64 → IsSeamOf place y → ⊥) → has now x y ≡ has old x y
+  pub upper : bit coming.upper 31 ≡ has next (after_tiles next column) (place.there * 64 + 63)
+  pub lower : bit coming.lower 31 ≡ has next (after_tiles next column) (below_there place next * 64)
+
+-- and of the whole row
+pub record IsInnerRowTurned (place : RowPlace) (next old now : Cells) : Type 0 where
+  pub made : HasInner place next.width now next
+  pub rest : (x y : ℕ) → x < old.width → y < old.height → (IsInnerOf place y → ⊥) → has now x y ≡ has old x y
+
+pub record IsSeamRowTurned (place : RowPlace) (next old now : Cells) : Type 0 where
+  pub made : HasSeam place next.width now next
+  pub rest : (x y : ℕ) → x < old.width → y < old.height → (IsSeamOf place y → ⊥) → has now x y ≡ has old x y
+
+-- the row of tiles in which the blocks of a row of cells begin
+abbrev pub begins_in : Cells → ℕ → ℕ
+begins_in cells y = (y + cells.height - 1) % cells.height / 64
+
+-- The blocks that begin in a part's rows of tiles before this one have turned: their rows of cells are the next lattice's, all others are
+-- as before.
+pub record AreTurnedTo (rows : ℕ) (part : Part) (next old now : Cells) : Type 0 where
+  pub sides : HasSidesOf now old
+  pub made : (x y : ℕ) → x < old.width → part.margin * 63 ≤ y → y + part.margin * 63 < old.height → begins_in old y < rows → has now x y ≡ has next x (row_in part y)
+  pub rest : (x y : ℕ) → x < old.width → y < old.height → rows ≤ begins_in old y → has now x y ≡ has old x y

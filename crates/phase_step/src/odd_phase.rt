@@ -1,0 +1,198 @@
+//! The phase of parity 1 in place, row of tiles by row. A tile turns the blocks that begin in it. Those of its rows of cells 1 to
+//! 62 lie in its row of tiles. Those of its last row end in the tiles below, across the seam.
+
+ghost use Rattle.std.specs.Prelude.{◌≡◌, ℕ, ◌+◌, ◌*◌, ◌/◌, ◌<◌, ◌≤◌, Bool};
+ghost use Rattle.gas_terms.specs.Cells.{Cells, HasSidesOf, joined, tile_count};
+ghost use Rattle.gas_terms.specs.Gas.{streamed};
+ghost use Rattle.block_rule.specs.TileBlocks.{AreGivenBlocks};
+ghost use Rattle.phase_step.specs.SolidBlocks.{is_walled_in};
+ghost use Rattle.phase_step.specs.OddPhase.{TurnsInner, IsSeamPut, IsInnerTurned, IsEdge, IsSeamEdge, ShowsSeam, IsRowThere, HasInner, HasSeam, IsInnerRowTurned, IsSeamRowTurned};
+
+use crate::steps::{Ground, TileSolids};
+use block_rule::{Beside, Carry, SeamRow, TurnedRow, WalledSets, put_bottom, put_top, seam_row};
+use gas_plane::{Plane, Tile, Turner};
+
+/// Where a row of tiles stands: its number, that of the row below, and the number of the lattice's row of tiles that it is.
+#[derive(Clone, Copy)]
+pub struct RowPlace {
+    pub row: u32,
+    pub below: u32,
+    pub there: u32,
+}
+
+/// Turns the tiles of a row one after another. It has the walled blocks of the next tile, and what the one before carries on.
+#[derive(Clone, Copy)]
+pub struct RowTurner<'a> {
+    pub sets: WalledSets<'a>,
+    pub carry: Carry,
+}
+
+impl<'a> Turner for RowTurner<'a> {
+    ghost turns = { λ before t right made after. TurnsInner before t right made after };
+
+    #[inline(always)]
+    fn turn(&mut self, tile: &mut Tile, right: &Tile) {
+        self.sets.turn_inner(tile, right, &mut self.carry);
+    }
+}
+
+// The walled blocks of the lattice's tile i.
+#[inline(always)]
+fn sets_at(ground: Ground<'_>, i: u32) -> WalledSets<'_>
+    requires walls { i < tile_count ground.solids.now.walls }
+    requires obstacles { i < tile_count ground.solids.now.obstacles }
+    ensures walls { let s = ground.entry.solids.now in
+        AreGivenBlocks result.walls (is_walled_in s.walls i) }
+    ensures obstacles { let s = ground.entry.solids.now in
+        AreGivenBlocks result.obstacles (is_walled_in s.obstacles i) }
+{
+    let TileSolids { walls, obstacles } = ground.in_tile(i);
+    WalledSets { walls, obstacles }
+}
+
+// Turns the rows of blocks of a tile that lie in its row of tiles. `first` is the row's first tile as it was before the phase.
+#[inline(always)]
+fn turn_inner_at(
+    particles: &mut Plane,
+    across: u32,
+    row: u32,
+    column: u32,
+    first: &Tile,
+    turner: &mut RowTurner<'_>,
+)
+    requires across { across ≡ particles.old.width / 64 }
+    requires row { row < particles.old.height / 64 }
+    requires column { column < particles.old.width / 64 }
+    ensures sides { HasSidesOf particles.new particles.old }
+    ensures turned { (edge : ℕ → Bool) → IsEdge row column first.now particles.old edge →
+        IsInnerTurned row column edge turner.old turner.new particles.old particles.new }
+{
+    particles.shows_lattice();
+    let i = row * across + column;
+    if column + 1 == across {
+        turner.turn(particles.tile_mut(i), first);
+    } else {
+        particles.turn_beside(i, turner);
+    }
+}
+
+/// Turns the blocks that lie in a row of tiles: its rows of cells 1 to 62.
+#[inline(always)]
+pub fn turn_inner_row(particles: &mut Plane, ground: Ground<'_>, place: RowPlace)
+    requires row { place.row < particles.old.height / 64 }
+    requires there { place.there < 64 }
+    requires walls { let a = particles.old.width / 64 in
+        place.there * a + a ≤ tile_count ground.solids.now.walls }
+    requires obstacles { let a = particles.old.width / 64 in
+        place.there * a + a ≤ tile_count ground.solids.now.obstacles }
+    ensures sides { HasSidesOf particles.new particles.old }
+    ensures turned { let s = ground.entry.solids.now in (lattice : Cells) →
+        IsRowThere place s.walls s.obstacles particles.old lattice →
+        HasInner place lattice.width particles.old lattice →
+        IsInnerRowTurned place (streamed 1 lattice (joined s.walls s.obstacles))
+        particles.old particles.new }
+{
+    let across = particles.across();
+    let row = place.row;
+    let there = place.there * across;
+    let last = across - 1;
+    let first = *particles.tile(row * across);
+    let sets = sets_at(ground, there + last);
+    let carry = sets.carried_on(particles.tile(row * across + last), &first);
+    let mut turner = RowTurner { sets, carry };
+    for column in 0..across {
+        let sets = sets_at(ground, there + column);
+        turner.sets = sets;
+        turn_inner_at(particles, across, row, column, &first, &mut turner);
+    }
+}
+
+// The words of the row of blocks that begins in a tile's last row. `first` is the row's first tile as it was before the phase, and
+// `first_below` the one below it.
+#[inline(always)]
+fn seam_at(
+    particles: &Plane,
+    across: u32,
+    row: u32,
+    below: u32,
+    column: u32,
+    first: &Tile,
+    first_below: &Tile,
+) -> SeamRow
+    requires across { across ≡ particles.now.width / 64 }
+    requires row { row < particles.now.height / 64 }
+    requires below { below < particles.now.height / 64 }
+    requires column { column < particles.now.width / 64 }
+    ensures { (upper lower : Bool) →
+        IsSeamEdge row below column first.now first_below.now particles.now upper lower →
+        ShowsSeam row below column particles.now upper lower result.own result.right }
+{
+    particles.shows_lattice();
+    let i = row * across + column;
+    let d = below * across + column;
+    let tile = particles.tile(i);
+    let under = particles.tile(d);
+    if column + 1 == across {
+        seam_row(tile, first, under, first_below)
+    } else {
+        seam_row(tile, particles.tile(i + 1), under, particles.tile(d + 1))
+    }
+}
+
+// Puts that row of blocks into the tile and the one below. Returns what it carries on.
+#[inline(always)]
+fn put_seam(
+    particles: &mut Plane,
+    across: u32,
+    row: u32,
+    below: u32,
+    column: u32,
+    words: &TurnedRow,
+) -> Beside
+    requires across { across ≡ particles.old.width / 64 }
+    requires row { row < particles.old.height / 64 }
+    requires below { below < particles.old.height / 64 }
+    requires column { column < particles.old.width / 64 }
+    ensures put { IsSeamPut row below column words.now.own particles.old particles.new }
+    ensures leaving { result ≡ words.now.leaving }
+{
+    particles.shows_lattice();
+    put_bottom(particles.tile_mut(row * across + column), &words.own);
+    put_top(particles.tile_mut(below * across + column), &words.own);
+    words.leaving
+}
+
+/// Turns the blocks that begin in the last row of cells of a row of tiles and end in the first one of the tiles below.
+#[inline(always)]
+pub fn turn_seam(particles: &mut Plane, ground: Ground<'_>, place: RowPlace)
+    requires row { place.row < particles.old.height / 64 }
+    requires below { place.below < particles.old.height / 64 }
+    requires there { place.there < 64 }
+    requires walls { let a = particles.old.width / 64 in
+        place.there * a + a ≤ tile_count ground.solids.now.walls }
+    requires obstacles { let a = particles.old.width / 64 in
+        place.there * a + a ≤ tile_count ground.solids.now.obstacles }
+    ensures sides { HasSidesOf particles.new particles.old }
+    ensures turned { let s = ground.entry.solids.now in (lattice : Cells) →
+        IsRowThere place s.walls s.obstacles particles.old lattice →
+        HasSeam place lattice.width particles.old lattice →
+        IsSeamRowTurned place (streamed 1 lattice (joined s.walls s.obstacles))
+        particles.old particles.new }
+{
+    let across = particles.across();
+    let RowPlace { row, below, there } = place;
+    let there = there * across;
+    let last = across - 1;
+    let first = *particles.tile(row * across);
+    let under = *particles.tile(below * across);
+    let none = Beside { upper: 0, lower: 0 };
+    let seam = seam_at(particles, across, row, below, last, &first, &under);
+    let mut coming = sets_at(ground, there + last)
+        .turned_seam(seam, none)
+        .leaving;
+    for column in 0..across {
+        let seam = seam_at(particles, across, row, below, column, &first, &under);
+        let words = sets_at(ground, there + column).turned_seam(seam, coming);
+        coming = put_seam(particles, across, row, below, column, &words);
+    }
+}
