@@ -18,10 +18,14 @@ _PATIENCE = 120.0  # seconds
 
 
 class Browser:
-    """One page. `errors` has what its console and its scripts complained about."""
+    """One page. `errors` has what its console and its scripts complained about.
+
+    `asked` has the kinds of dialogs that the browser showed, as `beforeunload`. Each is answered with yes.
+    """
 
     def __init__(self, address: str) -> None:
         self.errors: list[Any] = []
+        self.asked: list[str] = []
         self._room = tempfile.mkdtemp(prefix="chromium-")
         self._number, self._rest = 0, b""
         self._session: Any = None
@@ -53,15 +57,20 @@ class Browser:
         os.close(self._out)
         shutil.rmtree(self._room, ignore_errors=True)
 
-    def _ask(self, method: str, **what: Any) -> Any:
+    def _send(self, method: str, **what: Any) -> int:
+        """Sends a command. Returns its number."""
         self._number += 1
         asked = {"id": self._number, "method": method, "params": what}
         if self._session:
             asked["sessionId"] = self._session
         os.write(self._out, json.dumps(asked).encode() + b"\0")
+        return self._number
+
+    def _ask(self, method: str, **what: Any) -> Any:
+        number = self._send(method, **what)
         while True:
             told = self._told()
-            if told.get("id") == self._number:
+            if told.get("id") == number:
                 assert "error" not in told, told
                 return told["result"]
 
@@ -81,6 +90,9 @@ class Browser:
                 or about == "Runtime.consoleAPICalled" and what["type"] in ("error", "warning") \
                 or about == "Log.entryAdded" and what["entry"]["level"] in ("error", "warning"):
             self.errors.append(what)
+        elif about == "Page.javascriptDialogOpening":
+            self.asked.append(what["type"])
+            self._send("Page.handleJavaScriptDialog", accept=True)
         return told
 
     def value(self, script: str) -> Any:
@@ -162,6 +174,10 @@ class Browser:
         while not path.exists():
             assert time.monotonic() < deadline, path
             time.sleep(0.02)
+
+    def print_to(self, path: Path) -> None:
+        """Prints the page to a PDF file, as a person does."""
+        path.write_bytes(base64.b64decode(self._ask("Page.printToPDF", preferCSSPageSize=False)["data"]))
 
     def screenshot(self, path: str) -> None:
         """Writes what is seen to a PNG file."""

@@ -6,7 +6,7 @@ import sys
 import unittest
 
 from .browser import CHROMIUM, Browser
-from .page_case import CALLOUT
+from .page_case import CALLOUT, READY
 from .test_lab import ROOT, STAND_IN
 
 MARKUP = "<img src=x onerror=alert(1)>"
@@ -65,7 +65,7 @@ class InABrowser(unittest.TestCase):
     def test_a_link_is_copied_where_there_is_no_clipboard(self):
         """A page that is shared by HTTP has no `navigator.clipboard`."""
         with Started("--program", STAND_IN) as server, Browser(server.links[0]) as browser:
-            browser.wait("globalThis.laboratory?.lab.picture != null", True)
+            browser.wait(READY, True)
             browser.value("Object.defineProperty(navigator, 'clipboard', {});"
                           "document.getElementById('share-open').click()")
             copy = "document.querySelector('.give:has(.link) button')"

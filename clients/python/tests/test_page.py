@@ -446,7 +446,7 @@ class Style(unittest.TestCase):
 
     def test_painting_reads_no_form(self):
         """What is painted comes from the gas and from the page's state. `at` finds elements."""
-        for name in ("cells", "painter", "viewport", "view"):
+        for name in ("cells", "fields", "flow", "painter", "viewport", "view"):
             text = read(f"{name}.js")
             self.assertLessEqual(set(re.findall(r"(?<![.\w])at\((\".*?\")\)", text)), {'"gas"'}, name)
             self.assertNotRegex(text, r"\.(checked|value)\b|querySelector|getElementById", name)
@@ -460,7 +460,7 @@ class Style(unittest.TestCase):
         self.assertLessEqual(len(re.findall(r"^ *[^\s#]", bare, re.M)), 790)
 
     def test_lines_are_short(self):
-        for path in (STATIC / "page.css", STATIC / "index.html"):
+        for path in (STATIC / "page.css", STATIC / "print.css", STATIC / "index.html"):
             self.assertLessEqual(max(map(len, path.read_text("utf-8").splitlines())), 110, path.name)
 
 

@@ -127,7 +127,7 @@ class Spoken(PageCase):
                              "!(e.ariaLabel || e.textContent.trim() || e.title || e.labels?.length))"
                              ".map((e) => e.id)")
         self.assertEqual(unnamed, [])
-        plots = self.value("[...document.querySelectorAll('figure, .plot')]"
+        plots = self.value("[...document.querySelectorAll('#plots :is(figure, .plot)')]"
                            ".map((e) => [e.role, e.ariaLabel])")
         self.assertEqual([role for role, _ in plots], [None, "img"])
         self.assertEqual(plots[0][1], "Drag")

@@ -21,7 +21,7 @@ use std::{fs, io, thread};
 use test_types::faults::{FaultAt, Store};
 
 // What is run alone, on a new lattice of that width and height.
-const LESSONS: [(&str, u32, u32); 28] = [
+const LESSONS: [(&str, u32, u32); 29] = [
     ("1_one_particle", 64, 64),
     ("2_head_on", 64, 64),
     ("2_blocks", 64, 64),
@@ -50,6 +50,7 @@ const LESSONS: [(&str, u32, u32); 28] = [
     ("scenes/two_tunnels", 64, 64),
     ("scenes/clap", 128, 128),
     ("scenes/seams", 128, 128),
+    ("scenes/half_adder", 64, 64),
 ];
 
 const PEOPLE: [&str; 3] = ["8_first", "8_second", "8_third"];

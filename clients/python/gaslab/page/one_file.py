@@ -1,6 +1,7 @@
 """The page as one text: a file that runs from a folder with nothing installed, or what a server serves."""
 import base64
 import hashlib
+import html
 import json
 import re
 from pathlib import Path
@@ -15,6 +16,8 @@ _IMPORT = re.compile(r'^import (?:(\w+|\{ [^}]+ \}) from )?"\./(\w+\.(?:js|json)
 _EXPORT = re.compile(r"^export (?:async function|function|class|const|let) (\w+|\{[^}]+\})", re.M)
 _RULES = ("default-src 'none'; script-src {scripts}; style-src 'unsafe-inline'; img-src data: blob:; "
           "base-uri 'none'; form-action 'none'; {more}")
+_STRICT = '"use strict";\n'
+_TEXTS = re.compile(r'"\./(texts_\w+\.json)"')  # in texts.js
 
 
 def read(name: str) -> str:
@@ -24,38 +27,55 @@ def read(name: str) -> str:
 
 def one_file(name: str = "", contents: Optional[bytes] = None) -> str:
     """The page with an engine of its own, and with a script or a snapshot that it opens first."""
-    data = {"worker": ("text/plain", bundle("worker"))}
+    page, worker = _modules("page"), _modules("worker")
+    both = [it for it in worker if it in page]  # with all that they import
+    data = {"worker": ("text/plain", "".join(text for it, text in worker.items() if it not in page))}
     if contents is not None:
         opened = {"name": name, "contents": base64.b64encode(contents).decode("ascii")}
         data["opened"] = "application/json", json.dumps(opened)
-    return _text(data, "worker-src blob:", "blob: ")
+    scripts = {"engine": _STRICT + "".join(worker[it] for it in both),
+               "page": _STRICT + "".join(text for it, text in page.items() if it not in both)}
+    return _text(data, scripts, "worker-src blob:", "blob: ")
 
 
 def served_file(address: str) -> str:
     """The page of a server, which may connect to this address alone."""
-    return _text({}, f"connect-src {address}")
+    return _text({}, {"page": bundle("page")}, f"connect-src {address}")
 
 
-def _text(own: dict[str, tuple[str, str]], more: str, scripts_of: str = "") -> str:
+def _text(own: dict[str, tuple[str, str]], bundles: dict[str, str], more: str, scripts_of: str = "") -> str:
     license_of = read("dygraph-LICENSE.txt").replace("*/", "* /")
-    scripts = [f"/*! dygraphs\n{license_of}*/\n{read('dygraph.min.js')}", bundle("page")]
-    hashes = " ".join(f"'sha256-{_hash(script)}'" for script in scripts)
+    plots = f"/*! dygraphs\n{license_of}*/\n{read('dygraph.min.js')}"
+    scripts = {"plotting": plots, **bundles}
+    hashes = " ".join(f"'sha256-{_hash(script)}'" for script in scripts.values())
     rules = _RULES.format(scripts=scripts_of + hashes, more=more)
-    sheets = read("dygraph.min.css"), _properties(), read("page.css")
+    sheets = read("dygraph.min.css"), _properties(), read("page.css"), read("print.css")
     styles = f'<meta http-equiv="Content-Security-Policy" content="{rules}">\n' + "".join(
         f"<style>\n{_bare(sheet)}</style>\n" for sheet in sheets)
     parts = [f'<script type="{kind}" id="{key}">{_safe(text, kind)}</script>\n'
              for key, (kind, text) in own.items()]
-    parts += [f"<script>{_closed(script)}</script>\n" for script in scripts]
-    return read("index.html").replace("<!-- styles -->\n", styles).replace(
+    parts += [f'<script id="{key}">{_closed(script)}</script>\n' for key, script in scripts.items()]
+    return _worded(read("index.html")).replace("<!-- styles -->\n", styles).replace(
         "<!-- scripts -->\n", "".join(parts))
+
+
+def _worded(markup: str) -> str:
+    """Markup with the page's texts in place of their {{names}}."""
+    name, = _TEXTS.findall(read("texts.js"))
+    texts = json.loads(read(name))["index"]
+    return re.sub(r"\{\{(\w+)\}\}", lambda it: html.escape(texts[it[1]]), markup)
 
 
 def bundle(entry: str) -> str:
     """A module and all that it imports as one script: each module is a function that returns its exports."""
+    return _STRICT + "".join(_modules(entry).values())
+
+
+def _modules(entry: str) -> dict[str, str]:
+    """A module and all that it imports, by their names: each comes after what it imports."""
     found: dict[str, str] = {}
     _collect(f"{entry}.js", found, ())
-    return '"use strict";\n' + "".join(found.values())
+    return found
 
 
 def _collect(name: str, found: dict[str, str], above: tuple[str, ...]) -> None:
@@ -68,7 +88,7 @@ def _collect(name: str, found: dict[str, str], above: tuple[str, ...]) -> None:
         packed = json.dumps(known, ensure_ascii=False, separators=(",", ":"))
         found[name] = f"const {_variable(name)} = {packed};\n"
         return
-    text = _bare(read(name))
+    text = bare_script(read(name))
     for _, other in _IMPORT.findall(text):
         _collect(other, found, (*above, name))
     exports = ", ".join(re.findall(r"(\w+)(?=,| *}|$)", "\n".join(_EXPORT.findall(text)), re.M))
@@ -119,6 +139,11 @@ def _properties() -> str:
 def _bare(text: str) -> str:
     """A script or a style without indentation and without comments that fill lines."""
     return re.sub(r"^ *(?://.*|/\*\*[\s\S]*?\*/)\n|^ +", "", text, flags=re.M)
+
+
+def bare_script(text: str) -> str:
+    """A script without the comments behind its lines too. A test compares what is left, sign by sign."""
+    return re.sub(r"(?<=[;,{}()\[\]+?]) +// .*$", "", _bare(text), flags=re.M)
 
 
 def _hash(script: str) -> str:

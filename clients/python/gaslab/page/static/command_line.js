@@ -1,9 +1,12 @@
 // The command line, with history and completion.
 import { ALWAYS, COMMANDS, ICONS, MOVES } from "./facts.js";
+import { TEXTS } from "./texts.js";
 import { isRefusal } from "./wording.js";
 import { at, icon } from "./elements.js";
 import { addRow, exchange, note } from "./log.js";
 import { send } from "./session.js";
+
+const T = TEXTS.command_line;
 
 const history = [], entry = at("entry"), log = at("log");
 let place = 0;
@@ -36,7 +39,7 @@ async function enter(line) {
   history.push(line);
   place = history.length;
   if (/^help( |$)/.test(line)) { help(line.slice(5).trim()); return ""; }
-  if (/^[.#]/.test(line)) { exchange("you", line, "ERR 2 word"); return "ERR 2 word"; }
+  if (/^[.#]/.test(line)) { exchange(TEXTS.log.you, line, "ERR 2 word"); return "ERR 2 word"; }
   const [reply] = await send([line], { isQuiet: true });
   if (isRefusal(reply)) toggleLog(true);
   return reply;
@@ -56,7 +59,7 @@ function help(word) {
   const isKnown = Object.hasOwn(COMMANDS, word), some = isKnown ? [COMMANDS[word]] : Object.values(COMMANDS);
   for (const [shape, text] of some) addRow("help", ["", "who"], [shape, "sent"], [text, "words"]);
   if (!isKnown)
-    note("x counts columns to the right, y rows downwards, both from 0. A drawing sends one of these.");
+    note(T.how);
 }
 
 at("log-open").append(icon(ICONS.console));

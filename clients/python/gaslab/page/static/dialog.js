@@ -11,6 +11,7 @@ export function openDialog(fill) {
 }
 
 export const form = (onsubmit, ...children) => h("form", { method: "dialog", onsubmit }, ...children);
-export const number = (value, name, more = {}) => h("input", { type: "number", value, "aria-label": name,
-  ...more });
+/** A form whose fields lie side by side. */
+export const fields = (onsubmit, ...children) =>
+  h("form.fields", { method: "dialog", onsubmit }, ...children);
 export const text = (more) => h("input", { type: "text", ...more });

@@ -1,10 +1,13 @@
 // Edits that can be undone: one list of all, newest last. What can't be undone stays in it and says why.
+import { TEXTS, told } from "./texts.js";
 import { state } from "./state.js";
 import { around, cover } from "./shapes.js";
 import { hexOf } from "./gas.js";
 import { Lab, fromSnapshot } from "./engine.js";
 import { view } from "./view.js";
 import { snapshotOf } from "./files.js";
+
+const T = TEXTS.edits;
 
 const MOST = 100, CELLS = ["particles"], SOLIDS = ["walls", "obstacles"];
 /** The planes that a command can change. Others change ports. */
@@ -14,21 +17,26 @@ const textOf = (word) => (rect) => `${word} ${rect.join(" ")}`;
 class Edits {
   list = [];
   open = null;             // the edit whose lines still come
-  made = null;             // the gas after the last line, made when it is first needed
+  made = null;             // the gas after the last line but the late ones, made when it is first needed
+  late = [];               // lines that this gas hasn't got
   isMoving = false;        // steps come between the lines
   depth = 0;               // of sends: lines that are sent together are one edit
   isOff = false;           // what comes is no edit
   changed = () => {};      // called when the list changes
 
   clear() {
-    Object.assign(this, { list: [], open: null, made: null });
+    Object.assign(this, { list: [], open: null, made: null, late: [] });
     this.changed();
   }
 
-  picture({ playing }) { Object.assign(this, { isMoving: playing, made: null }); }
+  picture({ playing }) { Object.assign(this, { isMoving: playing, made: null, late: [] }); }
 
-  get lab() { return this.made ??= new Lab(fromSnapshot(snapshotOf(view))); }
-  get gas() { return this.lab.gas; }
+  get gas() {
+    const lab = this.made ??= new Lab(fromSnapshot(snapshotOf(view)));
+    for (const line of this.late) lab.line(0, line);
+    this.late = [];
+    return lab.gas;
+  }
 
   /** Keeps of the planes before the edit only the rows that it can have changed. */
   close() {
@@ -51,7 +59,7 @@ class Edits {
       return;
     }
     if (isEdit) this.note(word, words.map(Number), line, by);
-    this.lab.line(0, line);
+    this.late.push(line);
     if (this.depth === 0 || by !== null) this.close();
     if (isEdit) this.changed();
   }
@@ -71,23 +79,23 @@ class Edits {
 
   label() {
     const lines = this.list.at(-1)?.lines ?? [""], n = lines.length;
-    return n > 1 ? `${lines.at(-1).slice(0, 30)} and ${n - 1} more` : lines[0].slice(0, 40);
+    return n > 1 ? told(T.more, { line: lines.at(-1).slice(0, 30), count: n - 1 }) : lines[0].slice(0, 40);
   }
 
   /** What undoes the last edit: { lines }, with a note if the particles stay, or { why } if it can't. */
   plan() {
     const last = this.list.at(-1);
-    if (!last) return { why: "There is nothing to undo." };
+    if (!last) return { why: T.nothing };
     if (last.by !== null)
-      return { why: `Seat ${last.by} made the last change: ${this.label()}. Undo stops at it.` };
+      return { why: told(T.other, { seat: last.by, what: this.label() }) };
     const { gas } = this, { before, rect } = last;
     const lines = [...before.ports ? this.portLines(last) : [], ...before.walls ? this.solidLines(last) : []];
     if (!before.particles) return { lines };
     const isSame = !last.hasMoved && !this.isMoving && gas.tick === last.tick
       && last.after.every((v, k) => v === gas.particles[rect[1] * gas.words + k]);
     if (isSame) return { lines: [...lines, ...this.cellLines(last)] };
-    if (lines.length) return { lines, note: "The particles stay as they are: they have moved on." };
-    return { why: `${this.label()} can't be undone: its particles have moved on. Undo stops at it.` };
+    if (lines.length) return { lines, note: T.stay };
+    return { why: told(T.moved, { what: this.label() }) };
   }
 
   portLines({ before: { ports } }) {

@@ -1,10 +1,13 @@
 // Following a particle.
+import { TEXTS, told } from "./texts.js";
 import { state } from "./state.js";
 import { toBytes } from "./gas.js";
 import { Lab, fromSnapshot } from "./engine.js";
 import { view } from "./view.js";
 import { notice } from "./notices.js";
 import { snapshotOf } from "./files.js";
+
+const T = TEXTS.following;
 
 const FARTHEST = 256;           // steps between two pictures over which a particle is followed
 const TRAIL = 500;         // cells
@@ -24,7 +27,7 @@ export function followAt([x, y]) {
   mark(view.has(x, y) ? [[x, y]] : []);
   view.redraw();
   if (!followed)
-    notice({ title: "None to follow", text: `There is no particle in ${x} ${y}.`, rect: [x, y, 1, 1] });
+    notice({ title: T.none, text: told(T.empty, { x, y }), rect: [x, y, 1, 1] });
 }
 
 /** The cell after a step, or before one. Of two that meet head on each turns to its right. */
@@ -55,22 +58,22 @@ function wayOfLesson() {
 
 function lose(text) {
   mark(wayOfLesson());
-  if (!followed) notice({ title: "No longer followed", text });
+  if (!followed) notice({ title: T.gone, text });
 }
 
 function followOn() {
   const lab = new Lab(fromSnapshot(followed)), { gas } = lab, { picture } = view, trail = [...view.trail];
   const n = picture.tick - gas.tick, isBack = n < 0;
   if (gas.width !== picture.width || gas.height !== picture.height) { mark([]); return; }
-  if (Math.abs(n) > FARTHEST) { lose(`Its way is lost: ${Math.abs(n)} steps were made at once.`); return; }
+  if (Math.abs(n) > FARTHEST) { lose(told(T.far, { steps: Math.abs(n) })); return; }
   while (gas.tick !== picture.tick) {
     trail.push(nextCell(gas, trail.at(-1), isBack));
     if (isBack) lab.back(); else lab.forward();
-    if (!gas.has(...trail.at(-1))) { lose("It was drained."); return; }
+    if (!gas.has(...trail.at(-1))) { lose(T.drained); return; }
   }
   const isSame = n === 0 || toBytes(gas.particles).every((byte, k) => byte === picture.particles[k]);
   if (isSame && view.has(...trail.at(-1))) mark(trail);
-  else lose("Its way is lost: the gas was changed.");
+  else lose(T.changed);
 }
 
 state.on(["picture"], () => {

@@ -1,12 +1,15 @@
 // Gestures on the gas, by mouse, pen or fingers.
 import { FATES, KINDS } from "./facts.js";
-import { h } from "./elements.js";
+import { TEXTS, told } from "./texts.js";
+import { words } from "./elements.js";
 import { state } from "./state.js";
 import { view } from "./view.js";
 import { hideNotice } from "./notices.js";
-import { act, nameOf, preview } from "./drawing.js";
+import { act, nameOf, own, preview } from "./drawing.js";
 import { showWords } from "./toolbar.js";
 import { leaveCursor } from "./cursor.js";
+
+const T = TEXTS.gestures;
 
 const FAR = 8;             // pixels that a finger moves before it scrolls
 const pointers = new Map();
@@ -28,7 +31,7 @@ canvas.onpointerdown = (e) => {
   else if (isLone && e.pointerType === "touch") gesture = { kind: "wait", cell, before };
   else {
     gesture = { kind: "move", before };
-    view.select();
+    leave();
     e.preventDefault();
   }
 };
@@ -36,7 +39,7 @@ canvas.onpointerdown = (e) => {
 canvas.onpointermove = (e) => {
   if (!view.picture) return;
   if (pointers.has(e.pointerId)) pointers.set(e.pointerId, e);
-  if (!gesture) describe(cellOf(e));
+  if (!gesture) { if (!own[state.tool]?.hover(cellOf(e))) describe(cellOf(e)); }
   else if (gesture.kind === "draw") draw(...gesture.cells, cellOf(e));
   else if (gesture.kind !== "over") move(e);
 };
@@ -47,10 +50,11 @@ canvas.onpointerup = canvas.onpointercancel = (e) => {
   gesture = pointers.size > 0 ? { kind: "over" } : null;           // a finger that stays draws nothing
   if (was?.kind === "wait") describe(was.cell);
   else if (was?.kind === "draw" && e.type === "pointerup") act(was.cells);
-  else view.select();
+  else leave();
 };
 
-canvas.onpointerleave = () => { if (!gesture) showWords(); };
+// a finger leaves when it is lifted, and what was said stays
+canvas.onpointerleave = ({ pointerType }) => { if (!gesture && pointerType !== "touch") showWords(); };
 
 canvas.addEventListener("wheel", (e) => {
   if (!view.picture) return;
@@ -61,6 +65,12 @@ canvas.addEventListener("wheel", (e) => {
 function draw(...cells) {
   gesture = { kind: "draw", cells };
   preview(cells);
+}
+
+/** Ends a gesture that does nothing. */
+function leave() {
+  own[state.tool]?.leave();
+  view.select();
 }
 
 /** The middle of the pointers, and how far they are apart. */
@@ -83,11 +93,11 @@ function move({ pointerType }) {
 /** Says what is in a cell, and what its block does next. */
 function describe([x, y]) {
   if (!view.holds([x, y])) { showWords(); return; }
-  const { width, height } = view.picture, t = view.parity, way = `moves ${nameOf(view.way(x, y))}`;
-  const kind = KINDS[view.ground[y * width + x]];
+  const { width, height } = view.picture, t = view.parity, way = nameOf(view.way(x, y));
+  const kind = TEXTS.kinds[KINDS[view.ground[y * width + x]]];
   const bx = (x - ((x + t) & 1) + width) % width, by = (y - ((y + t) & 1) + height) % height;
-  const held = view.has(x, y) ? `particle, ${way}` : kind ? ""
-    : state.tool === "put" ? `empty; a particle here ${way}` : "empty";
-  showWords("Cell ", h("b", `${x} ${y}`), `: ${[kind, held].filter(Boolean).join(", ")}. The block at `,
-    h("b", `${bx} ${by}`), ` ${FATES[view.fate(bx, by)]}.`);
+  const held = view.has(x, y) ? told(T.particle, { way }) : kind ? ""
+    : state.tool === "put" ? told(T.here, { way }) : T.empty;
+  const what = [kind, held].filter(Boolean).join(", "), fate = FATES[view.fate(bx, by)];
+  showWords(...words(told(T.cell, { x, y, what, bx, by, fate }), "b"));
 }

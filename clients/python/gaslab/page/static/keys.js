@@ -5,7 +5,7 @@ import { state } from "./state.js";
 import { view } from "./view.js";
 import { hideNotice } from "./notices.js";
 import { isTooSoon, setSpeed } from "./time.js";
-import { undo } from "./drawing.js";
+import { own, undo } from "./drawing.js";
 import { cursorKey, leaveCursor } from "./cursor.js";
 
 const DOES = { slower: () => setSpeed(state.speed - 1), faster: () => setSpeed(state.speed + 1),
@@ -25,8 +25,10 @@ document.addEventListener("keydown", (e) => {
   const isTyping = e.target.matches("input:not([type=range]):not([type=checkbox]), select, textarea");
   if (isTyping || at("popover").open) return;
   const isHeld = e.ctrlKey || e.metaKey, isOnGas = e.target === view.canvas;
+  const tool = own[state.tool];
   let does = null;
   if (isHeld && e.key.toLowerCase() === ALWAYS.undo.key) does = undo;
+  else if (view.picture && tool?.keyOf(e)) does = tool.keyOf(e);
   else if (isHeld || e.altKey || !view.picture) return;
   else if (isOnGas && cursorKey(e)) does = () => {};
   else if (e.key === ALWAYS.leave.key) hideNotice();

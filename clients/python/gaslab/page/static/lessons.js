@@ -1,18 +1,30 @@
 // The lessons and scenes, as tools/page_lessons makes them. `first` is sent before the first drawing.
 import data from "./lessons.json";
 import { EMPTY } from "./facts.js";
+import { TEXTS, told } from "./texts.js";
+
+const T = TEXTS.lessons;
 
 export const { lessons: LESSONS, scenes: SCENES } = data;
 export const ALL = [...LESSONS, ...SCENES, EMPTY];
 export const find = (id) => ALL.find((lesson) => lesson.id === id);
 
-/** What stands beside a gas that another seat opened, before this page came or after. */
-export function otherLesson(name, isJoining) {
-  const text = isJoining ? "You have joined a gas that is running on another page."
-    : "Another seat has opened this gas.";
-  return ALL.find((lesson) => lesson.name === name)
-    ?? { ...EMPTY, id: "shared", name: name || "Shared gas", own: true, text: [text] };
+const AFTER = " · ";       // between a lesson's name and what its sliders have, where that isn't their own
+
+/** What pages call a lesson's gas that began with values of its sliders. */
+export function titleOf({ name, sliders = [] }, values) {
+  const other = sliders.filter(({ id, value }) => (values[id] ?? value) !== value);
+  return [name, ...other.map(({ id }) => `${id} ${values[id]}`)].join(AFTER);
 }
 
-export const kindOf = (lesson) => LESSONS.includes(lesson) ? `Lesson ${lesson.id}`
-  : lesson === EMPTY || lesson.own ? "Your own" : "Scene";
+/** What is beside a gas of another seat, opened before this page came or after: { lesson, values }. */
+export function otherLesson(title, isJoining) {
+  const [name, ...rest] = title.split(AFTER), found = ALL.find((lesson) => lesson.name === name);
+  const text = isJoining ? T.joined : T.opened;
+  const values = rest.map((one) => one.split(" ")).map(([id, value]) => [id, Number(value)]);
+  const lesson = found ?? { ...EMPTY, id: "shared", name: title || T.shared, own: true, text: [text] };
+  return { lesson, values: Object.fromEntries(values) };
+}
+
+export const kindOf = (lesson) => LESSONS.includes(lesson) ? told(T.lesson, { id: lesson.id })
+  : lesson === EMPTY || lesson.own ? T.own : T.scene;

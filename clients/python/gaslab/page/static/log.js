@@ -1,9 +1,13 @@
 // The log of commands and replies.
-import { isRefusal, plainWords } from "./wording.js";
+import { TEXTS, told } from "./texts.js";
+import { isRefusal, plainWords, say } from "./wording.js";
 import { at, fill, h } from "./elements.js";
 import { state } from "./state.js";
 
+const T = TEXTS.log;
+
 const KEPT = 400, LONGEST = 60;
+const FEW = 6;             // refusals that are shown of lines that were sent together
 const short = (text, most) => text.length > most ? `${text.slice(0, most - 3)}…` : text;
 let rows = null;           // rows of one seat that came one after the other: { who, count, cell }
 
@@ -23,14 +27,14 @@ export function exchange(who, line, reply) {
   const isBad = isRefusal(reply);
   addRow(isBad ? "refused" : "", [who, "who"], [short(line, LONGEST), "sent"], [reply, isBad ? "err" : "ok"],
     ...isBad ? [[plainWords(reply, line, state.picture), "words"]] : []);
-  last(who === "you" ? "sent" : who, short(line, LONGEST), reply);
+  last(who === T.you ? T.sent : who, short(line, LONGEST), reply);
 }
 
 /** Shows what another seat did. Rows that follow one another are one line. */
 export function entryOf(who, line, reply) {
   if (line.startsWith("row ") && rows?.who === who) {
     rows.count += 1;
-    rows.cell.textContent = `${rows.count} rows`;
+    rows.cell.textContent = told(T.rows, { count: rows.count });
     return;
   }
   exchange(who, line, reply);
@@ -45,12 +49,16 @@ function last(who, line, reply) {
 /** Shows lines that were sent together: of many the first two and the last. */
 export function exchanges(lines, replies) {
   const isLong = lines.length > 6;
+  let refused = 0;
   lines.forEach((line, k) => {
     const isBad = isRefusal(replies[k]);
-    if (isLong && k === 2) note(`… ${lines.length - 3} more lines`);
-    if (isBad || !(isLong && k > 1 && k < lines.length - 1) && !line.startsWith("."))
-      exchange("you", line, replies[k]);
+    if (isLong && k === 2) note(told(T.more, { count: lines.length - 3 }));
+    refused += isBad;
+    if (isBad ? refused <= FEW : !(isLong && k > 1 && k < lines.length - 1) && !line.startsWith("."))
+      exchange(T.you, line, replies[k]);
   });
-  if (isLong && !replies.some(isRefusal))
-    last("sent", `${lines.length} lines`, replies.findLast((reply) => reply.startsWith("OK")) ?? "");
+  if (refused > FEW) note(told(T.refused, { count: say(refused - FEW) }));
+  if (isLong && refused === 0)
+    last(T.sent, told(T.lines, { count: lines.length }),
+      replies.findLast((reply) => reply.startsWith("OK")) ?? "");
 }

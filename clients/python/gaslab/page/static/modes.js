@@ -1,9 +1,12 @@
 // What is shown: particles, velocities or density, zoom, and the key of colours.
 import { COLOURS, WAYS, ZOOM } from "./facts.js";
+import { TEXTS, told } from "./texts.js";
 import { at, choose, fill, h, rove } from "./elements.js";
 import { state } from "./state.js";
 import { view } from "./view.js";
 import { plots } from "./plots.js";
+
+const T = TEXTS.modes;
 
 const modes = [...at("modes").children];
 
@@ -16,7 +19,7 @@ function showMode() {
 /** How many pictures are drawn as one, in words. */
 function meanOf(mode) {
   const n = mode === "density" ? view.past.length : view.isCalm ? view.recent.length : 1;
-  return n > 1 ? `mean of ${n} pictures` : "";
+  return n > 1 ? told(T.mean, { n }) : "";
 }
 
 /** What the colours mean. It says nothing that isn't drawn. */
@@ -25,16 +28,16 @@ function showKey() {
   const [low, high] = view.shades.map((share) => `${Math.round(share * 100)} %`);
   const entry = (look, text) => h("span", h("i", { style: look }), text);
   const mean = meanOf(mode), hasTracers = view.tracers.length > 0;
-  const name = [mode, hasMarks, hasArrows, low, high, mean, hasTracers].join();
+  const name = [mode, hasMarks, hasArrows, low, high, mean, hasTracers, state.arrows].join();
   if (at("key").dataset.name === name) return;
-  const marks = [h("span", h("i.ring"), "collides next"), h("span", h("i.ring.dashed"), "bounces")];
+  const marks = [h("span", h("i.ring"), T.collides), h("span", h("i.ring.dashed"), T.bounces)];
   const colours = mode === "density" ? [h("span", low), h("span.ramp"), h("span", high)]
     : mode === "velocity" && !hasArrows
       ? [WAYS.map(([arrow, colour]) => entry(`background:${COLOURS[colour]}`, arrow)), hasMarks && marks]
-      : [hasMarks ? marks : entry("background:var(--hit);outline:var(--strong)", "particle on a wall")];
+      : [hasMarks ? marks : entry("background:var(--hit);outline:var(--strong)", T.onWall)];
   at("key").dataset.name = name;
   fill(at("key"), ...colours.flat(), mean && h("span.mean", mean),
-    hasTracers && h("span", h("i.tracer"), "followed"));
+    hasTracers && h("span", h("i.tracer"), T.followed), state.arrows > 0 && h("span", TEXTS.arrows.key));
 }
 
 for (const button of modes) button.onclick = () => state.change({ mode: button.id });

@@ -1,12 +1,15 @@
 // What is said to a person: a box beside a gesture, a banner, and words for a screen reader.
+import { TEXTS } from "./texts.js";
 import { at, button, fill, h } from "./elements.js";
 import { view } from "./view.js";
+
+const T = TEXTS.notices;
 
 /** Shows a box beside a rectangle of the gas, or above Play. `does` are its buttons, [name, action] each. */
 export function notice({ title, text, code = "", does = [], rect = null }) {
   fill(at("callout"), h("b", title), h("span.words", text), code && h("code", code),
     h("div.does", does.map((one) => button(...one))),
-    h("button.close", { "aria-label": "Close", onclick: hideNotice }, "×"));
+    h("button.close", { "aria-label": T.close, onclick: hideNotice }, "×"));
   at("callout").hidden = false;
   place(at("callout"), rect);
 }

@@ -1,5 +1,6 @@
 // The page: its header, and what begins it.
 import { TRUTH } from "./facts.js";
+import { TEXTS, told } from "./texts.js";
 import { plural } from "./wording.js";
 import { at, fill } from "./elements.js";
 import { ALL, find } from "./lessons.js";
@@ -17,12 +18,23 @@ import { lessons, placed } from "./shelves.js";
 import { help, saveScript, seats, share, truth } from "./about.js";
 import { table } from "./truth_table.js";
 import "./modes.js";
+import "./arrows.js";
 import "./tracers.js";
+import "./marks.js";
+import "./shelf.js";
 import "./readings.js";
 import "./command_line.js";
 import "./gestures.js";
 import "./keys.js";
 import "./lesson.js";
+import "./probe_fields.js";
+import "./repeat.js";
+import "./printing.js";
+import "./unsaved.js";
+import "./beginning.js";
+import "./journal.js";
+
+const T = TEXTS.page;
 
 for (const [id, fill] of Object.entries({ truth, seats, "lessons-open": lessons, "share-open": share,
   "help-open": help, "table-open": table }))
@@ -35,8 +47,8 @@ function showHeader() {
   at("truth").lastElementChild.textContent = (TRUTH[program] ?? TRUTH.none)[0];
   at("seats").hidden = program === "page";
   at("script").hidden = program !== "page";
-  fill(at("seats"), seat === null ? "No seat yet" : [`Seat ${seat}`, rights === "watch" && ", watching",
-    others > 0 && ` · ${plural(others, "other")}`]);
+  fill(at("seats"), seat === null ? T.noSeat : [told(T.seat, { seat }),
+    rights === "watch" && `, ${T.watching}`, others > 0 && ` · ${plural(others, "other")}`]);
   document.body.dataset.status = status;
 }
 
@@ -74,6 +86,6 @@ join();
 globalThis.laboratory = { lab: state, view, plots, edits, send, load, join, connect, find, openBytes, placed,
   chooseTool: (tool) => state.change({ tool }), all: () => ALL.slice(0, -1).map(({ id }) => id) };
 
-const fault = (what) => banner(`This page has a fault: ${what}. Load it again.`, [], true);
+const fault = (what) => banner(told(T.fault, { what }), [], true);
 addEventListener("error", ({ message }) => fault(message));
 addEventListener("unhandledrejection", ({ reason }) => fault(reason));

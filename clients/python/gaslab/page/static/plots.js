@@ -1,11 +1,14 @@
 // The plots: values of each picture by tick, kept in runs, and drawn by dygraphs.
 import { COLOURS, CURVES, PLOTS, toolOf } from "./facts.js";
+import { TEXTS, told } from "./texts.js";
 import { say } from "./wording.js";
 import { SANS, at, fill, h, setText } from "./elements.js";
 import { LEDGER } from "./frame.js";
 import { countSquares } from "./cells.js";
 import { pictureOf } from "./plot_picture.js";
 import { parts } from "./painter.js";
+
+const T = TEXTS.plots;
 
 const WINDOW = 20;         // ticks over which a rate is a mean
 const POINTS = 1500;       // points of a plot before every second one is dropped
@@ -24,12 +27,15 @@ function entropy(picture) {
 const halved = (list) => list.filter((_, k) => k % 2 === 0 || k === list.length - 1);
 const paler = (hex) => `rgb(${parts(hex).map((v) => Math.round(255 - (255 - v) * .4)).join()})`;
 
+const columns = new Map();             // of the name of each: { probe, run, isBack }
+
 /** The values of a plot in a record, under `key`, with its tick and the names of their columns. */
-function valuesOf(id, key, { run, way, tick, probes, [key]: value }) {
-  const name = `run ${run}${way}`;
-  if (id !== "probe") return value === null ? [] : [{ tick, name, value }];
-  return probes.map(({ key: probe, rect: [, , w, h], sums: [count] }) =>
-    ({ tick, name: `probe ${probe}, ${name}`, value: count / (w * h) }));
+function valuesOf(id, key, { run, isBack, tick, probes, [key]: value }) {
+  const own = told(isBack ? T.runBack : T.run, { run });
+  const named = (name, probe) => { columns.set(name, { probe, run, isBack }); return name; };
+  if (id !== "probe") return value === null ? [] : [{ tick, name: named(own), value }];
+  return probes.map(({ key: probe, rect: [, , w, h], sums: [count] }) => ({ tick, value: count / (w * h),
+    name: named(`${told(TEXTS.readings.probe, { key: probe })}, ${own}`, probe) }));
 }
 
 class Plots {
@@ -47,7 +53,7 @@ class Plots {
   }
 
   clear() {
-    Object.assign(this, { recent: [], records: [], notes: [], last: null, run: 1, way: "" });
+    Object.assign(this, { recent: [], records: [], notes: [], last: null, run: 1, isBack: false });
     this.listNotes();
     this.redraw(true);
   }
@@ -63,8 +69,8 @@ class Plots {
     fill(at("plot-list"), this.shown.map((id) => h("figure", { "aria-label": PLOTS[id].name },
       h("figcaption", h("b", PLOTS[id].name), h("span.unit", this.unitOf(id), PLOTS[id].single
         && h("button.plain", { ariaPressed: this.isSingle, onclick: () => this.showSingle(!this.isSingle) },
-          "single ticks")), h("span.number")),
-      h("div.plot", { id: `plot-${id}`, role: "img" }))));
+          T.single)), h("span.number")),
+      h("div.plot", { id: `plot-${id}`, role: "img", "data-tick": TEXTS.index.smallTick }))));
     this.redraw(true);
   }
 
@@ -81,9 +87,9 @@ class Plots {
   add(p) {
     const { last } = this, { tick, ledger } = p;
     if (last?.tick !== tick) {
-      const way = last && tick < last.tick ? ", back" : "";
-      if (way !== this.way) {
-        Object.assign(this, { run: this.run + 1, way, recent: this.recent.slice(-1) });
+      const isBack = Boolean(last && tick < last.tick);
+      if (isBack !== this.isBack) {
+        Object.assign(this, { run: this.run + 1, isBack, recent: this.recent.slice(-1) });
         if (last) this.putValues(last);
       }
       this.recent.push({ tick, sum: ledger[7] });
@@ -108,8 +114,8 @@ class Plots {
   }
 
   putValues(p) {
-    const { tick, tally, ledger, probes } = p, { run, way } = this;
-    this.records.push({ run, way, tick, tally, ledger, probes, drag: this.drag(p),
+    const { tick, tally, ledger, probes } = p, { run, isBack } = this;
+    this.records.push({ run, isBack, tick, tally, ledger, probes, drag: this.drag(p),
       single: this.single(p), flux: tally[1] / p.width,
       count: tally[0], entropy: this.shown.includes("entropy") ? entropy(p) : null });
     if (this.records.length > RECORDS) this.records = halved(this.records);
@@ -149,8 +155,9 @@ class Plots {
 
   /** The edits whose numbers are in the plots. */
   listNotes() {
-    fill(at("notes"), this.notes.map(({ tick, lines }) => h("li", `tick ${say(tick)}: `,
-      h("code", lines[0].slice(0, 40)), lines.length > 1 && ` and ${lines.length - 1} more`)));
+    fill(at("notes"), this.notes.map(({ tick, lines }) => h("li", `${told(T.tick, { tick: say(tick) })}: `,
+      h("code", lines[0].slice(0, 40)),
+      lines.length > 1 && ` ${told(T.more, { count: lines.length - 1 })}`)));
   }
 
   /** Draws the plots now, or soon: pictures come faster than curves need to be drawn. */
@@ -162,14 +169,14 @@ class Plots {
   drawOne(id) {
     const box = at(`plot-${id}`), curves = this.curves(id), hasCurve = curves.rows.length > 1;
     setText(box.parentElement.querySelector(".number"), this.value(id));
-    box.ariaLabel = `${PLOTS[id].name}, ${this.unitOf(id)}: ${this.value(id) || "no single value"}`;
+    box.ariaLabel = `${PLOTS[id].name}, ${this.unitOf(id)}: ${this.value(id) || T.noValue}`;
     box.classList.toggle("empty", !hasCurve);
     if (hasCurve) this.drawCurve(id, box, curves);
     else {
       this.graphs[id]?.destroy();
       delete this.graphs[id];
       const isAsked = id === "probe" && !this.last?.probes.length, { name, key } = toolOf("probe");
-      setText(box, isAsked ? `Choose ${name} (${key}) and draw a rectangle.` : "Play, and the curve begins.");
+      setText(box, isAsked ? told(T.choose, { name, key }) : T.begins);
     }
   }
 
@@ -194,9 +201,10 @@ class Plots {
     this.graphs[id]?.destroy();
     box.textContent = "";
     const x = { axisLabelWidth: 3.8 * font, pixelsPerLabel: 4.3 * font, axisLabelFormatter,
-      valueFormatter: (tick) => `tick ${say(tick)}`, ticker: Dygraph.numericLinearTicks };
+      valueFormatter: (tick) => told(T.tick, { tick: say(tick) }), ticker: Dygraph.numericLinearTicks };
     const y = { axisLabelWidth: (isWide ? 4.8 : 3.3) * font, pixelsPerLabel: 2.8 * font, axisLabelFormatter };
-    this.graphs[id] = new Dygraph(box, rows, { ...LOOK, valueRange, dateWindow, labels: ["tick", ...names],
+    this.graphs[id] = new Dygraph(box, rows, { ...LOOK, valueRange, dateWindow,
+      labels: [TEXTS.index.smallTick, ...names],
       series: Object.fromEntries(names.map((name) => [name, this.look(name)])), axes: { x, y },
       legend: names.length > 1 ? "always" : "onmouseover", axisLabelFontSize: font,
       underlayCallback: (c, area, graph) => this.drawNotes(c, area, graph, font) });
@@ -205,10 +213,10 @@ class Plots {
 
   /** How a column is drawn: runs back are dashed, runs before the present one paler. */
   look(name) {
-    const [, key, run, way] = /^(?:probe (\d+), )?run (\d+)(.*)/.exec(name), isOld = Number(run) < this.run;
-    const colour = key ? CURVES[(key - 1) % CURVES.length] : way ? COLOURS.mark : CURVES[0];
+    const { probe, run, isBack } = columns.get(name), isOld = run < this.run;
+    const colour = probe ? CURVES[(probe - 1) % CURVES.length] : isBack ? COLOURS.mark : CURVES[0];
     return { color: isOld ? paler(colour) : colour, strokeWidth: isOld ? 1.5 : 2.25,
-      strokePattern: way ? [6, 3] : null };
+      strokePattern: isBack ? [6, 3] : null };
   }
 
   /** A line and a number for each edit; the list below the plots has their lines. */

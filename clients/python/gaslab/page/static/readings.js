@@ -1,14 +1,17 @@
 // Readings beside the gas: tick, tally, the ledger as a sum, and the probes.
 import { ROWS } from "./facts.js";
+import { TEXTS, told } from "./texts.js";
 import { say } from "./wording.js";
 import { at, fill, h, setText } from "./elements.js";
 import { state } from "./state.js";
 import { plots } from "./plots.js";
 import { send } from "./session.js";
 
+const T = TEXTS.readings;
+
 const GATE = 64;           // particles up to which a gas may be a gate
 
-for (const name of [...Object.keys(ROWS), "= balance"])
+for (const name of [...Object.keys(ROWS), T.balance])
   at("ledger").append(h(name in ROWS ? "tr" : "tr.sum", h("th", { scope: "row" }, name),
     h("td"), h("td"), h("td")));
 
@@ -23,9 +26,9 @@ function showLedger({ ledger, tally, mixed }) {
   at("ledger").className = Math.max(...ledger.map((n) => say(n).length)) > 9 ? "long" : "";
   const isEven = sums.every((n, k) => n === tally[k]);
   at("balance").className = isEven ? "even" : "odd";
-  setText(at("balance"), isEven ? "The balance is the tally, to the last unit."
-    : mixed ? "Another seat stepped while this was read. The next reading will fit."
-      : `The tally has ${tally.map(say).join(", ")}. This must not be: please report it.`);
+  setText(at("balance"), isEven ? T.even
+    : mixed ? T.mixed
+      : told(T.odd, { tally: tally.map(say).join(", ") }));
 }
 
 /** The probes with what is in them, each with a button that closes it. */
@@ -33,13 +36,13 @@ function showProbes({ probes, tally }) {
   const list = at("probes"), keys = probes.map(({ key }) => key).join();
   if (list.dataset.keys !== keys) {
     list.dataset.keys = keys;
-    fill(list, probes.map(({ key, rect }) => h("li", h("b", `probe ${key} `), h("code", rect.join(" ")),
-      h("span.sums"), h("button.close", { "aria-label": `Close probe ${key}`, title: "Close this probe",
-        onclick: () => send([`.unwatch ${key}`]) }, "×"))));
+    fill(list, probes.map(({ key, rect }) => h("li", h("b", told(T.probe, { key }), " "),
+      h("code", rect.join(" ")), h("span.sums"), h("button.close", { "aria-label": told(T.close, { key }),
+        title: T.closeThis, onclick: () => send([`.unwatch ${key}`]) }, "×"))));
   }
   probes.forEach(({ sums: [count, px, py] }, k) => setText(list.children[k].querySelector(".sums"),
-    `${say(count)} particles, px ${say(px)}, py ${say(py)}`));
-  at("probe-box").hidden = probes.length === 0;
+    told(T.sums, { count: say(count), px: say(px), py: say(py) })));
+  at("probe-box").hidden = probes.length + state.names.length === 0;
   at("table-open").hidden = tally[0] > GATE;
 }
 
@@ -51,6 +54,7 @@ state.on(["shown"], () => {
   // on a phone the plots are below: tick and first plot's value are on the canvas
   const [name, , value] = document.querySelector("#plot-list figcaption")?.children ?? [];
   const more = value?.textContent ? ` · ${name.textContent.toLowerCase()} ${value.textContent}` : "";
-  setText(at("mini"), `tick ${say(tick)}${more}`);
+  setText(at("mini"), `${told(TEXTS.plots.tick, { tick: say(tick) })}${more}`);
 });
+state.on(["names"], () => { if (state.shown) showProbes(state.shown); });
 state.on(["lesson"], () => plots.choose(state.lesson.plots));

@@ -1,5 +1,6 @@
 // The page's seat at a server.
 import { EMPTY, SPEEDS } from "./facts.js";
+import { TEXTS, told } from "./texts.js";
 import { isRefusal, plainWords } from "./wording.js";
 import { otherLesson } from "./lessons.js";
 import { state } from "./state.js";
@@ -11,23 +12,24 @@ import { banner, hideBanner, hideNotice, notice, speak } from "./notices.js";
 import { entryOf, exchanges, note } from "./log.js";
 import { saveFile, savePicture } from "./files.js";
 import { edits } from "./edits.js";
+import { hasEngine, newWorker } from "./workers.js";
 
+const T = TEXTS.session;
 // ---- messages over a WebSocket or to a worker: lines get numbers, and replies are paired with them
 const EVENTS = ["hello", "links", "open", "seat", "entry", "pause"];
 let worker = null;
 
 /** Takes a seat, by a WebSocket, or by a port to the worker that has the parts of one which the page uses. */
 export function connect() {
-  const source = document.getElementById("worker")?.textContent, { port1, port2 } = new MessageChannel();
-  if (!source) return new WebSocket(new URL("socket", location.href));
+  const { port1, port2 } = new MessageChannel();
+  if (!hasEngine) return new WebSocket(new URL("socket", location.href));
   const close = () => {
     if (!port1.onmessage) return;
     port1.send(null);
     port1.onmessage = null;
     port1.onclose?.();
   };
-  // from the text that the page has: a module can't be read from a folder
-  worker ??= new Worker(URL.createObjectURL(new Blob([source], { type: "text/javascript" })));
+  worker ??= newWorker();
   worker.addEventListener("error", close, { once: true });
   worker.postMessage(null, [port2]);
   return Object.assign(port1, { send: port1.postMessage, close });
@@ -107,7 +109,7 @@ class Link {
     if (line !== undefined) this.waiting.get(line)?.files.push(parts);
     else {
       this.undrawn += 1;
-      this.on.picture(parts);
+      this.on.picture({ ...parts, ...state.film });
     }
   }
 }
@@ -121,7 +123,7 @@ const events = {
     isJoining = true;
     const seat = Number(number), people = new Map([[seat, ""]]);
     state.change({ status: "open", seat, rights, program, cap: Number(cap), isNew: age === "new", people });
-    if (rights === "watch") banner("You are watching. Another seat drives this gas.");
+    if (rights === "watch") banner(T.watching);
   },
   links([draw, watch]) { state.links = { draw, watch }; },
   open([,,, ...name]) {
@@ -132,25 +134,24 @@ const events = {
     else plots.clear();
     state.change({ least: 0, furthest: 0, acted: -Infinity, picture: null });
     const isOwn = state.loading || keepsPlots || isJoining && state.lesson !== EMPTY;
-    if (!isOwn) state.change({ lesson: otherLesson(name.join(" "), isJoining) });
+    if (!isOwn) state.change(otherLesson(name.join(" "), isJoining));
     isJoining = false;
   },
   seat([number, what, ...name]) {
     const seat = Number(number), { people } = state;
     if (what === "left") people.delete(seat);
     else people.set(seat, name.join(" ") || people.get(seat) || "");
-    if (what !== "name" && seat !== state.seat)
-      note(`seat ${seat} ${what === "came" ? "has joined" : "has left"}`);
+    if (what !== "name" && seat !== state.seat) note(told(T[what], { seat }));
     state.change({ people });
   },
   entry([k, number, ...words]) {
     const seat = Number(number), line = words.join(" "), isOther = seat !== state.seat;
     edits.entry(line, isOther ? seat : null);
-    if (isOther) entryOf(state.people.get(seat) || `seat ${seat}`, line, `OK ${k}`);
+    if (isOther) entryOf(state.people.get(seat) || told(T.seat, { seat }), line, `OK ${k}`);
     if (state.loading) return;
     state.change({ worked: true });
     if (!state.picture || /^(step|back)/.test(line)) return;
-    state.change({ tried: true });
+    state.change({ tried: true, made: line });
     if (state.picture.tick !== 0) plots.note(state.picture.tick, line);
   },
   pause([, ...words]) {
@@ -165,7 +166,7 @@ const events = {
     seen.number = p.number;
     edits.picture(p);
     if (isResized) state.change({ square: squareOf(p) });
-    if (state.playing && !p.playing) speak(`Paused at tick ${p.tick}.`);
+    if (state.playing && !p.playing) speak(told(T.paused, { tick: p.tick }));
     if (speed >= 0 && speed !== state.speed) state.change({ speed });
     state.change({ picture: p, acted: hasPorts ? p.tick : state.acted, least: Math.min(state.least, p.tick),
       furthest: hasPorts ? 0 : Math.max(state.furthest, p.tick) });
@@ -176,9 +177,8 @@ const events = {
   },
   gone(isStrange) {
     state.change({ status: "gone" });
-    banner(isStrange ? "The server sent something that this page can't read. The connection is closed."
-      : "The server has ended. This is its last picture.",
-        [["Connect again", join], ["Save the picture", () => savePicture()]], true);
+    banner(isStrange ? T.strange : T.ended,
+      [[T.again, join], [T.savePicture, () => savePicture()]], true);
   },
 };
 
@@ -223,15 +223,15 @@ export function refuseBack() { state.change({ refusedAt: performance.now() }); }
 
 function refuse(reply, line, where) {
   if (where.isTime && reply.startsWith("ERR 11")) { refuseBack(); return; }
-  const does = { "ERR 10": [["Remove all ports", () => send(["unport"])]],
-    "ERR 13": [["Save script and snapshot, go on", () => goOn(where)]] }[reply.slice(0, 6)];
+  const does = { "ERR 10": [[T.unport, () => send(["unport"])]],
+    "ERR 13": [[T.goOn, () => goOn(where)]] }[reply.slice(0, 6)];
   const shown = line.length > 34 ? `${line.slice(0, 34)}…` : line;
-  notice({ title: "Not done", text: plainWords(reply, line, state.picture), does, rect: where.rect,
+  notice({ title: T.notDone, text: plainWords(reply, line, state.picture), does, rect: where.rect,
     code: line && `${shown}  →  ${reply}` });
 }
 
 /** Goes on with a new journal after the full one was saved. What was refused is sent again. */
-async function goOn({ lines = [], wasPlaying = false }) {
+export async function goOn({ lines = [], wasPlaying = false }) {
   for (const word of [".script", ".snapshot"]) await saveFile(word);
   keepsPlots = true;
   const [reply] = await send([".fresh"]);

@@ -1,5 +1,6 @@
 // Time: play, steps, speed and the tick slider, and why one of them can't be had.
 import { ICONS, SPEEDS } from "./facts.js";
+import { TEXTS, told } from "./texts.js";
 import { plural, say } from "./wording.js";
 import { at, fill, h, icon, setText } from "./elements.js";
 import { state } from "./state.js";
@@ -7,6 +8,8 @@ import { clamp } from "./shapes.js";
 import { view } from "./view.js";
 import { speak } from "./notices.js";
 import { pause, play, refuseBack, send } from "./session.js";
+
+const T = TEXTS.time;
 
 const LOUD = 6000, HELD = 340, SPOKEN = 10000;      // milliseconds
 const NEARLY = .9;         // of a journal
@@ -35,7 +38,7 @@ export function setSpeed(speed) {
 }
 
 function showSpeed() {
-  const [steps, rate] = SPEEDS[state.speed], text = `${plural(steps * rate, "step")} a second`;
+  const [steps, rate] = SPEEDS[state.speed], text = told(T.speed, { steps: plural(steps * rate, "step") });
   at("speed").value = state.speed;
   at("speed").ariaValueText = text;
   setText(at("speed-text"), text);
@@ -43,8 +46,9 @@ function showSpeed() {
 
 function showTime() {
   const { picture: p, least, furthest } = state, ports = view.hasPorts;
-  const word = state.playing ? "Pause" : "Play", isOff = state.rights === "watch" || state.status !== "open";
-  if (at("play").textContent !== word) at("play").replaceChildren(icon(ICONS[word.toLowerCase()]), word);
+  const word = state.playing ? T.pause : T.play, isOff = state.rights === "watch" || state.status !== "open";
+  if (at("play").textContent !== word)
+    at("play").replaceChildren(icon(ICONS[state.playing ? "pause" : "play"]), word);
   for (const id of ["play", "step"]) at(id).ariaDisabled = isOff;
   for (const id of ["back", "rewind"]) at(id).ariaDisabled = isOff || ports;
   slider.disabled = isOff;
@@ -60,7 +64,7 @@ const isLoud = () => performance.now() < state.refusedAt + LOUD;
 
 function noWayBack() {
   const { drains, sources } = view.ports, kinds = [[sources.length, "source"], [drains.length, "drain"]];
-  return `No way back: ${kinds.filter(([n]) => n).map(([n, one]) => plural(n, one)).join(", ")}.`;
+  return told(T.noWay, { ports: kinds.filter(([n]) => n).map(([n, one]) => plural(n, one)).join(", ") });
 }
 
 /** Why time can't be had, or what is to be known of it. */
@@ -69,15 +73,13 @@ function reason() {
   if (state.status !== "open" || !p) return "";
   if (view.hasPorts && isLoud()) return noWayBack();
   if (p.journal > NEARLY * cap)
-    return `The journal is ${p.journal < cap ? "nearly " : ""}full: `
-      + `${say(p.journal)} of ${say(cap)} entries.`;
+    return told(p.journal < cap ? T.nearly : T.full, { journal: say(p.journal), cap: say(cap) });
   if (p.playing && pace?.made > 3 && pace.drawn < pace.made * .75)
-    return `Skipping pictures: ${Math.round(pace.drawn)} of ${Math.round(pace.made)} a second are drawn. `
-      + "No step is missed.";
+    return told(T.skipping, { drawn: Math.round(pace.drawn), made: Math.round(pace.made) });
   if (p.playing && pace?.asked > 10 && pace.steps < pace.asked * .75)
-    return `Asked for ${say(pace.asked)} steps a second, made ${say(Math.round(pace.steps))}.`;
+    return told(T.slow, { asked: say(pace.asked), made: say(Math.round(pace.steps)) });
   if (view.hasPorts) return noWayBack();
-  return p.tick < acted ? `Ports acted until tick ${say(acted)}: this is another past.` : "";
+  return p.tick < acted ? told(T.acted, { tick: say(acted) }) : "";
 }
 
 function showReason() {
@@ -87,7 +89,7 @@ function showReason() {
   if (box.dataset.text === text) return;
   box.dataset.text = text;
   fill(box, h("span", { role: "status" }, text), view.hasPorts && text === noWayBack()
-    && h("button", { onclick: () => send(["unport"]) }, "Remove them: ", h("code", "unport")));
+    && h("button", { onclick: () => send(["unport"]) }, `${T.remove} `, h("code", "unport")));
 }
 
 for (const id of ["step", "back", "rewind"]) at(id).append(icon(ICONS[id]));
@@ -100,7 +102,7 @@ at("speed").oninput = () => setSpeed(at("speed").valueAsNumber);
 slider.oninput = () => {
   isPulled = true;
   pause();
-  setText(at("tick-text"), `to ${say(slider.valueAsNumber)}`);
+  setText(at("tick-text"), told(T.to, { tick: say(slider.valueAsNumber) }));
 };
 slider.onchange = async () => {
   const aim = slider.valueAsNumber;
@@ -111,4 +113,4 @@ slider.onchange = async () => {
 state.on(["speed"], showSpeed);
 state.on(["shown", "status", "rights", "pace", "refusedAt"], showTime);
 state.on(["refusedAt"], () => { setTimeout(showTime, LOUD); speak(noWayBack()); });
-setInterval(() => { if (state.playing) speak(`Tick ${state.picture.tick}`); }, SPOKEN);
+setInterval(() => { if (state.playing) speak(told(T.tick, { tick: state.picture.tick })); }, SPOKEN);

@@ -1,12 +1,16 @@
 // The toolbar, and the line of words below the gas.
 import { ALWAYS, CHOICES, FINGERS, ICONS, SHARES, TOOLS, toolOf } from "./facts.js";
+import { TEXTS, told } from "./texts.js";
 import { at, button, choices, choose, fill, h, icon, rove } from "./elements.js";
 import { state } from "./state.js";
 import { view } from "./view.js";
 import { edits } from "./edits.js";
-import { act, hasShapes, options, undo } from "./drawing.js";
+import { PERIODS, act, hasShapes, options, own, undo } from "./drawing.js";
+import { numberField } from "./checks.js";
 
-const undoButton = h("button.parted", { onclick: undo }, icon(ICONS.undo), h("span", "Undo"));
+const T = TEXTS.toolbar;
+
+const undoButton = h("button.parted", { onclick: undo }, icon(ICONS.undo), h("span", T.undo));
 const buttons = [...TOOLS.map(({ id, name, hint, key, gap, icon: shapes }) =>
   h(gap ? "button.parted" : "button",
     { "data-tool": id, title: `${hint} (${key})`, onclick: () => state.change({ tool: id }) },
@@ -42,11 +46,12 @@ export const lastCell = () => [view.picture.width - 1, view.picture.height - 1];
 function showOptions() {
   const tool = toolOf(state.tool), set = (name) => (value) => { options[name] = value; };
   const choice = (name) => choices(...CHOICES[name], options[name], set(name));
-  const oninput = ({ target }) => { options.period = target.valueAsNumber || 1; };
-  const period = h("input", { type: "number", min: "1", max: "65535", value: options.period, oninput });
   fill(at("options"), hasShapes(tool) && choice("shape"), tool.line && !tool.cell && choice("snap"),
-    tool.id === "source" && h("label", "every ", period, " ticks"), tool.id === "shoot" && choice("way"),
-    tool.id === "random" && [...SHARES.map(share), button("Fill all", () => act([[0, 0], lastCell()]))]);
+    tool.id === "source" && h("label", `${T.every} `,
+      numberField(T.period, options.period ?? "", PERIODS, set("period"), ` ${T.ticks}`)),
+    tool.id === "shoot" && choice("way"),
+    tool.id === "random" && [...SHARES.map(share), button(T.fillAll, () => act([[0, 0], lastCell()]))],
+    ...own[tool.id]?.options ?? []);
   at("options").hidden = !at("options").childElementCount;
 }
 
@@ -65,7 +70,7 @@ function showHint() {
 
 edits.changed = () => {
   undoButton.ariaDisabled = edits.list.length === 0;
-  undoButton.title = `Undo ${edits.label() || "the last edit"} (${ALWAYS.undo.shown})`;
+  undoButton.title = `${told(T.undoIt, { what: edits.label() || T.last })} (${ALWAYS.undo.shown})`;
 };
 
 at("tools").append(...buttons);

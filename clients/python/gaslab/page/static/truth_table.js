@@ -1,65 +1,137 @@
-// Truth tables of gates, in the dialog.
+// Truth tables of gates, in the dialog: over named inputs and outputs, and over probes.
 import { GIVES } from "./facts.js";
+import { TEXTS, told } from "./texts.js";
 import { isRefusal } from "./wording.js";
 import { button, h } from "./elements.js";
 import { state } from "./state.js";
+import { LONGEST, linesOf } from "./engine.js";
 import { view } from "./view.js";
 import { pause, send } from "./session.js";
-import { form, number, text } from "./dialog.js";
+import { fields, text } from "./dialog.js";
+import { checked, numberField } from "./checks.js";
+import { inputs, outputs } from "./names.js";
+
+const T = TEXTS.truth_table;
 
 const INPUTS = 5;          // the most
+const CELL = /^(?:(.+?) +)?(\d+) +(\d+)(?: *@ *(-?\d+))?$/;       // a name or none, x, y, and a tick or none
 
 /** The cells that are full, if they are few enough for inputs. */
 function likelyInputs() {
   const { width, height } = view.picture, cells = [];
   if (view.picture.tally[0] > INPUTS) return [];
-  for (let y = 0; y < height; y++) for (let x = 0; x < width; x++) if (view.has(x, y)) cells.push([x, y]);
+  for (let y = 0; y < height; y++) for (let x = 0; x < width; x++)
+    if (view.has(x, y)) cells.push({ name: "", cell: [x, y] });
   return cells;
 }
 
-/** What probes hold after some steps, for each choice of full inputs. In the end the gas is as before. */
-async function truthTable(inputs, ticks, outputs) {
-  if (view.hasPorts) throw new Error("A gas with sources or drains can't be stepped back.");
-  await pause();
-  const has = inputs.map((cell) => view.has(...cell));
-  const put = (isFull) => inputs.map(([x, y], k) => `${isFull[k] ? "put" : "erase"} ${x} ${y} 1 1`);
-  const cases = Array.from({ length: 1 << inputs.length },
-    (_, n) => inputs.map((_cell, k) => n >> (inputs.length - 1 - k) & 1));
-  const asks = outputs.map((rect) => `probe ${rect.join(" ")}`);
-  const lines = cases.flatMap((isFull) => [...put(isFull), `step ${ticks}`, ...asks, `back ${ticks}`]);
-  state.change({ loading: true });
-  const replies = await send([...lines, ...put(has)], { isQuiet: true });
-  state.change({ loading: false });
+/** Lines that lead from a tick to another. */
+const way = (from, to) => linesOf({ at: to, lines: [] }, { tick: from, hasPorts: false });
+
+/** Goes to a tick, and waits for its picture. */
+async function goTo(tick) {
+  const lines = way(state.picture.tick, tick), bad = (await send(lines, { isQuiet: true })).find(isRefusal);
+  if (bad) throw new Error(told(T.bad, { reply: bad }));
+  while (state.picture.tick !== tick)
+    await new Promise((done) => state.addEventListener("changed", done, { once: true }));
+}
+
+/** What is in rectangles at later ticks, { rect, tick }, for each choice of full inputs at a tick. */
+async function counted(cells, start, asked) {
+  const put = (isFull) => cells.map(([x, y], k) => `${isFull[k] ? "put" : "erase"} ${x} ${y} 1 1`);
+  const cases = Array.from({ length: 1 << cells.length },
+    (_, n) => cells.map((_cell, k) => n >> (cells.length - 1 - k) & 1));
+  const order = [...asked.keys()].sort((a, b) => asked[a].tick - asked[b].tick);
+  const run = order.flatMap((k, n) => [...way(n ? asked[order[n - 1]].tick : start, asked[k].tick),
+    `probe ${asked[k].rect.join(" ")}`]);
+  const home = way(asked[order.at(-1)]?.tick ?? start, start), has = cells.map((cell) => view.has(...cell));
+  const replies = await send([...cases.flatMap((isFull) => [...put(isFull), ...run, ...home]), ...put(has)],
+    { isQuiet: true });
   const bad = replies.find(isRefusal);
-  if (bad) throw new Error(`The table can't be had: ${bad}.`);
+  if (bad) throw new Error(told(T.bad, { reply: bad }));
   const counts = replies.filter((reply) => reply.startsWith("PROBE"))
     .map((reply) => Number(reply.split(" ")[1]));
-  return cases.map((isFull, n) => [...isFull, ...counts.slice(n * asks.length, (n + 1) * asks.length)]);
+  return cases.map((isFull, n) => [...isFull,
+    ...asked.map((_, k) => counts[n * asked.length + order.indexOf(k)])]);
+}
+
+/** The rows of a table. In the end the gas is as before, at its tick. */
+async function truthTable(cells, start, asked) {
+  if (view.hasPorts) throw new Error(T.ports);
+  await pause();
+  const { tick } = state.picture;
+  state.change({ loading: true });
+  try {
+    await goTo(start);
+    const rows = await counted(cells, start, asked);
+    await goTo(tick);
+    return rows;
+  } finally {
+    state.change({ loading: false });
+  }
+}
+
+/** The cells of a text: { name, cell, tick }. A cell without a tick gets the one that is given. */
+function cellsOf(text, tick, fault) {
+  return text.split(",").map((one) => one.trim()).filter(Boolean).map((one) => {
+    const [, name = one, x, y, at = tick] = CELL.exec(one) ?? [], cell = [Number(x), Number(y)];
+    if (x === undefined || !view.holds(cell)) throw new Error(fault);
+    return { name: name === one ? cell.join(" ") : name, cell, tick: Number(at) };
+  });
+}
+
+const textOf = ({ name, cell, tick }, isTimed) =>
+  `${name} ${cell.join(" ")}${isTimed ? ` @ ${tick}` : ""}`.trim();
+
+/** The inputs of a text. */
+function inputsOf(text, start) {
+  const rule = told(T.rule, { most: INPUTS }), cells = cellsOf(text, start, rule);
+  if (cells.length < 1 || cells.length > INPUTS) throw new Error(rule);
+  return cells;
+}
+
+/** What is wrong in a field, or nothing. */
+function faultOf(read) {
+  try { read(); } catch ({ message }) { return message; }
+  return "";
 }
 
 export function table() {
-  const { probes } = state.picture, known = likelyInputs().map((cell) => cell.join(" ")).join(", ");
-  const inputs = text({ size: 24, value: known, "aria-label": "Inputs" });
-  const ticks = number("11", "Steps", { min: "1", max: "4096" });
+  const known = inputs(), results = outputs(), now = state.picture.tick;
+  const start = known[0]?.tick ?? now, last = Math.max(...results.map(({ tick }) => tick), start);
+  const field = (name, all, isTimed) => text({ size: 24, "aria-label": name,
+    value: all.map((one) => textOf(one, isTimed)).join(", ") });
+  const from = field(T.inputs, known.length ? known : likelyInputs()), to = field(T.outputs, results, true);
+  const at = h("input", { type: "number", value: String(start), "aria-label": T.from });
+  let ticks = last - start || 11;
+  const steps = numberField(T.steps, ticks, [1, LONGEST], (n) => { ticks = n; });
   const result = h("div.result", { role: "status" });
   const fill = async (e) => {
     e.preventDefault();
-    result.replaceChildren(await filled(inputs.value, ticks.valueAsNumber, probes)
+    result.replaceChildren(await filled(from.value, at.valueAsNumber, to.value, ticks)
       .catch((fault) => fault.message));
   };
-  return [h("h2", "Truth table"), h("p", GIVES.table[1]),
-    form(fill, h("label", "Inputs ", inputs), h("label", " Steps ", ticks), " ", button("Fill the table")),
-  result];
+  return [h("h2", T.title), h("p", GIVES.table[1]),
+    fields(fill, h("label", T.inputs, " ", checked(from, T.cells, () => faultOf(() => inputsOf(from.value)))),
+      h("label", T.at, " ", checked(at, "", () => Number.isInteger(at.valueAsNumber) ? "" : T.anyTick)),
+      h("label", T.outputs, " ", checked(to, T.timed, () => faultOf(() => cellsOf(to.value, 0, T.ends)))),
+      h("label", T.steps, " ", steps), button(T.fill)), result];
 }
 
 /** A truth table as an element. Throws an Error in plain words. */
-async function filled(text, ticks, probes) {
-  const cells = text.split(",").map((cell) => cell.trim().split(/ +/).map(Number));
-  const isCell = (cell) => cell.length === 2 && cell.every(Number.isInteger) && view.holds(cell);
-  if (!cells.every(isCell) || cells.length > INPUTS)
-    throw new Error(`Inputs are 1 to ${INPUTS} cells: x y, x y.`);
-  const rows = await truthTable(cells, ticks, probes.map(({ rect }) => rect));
-  const heads = [...cells.map((cell) => cell.join(" ")), ...probes.map(({ key }) => `probe ${key}`)];
-  return h("table.truth", h("thead", h("tr", heads.map((name) => h("th", { scope: "col" }, name)))),
-    h("tbody", rows.map((row) => h("tr", row.map((n) => h("td", String(n)))))));
+async function filled(from, start, to, steps) {
+  const cells = inputsOf(from, start);
+  const ends = cellsOf(to, start + steps, T.ends);
+  const asked = [...ends.map(({ cell, tick }) => ({ rect: [...cell, 1, 1], tick })),
+    ...state.picture.probes.map(({ rect }) => ({ rect, tick: start + steps }))];
+  if (asked.length === 0) throw new Error(T.none);
+  if (asked.some(({ tick }) => !(tick >= start && tick <= start + LONGEST)))
+    throw new Error(told(T.later, { first: start, last: start + LONGEST }));
+  const rows = await truthTable(cells.map(({ cell }) => cell), start, asked);
+  const heads = [...cells, ...ends].map(({ name }) => name)
+    .concat(state.picture.probes.map(({ key }) => told(TEXTS.readings.probe, { key })));
+  const look = (tag, k) => `${tag}${k === cells.length ? ".first" : ""}`;
+  const head = h("tr", heads.map((name, k) => h(look("th", k), { scope: "col" }, name)));
+  return h("table.truth", h("thead", head),
+    h("tbody", rows.map((row) => h("tr", row.map((n, k) => h(look("td", k), String(n)))))));
 }

@@ -1,9 +1,13 @@
 // What is drawn: the cells, and above them grid, ports, probes and marks.
 import { COLOURS, DARK_MAT, KINDS, ZOOM } from "./facts.js";
+import { TEXTS, told } from "./texts.js";
 import { SANS, at } from "./elements.js";
 import { state } from "./state.js";
 import { clamp } from "./shapes.js";
 import { Viewport } from "./viewport.js";
+import { drawFlow } from "./flow.js";
+
+const T = TEXTS.view;
 
 const MONO = "600 14px ui-monospace, 'DejaVu Sans Mono', 'Liberation Mono', monospace";
 const ARROW = new Path2D("M-1-1 1 1M.05 1H1V.05");       // right and down
@@ -12,10 +16,14 @@ class View extends Viewport {
   selection = null;        // what is being drawn: { rects, colour, reach, line, bad }
   cursor = null;           // the cell of drawing by keys
   trail = [];              // cells of a particle that is followed
+  layers = [];             // what draws above all else
   onDraw = () => {};       // called after each drawing
 
-  /** Where a lesson asks for a first drawing; gone with the first gesture. */
-  get ghost() { return !state.tried && state.tool === state.lesson.tool && state.lesson.ghost; }
+  /** Where a lesson asks for a first obstacle; gone with the first gesture. */
+  get ghost() {
+    const isAsked = !state.tried && state.tool === state.lesson.tool && !this.obstacles.some(Boolean);
+    return isAsked && state.lesson.ghost;
+  }
 
   /** Whether blocks are drawn. They change at each tick: if the gas plays, they would flash. */
   get hasMarks() {
@@ -43,14 +51,17 @@ class View extends Viewport {
       this.fill(COLOURS[KINDS[kind]], this.box([x, y, Math.max(w, least), Math.max(h, least)]));
     this.frame([all[0] - .5, all[1] - .5, all[2] + 1, all[3] + 1], [COLOURS.edge, 1]);
     if (scale >= ZOOM.grid && !isDensity) this.drawGrid();
-    for (const drain of this.ports.drains) this.outline(drain, COLOURS.drainEdge, "drain");
-    for (const source of this.ports.sources)
-      this.outline(source, COLOURS.sourceEdge, source[4] === 1 ? "source" : `source, every ${source[4]}`);
-    for (const { rect, key } of picture.probes) this.outline(rect, COLOURS.ink, `probe ${key}`, [5, 3]);
+    for (const drain of this.ports.drains) this.outline(drain, COLOURS.drainEdge, TEXTS.kinds.drain);
+    for (const source of this.ports.sources) this.outline(source, COLOURS.sourceEdge,
+      source[4] === 1 ? TEXTS.kinds.source : told(T.every, { period: source[4] }));
+    for (const { rect, key } of picture.probes)
+      this.outline(rect, COLOURS.ink, told(TEXTS.readings.probe, { key }), [5, 3]);
+    drawFlow(this);
     this.drawTracers();
     if (this.trail.length) this.drawTrail();
     if (this.cursor) this.outline([...this.cursor, 1, 1], COLOURS.cursor);
     if (this.ghost && !this.selection) this.drawGhost();
+    for (const layer of this.layers) layer();
     if (this.selection) this.drawSelection();
     this.onDraw();
   }
@@ -179,7 +190,7 @@ class View extends Viewport {
     const box = this.box(this.ghost), [x, y, w, h] = box;
     this.fill(COLOURS.ghost, box);
     this.frame(box, [COLOURS.mark, 2, [6, 4]]);
-    this.tag("draw here", COLOURS.mark, (wide) => [x + w / 2 - wide / 2, y + h + 6],
+    this.tag(T.draw, COLOURS.mark, (wide) => [x + w / 2 - wide / 2, y + h + 6],
       { font: `600 13px ${SANS}`, height: 21, pad: 6 });
   }
 

@@ -1,9 +1,12 @@
 // Numbers and refusals in plain words.
 import { COMMANDS, REFUSALS } from "./facts.js";
+import { TEXTS, told } from "./texts.js";
 
-const numbers = new Intl.NumberFormat("en-GB", { maximumFractionDigits: 3 });
+const numbers = new Intl.NumberFormat(TEXTS.language, { maximumFractionDigits: 3 });
 export const say = (n) => numbers.format(Object.is(n, -0) ? 0 : n).replace("-", "−");
-export const plural = (n, one) => `${say(n)} ${one}${n === 1 ? "" : "s"}`;
+const plurals = new Intl.PluralRules(TEXTS.language);
+/** A number of things of a kind, which has its forms among the texts. */
+export const plural = (n, kind) => told(TEXTS.plurals[kind][plurals.select(n)], { n: say(n) });
 
 export const isRefusal = (reply) => /^(NO|ERR|GONE)/.test(reply);
 

@@ -2,6 +2,7 @@
 import { NOBODY, PROBES, UNDRAWN, isSide } from "./frame.js";
 import { Gas, toBytes } from "./gas.js";
 import { LONGEST, Lab, fromSnapshot, snapshot } from "./engine.js";
+import { repeat } from "./repeats.js";
 
 const CAP = 65536, IDLE = { seat: NOBODY, steps: 0, rate: 0 };
 const pages = new Map();   // of each seat
@@ -12,13 +13,19 @@ let due = 0, timer = null;
 let isDirty = false, isNew = true;
 let now = gasOf(new Gas(64, 64));
 let old = null;            // the gas before this one
+let entries = [];          // events that wait for what is sent next, so that many are one message
 
 /** A gas with its probes, the snapshot that it began from, and what the pages call it. */
 function gasOf(gas, more = {}) {
   return { lab: new Lab(gas, CAP), name: "", start: null, probes: [], keys: 0, ...more };
 }
 
-function tell(line) { for (const page of pages.values()) page.send(line); }
+/** Tells all pages the entries that wait, and then an event. */
+function tell(...events) {
+  const lines = [...entries, ...events];
+  entries = [];
+  if (lines.length) for (const page of pages.values()) page.send(lines.join("\n"));
+}
 
 /** Adds a page. `send` takes a line, a picture or a file. */
 function join(send) {
@@ -45,6 +52,7 @@ function said(page, message) {
   const replies = typeof message === "string" ? message.split("\n").map((line) => numbered(page, line))
     : [`0 ${upload(page, message) ?? "DONE"}`];
   const told = replies.filter(Boolean).join("\n");
+  tell();
   if (told) page.send(told);
   if (isDirty) show();
 }
@@ -63,7 +71,7 @@ function command({ seat }, line) {
   if (!reply.startsWith("OK ")) return reply;
   isNew = false;
   isDirty = true;
-  tell(`* entry ${lab.journal.length - 1} ${seat} ${lab.journal.at(-1).text}`);
+  entries.push(`* entry ${lab.journal.length - 1} ${seat} ${lab.journal.at(-1).text}`);
   return reply;
 }
 
@@ -156,6 +164,7 @@ function show() {
 
 function serve(page) {
   if (page.newest === number || page.undrawn >= UNDRAWN) return;
+  tell();
   const { lab, lab: { gas }, probes } = now, { seat, steps, rate } = play ?? IDLE;
   const { width, height, tick, drains, sources } = gas, solids = page.solids !== gas.solids
     && { walls: toBytes(gas.walls), obstacles: toBytes(gas.obstacles), ports: { drains, sources } };
@@ -201,8 +210,12 @@ const WORDS = {
   ".bring": (page) => take(page, old),
 };
 
-// each port that comes in is one page's connection; null on it ends it
-globalThis.onmessage = ({ ports: [port] }) => {
+// each port that comes in is one page's connection; null on it ends it. Runs to repeat come without a port
+globalThis.onmessage = ({ data: runs, ports: [port] }) => {
+  if (!port) {
+    repeat(runs, (message) => globalThis.postMessage(message));
+    return;
+  }
   const page = join((message) => port.postMessage(message));
   port.onmessage = ({ data }) => {
     if (data === null) leave(page);

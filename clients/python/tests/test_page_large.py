@@ -1,0 +1,90 @@
+"""Large scripts on the page: how long they take, how long nothing moves, and how they are stopped."""
+import json
+import random
+import time
+import unittest
+
+from .page_case import CALLOUT, LESSON, READY, PageCase
+
+_CAP = 65536
+# The longest time, in milliseconds, in which the page could not do anything else
+_WATCH = """(() => {
+  let last = performance.now();
+  window.worst = 0;
+  setInterval(() => {
+    const now = performance.now();
+    worst = Math.max(worst, now - last);
+    last = now; }, 10); })()"""
+_BAR = "document.querySelector('#popover[open] progress')"
+
+
+def script(count):
+    """So many lines, most of which change the gas."""
+    draw, lines = random.Random(7), ["probe 0 0 64 64"]
+    while len(lines) < count:
+        x, y = draw.randrange(64), draw.randrange(64)
+        word = draw.choice(["put", "erase", "wall", "block", "unwall"])
+        lines.append(f"{word} {x} {y} {draw.randint(1, min(9, 64 - x))} {draw.randint(1, min(9, 64 - y))}")
+    return "\n".join(lines) + "\n"
+
+
+class LargeScripts(PageCase):
+    def begin_to_open(self, text):
+        self.value(f"{_WATCH}; globalThis.opened = laboratory.openBytes('big.txt', new TextEncoder()"
+                   f".encode({json.dumps(text)})); 0")
+
+    def test_100000_lines_are_refused_at_once(self):
+        """They are more changes than a journal holds. The gas stays, and the page goes on."""
+        self.open("8")
+        before = self.state()
+        self.begin_to_open(script(100_000))
+        self.browser.wait(f"{CALLOUT} !== ''", True)
+        self.assertIn("99,999 changes, and a journal holds 65,536. Nothing was opened.", self.value(CALLOUT))
+        self.assertLess(self.value("worst"), 3000)
+        self.assertEqual((self.state(), self.value(LESSON)), (before, "Three people on one gas"))
+        self.assertEqual(self.send("put 1 1 1 1")[0][:2], "OK")
+
+    def test_60000_lines_are_opened_with_a_bar(self):
+        self.open("8")
+        began = time.monotonic()
+        self.begin_to_open(script(60_000))
+        self.browser.wait(f"{_BAR}?.value > 0 && {_BAR}.value < {_BAR}.max", True)
+        self.browser.wait(f"{READY} && laboratory.lab.picture.journal", 59_999)
+        self.assertLess(time.monotonic() - began, 15)
+        self.assertLess(self.value("worst"), 3000)
+        self.assertEqual(self.value(LESSON), "big.txt")
+        self.browser.wait(_BAR, None)
+
+    def test_100000_readings_are_opened(self):
+        """They need no journal."""
+        self.open("8")
+        self.begin_to_open("put 2 2 1 1\n" + "read 1\n" * 99_999)
+        self.browser.wait(f"{READY} && {LESSON}", "big.txt")
+        self.assertEqual(self.value("laboratory.lab.link.send(['tally'])"), ["TALLY 0 1 1 1"])
+        self.assertLess(self.value("worst"), 3000)
+
+    def test_stop_brings_the_gas_before_back(self):
+        self.open("8")
+        self.draw("wall", (5, 5), (8, 6))
+        before = self.state()
+        self.begin_to_open("step 4096\n" * 20_000)
+        self.browser.wait(f"{_BAR} !== null", True)
+        self.value("[...document.querySelectorAll('#popover button')].find((e) => e.textContent === 'Stop')"
+                   ".click()")
+        self.browser.wait(f"{CALLOUT} !== ''", True)
+        self.assertRegex(self.value(CALLOUT), "Line .* of 20000, “step 4096”: You have stopped it. "
+                         "Nothing was opened.")
+        self.settle()
+        self.assertEqual((self.state(), self.value(LESSON)), (before, "Three people on one gas"))
+
+    def test_of_many_refusals_few_are_told(self):
+        """A pasted or sent list of wrong lines doesn't fill the log."""
+        self.open("8")
+        self.value("laboratory.send(Array(3000).fill('jump')).then(() => 0)")
+        self.assertEqual(self.value("document.querySelectorAll('#log .refused').length"), 6)
+        told = self.value("document.getElementById('log').textContent")
+        self.assertIn("2,994 more lines were refused", told)
+
+
+if __name__ == "__main__":
+    unittest.main()
