@@ -16,13 +16,11 @@ pub mod Untaken
 pub mod RunSteps
 pub mod Balances
 pub mod SolidBlocks
-pub mod RowPlaces
-pub mod PartTurns
 pub mod ActionSums
 pub mod ActionBounds
 pub mod OwnPhases
 pub mod RowRuns
-pub mod RowSweeps
+pub mod MadeCells
 pub mod OwnTiles
 pub mod OddParts
 pub mod PartActs

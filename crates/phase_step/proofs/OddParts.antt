@@ -1,5 +1,5 @@
 -- The phase of parity 1 of a part, row of tiles by row.
-use Rattle.std.proofs.Common.{◌≡◌, ◌⊎◌, ℕ, ◌+◌, ◌-◌, ◌*◌, ◌/◌, ◌%◌, ◌<◌, ◌≤◌, true, refl, sym, ap, ◌∙◌, subst, arith, inl, inr}
+use Rattle.std.proofs.Common.{◌≡◌, ◌⊎◌, ℕ, ◌+◌, ◌-◌, ◌*◌, ◌/◌, ◌%◌, ◌<◌, ◌≤◌, true, sym, ap, ◌∙◌, subst, arith, inl, inr}
 use Rattle.std.proofs.Math.Nat.{mod-lt, mod-eq_of_lt, mod-add-mod, add-mod_right}
 use Rattle.std.proofs.lemmas.Nat.{mod-mul-add}
 use Rattle.std.proofs.lemmas.Bool.{cases_eq}
@@ -10,9 +10,8 @@ use Rattle.phase_step.specs.Parts.{start_of, row_in, IsPartOf}
 use Rattle.phase_step.specs.OddPhase.{IsRowThere, below_there, HasInner, HasSeam, IsInnerOf, IsSeamOf, IsSeamRowTurned, begins_in, AreTurnedTo}
 use Rattle.phase_step.specs.declared.odd_phase.RowPlace.{RowPlace}
 use Rattle.phase_step.specs.declared.parts.Part.{Part}
-use Rattle.phase_step.proofs.PartTurns.{down_some}
-use Rattle.phase_step.proofs.RowPlaces.{row_turns}
-use Rattle.phase_step.proofs.RowSweeps.{has_own_rows, full_streamed}
+use Rattle.phase_step.proofs.OwnTiles.{down_some, row_turns}
+use Rattle.phase_step.proofs.MadeCells.{all_turned, made_next}
 
 -- the row of cells above one, round a torus of h
 above : (h y : ℕ) → 0 < h → y < h → ((1 ≤ y) × ((y + h - 1) % h ≡ y - 1)) ⊎ ((y ≡ 0) × ((y + h - 1) % h ≡ h - 1))
@@ -219,39 +218,28 @@ module _ (part : Part) (walls obstacles old : Cells) (row : ℕ) (sized : is_siz
         let rest_inner : (x y : ℕ) → x < old.width → y < old.height → (IsInnerOf place y → ⊥) → has mid x y ≡ has now x y = λ x y h k. inner.rest x y (subst (λ w. x < w) (sym sides_now.wide) h) (subst (λ n. y < n) (sym sides_now.high) k) in
         let rest_seam : (x y : ℕ) → x < old.width → y < old.height → (IsSeamOf place y → ⊥) → has new x y ≡ has mid x y = λ x y h k. seam.rest x y (subst (λ w. x < w) (sym mid_old.wide) h) (subst (λ n. y < n) (sym mid_old.high) k) in
         let kept : (x y : ℕ) → x < old.width → y < old.height → (begins_in old y ≡ row → ⊥) → has new x y ≡ has now x y = λ x y h k other. rest_seam x y h k (λ at. other (seam_at y at)) ∙ rest_inner x y h k (λ at. other (inner_at y at)) in
-        record {
-          sides = record { wide = sides_new.wide ∙ mid_old.wide; high = sides_new.high ∙ mid_old.high };
-          rest = λ x y h k later. kept x y h k (λ e. absurd (omega (arith, e, later))) ∙ so_far.rest x y h k (omega (arith, later));
-          made = λ x y h from to before.
-              let k : y < old.height = omega (arith, to) in
-              let l : x < lattice.width = subst (λ w. x < w) is.placed.wide h in
-              elim (cases_eq (begins_in old y) row) [
-                | inr ne ↦ kept x y h k (λ e. ne e) ∙ so_far.made x y h from to (omega (arith, ne, before))
-                | inl e ↦ elim (begins_cases old sized row y less k e) [
-                  | inr b ↦ subst (λ n. has new x n ≡ has next x (row_in part n)) (sym b) (seam.made.top x l ∙ ap (has next x) (sym below_in))
-                  | inl b ↦
-                      let f = b.0 in
-                      let g = b.1 in
-                      let same : row * 64 + y % 64 ≡ y = omega (arith, f) in
-                      subst (λ n. has new x n ≡ has next x (row_in part n)) same
-                      (elim (cases_eq (y % 64) 63) [
-                        | inl last ↦
-                            subst (λ v. has new x (row * 64 + v) ≡ has next x (row_in part (row * 64 + v))) (sym last)
-                            (seam.made.bottom x l ∙ ap (has next x) (sym (inner_there 63 (omega arith))))
-                        | inr not_last ↦
-                            let m = is.placed.margin in
-                            let own : part.margin ≤ row = omega (arith, from, f, not_last, m) in
-                            let low_y : y % 64 < 63 = omega (arith, not_last) in
-                            rest_seam x (row * 64 + y % 64) h (subst (λ n. n < old.height) (sym same) k) (λ at. elim at [ inl z ↦ not_last (omega (arith, z)) | inr z ↦ absurd (omega (arith, z, g)) ])
-                            ∙ (inner.made own x (y % 64) l g low_y ∙ ap (has next x) (sym (inner_there (y % 64) (omega arith))))
-                      ])
-                ]
-              ];
-        }
-
--- none at the beginning
-pub none_turned : (part : Part) (next old : Cells) → AreTurnedTo 0 part next old old
-none_turned part next old = record { sides = record { wide = refl; high = refl }; made = λ x y h from to before. absurd (omega (arith, before)); rest = λ x y h k later. refl }
+        made_next (λ x y. begins_in old y) row 63 part next old now new so_far (record { wide = sides_new.wide ∙ sides_mid.wide; high = sides_new.high ∙ sides_mid.high }) kept
+        (λ x y h from to e.
+        let l : x < lattice.width = subst (λ w. x < w) is.placed.wide h in
+        elim (begins_cases old sized row y less (omega (arith, to)) e) [
+          | inr b ↦ subst (λ n. has new x n ≡ has next x (row_in part n)) (sym b) (seam.made.top x l ∙ ap (has next x) (sym below_in))
+          | inl b ↦
+              let f = b.0 in
+              let g = b.1 in
+              let same : row * 64 + y % 64 ≡ y = omega (arith, f) in
+              subst (λ n. has new x n ≡ has next x (row_in part n)) same
+              (elim (cases_eq (y % 64) 63) [
+                | inl last ↦
+                    subst (λ v. has new x (row * 64 + v) ≡ has next x (row_in part (row * 64 + v))) (sym last)
+                    (seam.made.bottom x l ∙ ap (has next x) (sym (inner_there 63 (omega arith))))
+                | inr not_last ↦
+                    let m = is.placed.margin in
+                    let own : part.margin ≤ row = omega (arith, from, f, not_last, m) in
+                    let low_y : y % 64 < 63 = omega (arith, not_last) in
+                    rest_seam x (row * 64 + y % 64) h (subst (λ n. n < old.height) (sym same) (omega (arith, to))) (λ at. elim at [ inl z ↦ not_last (omega (arith, z)) | inr z ↦ absurd (omega (arith, z, g)) ])
+                    ∙ (inner.made own x (y % 64) l g low_y ∙ ap (has next x) (sym (inner_there (y % 64) (omega arith))))
+              ])
+        ])
 
 -- and all in the end
 pub odd_part_turned : (part : Part) (walls obstacles old lattice now : Cells) (rows : ℕ) → is_size (extent old) ≡ true → rows + part.margin ≡ old.height / 64 → IsPartOf part walls obstacles old lattice 63 → AreTurnedTo rows part (streamed 1 lattice (joined walls obstacles)) old now
@@ -259,15 +247,10 @@ pub odd_part_turned : (part : Part) (walls obstacles old lattice now : Cells) (r
 odd_part_turned part walls obstacles old lattice now rows sized all is turned =
     let t = (high (extent old) sized).tiles in
     let s = some old sized in
-    has_own_rows part walls obstacles old lattice (streamed 1 lattice (joined walls obstacles)) now 63 turned.sides (record { wide = refl; high = refl }) (full_streamed 1 lattice (joined walls obstacles)) is
-    (record {
-      row = λ x y h from to.
-          let k : y + part.margin * 64 < old.height = subst (λ n. y + part.margin * 64 < n) turned.sides.high to in
-          let begins : begins_in old y < rows =
-          elim (above old.height y s (omega (arith, k))) [
-            | inl a ↦ let e = a.1 in let l = a.0 in omega (arith, e, k, all, t, l)
-            | inr a ↦ let e = a.1 in let z = a.0 in omega (arith, e, z, from, all, t, s)
-          ]
-          in
-          turned.made x y (subst (λ w. x < w) (sym is.placed.wide) h) (omega (arith, from)) (omega (arith, k)) begins;
-    })
+    all_turned (λ x y. begins_in old y) rows 63 1 part walls obstacles old lattice now (omega arith) is
+    (λ x y h from to.
+    elim (above old.height y s (omega (arith, to))) [
+      | inl a ↦ let e = a.1 in let l = a.0 in omega (arith, e, to, all, t, l)
+      | inr a ↦ let e = a.1 in let z = a.0 in omega (arith, e, z, from, all, t, s)
+    ])
+    turned

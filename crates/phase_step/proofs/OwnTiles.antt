@@ -1,21 +1,45 @@
 -- A part's own tiles: which of the lattice they are, and what they take.
 use Rattle.std.proofs.Common.{◌≡◌, ℕ, suc, ◌+◌, ◌-◌, ◌*◌, ◌/◌, ◌%◌, ◌<◌, ◌≤◌, true, pos, sym, ap, ap₂, ◌∙◌, subst, arith, mul-le-mul}
-use Rattle.std.proofs.lemmas.Nat.{div-add-mod', div-mul-add, mod-mul-add}
-use Rattle.gas_terms.specs.Cells.{Cells, HasSidesOf, extent, is_size, tile_count, tile_rectangle}
+use Rattle.std.proofs.Math.Nat.{mod-lt, div-lt_iff_lt-mul}
+use Rattle.std.proofs.lemmas.Nat.{div-add-mod', div-mul-add, mod-mul-add, mul-add-lt, le-div}
+use Rattle.gas_terms.specs.Cells.{Cells, HasSidesOf, has, extent, is_size, tile_count, tile_rectangle}
 use Rattle.gas_terms.specs.Accounts.{took_plus, pair_plus, TakenFits}
 use Rattle.gas_terms.specs.declared.accounts.Took.{Took}
-use Rattle.gas_plane.specs.Planes.{IsLattice}
-use Rattle.gas_plane.proofs.Places.{wide, high}
+use Rattle.bit_tile.specs.declared.Tile.{Tile}
+use Rattle.gas_plane.specs.Planes.{IsLattice, IsTileFrom}
+use Rattle.gas_plane.proofs.Places.{wide, high, cell_below}
 use Rattle.gas_plane.proofs.PlaneCounts.{few_tiles}
+use Rattle.gas_plane.proofs.Sweeps.{left_of, top_of}
 use Rattle.block_rule.specs.Accounts.{counted_of}
 use Rattle.block_rule.specs.Windows.{taken_in}
 use Rattle.block_rule.specs.declared.walled.Counted.{Counted}
 use Rattle.phase_step.specs.Runs.{tiles_take}
-use Rattle.phase_step.specs.Parts.{start_of, own_rows, tile_in, IsPlaced, IsOwn, IsPartOf}
+use Rattle.phase_step.specs.Parts.{start_of, row_in, own_rows, tile_in, IsPlaced, IsOwn, IsPartOf}
 use Rattle.phase_step.specs.declared.parts.Part.{Part}
-use Rattle.phase_step.proofs.PartTurns.{own_row, tile_there, down_some}
 use Rattle.phase_step.proofs.PhaseSweeps.{tiles_as}
 use Rattle.phase_step.proofs.RunTakes.{counted_plus, own_fits}
+
+-- a row of the torus by its row of tiles
+pub row_turns : (a k d y : ℕ) → 0 < d → y < 64 → (a * 64 + (k * 64 + y)) % (d * 64) ≡ (a + k) % d * 64 + y
+row_turns a k d y some p = grind (arith, div-add-mod', mod-lt, mod-mul-add)
+
+pub down_some : (part : Part) (cells lattice : Cells) → IsPlaced part cells lattice → is_size (extent lattice) ≡ true → 0 < part.down
+down_some part cells lattice placed sized = let h = (high (extent lattice) sized).some in let e = placed.down in omega (arith, h, e)
+
+pub lattice_is : (part : Part) (w o cells lattice : Cells) (k : ℕ) → IsPartOf part w o cells lattice k → IsLattice lattice
+lattice_is part w o cells lattice k is = record { sized = is.sized; full = is.full }
+
+-- Fewer rows than these are the lattice's too. Without a margin they are all, whatever the number.
+pub rows_left : (part : Part) (walls obstacles cells lattice : Cells) (k m : ℕ) → part.margin * k ≤ part.margin * m → IsPartOf part walls obstacles cells lattice k → IsPartOf part walls obstacles cells lattice m
+rows_left part walls obstacles cells lattice k m few is =
+    record {
+      sized = is.sized;
+      full = is.full;
+      of_walls = is.of_walls;
+      of_obstacles = is.of_obstacles;
+      placed = is.placed;
+      rows = record { row = λ x y l low top. is.rows.row x y l (omega (arith, few, low)) (omega (arith, few, top)) };
+    }
 
 -- the tile of an own row
 pub own_at : (part : Part) (cells : Cells) (row column : ℕ) → column < cells.width / 64 → part.margin ≤ row → row + part.margin < cells.height / 64 → IsOwn part cells (row * (cells.width / 64) + column)
@@ -31,37 +55,136 @@ own_at part cells row column c low high =
 pub own_past : (part : Part) (cells : Cells) (first end i : ℕ) → first ≡ part.margin * (cells.width / 64) → first ≤ end → end - first ≡ own_rows part cells * (cells.width / 64) → end ≤ i → (j : ℕ) → IsOwn part cells j → j < i
 own_past part cells first end i e order count past j own = let h = own.high in omega (arith, e, order, count, past, h)
 
--- the first is less than the most tiles that a lattice has
-pub first_small : (part : Part) (cells : Cells) (first : ℕ) → is_size (extent cells) ≡ true → part.margin ≤ 1 → first ≡ part.margin * (cells.width / 64) → first < 4096
-first_small part cells first sized margin e = let few = (wide (extent cells) sized).few in let most : part.margin * (cells.width / 64) ≤ 1 * 64 = mul-le-mul margin few in omega (arith, e, most)
+-- the lattice's row that an own row is
+pub own_row : (part : Part) (cells lattice : Cells) (y : ℕ) → is_size (extent cells) ≡ true → IsPlaced part cells lattice → part.margin * 64 ≤ y → y + part.margin * 64 < cells.height → row_in part y ≡ part.first * 64 + (y - part.margin * 64)
+own_row part cells lattice y sized placed low top =
+    let t = (high (extent cells) sized).tiles in
+    let f = placed.inside in
+    let s = placed.some in
+    let m = placed.margin in
+    let turn : start_of part * 64 + y ≡ 1 * (part.down * 64) + (part.first * 64 + (y - part.margin * 64)) = omega (arith, f, s, m, low) in
+    ap (λ n. n % (part.down * 64)) turn ∙ mod-mul-add 1 (part.down * 64) (part.first * 64 + (y - part.margin * 64)) (omega (arith, low, top, f, s, t))
 
--- its number in the lattice
-pub own_number : (part : Part) (cells lattice : Cells) (i : ℕ) → is_size (extent cells) ≡ true → IsPlaced part cells lattice → IsOwn part cells i → tile_in part (lattice.width / 64) i ≡ part.first * (lattice.width / 64) + (i - part.margin * (cells.width / 64))
-own_number part cells lattice i sized placed own =
-    let rows = own_row part cells i sized own in
+-- Where an own tile stands in the lattice.
+module _ (part : Part) (cells lattice : Cells) (i : ℕ) (sized : is_size (extent cells) ≡ true) (placed : IsPlaced part cells lattice) (own : IsOwn part cells i) where
+  rows : (part.margin ≤ i / (cells.width / 64)) × (i / (cells.width / 64) < part.margin + own_rows part cells)
+  rows =
+      let a = cells.width / 64 in
+      let some = (wide (extent cells) sized).some in
+      let h = own.high in (
+        le-div part.margin i a some own.low,
+        (div-lt_iff_lt-mul some).1 (let e : (part.margin + own_rows part cells) * a ≡ part.margin * a + own_rows part cells * a = omega arith in omega (arith, e, h)),
+      )
+
+  across_is : cells.width / 64 ≡ lattice.width / 64
+  across_is = ap (λ w. w / 64) placed.wide
+
+  column : i % (cells.width / 64) < cells.width / 64
+  column = mod-lt i (wide (extent cells) sized).some
+
+  number : tile_in part (cells.width / 64) i ≡ (part.first + (i / (cells.width / 64) - part.margin)) * (cells.width / 64) + i % (cells.width / 64)
+  number =
+      let a = cells.width / 64 in
+      let q = i / a - part.margin in
+      let split : i / a * a + i % a ≡ i = div-add-mod' i a in
+      let from : i / a ≡ part.margin + q = let l = rows.0 in omega (arith, l) in
+      let spread : (part.margin + q) * a + i % a ≡ i = ap (λ n. n * a + i % a) (sym from) ∙ split in
+      let e : (part.margin + q) * a ≡ part.margin * a + q * a = omega arith in
+      let f : (part.first + q) * a ≡ part.first * a + q * a = omega arith in
+      omega (arith, spread, e, f)
+
+  pub column_there : tile_in part (lattice.width / 64) i % (lattice.width / 64) ≡ i % (cells.width / 64)
+  column_there =
+      subst (λ b. tile_in part b i % b ≡ i % (cells.width / 64)) across_is
+      (ap (λ n. n % (cells.width / 64)) number ∙ mod-mul-add (part.first + (i / (cells.width / 64) - part.margin)) (cells.width / 64) (i % (cells.width / 64)) column)
+
+  pub row_there : tile_in part (lattice.width / 64) i / (lattice.width / 64) ≡ part.first + (i / (cells.width / 64) - part.margin)
+  row_there =
+      subst (λ b. tile_in part b i / b ≡ part.first + (i / (cells.width / 64) - part.margin)) across_is
+      (ap (λ n. n / (cells.width / 64)) number ∙ div-mul-add (part.first + (i / (cells.width / 64) - part.margin)) (cells.width / 64) (i % (cells.width / 64)) column)
+
+  pub within_there : tile_in part (lattice.width / 64) i < tile_count lattice
+  within_there =
+      let f = placed.inside in
+      let d = placed.down in
+      let l = rows.0 in
+      let g = rows.1 in
+      let low : part.first + (i / (cells.width / 64) - part.margin) < lattice.height / 64 = omega (arith, f, d, l, g) in
+      subst (λ b. tile_in part b i < b * (lattice.height / 64)) across_is
+      (subst (λ n. n < cells.width / 64 * (lattice.height / 64)) (sym number) (mul-add-lt (part.first + (i / (cells.width / 64) - part.margin)) (cells.width / 64) (i % (cells.width / 64)) (lattice.height / 64) low column))
+
+  -- a cell of it
+  pub own_low : (y : ℕ) → y < 64 → (part.margin * 64 ≤ top_of cells i + y) × (top_of cells i + y + part.margin * 64 < cells.height)
+  own_low y h = let l = rows.0 in let g = rows.1 in let t = (high (extent cells) sized).tiles in let s = placed.some in (omega (arith, l), omega (arith, l, g, t, s, h))
+
+  pub cell_column : (x : ℕ) → (tile_rectangle lattice (tile_in part (lattice.width / 64) i)).x + x ≡ left_of cells i + x
+  cell_column x = ap (λ n. n * 64 + x) column_there
+
+  pub cell_row : (y : ℕ) → y < 64 → (tile_rectangle lattice (tile_in part (lattice.width / 64) i)).y + y ≡ row_in part (top_of cells i + y)
+  cell_row y h =
+      let at = own_low y h in
+      let l = rows.0 in
+      let e = own_row part cells lattice (top_of cells i + y) sized placed at.0 at.1 in
+      ap (λ n. n * 64 + y) row_there ∙ (let f : (part.first + (i / (cells.width / 64) - part.margin)) * 64 + y ≡ part.first * 64 + (top_of cells i + y - part.margin * 64) = omega (arith, l) in f ∙ sym e)
+
+-- it has the lattice's cells
+pub own_cells : (part : Part) (w o cells lattice : Cells) (i : ℕ) (t : Tile) → is_size (extent cells) ≡ true → IsPartOf part w o cells lattice 64 → IsOwn part cells i → IsTileFrom t cells (left_of cells i) (top_of cells i)
+    → (let r = tile_rectangle lattice (tile_in part (lattice.width / 64) i) in IsTileFrom t lattice r.x r.y)
+own_cells part w o cells lattice i t sized is own from =
+    record {
+      cell = λ x y h k.
+          let at = own_low part cells lattice i sized is.placed own y k in
+          let across = wide (extent cells) sized in
+          let right = cell_below cells.width (i % (cells.width / 64)) x across (mod-lt i across.some) h in
+          from.cell x y h k
+          ∙ (is.rows.row (left_of cells i + x) (top_of cells i + y) (omega (arith, right, is.placed.wide)) at.0 at.1
+          ∙ sym (ap₂ (has lattice) (cell_column part cells lattice i sized is.placed own x) (cell_row part cells lattice i sized is.placed own y k)));
+    }
+
+-- they are all but the margins'
+pub own_counted : (part : Part) (cells lattice : Cells) (tiles across : ℕ) → IsPlaced part cells lattice → tiles ≡ tile_count cells → across ≡ cells.width / 64 → tiles - part.margin * across - part.margin * across ≡ own_rows part cells * (cells.width / 64)
+own_counted part cells lattice tiles across placed e f =
     let a = cells.width / 64 in
-    let r = i / a in
-    let q = r - part.margin in
-    let split : r * a + i % a ≡ i = div-add-mod' i a in
-    let turn : start_of part + r ≡ 1 * part.down + (part.first + q) = let l = rows.0 in let f = placed.inside in let s = placed.some in let m = placed.margin in omega (arith, l, f, s, m) in
-    let there : (start_of part + r) % part.down ≡ part.first + q = ap (λ n. n % part.down) turn ∙ mod-mul-add 1 part.down (part.first + q) (let h = rows.1 in let f = placed.inside in let l = rows.0 in omega (arith, h, f, l)) in
-    let from : r ≡ part.margin + q = let l = rows.0 in omega (arith, l) in
-    let spread : (part.margin + q) * a + i % a ≡ i = ap (λ n. n * a + i % a) (sym from) ∙ split in
-    let number : (part.first + q) * a + i % a ≡ part.first * a + (i - part.margin * a) =
-    let e : (part.margin + q) * a ≡ part.margin * a + q * a = omega arith in
-    let f : (part.first + q) * a ≡ part.first * a + q * a = omega arith in
-    omega (arith, spread, e, f) in
-    subst (λ b. (start_of part + i / b) % part.down * b + i % b ≡ part.first * b + (i - part.margin * a)) (ap (λ w. w / 64) placed.wide) (ap (λ n. n * a + i % a) there ∙ number)
+    let s = placed.some in
+    let r = own_rows part cells in
+    let rows : cells.height / 64 ≡ r + part.margin + part.margin = omega (arith, s) in
+    let all : a * (cells.height / 64) ≡ r * a + part.margin * a + part.margin * a = ap (λ n. a * n) rows ∙ omega arith in
+    ap₂ (λ t b. t - part.margin * b - part.margin * b) (e ∙ all) f ∙ omega arith
+
+-- they are so many of the lattice's
+pub own_within : (part : Part) (cells lattice : Cells) → IsPlaced part cells lattice → part.first * (lattice.width / 64) + own_rows part cells * (lattice.width / 64) ≤ tile_count lattice
+own_within part cells lattice placed =
+    let a = lattice.width / 64 in
+    let rows : part.first + own_rows part cells ≤ lattice.height / 64 = let g = placed.down in let h = placed.inside in omega (arith, g, h) in
+    let same : a ≤ a = omega arith in
+    let most : (part.first + own_rows part cells) * a ≤ lattice.height / 64 * a = mul-le-mul rows same in
+    let e : (part.first + own_rows part cells) * a ≡ part.first * a + own_rows part cells * a = omega arith in
+    let f : lattice.height / 64 * a ≡ a * (lattice.height / 64) = omega arith in
+    omega (arith, most, e, f)
+
+pub own_inside : (part : Part) (cells lattice : Cells) (there count : ℕ) → IsPlaced part cells lattice → there ≡ part.first * (cells.width / 64) → count ≡ own_rows part cells * (cells.width / 64) → there + count ≤ tile_count lattice
+own_inside part cells lattice there count placed e f =
+    let most = own_within part cells lattice placed in
+    let g = e ∙ ap (λ w. part.first * (w / 64)) placed.wide in
+    let h = f ∙ ap (λ w. own_rows part cells * (w / 64)) placed.wide in
+    omega (arith, most, g, h)
+
+-- the number of the lattice's tile, as it is counted on
+pub there_is : (part : Part) (cells lattice : Cells) (i first there : ℕ) → IsPlaced part cells lattice → first ≡ part.margin * (cells.width / 64) → there ≡ part.first * (cells.width / 64) → there + (i - first) ≡ tile_in part (lattice.width / 64) i
+there_is part cells lattice i first there placed e f = ap₂ (λ m n. n + (i - m)) e f ∙ ap (λ w. tile_in part (w / 64) i) placed.wide
+
+pub there_below : (lattice set : Cells) (first end there i : ℕ) → HasSidesOf set lattice → there + (end - first) ≤ tile_count lattice → first ≤ i → i < end → there + (i - first) < tile_count set
+there_below lattice set first end there i sides inside from to = let e = tiles_as set lattice sides in omega (arith, inside, from, to, e)
 
 -- what is taken in the own tile i, when `took` was taken in those below it
 module _ (p : ℕ) (part : Part) (cells lattice w o : Cells) (kept : Counted) (i k from : ℕ) (took here : Took) (of : IsLattice cells) (own : IsOwn part cells i) (is : IsPartOf part w o cells lattice k) (e : from ≡ part.margin * (cells.width / 64))
     (so_far : took ≡ counted_of kept (tiles_take p lattice w o (part.first * (lattice.width / 64)) (i - from)))
     (takes : here ≡ counted_of kept (taken_in (pos p) lattice w o (tile_rectangle lattice (tile_in part (lattice.width / 64) i)))) where
+  from_is : part.margin * (lattice.width / 64) ≡ from
+  from_is = ap (λ w. part.margin * (w / 64)) (sym is.placed.wide) ∙ sym e
+
   here_is : here ≡ counted_of kept (taken_in (pos p) lattice w o (tile_rectangle lattice (part.first * (lattice.width / 64) + (i - from))))
-  here_is =
-      takes
-      ∙ ap (λ j. counted_of kept (taken_in (pos p) lattice w o (tile_rectangle lattice j)))
-      (own_number part cells lattice i of.sized is.placed own ∙ ap (λ f. part.first * (lattice.width / 64) + (i - f)) (sym e))
+  here_is = takes ∙ ap (λ f. counted_of kept (taken_in (pos p) lattice w o (tile_rectangle lattice (part.first * (lattice.width / 64) + (i - f))))) from_is
 
   pub own_more : took_plus took here ≡ counted_of kept (tiles_take p lattice w o (part.first * (lattice.width / 64)) (i + 1 - from))
   own_more =
@@ -76,31 +199,3 @@ module _ (p : ℕ) (part : Part) (cells lattice w o : Cells) (kept : Counted) (i
       let first = part.first * (lattice.width / 64) in
       let few = few_tiles cells i of (let w = own.within in omega (arith, w)) in
       own_fits p lattice w o kept first (i - from) (first + (i - from)) took here (omega (arith, few)) so_far here_is
-
--- the lattice's tile whose walls and obstacles are given
-pub source_is : (part : Part) (cells lattice w o : Cells) (k across i j result : ℕ) → IsPartOf part w o cells lattice k → across ≡ cells.width / 64 → j ≡ i → result ≡ tile_in part across i → result ≡ tile_in part (lattice.width / 64) j
-source_is part cells lattice w o k across i j result is e same f = f ∙ ap₂ (tile_in part) (e ∙ ap (λ w. w / 64) is.placed.wide) (sym same)
-
-pub source_below : (part : Part) (cells lattice w o set : Cells) (k across i result : ℕ) → IsPartOf part w o cells lattice k → HasSidesOf set lattice → across ≡ cells.width / 64 → result ≡ tile_in part across i → result < tile_count set
-source_below part cells lattice w o set k across i result is sides e f = grind (arith, wide, extent, down_some, source_is, tile_there, tiles_as, high)
-
--- the tiles of one row, one after another: where they are in the lattice
-in_row : (part : Part) (a row column : ℕ) → column < a → tile_in part a (row * a + column) ≡ (start_of part + row) % part.down * a + column
-in_row part a row column less = ap₂ (λ q r. (start_of part + q) % part.down * a + r) (div-mul-add row a column less) (mod-mul-add row a column less)
-
-pub tile_along : (part : Part) (a row column : ℕ) → column < a → tile_in part a (row * a + column) ≡ tile_in part a (row * a) + column
-tile_along part a row column less =
-    let here = (start_of part + row) % part.down * a in
-    let same : row * a + 0 ≡ row * a = omega arith in
-    let none : here + 0 ≡ here = omega arith in
-    let begins : tile_in part a (row * a) ≡ here = ap (tile_in part a) (sym same) ∙ (in_row part a row 0 (omega (arith, less)) ∙ none) in
-    in_row part a row column less ∙ ap (λ n. n + column) (sym begins)
-
-pub row_small : (cells : Cells) (row across : ℕ) → is_size (extent cells) ≡ true → across ≡ cells.width / 64 → row < cells.height / 64 → row * across < 4096
-row_small cells row across sized e within =
-    let w = (wide (extent cells) sized).few in
-    let h = (high (extent cells) sized).few in
-    let low : row ≤ 63 = omega (arith, within, h) in
-    let few : across ≤ 64 = omega (arith, e, w) in
-    let most : row * across ≤ 63 * 64 = mul-le-mul low few in
-    omega (arith, most)

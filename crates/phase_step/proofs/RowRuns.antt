@@ -1,35 +1,27 @@
 -- A run of a part, phase by phase.
 use Rattle.std.proofs.Common.{◌≡◌, ℕ, suc, ◌+◌, ◌-◌, ◌*◌, ◌/◌, ◌%◌, ◌<◌, ◌≤◌, true, pos, refl, sym, ap, ap₂, ◌∙◌, subst, arith, add-one, mul-le-mul}
-use Rattle.gas_terms.specs.Cells.{Cells, HasSidesOf, has, joined, tile_count, tile_rectangle, extent, is_size, IsFull}
+use Rattle.gas_terms.specs.Cells.{Cells, HasSidesOf, has, joined, extent, is_size, IsFull}
 use Rattle.gas_terms.specs.Gas.{streamed}
 use Rattle.gas_terms.specs.Accounts.{moved_by}
 use Rattle.gas_terms.proofs.Cells.{same_cells}
-use Rattle.bit_tile.specs.declared.Tile.{Tile}
 use Rattle.gas_plane.specs.Planes.{IsLattice}
-use Rattle.gas_plane.proofs.Rings.{row_in}
 use Rattle.gas_plane.proofs.Places.{wide, high}
 use Rattle.block_rule.specs.Accounts.{counted_of}
 use Rattle.block_rule.specs.declared.walled.Counted.{Counted}
 use Rattle.std.proofs.Math.Nat.{mul-le-mul_left}
-use Rattle.std.proofs.lemmas.Nat.{mod-mul-add, div-add-mod'}
+use Rattle.std.proofs.lemmas.Nat.{mod-mul-add}
 use Rattle.phase_step.specs.Runs.{parity_at, tiles_take}
 use Rattle.phase_step.specs.Actions.{Leaves, acted, after_with, flow_plus, flow_with, FlowsFit}
 use Rattle.phase_step.specs.Balance.{flow_counted}
 use Rattle.phase_step.specs.TileRuns.{tiles_move, tiles_flow}
-use Rattle.phase_step.specs.Parts.{own_rows, own_flow, own_take, own_moves, IsOwn, IsPartOf, IsTileOf, HasRun, tile_in, whole_part}
-use Rattle.phase_step.specs.Turns.{IsTileAfter}
-use Rattle.phase_step.specs.SolidBlocks.{AreTileSolids}
-use Rattle.phase_step.specs.declared.steps.solids.TileSolids.{TileSolids}
-use Rattle.block_rule.specs.Windows.{taken_in}
-use Rattle.gas_terms.specs.declared.accounts.Took.{Took}
-use Rattle.phase_step.proofs.ActedTiles.{cell_within}
+use Rattle.phase_step.specs.Parts.{own_rows, own_flow, own_take, own_moves, IsPartOf, HasRun, whole_part}
 use Rattle.phase_step.specs.WholeRuns.{Dynamics, after_all}
 use Rattle.phase_step.specs.declared.parts.Part.{Part}
 use Rattle.phase_step.specs.declared.sums.flow.Flow.{Flow}
 use Rattle.phase_step.proofs.ActionRuns.{same_flow, sides_with}
 use Rattle.phase_step.proofs.ActionSums.{takes_all_with, moves_all, moves_all_with}
 use Rattle.phase_step.proofs.Balances.{flows_counted, counted_fit}
-use Rattle.phase_step.proofs.PartTurns.{rows_left}
+use Rattle.phase_step.proofs.OwnTiles.{rows_left}
 use Rattle.phase_step.proofs.RunTakes.{counted_none}
 use Rattle.phase_step.proofs.OwnPhases.{IsOwnPhase, own_flow_next, own_flow_fits}
 
@@ -135,37 +127,6 @@ whole_moves p leaves cells sized =
     let rows : cells.height / 64 - 2 * 0 ≡ cells.height / 64 = omega arith in
     let turned : cells.height / 64 * a ≡ a * (cells.height / 64) = omega arith in
     ap₂ (tiles_move (pos p) cells (acted leaves cells)) first (ap (λ n. n * a) rows ∙ turned) ∙ moves_all (pos p) leaves cells sized
-
--- its tiles are the lattice's
-whole_tile : (cells : Cells) (i : ℕ) → IsLattice cells → i < tile_count cells → tile_in (whole_part cells) (cells.width / 64) i ≡ i
-whole_tile cells i is within =
-    let a = cells.width / 64 in
-    let down = cells.height / 64 in
-    let row : i / a < down = row_in cells i is within in
-    let turn : 0 + down - 0 + i / a ≡ 1 * down + i / a = omega arith in
-    ap (λ r. r % down * a + i % a) turn ∙ (ap (λ r. r * a + i % a) (mod-mul-add 1 down (i / a) row) ∙ div-add-mod' i a)
-
-whole_own : (cells : Cells) (i : ℕ) → i < tile_count cells → IsOwn (whole_part cells) cells i
-whole_own cells i within =
-    let rows : cells.height / 64 - 2 * 0 ≡ cells.height / 64 = omega arith in
-    let count = ap (λ n. n * (cells.width / 64)) rows in
-    record { within = within; low = omega arith; high = omega (arith, count) }
-
--- a step of a tile of it is the lattice's
-pub whole_turns : (p : ℕ) (old w o : Cells) (i : ℕ) (tile_solids : TileSolids) (t : Tile) → IsLattice old → i < tile_count old → HasSidesOf w old → HasSidesOf o old → AreTileSolids w o i tile_solids
-    → (IsOwn (whole_part old) old i → IsPartOf (whole_part old) w o old old (64 - p) → AreTileSolids w o (tile_in (whole_part old) (old.width / 64) i) tile_solids → IsTileOf (whole_part old) old (streamed p old (joined w o)) i t) → IsTileAfter p old w o i t
-whole_turns p old w o i tile_solids t is within of_walls of_obstacles known turned x y h q =
-    let place = cell_within old i x y is within h q in
-    let tiles = (high (extent old) is.sized).tiles in
-    turned (whole_own old i within) (whole_is (old.height / 64) (64 - p) w o old is.sized is.full of_walls of_obstacles refl) (subst (λ j. AreTileSolids w o j tile_solids) (sym (whole_tile old i is within)) known) x y h q
-    ∙ ap (has (streamed p old (joined w o)) (i % (old.width / 64) * 64 + x)) (whole_row (old.height / 64) old.height (i / (old.width / 64) * 64 + y) (omega (arith, tiles)) place.1)
-
-pub whole_takes : (p : ℕ) (old w o : Cells) (i : ℕ) (tile_solids : TileSolids) (took : Took) → IsLattice old → i < tile_count old → HasSidesOf w old → HasSidesOf o old → AreTileSolids w o i tile_solids
-    → (IsOwn (whole_part old) old i → IsPartOf (whole_part old) w o old old 64 → AreTileSolids w o (tile_in (whole_part old) (old.width / 64) i) tile_solids → took ≡ taken_in (pos p) old w o (tile_rectangle old (tile_in (whole_part old) (old.width / 64) i)))
-    → took ≡ taken_in (pos p) old w o (tile_rectangle old i)
-whole_takes p old w o i tile_solids took is within of_walls of_obstacles known takes =
-    takes (whole_own old i within) (whole_is (old.height / 64) 64 w o old is.sized is.full of_walls of_obstacles refl) (subst (λ j. AreTileSolids w o j tile_solids) (sym (whole_tile old i is within)) known)
-    ∙ ap (λ j. taken_in (pos p) old w o (tile_rectangle old j)) (whole_tile old i is within)
 
 -- A strip is a part with a margin.
 pub strip_is : (first down rows k : ℕ) (walls obstacles strip lattice : Cells) → is_size (extent lattice) ≡ true → IsFull lattice → HasSidesOf walls lattice → HasSidesOf obstacles lattice → lattice.height ≡ down * 64 → strip.width ≡ lattice.width → strip.height ≡ (rows + 2) * 64 → 0 < rows → first + rows ≤ down

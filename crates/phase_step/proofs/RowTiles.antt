@@ -1,18 +1,18 @@
 -- A tile of a plane that is replaced, by its row and column of tiles: what its rows of blocks become at odd parity.
 use Rattle.std.proofs.Common.{◌≡◌, ℕ, ◌+◌, ◌*◌, ◌/◌, ◌%◌, ◌<◌, ◌≤◌, Bool, true, refl, sym, ap, ap₂, ◌∙◌, subst, arith, inl, inr}
-use Rattle.std.proofs.lemmas.Nat.{mul-add-lt, mod-mul-add, div-mul-add}
+use Rattle.std.proofs.lemmas.Nat.{mod-mul-add, div-mul-add}
 use Rattle.std.proofs.lemmas.Bool.{cases_eq}
 use Rattle.bit_tile.specs.Tile as tile
 use Rattle.bit_tile.specs.declared.Tile.{Tile}
-use Rattle.gas_terms.specs.Cells.{Cells, HasSidesOf, has, extent, is_size, tile_count, tile_rectangle}
-use Rattle.gas_plane.specs.Planes.{IsTileFrom, with_tile}
-use Rattle.gas_plane.proofs.Places.{wide, high, tile_below}
+use Rattle.gas_terms.specs.Cells.{Cells, HasSidesOf, has, extent, is_size, tile_rectangle}
+use Rattle.gas_plane.specs.Planes.{IsTileFrom, with_tile, tile_of}
+use Rattle.gas_plane.proofs.Places.{wide, high, cell_below, tile_below}
 use Rattle.gas_plane.specs.Beside.{IsTurnedBeside}
 use Rattle.block_rule.specs.InPlace.{IsRowTurned, IsInnerSeen, IsSeamSeen}
 use Rattle.block_rule.specs.declared.blocks.Blocks.{Blocks}
 use Rattle.phase_step.specs.OddPhase.{TurnsInner, IsSeamPut, IsInnerTurned, IsEdge}
 use Rattle.phase_step.specs.declared.odd_phase.RowTurner.{RowTurner}
-use Rattle.phase_step.proofs.RowSweeps.{with_here, same_elsewhere}
+use Rattle.phase_step.proofs.MadeCells.{with_here, with_other}
 
 -- a tile of a lattice that is replaced, by its column and row of tiles
 module _ (cells : Cells) (row column i : ℕ) (t : Tile) (sized : is_size (extent cells) ≡ true) (low : row < cells.height / 64) (less : column < cells.width / 64) (place : i ≡ row * (cells.width / 64) + column) where
@@ -27,14 +27,18 @@ module _ (cells : Cells) (row column i : ℕ) (t : Tile) (sized : is_size (exten
 
   pub tile_here : (x y : ℕ) → x < 64 → y < 64 → has (with_tile cells i t) (column * 64 + x) (row * 64 + y) ≡ tile.has t x y
   tile_here x y h k =
-      let within : i < tile_count cells = subst (λ n. n < tile_count cells) (sym place) (mul-add-lt row (cells.width / 64) column (cells.height / 64) low less) in
-      sym (ap₂ (λ u v. has (with_tile cells i t) (u + x) (v + y)) is_column is_row) ∙ with_here cells cells i i x y t sized same within h k refl
+      let a = cells.width / 64 in
+      let c : (column * 64 + x) / 64 ≡ column = div-mul-add column 64 x h in
+      let r : (row * 64 + y) / 64 ≡ row = div-mul-add row 64 y k in
+      let at : tile_of cells (column * 64 + x) (row * 64 + y) ≡ i = ap₂ (λ r c. r * a + c) r c ∙ sym place in
+      with_here cells cells i t same (column * 64 + x) (row * 64 + y) (cell_below cells.width column x (wide (extent cells) sized) less h) (cell_below cells.height row y (high (extent cells) sized) low k) at
+      ∙ ap₂ (tile.has t) (mod-mul-add column 64 x h) (mod-mul-add row 64 y k)
 
   pub tile_there : (x y : ℕ) → x < cells.width → y < cells.height → (x / 64 ≡ column → y / 64 ≡ row → ⊥) → has (with_tile cells i t) x y ≡ has cells x y
   tile_there x y h k other =
       let a = cells.width / 64 in
       let c : x / 64 < a = tile_below cells.width x (wide (extent cells) sized) h in
-      same_elsewhere cells cells row column i t sized same low less place x y h k
+      with_other cells cells i t same x y h k
       (λ e.
       let f : y / 64 * a + x / 64 ≡ row * a + column = e ∙ place in
       other (sym (mod-mul-add (y / 64) a (x / 64) c) ∙ (ap (λ n. n % a) f ∙ mod-mul-add row a column less)) (sym (div-mul-add (y / 64) a (x / 64) c) ∙ (ap (λ n. n / a) f ∙ div-mul-add row a column less)))

@@ -2,10 +2,9 @@
 use Rattle.std.proofs.Common.{◌≡◌, [], ℕ, ◌+◌, ◌%◌, ◌<◌, ◌≤◌, ◌-◌, arith}
 use Rattle.std.proofs.lemmas.Nat.{mod-mul-add}
 use Rattle.std.proofs.Math.Nat.{mod-lt}
-use Rattle.bit_tile.specs.Tile.{HasCells}
 use Rattle.bit_tile.specs.declared.Tile.{Tile}
 use Rattle.tile_border.specs.declared.border.Border.{Border}
-use Rattle.gas_terms.specs.Cells.{Cells, HasSidesOf, has, tile_rectangle}
+use Rattle.gas_terms.specs.Cells.{Cells, HasSidesOf, tile_rectangle}
 use Rattle.gas_plane.specs.Planes.{IsTileFrom, IsRingRound, IsBareRound, HasNone}
 use Rattle.block_rule.specs.Around.{around, none}
 use Rattle.tile_border.specs.Ring.{IsBorderOfRound}
@@ -25,9 +24,6 @@ bare_view p i cells others small wide bare = grind (arith)
 
 inside : (n x i : ℕ) → x + 64 ≤ n → 1 ≤ i + 0 → i ≤ 64 + 0 → (x + i + n - 1) % n ≡ x + (i - 1)
 inside n x i fits low high = grind (arith, mod-mul-add)
-
-pub tile_cells : (i : ℕ) (cells others : Cells) (t : Tile) → cells.width ≡ others.width → IsTileFrom t cells (tile_rectangle cells i).x (tile_rectangle cells i).y → HasCells t (λ x y. has cells ((tile_rectangle others i).x + x) ((tile_rectangle others i).y + y))
-tile_cells i cells others t wide from = grind (arith)
 
 pub tile_window : (i : ℕ) (cells others : Cells) (t : Tile) (b : Border) → cells.width ≡ others.width → cells.height ≡ others.height → (tile_rectangle others i).x + 64 ≤ others.width → (tile_rectangle others i).y + 64 ≤ others.height
     → IsTileFrom t cells (tile_rectangle cells i).x (tile_rectangle cells i).y → IsRingRound b cells (tile_rectangle cells i).x (tile_rectangle cells i).y → IsWindow (around t b) cells (tile_rectangle others i).x (tile_rectangle others i).y

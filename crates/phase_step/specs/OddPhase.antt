@@ -11,7 +11,7 @@ use Rattle.block_rule.specs.TileBlocks.{AreGivenBlocks, walled_by}
 use Rattle.block_rule.specs.declared.blocks.Blocks.{Blocks}
 use Rattle.block_rule.specs.declared.blocks.Beside.{Beside}
 use Rattle.block_rule.specs.declared.in_place.Carry.{Carry}
-use Rattle.phase_step.specs.Parts.{row_in}
+use Rattle.phase_step.specs.Parts.{AreMadeTo}
 use Rattle.phase_step.specs.declared.parts.Part.{Part}
 use Rattle.phase_step.specs.declared.odd_phase.RowPlace.{RowPlace}
 use Rattle.phase_step.specs.declared.odd_phase.RowTurner.{RowTurner}
@@ -119,9 +119,6 @@ pub record IsSeamRowTurned (place : RowPlace) (next old now : Cells) : Type 0 wh
 abbrev pub begins_in : Cells → ℕ → ℕ
 begins_in cells y = (y + cells.height - 1) % cells.height / 64
 
--- The blocks that begin in a part's rows of tiles before this one have turned: their rows of cells are the next lattice's, all others are
--- as before.
-pub record AreTurnedTo (rows : ℕ) (part : Part) (next old now : Cells) : Type 0 where
-  pub sides : HasSidesOf now old
-  pub made : (x y : ℕ) → x < old.width → part.margin * 63 ≤ y → y + part.margin * 63 < old.height → begins_in old y < rows → has now x y ≡ has next x (row_in part y)
-  pub rest : (x y : ℕ) → x < old.width → y < old.height → rows ≤ begins_in old y → has now x y ≡ has old x y
+-- the blocks that begin in a part's rows of tiles before this one have turned
+abbrev pub AreTurnedTo : ℕ → Part → Cells → Cells → Cells → Type 0
+AreTurnedTo rows part next old now = AreMadeTo (λ x y. begins_in old y) rows 63 part next old now

@@ -1,7 +1,5 @@
 -- Parts of a lattice: some of its rows of tiles, one after another round its torus. A strip is one, and so is the whole lattice.
 use Rattle.std.specs.Prelude.{◌≡◌, ℕ, ◌+◌, ◌-◌, ◌*◌, ◌/◌, ◌%◌, ◌<◌, ◌≤◌, true, pos}
-use Rattle.bit_tile.specs.Tile as tile
-use Rattle.bit_tile.specs.declared.Tile.{Tile}
 use Rattle.gas_terms.specs.Cells.{Cells, HasSidesOf, has, joined, extent, is_size, tile_count, IsFull}
 use Rattle.gas_terms.specs.Gas.{streamed}
 use Rattle.gas_terms.specs.declared.accounts.Took.{Took}
@@ -22,9 +20,9 @@ start_of part = part.first + part.down - part.margin
 abbrev pub row_in : Part → ℕ → ℕ
 row_in part y = (start_of part * 64 + y) % (part.down * 64)
 
--- the tile of the lattice that the part's tile i is, where a row has so many tiles
+-- the tile of the lattice that its own tile i is, where a row has so many tiles
 abbrev pub tile_in : Part → ℕ → ℕ → ℕ
-tile_in part across i = (start_of part + i / across) % part.down * across + i % across
+tile_in part across i = part.first * across + (i - part.margin * across)
 
 -- how many rows of tiles are its own
 abbrev pub own_rows : Part → Cells → ℕ
@@ -50,13 +48,6 @@ pub record IsOwn (part : Part) (cells : Cells) (i : ℕ) : Type 0 where
   pub within : i < tile_count cells
   pub low : part.margin * (cells.width / 64) ≤ i
   pub high : i < part.margin * (cells.width / 64) + own_rows part cells * (cells.width / 64)
-
--- the tile has the lattice's cells, from where tile i of a part of this size stands
-abbrev pub IsTileOf : Part → Cells → Cells → ℕ → Tile → Type 0
-IsTileOf part cells lattice i t =
-    let left = i % (cells.width / 64) * 64 in
-    let top = i / (cells.width / 64) * 64 in
-    (x y : ℕ) → x < 64 → y < 64 → tile.has t x y ≡ has lattice (left + x) (row_in part (top + y))
 
 -- what n phases come to in the part's own tiles
 abbrev pub own_flow : Part → Dynamics → Cells → Cells → ℕ → Flow
@@ -121,14 +112,10 @@ pub record HasRunPart (part : Part) (counted : Counted) (d : Dynamics) (n : ℕ)
       → HasRun part counted d n old lattice new answer
   pub sides : HasSidesOf new old
 
--- The part's own tiles below i have the cells of this lattice.
-pub record AreMadeUpTo (i : ℕ) (part : Part) (cells lattice now : Cells) : Type 0 where
-  pub tile : (j : ℕ) → IsOwn part cells j → j < i → (x y : ℕ) → x < 64 → y < 64 →
-      let left = j % (cells.width / 64) * 64 in let top = j / (cells.width / 64) * 64 in
-      has now (left + x) (top + y) ≡ has lattice (left + x) (row_in part (top + y))
-
--- and the others are as before
-pub record AreKeptFrom (i : ℕ) (before now : Cells) : Type 0 where
-  pub tile : (j : ℕ) → i ≤ j → j < tile_count before → (x y : ℕ) → x < 64 → y < 64 →
-      let left = j % (before.width / 64) * 64 in let top = j / (before.width / 64) * 64 in
-      has now (left + x) (top + y) ≡ has before (left + x) (top + y)
+-- Of a part's cells in some order, those before place n are the next lattice's, but for k rows at
+-- either end if it has margins. All from n on are as before.
+pub record AreMadeTo (order : ℕ → ℕ → ℕ) (n k : ℕ) (part : Part) (next old now : Cells) : Type 0 where
+  pub sides : HasSidesOf now old
+  pub made : (x y : ℕ) → x < old.width → part.margin * k ≤ y → y + part.margin * k < old.height
+      → order x y < n → has now x y ≡ has next x (row_in part y)
+  pub rest : (x y : ℕ) → x < old.width → y < old.height → n ≤ order x y → has now x y ≡ has old x y

@@ -10,4 +10,4 @@ pub use ground::Ground;
 pub use solid::Solid;
 pub use solids::{Solids, TileSolids};
 pub use sweep::turn_each;
-pub use tiles::turn_tile_at;
+pub use tiles::{count_tile, turn_even_tile, turn_tile_at};

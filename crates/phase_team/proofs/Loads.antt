@@ -7,7 +7,7 @@ use Rattle.gas_terms.specs.Cells.{Cells, HasSidesOf, extent, has}
 use Rattle.gas_plane.specs.Planes.{IsLattice}
 use Rattle.gas_plane.proofs.Places.{high}
 use Rattle.phase_step.specs.Parts.{HasRows}
-use Rattle.phase_step.proofs.RowPlaces.{row_turns}
+use Rattle.phase_step.proofs.OwnTiles.{row_turns}
 use Rattle.phase_team.specs.Strips.{place_of, IsInside, AreCopied, AreKept, ArePut, HasTileRow}
 use Rattle.phase_team.specs.declared.runs.strip.OwnRows.{OwnRows}
 

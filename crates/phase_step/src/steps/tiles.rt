@@ -1,17 +1,70 @@
-//! The step of one tile of a plane.
+//! The step of one tile of a lattice.
 
-ghost use Rattle.std.specs.Prelude.{◌≡◌, ◌/◌, ◌<◌, pos};
-ghost use Rattle.gas_terms.specs.Cells.{tile_count, tile_rectangle, HasSidesOf};
-ghost use Rattle.gas_plane.specs.Planes.{IsLattice, IsPosition};
+ghost use Rattle.std.specs.Prelude.{◌≡◌, ℕ, ◌/◌, ◌<◌, pos};
+ghost use Rattle.gas_terms.specs.Cells.{Cells, tile_count, tile_rectangle, HasSidesOf};
+ghost use Rattle.gas_plane.specs.Planes.{IsLattice, IsPosition, IsTileFrom};
+ghost use Rattle.gas_plane.specs.Tiles.{AreFullRows, IsColumnOf};
+ghost use Rattle.block_rule.specs.Accounts.{counted_of};
 ghost use Rattle.block_rule.specs.Windows.{taken_in};
+ghost use Rattle.phase_step.specs.SolidBlocks.{AreTileSolids};
 ghost use Rattle.phase_step.specs.Turns.{IsTileAfter};
 
-use crate::parts::{count_in_part, turn_even_in_part, turn_odd_in_part};
 use crate::steps::solid::window_in;
 use crate::steps::solids::TileSolids;
-use block_rule::{Counted, SetBlocks, tile_blocks};
-use gas_plane::{Plane, Position, Tile};
+use block_rule::{
+    Counted, SetBlocks, Window, taken_among, tile_blocks, turn_tile_even, turn_tile_odd,
+};
+use gas_plane::{Plane, Position, Tile, TileRows};
 use gas_terms::Took;
+
+/// Turns tile i of a lattice at even parity, in place, among its walled blocks.
+#[inline(always)]
+pub fn turn_even_tile(tile_solids: TileSolids<'_>, tile: &mut Tile)
+    ensures { (lattice walls obstacles : Cells) (i : ℕ) → IsLattice lattice →
+        i < tile_count lattice → HasSidesOf walls lattice → HasSidesOf obstacles lattice →
+        AreTileSolids walls obstacles i tile_solids.entry →
+        IsTileFrom tile.old lattice (tile_rectangle lattice i).x (tile_rectangle lattice i).y →
+        IsTileAfter 0 lattice walls obstacles i tile.new }
+{
+    turn_tile_even(tile, tile_solids.walls, tile_solids.obstacles);
+}
+
+// Puts tile i into `out` as it is after a phase of parity 1, from the tiles round it.
+fn turn_odd_tile(rows: TileRows<'_>, column: u32, tile_solids: TileSolids<'_>, out: &mut Tile)
+    requires full { AreFullRows rows }
+    requires column { column < rows.across }
+    ensures { (lattice walls obstacles : Cells) (i : ℕ) →
+        IsColumnOf rows.entry column lattice i →
+        HasSidesOf walls lattice → HasSidesOf obstacles lattice →
+        AreTileSolids walls obstacles i tile_solids.entry →
+        IsTileAfter 1 lattice walls obstacles i out.new }
+{
+    let particles = Window {
+        tile: rows.tile(column),
+        round: rows.round(column),
+    };
+    turn_tile_odd(&particles, tile_solids.walls, tile_solids.obstacles, out);
+}
+
+/// What is taken of the particles of tile i of a lattice in a phase of this parity, in the accounts that are kept.
+#[inline(always)]
+pub fn count_tile(tile: &Tile, tile_solids: TileSolids<'_>, parity: u8, counted: Counted) -> Took
+    requires { parity < 2 }
+    ensures { (lattice walls obstacles : Cells) (i : ℕ) → IsLattice lattice →
+        i < tile_count lattice → HasSidesOf walls lattice → HasSidesOf obstacles lattice →
+        AreTileSolids walls obstacles i tile_solids.entry →
+        IsTileFrom tile.now lattice (tile_rectangle lattice i).x (tile_rectangle lattice i).y →
+        result ≡ counted_of counted
+        (taken_in (pos parity) lattice walls obstacles (tile_rectangle lattice i)) }
+{
+    taken_among(
+        tile,
+        tile_solids.walls,
+        tile_solids.obstacles,
+        parity,
+        counted,
+    )
+}
 
 /// Puts the tile at this position into `out` as it is after the phase, and returns what walls and obstacles take of its
 /// particles. Each plane is a lattice, as its size tells.
@@ -48,13 +101,13 @@ pub fn turn_tile_at(
         obstacles: of_obstacles,
     };
     let tile = old.tile(at.tile);
-    let took = count_in_part(tile, tile_solids, parity, Counted::BOTH);
+    let took = count_tile(tile, tile_solids, parity, Counted::BOTH);
     if parity == 0 {
         *out = *tile;
-        turn_even_in_part(tile_solids, out);
+        turn_even_tile(tile_solids, out);
     } else {
         let rows = old.rows_round(at.row);
-        turn_odd_in_part(rows, at.column, tile_solids, out);
+        turn_odd_tile(rows, at.column, tile_solids, out);
     }
     took
 }

@@ -6,23 +6,21 @@ use Rattle.gas_plane.proofs.Places.{wide}
 use Rattle.gas_plane.proofs.Rings.{row_in}
 use Rattle.block_rule.specs.Windows.{taken_in}
 use Rattle.block_rule.specs.TileBlocks.{NamesBlocks}
-use Rattle.phase_step.specs.Parts.{whole_part}
 use Rattle.phase_step.specs.SolidBlocks.{is_walled_in}
 use Rattle.phase_step.specs.Turns.{IsTileAfter}
-use Rattle.phase_step.proofs.RowRuns.{whole_turns, whole_takes}
 use Rattle.phase_step.proofs.SolidBlocks.{named_on}
 use Rattle.phase_step.proofs.steps.tiles.turn_tile_at.Goals as goal
-use Rattle.phase_step.proofs.steps.tiles.turn_tile_at.Goals.{After-count_in_part-took}
+use Rattle.phase_step.proofs.steps.tiles.turn_tile_at.Goals.{After-count_tile-took}
 
 pub rows_round-rows-requires : goal.rows_round-rows-requires
 rows_round-rows-requires c = let row = row_in c.args.old.now c.args.at.tile c.requires.lattice c.requires.tile in let e = c.requires.position.row in omega (arith, row, e)
 
-pub turn_odd_in_part-requires-clause-column : goal.turn_odd_in_part-requires-clause-column
-turn_odd_in_part-requires-clause-column c =
+pub turn_odd_tile-requires-clause-column : goal.turn_odd_tile-requires-clause-column
+turn_odd_tile-requires-clause-column c =
     let less = mod-lt c.args.at.tile (wide (extent c.args.old.now) c.requires.lattice.sized).some in
     omega (arith, less, c.requires.position.column, c.rows_round-rows.ensures.rows.across)
 
-module _ (c : After-count_in_part-took) where
+module _ (c : After-count_tile-took) where
   abbrev old : Cells
   old = c.args.old.now
 
@@ -38,26 +36,24 @@ module _ (c : After-count_in_part-took) where
   of_obstacles : NamesBlocks c.tile_blocks-rows-2.result.0 c.tile_blocks-rows-2.result.1 (is_walled_in o c.args.at.tile)
   of_obstacles = named_on o old c.args.at.tile c.tile_blocks-rows-2.result.0 c.tile_blocks-rows-2.result.1 c.window_in-2.result c.requires.obstacles c.requires.lattice.sized c.requires.tile c.window_in-2.ensures c.tile_blocks-rows-2.ensures
 
-  took : c.count_in_part-took.result ≡ taken_in (pos c.args.parity) old w o (tile_rectangle old c.args.at.tile)
+  took : c.count_tile-took.result ≡ taken_in (pos c.args.parity) old w o (tile_rectangle old c.args.at.tile)
   took =
-      whole_takes c.args.parity old w o c.args.at.tile _ c.count_in_part-took.result c.requires.lattice c.requires.tile c.requires.walls c.requires.obstacles (record { of_walls = of_walls; of_obstacles = of_obstacles })
-      (λ own is tile_solids. c.count_in_part-took.ensures (whole_part old) w o old old c.args.at.tile c.requires.lattice own is tile_solids c.tile-tile.ensures)
+      c.count_tile-took.ensures old w o c.args.at.tile c.requires.lattice c.requires.tile c.requires.walls c.requires.obstacles (record { of_walls = of_walls; of_obstacles = of_obstacles }) c.tile-tile.ensures
 
 pub returns-then-parity-eq0 : goal.returns-then-parity-eq0
 returns-then-parity-eq0 c =
-    let b = (goal.at.returns-then-parity-eq0 c).After-count_in_part-took in
+    let b = (goal.at.returns-then-parity-eq0 c).After-count_tile-took in
     let i = c.args.at.tile in
     record {
       cells =
-          subst (λ p. IsTileAfter p (old b) (w b) (o b) i c.turn_even_in_part.new.tile) (sym c.if-parity-eq0.true)
-          (whole_turns 0 (old b) (w b) (o b) i _ c.turn_even_in_part.new.tile c.requires.lattice c.requires.tile c.requires.walls c.requires.obstacles (record { of_walls = of_walls b; of_obstacles = of_obstacles b })
-          (λ own is tile_solids. c.turn_even_in_part.ensures (whole_part (old b)) (w b) (o b) (old b) (old b) i c.requires.lattice own is tile_solids c.tile-tile.ensures));
+          subst (λ p. IsTileAfter p (old b) (w b) (o b) i c.turn_even_tile.new.tile) (sym c.if-parity-eq0.true)
+          (c.turn_even_tile.ensures (old b) (w b) (o b) i c.requires.lattice c.requires.tile c.requires.walls c.requires.obstacles (record { of_walls = of_walls b; of_obstacles = of_obstacles b }) c.tile-tile.ensures);
       took = took b;
     }
 
 pub returns-else-parity-eq0 : goal.returns-else-parity-eq0
 returns-else-parity-eq0 c =
-    let b = (goal.at.returns-else-parity-eq0 c).After-count_in_part-took in
+    let b = (goal.at.returns-else-parity-eq0 c).After-count_tile-took in
     let i = c.args.at.tile in
     let column : IsColumnOf c.rows_round-rows.result c.args.at.column (old b) i =
     record {
@@ -69,8 +65,7 @@ returns-else-parity-eq0 c =
     let e : 1 ≡ c.args.parity = omega arith in
     record {
       cells =
-          subst (λ p. IsTileAfter p (old b) (w b) (o b) i c.turn_odd_in_part.new.out) e
-          (whole_turns 1 (old b) (w b) (o b) i _ c.turn_odd_in_part.new.out c.requires.lattice c.requires.tile c.requires.walls c.requires.obstacles (record { of_walls = of_walls b; of_obstacles = of_obstacles b })
-          (λ own is tile_solids. c.turn_odd_in_part.ensures (whole_part (old b)) (w b) (o b) (old b) (old b) i column own is tile_solids));
+          subst (λ p. IsTileAfter p (old b) (w b) (o b) i c.turn_odd_tile.new.out) e
+          (c.turn_odd_tile.ensures (old b) (w b) (o b) i column c.requires.walls c.requires.obstacles (record { of_walls = of_walls b; of_obstacles = of_obstacles b }));
       took = took b;
     }

@@ -1,0 +1,18 @@
+use Rattle.std.proofs.Common.{◌≡◌, ◌-◌, ◌*◌, ◌/◌, ◌≤◌, pos}
+use Rattle.gas_terms.specs.Cells.{Cells, HasSidesOf}
+use Rattle.gas_plane.specs.Planes.{tile_of}
+use Rattle.phase_step.specs.Actions.{acted}
+use Rattle.phase_step.specs.Exchanges.{leaves_of}
+use Rattle.phase_step.specs.Parts.{IsPartOf, AreMadeTo}
+use Rattle.phase_step.specs.TileRuns.{tiles_move}
+use Rattle.phase_step.proofs.parts.acting.act_on_part.Given as goal
+
+abbrev pub invariant-loop-i : goal.invariant-loop-i
+invariant-loop-i l =
+    let old = l.initial.particles in
+    record {
+      from : l.initial.i ≤ l.i;
+      sides : HasSidesOf l.particles old;
+      made : (walls obstacles lattice : Cells) → IsPartOf l.fn.part walls obstacles old lattice 64 → AreMadeTo (tile_of old) l.i 64 l.fn.part (acted (leaves_of l.exchange) lattice) old l.particles;
+      moved : (walls obstacles lattice : Cells) → IsPartOf l.fn.part walls obstacles old lattice 64 → l.moved ≡ tiles_move (pos l.parity) lattice (acted (leaves_of l.exchange) lattice) (l.fn.part.first * (lattice.width / 64)) (l.i - l.initial.i);
+    }

@@ -1,0 +1,95 @@
+use Rattle.std.proofs.Common.{◌≡◌, ◌-◌, ◌*◌, ◌/◌, ◌∙◌, Bool, true, false, not, ◌&&◌, ◌||◌, ap, subst, pos, arith}
+use Rattle.gas_terms.specs.Cells.{Cells, tile_rectangle}
+use Rattle.block_rule.specs.Accounts.{counted_of}
+use Rattle.block_rule.specs.Windows.{taken_in}
+use Rattle.phase_step.specs.Parts.{own_rows, tile_in, IsOwn, IsPartOf}
+use Rattle.phase_step.specs.Runs.{tiles_take}
+use Rattle.phase_step.specs.SolidBlocks.{AreTileSolids}
+use Rattle.phase_step.proofs.RunTakes.{counted_none}
+use Rattle.phase_step.proofs.Untaken.{own_untaken}
+use Rattle.phase_step.proofs.OwnTiles.{lattice_is, own_adds, own_cells, own_more, there_below, there_is, within_there}
+use Rattle.phase_step.proofs.parts.counting.count_part.Goals as goal
+use Rattle.phase_step.proofs.parts.counting.count_part.Goals.{After-count_tile-here}
+
+pub own_tiles-own-requires : goal.own_tiles-own-requires
+own_tiles-own-requires c = let s = c.args.ground.solids.now in record { walls = s.walls; obstacles = s.obstacles; ready = c.requires.ready }
+
+pub loop-i-init : goal.loop-i-init
+loop-i-init c =
+    let first = c.own_tiles-own.result.first in
+    let s = c.args.ground.solids.now in
+    record {
+      from = omega arith;
+      took = λ lattice is. let e : 0 ≡ first - first = omega arith in counted_none c.args.counted ∙ ap (λ n. counted_of c.args.counted (tiles_take c.args.parity lattice s.walls s.obstacles (c.args.part.first * (lattice.width / 64)) n)) e;
+    }
+
+pub in_tile-tile_solids-requires-clause-walls : goal.in_tile-tile_solids-requires-clause-walls
+in_tile-tile_solids-requires-clause-walls c =
+    let h = c.requires.ready in
+    let t = c.own_tiles-own in
+    there_below h.lattice c.args.ground.solids.now.walls t.result.first t.result.end t.result.there c.loop-i.i h.is.of_walls (t.ensures.inside h.lattice h.is.sized h.is.placed) c.loop-i.invariant.from c.loop-i-test.true
+
+pub in_tile-tile_solids-requires-clause-obstacles : goal.in_tile-tile_solids-requires-clause-obstacles
+in_tile-tile_solids-requires-clause-obstacles c =
+    let h = c.requires.ready in
+    let t = c.own_tiles-own in
+    there_below h.lattice c.args.ground.solids.now.obstacles t.result.first t.result.end t.result.there c.loop-i.i h.is.of_obstacles (t.ensures.inside h.lattice h.is.sized h.is.placed) c.loop-i.invariant.from c.loop-i-test.true
+
+own : (c : After-count_tile-here) → IsOwn c.args.part c.args.particles.now c.loop-i.i
+own c = c.own_tiles-own.ensures.own c.loop-i.i c.loop-i.invariant.from c.loop-i-test.true
+
+-- what is taken in the lattice's tile
+takes : (c : After-count_tile-here) (lattice : Cells) → IsPartOf c.args.part c.args.ground.solids.now.walls c.args.ground.solids.now.obstacles c.args.particles.now lattice 64
+    → c.count_tile-here.result ≡ counted_of c.args.counted (taken_in (pos c.args.parity) lattice c.args.ground.solids.now.walls c.args.ground.solids.now.obstacles (tile_rectangle lattice (tile_in c.args.part (lattice.width / 64) c.loop-i.i)))
+takes c lattice is =
+    let s = c.args.ground.solids.now in
+    let part = c.args.part in
+    let cells = c.args.particles.now in
+    let i = c.loop-i.i in
+    let t = c.own_tiles-own in
+    let sized = t.ensures.lattice.sized in
+    let there = there_is part cells lattice i t.result.first t.result.there is.placed t.ensures.first t.ensures.there in
+    c.count_tile-here.ensures lattice s.walls s.obstacles (tile_in part (lattice.width / 64) i) (lattice_is part s.walls s.obstacles cells lattice 64 is) (within_there part cells lattice i sized is.placed (own c)) is.of_walls is.of_obstacles
+    (subst (λ j. AreTileSolids s.walls s.obstacles j c.in_tile-tile_solids.result) there c.in_tile-tile_solids.ensures)
+    (own_cells part s.walls s.obstacles cells lattice i c.tile.result.now sized is (own c) c.tile.ensures)
+
+pub plus-took-requires : goal.plus-took-requires
+plus-took-requires c =
+    let s = c.args.ground.solids.now in
+    let h = c.requires.ready in
+    let t = c.own_tiles-own in
+    let after = (goal.at.plus-took-requires c).After-count_tile-here in
+    let fits = own_adds c.args.parity c.args.part c.args.particles.now h.lattice s.walls s.obstacles c.args.counted c.loop-i.i 64 t.result.first c.loop-i.took c.count_tile-here.result t.ensures.lattice (own after) h.is t.ensures.first
+    (c.loop-i.invariant.took h.lattice h.is) (takes after h.lattice h.is) in
+    record { walls = fits.0; obstacles = fits.1 }
+
+pub loop-i-preserved : goal.loop-i-preserved
+loop-i-preserved c =
+    let w = c.args.ground.solids.now.walls in
+    let o = c.args.ground.solids.now.obstacles in
+    let t = c.own_tiles-own in
+    let after = (goal.at.loop-i-preserved c).After-count_tile-here in
+    record {
+      from = let l = c.loop-i.invariant.from in omega (arith, l);
+      took = λ lattice is.
+          c.plus-took.ensures
+          ∙ own_more c.args.parity c.args.part c.args.particles.now lattice w o c.args.counted c.loop-i.i 64 t.result.first c.loop-i.took c.count_tile-here.result t.ensures.lattice (own after) is t.ensures.first (c.loop-i.invariant.took lattice is) (takes after lattice is);
+    }
+
+-- no set that is counted has a block
+uncounted : (a b c d : Bool) → ((a && not b) || (c && not d)) ≡ false → (a ≡ true → b ≡ true) × (c ≡ true → d ≡ true)
+uncounted a b c d none = grind arith
+
+pub returns-then-not-of_walls-of_obstacles : goal.returns-then-not-of_walls-of_obstacles
+returns-then-not-of_walls-of_obstacles c = λ lattice is.
+    let s = c.args.ground.solids.now in
+    let none = uncounted c.args.counted.walls c.args.ground.no_walls c.args.counted.obstacles c.args.ground.no_obstacles c.if-not-of_walls-of_obstacles.true in
+    own_untaken c.args.parity c.args.part c.args.particles.now lattice s.walls s.obstacles c.args.counted 64 c.requires.parity is (λ e. c.args.ground.walls (none.0 e)) (λ e. c.args.ground.obstacles (none.1 e))
+
+pub returns : goal.returns
+returns c = λ lattice is.
+    let s = c.args.ground.solids.now in
+    let t = c.own_tiles-own in
+    let n : c.loop-i.i - t.result.first ≡ t.result.end - t.result.first = omega (arith, c.loop-i-test.false, c.loop-i.auto.i-end) in
+    c.loop-i.invariant.took lattice is
+    ∙ ap (λ n. counted_of c.args.counted (tiles_take c.args.parity lattice s.walls s.obstacles (c.args.part.first * (lattice.width / 64)) n)) (n ∙ (t.ensures.count ∙ ap (λ w. own_rows c.args.part c.args.particles.now * (w / 64)) is.placed.wide))

@@ -1,0 +1,32 @@
+use Rattle.std.proofs.Common.{◌*◌, ◌-◌, ◌/◌, ◌≤◌, sym, subst, arith}
+use Rattle.phase_step.specs.Parts.{HasRun}
+use Rattle.phase_step.specs.WholeRuns.{dynamics}
+use Rattle.phase_step.specs.declared.parts.Part.{Part}
+use Rattle.phase_step.proofs.RowRuns.{whole_held, whole_same, whole_flow}
+use Rattle.phase_step.proofs.parts.running.run_whole.Goals as goal
+
+pub run_part-flow-requires : goal.run_part-flow-requires
+run_part-flow-requires g c =
+    let s = c.args.run.solids.now in
+    record {
+      parity = c.requires.parity;
+      ready = record { lattice = c.args.particles.now; is = whole_held c.whole-part.result s.walls s.obstacles c.args.particles.now (64 - c.args.run.parity) c.whole-part.ensures.lattice c.whole-part.ensures.part c.requires.walls c.requires.obstacles };
+      few = subst (λ (part : Part). part.margin * c.args.run.n ≤ 1) (sym c.whole-part.ensures.part) (omega arith);
+    }
+
+pub returns : goal.returns
+returns g c =
+    let run = c.args.run in
+    let s = run.solids.now in
+    let d = dynamics run.parity s (g.A.Action.leaves run.action.now) in
+    let cells = c.args.particles.now in
+    let down = cells.height / 64 in
+    let lattice = c.whole-part.ensures.lattice in
+    let new = c.run_part-flow.new.particles in
+    let whole = whole_held c.whole-part.result s.walls s.obstacles cells (64 - run.parity) lattice c.whole-part.ensures.part c.requires.walls c.requires.obstacles in
+    let made : HasRun (record { first = 0; down = down; margin = 0 }) c.args.counted d run.n cells cells new c.run_part-flow.result =
+    subst (λ (part : Part). HasRun part c.args.counted d run.n cells cells new c.run_part-flow.result) c.whole-part.ensures.part (c.run_part-flow.ensures.run cells whole) in
+    record {
+      particles = whole_same down 64 s.walls s.obstacles new _ c.shows_lattice.ensures.full made.is;
+      flow = whole_flow down run.n c.args.counted d cells new c.run_part-flow.result lattice.sized made;
+    }
