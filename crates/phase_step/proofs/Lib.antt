@@ -22,8 +22,11 @@ pub mod OwnPhases
 pub mod RowRuns
 pub mod MadeCells
 pub mod OwnTiles
+pub mod EvenRows
 pub mod OddParts
+pub mod TwoPhases
 pub mod PartActs
+pub mod StillRuns
 pub mod RowTiles
 pub mod RowWindows
 pub mod InnerRows

@@ -1,5 +1,5 @@
 -- The phase of parity 1 of a part, row of tiles by row.
-use Rattle.std.proofs.Common.{◌≡◌, ◌⊎◌, ℕ, ◌+◌, ◌-◌, ◌*◌, ◌/◌, ◌%◌, ◌<◌, ◌≤◌, true, sym, ap, ◌∙◌, subst, arith, inl, inr}
+use Rattle.std.proofs.Common.{◌≡◌, ◌⊎◌, ℕ, ◌+◌, ◌-◌, ◌*◌, ◌/◌, ◌%◌, ◌<◌, ◌≤◌, true, refl, sym, ap, ◌∙◌, subst, arith, inl, inr}
 use Rattle.std.proofs.Math.Nat.{mod-lt, mod-eq_of_lt, mod-add-mod, add-mod_right}
 use Rattle.std.proofs.lemmas.Nat.{mod-mul-add}
 use Rattle.std.proofs.lemmas.Bool.{cases_eq}
@@ -14,7 +14,7 @@ use Rattle.phase_step.proofs.OwnTiles.{down_some, row_turns}
 use Rattle.phase_step.proofs.MadeCells.{all_turned, made_next}
 
 -- the row of cells above one, round a torus of h
-above : (h y : ℕ) → 0 < h → y < h → ((1 ≤ y) × ((y + h - 1) % h ≡ y - 1)) ⊎ ((y ≡ 0) × ((y + h - 1) % h ≡ h - 1))
+pub above : (h y : ℕ) → 0 < h → y < h → ((1 ≤ y) × ((y + h - 1) % h ≡ y - 1)) ⊎ ((y ≡ 0) × ((y + h - 1) % h ≡ h - 1))
 above h y some within =
     elim (cases_eq y 0) [
       | inl e ↦ inr (e, ap (λ n. n % h) (let z : y + h - 1 ≡ h - 1 = omega (arith, e) in z) ∙ mod-eq_of_lt (let z : h - 1 < h = omega (arith, some) in z))
@@ -22,7 +22,7 @@ above h y some within =
     ]
 
 -- the row of tiles below one, round a circle of n
-below_is : (n row : ℕ) → row < n → ((row + 1 < n) × ((row + 1) % n ≡ row + 1)) ⊎ ((row + 1 ≡ n) × ((row + 1) % n ≡ 0))
+pub below_is : (n row : ℕ) → row < n → ((row + 1 < n) × ((row + 1) % n ≡ row + 1)) ⊎ ((row + 1 ≡ n) × ((row + 1) % n ≡ 0))
 below_is n row low =
     elim (cases_eq (row + 1) n) [
       | inl e ↦ inr (e, ap (λ m. m % n) (let z : row + 1 ≡ 1 * n + 0 = omega (arith, e) in z) ∙ mod-mul-add 1 n 0 (omega (arith, low)))
@@ -37,17 +37,17 @@ module _ (cells : Cells) (sized : is_size (extent cells) ≡ true) where
   some = let t = down.tiles in let s = down.some in omega (arith, t, s)
 
   -- the blocks of these rows of cells begin in this row of tiles
-  inner_begins : (row y : ℕ) → row < cells.height / 64 → 1 ≤ y → y < 64 → begins_in cells (row * 64 + y) ≡ row
+  pub inner_begins : (row y : ℕ) → row < cells.height / 64 → 1 ≤ y → y < 64 → begins_in cells (row * 64 + y) ≡ row
   inner_begins row y low k l =
       elim (above cells.height (row * 64 + y) some (cell_below cells.height row y down low l)) [
         | inl a ↦ let e = a.1 in omega (arith, e, k, l)
         | inr a ↦ let e = a.0 in absurd (omega (arith, e, k))
       ]
 
-  top_in : (row : ℕ) → row < cells.height / 64 → row * 64 < cells.height
+  pub top_in : (row : ℕ) → row < cells.height / 64 → row * 64 < cells.height
   top_in row low = let t = down.tiles in omega (arith, t, low)
 
-  seam_begins : (row : ℕ) → row < cells.height / 64 → begins_in cells ((row + 1) % (cells.height / 64) * 64) ≡ row
+  pub seam_begins : (row : ℕ) → row < cells.height / 64 → begins_in cells ((row + 1) % (cells.height / 64) * 64) ≡ row
   seam_begins row low =
       let t = down.tiles in
       elim (below_is (cells.height / 64) row low) [
@@ -67,8 +67,22 @@ module _ (cells : Cells) (sized : is_size (extent cells) ≡ true) where
             ]
       ]
 
+  pub inner_at : (place : RowPlace) (y : ℕ) → place.row < cells.height / 64 → IsInnerOf place y → begins_in cells y ≡ place.row
+  inner_at place y low at =
+      let e = at.0 in
+      let g = at.1.1 in
+      let same : place.row * 64 + y % 64 ≡ y = omega (arith, e) in
+      subst (λ n. begins_in cells n ≡ place.row) same (inner_begins place.row (y % 64) low at.1.0 (omega (arith, g)))
+
+  pub seam_at : (place : RowPlace) (y : ℕ) → place.row < cells.height / 64 → place.below ≡ (place.row + 1) % (cells.height / 64) → IsSeamOf place y → begins_in cells y ≡ place.row
+  seam_at place y low below at =
+      elim at [
+        | inl e ↦ subst (λ n. begins_in cells n ≡ place.row) (sym e) (inner_begins place.row 63 low (omega arith) (omega arith))
+        | inr e ↦ subst (λ n. begins_in cells n ≡ place.row) (sym (e ∙ ap (λ n. n * 64) below)) (seam_begins place.row low)
+      ]
+
   -- and these rows alone
-  begins_cases : (row y : ℕ) → row < cells.height / 64 → y < cells.height → begins_in cells y ≡ row → ((y / 64 ≡ row) × (1 ≤ y % 64)) ⊎ (y ≡ (row + 1) % (cells.height / 64) * 64)
+  pub begins_cases : (row y : ℕ) → row < cells.height / 64 → y < cells.height → begins_in cells y ≡ row → ((y / 64 ≡ row) × (1 ≤ y % 64)) ⊎ (y ≡ (row + 1) % (cells.height / 64) * 64)
   begins_cases row y low within is =
       let t = down.tiles in
       elim (above cells.height y some within) [
@@ -108,20 +122,6 @@ module _ (part : Part) (walls obstacles old : Cells) (row : ℕ) (sized : is_siz
 
   pub less : row < old.height / 64
   less = omega (arith, low)
-
-  inner_at : (y : ℕ) → IsInnerOf place y → begins_in old y ≡ row
-  inner_at y at =
-      let e = at.0 in
-      let g = at.1.1 in
-      let same : row * 64 + y % 64 ≡ y = omega (arith, e) in
-      subst (λ n. begins_in old n ≡ row) same (inner_begins old sized row (y % 64) less at.1.0 (omega (arith, g)))
-
-  seam_at : (y : ℕ) → IsSeamOf place y → begins_in old y ≡ row
-  seam_at y at =
-      elim at [
-        | inl e ↦ subst (λ n. begins_in old n ≡ row) (sym e) (inner_begins old sized row 63 less (omega arith) (omega arith))
-        | inr e ↦ subst (λ n. begins_in old n ≡ row) (sym e) (seam_begins old sized row less)
-      ]
 
   module _ (lattice : Cells) (is : IsPartOf part walls obstacles old lattice 63) where
     abbrev next : Cells
@@ -217,7 +217,7 @@ module _ (part : Part) (walls obstacles old : Cells) (row : ℕ) (sized : is_siz
         let mid_old : HasSidesOf mid old = record { wide = sides_mid.wide ∙ sides_now.wide; high = sides_mid.high ∙ sides_now.high } in
         let rest_inner : (x y : ℕ) → x < old.width → y < old.height → (IsInnerOf place y → ⊥) → has mid x y ≡ has now x y = λ x y h k. inner.rest x y (subst (λ w. x < w) (sym sides_now.wide) h) (subst (λ n. y < n) (sym sides_now.high) k) in
         let rest_seam : (x y : ℕ) → x < old.width → y < old.height → (IsSeamOf place y → ⊥) → has new x y ≡ has mid x y = λ x y h k. seam.rest x y (subst (λ w. x < w) (sym mid_old.wide) h) (subst (λ n. y < n) (sym mid_old.high) k) in
-        let kept : (x y : ℕ) → x < old.width → y < old.height → (begins_in old y ≡ row → ⊥) → has new x y ≡ has now x y = λ x y h k other. rest_seam x y h k (λ at. other (seam_at y at)) ∙ rest_inner x y h k (λ at. other (inner_at y at)) in
+        let kept : (x y : ℕ) → x < old.width → y < old.height → (begins_in old y ≡ row → ⊥) → has new x y ≡ has now x y = λ x y h k other. rest_seam x y h k (λ at. other (seam_at old sized place y less refl at)) ∙ rest_inner x y h k (λ at. other (inner_at old sized place y less at)) in
         made_next (λ x y. begins_in old y) row 63 part next old now new so_far (record { wide = sides_new.wide ∙ sides_mid.wide; high = sides_new.high ∙ sides_mid.high }) kept
         (λ x y h from to e.
         let l : x < lattice.width = subst (λ w. x < w) is.placed.wide h in

@@ -15,7 +15,7 @@ use Rattle.block_rule.specs.Windows.{taken_in}
 use Rattle.block_rule.specs.declared.walled.Counted.{Counted}
 use Rattle.phase_step.specs.Runs.{nothing, tiles_take}
 use Rattle.phase_step.specs.Parts.{own_rows, own_take, IsPartOf}
-use Rattle.phase_step.specs.SolidBlocks.{HasNoBlocks}
+use Rattle.phase_step.specs.SolidBlocks.{AreOfNone, HasNoBlocks}
 use Rattle.phase_step.specs.declared.parts.Part.{Part}
 use Rattle.phase_step.proofs.PhaseSweeps.{place_is, tiles_as}
 use Rattle.phase_step.proofs.RunTakes.{counted_none, counted_plus, plus_nothing}
@@ -61,16 +61,11 @@ module _ (p : ℕ) (c w o : Cells) (i : ℕ) (small : p < 2) (sized : is_size (e
   no_obstacles none =
       none_in (takes_for_obstacles w o) (λ x y h k. and_false (is_walled (joined w o) (site x y)) (is_walled o (site x y)) (no_site o of_obstacles none x y h k))
 
--- the accounts that are kept are of sets without blocks
-record AreOfNone (kept : Counted) (w o : Cells) : Type 0 where
-  pub walls : kept.walls ≡ true → HasNoBlocks w
-  pub obstacles : kept.obstacles ≡ true → HasNoBlocks o
-
 if_none : (b : Bool) (p : Pair) → (b ≡ true → p ≡ nothing.walls) → if_counted b p ≡ nothing.walls
 if_none true p h = h refl
 if_none false p h = refl
 
-tiles_untaken : (p : ℕ) (c w o : Cells) (kept : Counted) (first n : ℕ) → p < 2 → is_size (extent c) ≡ true → HasSidesOf w c → HasSidesOf o c → AreOfNone kept w o → first + n ≤ tile_count c → nothing ≡ counted_of kept (tiles_take p c w o first n)
+pub tiles_untaken : (p : ℕ) (c w o : Cells) (kept : Counted) (first n : ℕ) → p < 2 → is_size (extent c) ≡ true → HasSidesOf w c → HasSidesOf o c → AreOfNone kept w o → first + n ≤ tile_count c → nothing ≡ counted_of kept (tiles_take p c w o first n)
 tiles_untaken p c w o kept first zero small sized of_walls of_obstacles none within = counted_none kept
 tiles_untaken p c w o kept first (suc n) small sized of_walls of_obstacles none within =
     let i = first + n in
@@ -84,11 +79,11 @@ tiles_untaken p c w o kept first (suc n) small sized of_walls of_obstacles none 
     ∙ counted_plus kept (tiles_take p c w o first n) (taken_in (pos p) c w o (tile_rectangle c i)))
 
 -- so nothing is taken in a part
-pub own_untaken : (p : ℕ) (part : Part) (cells lattice w o : Cells) (kept : Counted) (k : ℕ) → p < 2 → IsPartOf part w o cells lattice k → (kept.walls ≡ true → HasNoBlocks w) → (kept.obstacles ≡ true → HasNoBlocks o) → nothing ≡ counted_of kept (own_take part p cells lattice w o)
-own_untaken p part cells lattice w o kept k small is no_walls no_obstacles =
+pub own_untaken : (p : ℕ) (part : Part) (cells lattice w o : Cells) (kept : Counted) (k : ℕ) → p < 2 → IsPartOf part w o cells lattice k → AreOfNone kept w o → nothing ≡ counted_of kept (own_take part p cells lattice w o)
+own_untaken p part cells lattice w o kept k small is none =
     let a = lattice.width / 64 in
     let same : a ≤ a = omega arith in
     let rows : (part.first + own_rows part cells) * a ≤ part.down * a = mul-le-mul is.placed.inside same in
     let down : lattice.height / 64 ≡ part.down = let e = is.placed.down in omega (arith, e) in
     let all : a * (lattice.height / 64) ≡ a * part.down = ap (λ n. a * n) down in
-    tiles_untaken p lattice w o kept (part.first * a) (own_rows part cells * a) small is.sized is.of_walls is.of_obstacles (record { walls = no_walls; obstacles = no_obstacles }) (omega (arith, rows, all))
+    tiles_untaken p lattice w o kept (part.first * a) (own_rows part cells * a) small is.sized is.of_walls is.of_obstacles none (omega (arith, rows, all))

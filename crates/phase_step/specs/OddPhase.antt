@@ -70,6 +70,21 @@ pub record IsRowThere (place : RowPlace) (walls obstacles cells lattice : Cells)
 abbrev pub below_there : RowPlace → Cells → ℕ
 below_there place lattice = (place.there + 1) % (lattice.height / 64)
 
+-- It is the lattice's, in the columns up to `to`.
+abbrev pub HasRow : RowPlace → ℕ → Cells → Cells → Type 0
+HasRow place to cells lattice = (x y : ℕ) → x < to → y < 64 → has cells x (place.row * 64 + y) ≡ has lattice x (place.there * 64 + y)
+
+-- So many tiles of the row have turned at even parity: they are the next lattice's, and all other cells are as before.
+pub record AreEvensTurned (place : RowPlace) (column : ℕ) (next old now : Cells) : Type 0 where
+  pub sides : HasSidesOf now old
+  pub made : HasRow place (column * 64) now next
+  pub rest : (x y : ℕ) → x < old.width → y < old.height → (x < column * 64 → y / 64 ≡ place.row → ⊥) → has now x y ≡ has old x y
+
+-- and the whole row
+pub record IsEvenRowTurned (place : RowPlace) (next old now : Cells) : Type 0 where
+  pub made : HasRow place next.width now next
+  pub rest : (x y : ℕ) → x < old.width → y < old.height → (y / 64 ≡ place.row → ⊥) → has now x y ≡ has old x y
+
 -- Its rows of cells 1 to 62 are the lattice's, in the columns up to `to`.
 abbrev pub HasInner : RowPlace → ℕ → Cells → Cells → Type 0
 HasInner place to cells lattice = (x y : ℕ) → x < to → 1 ≤ y → y < 63 → has cells x (place.row * 64 + y) ≡ has lattice x (place.there * 64 + y)
@@ -122,3 +137,11 @@ begins_in cells y = (y + cells.height - 1) % cells.height / 64
 -- the blocks that begin in a part's rows of tiles before this one have turned
 abbrev pub AreTurnedTo : ℕ → Part → Cells → Cells → Cells → Type 0
 AreTurnedTo rows part next old now = AreMadeTo (λ x y. begins_in old y) rows 63 part next old now
+
+-- Two phases of a whole lattice in one sweep: the blocks that begin in the rows of tiles before this one have turned at both parities, all
+-- others up to it at parity 0 alone, and those below not at all.
+pub record AreTurnedTwice (rows : ℕ) (mid next old now : Cells) : Type 0 where
+  pub sides : HasSidesOf now old
+  pub twice : (x y : ℕ) → x < old.width → y < old.height → begins_in old y < rows → has now x y ≡ has next x y
+  pub once : (x y : ℕ) → x < old.width → y < old.height → rows ≤ begins_in old y → y / 64 ≤ rows → has now x y ≡ has mid x y
+  pub rest : (x y : ℕ) → x < old.width → y < old.height → rows < y / 64 → has now x y ≡ has old x y

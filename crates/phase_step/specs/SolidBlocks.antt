@@ -1,10 +1,11 @@
 -- The blocks with a cell of a set, tile by tile.
-use Rattle.std.specs.Prelude.{◌≡◌, ℕ, ◌+◌, ◌-◌, ◌*◌, ◌%◌, ◌<◌, ◌≤◌, ◌⊎◌, ◌&&◌, nat_le, nat_lt, Bool, false, List, [], length, slice_index, slice_index_or}
+use Rattle.std.specs.Prelude.{◌≡◌, ℕ, ◌+◌, ◌-◌, ◌*◌, ◌%◌, ◌<◌, ◌≤◌, ◌⊎◌, ◌&&◌, nat_le, nat_lt, Bool, true, false, List, [], length, slice_index, slice_index_or}
 use Rattle.gas_terms.specs.Cells.{Cells, Rectangle, HasSidesOf, has, is_inside, tile_count, tile_rectangle}
 use Rattle.gas_terms.specs.Gas.{site_of, is_walled}
 use Rattle.block_rule.specs.Shown.{HasNoCell}
 use Rattle.block_rule.specs.TileBlocks.{NamesBlocks, AreGivenBlocks}
 use Rattle.block_rule.specs.declared.blocks_in_tile.TileBlocks.{TileBlocks}
+use Rattle.block_rule.specs.declared.walled.Counted.{Counted}
 use Rattle.phase_step.specs.declared.steps.solids.TileSolids.{TileSolids}
 
 -- the words of tile i
@@ -76,3 +77,8 @@ pub record AreRenewedUpTo (n : ℕ) (before now : Cells) (told : List ℕ) (word
       → NamesBlocks (slice_index told i) (blocks_at words i) (is_walled_in now i)
   pub rest : (i : ℕ) → n ≤ i → i < tile_count now
       → NamesBlocks (slice_index told i) (blocks_at words i) (is_walled_in before i)
+
+-- the accounts that are kept are of sets without blocks
+pub record AreOfNone (kept : Counted) (w o : Cells) : Type 0 where
+  pub walls : kept.walls ≡ true → HasNoBlocks w
+  pub obstacles : kept.obstacles ≡ true → HasNoBlocks o

@@ -9,6 +9,7 @@ ghost use Rattle.phase_step.specs.Parts.{start_of, own_rows, IsOwn, IsOfSome, Is
 mod acting;
 mod counting;
 mod running;
+mod sweeping;
 mod turning;
 
 pub use acting::act_on;

@@ -29,9 +29,7 @@ pub fn count_part(
         result ≡ counted_of counted
         (own_take part parity particles.now lattice s.walls s.obstacles) }
 {
-    let of_walls = counted.walls & !ground.no_walls;
-    let of_obstacles = counted.obstacles & !ground.no_obstacles;
-    if !(of_walls | of_obstacles) {
+    if !ground.is_counted(counted) {
         return Took::ZERO;
     }
     let own = own_tiles(part, particles);

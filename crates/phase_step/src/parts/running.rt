@@ -8,6 +8,7 @@ ghost use Rattle.phase_step.specs.WholeRuns.{dynamics, CanRun, HasRunWhole};
 use crate::exchanges::Action;
 use crate::parts::acting::act_after;
 use crate::parts::counting::count_part;
+use crate::parts::sweeping::turn_on;
 use crate::parts::turning::turn_part;
 use crate::parts::{Part, whole};
 use crate::steps::{Ground, Solids};
@@ -89,6 +90,11 @@ pub fn run_whole<A: Action>(particles: &mut Plane, run: Run<'_, A>, counted: Cou
         particles.old particles.new result }
 {
     let part = whole(particles);
+    let ground = Ground::of(run.solids);
+    if !run.action.acts() && !ground.is_counted(counted) {
+        turn_on(particles, ground, run.parity, run.n);
+        return Flow::ZERO;
+    }
     let flow = run_part(particles, part, run, counted);
     particles.shows_lattice();
     flow

@@ -1,7 +1,7 @@
 //! The step of one tile of a lattice.
 
-ghost use Rattle.std.specs.Prelude.{◌≡◌, ℕ, ◌/◌, ◌<◌, pos};
-ghost use Rattle.gas_terms.specs.Cells.{Cells, tile_count, tile_rectangle, HasSidesOf};
+ghost use Rattle.std.specs.Prelude.{◌≡◌, ℕ, ◌/◌, ◌<◌, true, pos};
+ghost use Rattle.gas_terms.specs.Cells.{Cells, extent, is_size, tile_count, tile_rectangle, HasSidesOf};
 ghost use Rattle.gas_plane.specs.Planes.{IsLattice, IsPosition, IsTileFrom};
 ghost use Rattle.gas_plane.specs.Tiles.{AreFullRows, IsColumnOf};
 ghost use Rattle.block_rule.specs.Accounts.{counted_of};
@@ -20,8 +20,8 @@ use gas_terms::Took;
 /// Turns tile i of a lattice at even parity, in place, among its walled blocks.
 #[inline(always)]
 pub fn turn_even_tile(tile_solids: TileSolids<'_>, tile: &mut Tile)
-    ensures { (lattice walls obstacles : Cells) (i : ℕ) → IsLattice lattice →
-        i < tile_count lattice → HasSidesOf walls lattice → HasSidesOf obstacles lattice →
+    ensures { (lattice walls obstacles : Cells) (i : ℕ) →
+        is_size (extent lattice) ≡ true → i < tile_count lattice → HasSidesOf walls lattice → HasSidesOf obstacles lattice →
         AreTileSolids walls obstacles i tile_solids.entry →
         IsTileFrom tile.old lattice (tile_rectangle lattice i).x (tile_rectangle lattice i).y →
         IsTileAfter 0 lattice walls obstacles i tile.new }

@@ -1,4 +1,4 @@
-use Rattle.std.proofs.Common.{◌≡◌, ◌-◌, ◌*◌, ◌/◌, ◌∙◌, Bool, true, false, not, ◌&&◌, ◌||◌, ap, subst, pos, arith}
+use Rattle.std.proofs.Common.{◌≡◌, ◌-◌, ◌*◌, ◌/◌, ◌∙◌, ap, subst, pos, arith}
 use Rattle.gas_terms.specs.Cells.{Cells, tile_rectangle}
 use Rattle.block_rule.specs.Accounts.{counted_of}
 use Rattle.block_rule.specs.Windows.{taken_in}
@@ -76,15 +76,10 @@ loop-i-preserved c =
           ∙ own_more c.args.parity c.args.part c.args.particles.now lattice w o c.args.counted c.loop-i.i 64 t.result.first c.loop-i.took c.count_tile-here.result t.ensures.lattice (own after) is t.ensures.first (c.loop-i.invariant.took lattice is) (takes after lattice is);
     }
 
--- no set that is counted has a block
-uncounted : (a b c d : Bool) → ((a && not b) || (c && not d)) ≡ false → (a ≡ true → b ≡ true) × (c ≡ true → d ≡ true)
-uncounted a b c d none = grind arith
-
-pub returns-then-not-of_walls-of_obstacles : goal.returns-then-not-of_walls-of_obstacles
-returns-then-not-of_walls-of_obstacles c = λ lattice is.
+pub returns-then-not-is_counted : goal.returns-then-not-is_counted
+returns-then-not-is_counted c = λ lattice is.
     let s = c.args.ground.solids.now in
-    let none = uncounted c.args.counted.walls c.args.ground.no_walls c.args.counted.obstacles c.args.ground.no_obstacles c.if-not-of_walls-of_obstacles.true in
-    own_untaken c.args.parity c.args.part c.args.particles.now lattice s.walls s.obstacles c.args.counted 64 c.requires.parity is (λ e. c.args.ground.walls (none.0 e)) (λ e. c.args.ground.obstacles (none.1 e))
+    own_untaken c.args.parity c.args.part c.args.particles.now lattice s.walls s.obstacles c.args.counted 64 c.requires.parity is (c.is_counted.ensures c.if-not-is_counted.true)
 
 pub returns : goal.returns
 returns c = λ lattice is.

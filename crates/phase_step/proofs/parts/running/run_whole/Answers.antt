@@ -1,8 +1,13 @@
-use Rattle.std.proofs.Common.{◌*◌, ◌-◌, ◌/◌, ◌≤◌, sym, subst, arith}
+use Rattle.std.proofs.Common.{◌≡◌, ◌*◌, ◌-◌, ◌/◌, ◌≤◌, sym, subst, arith}
+use Rattle.gas_terms.specs.Cells.{joined}
 use Rattle.phase_step.specs.Parts.{HasRun}
+use Rattle.phase_step.specs.Runs.{after}
+use Rattle.phase_step.specs.SolidBlocks.{AreOfNone}
+use Rattle.phase_step.specs.declared.steps.solids.Solids.{Solids}
 use Rattle.phase_step.specs.WholeRuns.{dynamics}
 use Rattle.phase_step.specs.declared.parts.Part.{Part}
 use Rattle.phase_step.proofs.RowRuns.{whole_held, whole_same, whole_flow}
+use Rattle.phase_step.proofs.StillRuns.{still_run}
 use Rattle.phase_step.proofs.parts.running.run_whole.Goals as goal
 
 pub run_part-flow-requires : goal.run_part-flow-requires
@@ -13,6 +18,13 @@ run_part-flow-requires g c =
       ready = record { lattice = c.args.particles.now; is = whole_held c.whole-part.result s.walls s.obstacles c.args.particles.now (64 - c.args.run.parity) c.whole-part.ensures.lattice c.whole-part.ensures.part c.requires.walls c.requires.obstacles };
       few = subst (λ (part : Part). part.margin * c.args.run.n ≤ 1) (sym c.whole-part.ensures.part) (omega arith);
     }
+
+pub returns-then-not-is_counted : goal.returns-then-not-is_counted
+returns-then-not-is_counted g c =
+    let run = c.args.run in
+    let s = run.solids.now in
+    still_run run.parity s.walls s.obstacles (g.A.Action.leaves run.action.now) c.args.particles.now c.whole-part.ensures.lattice (λ k. c.acts.ensures c.if-not-acts.true k) c.args.counted run.n c.turn_on.new.particles c.requires.walls c.requires.obstacles (subst (λ (s : Solids). AreOfNone c.args.counted s.walls s.obstacles) c.of-ground.ensures (c.is_counted.ensures c.if-not-is_counted.true))
+    (subst (λ (s : Solids). c.turn_on.new.particles ≡ after run.parity (joined s.walls s.obstacles) c.args.particles.now run.n) c.of-ground.ensures c.turn_on.ensures)
 
 pub returns : goal.returns
 returns g c =

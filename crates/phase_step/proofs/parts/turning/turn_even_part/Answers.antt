@@ -4,7 +4,7 @@ use Rattle.gas_terms.specs.Gas.{streamed}
 use Rattle.gas_plane.specs.Planes.{tile_of}
 use Rattle.phase_step.specs.Parts.{tile_in}
 use Rattle.phase_step.specs.SolidBlocks.{AreTileSolids}
-use Rattle.phase_step.proofs.OwnTiles.{lattice_is, own_cells, there_below, there_is, within_there}
+use Rattle.phase_step.proofs.OwnTiles.{own_cells, there_below, there_is, within_there}
 use Rattle.phase_step.proofs.MadeCells.{all_turned, none_before, none_made, own_before, tile_before, tile_made}
 use Rattle.phase_step.proofs.parts.turning.turn_even_part.Goals as goal
 
@@ -52,7 +52,7 @@ loop-i-preserved c =
           let so_far = c.loop-i.invariant.made lattice is in
           let there = there_is part old lattice i t.result.first t.result.there is.placed t.ensures.first t.ensures.there in
           tile_made part old lattice next c.loop-i.particles i c.turn_even_tile.new.tile of.sized is.placed own so_far
-          (c.turn_even_tile.ensures lattice w o (tile_in part (lattice.width / 64) i) (lattice_is part w o old lattice 64 is) (within_there part old lattice i of.sized is.placed own) is.of_walls is.of_obstacles
+          (c.turn_even_tile.ensures lattice w o (tile_in part (lattice.width / 64) i) is.sized (within_there part old lattice i of.sized is.placed own) is.of_walls is.of_obstacles
           (subst (λ j. AreTileSolids w o j c.in_tile-tile_solids.result) there c.in_tile-tile_solids.ensures)
           (own_cells part w o old lattice i c.tile_mut.result.now of.sized is own (tile_before part next old c.loop-i.particles i 64 c.tile_mut.result.now of own so_far c.tile_mut.ensures.tile)));
     }

@@ -47,7 +47,7 @@ returns-then-parity-eq0 c =
     record {
       cells =
           subst (λ p. IsTileAfter p (old b) (w b) (o b) i c.turn_even_tile.new.tile) (sym c.if-parity-eq0.true)
-          (c.turn_even_tile.ensures (old b) (w b) (o b) i c.requires.lattice c.requires.tile c.requires.walls c.requires.obstacles (record { of_walls = of_walls b; of_obstacles = of_obstacles b }) c.tile-tile.ensures);
+          (c.turn_even_tile.ensures (old b) (w b) (o b) i c.requires.lattice.sized c.requires.tile c.requires.walls c.requires.obstacles (record { of_walls = of_walls b; of_obstacles = of_obstacles b }) c.tile-tile.ensures);
       took = took b;
     }
 
