@@ -134,7 +134,11 @@ pub record IsSeamRowTurned (place : RowPlace) (next old now : Cells) : Type 0 wh
 abbrev pub begins_in : Cells → ℕ → ℕ
 begins_in cells y = (y + cells.height - 1) % cells.height / 64
 
--- the blocks that begin in a part's rows of tiles before this one have turned
+-- a part's rows of tiles before this one have turned at parity 0
+abbrev pub AreRowsMadeTo : ℕ → Part → Cells → Cells → Cells → Type 0
+AreRowsMadeTo rows part next old now = AreMadeTo (λ x y. y / 64) rows 64 part next old now
+
+-- the blocks that begin in them have turned at parity 1
 abbrev pub AreTurnedTo : ℕ → Part → Cells → Cells → Cells → Type 0
 AreTurnedTo rows part next old now = AreMadeTo (λ x y. begins_in old y) rows 63 part next old now
 

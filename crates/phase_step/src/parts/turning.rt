@@ -5,11 +5,12 @@ ghost use Rattle.gas_terms.specs.Cells.{Cells, joined, tile_count, HasSidesOf};
 ghost use Rattle.gas_terms.specs.Gas.{streamed};
 ghost use Rattle.phase_step.specs.SolidBlocks.{HasNoBlocks};
 ghost use Rattle.phase_step.specs.Parts.{IsPartOf, IsReady, IsTurned};
-ghost use Rattle.phase_step.specs.OddPhase.{AreTurnedTo};
+ghost use Rattle.phase_step.specs.OddPhase.{AreTurnedTo, AreRowsMadeTo};
 
+use crate::even_phase::turn_even_row;
 use crate::odd_phase::{RowPlace, turn_inner_row, turn_seam};
-use crate::parts::{Part, own_tiles, row_there};
-use crate::steps::{Ground, Solids, turn_even_tile};
+use crate::parts::{Part, row_there};
+use crate::steps::{Ground, Solids};
 use gas_plane::{Plane, after};
 
 // The phase of parity 1 of the blocks that begin in a row of tiles of a part, in place. In a row of
@@ -107,6 +108,31 @@ fn turn_odd_part(particles: &mut Plane, ground: Ground<'_>, part: Part)
     }
 }
 
+// The phase of parity 0 of an own row of tiles of a part, in place.
+#[inline(always)]
+fn turn_even_in(particles: &mut Plane, ground: Ground<'_>, part: Part, row: u32)
+    requires part { (part.first < part.down) × (part.down ≤ 64) × (part.margin ≤ 1) }
+    requires own { part.margin ≤ row }
+    requires row { row + part.margin < particles.old.height / 64 }
+    requires walls { let s = ground.solids.now in
+        tile_count s.walls ≡ part.down * (particles.old.width / 64) }
+    requires obstacles { let s = ground.solids.now in
+        tile_count s.obstacles ≡ part.down * (particles.old.width / 64) }
+    ensures sides { HasSidesOf particles.new particles.old }
+    ensures turned { let s = ground.entry.solids.now in (old lattice : Cells) →
+        IsPartOf part s.walls s.obstacles old lattice 64 →
+        let next = streamed 0 lattice (joined s.walls s.obstacles) in
+        AreRowsMadeTo row part next old particles.old →
+        AreRowsMadeTo (row + 1) part next old particles.new }
+{
+    let place = RowPlace {
+        row,
+        below: after(row, particles.down()),
+        there: row_there(part, row),
+    };
+    turn_even_row(particles, ground, place);
+}
+
 // The phase of parity 0 of a part's own tiles, in place.
 #[inline(always)]
 fn turn_even_part(particles: &mut Plane, ground: Ground<'_>, part: Part)
@@ -116,10 +142,8 @@ fn turn_even_part(particles: &mut Plane, ground: Ground<'_>, part: Part)
     ensures phase { let s = ground.entry.solids.now in
         IsTurned part 0 s.walls s.obstacles particles.old particles.new }
 {
-    let own = own_tiles(part, particles);
-    for i in own.first..own.end {
-        let tile_solids = ground.in_tile(own.there + (i - own.first));
-        turn_even_tile(tile_solids, particles.tile_mut(i));
+    for row in part.margin..particles.down() - part.margin {
+        turn_even_in(particles, ground, part, row);
     }
 }
 

@@ -1,17 +1,16 @@
 use Rattle.std.proofs.Common.{◌≤◌}
 use Rattle.gas_terms.specs.Cells.{Cells, HasSidesOf, joined}
 use Rattle.gas_terms.specs.Gas.{streamed}
-use Rattle.gas_plane.specs.Planes.{tile_of}
-use Rattle.phase_step.specs.Parts.{IsPartOf, AreMadeTo}
+use Rattle.phase_step.specs.Parts.{IsPartOf}
+use Rattle.phase_step.specs.OddPhase.{AreRowsMadeTo}
 use Rattle.phase_step.proofs.parts.turning.turn_even_part.Given as goal
 
-abbrev pub invariant-loop-i : goal.invariant-loop-i
-invariant-loop-i l =
-    let w = l.ground.solids.now.walls in
-    let o = l.ground.solids.now.obstacles in
+abbrev pub invariant-loop-row : goal.invariant-loop-row
+invariant-loop-row l =
+    let s = l.ground.solids.now in
     let old = l.initial.particles in
     record {
-      from : l.initial.i ≤ l.i;
+      own : l.fn.part.margin ≤ l.row;
       sides : HasSidesOf l.particles old;
-      made : (lattice : Cells) → IsPartOf l.fn.part w o old lattice 64 → AreMadeTo (tile_of old) l.i 64 l.fn.part (streamed 0 lattice (joined w o)) old l.particles;
+      turned : (lattice : Cells) → IsPartOf l.fn.part s.walls s.obstacles old lattice 64 → AreRowsMadeTo l.row l.fn.part (streamed 0 lattice (joined s.walls s.obstacles)) old l.particles;
     }
