@@ -21,7 +21,8 @@ use gas_terms::Took;
 #[inline(always)]
 pub fn turn_even_tile(tile_solids: TileSolids<'_>, tile: &mut Tile)
     ensures { (lattice walls obstacles : Cells) (i : ℕ) →
-        is_size (extent lattice) ≡ true → i < tile_count lattice → HasSidesOf walls lattice → HasSidesOf obstacles lattice →
+        is_size (extent lattice) ≡ true → i < tile_count lattice →
+        HasSidesOf walls lattice → HasSidesOf obstacles lattice →
         AreTileSolids walls obstacles i tile_solids.entry →
         IsTileFrom tile.old lattice (tile_rectangle lattice i).x (tile_rectangle lattice i).y →
         IsTileAfter 0 lattice walls obstacles i tile.new }
