@@ -5,7 +5,7 @@ use Rattle.std.proofs.lemmas.Bool.{cases_eq}
 use Rattle.gas_terms.specs.Cells.{Cells, HasSidesOf, has, extent, is_size, tile_count, IsFull}
 use Rattle.gas_terms.proofs.Cells.{same_cells}
 use Rattle.gas_plane.proofs.Places.{high, cell_below}
-use Rattle.phase_step.specs.OddPhase.{IsRowThere, HasRow, HasInner, HasSeam, IsInnerOf, IsSeamOf, IsEvenRowTurned, IsInnerRowTurned, IsSeamRowTurned, begins_in, AreTurnedTwice}
+use Rattle.phase_step.specs.OddPhase.{IsRowThere, HasRow, HasInner, HasSeam, IsInnerOf, IsSeamOf, IsEvenRowTurned, IsInnerRowTurned, IsSeamRowTurned, begins_in, AreTurnedTwice, IsNextTurned}
 use Rattle.phase_step.specs.declared.odd_phase.RowPlace.{RowPlace}
 use Rattle.phase_step.proofs.OddParts.{above, below_is, inner_begins, seam_begins, begins_cases, top_in, inner_at, seam_at}
 
@@ -55,13 +55,6 @@ all_turned_twice rows mid next old now sized all of_next full full_next is =
       | inl a ↦ let e = a.1 in let l = a.0 in omega (arith, e, l, k', all, t)
       | inr a ↦ let e = a.1 in omega (arith, e, all, t, s)
     ]))
-
--- the next row of tiles has turned at parity 0 too
-pub record IsNextTurned (row : ℕ) (mid next old now : Cells) : Type 0 where
-  pub sides : HasSidesOf now old
-  pub twice : (x y : ℕ) → x < old.width → y < old.height → begins_in old y < row → has now x y ≡ has next x y
-  pub once : (x y : ℕ) → x < old.width → y < old.height → row ≤ begins_in old y → y / 64 ≤ row + 1 → has now x y ≡ has mid x y
-  pub rest : (x y : ℕ) → x < old.width → y < old.height → row + 1 < y / 64 → has now x y ≡ has old x y
 
 module _ (mid next old : Cells) (row : ℕ) (sized : is_size (extent old) ≡ true) (of_mid : HasSidesOf mid old) (of_next : HasSidesOf next old) where
   some : 0 < old.height

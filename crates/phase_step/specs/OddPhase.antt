@@ -4,7 +4,9 @@ use Rattle.std.specs.Prelude.{◌≡◌, ◌⊎◌, ℕ, ◌+◌, ◌-◌, ◌*�
 use Rattle.bit_tile.specs.Bit.{bit}
 use Rattle.bit_tile.specs.Tile as tile
 use Rattle.bit_tile.specs.declared.Tile.{Tile}
-use Rattle.gas_terms.specs.Cells.{Cells, HasSidesOf, has, extent, is_size}
+use Rattle.gas_terms.specs.Cells.{Cells, HasSidesOf, has, joined, extent, is_size}
+use Rattle.gas_terms.specs.Gas.{streamed}
+use Rattle.gas_plane.specs.Planes.{IsLattice}
 use Rattle.block_rule.specs.Around.{turned, either}
 use Rattle.block_rule.specs.InPlace.{ShowsBegun, IsInnerSeen, IsRowTurned, IsCarried}
 use Rattle.block_rule.specs.TileBlocks.{AreGivenBlocks, walled_by}
@@ -149,3 +151,26 @@ pub record AreTurnedTwice (rows : ℕ) (mid next old now : Cells) : Type 0 where
   pub twice : (x y : ℕ) → x < old.width → y < old.height → begins_in old y < rows → has now x y ≡ has next x y
   pub once : (x y : ℕ) → x < old.width → y < old.height → rows ≤ begins_in old y → y / 64 ≤ rows → has now x y ≡ has mid x y
   pub rest : (x y : ℕ) → x < old.width → y < old.height → rows < y / 64 → has now x y ≡ has old x y
+
+-- the row of tiles below this one has turned at parity 0 too
+pub record IsNextTurned (row : ℕ) (mid next old now : Cells) : Type 0 where
+  pub sides : HasSidesOf now old
+  pub twice : (x y : ℕ) → x < old.width → y < old.height → begins_in old y < row → has now x y ≡ has next x y
+  pub once : (x y : ℕ) → x < old.width → y < old.height → row ≤ begins_in old y → y / 64 ≤ row + 1 → has now x y ≡ has mid x y
+  pub rest : (x y : ℕ) → x < old.width → y < old.height → row + 1 < y / 64 → has now x y ≡ has old x y
+
+-- what leads from one to the other, among these walls and obstacles
+abbrev pub once_turned : Cells → Cells → Cells → Cells
+once_turned walls obstacles old = streamed 0 old (joined walls obstacles)
+
+abbrev pub twice_turned : Cells → Cells → Cells → Cells
+twice_turned walls obstacles old = streamed 1 (once_turned walls obstacles old) (joined walls obstacles)
+
+abbrev pub TurnsNext : ℕ → Cells → Cells → Cells → Cells → Type 0
+TurnsNext row walls obstacles now new = (old : Cells) → IsLattice old → AreTurnedTwice row (once_turned walls obstacles old) (twice_turned walls obstacles old) old now → IsNextTurned row (once_turned walls obstacles old) (twice_turned walls obstacles old) old new
+
+abbrev pub TurnsSecond : ℕ → Cells → Cells → Cells → Cells → Type 0
+TurnsSecond row walls obstacles now new = (old : Cells) → IsLattice old → IsNextTurned row (once_turned walls obstacles old) (twice_turned walls obstacles old) old now → AreTurnedTwice (row + 1) (once_turned walls obstacles old) (twice_turned walls obstacles old) old new
+
+abbrev pub TurnsTwice : ℕ → Cells → Cells → Cells → Cells → Type 0
+TurnsTwice row walls obstacles now new = (old : Cells) → IsLattice old → AreTurnedTwice row (once_turned walls obstacles old) (twice_turned walls obstacles old) old now → AreTurnedTwice (row + 1) (once_turned walls obstacles old) (twice_turned walls obstacles old) old new

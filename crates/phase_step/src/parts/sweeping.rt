@@ -4,9 +4,8 @@
 ghost use Rattle.std.specs.Prelude.{◌≡◌, ◌+◌, ◌/◌, ◌%◌, ◌<◌, ◌≤◌};
 ghost use Rattle.gas_terms.specs.Cells.{Cells, HasSidesOf, joined};
 ghost use Rattle.gas_terms.specs.Gas.{streamed};
-ghost use Rattle.gas_plane.specs.Planes.{IsLattice};
 ghost use Rattle.phase_step.specs.SolidBlocks.{HasNoBlocks};
-ghost use Rattle.phase_step.specs.OddPhase.{AreTurnedTwice};
+ghost use Rattle.phase_step.specs.OddPhase.{TurnsNext, TurnsSecond, TurnsTwice};
 ghost use Rattle.phase_step.specs.Runs.{after};
 
 use crate::even_phase::turn_even_row;
@@ -30,29 +29,127 @@ fn place_of(row: u32, down: u32) -> RowPlace
     }
 }
 
-// The next row of tiles turns at parity 0, and this one at parity 1.
+// The row of tiles below this one turns at parity 0.
 #[inline(always)]
-fn turn_twice(particles: &mut Plane, ground: Ground<'_>, row: u32)
+fn turn_next(particles: &mut Plane, ground: Ground<'_>, row: u32)
     requires row { row < particles.old.height / 64 }
     requires walls { HasSidesOf ground.solids.now.walls particles.old }
     requires obstacles { HasSidesOf ground.solids.now.obstacles particles.old }
     ensures sides { HasSidesOf particles.new particles.old }
-    ensures turned { let s = ground.entry.solids.now in (old : Cells) → IsLattice old →
-        let mid = streamed 0 old (joined s.walls s.obstacles) in
-        let next = streamed 1 mid (joined s.walls s.obstacles) in
-        AreTurnedTwice row mid next old particles.old →
-        AreTurnedTwice (row + 1) mid next old particles.new }
+    ensures turned { let s = ground.entry.solids.now in
+        TurnsNext row s.walls s.obstacles particles.old particles.new }
 {
     let down = particles.down();
     if row + 1 < down {
         turn_even_row(particles, ground, place_of(row + 1, down));
     }
-    let place = place_of(row, down);
+}
+
+// This row of tiles turns at parity 1, after the one below it at parity 0.
+#[inline(always)]
+fn turn_second(particles: &mut Plane, ground: Ground<'_>, row: u32)
+    requires row { row < particles.old.height / 64 }
+    requires walls { HasSidesOf ground.solids.now.walls particles.old }
+    requires obstacles { HasSidesOf ground.solids.now.obstacles particles.old }
+    ensures sides { HasSidesOf particles.new particles.old }
+    ensures turned { let s = ground.entry.solids.now in
+        TurnsSecond row s.walls s.obstacles particles.old particles.new }
+{
+    let place = place_of(row, particles.down());
     turn_inner_row(particles, ground, place);
     turn_seam(particles, ground, place);
 }
 
-#[inline(always)]
+// Both, compiled for no walls and obstacles. The compiler makes vectors of each only by itself.
+#[inline(never)]
+fn turn_next_free(particles: &mut Plane, solids: &Solids, row: u32)
+    requires none { HasNoBlocks solids.now.walls × HasNoBlocks solids.now.obstacles }
+    requires row { row < particles.old.height / 64 }
+    requires walls { HasSidesOf solids.now.walls particles.old }
+    requires obstacles { HasSidesOf solids.now.obstacles particles.old }
+    ensures sides { HasSidesOf particles.new particles.old }
+    ensures turned { let s = solids.now in
+        TurnsNext row s.walls s.obstacles particles.old particles.new }
+{
+    let ground = Ground {
+        solids,
+        no_walls: true,
+        no_obstacles: true,
+    };
+    turn_next(particles, ground, row);
+}
+
+#[inline(never)]
+fn turn_second_free(particles: &mut Plane, solids: &Solids, row: u32)
+    requires none { HasNoBlocks solids.now.walls × HasNoBlocks solids.now.obstacles }
+    requires row { row < particles.old.height / 64 }
+    requires walls { HasSidesOf solids.now.walls particles.old }
+    requires obstacles { HasSidesOf solids.now.obstacles particles.old }
+    ensures sides { HasSidesOf particles.new particles.old }
+    ensures turned { let s = solids.now in
+        TurnsSecond row s.walls s.obstacles particles.old particles.new }
+{
+    let ground = Ground {
+        solids,
+        no_walls: true,
+        no_obstacles: true,
+    };
+    turn_second(particles, ground, row);
+}
+
+// And among some.
+#[inline(never)]
+fn turn_next_among(particles: &mut Plane, solids: &Solids, row: u32)
+    requires row { row < particles.old.height / 64 }
+    requires walls { HasSidesOf solids.now.walls particles.old }
+    requires obstacles { HasSidesOf solids.now.obstacles particles.old }
+    ensures sides { HasSidesOf particles.new particles.old }
+    ensures turned { let s = solids.now in
+        TurnsNext row s.walls s.obstacles particles.old particles.new }
+{
+    let ground = Ground {
+        solids,
+        no_walls: false,
+        no_obstacles: false,
+    };
+    turn_next(particles, ground, row);
+}
+
+#[inline(never)]
+fn turn_second_among(particles: &mut Plane, solids: &Solids, row: u32)
+    requires row { row < particles.old.height / 64 }
+    requires walls { HasSidesOf solids.now.walls particles.old }
+    requires obstacles { HasSidesOf solids.now.obstacles particles.old }
+    ensures sides { HasSidesOf particles.new particles.old }
+    ensures turned { let s = solids.now in
+        TurnsSecond row s.walls s.obstacles particles.old particles.new }
+{
+    let ground = Ground {
+        solids,
+        no_walls: false,
+        no_obstacles: false,
+    };
+    turn_second(particles, ground, row);
+}
+
+fn turn_twice(particles: &mut Plane, ground: Ground<'_>, row: u32)
+    requires row { row < particles.old.height / 64 }
+    requires walls { HasSidesOf ground.solids.now.walls particles.old }
+    requires obstacles { HasSidesOf ground.solids.now.obstacles particles.old }
+    ensures sides { HasSidesOf particles.new particles.old }
+    ensures turned { let s = ground.entry.solids.now in
+        TurnsTwice row s.walls s.obstacles particles.old particles.new }
+{
+    if ground.no_walls && ground.no_obstacles {
+        turn_next_free(particles, ground.solids, row);
+        turn_second_free(particles, ground.solids, row);
+    } else {
+        turn_next_among(particles, ground.solids, row);
+        turn_second_among(particles, ground.solids, row);
+    }
+}
+
+// The phases of parity 0 and 1.
 fn turn_both(particles: &mut Plane, ground: Ground<'_>)
     requires walls { HasSidesOf ground.solids.now.walls particles.old }
     requires obstacles { HasSidesOf ground.solids.now.obstacles particles.old }
@@ -66,55 +163,6 @@ fn turn_both(particles: &mut Plane, ground: Ground<'_>)
         turn_twice(particles, ground, row);
     }
     particles.shows_lattice();
-}
-
-// The phases of parity 0 and 1, compiled for no walls and obstacles apart from the loops of a run.
-#[inline(never)]
-fn turn_both_free(particles: &mut Plane, solids: &Solids)
-    requires none { HasNoBlocks solids.now.walls × HasNoBlocks solids.now.obstacles }
-    requires walls { HasSidesOf solids.now.walls particles.old }
-    requires obstacles { HasSidesOf solids.now.obstacles particles.old }
-    ensures { let s = solids.now in
-        particles.new ≡ streamed 1 (streamed 0 particles.old (joined s.walls s.obstacles))
-        (joined s.walls s.obstacles) }
-{
-    let ground = Ground {
-        solids,
-        no_walls: true,
-        no_obstacles: true,
-    };
-    turn_both(particles, ground);
-}
-
-// And among some.
-#[inline(never)]
-fn turn_both_among(particles: &mut Plane, solids: &Solids)
-    requires walls { HasSidesOf solids.now.walls particles.old }
-    requires obstacles { HasSidesOf solids.now.obstacles particles.old }
-    ensures { let s = solids.now in
-        particles.new ≡ streamed 1 (streamed 0 particles.old (joined s.walls s.obstacles))
-        (joined s.walls s.obstacles) }
-{
-    let ground = Ground {
-        solids,
-        no_walls: false,
-        no_obstacles: false,
-    };
-    turn_both(particles, ground);
-}
-
-fn turn_pair(particles: &mut Plane, ground: Ground<'_>)
-    requires walls { HasSidesOf ground.solids.now.walls particles.old }
-    requires obstacles { HasSidesOf ground.solids.now.obstacles particles.old }
-    ensures { let s = ground.entry.solids.now in
-        particles.new ≡ streamed 1 (streamed 0 particles.old (joined s.walls s.obstacles))
-        (joined s.walls s.obstacles) }
-{
-    if ground.no_walls && ground.no_obstacles {
-        turn_both_free(particles, ground.solids);
-    } else {
-        turn_both_among(particles, ground.solids);
-    }
 }
 
 // A phase of the whole lattice.
@@ -138,7 +186,7 @@ fn turn_from_even(particles: &mut Plane, ground: Ground<'_>, n: u16)
         particles.new ≡ after 0 (joined s.walls s.obstacles) particles.old n }
 {
     for _pair in 0..n / 2 {
-        turn_pair(particles, ground);
+        turn_both(particles, ground);
     }
     if n % 2 == 1 {
         turn_whole(particles, ground, 0);

@@ -1,5 +1,5 @@
-use Rattle.std.proofs.Common.{◌∙◌, refl, ap, arith}
-use Rattle.gas_terms.specs.Cells.{Cells, HasSidesOf, joined}
+use Rattle.std.proofs.Common.{◌∙◌, ap, arith}
+use Rattle.gas_terms.specs.Cells.{Cells, joined}
 use Rattle.gas_terms.specs.Gas.{streamed}
 use Rattle.phase_step.proofs.StillRuns.{pair_after, one_after}
 use Rattle.phase_step.proofs.parts.sweeping.turn_from_even.Goals as goal
@@ -9,10 +9,9 @@ loop-pair-preserved c =
     let s = c.args.ground.solids.now in
     let solid = joined s.walls s.obstacles in
     let l = c.loop-pair in
-    let twice : (cells : Cells) → HasSidesOf (streamed 1 (streamed 0 cells solid) solid) cells = λ cells. record { wide = refl; high = refl } in
     record {
-      made = c.turn_pair.ensures ∙ (ap (λ (now : Cells). streamed 1 (streamed 0 now solid) solid) l.invariant.made ∙ pair_after solid c.args.particles.now l._pair);
-      sides = record { wide = ap (λ (m : Cells). m.width) c.turn_pair.ensures ∙ l.invariant.sides.wide; high = ap (λ (m : Cells). m.height) c.turn_pair.ensures ∙ l.invariant.sides.high };
+      made = c.turn_both.ensures ∙ (ap (λ (now : Cells). streamed 1 (streamed 0 now solid) solid) l.invariant.made ∙ pair_after solid c.args.particles.now l._pair);
+      sides = record { wide = ap (λ (m : Cells). m.width) c.turn_both.ensures ∙ l.invariant.sides.wide; high = ap (λ (m : Cells). m.height) c.turn_both.ensures ∙ l.invariant.sides.high };
     }
 
 pub returns-then-n-eq1 : goal.returns-then-n-eq1
