@@ -262,15 +262,22 @@ _COVERED = """[...document.querySelectorAll("%s")].filter((e) => e.checkVisibili
 
 class Sizes(PageCase):
     def test_every_tool_is_in_reach(self):
-        """Nothing covers a tool or Play, and the gas is so many pixels high. Nothing has to be scrolled, but
-        on a phone with the sliders of Random."""
-        for size, tall in (((1280, 800), 400), ((960, 540), 220), ((844, 390), 200), ((390, 844), 380)):
+        """Nothing covers a tool, what it has to choose, or Play, and the gas is so many pixels high. Nothing
+        has to be scrolled, but on a phone with the sliders of Random or the fields of Source."""
+        for size, tall in (((1280, 800), 400), ((960, 540), 220), ((844, 390), 200), ((390, 844), 380),
+                           ((768, 1024), 400)):
             self.open("4", size=size)
-            for tool in ("look", "block", "random"):
+            rows = self.value("[...new Set([...document.querySelectorAll('header button')]"
+                              ".map((e) => e.getBoundingClientRect()).filter(({ width }) => width)"
+                              ".map(({ y, height }) => Math.round(y + height / 2)))]")
+            self.assertEqual(len(rows), 2 if size[0] < 500 else 1, size)
+            self.assertEqual(self.value(_COVERED % "header button:not(.round)"), [], size)
+            for tool in ("look", "block", "random", "source"):
                 self.value(f"laboratory.chooseTool('{tool}')")
-                if tool == "random":
+                if tool in ("random", "source"):
                     self.value("document.getElementById('play').scrollIntoView({ block: 'nearest' })")
-                self.assertEqual(self.value(_COVERED % "#tools button, #play"), [], (size, tool))
+                parts = "#tools button, #play, #options :is(button, input)"
+                self.assertEqual(self.value(_COVERED % parts), [], (size, tool))
                 self.assertGreaterEqual(self.value("laboratory.view.size[1]"), tall, (size, tool))
 
     def test_nothing_overflows(self):

@@ -106,6 +106,21 @@ class Page(PageCase):
 
 
 class Repeat(Page):
+    def test_fields_stay_in_line_when_one_is_wrong(self):
+        """In each row of them, with names and hints of one or more lines."""
+        for size in ((1440, 900), (768, 1024), (844, 390), (390, 844)):
+            self.open("wind", size=size)
+            self.value("""document.getElementById('repeat').open = true;
+                (({ e }) => { e.value = 99; e.dispatchEvent(new Event("input")); })(
+                    { e: document.querySelector("#repeat [name=gases]") })""")
+            lines = self.value("""[...document.querySelectorAll("#repeat form label")].map((label) =>
+                [label, ...label.children].map((e) => Math.round(e.getBoundingClientRect().top)))""")
+            for top in {line[0] for line in lines}:
+                row = [line for line in lines if line[0] == top]
+                self.assertGreater(len(row), 1, lines)
+                self.assertEqual({line[2] for line in row}, {row[0][2]}, lines)
+                self.assertEqual({line[3] for line in row}, {row[0][3]}, lines)
+
     def test_means_and_errors_are_those_of_the_client(self):
         """Of five gases, on the plot, in the table and in the file. The page's own gas is as before."""
         self.lay()

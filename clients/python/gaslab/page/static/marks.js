@@ -7,11 +7,13 @@ import { view } from "./view.js";
 
 const PARTS = [["put", COLOURS.particle], ["wall", COLOURS.wall], ["block", COLOURS.obstacle]];
 
+const NEAR = 4.5;          // pixels a cell from which there is room for a name's tick
+
 /** A name above an input or below an output. It is dashed, with its tick, while the gas is at another one. */
 function drawName({ kind, name, cell, tick }) {
   const isInput = kind === "input", colour = isInput ? COLOURS.sourceEdge : COLOURS.drainEdge;
   const isNow = tick === view.picture.tick, [x, y, w, h] = view.box([...cell, 1, 1]), [cw] = view.size;
-  const when = isNow ? "" : told(TEXTS.plots.tick, { tick });
+  const when = isNow || view.scale < NEAR ? "" : told(TEXTS.plots.tick, { tick });
   const text = isInput ? `${when} → ${name}` : `${name} → ${when}`;
   view.outline([...cell, 1, 1], colour, "", isNow ? [] : [3, 2]);
   view.tag(text.trim(), colour, (wide) =>
