@@ -16,25 +16,32 @@ from .page_case import CALLOUT, LESSON, READY, PageCase
 from .test_lab import ROOT
 from .test_page_engine import run_second, second
 
-# How bright each pixel is that is seen, in 21 pictures that follow one another: [how many pictures, pixels
-# that flash, pixels that change, pictures that were skipped]. A flash is two changes by a tenth, to and fro.
+# How bright each second pixel of each second row is, in the pictures of 1.5 seconds, and in at least three:
+# [how many pictures, pixels that flash, pixels that change, pictures that were skipped]. A flash is two
+# changes by a tenth, to and fro. Those pixels are counted that flash more than three times in a second, in
+# the 341 by 256 that have most of them. Time is that of the browser's frames, by which the page goes too.
 _FLASHES = """(async () => {
-  const { view: { canvas: { width, height }, canvas }, lab } = laboratory;
-  const seen = [], began = performance.now();
+  const { view: { canvas }, lab } = laboratory, seen = [];
+  const [width, height] = [canvas.width, canvas.height].map((side) => side >> 1);
   const own = Object.assign(document.createElement("canvas"), { width, height });
   const c = own.getContext("2d", { willReadFrequently: true });
+  c.imageSmoothingEnabled = false;
   const part = Float32Array.from({ length: 256 }, (_, v) => (v /= 255) <= .04045 ? v / 12.92
     : ((v + .055) / 1.055) ** 2.4);
-  for (let last = lab.shown.number; seen.length < 21 && performance.now() - began < 30000;) {
-    await new Promise(requestAnimationFrame);
+  const { scale } = laboratory.view;
+  for (let last = lab.shown.number; seen.length < 3 || seen.at(-1)[0] < seen[0][0] + 1500;) {
+    if (laboratory.view.scale !== scale) throw new Error("what is beside the gas has moved it");
+    const now = await new Promise(requestAnimationFrame);
     if (lab.shown.number === last) continue;
     last = lab.shown.number;
-    c.drawImage(canvas, 0, 0);
-    seen.push([performance.now(), c.getImageData(0, 0, width, height).data, last]);
+    c.drawImage(canvas, 0, 0, width, height);
+    seen.push([now, c.getImageData(0, 0, width, height).data, last]);
   }
   const bright = (d, k) => .2126 * part[d[4 * k]] + .7152 * part[d[4 * k + 1]] + .0722 * part[d[4 * k + 2]];
-  let flashing = 0, changing = 0;
+  const sums = Array.from({ length: height + 1 }, () => new Uint32Array(width + 1));
+  let changing = 0;
   for (let k = 0; k < width * height; k++) {
+    const x = k % width, y = Math.floor(k / width);
     let low = bright(seen[0][1], k), high = low;
     const turns = [];
     for (const [at, data] of seen) {
@@ -42,25 +49,42 @@ _FLASHES = """(async () => {
       low = Math.min(low, now); high = Math.max(high, now);
       if (high - low >= .1) { turns.push(at); low = high = now; }
     }
-    if (turns.some((at, j) => turns[j + 6] - at < 1000)) flashing += 1;
-    if (turns.length) changing += 1;
+    sums[y + 1][x + 1] = sums[y][x + 1] + sums[y + 1][x] - sums[y][x]
+      + (turns.some((at, j) => turns[j + 6] - at < 1000) ? 4 : 0);
+    if (turns.length) changing += 4;
+  }
+  let flashing = 0;
+  for (let y = Math.min(128, height); y <= height; y++) for (let x = Math.min(170, width); x <= width; x++) {
+    const [left, top] = [Math.max(0, x - 170), Math.max(0, y - 128)];
+    flashing = Math.max(flashing, sums[y][x] - sums[top][x] - sums[y][left] + sums[top][left]);
   }
   return [seen.length, flashing, changing, seen.at(-1)[2] - seen[0][2] - seen.length + 1];
 })()"""
-# Pixels of what is seen that are another colour after a second, and after one more
-_MOVES = """(async () => {
-  const { canvas: { width, height }, canvas } = laboratory.view, seen = [];
+# Pixels of what is seen that are another colour after a second's ticks, and after those of one more
+_MOVES = """(async (ticks) => {
+  const { view: { canvas: { width, height }, canvas }, lab } = laboratory, seen = [], began = lab.shown.tick;
   const own = Object.assign(document.createElement("canvas"), { width, height });
   const c = own.getContext("2d", { willReadFrequently: true });
   for (let k = 0; k < 3; k++) {
-    if (k) await new Promise((done) => setTimeout(done, 1000));
-    await new Promise(requestAnimationFrame);
+    do await new Promise(requestAnimationFrame); while (lab.shown.tick < began + k * ticks);
     c.drawImage(canvas, 0, 0);
     seen.push(new Uint32Array(c.getImageData(0, 0, width, height).data.buffer));
   }
   const far = (a, b) => [0, 8, 16].some((s) => Math.abs((a >> s & 255) - (b >> s & 255)) > 40);
   return [1, 2].map((k) => seen[k].filter((v, n) => far(v, seen[k - 1][n])).length);
+})"""
+# Loses pictures as a slow machine does: three of four for a while, then all for as long as a mean has one
+_SKIPS = """(() => {
+  const { link } = laboratory.lab, { takeParts } = link;
+  const isLost = (n) => n % 56 < 24 ? n % 4 > 0 : n % 28 < 20;
+  globalThis.keepAll = () => { link.takeParts = takeParts; };
+  link.takeParts = (parts) => {
+    if (parts.number && isLost(parts.number)) link.socket.send("0 .drawn");
+    else takeParts.call(link, parts);
+  };
 })()"""
+# Steps and pictures a second: from 1 to 120 steps a second
+_SPEEDS = (1, 1), (1, 5), (1, 10), (1, 20), (1, 30), (1, 60), (2, 60)
 _MODES = ("particles", "velocity", "density")
 _AREA = 341 * 256 // 4  # pixels that may flash: a quarter of ten degrees of sight, as WCAG 2.3.1 has it
 _PARTICLES = """(() => {
@@ -295,36 +319,42 @@ class OneFile(Main, PageCase):
         each picture, cells change, but they don't flash."""
         self.open()
         self.run_to(110)
-        pictures, flashing, changing, skipped = self.value(_FLASHES)
-        self.assertEqual(pictures, 21)
-        self.assertLess(flashing, _AREA / 10)
+        _, flashing, changing, skipped = self.value(_FLASHES)
+        self.assertLess(flashing, _AREA / 2)
         if not skipped:
-            self.assertLess(changing, 2 * _AREA)
+            self.assertLess(changing, 4 * _AREA)
         self.assertTrue(self.value("laboratory.view.isCalm"))
         self.value("laboratory.view.remember = function (p) { this.recent = [p]; this.isCalm = false; }")
-        self.assertGreater(self.value(_FLASHES)[2], 4 * _AREA, "single ticks change, so the count counts")
+        self.assertGreater(self.value(_FLASHES)[1], 2 * _AREA, "single ticks flash, so the count counts")
 
     def test_the_stream_does_not_flash_at_any_speed_or_in_any_mode(self):
         self.open()
         self.run_to(110)
         for mode in _MODES:
             self.value(f"laboratory.lab.change({{ mode: '{mode}' }})")
-            for steps, rate in ((1, 10), (1, 30), (2, 60)):
+            for steps, rate in _SPEEDS:
                 self.send(f".play {steps} {rate}")
-                self.run_to(self.tick() + 16)
-                pictures, flashing, _, _ = self.value(_FLASHES)
-                self.assertEqual(pictures, 21)
-                self.assertLess(flashing, _AREA / 10, (mode, steps, rate))
+                flashing = self.value(_FLASHES)[1]
+                self.assertLess(flashing, _AREA / 2, (mode, steps, rate))
 
     def test_a_stream_with_skipped_pictures_does_not_flash(self):
+        """On a slow machine, and when most pictures are lost: drawn as they come, those would flash."""
         self.open()
         self.run_to(110)
         self.browser.slow_down(8)
         self.addCleanup(self.browser.slow_down, 1)
-        pictures, flashing, _, skipped = self.value(_FLASHES)
-        self.assertEqual(pictures, 21)
-        self.assertLess(flashing, _AREA / 10)
+        _, flashing, _, skipped = self.value(_FLASHES)
+        self.assertLess(flashing, _AREA / 2)
         self.assertGreater(skipped, 0, "it was slow enough")
+        self.browser.slow_down(1)
+        for mode in _MODES:
+            self.value(f"laboratory.lab.change({{ mode: '{mode}' }})")
+            for steps, rate in _SPEEDS[1:]:
+                self.send(f".play {steps} {rate}")
+                self.value(_SKIPS)
+                flashing = self.value(_FLASHES)[1]
+                self.assertLess(flashing, _AREA / 2, (mode, steps, rate))
+                self.value("keepAll()")
 
     def test_the_stream_is_seen_to_move_at_every_speed(self):
         """Its period is 4 ticks, and at 20 steps a second or 60 a second is a multiple of that."""
@@ -332,10 +362,11 @@ class OneFile(Main, PageCase):
         self.run_to(110)
         for mode in _MODES:
             self.value(f"laboratory.lab.change({{ mode: '{mode}' }})")
-            for steps, rate in ((1, 1), (1, 5), (1, 10), (1, 20), (1, 30), (1, 60), (2, 60)):
+            for steps, rate in _SPEEDS:
                 self.send(f".play {steps} {rate}")
-                time.sleep(.5)
-                self.assertGreater(min(self.value(_MOVES)), 300, (mode, steps, rate))
+                self.run_to(self.tick() + 2)
+                moves = self.value(f"{_MOVES}({steps * rate})")
+                self.assertGreater(min(moves), 300, (mode, steps, rate))
 
     def test_pause_shows_the_same_kind_of_picture_until_a_step(self):
         """The key says of how many pictures it is the mean, and a pause shows the last that played. If the

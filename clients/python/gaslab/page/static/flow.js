@@ -10,7 +10,7 @@ const HEAD = 5;            // pixels
 export function drawFlow(view) {
   const { picture, isCalm, recent } = view, q = state.arrows, side = q * view.scale, path = new Path2D();
   if (!q || side < LEAST) return;
-  const { across, counts, px, py } = flowOf(isCalm ? recent : recent.slice(-1), picture, q);
+  const { across, counts, px, py } = flowOf(isCalm ? view.blended : recent.slice(-1), picture, q);
   const { x0, y0, x1, y1 } = view.visible();
   for (let j = Math.floor(y0 / q); j * q < y1; j++) for (let i = Math.floor(x0 / q); i * q < x1; i++) {
     const at = j * across + i;

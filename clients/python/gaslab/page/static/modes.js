@@ -18,7 +18,7 @@ function showMode() {
 
 /** How many pictures are drawn as one, in words. */
 function meanOf(mode) {
-  const n = mode === "density" ? view.past.length : view.isCalm ? view.recent.length : 1;
+  const n = mode === "density" ? view.past.length : view.isCalm ? view.blended.length : 1;
   return n > 1 ? told(T.mean, { n }) : "";
 }
 

@@ -12,6 +12,7 @@ const GROUNDS = KINDS.map((name) => C[name || "empty"]);
 // of the last pictures: even enough that the stream of lesson 4 doesn't flash
 const WEIGHTS = [.22, .24, .26, .28];
 const STALE = 16;          // pictures after which one is too old for a mean
+const HELD = 500;          // milliseconds from a mean of fewer pictures to the next
 const FLASHING = 21800;    // pixels that may change more than three times a second
 const BIG = 1 << 20;       // cells from which no mean of pictures is made
 const MEAN = 8;            // pictures of a mean density
@@ -46,6 +47,8 @@ export class Painter extends Cells {
   shades = [0, 1];         // the densities of the first and the last shade
   recent = [];             // the last pictures of four ticks
   isCalm = false;          // their mean is drawn
+  meant = [];              // those of the mean that was drawn last
+  fewerAt = -HELD;         // when a mean of fewer pictures was drawn last
   isLast = false;          // the next picture is of another gas
   isHeld = false;          // the gas was paused, and is shown as it was when it played
   past = [];               // counts of the last pictures for a mean density
@@ -83,12 +86,25 @@ export class Painter extends Cells {
     this.recent = [...kept, { phase, number, tick, playing, particles, steps }];
     this.isCalm = this.isHeld ? this.isCalm
       : canFlash && (this.isCalm && !isNew || 2 * p.tally[0] * this.scale ** 2 > FLASHING);
+    if (isNew || !this.isCalm) this.meant = [];
+  }
+
+  /**
+   * The pictures whose mean is drawn. If a slow machine skips some, the mean of the others has other colours.
+   * Two such means a second don't flash, with all that moves above them. Until the next the last one stays.
+   */
+  get blended() {
+    const { recent, meant, fewerAt } = this, now = document.timeline.currentTime;
+    const isWhole = recent.length === WEIGHTS.length;
+    if (!isWhole && meant.length > 0 && now < fewerAt + HELD) return meant;
+    Object.assign(this, { meant: recent, fewerAt: isWhole ? fewerAt : now });
+    return recent;
   }
 
   /** Packed bits to pixels for the cells that are seen: the last picture, or the mean of the last. */
   paintCells({ x0, y0, x1, y1 }, isMean = this.isCalm) {
     const { picture: { width }, ground, full: { pixels } } = this;
-    const shown = isMean ? this.recent : this.recent.slice(-1), colours = this.means(shown);
+    const shown = isMean ? this.blended : this.recent.slice(-1), colours = this.means(shown);
     const [a, b, c, d] = [0, 1, 2, 3].map((k) => (shown[k] ?? shown[0]).particles);
     for (let y = y0; y < y1; y++) for (let x = x0, cell = y * width + x0; x < x1; x++, cell++) {
       const at = cell >> 3, bit = 7 - (x & 7);
