@@ -8,7 +8,7 @@ from gaslab import random_gas
 from .firefox import FIREFOX, Firefox
 from .page_case import CALLOUT, LESSON, READY, PageCase
 from .test_browser import Started
-from .test_lab import STAND_IN
+from .test_lab import ROOT, STAND_IN
 from .test_page_engine import NODE, PAGE, run_engine, run_node, run_second, second
 
 CODES = {"Home": 36, "ArrowRight": 39}
@@ -52,6 +52,14 @@ class Starts(unittest.TestCase):
         self.assertEqual(box[-1], "put 4 4 8 56")
         self.assertEqual([line for line in box if line.startswith("block")], [])
         self.assertEqual(hole[3:5], ["wall 27 17 1 15", "wall 27 32 1 15"])
+
+    def test_starts_that_lessons_speak_of(self):
+        """Lesson 10 with its button's wall, and lesson 11 without obstacles: its third script."""
+        button = lessons()["10"]["tries"][2]["lines"]
+        walled, free = starts(("10", {"height": 16}), ("11", {"height": 0}))
+        self.assertEqual(walled, [*lessons()["10"]["setup"], *button])
+        script = (ROOT / "examples" / "11_lines.txt").read_text().splitlines()
+        self.assertEqual(free, [line for line in script if line.startswith("row")])
 
     def test_a_random_start_is_the_clients(self):
         wind, = starts(("wind", {"density": 30, "right": -75, "height": 8, "seed": 7}))
