@@ -147,7 +147,7 @@ class Links(PageCase):
         for fragment, what, lesson in (
                 (f"script={packed(script)}", "It has 128 by 64 cells, 4 lines, tick 25, 6 particles.",
                  "A gas from a link"),
-                ("lesson=6", "It has lesson 6, There and back: 64 by 64 cells, 6 lines, tick 0, 1,120 "
+                ("lesson=6", "It has lesson 6, “There and back”: 64 by 64 cells, 6 lines, tick 0, 1,120 "
                  "particles.", "There and back")):
             self.open("8")
             self.draw("wall", (5, 5), (8, 6))
