@@ -1,16 +1,17 @@
 """Large scripts on the page: how long they take, how long nothing moves, and how they are stopped."""
 import json
 import random
-import time
 import unittest
 
 from .page_case import CALLOUT, LESSON, READY, PageCase
 
 _CAP = 65536
+_TRIES = 3  # times in which a script is opened, if others use the machine too
+_FROZEN, _PATIENCE = 1000, 3000  # milliseconds in which nothing moves, and until a script is open
 # The longest time, in milliseconds, in which the page could not do anything else
 _WATCH = """(() => {
   let last = performance.now();
-  window.worst = 0;
+  Object.assign(window, { began: last, took: null, worst: 0 });
   setInterval(() => {
     const now = performance.now();
     worst = Math.max(worst, now - last);
@@ -31,37 +32,55 @@ def script(count):
 class LargeScripts(PageCase):
     def begin_to_open(self, text):
         self.value(f"{_WATCH}; globalThis.opened = laboratory.openBytes('big.txt', new TextEncoder()"
-                   f".encode({json.dumps(text)})); 0")
+                   f".encode({json.dumps(text)})).then(() => {{ took = performance.now() - began; }}); 0")
+
+    def check(self, opens, patience=float("inf")):
+        """Opens a script until it was quick enough. A try may be slow, since others use the machine."""
+        tries = []
+        while len(tries) < _TRIES and not (tries and tries[-1][0] < patience and tries[-1][1] < _FROZEN):
+            self.open("8")
+            opens()
+            self.browser.wait("took !== null", True)
+            tries.append(self.value("[took, worst]"))
+        took, worst = tries[-1]
+        self.assertLess(took, patience, tries)
+        self.assertLess(worst, _FROZEN, tries)
 
     def test_100000_lines_are_refused_at_once(self):
         """They are more changes than a journal holds. The gas stays, and the page goes on."""
-        self.open("8")
-        before = self.state()
-        self.begin_to_open(script(100_000))
-        self.browser.wait(f"{CALLOUT} !== ''", True)
-        self.assertIn("99,999 changes, and a journal holds 65,536. Nothing was opened.", self.value(CALLOUT))
-        self.assertLess(self.value("worst"), 3000)
-        self.assertEqual((self.state(), self.value(LESSON)), (before, "Three people on one gas"))
+        text = script(100_000)
+
+        def opens():
+            before = self.state()
+            self.begin_to_open(text)
+            self.browser.wait(f"{CALLOUT} !== ''", True)
+            told = "99,999 changes, and a journal holds 65,536. Nothing was opened."
+            self.assertIn(told, self.value(CALLOUT))
+            self.assertEqual((self.state(), self.value(LESSON)), (before, "Three people on one gas"))
+
+        self.check(opens)
         self.assertEqual(self.send("put 1 1 1 1")[0][:2], "OK")
 
     def test_60000_lines_are_opened_with_a_bar(self):
-        self.open("8")
-        began = time.monotonic()
-        self.begin_to_open(script(60_000))
-        self.browser.wait(f"{_BAR}?.value > 0 && {_BAR}.value < {_BAR}.max", True)
-        self.browser.wait(f"{READY} && laboratory.lab.picture.journal", 59_999)
-        self.assertLess(time.monotonic() - began, 15)
-        self.assertLess(self.value("worst"), 3000)
+        text = script(60_000)
+
+        def opens():
+            self.begin_to_open(text)
+            self.browser.wait(f"{_BAR}?.value > 0 && {_BAR}.value < {_BAR}.max", True)
+            self.browser.wait(f"{READY} && laboratory.lab.picture.journal", 59_999)
+
+        self.check(opens, _PATIENCE)
         self.assertEqual(self.value(LESSON), "big.txt")
         self.browser.wait(_BAR, None)
 
     def test_100000_readings_are_opened(self):
         """They need no journal."""
-        self.open("8")
-        self.begin_to_open("put 2 2 1 1\n" + "read 1\n" * 99_999)
-        self.browser.wait(f"{READY} && {LESSON}", "big.txt")
+        def opens():
+            self.begin_to_open("put 2 2 1 1\n" + "read 1\n" * 99_999)
+            self.browser.wait(f"{READY} && {LESSON}", "big.txt")
+
+        self.check(opens)
         self.assertEqual(self.value("laboratory.lab.link.send(['tally'])"), ["TALLY 0 1 1 1"])
-        self.assertLess(self.value("worst"), 3000)
 
     def test_stop_brings_the_gas_before_back(self):
         self.open("8")
