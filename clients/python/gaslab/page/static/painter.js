@@ -94,9 +94,9 @@ export class Painter extends Cells {
    * Two such means a second don't flash, with all that moves above them. Until the next the last one stays.
    */
   get blended() {
-    const { recent, meant, fewerAt } = this, now = document.timeline.currentTime;
+    const { recent, meant, fewerAt, isHeld } = this, now = document.timeline.currentTime;
     const isWhole = recent.length === WEIGHTS.length;
-    if (!isWhole && meant.length > 0 && now < fewerAt + HELD) return meant;
+    if (!isWhole && meant.length > 0 && (isHeld || now < fewerAt + HELD)) return meant;
     Object.assign(this, { meant: recent, fewerAt: isWhole ? fewerAt : now });
     return recent;
   }
