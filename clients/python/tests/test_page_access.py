@@ -198,6 +198,7 @@ class Fingers(PageCase):
         """And so does a tap, in one cell. The page stays where it is."""
         self.touch()
         self.swipe(*self.places([20, 20], [22, 20], [23, 21]))
+        self.settle()
         self.browser.tap(*self.places([30, 30])[0])
         self.assertEqual(self.edits(), ["wall 20 20 4 2", "wall 30 30 1 1"])
         self.assertEqual(self.value("scrollY"), 0)
