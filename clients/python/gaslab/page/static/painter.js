@@ -9,8 +9,7 @@ const rgb = (r, g, b) => (255 << 24 | b << 16 | g << 8 | r) >>> 0;      // as Im
 export const parts = (hex) => [1, 3, 5].map((k) => parseInt(hex.slice(k, k + 2), 16));
 const C = Object.fromEntries(Object.entries(COLOURS).map(([name, hex]) => [name, rgb(...parts(hex))]));
 const GROUNDS = KINDS.map((name) => C[name || "empty"]);
-// of the last pictures: even enough that the stream of lesson 4 doesn't flash
-const WEIGHTS = [.22, .24, .26, .28];
+const WHOLE = 4;           // pictures of a mean, which a stream of a period of four ticks leaves as it is
 const STALE = 16;          // pictures after which one is too old for a mean
 const HELD = 500;          // milliseconds from a mean of fewer pictures to the next
 const FLASHING = 21800;    // pixels that may change more than three times a second
@@ -95,7 +94,7 @@ export class Painter extends Cells {
    */
   get blended() {
     const { recent, meant, fewerAt, isHeld } = this, now = document.timeline.currentTime;
-    const isWhole = recent.length === WEIGHTS.length;
+    const isWhole = recent.length === WHOLE;
     if (!isWhole && meant.length > 0 && (isHeld || now < fewerAt + HELD)) return meant;
     Object.assign(this, { meant: recent, fewerAt: isWhole ? fewerAt : now });
     return recent;
@@ -123,7 +122,7 @@ export class Painter extends Cells {
 
   /** The mean colours of each ground, parity of row and column, and pattern of pictures. */
   means(pictures) {
-    const weights = WEIGHTS.slice(-pictures.length);
+    const weights = pictures.map(() => 1);
     return Uint32Array.from({ length: 320 }, (_, n) => mix(pictures.map(({ tick }, k) =>
       n >> k & 1 ? this.colourOf(n >> 6, n >> 4, n >> 5, tick) : GROUNDS[n >> 6]), weights));
   }
