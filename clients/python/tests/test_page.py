@@ -305,6 +305,28 @@ class Main:
         tally, probe = self.value("laboratory.lab.link.send(['tally', 'probe 33 24 1 1'])")
         self.assertEqual((tally.split(" ")[1:3], probe.split(" ")[1]), (["320", "1121"], "1"))
 
+    def test_the_stream_does_not_flash_at_any_speed_or_in_any_mode(self):
+        self.open()
+        self.run_to(110)
+        for mode in _MODES:
+            self.value(f"laboratory.lab.change({{ mode: '{mode}' }})")
+            for steps, rate in _SPEEDS:
+                self.send(f".play {steps} {rate}")
+                flashing = self.value(_FLASHES)[1]
+                self.assertLess(flashing, _AREA / 2, (mode, steps, rate))
+
+    def test_the_stream_is_seen_to_move_at_every_speed(self):
+        """Its period is 4 ticks, and at 20 steps a second or 60 a second is a multiple of that."""
+        self.open()
+        self.run_to(110)
+        for mode in _MODES:
+            self.value(f"laboratory.lab.change({{ mode: '{mode}' }})")
+            for steps, rate in _SPEEDS:
+                self.send(f".play {steps} {rate}")
+                self.run_to(self.tick() + 2)
+                moves = self.value(f"{_MOVES}({steps * rate})")
+                self.assertGreater(min(moves), 300, (mode, steps, rate))
+
     def press(self, k):
         self.value(f"document.querySelectorAll('.tries button')[{k}].click()")
         self.settle()
@@ -327,16 +349,6 @@ class OneFile(Main, PageCase):
         self.value("laboratory.view.remember = function (p) { this.recent = [p]; this.isCalm = false; }")
         self.assertGreater(self.value(_FLASHES)[1], 2 * _AREA, "single ticks flash, so the count counts")
 
-    def test_the_stream_does_not_flash_at_any_speed_or_in_any_mode(self):
-        self.open()
-        self.run_to(110)
-        for mode in _MODES:
-            self.value(f"laboratory.lab.change({{ mode: '{mode}' }})")
-            for steps, rate in _SPEEDS:
-                self.send(f".play {steps} {rate}")
-                flashing = self.value(_FLASHES)[1]
-                self.assertLess(flashing, _AREA / 2, (mode, steps, rate))
-
     def test_a_stream_with_skipped_pictures_does_not_flash(self):
         """On a slow machine, and when most pictures are lost: drawn as they come, those would flash."""
         self.open()
@@ -355,18 +367,6 @@ class OneFile(Main, PageCase):
                 flashing = self.value(_FLASHES)[1]
                 self.assertLess(flashing, _AREA / 2, (mode, steps, rate))
                 self.value("keepAll()")
-
-    def test_the_stream_is_seen_to_move_at_every_speed(self):
-        """Its period is 4 ticks, and at 20 steps a second or 60 a second is a multiple of that."""
-        self.open()
-        self.run_to(110)
-        for mode in _MODES:
-            self.value(f"laboratory.lab.change({{ mode: '{mode}' }})")
-            for steps, rate in _SPEEDS:
-                self.send(f".play {steps} {rate}")
-                self.run_to(self.tick() + 2)
-                moves = self.value(f"{_MOVES}({steps * rate})")
-                self.assertGreater(min(moves), 300, (mode, steps, rate))
 
     def test_pause_shows_the_same_kind_of_picture_until_a_step(self):
         """The key says of how many pictures it is the mean, and a pause shows the last that played. If the
