@@ -1,11 +1,11 @@
 -- Two phases of a whole lattice in one sweep, row of tiles by row.
-use Rattle.std.proofs.Common.{◌≡◌, ℕ, ◌+◌, ◌*◌, ◌/◌, ◌%◌, ◌<◌, ◌≤◌, true, refl, sym, ap, ap₂, mul-le-mul, ◌∙◌, subst, arith, inl, inr}
+use Rattle.std.proofs.Common.{◌≡◌, ℕ, ◌+◌, ◌*◌, ◌/◌, ◌%◌, ◌<◌, ◌≤◌, true, refl, sym, ap₂, mul-le-mul, ◌∙◌, subst, arith, inl, inr}
 use Rattle.std.proofs.Math.Nat.{mod-lt}
 use Rattle.std.proofs.lemmas.Bool.{cases_eq}
 use Rattle.gas_terms.specs.Cells.{Cells, HasSidesOf, has, extent, is_size, tile_count, IsFull}
 use Rattle.gas_terms.proofs.Cells.{same_cells}
 use Rattle.gas_plane.proofs.Places.{high, cell_below}
-use Rattle.phase_step.specs.OddPhase.{IsRowThere, HasRow, HasInner, HasSeam, IsInnerOf, IsSeamOf, IsEvenRowTurned, IsInnerRowTurned, IsSeamRowTurned, begins_in, AreTurnedTwice, IsNextTurned}
+use Rattle.phase_step.specs.OddPhase.{IsRowThere, HasRow, HasInner, HasSeam, IsInnerOf, IsSeamOf, IsEvenRowTurned, IsInnerRowTurned, IsSeamRowTurned, begins_in, AreTurnedTwice, IsNextTurned, once_turned, twice_turned}
 use Rattle.phase_step.specs.declared.odd_phase.RowPlace.{RowPlace}
 use Rattle.phase_step.proofs.OddParts.{above, below_is, inner_begins, seam_begins, begins_cases, top_in, inner_at, seam_at}
 
@@ -56,7 +56,27 @@ all_turned_twice rows mid next old now sized all of_next full full_next is =
       | inr a ↦ let e = a.1 in omega (arith, e, all, t, s)
     ]))
 
-module _ (mid next old : Cells) (row : ℕ) (sized : is_size (extent old) ≡ true) (of_mid : HasSidesOf mid old) (of_next : HasSidesOf next old) where
+-- what a row is turned among, by what stood before
+pub record IsSetting (w o old now : Cells) (row : ℕ) : Type 0 where
+  pub walls : HasSidesOf w old
+  pub obstacles : HasSidesOf o old
+  pub low : row < old.height / 64
+
+pub setting : (w o old now : Cells) (row : ℕ) → HasSidesOf now old → HasSidesOf w now → HasSidesOf o now → row < now.height / 64 → IsSetting w o old now row
+setting w o old now row sides of_walls of_obstacles low =
+    record {
+      walls = record { wide = of_walls.wide ∙ sides.wide; high = of_walls.high ∙ sides.high };
+      obstacles = record { wide = of_obstacles.wide ∙ sides.wide; high = of_obstacles.high ∙ sides.high };
+      low = subst (λ h. row < h / 64) sides.high low;
+    }
+
+module _ (w o old : Cells) (row : ℕ) (sized : is_size (extent old) ≡ true) where
+  abbrev mid : Cells
+  mid = once_turned w o old
+
+  abbrev next : Cells
+  next = twice_turned w o old
+
   some : 0 < old.height
   some = let t = (high (extent old) sized).tiles in let s = (high (extent old) sized).some in omega (arith, t, s)
 
@@ -82,7 +102,7 @@ module _ (mid next old : Cells) (row : ℕ) (sized : is_size (extent old) ≡ tr
               elim (cases_eq (y / 64) (row + 1)) [
                 | inl e ↦
                     let at : (row + 1) * 64 + y % 64 ≡ y = omega (arith, e) in
-                    subst (λ n. has new x n ≡ has mid x n) at (even.made x (y % 64) (subst (λ w. x < w) (sym of_mid.wide) h) (omega arith))
+                    subst (λ n. has new x n ≡ has mid x n) at (even.made x (y % 64) h (omega arith))
                 | inr ne ↦ other x y h k ne ∙ so_far.once x y h k from (omega (arith, low, ne))
               ];
           rest = λ x y h k below. other x y h k (λ e. absurd (omega (arith, e, below))) ∙ so_far.rest x y h k (omega (arith, below));
@@ -105,7 +125,7 @@ module _ (mid next old : Cells) (row : ℕ) (sized : is_size (extent old) ≡ tr
 
     pub inner_ready : HasInner place mid.width now mid
     inner_ready x y h k l =
-        ready.once x (row * 64 + y) (subst (λ w. x < w) of_mid.wide h) (cell_below old.height row y (high (extent old) sized) low (omega (arith, l)))
+        ready.once x (row * 64 + y) h (cell_below old.height row y (high (extent old) sized) low (omega (arith, l)))
         (let e = inner_begins old sized row y low k (omega (arith, l)) in omega (arith, e)) (omega (arith, l))
 
     module _ (inner : Cells) (of_inner : HasSidesOf inner now) (made : IsInnerRowTurned place next now inner) where
@@ -117,17 +137,14 @@ module _ (mid next old : Cells) (row : ℕ) (sized : is_size (extent old) ≡ tr
           let down = high (extent old) sized in
           record {
             bottom = λ x h.
-                let h' = subst (λ w. x < w) of_mid.wide h in
                 let k = cell_below old.height row 63 down low (omega arith) in
-                rest_inner x (row * 64 + 63) h' k (λ at. let g = at.1.1 in absurd (omega (arith, g)))
-                ∙ ready.once x (row * 64 + 63) h' k (let e = inner_begins old sized row 63 low (omega arith) (omega arith) in omega (arith, e)) (omega arith);
+                rest_inner x (row * 64 + 63) h k (λ at. let g = at.1.1 in absurd (omega (arith, g)))
+                ∙ ready.once x (row * 64 + 63) h k (let e = inner_begins old sized row 63 low (omega arith) (omega arith) in omega (arith, e)) (omega arith);
             top = λ x h.
-                let h' = subst (λ w. x < w) of_mid.wide h in
                 let k = top_in old sized place.below (mod-lt (row + 1) down.some) in
                 let up : place.below ≤ row + 1 = elim (below_is (old.height / 64) row low) [ inl b ↦ let e = b.1 in omega (arith, e) | inr b ↦ let e = b.1 in omega (arith, e) ] in
-                rest_inner x (place.below * 64) h' k (λ at. let g = at.1.0 in absurd (omega (arith, g)))
-                ∙ ready.once x (place.below * 64) h' k (let e = seam_begins old sized row low in omega (arith, e)) (omega (arith, up))
-                ∙ ap (λ m. has mid x ((row + 1) % (m / 64) * 64)) (sym of_mid.high);
+                rest_inner x (place.below * 64) h k (λ at. let g = at.1.0 in absurd (omega (arith, g)))
+                ∙ ready.once x (place.below * 64) h k (let e = seam_begins old sized row low in omega (arith, e)) (omega (arith, up));
           }
 
       pub turned_twice : (new : Cells) → HasSidesOf new inner → IsSeamRowTurned place next inner new → AreTurnedTwice (row + 1) mid next old new
@@ -138,21 +155,20 @@ module _ (mid next old : Cells) (row : ℕ) (sized : is_size (extent old) ≡ tr
           record {
             sides = record { wide = of_new.wide ∙ inner_old.wide; high = of_new.high ∙ inner_old.high };
             twice = λ x y h k before.
-                let l : x < next.width = subst (λ w. x < w) (sym of_next.wide) h in
                 elim (cases_eq (begins_in old y) row) [
                   | inr ne ↦ kept x y h k ne ∙ ready.twice x y h k (omega (arith, ne, before))
                   | inl e ↦ elim (begins_cases old sized row y low k e) [
-                    | inr b ↦ subst (λ n. has new x n ≡ has next x n) (sym b) (seam.made.top x l ∙ ap (λ m. has next x ((row + 1) % (m / 64) * 64)) of_next.high)
+                    | inr b ↦ subst (λ n. has new x n ≡ has next x n) (sym b) (seam.made.top x h)
                     | inl b ↦
                         let f = b.0 in
                         let g = b.1 in
                         let same : row * 64 + y % 64 ≡ y = omega (arith, f) in
                         subst (λ n. has new x n ≡ has next x n) same
                         (elim (cases_eq (y % 64) 63) [
-                          | inl last ↦ subst (λ v. has new x (row * 64 + v) ≡ has next x (row * 64 + v)) (sym last) (seam.made.bottom x l)
+                          | inl last ↦ subst (λ v. has new x (row * 64 + v) ≡ has next x (row * 64 + v)) (sym last) (seam.made.bottom x h)
                           | inr not_last ↦
                               rest_seam x (row * 64 + y % 64) h (subst (λ n. n < old.height) (sym same) k) (λ at. elim at [ inl z ↦ not_last (omega (arith, z)) | inr z ↦ absurd (omega (arith, z, g)) ])
-                              ∙ made.made x (y % 64) l g (omega (arith, not_last))
+                              ∙ made.made x (y % 64) h g (omega (arith, not_last))
                         ])
                   ]
                 ];
