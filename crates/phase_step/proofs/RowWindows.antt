@@ -1,5 +1,5 @@
 -- A tile of a row of tiles, and its window in the lattice before the phase.
-use Rattle.std.proofs.Common.{◌≡◌, ℕ, ◌+◌, ◌*◌, ◌/◌, ◌%◌, ◌<◌, ◌≤◌, ◌==◌, Bool, true, false, refl, sym, ap, ap₂, ◌∙◌, subst, arith, inl, inr}
+use Rattle.std.proofs.Common.{◌≡◌, ℕ, ◌+◌, ◌-◌, ◌*◌, ◌/◌, ◌%◌, ◌<◌, ◌≤◌, ◌==◌, Bool, true, false, refl, sym, ap, ap₂, ◌∙◌, subst, arith, inl, inr}
 use Rattle.std.proofs.Math.Nat.{mod-eq_of_lt}
 use Rattle.std.proofs.lemmas.Nat.{mul-add-lt, mod-mul-add, div-mul-add}
 use Rattle.std.proofs.lemmas.Bool.{cases_eq, eq-eqb, ne_eqb}
@@ -20,6 +20,17 @@ use Rattle.phase_step.specs.OddPhase.{IsRowThere, below_there, after_tiles}
 use Rattle.phase_step.specs.declared.odd_phase.RowPlace.{RowPlace}
 use Rattle.phase_step.proofs.PhaseSweeps.{place_is}
 use Rattle.phase_step.proofs.SolidBlocks.{given_in_view}
+
+-- how many tiles a row has, and the last of them
+pub record HasLast (across : ℕ) (lattice : Cells) : Type 0 where
+  pub all : across ≡ lattice.width / 64
+  pub last : across - 1 + 1 ≡ lattice.width / 64
+  pub less : across - 1 < lattice.width / 64
+
+pub has_last : (place : RowPlace) (walls obstacles cells lattice : Cells) (across : ℕ) → IsRowThere place walls obstacles cells lattice → across ≡ cells.width / 64 → 0 < cells.width / 64 → HasLast across lattice
+has_last place walls obstacles cells lattice across is e some =
+    let all : across ≡ lattice.width / 64 = e ∙ ap (λ w. w / 64) is.wide in
+    record { all = all; last = omega (arith, all, e, some); less = omega (arith, all, e, some) }
 
 leaving_alike : (carried : Beside) (f g : ℕ → Bool) (j : ℕ) → f (2 * j + 1) ≡ g (2 * j + 1) → f (2 * j + 2) ≡ g (2 * j + 2) → IsLeaving carried f j → IsLeaving carried g j
 leaving_alike carried f g j e h is = record { upper = is.upper ∙ e; lower = is.lower ∙ h }

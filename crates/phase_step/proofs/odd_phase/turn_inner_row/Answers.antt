@@ -7,7 +7,7 @@ use Rattle.phase_step.specs.SolidBlocks.{is_walled_in}
 use Rattle.phase_step.specs.OddPhase.{IsRowThere}
 use Rattle.phase_step.specs.declared.odd_phase.RowTurner.{RowTurner}
 use Rattle.phase_step.proofs.RowTiles.{tile_from, first_column}
-use Rattle.phase_step.proofs.RowWindows.{window, walled, obstructed, edge, walls_in_view, obstacles_in_view}
+use Rattle.phase_step.proofs.RowWindows.{HasLast, has_last, window, walled, obstructed, edge, walls_in_view, obstacles_in_view}
 use Rattle.phase_step.proofs.InnerRows.{last_seen, row_begun, is_edge, inner_next, inner_row}
 use Rattle.phase_step.proofs.odd_phase.turn_inner_row.Goals as goal
 use Rattle.phase_step.proofs.odd_phase.turn_inner_row.Goals.{After-carried_on-carry}
@@ -24,15 +24,8 @@ module _ (c : After-carried_on-carry) where
   first_is y k l =
       first_column c.args.particles.now c.args.place.row 0 _ c.tile.result.now y c.across-across.ensures.lattice.sized c.requires.row c.across-across.ensures.positive (ap (λ a. c.args.place.row * a) c.across-across.ensures.across ∙ omega arith) c.tile.ensures (omega (arith, l))
 
-  module _ (lattice : Cells) (is : IsRowThere c.args.place c.args.ground.solids.now.walls c.args.ground.solids.now.obstacles c.args.particles.now lattice) where
-    across_is : c.across-across.result ≡ lattice.width / 64
-    across_is = c.across-across.ensures.across ∙ ap (λ w. w / 64) is.wide
-
-    last_is : c.across-across.result - 1 + 1 ≡ lattice.width / 64
-    last_is = let e = across_is in let e2 = c.across-across.ensures.across in let s = c.across-across.ensures.positive in omega (arith, e, e2, s)
-
-    last_less : c.across-across.result - 1 < lattice.width / 64
-    last_less = let e = last_is in omega (arith, e)
+  tiles : (lattice : Cells) → IsRowThere c.args.place c.args.ground.solids.now.walls c.args.ground.solids.now.obstacles c.args.particles.now lattice → HasLast c.across-across.result lattice
+  tiles lattice is = let s = c.args.ground.solids.now in has_last c.args.place s.walls s.obstacles c.args.particles.now lattice c.across-across.result is c.across-across.ensures.across c.across-across.ensures.positive
 
 pub loop-column-init : goal.loop-column-init
 loop-column-init c =
@@ -46,14 +39,14 @@ loop-column-init c =
     record {
       sides = record { wide = refl; high = refl };
       turned = λ lattice is ready.
-          let less = last_less after lattice is in
-          let e = across_is after lattice is in
+          let less = (tiles after lattice is).less in
+          let e = (tiles after lattice is).all in
           let w = walls_in_view place column s.walls s.obstacles old lattice is less sets (subst (λ a. AreGivenBlocks sets.walls (is_walled_in s.walls (place.there * a + column))) e c.sets_at-sets.ensures.walls) in
           let o = obstacles_in_view place column s.walls s.obstacles old lattice is less sets (subst (λ a. AreGivenBlocks sets.obstacles (is_walled_in s.obstacles (place.there * a + column))) e c.sets_at-sets.ensures.obstacles) in
           let less_old : column < old.width / 64 = let k = c.across-across.ensures.across in let p = c.across-across.ensures.positive in omega (arith, k, p) in
-          let seen = last_seen place column s.walls s.obstacles old lattice is less sized c.requires.row ready (last_is after lattice is) c.tile.result.now (first_is after) c.tile-2.result.now
+          let seen = last_seen place column s.walls s.obstacles old lattice is less sized c.requires.row ready (tiles after lattice is).last c.tile.result.now (first_is after) c.tile-2.result.now
           (tile_from old place.row column _ c.tile-2.result.now sized c.requires.row less_old (ap (λ a. place.row * a + column) c.across-across.ensures.across) c.tile-2.result.now c.tile-2.ensures) in
-          row_begun place column s.walls s.obstacles old lattice is less sized c.requires.row ready (last_is after lattice is) c.tile.result.now (first_is after) c.carried_on-carry.result
+          row_begun place column s.walls s.obstacles old lattice is less sized c.requires.row ready (tiles after lattice is).last c.tile.result.now (first_is after) c.carried_on-carry.result
           (c.carried_on-carry.ensures (window place column s.walls s.obstacles old lattice is less) (walled place column s.walls s.obstacles old lattice is less) (obstructed place column s.walls s.obstacles old lattice is less) seen w o);
     }
 
@@ -73,7 +66,7 @@ loop-column-preserved c =
     record {
       sides = record { wide = sides.wide ∙ l.invariant.sides.wide; high = sides.high ∙ l.invariant.sides.high };
       turned = λ lattice is ready.
-          let e = across_is after lattice is in
+          let e = (tiles after lattice is).all in
           let less : column < lattice.width / 64 = subst (λ a. column < a) e c.loop-column-test.true in
           let so_far = l.invariant.turned lattice is ready in
           let w = walls_in_view place column s.walls s.obstacles old lattice is less sets (subst (λ a. AreGivenBlocks sets.walls (is_walled_in s.walls (place.there * a + column))) e given.walls) in
@@ -86,5 +79,5 @@ pub returns-clause-turned : goal.returns-clause-turned
 returns-clause-turned c = λ lattice is ready.
     let after = (goal.at.returns-clause-turned c).After-carried_on-carry in
     let l = c.loop-column in
-    let all : l.column ≡ lattice.width / 64 = omega (arith, c.loop-column-test.false, l.auto.column-end) ∙ across_is after lattice is in
+    let all : l.column ≡ lattice.width / 64 = omega (arith, c.loop-column-test.false, l.auto.column-end) ∙ (tiles after lattice is).all in
     inner_row c.args.place l.column _ c.args.particles.now l.particles l.turner.carry is.sized all (l.invariant.turned lattice is ready)

@@ -6,7 +6,7 @@ use Rattle.block_rule.specs.TileBlocks.{AreGivenBlocks}
 use Rattle.phase_step.specs.SolidBlocks.{is_walled_in}
 use Rattle.phase_step.specs.OddPhase.{IsRowThere, AreSeamsTurned}
 use Rattle.phase_step.proofs.RowTiles.{first_column}
-use Rattle.phase_step.proofs.RowWindows.{window, walled, obstructed, walls_in_view, obstacles_in_view, next_cells}
+use Rattle.phase_step.proofs.RowWindows.{HasLast, has_last, window, walled, obstructed, walls_in_view, obstacles_in_view, next_cells}
 use Rattle.phase_step.proofs.SeamRows.{upper_edge, lower_edge, seen_right, seen_corner, last_edge, last_bottom, last_top, row_begun, own_bottom, own_top, is_seam_edge, coming_in, seam_next, seam_row_turned}
 use Rattle.phase_step.proofs.odd_phase.turn_seam.Goals as goal
 use Rattle.phase_step.proofs.odd_phase.turn_seam.Goals.{After-turned_seam}
@@ -29,15 +29,8 @@ module _ (c : After-turned_seam) where
         first_column old below 0 _ c.tile-2.result.now 0 sized c.requires.below c.across-across.ensures.positive (ap (λ a. below * a) e ∙ omega arith) c.tile-2.ensures (omega arith) ∙ ap (has old 0) (let z : below * 64 + 0 ≡ below * 64 = omega arith in z),
       )
 
-  module _ (lattice : Cells) (is : IsRowThere c.args.place c.args.ground.solids.now.walls c.args.ground.solids.now.obstacles c.args.particles.now lattice) where
-    across_is : c.across-across.result ≡ lattice.width / 64
-    across_is = c.across-across.ensures.across ∙ ap (λ w. w / 64) is.wide
-
-    last_is : c.across-across.result - 1 + 1 ≡ lattice.width / 64
-    last_is = let e = across_is in let e2 = c.across-across.ensures.across in let s = c.across-across.ensures.positive in omega (arith, e, e2, s)
-
-    last_less : c.across-across.result - 1 < lattice.width / 64
-    last_less = let e = last_is in omega (arith, e)
+  tiles : (lattice : Cells) → IsRowThere c.args.place c.args.ground.solids.now.walls c.args.ground.solids.now.obstacles c.args.particles.now lattice → HasLast c.across-across.result lattice
+  tiles lattice is = let s = c.args.ground.solids.now in has_last c.args.place s.walls s.obstacles c.args.particles.now lattice c.across-across.result is c.across-across.ensures.across c.across-across.ensures.positive
 
 pub loop-column-init : goal.loop-column-init
 loop-column-init c =
@@ -53,9 +46,9 @@ loop-column-init c =
     record {
       sides = record { wide = refl; high = refl };
       turned = λ lattice is ready.
-          let less = last_less after lattice is in
-          let last = last_is after lattice is in
-          let e = across_is after lattice is in
+          let less = (tiles after lattice is).less in
+          let last = (tiles after lattice is).last in
+          let e = (tiles after lattice is).all in
           let w = walls_in_view place column s.walls s.obstacles old lattice is less sets (subst (λ a. AreGivenBlocks sets.walls (is_walled_in s.walls (place.there * a + column))) e c.sets_at.ensures.walls) in
           let o = obstacles_in_view place column s.walls s.obstacles old lattice is less sets (subst (λ a. AreGivenBlocks sets.obstacles (is_walled_in s.obstacles (place.there * a + column))) e c.sets_at.ensures.obstacles) in
           let shown = c.seam_at-seam.ensures (upper_edge place column s.walls s.obstacles old lattice is less sized c.requires.row c.requires.below ready) (lower_edge place column s.walls s.obstacles old lattice is less sized c.requires.row c.requires.below ready)
@@ -85,7 +78,7 @@ loop-column-preserved c =
     record {
       sides = record { wide = put.sides.wide ∙ l.invariant.sides.wide; high = put.sides.high ∙ l.invariant.sides.high };
       turned = λ lattice is ready.
-          let e = across_is after lattice is in
+          let e = (tiles after lattice is).all in
           let less : column < lattice.width / 64 = subst (λ a. column < a) e c.loop-column-test.true in
           let so_far = l.invariant.turned lattice is ready in
           let w = walls_in_view place column s.walls s.obstacles old lattice is less sets (subst (λ a. AreGivenBlocks sets.walls (is_walled_in s.walls (place.there * a + column))) e given.walls) in
@@ -104,5 +97,5 @@ pub returns-clause-turned : goal.returns-clause-turned
 returns-clause-turned c = λ lattice is ready.
     let after = (goal.at.returns-clause-turned c).After-turned_seam in
     let l = c.loop-column in
-    let all : l.column ≡ lattice.width / 64 = omega (arith, c.loop-column-test.false, l.auto.column-end) ∙ across_is after lattice is in
+    let all : l.column ≡ lattice.width / 64 = omega (arith, c.loop-column-test.false, l.auto.column-end) ∙ (tiles after lattice is).all in
     seam_row_turned c.args.place l.column _ c.args.particles.now l.particles l.coming is.sized all (l.invariant.turned lattice is ready)
