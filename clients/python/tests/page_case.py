@@ -76,8 +76,9 @@ class PageCase(unittest.TestCase):
         self.settle()
 
     def draw(self, tool, start, end):
-        """Draws from a cell to a cell by mouse events."""
+        """Draws from a cell to a cell by mouse events, once the tool's choices have their room."""
         self.value(f"laboratory.chooseTool('{tool}')")
+        self.settle()
         self.pull([start, end])
 
     def settle(self):
