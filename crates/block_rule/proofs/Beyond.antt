@@ -97,3 +97,11 @@ reach_turned particles walls obstacles x0 y0 near near_walls near_obstacles plac
     turned_around near (either near_walls near_obstacles) particles (joined walls obstacles) x0 y0 x y column row place.even_sides (record { wide = place.of_walls.wide; high = place.of_walls.high }) wide high view
     (view_either has-cells_where 1 near_walls near_obstacles walls obstacles x0 y0 (omega (arith, wide, place.of_walls.wide)) (omega (arith, high, place.of_walls.high)) (record { wide = place.of_obstacles.wide ∙ sym place.of_walls.wide; high = place.of_obstacles.high ∙ sym place.of_walls.high }) walls_view obstacles_view)
     place.even_column place.even_row in_row in_column around_x around_y
+
+-- and with one set
+pub reach_set : (particles solid : Cells) (x0 y0 : ℕ) (near near_solid : ℕ → ℕ → Bool) → IsTilePlace particles solid solid x0 y0 → IsView 1 near particles x0 y0 → IsView 1 near_solid solid x0 y0
+    → (x y column row : ℕ) → x ≤ 64 → y ≤ 64 → IsAround particles.width (x0 + x) column → IsAround particles.height (y0 + y) row → turned 1 near near_solid x y ≡ plane.has (streamed 1 particles solid) column row
+reach_set particles solid x0 y0 near near_solid place view solid_view x y column row in_row in_column around_x around_y =
+    let right = place.right in
+    let bottom = place.bottom in
+    turned_around near near_solid particles solid x0 y0 x y column row place.even_sides place.of_walls (omega (arith, right)) (omega (arith, bottom)) view solid_view place.even_column place.even_row in_row in_column around_x around_y

@@ -79,34 +79,17 @@ module _ (c : Classes) (cells : ℕ → ℕ → Bool) (is : AreCounts c cells) (
       (x_is ∙ difference_of right left _ _ (is_right ∙ sym (right_count cells p two)) (is_left ∙ sym (left_count cells p two)))
       (y_is ∙ difference_of down up _ _ (is_down ∙ sym (down_count cells p two)) (is_up ∙ sym (up_count cells p two)))
 
--- a tile that was turned as if there were no walls, with the old cells of walled blocks put back
-pub turned_of_held : (p : ℕ) (tile free out : Tile) (window solid : ℕ → ℕ → Bool) → ShowsTile window tile → HasCells free (turned p window none) → HasCells out (λ x y. if is_walled_at p solid x y then has tile x y else has free x y) → HasCells out (turned p window solid)
-turned_of_held p tile free out window solid shows is_free is_out x y in_row in_column = grind (arith, turned_by_cells)
+-- a tile without walled blocks
+pub turned_of_free : (p : ℕ) (out : Tile) (window solid : ℕ → ℕ → Bool) → HasNoCell (is_walled_at p solid) → HasCells out (made (turned_cell false) p window) → HasCells out (turned p window solid)
+turned_of_free p out window solid none is x y h k =
+    is x y h k ∙ (ap (λ w. turned_at p window w x y) (sym (none x y h k)) ∙ sym (turned_by_cells p window (is_walled_at p solid x y) x y))
 
--- the same with walls and obstacles
-pub turned_of_both : (p : ℕ) (tile free out : Tile) (window walls obstacles : ℕ → ℕ → Bool) → ShowsTile window tile → HasCells free (made (turned_cell false) p window) →
-    HasCells out (λ x y. if is_walled_at p walls x y || is_walled_at p obstacles x y then has tile x y else has free x y) → HasCells out (turned p window (either walls obstacles))
-turned_of_both p tile free out window walls obstacles shows is_free is_out = grind (arith, turned_of_held, turned_by_cells, walled_either)
-
--- what is put back of them, and what is taken
-pub took_at : (p : ℕ) (tile places : Tile) (test : ℕ → ℕ → Bool) → HasCells places test → twice_momentum p (λ x y. has tile x y && has places x y) ≡ twice_momentum p (λ x y. has tile x y && test x y)
-took_at p tile places test is_places = twice_momentum-same p _ _ (λ x y h k. ap (λ b. has tile x y && b) (is_places x y h k))
-
-pub kept_of : (w t f : Bool) → w ≡ false → f ≡ (if w then t else f)
-kept_of w t f h4 = grind arith
-
-pub none_held : (tile before : Tile) (test : ℕ → ℕ → Bool) → HasNoCell test → HasCells before (λ x y. if test x y then has tile x y else has before x y)
-none_held tile before test none x y h k = kept_of (test x y) (has tile x y) (has before x y) (none x y h k)
-
+-- what is taken
 pub none_took : (p : ℕ) (tile : Tile) (test : ℕ → ℕ → Bool) → HasNoCell test → pair (pos 0) (pos 0) ≡ twice_momentum p (λ x y. has tile x y && test x y)
 none_took p tile test none = twice_momentum-none p _ (λ x y h k. and_right (has tile x y) (test x y) (none x y h k))
 
 joined_tests : (t w o : Bool) → (t && (w && not o)) ≡ (t && w && not o)
 joined_tests t w o = grind arith
-
-pub both_held : (p : ℕ) (tile before first out : Tile) (walled obstructed : ℕ → ℕ → Bool) → HasCells first (λ x y. if is_for_walls p walled obstructed x y then has tile x y else has before x y) → HasCells out (λ x y. if is_walled_at p obstructed x y then has tile x y else has first x y)
-    → HasCells out (λ x y. if is_walled_at p walled x y || is_walled_at p obstructed x y then has tile x y else has before x y)
-both_held p tile before first out walled obstructed is_first is_out x y h k = grind arith
 
 pub both_took : (p : ℕ) (tile : Tile) (walled obstructed : ℕ → ℕ → Bool) (c : Counted) (a b : Pair) → a ≡ if_counted c.walls (twice_momentum p (λ x y. has tile x y && is_for_walls p walled obstructed x y))
     → b ≡ if_counted c.obstacles (twice_momentum p (λ x y. has tile x y && is_walled_at p obstructed x y)) → (let r : Took = record { walls = a; obstacles = b } in r) ≡ counted_of c (taken p tile walled obstructed)

@@ -1,24 +1,24 @@
 -- The collision at odd parity in place.
-use Rattle.std.proofs.Common.{◌≡◌, ◌⊎◌, ℕ, ◌+◌, ◌-◌, ◌*◌, ◌/◌, ◌%◌, ◌<◌, ◌≤◌, ◌==◌, Bool, false, if◌then◌else◌, List, Option, Some, None, bit_or, length, get_or, set, refl, sym, subst, ◌∙◌, ap, ap₂, arith, inl, inr, get_or-set_other, get_or-set_same}
+use Rattle.std.proofs.Common.{◌≡◌, ◌⊎◌, ℕ, ◌+◌, ◌-◌, ◌*◌, ◌/◌, ◌%◌, ◌<◌, ◌≤◌, ◌==◌, Bool, false, if◌then◌else◌, List, Option, None, length, get_or, set, refl, sym, subst, ◌∙◌, ap, ap₂, arith, inl, inr, get_or-set_other, get_or-set_same}
 use Rattle.std.proofs.lemmas.Bool.{cases_eq, cases_lt, eq-eqb, ne_eqb}
 use Rattle.bit_tile.specs.Bit.{bit}
 use Rattle.bit_tile.specs.Tile.{has}
 use Rattle.bit_tile.specs.declared.Tile.{Tile}
 use Rattle.bit_tile.proofs.Bits.{bit-zero}
 use Rattle.bit_tile.proofs.Classes.{in_even_even, in_odd_even, in_even_odd, in_odd_odd, row_even, row_odd, even_even_at, odd_even_at, even_odd_at, odd_odd_at}
-use Rattle.block_rule.specs.Around.{block_start, either, is_block_walled, is_walled_at, turned}
+use Rattle.block_rule.specs.Around.{block_start, is_block_walled, is_walled_at, turned}
 use Rattle.block_rule.specs.Cell.{partner, turned_cell}
 use Rattle.block_rule.specs.Rows.{IsMade, odd_row, eight_row, beside_right}
 use Rattle.block_rule.specs.InPlace.{ShowsBegun, NamesRow, IsRowTurned, IsLeaving, IsInnerSeen, IsSeamSeen, AreNamed, HaveTurned, AreEndsKept}
 use Rattle.block_rule.specs.NamedBlocks.{NameBlocks}
-use Rattle.block_rule.specs.Shown.{HasNoCell, TellsRows}
+use Rattle.block_rule.specs.Shown.{HasNoCell}
 use Rattle.block_rule.specs.declared.blocks.Blocks.{Blocks}
 use Rattle.block_rule.specs.declared.blocks.Beside.{Beside}
 use Rattle.block_rule.specs.declared.blocks.EightRows.{EightRows}
 use Rattle.block_rule.proofs.Around.{turned_by_cells}
 use Rattle.block_rule.proofs.Windows.{cell_by, next_shown}
-use Rattle.block_rule.proofs.NamedBlocks.{words_given, nothing_given, first_alone, second_alone, one_named, both_named, tells_alike, tells_either}
-use Rattle.block_rule.specs.TileBlocks.{AreGivenBlocks, walled_by}
+use Rattle.block_rule.proofs.NamedBlocks.{nothing_given, one_named}
+use Rattle.block_rule.specs.TileBlocks.{NamesBlocks, AreGivenBlocks, walled_by}
 use Rattle.block_rule.specs.declared.blocks_in_tile.SetBlocks.{SetBlocks}
 
 -- A column or row x of a tile: where its block begins, where the window has it, and where the window has the block's other one.
@@ -226,35 +226,9 @@ begins_named begins ends solid are j h i k = are.begin i (j + 1) k (omega arith)
 pub none_begins : (solid : ℕ → ℕ → Bool) → HasNoCell (is_walled_at 1 solid) → AreNamed (λ _. 0) solid
 none_begins solid none j h i k = bit-zero i ∙ (sym (none (2 * i + 1) (2 * j + 1) (omega arith) (omega arith)) ∙ ap₂ (is_block_walled solid) (IsPlaced.begin (first_placed i)) (IsPlaced.begin (first_placed j)))
 
--- where a word tells that no block is walled
-pub told_none : (told : ℕ) (test : ℕ → ℕ → Bool) → told ≡ 0 → TellsRows told test → HasNoCell test
-told_none told test e tells x y h k = tells x y h k (ap (λ w. bit w (y / 2)) e ∙ bit-zero (y / 2))
+-- the blocks that are given
+pub none_given : (given : Option SetBlocks) (solid : ℕ → ℕ → Bool) → given ≡ None → AreGivenBlocks given (walled_by solid) → AreNamed (λ _. 0) solid
+none_given given solid e is = none_begins solid (nothing_given given (walled_by solid) e is 1 (omega arith))
 
--- the blocks of two sets that are given
-module _ (walls obstacles : Option SetBlocks) (walled obstructed : ℕ → ℕ → Bool) (of_walls : AreGivenBlocks walls (walled_by walled)) (of_obstacles : AreGivenBlocks obstacles (walled_by obstructed)) where
-  abbrev solid : ℕ → ℕ → Bool
-  solid = either walled obstructed
-
-  pub none_given : walls ≡ None → obstacles ≡ None → AreNamed (λ _. 0) (either walled obstructed)
-  none_given e f =
-      let no_walls = nothing_given walls (walled_by walled) e of_walls 1 (omega arith) in
-      let no_obstacles = nothing_given obstacles (walled_by obstructed) f of_obstacles 1 (omega arith) in
-      none_begins solid (λ x y h k. sym (first_alone 1 walled obstructed no_obstacles x y h k) ∙ no_walls x y h k)
-
-  pub walls_given : (set : SetBlocks) → walls ≡ Some set → obstacles ≡ None → AreNamed (λ k. get_or set.blocks.now.odd.begin k 0) (either walled obstructed) × TellsRows set.rows (is_walled_at 1 (either walled obstructed))
-  walls_given set e f =
-      let same = first_alone 1 walled obstructed (nothing_given obstacles (walled_by obstructed) f of_obstacles 1 (omega arith)) in
-      let named = words_given walls set (walled_by walled) e of_walls in
-      (begins_named _ _ solid (one_named set.blocks.now.odd (is_walled_at 1 walled) solid same named.odd), tells_alike set.rows (is_walled_at 1 walled) (is_walled_at 1 solid) same (named.rows 1 (omega arith)))
-
-  pub obstacles_given : (set : SetBlocks) → walls ≡ None → obstacles ≡ Some set → AreNamed (λ k. get_or set.blocks.now.odd.begin k 0) (either walled obstructed) × TellsRows set.rows (is_walled_at 1 (either walled obstructed))
-  obstacles_given set e f =
-      let same = second_alone 1 walled obstructed (nothing_given walls (walled_by walled) e of_walls 1 (omega arith)) in
-      let named = words_given obstacles set (walled_by obstructed) f of_obstacles in
-      (begins_named _ _ solid (one_named set.blocks.now.odd (is_walled_at 1 obstructed) solid same named.odd), tells_alike set.rows (is_walled_at 1 obstructed) (is_walled_at 1 solid) same (named.rows 1 (omega arith)))
-
-  pub both_given : (w o : SetBlocks) → walls ≡ Some w → obstacles ≡ Some o → AreNamed (λ k. bit_or (get_or w.blocks.now.odd.begin k 0) (get_or o.blocks.now.odd.begin k 0)) (either walled obstructed) × TellsRows (bit_or w.rows o.rows) (is_walled_at 1 (either walled obstructed))
-  both_given w o e f =
-      let named_walls = words_given walls w (walled_by walled) e of_walls in
-      let named_obstacles = words_given obstacles o (walled_by obstructed) f of_obstacles in
-      (begins_named _ _ solid (both_named w.blocks.now.odd o.blocks.now.odd walled obstructed named_walls.odd named_obstacles.odd), tells_either 1 w.rows o.rows walled obstructed (named_walls.rows 1 (omega arith)) (named_obstacles.rows 1 (omega arith)))
+pub set_given : (set : SetBlocks) (solid : ℕ → ℕ → Bool) → NamesBlocks set.rows set.blocks.now (walled_by solid) → AreNamed (λ k. get_or set.blocks.now.odd.begin k 0) solid
+set_given set solid named = begins_named _ _ solid (one_named set.blocks.now.odd solid named.odd)

@@ -11,7 +11,7 @@ use Rattle.bit_tile.proofs.Classes.{IsClass, by_class, is_even_even, is_odd_even
 use Rattle.block_rule.specs.Classes.{AreCounts, particles_among}
 use Rattle.block_rule.specs.Shown.{HasNoCell, TellsRows}
 use Rattle.block_rule.proofs.Blank.{walled_either}
-use Rattle.block_rule.specs.NamedBlocks.{rule_among, AreMadeUpTo, NameBlocks, NameEvenBlocks, IsCollidedOdd, AreEvenBlocksOf, AreOddBlocksOf}
+use Rattle.block_rule.specs.NamedBlocks.{rule_among, AreMadeUpTo, NameBlocks, IsCollidedOdd, AreEvenBlocksOf, AreOddBlocksOf}
 use Rattle.block_rule.specs.declared.blocks_in_tile.OddBlocks.{OddBlocks}
 use Rattle.block_rule.specs.TileBlocks.{NamesBlocks, AreGivenBlocks}
 use Rattle.block_rule.specs.declared.blocks_in_tile.SetBlocks.{SetBlocks}
@@ -41,17 +41,11 @@ pub named_by_cells : (begins ends : ℕ → ℕ) (solid : ℕ → ℕ → Bool) 
     → NameBlocks begins ends solid
 named_by_cells begins ends solid at_odd at_even = grind (arith, odd_start, row_start, even_start)
 
-neither : (w o : Bool) → (w && not o) ≡ false → o ≡ false → false ≡ (w || o)
-neither w o h3 h4 = grind arith
-
 -- where no block is walled
-pub none_named : (out : Tile) (window walled obstructed : ℕ → ℕ → Bool) → HasNoCell (is_for_walls 1 walled obstructed) → HasNoCell (is_walled_at 1 obstructed) → ((solid : ℕ → ℕ → Bool) → NameBlocks (λ _. 0) (λ _. 0) solid → TellsRows 0 (is_walled_at 1 solid) → HasCells out (turned 1 window solid))
-    → HasCells out (turned 1 window (either walled obstructed))
-none_named out window walled obstructed no_walls no_obstacles is =
-    let none : (x y : ℕ) → x < 64 → y < 64 → false ≡ is_walled_at 1 (either walled obstructed) x y = λ x y h k. neither (is_walled_at 1 walled x y) (is_walled_at 1 obstructed x y) (no_walls x y h k) (no_obstacles x y h k) ∙ sym (walled_either 1 walled obstructed x y) in
-    is (either walled obstructed)
-    (named_by_cells (λ _. 0) (λ _. 0) (either walled obstructed) (λ i k h below. bit-zero i ∙ none (2 * i + 1) (2 * k - 1) (omega arith) (omega arith)) (λ i k h below. bit-zero i ∙ none (2 * i + 0) (2 * k - 1) (omega arith) (omega arith)))
-    (λ x y h k e. sym (none x y h k))
+pub none_named : (solid : ℕ → ℕ → Bool) → HasNoCell (is_walled_at 1 solid) → NameBlocks (λ _. 0) (λ _. 0) solid
+none_named solid none =
+    named_by_cells (λ _. 0) (λ _. 0) solid (λ i k h below. bit-zero i ∙ sym (none (2 * i + 1) (2 * k - 1) (omega arith) (omega arith)))
+    (λ i k h below. bit-zero i ∙ sym (none (2 * i + 0) (2 * k - 1) (omega arith) (omega arith)))
 
 module _ (begins ends : ℕ → ℕ) (solid : ℕ → ℕ → Bool) (are : NameBlocks begins ends solid) where
   begin_at : (i k x y : ℕ) → i < 32 → k < 33 → block_start 1 x ≡ 2 * i + 2 → block_start 1 y ≡ 2 * k → bit (begins k) i ≡ is_walled_at 1 solid x y
@@ -149,16 +143,6 @@ words_given given s test e is = subst (λ given. AreGivenBlocks given test) e is
 pub nothing_given : (given : Option SetBlocks) (test : ℕ → ℕ → ℕ → Bool) → given ≡ None → AreGivenBlocks given test → (p : ℕ) → p < 2 → HasNoCell (test p)
 nothing_given given test e is = subst (λ given. AreGivenBlocks given test) e is
 
-pub for_walls_none : (p : ℕ) (walled obstructed : ℕ → ℕ → Bool) → HasNoCell (is_walled_at p walled) → HasNoCell (is_for_walls p walled obstructed)
-for_walls_none p walled obstructed none x y h k = ap (λ w. w && not (is_walled_at p obstructed x y)) (none x y h k)
-
-pub for_walls_all : (p : ℕ) (walled obstructed : ℕ → ℕ → Bool) (x y : ℕ) → is_walled_at p obstructed x y ≡ false → is_walled_at p walled x y ≡ is_for_walls p walled obstructed x y
-for_walls_all p walled obstructed x y none = and_true (is_walled_at p walled x y) (is_walled_at p obstructed x y) none
-  where
-    and_true : (w o : Bool) → o ≡ false → w ≡ (w && not o)
-    and_true true o e = ap not (sym e)
-    and_true false o e = refl
-
 -- the cells in blocks that words name
 even_begins : (i p : ℕ) → p < 2 → block_start 0 (2 * i) ≡ block_start 0 (2 * i + p)
 even_begins i p h = let half : (2 * i + p) / 2 ≡ i = omega arith in ap (λ i. block_start 0 (2 * i)) (sym half) ∙ same_block (2 * i + p)
@@ -214,33 +198,7 @@ module _ (b : OddBlocks) (window : ℕ → ℕ → Bool) (are : AreOddBlocksOf b
       at : (p q : ℕ) → 2 * (x / 2) + p ≡ x → 2 * (y / 2) + q ≡ y → is_walled_at 1 window (2 * (x / 2) + p) (2 * (y / 2) + q) ≡ false → is_walled_at 1 window x y ≡ false
       at p q is_x is_y none = sym (ap₂ (is_walled_at 1 window) is_x is_y) ∙ none
 
-pub even_filled : (words : List ℕ) (window : ℕ → ℕ → Bool) → AreEvenBlocksOf words (is_walled_at 0 window) → HasCells (record { even_even = words; odd_even = words; even_odd = words; odd_odd = words }) (is_walled_at 0 window)
-even_filled words window are =
-    by_class _ (is_walled_at 0 window) (even_class words window are 0 0 (omega arith) (omega arith)) (even_class words window are 1 0 (omega arith) (omega arith)) (even_class words window are 0 1 (omega arith) (omega arith)) (even_class words window are 1 1 (omega arith) (omega arith))
-
-pub odd_filled : (b : OddBlocks) (even_even odd_even even_odd odd_odd : List ℕ) (window : ℕ → ℕ → Bool) → ((j : ℕ) → j < 32 → get_or even_even j 0 ≡ get_or b.end j 0) → ((j : ℕ) → j < 32 → get_or odd_even j 0 ≡ get_or b.begin j 0)
-    → ((j : ℕ) → j < 32 → get_or even_odd j 0 ≡ get_or b.end (j + 1) 0) → ((j : ℕ) → j < 32 → get_or odd_odd j 0 ≡ get_or b.begin (j + 1) 0)
-    → AreOddBlocksOf b (is_walled_at 1 window) → HasCells (record { even_even = even_even; odd_even = odd_even; even_odd = even_odd; odd_odd = odd_odd }) (is_walled_at 1 window)
-odd_filled b even_even odd_even even_odd odd_odd window ee oe eo oo are =
-    by_class _ (is_walled_at 1 window) (end_first b window are even_even ee) (begin_first b window are odd_even oe) (end_last b window are even_odd eo) (begin_last b window are odd_odd oo)
-
--- the blocks of walls and obstacles together
-either_named : (p : ℕ) (walled obstructed : ℕ → ℕ → Bool) (a b x y i : ℕ) → bit a i ≡ is_walled_at p walled x y → bit b i ≡ is_walled_at p obstructed x y → bit (bit_or a b) i ≡ is_walled_at p (either walled obstructed) x y
-either_named p walled obstructed a b x y i of_walls of_obstacles = bit-or a b i ∙ (ap₂ (λ u v. u || v) of_walls of_obstacles ∙ sym (walled_either p walled obstructed x y))
-
-pub both_named : (walls obstacles : OddBlocks) (walled obstructed : ℕ → ℕ → Bool) → AreOddBlocksOf walls (is_walled_at 1 walled) → AreOddBlocksOf obstacles (is_walled_at 1 obstructed)
-    → NameBlocks (λ k. bit_or (get_or walls.begin k 0) (get_or obstacles.begin k 0)) (λ k. bit_or (get_or walls.end k 0) (get_or obstacles.end k 0)) (either walled obstructed)
-both_named walls obstacles walled obstructed of_walls of_obstacles = grind (arith, named_by_cells, either_named)
-
-pub both_even : (walls obstacles : List ℕ) (walled obstructed : ℕ → ℕ → Bool) → AreEvenBlocksOf walls (is_walled_at 0 walled) → AreEvenBlocksOf obstacles (is_walled_at 0 obstructed)
-    → NameEvenBlocks (λ j. bit_or (get_or walls j 0) (get_or obstacles j 0)) (either walled obstructed)
-both_even walls obstacles walled obstructed of_walls of_obstacles i j h k = grind (arith, either_named)
-
--- a word that tells in which rows blocks lie
-pub tells_alike : (rows : ℕ) (some other : ℕ → ℕ → Bool) → ((x y : ℕ) → x < 64 → y < 64 → some x y ≡ other x y) → TellsRows rows some → TellsRows rows other
-tells_alike rows some other same told x y h k e = sym (same x y h k) ∙ told x y h k e
-
--- and those of two sets
+-- a word that tells in which rows the blocks of two sets lie
 pub tells_either : (p rows others : ℕ) (walled obstructed : ℕ → ℕ → Bool) → TellsRows rows (is_walled_at p walled) → TellsRows others (is_walled_at p obstructed) → TellsRows (bit_or rows others) (is_walled_at p (either walled obstructed))
 tells_either p rows others walled obstructed first second x y h k e =
     walled_either p walled obstructed x y ∙ both_false _ _ (first x y h k (or_false_left _ _ (sym (bit-or rows others (y / 2)) ∙ e))) (second x y h k (or_false_right _ _ (sym (bit-or rows others (y / 2)) ∙ e)))
@@ -254,21 +212,5 @@ tells_either p rows others walled obstructed first second x y h k e =
     or_false_right : (a b : Bool) → (a || b) ≡ false → b ≡ false
     or_false_right a b e = grind arith
 
--- where one set has no blocks those of the other are all
-or_none : (a b : Bool) → b ≡ false → a ≡ (a || b)
-or_none a b h3 = grind arith
-
-or_first : (a b : Bool) → a ≡ false → b ≡ (a || b)
-or_first a b h3 = grind arith
-
-pub first_alone : (p : ℕ) (walled obstructed : ℕ → ℕ → Bool) → HasNoCell (is_walled_at p obstructed) → (x y : ℕ) → x < 64 → y < 64 → is_walled_at p walled x y ≡ is_walled_at p (either walled obstructed) x y
-first_alone p walled obstructed none x y h k = or_none (is_walled_at p walled x y) (is_walled_at p obstructed x y) (none x y h k) ∙ sym (walled_either p walled obstructed x y)
-
-pub second_alone : (p : ℕ) (walled obstructed : ℕ → ℕ → Bool) → HasNoCell (is_walled_at p walled) → (x y : ℕ) → x < 64 → y < 64 → is_walled_at p obstructed x y ≡ is_walled_at p (either walled obstructed) x y
-second_alone p walled obstructed none x y h k = or_first (is_walled_at p walled x y) (is_walled_at p obstructed x y) (none x y h k) ∙ sym (walled_either p walled obstructed x y)
-
-pub even_alike : (words : List ℕ) (some other : ℕ → ℕ → Bool) → ((x y : ℕ) → x < 64 → y < 64 → some x y ≡ other x y) → AreEvenBlocksOf words some → AreEvenBlocksOf words other
-even_alike words some other same are i j h k = are i j h k ∙ same (2 * i) (2 * j) (omega arith) (omega arith)
-
-pub one_named : (b : OddBlocks) (some solid : ℕ → ℕ → Bool) → ((x y : ℕ) → x < 64 → y < 64 → some x y ≡ is_walled_at 1 solid x y) → AreOddBlocksOf b some → NameBlocks (λ k. get_or b.begin k 0) (λ k. get_or b.end k 0) solid
-one_named b some solid same are = grind (arith, named_by_cells)
+pub one_named : (b : OddBlocks) (solid : ℕ → ℕ → Bool) → AreOddBlocksOf b (is_walled_at 1 solid) → NameBlocks (λ k. get_or b.begin k 0) (λ k. get_or b.end k 0) solid
+one_named b solid are = grind (arith, named_by_cells)

@@ -118,6 +118,12 @@ pub tiles_turned : (p : ℕ) (particles walls obstacles : Cells) (x0 y0 : ℕ) (
 tiles_turned p particles walls obstacles x0 y0 near near_walls near_obstacles small place near_view walls_view obstacles_view =
     turned_is_streamed p particles walls obstacles x0 y0 near_walls near_obstacles place walls_view obstacles_view has-cells_where cell_streamed cell_walled near small near_view
 
+-- the same with one set
+pub set_turned : (p : ℕ) (particles solid : Cells) (x0 y0 : ℕ) (near near_solid : ℕ → ℕ → Bool) → p < 2 → IsTilePlace particles solid solid x0 y0 → IsView p near particles x0 y0 → IsView p near_solid solid x0 y0 →
+    (x y : ℕ) → x < 64 → y < 64 → turned p near near_solid x y ≡ plane.has (streamed p particles solid) (x0 + x) (y0 + y)
+set_turned p particles solid x0 y0 near near_solid small place view solid_view x y in_row in_column =
+    turned_same cell_streamed cell_walled p near near_solid particles solid x0 y0 x y small place.even_sides place.of_walls.wide place.of_walls.high view solid_view place.even_column place.even_row in_row in_column (omega (arith, place.right)) (omega (arith, place.bottom))
+
 -- what a tile sees
 pub window_is_view : (p : ℕ) (window : ℕ → ℕ → Bool) (cells : Cells) (x0 y0 : ℕ) → p < 2 → IsWindow window cells x0 y0 → IsView p window cells x0 y0
 window_is_view p window cells x0 y0 small is = grind arith

@@ -1,7 +1,8 @@
 //! The blocks of a tile that have a cell of a set.
 
-ghost use Rattle.std.specs.Prelude.{◌≡◌, ℕ, ◌*◌, ◌<◌, ◌≤◌, Bool};
-ghost use Rattle.block_rule.specs.Around.{is_walled_at};
+ghost use Rattle.std.specs.Prelude.{◌≡◌, ℕ, ◌*◌, ◌<◌, ◌≤◌, Bool, ◌||◌, slice_index};
+ghost use Rattle.bit_tile.specs.Bit.{bit};
+ghost use Rattle.block_rule.specs.Around.{either, is_walled_at};
 ghost use Rattle.block_rule.specs.Rows.{ShowsTile, ShowsOddRow};
 ghost use Rattle.block_rule.specs.Shown.{IsSeenIn, TellsRows};
 ghost use Rattle.block_rule.specs.NamedBlocks.{AreEvenBlocksOf, AreOddBlocksOf};
@@ -109,6 +110,16 @@ fn renew_rows(rows: u32, blocks: &TileBlocks, from: usize, end: usize) -> u32
     told
 }
 
+// Words name the blocks that others name, too.
+fn add<const N: usize>(words: &mut [u32; N], others: &[u32; N])
+    ensures { (i k : ℕ) → k < N → bit (slice_index words.new k) i
+        ≡ (bit (slice_index words.old k) i || bit (slice_index others.now k) i) }
+{
+    for k in 0..N {
+        words[k] |= others[k];
+    }
+}
+
 impl TileBlocks {
     /// No block.
     pub const NONE: TileBlocks = TileBlocks {
@@ -131,6 +142,20 @@ impl TileBlocks {
         renew_even(&mut self.even, set.tile, from, end);
         renew_odd(&mut self.odd, set, from, end);
         renew_rows(rows, self, from, end)
+    }
+
+    /// Adds the blocks of another set. `rows` tells in which of the tile's rows they lay; returns the word that tells it now.
+    pub fn join(&mut self, rows: u32, other: SetBlocks<'_>) -> u32
+        ensures { (walled obstructed : ℕ → ℕ → Bool) →
+            NamesBlocks rows self.old (walled_by walled) →
+            NamesBlocks other.entry.rows other.entry.blocks.now (walled_by obstructed) →
+            NamesBlocks result self.new (walled_by (either walled obstructed)) }
+    {
+        let TileBlocks { even, odd } = other.blocks;
+        add(&mut self.even, even);
+        add(&mut self.odd.begin, &odd.begin);
+        add(&mut self.odd.end, &odd.end);
+        rows | other.rows
     }
 }
 

@@ -1,11 +1,11 @@
 //! The momentum of particles in given places, by their counts.
 
-ghost use Rattle.std.specs.Prelude.{◌≡◌, ℕ, ◌+◌, ◌*◌, ◌<◌, ◌≤◌, ◌&&◌, Bool, false, slice_index, pos, ◌-ℤ◌};
-ghost use Rattle.bit_tile.specs.Tile.{has};
+ghost use Rattle.std.specs.Prelude.{◌≡◌, ℕ, ◌+◌, ◌*◌, ◌<◌, ◌≤◌, ◌&&◌, Bool, false, slice_index, pos, ◌-ℤ◌, nat_abs};
+ghost use Rattle.gas_terms.specs.Accounts.{IsTakenOfAtMost};
 ghost use Rattle.block_rule.specs.Around.{twice_momentum};
 ghost use Rattle.block_rule.specs.Classes.{HasAtMost, AreCounts, particles_among};
 
-use bit_tile::{Tile, joined};
+use bit_tile::joined;
 use gas_terms::Pair;
 
 /// How many of a class's cells there are in these places.
@@ -36,7 +36,8 @@ pub struct Classes {
 fn twice(forward: u32, back: u32) -> i64
     requires forward { forward ≤ 2048 }
     requires back { back ≤ 2048 }
-    ensures { result ≡ pos (2 * forward) -ℤ pos (2 * back) }
+    ensures is { result ≡ pos (2 * forward) -ℤ pos (2 * back) }
+    ensures few { nat_abs result ≤ 8192 }
 {
     2 * i64::from(forward) - 2 * i64::from(back)
 }
@@ -46,8 +47,9 @@ fn twice(forward: u32, back: u32) -> i64
 pub fn momentum(counts: Classes, parity: u8) -> Pair
     requires counts { HasAtMost 1024 counts }
     requires parity { parity < 2 }
-    ensures { (cells : ℕ → ℕ → Bool) → AreCounts counts cells →
+    ensures is { (cells : ℕ → ℕ → Bool) → AreCounts counts cells →
         result ≡ twice_momentum parity cells }
+    ensures few { IsTakenOfAtMost 4096 result }
 {
     let even_columns = counts.even_even + counts.even_odd;
     let odd_columns = counts.odd_even + counts.odd_odd;
@@ -63,18 +65,4 @@ pub fn momentum(counts: Classes, parity: u8) -> Pair
         x: twice(odd_columns, even_columns),
         y: twice(odd_rows, even_rows),
     }
-}
-
-/// Twice the momentum of a tile's particles in these places.
-pub fn momentum_in(tile: &Tile, places: &Tile, parity: u8) -> Pair
-    requires { parity < 2 }
-    ensures { result ≡ twice_momentum parity (λ x y. has tile.now x y && has places.now x y) }
-{
-    let counts = Classes {
-        even_even: count_class(&tile.even_even, &places.even_even),
-        odd_even: count_class(&tile.odd_even, &places.odd_even),
-        even_odd: count_class(&tile.even_odd, &places.even_odd),
-        odd_odd: count_class(&tile.odd_odd, &places.odd_odd),
-    };
-    momentum(counts, parity)
 }

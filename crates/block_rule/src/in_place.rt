@@ -4,15 +4,15 @@
 
 ghost use Rattle.std.specs.Prelude.{◌≡◌, ℕ, ◌+◌, ◌*◌, ◌<◌, ◌≤◌, Bool, slice_index};
 ghost use Rattle.bit_tile.specs.Tile.{has};
-ghost use Rattle.block_rule.specs.Around.{turned, either};
-ghost use Rattle.block_rule.specs.TileBlocks.{AreGivenBlocks, walled_by};
+ghost use Rattle.block_rule.specs.Around.{turned};
+ghost use Rattle.block_rule.specs.TileBlocks.{AreGivenBlocks, NamesBlocks, walled_by};
 ghost use Rattle.block_rule.specs.Rows.{odd_row, eight_row, beside_right};
 ghost use Rattle.block_rule.specs.InPlace.{ShowsBegun, NamesRow, IsRowTurned, IsLeaving, IsInnerSeen, IsSeamSeen, AreRowsSeen, AreNamed, IsCarried, carried_row, last_carried_row, eight_leaving, HaveTurned, AreEndsKept};
 
 use crate::blocks::{Beside, Blocks, EightRows, collided, next, previous};
 use crate::blocks_in_tile::SetBlocks;
 use crate::made::write_eight;
-use crate::walled::{NoBlocks, OfBoth, OfOne, Walled};
+use crate::walled::{NoBlocks, OfOne, Walled};
 use bit_tile::Tile;
 
 /// What the blocks that begin in a tile carry on to the tile to the right: of each word the last bit is for its first column. The
@@ -175,11 +175,10 @@ fn turned_last<W: Walled>(walled: W, tile: &Tile, right: &Tile, carry: &Carry) -
     eight
 }
 
-/// Turns, in place, the rows of blocks that begin in a tile and lie in its row of tiles: its rows 1 to 62. `right` is the tile to
-/// the right as it was before the phase. `carry` has what the tile to the left carries on, and gets what this one does.
-// Row 23 is turned twice, so that all are whole vectors. It is made before its words are written.
+// The rows of blocks that begin in a tile and lie in its row of tiles. Row 23 is turned twice, so that all are whole vectors. It is
+// made before its words are written.
 #[inline(always)]
-pub fn turn_begun<W: Walled>(walled: W, tile: &mut Tile, right: &Tile, carry: &mut Carry)
+fn turn_begun<W: Walled>(walled: W, tile: &mut Tile, right: &Tile, carry: &mut Carry)
     ensures turned { (window solid : ℕ → ℕ → Bool) → IsInnerSeen window tile.old right.now →
         AreNamed (W.begins walled) solid → IsCarried carry.old (turned 1 window solid 0) →
         (x y : ℕ) → x < 64 → 1 ≤ y → y < 63 → has tile.new x y ≡ turned 1 window solid x y }
@@ -195,9 +194,9 @@ pub fn turn_begun<W: Walled>(walled: W, tile: &mut Tile, right: &Tile, carry: &m
     carry.last_lower = last.lower;
 }
 
-/// What a tile carries on, without turning it. A row of tiles begins with what its last tile carries on to the first.
+// What a tile carries on, without turning it.
 #[inline(always)]
-pub fn carried_on<W: Walled>(walled: W, tile: &Tile, right: &Tile) -> Carry
+fn carried_among<W: Walled>(walled: W, tile: &Tile, right: &Tile) -> Carry
     ensures { (window solid : ℕ → ℕ → Bool) → IsInnerSeen window tile.now right.now →
         AreNamed (W.begins walled) solid → IsCarried result (turned 1 window solid 64) }
 {
@@ -277,118 +276,87 @@ pub fn put_top(tile: &mut Tile, row: &Blocks)
 
 // Among walled blocks as one call, which the loops without walls don't hold.
 #[inline(never)]
-fn turn_apart<W: Walled>(walled: W, tile: &mut Tile, right: &Tile, carry: &mut Carry)
+fn turn_apart(set: SetBlocks<'_>, tile: &mut Tile, right: &Tile, carry: &mut Carry)
     ensures turned { (window solid : ℕ → ℕ → Bool) → IsInnerSeen window tile.old right.now →
-        AreNamed (W.begins walled) solid → IsCarried carry.old (turned 1 window solid 0) →
+        NamesBlocks set.entry.rows set.entry.blocks.now (walled_by solid) →
+        IsCarried carry.old (turned 1 window solid 0) →
         (x y : ℕ) → x < 64 → 1 ≤ y → y < 63 → has tile.new x y ≡ turned 1 window solid x y }
     ensures leaving { (window solid : ℕ → ℕ → Bool) → IsInnerSeen window tile.old right.now →
-        AreNamed (W.begins walled) solid → IsCarried carry.new (turned 1 window solid 64) }
+        NamesBlocks set.entry.rows set.entry.blocks.now (walled_by solid) →
+        IsCarried carry.new (turned 1 window solid 64) }
     ensures top { (x : ℕ) → x < 64 → has tile.new x 0 ≡ has tile.old x 0 }
     ensures bottom { (x : ℕ) → x < 64 → has tile.new x 63 ≡ has tile.old x 63 }
 {
-    turn_begun(walled, tile, right, carry)
+    turn_begun(OfOne { set }, tile, right, carry)
 }
 
 // The same as one call.
 #[inline(never)]
-fn carried_apart<W: Walled>(walled: W, tile: &Tile, right: &Tile) -> Carry
+fn carried_apart(set: SetBlocks<'_>, tile: &Tile, right: &Tile) -> Carry
     ensures { (window solid : ℕ → ℕ → Bool) → IsInnerSeen window tile.now right.now →
-        AreNamed (W.begins walled) solid → IsCarried result (turned 1 window solid 64) }
+        NamesBlocks set.entry.rows set.entry.blocks.now (walled_by solid) →
+        IsCarried result (turned 1 window solid 64) }
 {
-    carried_on(walled, tile, right)
+    carried_among(OfOne { set }, tile, right)
 }
 
-/// The walls and the obstacles of a tile: the words that name the walled blocks, if there may be any.
-#[derive(Clone, Copy)]
-pub struct WalledSets<'a> {
-    pub walls: Option<SetBlocks<'a>>,
-    pub obstacles: Option<SetBlocks<'a>>,
+/// Turns, in place, the rows of odd blocks that begin in a tile and end in its row of tiles: its rows 1 to 62. `walled` names the
+/// walled blocks, and `right` is the tile to the right as it was before the phase. `carry` has what the tile to the left carries
+/// on, and gets what this one does.
+#[inline(always)]
+pub fn turn_inner(walled: Option<SetBlocks<'_>>, tile: &mut Tile, right: &Tile, carry: &mut Carry)
+    ensures turned { (window solid : ℕ → ℕ → Bool) → IsInnerSeen window tile.old right.now →
+        AreGivenBlocks walled.entry (walled_by solid) →
+        IsCarried carry.old (turned 1 window solid 0) →
+        (x y : ℕ) → x < 64 → 1 ≤ y → y < 63 → has tile.new x y ≡ turned 1 window solid x y }
+    ensures leaving { (window solid : ℕ → ℕ → Bool) → IsInnerSeen window tile.old right.now →
+        AreGivenBlocks walled.entry (walled_by solid) →
+        IsCarried carry.new (turned 1 window solid 64) }
+    ensures top { (x : ℕ) → x < 64 → has tile.new x 0 ≡ has tile.old x 0 }
+    ensures bottom { (x : ℕ) → x < 64 → has tile.new x 63 ≡ has tile.old x 63 }
+{
+    match walled {
+        None => turn_begun(NoBlocks, tile, right, carry),
+        Some(set) => turn_apart(set, tile, right, carry),
+    }
 }
 
-impl<'a> WalledSets<'a> {
-    /// Turns, in place, the rows of odd blocks that begin in a tile and end in its row of tiles: its rows 1 to 62. `right` is the
-    /// tile to the right as it was before the phase. `carry` has what the tile to the left carries on, and gets what this one does.
-    #[inline(always)]
-    pub fn turn_inner(self, tile: &mut Tile, right: &Tile, carry: &mut Carry)
-        ensures turned { (window walled obstructed : ℕ → ℕ → Bool) →
-            IsInnerSeen window tile.old right.now →
-            AreGivenBlocks self.entry.walls (walled_by walled) →
-            AreGivenBlocks self.entry.obstacles (walled_by obstructed) →
-            IsCarried carry.old (turned 1 window (either walled obstructed) 0) →
-            (x y : ℕ) → x < 64 → 1 ≤ y → y < 63 →
-            has tile.new x y ≡ turned 1 window (either walled obstructed) x y }
-        ensures leaving { (window walled obstructed : ℕ → ℕ → Bool) →
-            IsInnerSeen window tile.old right.now →
-            AreGivenBlocks self.entry.walls (walled_by walled) →
-            AreGivenBlocks self.entry.obstacles (walled_by obstructed) →
-            IsCarried carry.new (turned 1 window (either walled obstructed) 64) }
-        ensures top { (x : ℕ) → x < 64 → has tile.new x 0 ≡ has tile.old x 0 }
-        ensures bottom { (x : ℕ) → x < 64 → has tile.new x 63 ≡ has tile.old x 63 }
-    {
-        match (self.walls, self.obstacles) {
-            (None, None) => turn_begun(NoBlocks, tile, right, carry),
-            (Some(set), None) => turn_apart(OfOne { set }, tile, right, carry),
-            (None, Some(set)) => turn_apart(OfOne { set }, tile, right, carry),
-            (Some(walls), Some(obstacles)) => {
-                turn_apart(OfBoth { walls, obstacles }, tile, right, carry);
-            }
-        }
+/// What a tile carries on. A row of tiles begins with what its last tile carries on to the first.
+#[inline(always)]
+pub fn carried_on(walled: Option<SetBlocks<'_>>, tile: &Tile, right: &Tile) -> Carry
+    ensures { (window solid : ℕ → ℕ → Bool) → IsInnerSeen window tile.now right.now →
+        AreGivenBlocks walled.entry (walled_by solid) →
+        IsCarried result (turned 1 window solid 64) }
+{
+    match walled {
+        None => carried_among(NoBlocks, tile, right),
+        Some(set) => carried_apart(set, tile, right),
     }
+}
 
-    /// What a tile carries on. A row of tiles begins with what its last tile carries on to the first.
-    #[inline(always)]
-    pub fn carried_on(self, tile: &Tile, right: &Tile) -> Carry
-        ensures { (window walled obstructed : ℕ → ℕ → Bool) →
-            IsInnerSeen window tile.now right.now →
-            AreGivenBlocks self.entry.walls (walled_by walled) →
-            AreGivenBlocks self.entry.obstacles (walled_by obstructed) →
-            IsCarried result (turned 1 window (either walled obstructed) 64) }
-    {
-        match (self.walls, self.obstacles) {
-            (None, None) => carried_on(NoBlocks, tile, right),
-            (Some(set), None) => carried_apart(OfOne { set }, tile, right),
-            (None, Some(set)) => carried_apart(OfOne { set }, tile, right),
-            (Some(walls), Some(obstacles)) => carried_apart(
-                OfBoth { walls, obstacles },
-                tile,
-                right,
-            ),
-        }
-    }
+/// Turns the row of blocks that begin in a tile's last row. `coming` is what the row of blocks in the tile to the left carries on.
+#[inline(always)]
+pub fn turned_seam(walled: Option<SetBlocks<'_>>, row: SeamRow, coming: Beside) -> TurnedRow
+    ensures own { (window solid : ℕ → ℕ → Bool) → ShowsBegun window 31 row.own row.right →
+        AreGivenBlocks walled.entry (walled_by solid) →
+        IsLeaving coming (turned 1 window solid 0) 31 →
+        IsRowTurned result.own (turned 1 window solid) 31 }
+    ensures leaving { (window solid : ℕ → ℕ → Bool) → ShowsBegun window 31 row.own row.right →
+        AreGivenBlocks walled.entry (walled_by solid) →
+        IsLeaving result.leaving (turned 1 window solid 64) 31 }
+{
+    let SeamRow { own, right } = row;
+    turned_row(own, right, seam_word(walled), coming)
+}
 
-    /// Turns the row of blocks that begin in a tile's last row. `coming` is what the row of blocks in the tile to the left carries
-    /// on.
-    #[inline(always)]
-    pub fn turned_seam(self, row: SeamRow, coming: Beside) -> TurnedRow
-        ensures own { (window walled obstructed : ℕ → ℕ → Bool) →
-            ShowsBegun window 31 row.own row.right →
-            AreGivenBlocks self.entry.walls (walled_by walled) →
-            AreGivenBlocks self.entry.obstacles (walled_by obstructed) →
-            IsLeaving coming (turned 1 window (either walled obstructed) 0) 31 →
-            IsRowTurned result.own (turned 1 window (either walled obstructed)) 31 }
-        ensures leaving { (window walled obstructed : ℕ → ℕ → Bool) →
-            ShowsBegun window 31 row.own row.right →
-            AreGivenBlocks self.entry.walls (walled_by walled) →
-            AreGivenBlocks self.entry.obstacles (walled_by obstructed) →
-            IsLeaving result.leaving (turned 1 window (either walled obstructed) 64) 31 }
-    {
-        let SeamRow { own, right } = row;
-        turned_row(own, right, self.seam_word(), coming)
-    }
-
-    // Its walled blocks.
-    #[inline(always)]
-    fn seam_word(self) -> u32
-        ensures { (walled obstructed : ℕ → ℕ → Bool) →
-            AreGivenBlocks self.entry.walls (walled_by walled) →
-            AreGivenBlocks self.entry.obstacles (walled_by obstructed) →
-            NamesRow result (either walled obstructed) 31 }
-    {
-        match (self.walls, self.obstacles) {
-            (None, None) => 0,
-            (Some(set), None) => OfOne { set }.begin(32),
-            (None, Some(set)) => OfOne { set }.begin(32),
-            (Some(walls), Some(obstacles)) => OfBoth { walls, obstacles }.begin(32),
-        }
+// Its walled blocks.
+#[inline(always)]
+fn seam_word(walled: Option<SetBlocks<'_>>) -> u32
+    ensures { (solid : ℕ → ℕ → Bool) → AreGivenBlocks walled.entry (walled_by solid) →
+        NamesRow result solid 31 }
+{
+    match walled {
+        None => 0,
+        Some(set) => OfOne { set }.begin(32),
     }
 }

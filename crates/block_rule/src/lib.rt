@@ -21,7 +21,9 @@ mod walled;
 use bit_tile::Tile;
 pub use blocks::Beside;
 pub use blocks_in_tile::{OddBlocks, SetBlocks, TileBlocks, tile_blocks};
-pub use in_place::{Carry, SeamRow, TurnedRow, WalledSets, put_bottom, put_top, seam_row};
+pub use in_place::{
+    Carry, SeamRow, TurnedRow, carried_on, put_bottom, put_top, seam_row, turn_inner, turned_seam,
+};
 pub use named::{taken_among, turn_tile_even, turn_tile_odd};
 pub use one_tile::{turn_block, turn_tile};
 use tile_border::Round;

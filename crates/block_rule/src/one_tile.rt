@@ -68,24 +68,25 @@ pub fn turn_tile(
         (around obstacles.now obstacle_border.now)) x y) }
 {
     let near_walls = wall_border.neighbors();
-    let (rows, blocks) = tile_blocks(&window_of(walls, &near_walls));
-    let walls = Some(SetBlocks {
-        rows,
-        blocks: &blocks,
-    });
+    let (wall_rows, mut blocks) = tile_blocks(&window_of(walls, &near_walls));
     let near_obstacles = obstacle_border.neighbors();
-    let (rows, blocks) = tile_blocks(&window_of(obstacles, &near_obstacles));
-    let obstacles = Some(SetBlocks {
+    let (rows, with_obstacle) = tile_blocks(&window_of(obstacles, &near_obstacles));
+    let obstacles = SetBlocks {
+        rows,
+        blocks: &with_obstacle,
+    };
+    let rows = blocks.join(wall_rows, obstacles);
+    let walled = Some(SetBlocks {
         rows,
         blocks: &blocks,
     });
-    let took = taken_among(tile, walls, obstacles, parity, Counted::BOTH);
+    let took = taken_among(tile, walled, Some(obstacles), parity, Counted::BOTH);
     let mut out = *tile;
     if parity == 0 {
-        turn_tile_even(&mut out, walls, obstacles);
+        turn_tile_even(&mut out, walled);
     } else {
         let near = border.neighbors();
-        turn_tile_odd(&window_of(tile, &near), walls, obstacles, &mut out);
+        turn_tile_odd(&window_of(tile, &near), walled, &mut out);
     }
     (out, took)
 }

@@ -1,7 +1,6 @@
 //! The walled blocks of a tile, and which accounts are kept of what they take.
 
 ghost use Rattle.std.specs.Prelude.{◌≡◌, ℕ, ◌+◌, ◌<◌, ◌≤◌, false, slice_index};
-ghost use Rattle.std.specs.Int.Bits.{bit_or};
 ghost use Rattle.bit_tile.specs.Bit.{bit};
 
 use crate::blocks_in_tile::SetBlocks;
@@ -16,7 +15,7 @@ pub fn bits_from(rows: u32, from: usize, n: u32) -> u32
     (rows >> from) % (1 << n)
 }
 
-/// The walled blocks of a tile, as words like those of `TileBlocks`: of no set, of one or of two. Bit j of `rows` is 0 only if no
+/// The walled blocks of a tile, as words like those of `TileBlocks`: of no set, or of one. Bit j of `rows` is 0 only if no
 /// walled block lies in the tile's rows 2 * j and 2 * j + 1.
 pub trait Walled: Copy {
     ghost told: { Self → ℕ };
@@ -110,49 +109,6 @@ impl<'a> Walled for OfOne<'a> {
     #[inline]
     fn end(self, k: usize) -> u32 {
         self.set.blocks.odd.end[k]
-    }
-}
-
-/// The blocks of two sets are walled.
-#[derive(Clone, Copy)]
-pub struct OfBoth<'a> {
-    pub walls: SetBlocks<'a>,
-    pub obstacles: SetBlocks<'a>,
-}
-
-impl<'a> Walled for OfBoth<'a> {
-    ghost told = { λ b. bit_or b.walls.rows b.obstacles.rows };
-
-    ghost evens = { λ b k.
-        bit_or (slice_index b.walls.blocks.now.even k)
-        (slice_index b.obstacles.blocks.now.even k) };
-
-    ghost begins = { λ b k.
-        bit_or (slice_index b.walls.blocks.now.odd.begin k)
-        (slice_index b.obstacles.blocks.now.odd.begin k) };
-
-    ghost ends = { λ b k.
-        bit_or (slice_index b.walls.blocks.now.odd.end k)
-        (slice_index b.obstacles.blocks.now.odd.end k) };
-
-    #[inline]
-    fn rows(self) -> u32 {
-        self.walls.rows | self.obstacles.rows
-    }
-
-    #[inline]
-    fn even(self, k: usize) -> u32 {
-        self.walls.blocks.even[k] | self.obstacles.blocks.even[k]
-    }
-
-    #[inline]
-    fn begin(self, k: usize) -> u32 {
-        self.walls.blocks.odd.begin[k] | self.obstacles.blocks.odd.begin[k]
-    }
-
-    #[inline]
-    fn end(self, k: usize) -> u32 {
-        self.walls.blocks.odd.end[k] | self.obstacles.blocks.odd.end[k]
     }
 }
 

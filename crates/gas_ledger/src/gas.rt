@@ -107,7 +107,7 @@ impl Gas {
         // The types of the parts keep it: the tick is in its range, walls and obstacles are lattices of the size, and the
         // ports are a port set.
         let _ = self.tick.get();
-        let _ = self.solids.walls.cells().size();
+        let _ = self.solids.walls.size();
         let _ = self.solids.obstacles.cells().size();
         let _ = self.ports.drains();
         self.particles.size()
@@ -124,7 +124,7 @@ impl Gas {
     pub fn walls(&self) -> &Plane
         ensures { result.now ≡ self.now.walls }
     {
-        self.solids.walls.cells()
+        &self.solids.walls
     }
 
     /// The cells with an obstacle.

@@ -5,8 +5,9 @@ use crate::gases::pair;
 use crate::lattices::same_cells;
 use bit_tile::Tile;
 use block_rule::{
-    Beside, Carry, Counted, SetBlocks, TileBlocks, WalledSets, Window, put_bottom, put_top,
-    seam_row, taken_among, tile_blocks, turn_block, turn_tile, turn_tile_even, turn_tile_odd,
+    Beside, Carry, Counted, SetBlocks, TileBlocks, Window, carried_on, put_bottom, put_top,
+    seam_row, taken_among, tile_blocks, turn_block, turn_inner, turn_tile, turn_tile_even,
+    turn_tile_odd, turned_seam,
 };
 use gas_terms::Took;
 use std::process::Abort;
@@ -107,11 +108,25 @@ fn given(named: &(u32, TileBlocks)) -> Option<SetBlocks<'_>> {
     })
 }
 
+// Those with a cell of either tile.
+fn joined(some: &(u32, TileBlocks), others: &(u32, TileBlocks)) -> (u32, TileBlocks) {
+    let (rows, mut blocks) = *some;
+    let (more, with) = others;
+    let rows = blocks.join(
+        rows,
+        SetBlocks {
+            rows: *more,
+            blocks: with,
+        },
+    );
+    (rows, blocks)
+}
+
 // The tile with this border after the rule at an odd tick, without walls.
 fn turned_odd(old: &Tile, border: &Border) -> Tile {
     let near = border.neighbors();
     let mut out = Tile::full();
-    turn_tile_odd(&window(old, &near), None, None, &mut out);
+    turn_tile_odd(&window(old, &near), None, &mut out);
     out
 }
 
@@ -122,14 +137,14 @@ fn particles_cross_their_blocks(rt: HostRuntime) {
     // A lone particle crosses its block, and a pair that meets head on turns.
     let even = [(1, 1), (11, 10), (10, 11), (62, 63)].as_slice();
     let mut free = old;
-    turn_tile_even(&mut free, None, None);
+    turn_tile_even(&mut free, None);
     expect_that(&rt, has_just(&free, even));
     let mut among_none = old;
     let named = blocks_of(&none);
     let blocks = given(&named);
     let took = taken_among(&old, blocks, blocks, 0, Counted::BOTH);
     expect_same(&rt, took, Took::ZERO);
-    turn_tile_even(&mut among_none, blocks, blocks);
+    turn_tile_even(&mut among_none, blocks);
     expect_that(&rt, has_just(&among_none, even));
 
     // At odd parity (10, 10) and (11, 11) are in blocks of their own, and (0, 0) and (63, 62) leave the tile.
@@ -151,7 +166,7 @@ fn particles_of_named_blocks_stay(rt: HostRuntime) {
     expect_same(&rt, named.1.even[5], 1 << 5);
     let took = taken_among(&tile, given(&named), None, 0, Counted::BOTH);
     expect_same(&rt, (took.walls, took.obstacles), (pair(2, 2), pair(0, 0)));
-    turn_tile_even(&mut tile, given(&named), None);
+    turn_tile_even(&mut tile, given(&named));
     expect_that(&rt, has_just(&tile, [(1, 1), (10, 10)].as_slice()));
 
     // Without those cells, in rows 11 and 12 of the window, no block is walled.
@@ -170,27 +185,29 @@ fn accounts_that_are_not_kept_are_zero(rt: HostRuntime) {
     let near = no_border().neighbors();
     let even_walls = blocks_of(&cells_at(0b1111, 10, 10));
     let even_obstacles = blocks_of(&cells_at(0b1111, 20, 20));
+    let even = joined(&even_walls, &even_obstacles);
     let odd_walls = blocks_of(&cells_at(0b1111, 9, 9));
     let odd_obstacles = blocks_of(&cells_at(0b1111, 19, 21));
+    let odd = joined(&odd_walls, &odd_obstacles);
     for (walls, obstacles) in [(true, false), (false, true), (true, true), (false, false)] {
         let counted = Counted { walls, obstacles };
 
         let mut tile = old;
-        let walled = given(&even_walls);
+        let walled = given(&even);
         let obstructed = given(&even_obstacles);
         let took = taken_among(&tile, walled, obstructed, 0, counted);
-        turn_tile_even(&mut tile, walled, obstructed);
+        turn_tile_even(&mut tile, walled);
         expect_that(&rt, same_cells(&tile, &old));
         let of_walls = if walls { pair(2, 2) } else { pair(0, 0) };
         let of_obstacles = if obstacles { pair(2, -2) } else { pair(0, 0) };
         expect_same(&rt, (took.walls, took.obstacles), (of_walls, of_obstacles));
 
         let mut tile = Tile::full();
-        let walled = given(&odd_walls);
+        let walled = given(&odd);
         let obstructed = given(&odd_obstacles);
         let particles = window(&old, &near);
         let took = taken_among(&old, walled, obstructed, 1, counted);
-        turn_tile_odd(&particles, walled, obstructed, &mut tile);
+        turn_tile_odd(&particles, walled, &mut tile);
         expect_that(&rt, same_cells(&tile, &old));
         let of_walls = if walls { pair(-2, -2) } else { pair(0, 0) };
         let of_obstacles = if obstacles { pair(-2, 2) } else { pair(0, 0) };
@@ -323,19 +340,6 @@ fn walls_and_obstacles_turn_particles_back(rt: HostRuntime) {
     expect_same(&rt, took.obstacles, pair(-2, -2));
 }
 
-// Walls and obstacles of a tile of which these blocks are walled.
-fn walled_by(named: &(u32, TileBlocks)) -> WalledSets<'_> {
-    WalledSets {
-        walls: given(named),
-        obstacles: None,
-    }
-}
-
-const FREE: WalledSets<'static> = WalledSets {
-    walls: None,
-    obstacles: None,
-};
-
 /// At an odd tick blocks begin in odd columns and rows. Those of the last column end in the tile to the right: a particle from (63, 5)
 /// goes to its (0, 6), and one from its (0, 10) comes to (63, 9). What the tile to the left carries on arrives in column 0.
 #[test]
@@ -343,21 +347,21 @@ fn particles_are_carried_on_along_a_row_of_tiles(rt: HostRuntime) {
     let mut tile = tile_of([(1, 1), (63, 5), (20, 0), (20, 63)].as_slice());
     let right = tile_of([(0, 10)].as_slice());
     let left = tile_of([(63, 3), (63, 49)].as_slice());
-    let mut carry = FREE.carried_on(&left, &tile);
-    FREE.turn_inner(&mut tile, &right, &mut carry);
+    let mut carry = carried_on(None, &left, &tile);
+    turn_inner(None, &mut tile, &right, &mut carry);
     // Rows 0 and 63 stay for the rows of tiles above and below.
     let cells = [(2, 2), (63, 9), (0, 4), (0, 50), (20, 0), (20, 63)].as_slice();
     expect_that(&rt, has_just(&tile, cells));
     // The tile to the right gets the particle, and its own (0, 10) has left.
     let mut next = right;
-    FREE.turn_inner(&mut next, &Tile::empty(), &mut carry);
+    turn_inner(None, &mut next, &Tile::empty(), &mut carry);
     expect_that(&rt, has_just(&next, [(0, 6)].as_slice()));
 
     // A walled block keeps its particles on both sides of the seam.
     let mut tile = tile_of([(63, 5)].as_slice());
     let named = blocks_of(&tile_of([(63, 5)].as_slice()));
     let mut carry = Carry::ZERO;
-    walled_by(&named).turn_inner(&mut tile, &right, &mut carry);
+    turn_inner(given(&named), &mut tile, &right, &mut carry);
     expect_that(&rt, has_just(&tile, [(63, 5), (63, 9)].as_slice()));
 }
 
@@ -373,7 +377,7 @@ fn particles_cross_the_seam_below_a_tile(rt: HostRuntime) {
         upper: 1 << 31,
         lower: 0,
     };
-    let turned = FREE.turned_seam(row, coming);
+    let turned = turned_seam(None, row, coming);
     put_bottom(&mut tile, &turned.own);
     put_top(&mut below, &turned.own);
     expect_that(

@@ -53,6 +53,7 @@ pub fn are_same(some: &Plane, others: &Plane, width: u32, height: u32) -> bool {
 }
 
 fn solids_of(alloc: Global, walls: &Plane, obstacles: &Plane) -> Result<Solids, NoMemory>
+    requires { HasSidesOf obstacles.now walls.now }
     ensures { IfOk result (λ s. (s.walls ≡ walls.now) × (s.obstacles ≡ obstacles.now)) }
 {
     let walls = walls.copy(alloc)?;
@@ -62,6 +63,7 @@ fn solids_of(alloc: Global, walls: &Plane, obstacles: &Plane) -> Result<Solids, 
 
 /// Walls and obstacles that have the cells of these planes.
 pub fn solids(rt: &(impl Abort + AllocGlobal), walls: &Plane, obstacles: &Plane) -> Solids
+    requires { HasSidesOf obstacles.now walls.now }
     ensures { (result.walls ≡ walls.now) × (result.obstacles ≡ obstacles.now) }
 {
     match solids_of(rt.alloc(), walls, obstacles) {

@@ -5,7 +5,7 @@ ghost use Rattle.gas_terms.specs.Cells.{Extent, extent, lies_within, is_inside};
 
 use crate::expected::{expect_same, expect_that};
 use crate::gases::{pair, took};
-use crate::lattices::{are_same, plane, scattered, solids};
+use crate::lattices::{are_same, fit, plane, scattered, solids};
 use crate::steppers::{add_taken, step, team};
 use gas_plane::{Plane, Tile};
 use gas_terms::{Pair, Rect, Size, Took};
@@ -114,9 +114,10 @@ fn named(solid: &Solid, tile: u32, row: usize) -> (u32, u32, u32) {
 fn words_name_the_blocks_of_walls(rt: HostRuntime) {
     let cells = plane(&rt, 128, 128, &[(0, 0), (21, 20)]);
     let none = plane(&rt, 128, 128, &[]);
+    fit(&rt, &cells, &cells, &none, &cells);
     let both = solids(&rt, &cells, &none);
     expect_that(&rt, both.obstacles.has_no_blocks());
-    let mut walls = both.walls;
+    let mut walls = both.all;
     expect_that(&rt, !walls.has_no_blocks());
     expect_that(&rt, named(&walls, 0, 0) == (1, 0, 1));
     expect_that(&rt, named(&walls, 0, 10) == (1024, 1024, 2048));

@@ -12,7 +12,7 @@ use Rattle.phase_step.specs.declared.odd_phase.RowPlace.{RowPlace}
 use Rattle.phase_step.proofs.RowTiles.{tile_here, tile_there, tile_from}
 
 -- the lattice's tile in this column
-module _ (place : RowPlace) (column : ℕ) (walls obstacles cells lattice : Cells) (is : IsRowThere place walls obstacles cells lattice) (less : column < lattice.width / 64) where
+module _ (place : RowPlace) (column : ℕ) (solid cells lattice : Cells) (is : IsRowThere place solid cells lattice) (less : column < lattice.width / 64) where
   abbrev there : ℕ
   there = place.there * (lattice.width / 64) + column
 

@@ -11,20 +11,20 @@ use Rattle.block_rule.specs.declared.in_place.Carry.{Carry}
 use Rattle.phase_step.specs.OddPhase.{IsInnerTurned, IsEdge, IsRowThere, HasInner, after_tiles, AreInnersTurned, IsInnerRowTurned}
 use Rattle.phase_step.specs.declared.odd_phase.RowPlace.{RowPlace}
 use Rattle.phase_step.specs.declared.odd_phase.RowTurner.{RowTurner}
-use Rattle.phase_step.proofs.RowWindows.{carried_alike, next_cells, window, walled, obstructed, rule, across, some_columns, turned_there, seen_there, column_in, around_column, around_row, around_before, after_inside, after_last, inside_in, begin_is, around_after, edge}
+use Rattle.phase_step.proofs.RowWindows.{carried_alike, next_cells, window, walls_there, rule, across, some_columns, turned_there, seen_there, column_in, around_column, around_row, around_before, after_inside, after_last, inside_in, begin_is, around_after, edge}
 
-module _ (place : RowPlace) (column : ℕ) (walls obstacles old lattice : Cells) (is : IsRowThere place walls obstacles old lattice) (less : column < lattice.width / 64) (sized : is_size (extent old) ≡ true) (low : place.row < old.height / 64) (ready : HasInner place lattice.width old lattice) where
+module _ (place : RowPlace) (column : ℕ) (solid old lattice : Cells) (is : IsRowThere place solid old lattice) (less : column < lattice.width / 64) (sized : is_size (extent old) ≡ true) (low : place.row < old.height / 64) (ready : HasInner place lattice.width old lattice) where
   abbrev next : Cells
-  next = next_cells place column walls obstacles old lattice is less
+  next = next_cells place column solid old lattice is less
 
   abbrev made_of : ℕ → ℕ → Bool
-  made_of = rule place column walls obstacles old lattice is less
+  made_of = rule place column solid old lattice is less
 
   abbrev shown : ℕ → ℕ → Bool
-  shown = window place column walls obstacles old lattice is less
+  shown = window place column solid old lattice is less
 
   abbrev beside : ℕ → Bool
-  beside = edge place column walls obstacles old lattice is less
+  beside = edge place column solid old lattice is less
 
   down : IsWholeTiles old.height
   down = high (extent old) sized
@@ -36,21 +36,21 @@ module _ (place : RowPlace) (column : ℕ) (walls obstacles old lattice : Cells)
   row_number y h = omega (arith, h)
 
   seen_own : (x y : ℕ) → x < 64 → 1 ≤ y → y < 63 → shown (x + 1) (y + 1) ≡ has lattice (column * 64 + x) (place.there * 64 + y)
-  seen_own x y h k l = seen_there place column walls obstacles old lattice is less x y _ _ (around_column place column walls obstacles old lattice is less x h) (around_row place column walls obstacles old lattice is less y (omega (arith, l)))
+  seen_own x y h k l = seen_there place column solid old lattice is less x y _ _ (around_column place column solid old lattice is less x h) (around_row place column solid old lattice is less y (omega (arith, l)))
 
   seen_edge : (y : ℕ) → 1 ≤ y → y < 63 → shown 65 (y + 1) ≡ beside y
-  seen_edge y k l = seen_there place column walls obstacles old lattice is less 64 y _ _ (around_after place column walls obstacles old lattice is less) (around_row place column walls obstacles old lattice is less y (omega (arith, l)))
+  seen_edge y k l = seen_there place column solid old lattice is less 64 y _ _ (around_after place column solid old lattice is less) (around_row place column solid old lattice is less y (omega (arith, l)))
 
   leaves_at : (y : ℕ) → 1 ≤ y → y < 63 → made_of 64 y ≡ has next (after_tiles next (column + 1)) (place.there * 64 + y)
-  leaves_at y k l = turned_there place column walls obstacles old lattice is less 64 y _ _ (omega arith) (omega (arith, l)) (around_after place column walls obstacles old lattice is less) (around_row place column walls obstacles old lattice is less y (omega (arith, l)))
+  leaves_at y k l = turned_there place column solid old lattice is less 64 y _ _ (omega arith) (omega (arith, l)) (around_after place column solid old lattice is less) (around_row place column solid old lattice is less y (omega (arith, l)))
 
   -- the last tile of a row, before any has turned
   module _ (last : column + 1 ≡ lattice.width / 64) (first : Tile) (are : (y : ℕ) → 1 ≤ y → y < 63 → tile.has first 0 y ≡ has old 0 (place.row * 64 + y)) where
     pub last_seen : (t : Tile) → ((x y : ℕ) → x < 64 → y < 64 → tile.has t x y ≡ has old (column * 64 + x) (place.row * 64 + y)) → IsInnerSeen shown t first
     last_seen t of_t =
         record {
-          tile = λ x y h k l. seen_own x y h k l ∙ (sym (ready (column * 64 + x) y (column_in place column walls obstacles old lattice is less x h) k l) ∙ sym (of_t x y h (omega (arith, l))));
-          right = λ y k l. seen_edge y k l ∙ (ap (λ c. has lattice c (place.there * 64 + y)) (after_last place column walls obstacles old lattice is less last) ∙ (sym (ready 0 y (some_columns place column walls obstacles old lattice is less) k l) ∙ sym (are y k l)));
+          tile = λ x y h k l. seen_own x y h k l ∙ (sym (ready (column * 64 + x) y (column_in place column solid old lattice is less x h) k l) ∙ sym (of_t x y h (omega (arith, l))));
+          right = λ y k l. seen_edge y k l ∙ (ap (λ c. has lattice c (place.there * 64 + y)) (after_last place column solid old lattice is less last) ∙ (sym (ready 0 y (some_columns place column solid old lattice is less) k l) ∙ sym (are y k l)));
         }
 
     -- what is carried on from it
@@ -60,7 +60,7 @@ module _ (place : RowPlace) (column : ℕ) (walls obstacles old lattice : Cells)
           sides = record { wide = refl; high = refl };
           made = λ x y h. absurd (omega (arith, h));
           rest = λ x y h k other. refl;
-          carried = carried_alike carry (made_of 64) _ (λ y k l. leaves_at y k l ∙ ap (λ c. has next c (place.there * 64 + y)) (sym (begin_is place column walls obstacles old lattice is less last))) carried;
+          carried = carried_alike carry (made_of 64) _ (λ y k l. leaves_at y k l ∙ ap (λ c. has next c (place.there * 64 + y)) (sym (begin_is place column solid old lattice is less last))) carried;
         }
 
   module _ (now : Cells) (carry : Carry) (so_far : AreInnersTurned place column next old now carry) where
@@ -72,30 +72,30 @@ module _ (place : RowPlace) (column : ℕ) (walls obstacles old lattice : Cells)
     still x y from h k l = so_far.rest x (place.row * 64 + y) (subst (λ w. x < w) (sym is.wide) h) (row_in y (omega (arith, l))) (λ below. absurd (omega (arith, below, from))) ∙ ready x y h k l
 
     pub own_inner : (x y : ℕ) → x < 64 → 1 ≤ y → y < 63 → shown (x + 1) (y + 1) ≡ has now (column * 64 + x) (place.row * 64 + y)
-    own_inner x y h k l = seen_own x y h k l ∙ sym (still (column * 64 + x) y (omega arith) (column_in place column walls obstacles old lattice is less x h) k l)
+    own_inner x y h k l = seen_own x y h k l ∙ sym (still (column * 64 + x) y (omega arith) (column_in place column solid old lattice is less x h) k l)
 
     pub is_edge : (first : Tile) → ((y : ℕ) → 1 ≤ y → y < 63 → tile.has first 0 y ≡ has old 0 (place.row * 64 + y)) → IsEdge place.row column first now beside
     is_edge first are =
         record {
           next = λ h y k l.
               let inside : column + 1 < lattice.width / 64 = subst (λ w. column + 1 < w / 64) same_width h in
-              still ((column + 1) * 64) y (omega arith) (inside_in place column walls obstacles old lattice is less inside) k l
-              ∙ ap (λ c. has lattice c (place.there * 64 + y)) (sym (after_inside place column walls obstacles old lattice is less inside));
+              still ((column + 1) * 64) y (omega arith) (inside_in place column solid old lattice is less inside) k l
+              ∙ ap (λ c. has lattice c (place.there * 64 + y)) (sym (after_inside place column solid old lattice is less inside));
           last = λ h y k l.
               let last : column + 1 ≡ lattice.width / 64 = h ∙ ap (λ w. w / 64) same_width in
-              are y k l ∙ (ready 0 y (some_columns place column walls obstacles old lattice is less) k l ∙ ap (λ c. has lattice c (place.there * 64 + y)) (sym (after_last place column walls obstacles old lattice is less last)));
+              are y k l ∙ (ready 0 y (some_columns place column solid old lattice is less) k l ∙ ap (λ c. has lattice c (place.there * 64 + y)) (sym (after_last place column solid old lattice is less last)));
         }
 
     -- what comes from the tile to the left
     carried_in : IsCarried carry (made_of 0)
-    carried_in = carried_alike carry _ (made_of 0) (λ y k l. sym (turned_there place column walls obstacles old lattice is less 0 y _ _ (omega arith) (omega (arith, l)) (around_before place column walls obstacles old lattice is less) (around_row place column walls obstacles old lattice is less y (omega (arith, l))))) so_far.carried
+    carried_in = carried_alike carry _ (made_of 0) (λ y k l. sym (turned_there place column solid old lattice is less 0 y _ _ (omega arith) (omega (arith, l)) (around_before place column solid old lattice is less) (around_row place column solid old lattice is less y (omega (arith, l))))) so_far.carried
 
     -- one more tile has turned
     pub inner_next : (before after : RowTurner) (new : Cells) → before.carry ≡ carry → IsInnerTurned place.row column beside before after now new
-        → AreGivenBlocks before.sets.walls (walled_by (walled place column walls obstacles old lattice is less)) → AreGivenBlocks before.sets.obstacles (walled_by (obstructed place column walls obstacles old lattice is less))
+        → AreGivenBlocks before.walled (walled_by (walls_there place column solid old lattice is less))
         → AreInnersTurned place (column + 1) next old new after.carry
-    inner_next before after new same_carry inner of_walls of_obstacles =
-        let t = (across place column walls obstacles old lattice is less).tiles in
+    inner_next before after new same_carry inner given =
+        let t = (across place column solid old lattice is less).tiles in
         let other : (x y : ℕ) → x < old.width → y < old.height → (x / 64 ≡ column → y / 64 ≡ place.row → 1 ≤ y % 64 → y % 64 < 63 → ⊥) → has new x y ≡ has now x y =
         λ x y h k. inner.others x y (subst (λ w. x < w) (sym so_far.sides.wide) h) (subst (λ n. y < n) (sym so_far.sides.high) k) in
         record {
@@ -105,8 +105,8 @@ module _ (place : RowPlace) (column : ℕ) (walls obstacles old lattice : Cells)
                 | inl e ↦
                     let at : column * 64 + x % 64 ≡ x = omega (arith, e) in
                     subst (λ u. has new u (place.row * 64 + y) ≡ has next u (place.there * 64 + y)) at
-                    (inner.cells shown (walled place column walls obstacles old lattice is less) (obstructed place column walls obstacles old lattice is less) own_inner seen_edge of_walls of_obstacles (subst (λ c. IsCarried c (made_of 0)) (sym same_carry) carried_in) (x % 64) y (omega arith) k l
-                    ∙ turned_there place column walls obstacles old lattice is less (x % 64) y _ _ (omega arith) (omega (arith, l)) (around_column place column walls obstacles old lattice is less (x % 64) (omega arith)) (around_row place column walls obstacles old lattice is less y (omega (arith, l))))
+                    (inner.cells shown (walls_there place column solid old lattice is less) own_inner seen_edge given (subst (λ c. IsCarried c (made_of 0)) (sym same_carry) carried_in) (x % 64) y (omega arith) k l
+                    ∙ turned_there place column solid old lattice is less (x % 64) y _ _ (omega arith) (omega (arith, l)) (around_column place column solid old lattice is less (x % 64) (omega arith)) (around_row place column solid old lattice is less y (omega (arith, l))))
                 | inr ne ↦
                     other x (place.row * 64 + y) (let w = is.wide in omega (arith, h, less, t, w)) (row_in y (omega (arith, l))) (λ e. absurd (ne e))
                     ∙ so_far.made x y (omega (arith, h, ne)) k l
@@ -114,7 +114,7 @@ module _ (place : RowPlace) (column : ℕ) (walls obstacles old lattice : Cells)
           rest = λ x y h k not_in.
               other x y h k (λ e f g l. not_in (omega (arith, e)) (f, (g, l)))
               ∙ so_far.rest x y h k (λ below. not_in (omega (arith, below)));
-          carried = carried_alike after.carry (made_of 64) _ leaves_at (inner.leaving shown (walled place column walls obstacles old lattice is less) (obstructed place column walls obstacles old lattice is less) own_inner seen_edge of_walls of_obstacles);
+          carried = carried_alike after.carry (made_of 64) _ leaves_at (inner.leaving shown (walls_there place column solid old lattice is less) own_inner seen_edge given);
         }
 
 -- when all tiles have turned

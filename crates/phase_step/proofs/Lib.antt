@@ -16,6 +16,7 @@ pub mod Untaken
 pub mod RunSteps
 pub mod Balances
 pub mod SolidBlocks
+pub mod Together
 pub mod ActionSums
 pub mod ActionBounds
 pub mod OwnPhases

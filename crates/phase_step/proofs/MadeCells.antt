@@ -6,7 +6,7 @@ use Rattle.std.proofs.lemmas.Bool.{cases_eq, eq-eqb, ne_eqb}
 use Rattle.bit_tile.specs.Tile as tile
 use Rattle.bit_tile.specs.Tile.{HasCells}
 use Rattle.bit_tile.specs.declared.Tile.{Tile}
-use Rattle.gas_terms.specs.Cells.{Cells, HasSidesOf, has, joined, extent, is_size, tile_rectangle, IsFull}
+use Rattle.gas_terms.specs.Cells.{Cells, HasSidesOf, has, extent, is_size, tile_rectangle, IsFull}
 use Rattle.gas_terms.specs.Gas.{streamed, arrived, site_of}
 use Rattle.gas_terms.specs.Velocity.{velocity_at}
 use Rattle.gas_terms.proofs.Cells.{has-cells_where, full-cells_where}
@@ -61,14 +61,12 @@ made_next order n k part next old now new so_far sides others here =
     }
 
 -- a part that has its own rows of another lattice of the same sides
-pub has_own_rows : (part : Part) (walls obstacles cells lattice next now : Cells) (k : ℕ) → HasSidesOf now cells → HasSidesOf next lattice → IsFull next → IsPartOf part walls obstacles cells lattice k → HasRows part now next 64 → IsPartOf part walls obstacles now next 64
-has_own_rows part walls obstacles cells lattice next now k sides of_lattice full is rows =
+pub has_own_rows : (part : Part) (cells lattice next now : Cells) (k : ℕ) → HasSidesOf now cells → HasSidesOf next lattice → IsFull next → IsPartOf part cells lattice k → HasRows part now next 64 → IsPartOf part now next 64
+has_own_rows part cells lattice next now k sides of_lattice full is rows =
     let placed = is.placed in
     record {
       sized = sized_as lattice next (record { wide = sym of_lattice.wide; high = sym of_lattice.high }) is.sized;
       full = full;
-      of_walls = record { wide = is.of_walls.wide ∙ sym of_lattice.wide; high = is.of_walls.high ∙ sym of_lattice.high };
-      of_obstacles = record { wide = is.of_obstacles.wide ∙ sym of_lattice.wide; high = is.of_obstacles.high ∙ sym of_lattice.high };
       placed = record {
         wide = sides.wide ∙ (placed.wide ∙ sym of_lattice.wide);
         down = of_lattice.high ∙ placed.down;
@@ -83,11 +81,11 @@ has_own_rows part walls obstacles cells lattice next now k sides of_lattice full
 pub full_streamed : (p : ℕ) (lattice solid : Cells) → IsFull (streamed p lattice solid)
 full_streamed p lattice solid = full-cells_where lattice.width lattice.height (λ x y. arrived lattice solid (site_of (p + 1) lattice.width lattice.height x y) (velocity_at (p + 1) x y))
 
-pub has_all_made : (order : ℕ → ℕ → ℕ) (n k : ℕ) (part : Part) (walls obstacles cells lattice next now : Cells) → k ≤ 64 → HasSidesOf next lattice → IsFull next → IsPartOf part walls obstacles cells lattice k
+pub has_all_made : (order : ℕ → ℕ → ℕ) (n k : ℕ) (part : Part) (cells lattice next now : Cells) → k ≤ 64 → HasSidesOf next lattice → IsFull next → IsPartOf part cells lattice k
     → ((x y : ℕ) → x < cells.width → part.margin * 64 ≤ y → y + part.margin * 64 < cells.height → order x y < n)
-    → AreMadeTo order n k part next cells now → IsPartOf part walls obstacles now next 64
-has_all_made order n k part walls obstacles cells lattice next now few of_lattice full is past made =
-    has_own_rows part walls obstacles cells lattice next now k made.sides of_lattice full is
+    → AreMadeTo order n k part next cells now → IsPartOf part now next 64
+has_all_made order n k part cells lattice next now few of_lattice full is past made =
+    has_own_rows part cells lattice next now k made.sides of_lattice full is
     (record {
       row = λ x y h low top.
           let most : part.margin * k ≤ part.margin * 64 = mul-le-mul_left part.margin few in
@@ -97,18 +95,18 @@ has_all_made order n k part walls obstacles cells lattice next now few of_lattic
     })
 
 -- after a phase, and after an action
-pub all_turned : (order : ℕ → ℕ → ℕ) (n k p : ℕ) (part : Part) (walls obstacles cells lattice now : Cells) → k ≤ 64 → IsPartOf part walls obstacles cells lattice k
+pub all_turned : (order : ℕ → ℕ → ℕ) (n k p : ℕ) (part : Part) (solid cells lattice now : Cells) → k ≤ 64 → IsPartOf part cells lattice k
     → ((x y : ℕ) → x < cells.width → part.margin * 64 ≤ y → y + part.margin * 64 < cells.height → order x y < n)
-    → AreMadeTo order n k part (streamed p lattice (joined walls obstacles)) cells now → IsPartOf part walls obstacles now (streamed p lattice (joined walls obstacles)) 64
-all_turned order n k p part walls obstacles cells lattice now few is past made =
-    has_all_made order n k part walls obstacles cells lattice (streamed p lattice (joined walls obstacles)) now few (record { wide = refl; high = refl })
-    (full-cells_where lattice.width lattice.height (λ x y. arrived lattice (joined walls obstacles) (site_of (p + 1) lattice.width lattice.height x y) (velocity_at (p + 1) x y))) is past made
+    → AreMadeTo order n k part (streamed p lattice solid) cells now → IsPartOf part now (streamed p lattice solid) 64
+all_turned order n k p part solid cells lattice now few is past made =
+    has_all_made order n k part cells lattice (streamed p lattice solid) now few (record { wide = refl; high = refl })
+    (full-cells_where lattice.width lattice.height (λ x y. arrived lattice solid (site_of (p + 1) lattice.width lattice.height x y) (velocity_at (p + 1) x y))) is past made
 
-pub all_acted : (order : ℕ → ℕ → ℕ) (n : ℕ) (leaves : Leaves) (part : Part) (walls obstacles cells lattice now : Cells) → IsPartOf part walls obstacles cells lattice 64
+pub all_acted : (order : ℕ → ℕ → ℕ) (n : ℕ) (leaves : Leaves) (part : Part) (cells lattice now : Cells) → IsPartOf part cells lattice 64
     → ((x y : ℕ) → x < cells.width → part.margin * 64 ≤ y → y + part.margin * 64 < cells.height → order x y < n)
-    → AreMadeTo order n 64 part (acted leaves lattice) cells now → IsPartOf part walls obstacles now (acted leaves lattice) 64
-all_acted order n leaves part walls obstacles cells lattice now is past made =
-    has_all_made order n 64 part walls obstacles cells lattice (acted leaves lattice) now (omega arith) (record { wide = refl; high = refl }) (full-cells_where lattice.width lattice.height (λ x y. leaves x y (has lattice x y))) is past made
+    → AreMadeTo order n 64 part (acted leaves lattice) cells now → IsPartOf part now (acted leaves lattice) 64
+all_acted order n leaves part cells lattice now is past made =
+    has_all_made order n 64 part cells lattice (acted leaves lattice) now (omega arith) (record { wide = refl; high = refl }) (full-cells_where lattice.width lattice.height (λ x y. leaves x y (has lattice x y))) is past made
 
 -- Tile by tile: where the cells of an own tile stand.
 module _ (part : Part) (cells lattice : Cells) (i : ℕ) (sized : is_size (extent cells) ≡ true) (placed : IsPlaced part cells lattice) (own : IsOwn part cells i) (x y : ℕ) (h : x < cells.width) (e : tile_of cells x y ≡ i) where
@@ -161,9 +159,9 @@ tile_made part cells lattice next now i t sized placed own so_far made =
     with_here cells now i t so_far.sides x y h (omega (arith, top)) e
     ∙ (made (x % 64) (y % 64) (omega arith) (omega arith) ∙ ap₂ (has next) (column_at part cells lattice i sized placed own x y h e) (row_at part cells lattice i sized placed own x y h e)))
 
-pub tile_stays : (part : Part) (w o cells lattice next now : Cells) (i : ℕ) → is_size (extent cells) ≡ true → IsPartOf part w o cells lattice 64 → IsOwn part cells i → AreMadeTo (tile_of cells) i 64 part next cells now
+pub tile_stays : (part : Part) (cells lattice next now : Cells) (i : ℕ) → is_size (extent cells) ≡ true → IsPartOf part cells lattice 64 → IsOwn part cells i → AreMadeTo (tile_of cells) i 64 part next cells now
     → (let r = tile_rectangle lattice (tile_in part (lattice.width / 64) i) in (x y : ℕ) → x < 64 → y < 64 → has next (r.x + x) (r.y + y) ≡ has lattice (r.x + x) (r.y + y)) → AreMadeTo (tile_of cells) (i + 1) 64 part next cells now
-tile_stays part w o cells lattice next now i sized is own so_far same =
+tile_stays part cells lattice next now i sized is own so_far same =
     made_next (tile_of cells) i 64 part next cells now now so_far (record { wide = refl; high = refl })
     (λ x y h k ne. refl)
     (λ x y h low top e.

@@ -3,7 +3,7 @@ use Rattle.std.proofs.Common.{◌≡◌, ◌⊎◌, ℕ, ◌+◌, ◌-◌, ◌*�
 use Rattle.std.proofs.Math.Nat.{mod-lt, mod-eq_of_lt, mod-add-mod, add-mod_right}
 use Rattle.std.proofs.lemmas.Nat.{mod-mul-add}
 use Rattle.std.proofs.lemmas.Bool.{cases_eq}
-use Rattle.gas_terms.specs.Cells.{Cells, HasSidesOf, has, joined, extent, is_size}
+use Rattle.gas_terms.specs.Cells.{Cells, HasSidesOf, has, extent, is_size}
 use Rattle.gas_terms.specs.Gas.{streamed}
 use Rattle.gas_plane.proofs.Places.{IsWholeTiles, high, cell_below}
 use Rattle.phase_step.specs.Parts.{start_of, row_in, IsPartOf}
@@ -116,16 +116,16 @@ pub record IsInnerDone (part : Part) (place : RowPlace) (next now mid : Cells) :
 abbrev pub place_in : Part → Cells → ℕ → RowPlace
 place_in part cells row = record { row = row; below = (row + 1) % (cells.height / 64); there = (start_of part + row) % part.down }
 
-module _ (part : Part) (walls obstacles old : Cells) (row : ℕ) (sized : is_size (extent old) ≡ true) (low : row + part.margin < old.height / 64) where
+module _ (part : Part) (solid old : Cells) (row : ℕ) (sized : is_size (extent old) ≡ true) (low : row + part.margin < old.height / 64) where
   abbrev place : RowPlace
   place = place_in part old row
 
   pub less : row < old.height / 64
   less = omega (arith, low)
 
-  module _ (lattice : Cells) (is : IsPartOf part walls obstacles old lattice 63) where
+  module _ (lattice : Cells) (is : IsPartOf part old lattice 63) (sides : HasSidesOf solid lattice) where
     abbrev next : Cells
-    next = streamed 1 lattice (joined walls obstacles)
+    next = streamed 1 lattice solid
 
     some_down : 0 < part.down
     some_down = down_some part old lattice is.placed is.sized
@@ -133,13 +133,12 @@ module _ (part : Part) (walls obstacles old : Cells) (row : ℕ) (sized : is_siz
     lattice_down : lattice.height / 64 ≡ part.down
     lattice_down = let e = is.placed.down in omega (arith, e)
 
-    pub row_there_is : (now : Cells) → HasSidesOf now old → IsRowThere place walls obstacles now lattice
-    row_there_is now sides =
+    pub row_there_is : (now : Cells) → HasSidesOf now old → IsRowThere place solid now lattice
+    row_there_is now of_now =
         record {
           sized = is.sized;
-          of_walls = is.of_walls;
-          of_obstacles = is.of_obstacles;
-          wide = sides.wide ∙ is.placed.wide;
+          of_solid = sides;
+          wide = of_now.wide ∙ is.placed.wide;
           low = subst (λ n. place.there < n) (sym lattice_down) (mod-lt (start_of part + row) some_down);
         }
 
@@ -242,12 +241,12 @@ module _ (part : Part) (walls obstacles old : Cells) (row : ℕ) (sized : is_siz
         ])
 
 -- and all in the end
-pub odd_part_turned : (part : Part) (walls obstacles old lattice now : Cells) (rows : ℕ) → is_size (extent old) ≡ true → rows + part.margin ≡ old.height / 64 → IsPartOf part walls obstacles old lattice 63 → AreTurnedTo rows part (streamed 1 lattice (joined walls obstacles)) old now
-    → IsPartOf part walls obstacles now (streamed 1 lattice (joined walls obstacles)) 64
-odd_part_turned part walls obstacles old lattice now rows sized all is turned =
+pub odd_part_turned : (part : Part) (solid old lattice now : Cells) (rows : ℕ) → is_size (extent old) ≡ true → rows + part.margin ≡ old.height / 64 → IsPartOf part old lattice 63 → AreTurnedTo rows part (streamed 1 lattice solid) old now
+    → IsPartOf part now (streamed 1 lattice solid) 64
+odd_part_turned part solid old lattice now rows sized all is turned =
     let t = (high (extent old) sized).tiles in
     let s = some old sized in
-    all_turned (λ x y. begins_in old y) rows 63 1 part walls obstacles old lattice now (omega arith) is
+    all_turned (λ x y. begins_in old y) rows 63 1 part solid old lattice now (omega arith) is
     (λ x y h from to.
     elim (above old.height y s (omega (arith, to))) [
       | inl a ↦ let e = a.1 in let l = a.0 in omega (arith, e, to, all, t, l)

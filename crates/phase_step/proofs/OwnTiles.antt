@@ -26,17 +26,15 @@ row_turns a k d y some p = grind (arith, div-add-mod', mod-lt, mod-mul-add)
 pub down_some : (part : Part) (cells lattice : Cells) → IsPlaced part cells lattice → is_size (extent lattice) ≡ true → 0 < part.down
 down_some part cells lattice placed sized = let h = (high (extent lattice) sized).some in let e = placed.down in omega (arith, h, e)
 
-pub lattice_is : (part : Part) (w o cells lattice : Cells) (k : ℕ) → IsPartOf part w o cells lattice k → IsLattice lattice
-lattice_is part w o cells lattice k is = record { sized = is.sized; full = is.full }
+pub lattice_is : (part : Part) (cells lattice : Cells) (k : ℕ) → IsPartOf part cells lattice k → IsLattice lattice
+lattice_is part cells lattice k is = record { sized = is.sized; full = is.full }
 
 -- Fewer rows than these are the lattice's too. Without a margin they are all, whatever the number.
-pub rows_left : (part : Part) (walls obstacles cells lattice : Cells) (k m : ℕ) → part.margin * k ≤ part.margin * m → IsPartOf part walls obstacles cells lattice k → IsPartOf part walls obstacles cells lattice m
-rows_left part walls obstacles cells lattice k m few is =
+pub rows_left : (part : Part) (cells lattice : Cells) (k m : ℕ) → part.margin * k ≤ part.margin * m → IsPartOf part cells lattice k → IsPartOf part cells lattice m
+rows_left part cells lattice k m few is =
     record {
       sized = is.sized;
       full = is.full;
-      of_walls = is.of_walls;
-      of_obstacles = is.of_obstacles;
       placed = is.placed;
       rows = record { row = λ x y l low top. is.rows.row x y l (omega (arith, few, low)) (omega (arith, few, top)) };
     }
@@ -128,9 +126,9 @@ module _ (part : Part) (cells lattice : Cells) (i : ℕ) (sized : is_size (exten
       ap (λ n. n * 64 + y) row_there ∙ (let f : (part.first + (i / (cells.width / 64) - part.margin)) * 64 + y ≡ part.first * 64 + (top_of cells i + y - part.margin * 64) = omega (arith, l) in f ∙ sym e)
 
 -- it has the lattice's cells
-pub own_cells : (part : Part) (w o cells lattice : Cells) (i : ℕ) (t : Tile) → is_size (extent cells) ≡ true → IsPartOf part w o cells lattice 64 → IsOwn part cells i → IsTileFrom t cells (left_of cells i) (top_of cells i)
+pub own_cells : (part : Part) (cells lattice : Cells) (i : ℕ) (t : Tile) → is_size (extent cells) ≡ true → IsPartOf part cells lattice 64 → IsOwn part cells i → IsTileFrom t cells (left_of cells i) (top_of cells i)
     → (let r = tile_rectangle lattice (tile_in part (lattice.width / 64) i) in IsTileFrom t lattice r.x r.y)
-own_cells part w o cells lattice i t sized is own from =
+own_cells part cells lattice i t sized is own from =
     record {
       cell = λ x y h k.
           let at = own_low part cells lattice i sized is.placed own y k in
@@ -177,7 +175,7 @@ pub there_below : (lattice set : Cells) (first end there i : ℕ) → HasSidesOf
 there_below lattice set first end there i sides inside from to = let e = tiles_as set lattice sides in omega (arith, inside, from, to, e)
 
 -- what is taken in the own tile i, when `took` was taken in those below it
-module _ (p : ℕ) (part : Part) (cells lattice w o : Cells) (kept : Counted) (i k from : ℕ) (took here : Took) (of : IsLattice cells) (own : IsOwn part cells i) (is : IsPartOf part w o cells lattice k) (e : from ≡ part.margin * (cells.width / 64))
+module _ (p : ℕ) (part : Part) (cells lattice w o : Cells) (kept : Counted) (i k from : ℕ) (took here : Took) (of : IsLattice cells) (own : IsOwn part cells i) (is : IsPartOf part cells lattice k) (e : from ≡ part.margin * (cells.width / 64))
     (so_far : took ≡ counted_of kept (tiles_take p lattice w o (part.first * (lattice.width / 64)) (i - from)))
     (takes : here ≡ counted_of kept (taken_in (pos p) lattice w o (tile_rectangle lattice (tile_in part (lattice.width / 64) i)))) where
   from_is : part.margin * (lattice.width / 64) ≡ from

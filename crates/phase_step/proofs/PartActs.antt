@@ -81,8 +81,8 @@ pub moves_more_there : (tick : ℤ) (old new : Cells) (first from i : ℕ) (move
 moves_more_there tick old new first from i moved here low so_far e = let next : suc (i - from) ≡ i + 1 - from = omega arith in ap₂ moved_plus so_far e ∙ ap (tiles_move tick old new first) next
 
 -- an action that is still leaves the lattice as it is
-pub still_rows : (leaves : Leaves) (part : Part) (walls obstacles cells lattice : Cells) (k : ℕ) → IsStill leaves → IsPartOf part walls obstacles cells lattice k → IsPartOf part walls obstacles cells (acted leaves lattice) k
-still_rows leaves part walls obstacles cells lattice k still is = subst (λ (there : Cells). IsPartOf part walls obstacles cells there k) (still_acts leaves lattice is.full still) is
+pub still_rows : (leaves : Leaves) (part : Part) (cells lattice : Cells) (k : ℕ) → IsStill leaves → IsPartOf part cells lattice k → IsPartOf part cells (acted leaves lattice) k
+still_rows leaves part cells lattice k still is = subst (λ (there : Cells). IsPartOf part cells there k) (still_acts leaves lattice is.full still) is
 
 -- and moves nothing
 pub still_moves_there : (tick : ℤ) (leaves : Leaves) (old : Cells) (first n : ℕ) → IsLattice old → IsStill leaves → first + n ≤ tile_count old → unmoved ≡ tiles_move tick old (acted leaves old) first n
@@ -92,5 +92,5 @@ still_moves_there tick leaves old first (suc n) is still within =
     moved_none unmoved
     ∙ ap₂ moved_plus (still_moves_there tick leaves old first n is still (omega arith)) (sym (none_moved tick leaves old (first + n) (tile_rectangle old (first + n)) is (omega arith) (record { left = refl; top = refl; wide = refl; high = refl }) stays))
 
-pub still_own : (p : ℕ) (leaves : Leaves) (part : Part) (walls obstacles cells lattice : Cells) (k : ℕ) → IsStill leaves → IsPartOf part walls obstacles cells lattice k → unmoved ≡ own_moves part p cells lattice (acted leaves lattice)
-still_own p leaves part walls obstacles cells lattice k still is = still_moves_there (pos p) leaves lattice _ _ (record { sized = is.sized; full = is.full }) still (own_within part cells lattice is.placed)
+pub still_own : (p : ℕ) (leaves : Leaves) (part : Part) (cells lattice : Cells) (k : ℕ) → IsStill leaves → IsPartOf part cells lattice k → unmoved ≡ own_moves part p cells lattice (acted leaves lattice)
+still_own p leaves part cells lattice k still is = still_moves_there (pos p) leaves lattice _ _ (record { sized = is.sized; full = is.full }) still (own_within part cells lattice is.placed)

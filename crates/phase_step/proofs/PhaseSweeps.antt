@@ -47,7 +47,7 @@ tiles_are cells size end e f = f ∙ ap (λ (s : Extent). s.width / 64 * (s.heig
 abbrev pub phased : ℕ → Cells → Cells → Cells → ℕ → ℕ → Bool
 phased p particles walls obstacles x y = has (streamed p particles (joined walls obstacles)) x y
 
-pub phase_next : (p : ℕ) (particles walls obstacles start now next : Cells) (i : ℕ) (t : Tile) → IsLattice start → HasSidesOf start particles → now ≡ swept start (phased p particles walls obstacles) i → IsTileAfter p particles walls obstacles i t → next ≡ with_tile now i t
+pub phase_next : (p : ℕ) (particles walls obstacles start now next : Cells) (i : ℕ) (t : Tile) → IsLattice start → HasSidesOf start particles → now ≡ swept start (phased p particles walls obstacles) i → IsTileAfter p particles (joined walls obstacles) i t → next ≡ with_tile now i t
     → next ≡ swept start (phased p particles walls obstacles) (i + 1)
 phase_next p particles walls obstacles start now next i t is same so_far after put =
     put

@@ -26,8 +26,8 @@ use Rattle.phase_step.proofs.RunTakes.{counted_none}
 use Rattle.phase_step.proofs.OwnPhases.{IsOwnPhase, own_flow_next, own_flow_fits}
 
 -- how many tiles are its own
-pub own_few : (part : Part) (walls obstacles cells lattice : Cells) (k : ℕ) → IsPartOf part walls obstacles cells lattice k → own_rows part cells * (lattice.width / 64) ≤ 4096
-own_few part walls obstacles cells lattice k is = grind (arith, wide, extent, high, own_rows, mul-le-mul)
+pub own_few : (part : Part) (cells lattice : Cells) (k : ℕ) → IsPartOf part cells lattice k → own_rows part cells * (lattice.width / 64) ≤ 4096
+own_few part cells lattice k is = grind (arith, wide, extent, high, own_rows, mul-le-mul)
 
 -- a phase and the action after it: the part that was, that comes and that is next, and what is told of it
 pub record IsPartPhase (part : Part) (counted : Counted) (d : Dynamics) (q k : ℕ) (lattice old now come next : Cells) (flow here : Flow) : Type 0 where
@@ -36,7 +36,7 @@ pub record IsPartPhase (part : Part) (counted : Counted) (d : Dynamics) (q k : �
   pub now_sides : HasSidesOf now old
   pub come_sides : HasSidesOf come old
   pub so_far : HasRun part counted d k old lattice now flow
-  pub action : IsPartOf part d.walls d.obstacles next (acted (d.leaves k) (streamed q (after_all d lattice k) (joined d.walls d.obstacles))) 64
+  pub action : IsPartOf part next (acted (d.leaves k) (streamed q (after_all d lattice k) (joined d.walls d.obstacles))) 64
   pub took : here.took ≡ counted_of counted (own_take part q now (after_all d lattice k) d.walls d.obstacles)
   pub moved : let there = streamed q (after_all d lattice k) (joined d.walls d.obstacles) in here.moved ≡ own_moves part (1 - q) come there (acted (d.leaves k) there)
 
@@ -76,35 +76,39 @@ module _ (part : Part) (counted : Counted) (d : Dynamics) (q k : ℕ) (lattice o
       subst (λ (f : Flow). FlowsFit f here) (sym is.so_far.flow) (subst (FlowsFit (flow_counted counted (own_flow part d old lattice k))) (sym here_is) (counted_fit counted (own_flow part d old lattice k) every fits))
 
 -- no phase yet
-pub run_begins : (part : Part) (counted : Counted) (d : Dynamics) (old lattice : Cells) (p : ℕ) → IsPartOf part d.walls d.obstacles old lattice (64 - p)
+pub run_begins : (part : Part) (counted : Counted) (d : Dynamics) (old lattice : Cells) (p : ℕ) → IsPartOf part old lattice (64 - p)
     → HasRun part counted d 0 old lattice old (record { took = record { walls = record { x = pos 0; y = pos 0 }; obstacles = record { x = pos 0; y = pos 0 } }; moved = record { injected = record { count = pos 0; px = pos 0; py = pos 0 }; drained = record { count = pos 0; px = pos 0; py = pos 0 } } })
 run_begins part counted d old lattice p is =
-    record { is = rows_left part d.walls d.obstacles old lattice (64 - p) 64 (mul-le-mul_left part.margin (omega arith)) is; flow = same_flow _ _ (counted_none counted) refl }
+    record { is = rows_left part old lattice (64 - p) 64 (mul-le-mul_left part.margin (omega arith)) is; flow = same_flow _ _ (counted_none counted) refl }
 
 -- a part that makes more phases than one has no margin, so that after a phase it is ready for the next
-pub ready_again : (part : Part) (walls obstacles cells lattice : Cells) (n k q : ℕ) → part.margin * n ≤ 1 → k + 1 < n → IsPartOf part walls obstacles cells lattice 64 → IsPartOf part walls obstacles cells lattice (64 - q)
-ready_again part walls obstacles cells lattice n k q few more is =
+pub ready_again : (part : Part) (cells lattice : Cells) (n k q : ℕ) → part.margin * n ≤ 1 → k + 1 < n → IsPartOf part cells lattice 64 → IsPartOf part cells lattice (64 - q)
+ready_again part cells lattice n k q few more is =
     let twice : part.margin * 2 ≤ part.margin * n = mul-le-mul_left part.margin (omega arith) in
     let none : part.margin ≡ 0 = omega (arith, few, twice) in
-    rows_left part walls obstacles cells lattice 64 (64 - q) (subst (λ m. m * 64 ≤ m * (64 - q)) (sym none) (omega arith)) is
+    rows_left part cells lattice 64 (64 - q) (subst (λ m. m * 64 ≤ m * (64 - q)) (sym none) (omega arith)) is
 
 pub sides_on : (a b c : Cells) → HasSidesOf a b → HasSidesOf b c → HasSidesOf a c
 sides_on a b c p q = record { wide = p.wide ∙ q.wide; high = p.high ∙ q.high }
+
+-- what has the sides of the lattice has them after a run
+pub sides_there : (p : ℕ) (w o : Cells) (leaves : ℕ → Leaves) (lattice : Cells) (k : ℕ) → HasSidesOf w lattice → HasSidesOf w (after_with p (joined w o) leaves lattice k)
+sides_there p w o leaves lattice k of = let s = sides_with p (joined w o) leaves lattice k in record { wide = of.wide ∙ sym s.wide; high = of.high ∙ sym s.high }
 
 -- The whole lattice is a part of itself, whose rows are all.
 whole_row : (down h y : ℕ) → h ≡ down * 64 → y < h → ((0 + down - 0) * 64 + y) % (down * 64) ≡ y
 whole_row down h y e less = grind (arith, mod-mul-add)
 
-pub whole_is : (down k : ℕ) (walls obstacles cells : Cells) → is_size (extent cells) ≡ true → IsFull cells → HasSidesOf walls cells → HasSidesOf obstacles cells → down ≡ cells.height / 64
-    → IsPartOf (record { first = 0; down = down; margin = 0 }) walls obstacles cells cells k
-whole_is down k walls obstacles cells sized full of_walls of_obstacles e = grind (arith, high, extent, wide, has, whole_row)
+pub whole_is : (down k : ℕ) (cells : Cells) → is_size (extent cells) ≡ true → IsFull cells → down ≡ cells.height / 64
+    → IsPartOf (record { first = 0; down = down; margin = 0 }) cells cells k
+whole_is down k cells sized full e = grind (arith, high, extent, wide, has, whole_row)
 
-pub whole_held : (part : Part) (walls obstacles cells : Cells) (k : ℕ) → IsLattice cells → part ≡ whole_part cells → HasSidesOf walls cells → HasSidesOf obstacles cells → IsPartOf part walls obstacles cells cells k
-whole_held part walls obstacles cells k is e of_walls of_obstacles = subst (λ (part : Part). IsPartOf part walls obstacles cells cells k) (sym e) (whole_is (cells.height / 64) k walls obstacles cells is.sized is.full of_walls of_obstacles refl)
+pub whole_held : (part : Part) (cells : Cells) (k : ℕ) → IsLattice cells → part ≡ whole_part cells → IsPartOf part cells cells k
+whole_held part cells k is e = subst (λ (part : Part). IsPartOf part cells cells k) (sym e) (whole_is (cells.height / 64) k cells is.sized is.full refl)
 
 -- the torus is closed: the whole lattice has all rows
-pub whole_same : (down k : ℕ) (walls obstacles new lattice : Cells) → IsFull new → IsPartOf (record { first = 0; down = down; margin = 0 }) walls obstacles new lattice k → new ≡ lattice
-whole_same down k walls obstacles new lattice full is = grind (arith, same_cells, wide, has, whole_row)
+pub whole_same : (down k : ℕ) (new lattice : Cells) → IsFull new → IsPartOf (record { first = 0; down = down; margin = 0 }) new lattice k → new ≡ lattice
+whole_same down k new lattice full is = grind (arith, same_cells, wide, has, whole_row)
 
 pub whole_flow : (down n : ℕ) (counted : Counted) (d : Dynamics) (cells new : Cells) (answer : Flow) → is_size (extent cells) ≡ true → HasRun (record { first = 0; down = down; margin = 0 }) counted d n cells cells new answer
     → answer ≡ flow_counted counted (flow_with d.parity d.walls d.obstacles d.leaves cells n)
@@ -129,10 +133,10 @@ whole_moves p leaves cells sized =
     ap₂ (tiles_move (pos p) cells (acted leaves cells)) first (ap (λ n. n * a) rows ∙ turned) ∙ moves_all (pos p) leaves cells sized
 
 -- A strip is a part with a margin.
-pub strip_is : (first down rows k : ℕ) (walls obstacles strip lattice : Cells) → is_size (extent lattice) ≡ true → IsFull lattice → HasSidesOf walls lattice → HasSidesOf obstacles lattice → lattice.height ≡ down * 64 → strip.width ≡ lattice.width → strip.height ≡ (rows + 2) * 64 → 0 < rows → first + rows ≤ down
+pub strip_is : (first down rows k : ℕ) (strip lattice : Cells) → is_size (extent lattice) ≡ true → IsFull lattice → lattice.height ≡ down * 64 → strip.width ≡ lattice.width → strip.height ≡ (rows + 2) * 64 → 0 < rows → first + rows ≤ down
     → ((x y : ℕ) → x < lattice.width → k ≤ y → y + k < strip.height → has strip x y ≡ has lattice x (((first + down - 1) * 64 + y) % (down * 64)))
-    → IsPartOf (record { first = first; down = down; margin = 1 }) walls obstacles strip lattice k
-strip_is first down rows k walls obstacles strip lattice sized full of_walls of_obstacles high_is wide_is strip_high some within row = grind (arith, wide)
+    → IsPartOf (record { first = first; down = down; margin = 1 }) strip lattice k
+strip_is first down rows k strip lattice sized full high_is wide_is strip_high some within row = grind (arith, wide)
 
 pub strip_flow : (first down rows n : ℕ) (counted : Counted) (d : Dynamics) (strip lattice new : Cells) (answer : Flow) → strip.height ≡ (rows + 2) * 64 → HasRun (record { first = first; down = down; margin = 1 }) counted d n strip lattice new answer
     → answer ≡ flow_counted counted (tiles_flow d.parity d.walls d.obstacles d.leaves lattice (first * (lattice.width / 64)) (rows * (lattice.width / 64)) n)

@@ -100,9 +100,9 @@ inner_turned cells row column i t r made before after edge sized low less place 
     } in
     record {
       sides = record { wide = refl; high = refl };
-      sets = turns.sets;
-      cells = λ window walled obstructed own beside of_walls of_obstacles carried x y h k l. tile_here cells row column i made sized low less place x y h (omega (arith, l)) ∙ turns.cells window walled obstructed (seen window own beside) of_walls of_obstacles carried x y h k l;
-      leaving = λ window walled obstructed own beside. turns.leaving window walled obstructed (seen window own beside);
+      walled = turns.walled;
+      cells = λ window solid own beside given carried x y h k l. tile_here cells row column i made sized low less place x y h (omega (arith, l)) ∙ turns.cells window solid (seen window own beside) given carried x y h k l;
+      leaving = λ window solid own beside. turns.leaving window solid (seen window own beside);
       others = λ x y h k other.
           tile_others cells row column i made sized low less place t (λ y. (1 ≤ y) × (y < 63)) of_t
           (λ x y h k not_inner.

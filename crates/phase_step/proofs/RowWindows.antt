@@ -1,19 +1,19 @@
 -- A tile of a row of tiles, and its window in the lattice before the phase.
-use Rattle.std.proofs.Common.{◌≡◌, ℕ, ◌+◌, ◌-◌, ◌*◌, ◌/◌, ◌%◌, ◌<◌, ◌≤◌, ◌==◌, Bool, true, false, refl, sym, ap, ap₂, ◌∙◌, subst, arith, inl, inr}
+use Rattle.std.proofs.Common.{◌≡◌, ℕ, ◌+◌, ◌-◌, ◌*◌, ◌/◌, ◌%◌, ◌<◌, ◌≤◌, ◌==◌, Bool, true, false, Option, refl, sym, ap, ap₂, ◌∙◌, subst, arith, inl, inr}
 use Rattle.std.proofs.Math.Nat.{mod-eq_of_lt}
 use Rattle.std.proofs.lemmas.Nat.{mul-add-lt, mod-mul-add, div-mul-add}
 use Rattle.std.proofs.lemmas.Bool.{cases_eq, eq-eqb, ne_eqb}
-use Rattle.gas_terms.specs.Cells.{Cells, Rectangle, has, joined, extent, tile_rectangle}
+use Rattle.gas_terms.specs.Cells.{Cells, Rectangle, has, extent, tile_rectangle}
 use Rattle.gas_terms.specs.Gas.{streamed}
 use Rattle.gas_plane.proofs.Places.{IsWholeTiles, wide, high, cell_below}
-use Rattle.block_rule.specs.Around.{turned, either}
+use Rattle.block_rule.specs.Around.{turned}
 use Rattle.block_rule.specs.Windows.{IsAround}
 use Rattle.block_rule.specs.InPlace.{IsLeaving, IsCarried}
 use Rattle.block_rule.specs.TileBlocks.{AreGivenBlocks, walled_by}
 use Rattle.block_rule.specs.declared.blocks.Beside.{Beside}
 use Rattle.block_rule.specs.declared.in_place.Carry.{Carry}
-use Rattle.block_rule.specs.declared.in_place.WalledSets.{WalledSets}
-use Rattle.block_rule.proofs.Beyond.{own_around, reach_turned}
+use Rattle.block_rule.specs.declared.blocks_in_tile.SetBlocks.{SetBlocks}
+use Rattle.block_rule.proofs.Beyond.{own_around, reach_set}
 use Rattle.phase_step.specs.SolidBlocks.{is_walled_in, view_of}
 use Rattle.phase_step.specs.Turns.{IsPlaceOf}
 use Rattle.phase_step.specs.OddPhase.{IsRowThere, below_there, after_tiles}
@@ -27,8 +27,8 @@ pub record HasLast (across : ℕ) (lattice : Cells) : Type 0 where
   pub last : across - 1 + 1 ≡ lattice.width / 64
   pub less : across - 1 < lattice.width / 64
 
-pub has_last : (place : RowPlace) (walls obstacles cells lattice : Cells) (across : ℕ) → IsRowThere place walls obstacles cells lattice → across ≡ cells.width / 64 → 0 < cells.width / 64 → HasLast across lattice
-has_last place walls obstacles cells lattice across is e some =
+pub has_last : (place : RowPlace) (solid cells lattice : Cells) (across : ℕ) → IsRowThere place solid cells lattice → across ≡ cells.width / 64 → 0 < cells.width / 64 → HasLast across lattice
+has_last place solid cells lattice across is e some =
     let all : across ≡ lattice.width / 64 = e ∙ ap (λ w. w / 64) is.wide in
     record { all = all; last = omega (arith, all, e, some); less = omega (arith, all, e, some) }
 
@@ -54,9 +54,9 @@ next_around n row low =
           inl (let z : row * 64 + 64 < n * 64 = omega (arith, ne, low) in z, let z : (row + 1) % n * 64 ≡ row * 64 + 64 = omega (arith, under) in z)
     ]
 
-module _ (place : RowPlace) (column : ℕ) (walls obstacles cells lattice : Cells) (is : IsRowThere place walls obstacles cells lattice) (less : column < lattice.width / 64) where
+module _ (place : RowPlace) (column : ℕ) (solid cells lattice : Cells) (is : IsRowThere place solid cells lattice) (less : column < lattice.width / 64) where
   abbrev pub next_cells : Cells
-  next_cells = streamed 1 lattice (joined walls obstacles)
+  next_cells = streamed 1 lattice solid
 
   abbrev pub number : ℕ
   number = place.there * (lattice.width / 64) + column
@@ -67,14 +67,11 @@ module _ (place : RowPlace) (column : ℕ) (walls obstacles cells lattice : Cell
   abbrev pub window : ℕ → ℕ → Bool
   window = view_of lattice rectangle.x rectangle.y
 
-  abbrev pub walled : ℕ → ℕ → Bool
-  walled = view_of walls rectangle.x rectangle.y
-
-  abbrev pub obstructed : ℕ → ℕ → Bool
-  obstructed = view_of obstacles rectangle.x rectangle.y
+  abbrev pub walls_there : ℕ → ℕ → Bool
+  walls_there = view_of solid rectangle.x rectangle.y
 
   abbrev pub rule : ℕ → ℕ → Bool
-  rule = turned 1 window (either walled obstructed)
+  rule = turned 1 window walls_there
 
   pub across : IsWholeTiles lattice.width
   across = wide (extent lattice) is.sized
@@ -94,13 +91,13 @@ module _ (place : RowPlace) (column : ℕ) (walls obstacles cells lattice : Cell
   top : rectangle.y ≡ place.there * 64
   top = ap (λ n. n * 64) (div-mul-add place.there (lattice.width / 64) column less)
 
-  place_of : IsPlaceOf lattice walls obstacles number
-  place_of = place_is lattice walls obstacles number is.sized (mul-add-lt place.there (lattice.width / 64) column (lattice.height / 64) is.low less) is.of_walls is.of_obstacles
+  place_of : IsPlaceOf lattice solid solid number
+  place_of = place_is lattice solid solid number is.sized (mul-add-lt place.there (lattice.width / 64) column (lattice.height / 64) is.low less) is.of_solid is.of_solid
 
   -- what the rule makes of the window, and what the window shows
   pub turned_there : (x y c r : ℕ) → x ≤ 64 → y ≤ 64 → IsAround lattice.width (column * 64 + x) c → IsAround lattice.height (place.there * 64 + y) r → rule x y ≡ has next_cells c r
   turned_there x y c r h k around_x around_y =
-      reach_turned lattice walls obstacles rectangle.x rectangle.y window walled obstructed place_of (record { cell = λ _ _ _ _. refl }) (record { cell = λ _ _ _ _. refl }) (record { cell = λ _ _ _ _. refl }) x y c r h k
+      reach_set lattice solid rectangle.x rectangle.y window walls_there place_of (record { cell = λ _ _ _ _. refl }) (record { cell = λ _ _ _ _. refl }) x y c r h k
       (subst (λ n. IsAround lattice.width (n + x) c) (sym left) around_x) (subst (λ n. IsAround lattice.height (n + y) r) (sym top) around_y)
 
   pub seen_there : (x y c r : ℕ) → IsAround lattice.width (column * 64 + x) c → IsAround lattice.height (place.there * 64 + y) r → window (x + 1) (y + 1) ≡ has lattice c r
@@ -153,9 +150,6 @@ module _ (place : RowPlace) (column : ℕ) (walls obstacles cells lattice : Cell
   abbrev pub edge_below : Bool
   edge_below = has lattice (after_tiles lattice (column + 1)) (below_there place lattice * 64)
 
-  -- the words of walls and obstacles name its blocks
-  pub walls_in_view : (words : WalledSets) → AreGivenBlocks words.walls (is_walled_in walls number) → AreGivenBlocks words.walls (walled_by walled)
-  walls_in_view words given = given_in_view lattice walls obstacles walls number words.walls place_of is.of_walls given
-
-  pub obstacles_in_view : (words : WalledSets) → AreGivenBlocks words.obstacles (is_walled_in obstacles number) → AreGivenBlocks words.obstacles (walled_by obstructed)
-  obstacles_in_view words given = given_in_view lattice walls obstacles obstacles number words.obstacles place_of is.of_obstacles given
+  -- the words that are given name its blocks
+  pub given_there : (given : Option SetBlocks) → AreGivenBlocks given (is_walled_in solid number) → AreGivenBlocks given (walled_by walls_there)
+  given_there given is_given = given_in_view lattice solid number given place_of is_given

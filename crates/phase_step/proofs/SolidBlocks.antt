@@ -6,7 +6,7 @@ use Rattle.std.proofs.lemmas.Nat.{mod-mul-add}
 use Rattle.std.proofs.Math.Nat.{mod-lt, mul_comm, mul-le-mul_right, le-div_iff_mul-le, div-lt_iff_lt-mul}
 use Rattle.std.proofs.lemmas.List.{get_or-replicate, length-replicate}
 use Rattle.gas_terms.specs.Velocity.{has_parity}
-use Rattle.gas_terms.specs.Cells.{Cells, Rectangle, HasSidesOf, has, cells_where, filled, cleared, extent, is_size, is_inside, tile_count, tile_rectangle}
+use Rattle.gas_terms.specs.Cells.{Cells, Rectangle, HasSidesOf, has, cells_where, filled, cleared, joined, extent, is_size, is_inside, tile_count, tile_rectangle}
 use Rattle.gas_terms.proofs.Blocks.{cell_walled}
 use Rattle.gas_terms.proofs.Cells.{has-cells_where, full-cells_where}
 use Rattle.bit_tile.proofs.Bits.{bit-zero}
@@ -14,14 +14,14 @@ use Rattle.gas_plane.specs.Planes.{IsLattice, HasNone}
 use Rattle.gas_plane.proofs.Painting.{outside_columns, outside_rows}
 use Rattle.gas_plane.proofs.Places.{wide, high}
 use Rattle.gas_plane.proofs.Places.{high as high_of}
-use Rattle.block_rule.specs.Around.{block_start, is_walled_at}
+use Rattle.block_rule.specs.Around.{block_start, either, is_walled_at}
 use Rattle.block_rule.specs.Windows.{IsView, IsTilePlace}
 use Rattle.block_rule.specs.TileBlocks.{NamesBlocks}
 use Rattle.block_rule.specs.declared.blocks_in_tile.TileBlocks.{TileBlocks}
 use Rattle.block_rule.specs.Around.{around, none as none_there}
 use Rattle.block_rule.specs.Shown.{IsSeenIn}
 use Rattle.block_rule.specs.declared.Window.{Window}
-use Rattle.block_rule.proofs.Torus.{walled_same, window_is_view}
+use Rattle.block_rule.proofs.Torus.{walled_same, window_is_view, solid_view}
 use Rattle.phase_step.specs.Turns.{IsWindowFrom}
 use Rattle.phase_step.proofs.TurnedTiles.{bare_view, bare_window, border_near, tile_window, window_seen, window_view}
 use Rattle.phase_step.specs.SolidBlocks.{no_words, blocks_at, is_walled_in, view_of, window_of, is_reached, HaveAllTiles, AreBlocksOf, DifferIn, IsFar, IsNearIn, AreRenewedUpTo}
@@ -280,9 +280,33 @@ given_same : (given : Option SetBlocks) (test other : ℕ → ℕ → ℕ → Bo
 given_same None test other same none = λ p two x y h k. sym (same p x y two h k) ∙ none p two x y h k
 given_same (Some s) test other same are = names_same s.rows s.blocks.now test other same are
 
-pub given_in_view : (old walls obstacles set : Cells) (i : ℕ) (given : Option SetBlocks) → IsPlaceOf old walls obstacles i → HasSidesOf set old → AreGivenBlocks given (is_walled_in set i) → AreGivenBlocks given (walled_by (view_of set (tile_rectangle old i).x (tile_rectangle old i).y))
-given_in_view old walls obstacles set i given place sides =
-    given_same given (is_walled_in set i) (walled_by (view_of set (tile_rectangle old i).x (tile_rectangle old i).y))
-    (λ p x y two h k.
+view_same : (old set : Cells) (i : ℕ) → IsPlaceOf old set set i → (p x y : ℕ) → p < 2 → x < 64 → y < 64
+    → is_walled_in set i p x y ≡ walled_by (view_of set (tile_rectangle old i).x (tile_rectangle old i).y) p x y
+view_same old set i place p x y two h k =
+    let sides = place.of_walls in
     ap₂ (λ m n. is_walled set (site_of p m n (i % (m / 64) * 64 + x) (i / (m / 64) * 64 + y))) sides.wide sides.high
-    ∙ sym (walled_same cell_walled p (view_of set (tile_rectangle old i).x (tile_rectangle old i).y) set old.width old.height (tile_rectangle old i).x (tile_rectangle old i).y x y two sides.wide sides.high (record { cell = λ _ _ _ _. refl }) place.even_column place.even_row h k (omega (arith, place.right)) (omega (arith, place.bottom))))
+    ∙ sym (walled_same cell_walled p (view_of set (tile_rectangle old i).x (tile_rectangle old i).y) set old.width old.height (tile_rectangle old i).x (tile_rectangle old i).y x y two sides.wide sides.high (record { cell = λ _ _ _ _. refl }) place.even_column place.even_row h k (omega (arith, place.right)) (omega (arith, place.bottom)))
+
+pub given_in_view : (old set : Cells) (i : ℕ) (given : Option SetBlocks) → IsPlaceOf old set set i → AreGivenBlocks given (is_walled_in set i) → AreGivenBlocks given (walled_by (view_of set (tile_rectangle old i).x (tile_rectangle old i).y))
+given_in_view old set i given place = given_same given (is_walled_in set i) _ (view_same old set i place)
+
+pub named_in_view : (old set : Cells) (i rows : ℕ) (blocks : TileBlocks) → IsPlaceOf old set set i → NamesBlocks rows blocks (is_walled_in set i) → NamesBlocks rows blocks (walled_by (view_of set (tile_rectangle old i).x (tile_rectangle old i).y))
+named_in_view old set i rows blocks place = names_same rows blocks (is_walled_in set i) _ (view_same old set i place)
+
+-- and of walls and obstacles together
+both_same : (old walls obstacles : Cells) (i : ℕ) → IsPlaceOf old walls obstacles i → (p x y : ℕ) → p < 2 → x < 64 → y < 64
+    → is_walled_in (joined walls obstacles) i p x y ≡ walled_by (either (view_of walls (tile_rectangle old i).x (tile_rectangle old i).y) (view_of obstacles (tile_rectangle old i).x (tile_rectangle old i).y)) p x y
+both_same old walls obstacles i place p x y two h k =
+    let r = tile_rectangle old i in
+    let of_walls = place.of_walls in
+    ap₂ (λ m n. is_walled (joined walls obstacles) (site_of p m n (i % (m / 64) * 64 + x) (i / (m / 64) * 64 + y))) of_walls.wide of_walls.high
+    ∙ sym (walled_same cell_walled p (either (view_of walls r.x r.y) (view_of obstacles r.x r.y)) (joined walls obstacles) old.width old.height r.x r.y x y two of_walls.wide of_walls.high
+    (solid_view p old walls obstacles r.x r.y (view_of walls r.x r.y) (view_of obstacles r.x r.y) place (record { cell = λ _ _ _ _. refl }) (record { cell = λ _ _ _ _. refl }) has-cells_where) place.even_column place.even_row h k (omega (arith, place.right)) (omega (arith, place.bottom)))
+
+pub given_in_both : (old walls obstacles : Cells) (i : ℕ) (given : Option SetBlocks) → IsPlaceOf old walls obstacles i → AreGivenBlocks given (is_walled_in (joined walls obstacles) i)
+    → AreGivenBlocks given (walled_by (either (view_of walls (tile_rectangle old i).x (tile_rectangle old i).y) (view_of obstacles (tile_rectangle old i).x (tile_rectangle old i).y)))
+given_in_both old walls obstacles i given place = given_same given (is_walled_in (joined walls obstacles) i) _ (both_same old walls obstacles i place)
+
+pub named_in_both : (old walls obstacles : Cells) (i rows : ℕ) (blocks : TileBlocks) → IsPlaceOf old walls obstacles i
+    → NamesBlocks rows blocks (walled_by (either (view_of walls (tile_rectangle old i).x (tile_rectangle old i).y) (view_of obstacles (tile_rectangle old i).x (tile_rectangle old i).y))) → NamesBlocks rows blocks (is_walled_in (joined walls obstacles) i)
+named_in_both old walls obstacles i rows blocks place = names_same rows blocks _ (is_walled_in (joined walls obstacles) i) (λ p x y two h k. sym (both_same old walls obstacles i place p x y two h k))

@@ -15,8 +15,8 @@ place_in cells row = record { row = row; below = (row + 1) % (cells.height / 64)
 pub place_is : (place : RowPlace) (cells : Cells) (row : ℕ) → place.row ≡ row → place.below ≡ (row + 1) % (cells.height / 64) → place.there ≡ row → place ≡ place_in cells row
 place_is place cells row e f g = grind (arith)
 
-pub row_there_is : (walls obstacles cells lattice : Cells) (row : ℕ) → is_size (extent lattice) ≡ true → HasSidesOf walls lattice → HasSidesOf obstacles lattice → HasSidesOf cells lattice → row < lattice.height / 64 → IsRowThere (place_in lattice row) walls obstacles cells lattice
-row_there_is walls obstacles cells lattice row sized of_walls of_obstacles sides low = record { sized = sized; of_walls = of_walls; of_obstacles = of_obstacles; wide = sides.wide; low = low }
+pub row_there_is : (solid cells lattice : Cells) (row : ℕ) → is_size (extent lattice) ≡ true → HasSidesOf solid lattice → HasSidesOf cells lattice → row < lattice.height / 64 → IsRowThere (place_in lattice row) solid cells lattice
+row_there_is solid cells lattice row sized of_solid sides low = record { sized = sized; of_solid = of_solid; wide = sides.wide; low = low }
 
 -- a row of tiles of a set
 pub room_there : (set cells now : Cells) (row there : ℕ) → HasSidesOf set cells → HasSidesOf now cells → row < cells.height / 64 → there ≡ row → there * (now.width / 64) + now.width / 64 ≤ tile_count set
@@ -57,25 +57,23 @@ all_turned_twice rows mid next old now sized all of_next full full_next is =
     ]))
 
 -- what a row is turned among, by what stood before
-pub record IsSetting (w o old now : Cells) (row : ℕ) : Type 0 where
-  pub walls : HasSidesOf w old
-  pub obstacles : HasSidesOf o old
+pub record IsSetting (solid old : Cells) (row : ℕ) : Type 0 where
+  pub sides : HasSidesOf solid old
   pub low : row < old.height / 64
 
-pub setting : (w o old now : Cells) (row : ℕ) → HasSidesOf now old → HasSidesOf w now → HasSidesOf o now → row < now.height / 64 → IsSetting w o old now row
-setting w o old now row sides of_walls of_obstacles low =
+pub setting : (solid old now : Cells) (row : ℕ) → HasSidesOf now old → HasSidesOf solid now → row < now.height / 64 → IsSetting solid old row
+setting solid old now row sides of_solid low =
     record {
-      walls = record { wide = of_walls.wide ∙ sides.wide; high = of_walls.high ∙ sides.high };
-      obstacles = record { wide = of_obstacles.wide ∙ sides.wide; high = of_obstacles.high ∙ sides.high };
+      sides = record { wide = of_solid.wide ∙ sides.wide; high = of_solid.high ∙ sides.high };
       low = subst (λ h. row < h / 64) sides.high low;
     }
 
-module _ (w o old : Cells) (row : ℕ) (sized : is_size (extent old) ≡ true) where
+module _ (solid old : Cells) (row : ℕ) (sized : is_size (extent old) ≡ true) where
   abbrev mid : Cells
-  mid = once_turned w o old
+  mid = once_turned solid old
 
   abbrev next : Cells
-  next = twice_turned w o old
+  next = twice_turned solid old
 
   some : 0 < old.height
   some = let t = (high (extent old) sized).tiles in let s = (high (extent old) sized).some in omega (arith, t, s)

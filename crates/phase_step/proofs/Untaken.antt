@@ -79,11 +79,11 @@ tiles_untaken p c w o kept first (suc n) small sized of_walls of_obstacles none 
     ∙ counted_plus kept (tiles_take p c w o first n) (taken_in (pos p) c w o (tile_rectangle c i)))
 
 -- so nothing is taken in a part
-pub own_untaken : (p : ℕ) (part : Part) (cells lattice w o : Cells) (kept : Counted) (k : ℕ) → p < 2 → IsPartOf part w o cells lattice k → AreOfNone kept w o → nothing ≡ counted_of kept (own_take part p cells lattice w o)
-own_untaken p part cells lattice w o kept k small is none =
+pub own_untaken : (p : ℕ) (part : Part) (cells lattice w o : Cells) (kept : Counted) (k : ℕ) → p < 2 → IsPartOf part cells lattice k → HasSidesOf w lattice → HasSidesOf o lattice → AreOfNone kept w o → nothing ≡ counted_of kept (own_take part p cells lattice w o)
+own_untaken p part cells lattice w o kept k small is of_walls of_obstacles none =
     let a = lattice.width / 64 in
     let same : a ≤ a = omega arith in
     let rows : (part.first + own_rows part cells) * a ≤ part.down * a = mul-le-mul is.placed.inside same in
     let down : lattice.height / 64 ≡ part.down = let e = is.placed.down in omega (arith, e) in
     let all : a * (lattice.height / 64) ≡ a * part.down = ap (λ n. a * n) down in
-    tiles_untaken p lattice w o kept (part.first * a) (own_rows part cells * a) small is.sized is.of_walls is.of_obstacles none (omega (arith, rows, all))
+    tiles_untaken p lattice w o kept (part.first * a) (own_rows part cells * a) small is.sized of_walls of_obstacles none (omega (arith, rows, all))

@@ -4,10 +4,10 @@ use Rattle.std.specs.Prelude.{◌≡◌, ◌⊎◌, ℕ, ◌+◌, ◌-◌, ◌*�
 use Rattle.bit_tile.specs.Bit.{bit}
 use Rattle.bit_tile.specs.Tile as tile
 use Rattle.bit_tile.specs.declared.Tile.{Tile}
-use Rattle.gas_terms.specs.Cells.{Cells, HasSidesOf, has, joined, extent, is_size}
+use Rattle.gas_terms.specs.Cells.{Cells, HasSidesOf, has, extent, is_size}
 use Rattle.gas_terms.specs.Gas.{streamed}
 use Rattle.gas_plane.specs.Planes.{IsLattice}
-use Rattle.block_rule.specs.Around.{turned, either}
+use Rattle.block_rule.specs.Around.{turned}
 use Rattle.block_rule.specs.InPlace.{ShowsBegun, IsInnerSeen, IsRowTurned, IsCarried}
 use Rattle.block_rule.specs.TileBlocks.{AreGivenBlocks, walled_by}
 use Rattle.block_rule.specs.declared.blocks.Blocks.{Blocks}
@@ -20,22 +20,22 @@ use Rattle.phase_step.specs.declared.odd_phase.RowTurner.{RowTurner}
 
 -- what a turner makes of a tile beside the one to its right, and what it carries on
 pub record TurnsInner (before : RowTurner) (t r made : Tile) (after : RowTurner) : Type 0 where
-  pub cells : (window walled obstructed : ℕ → ℕ → Bool) → IsInnerSeen window t r → AreGivenBlocks before.sets.walls (walled_by walled) → AreGivenBlocks before.sets.obstacles (walled_by obstructed) → IsCarried before.carry (turned 1 window (either walled obstructed) 0)
-      → (x y : ℕ) → x < 64 → 1 ≤ y → y < 63 → tile.has made x y ≡ turned 1 window (either walled obstructed) x y
-  pub leaving : (window walled obstructed : ℕ → ℕ → Bool) → IsInnerSeen window t r → AreGivenBlocks before.sets.walls (walled_by walled) → AreGivenBlocks before.sets.obstacles (walled_by obstructed) → IsCarried after.carry (turned 1 window (either walled obstructed) 64)
+  pub cells : (window solid : ℕ → ℕ → Bool) → IsInnerSeen window t r → AreGivenBlocks before.walled (walled_by solid) → IsCarried before.carry (turned 1 window solid 0)
+      → (x y : ℕ) → x < 64 → 1 ≤ y → y < 63 → tile.has made x y ≡ turned 1 window solid x y
+  pub leaving : (window solid : ℕ → ℕ → Bool) → IsInnerSeen window t r → AreGivenBlocks before.walled (walled_by solid) → IsCarried after.carry (turned 1 window solid 64)
   pub top : (x : ℕ) → x < 64 → tile.has made x 0 ≡ tile.has t x 0
   pub bottom : (x : ℕ) → x < 64 → tile.has made x 63 ≡ tile.has t x 63
-  pub sets : after.sets ≡ before.sets
+  pub walled : after.walled ≡ before.walled
 
 -- the rows of cells 1 to 62 of a tile have turned, where `edge` has what stood to their right
 pub record IsInnerTurned (row column : ℕ) (edge : ℕ → Bool) (before after : RowTurner) (old new : Cells) : Type 0 where
   pub sides : HasSidesOf new old
-  pub sets : after.sets ≡ before.sets
-  pub cells : (window walled obstructed : ℕ → ℕ → Bool) → ((x y : ℕ) → x < 64 → 1 ≤ y → y < 63 → window (x + 1) (y + 1) ≡ has old (column * 64 + x) (row * 64 + y)) → ((y : ℕ) → 1 ≤ y → y < 63 → window 65 (y + 1) ≡ edge y)
-      → AreGivenBlocks before.sets.walls (walled_by walled) → AreGivenBlocks before.sets.obstacles (walled_by obstructed) → IsCarried before.carry (turned 1 window (either walled obstructed) 0)
-      → (x y : ℕ) → x < 64 → 1 ≤ y → y < 63 → has new (column * 64 + x) (row * 64 + y) ≡ turned 1 window (either walled obstructed) x y
-  pub leaving : (window walled obstructed : ℕ → ℕ → Bool) → ((x y : ℕ) → x < 64 → 1 ≤ y → y < 63 → window (x + 1) (y + 1) ≡ has old (column * 64 + x) (row * 64 + y)) → ((y : ℕ) → 1 ≤ y → y < 63 → window 65 (y + 1) ≡ edge y)
-      → AreGivenBlocks before.sets.walls (walled_by walled) → AreGivenBlocks before.sets.obstacles (walled_by obstructed) → IsCarried after.carry (turned 1 window (either walled obstructed) 64)
+  pub walled : after.walled ≡ before.walled
+  pub cells : (window solid : ℕ → ℕ → Bool) → ((x y : ℕ) → x < 64 → 1 ≤ y → y < 63 → window (x + 1) (y + 1) ≡ has old (column * 64 + x) (row * 64 + y)) → ((y : ℕ) → 1 ≤ y → y < 63 → window 65 (y + 1) ≡ edge y)
+      → AreGivenBlocks before.walled (walled_by solid) → IsCarried before.carry (turned 1 window solid 0)
+      → (x y : ℕ) → x < 64 → 1 ≤ y → y < 63 → has new (column * 64 + x) (row * 64 + y) ≡ turned 1 window solid x y
+  pub leaving : (window solid : ℕ → ℕ → Bool) → ((x y : ℕ) → x < 64 → 1 ≤ y → y < 63 → window (x + 1) (y + 1) ≡ has old (column * 64 + x) (row * 64 + y)) → ((y : ℕ) → 1 ≤ y → y < 63 → window 65 (y + 1) ≡ edge y)
+      → AreGivenBlocks before.walled (walled_by solid) → IsCarried after.carry (turned 1 window solid 64)
   pub others : (x y : ℕ) → x < old.width → y < old.height → (x / 64 ≡ column → y / 64 ≡ row → 1 ≤ y % 64 → y % 64 < 63 → ⊥) → has new x y ≡ has old x y
 
 -- what stands to the right of a tile in its rows 1 to 62: in the next tile, and for the last one of a row in the first one as it was
@@ -60,11 +60,10 @@ abbrev pub ShowsSeam : ℕ → ℕ → ℕ → Cells → Bool → Bool → Block
 ShowsSeam row below column cells upper lower own right =
     (window : ℕ → ℕ → Bool) → ((x : ℕ) → x < 64 → window (x + 1) 64 ≡ has cells (column * 64 + x) (row * 64 + 63)) → ((x : ℕ) → x < 64 → window (x + 1) 65 ≡ has cells (column * 64 + x) (below * 64)) → window 65 64 ≡ upper → window 65 65 ≡ lower → ShowsBegun window 31 own right
 
--- The row of tiles stands there in a lattice with these walls and obstacles.
-pub record IsRowThere (place : RowPlace) (walls obstacles cells lattice : Cells) : Type 0 where
+-- The row of tiles stands there in a lattice with these walls.
+pub record IsRowThere (place : RowPlace) (solid cells lattice : Cells) : Type 0 where
   pub sized : is_size (extent lattice) ≡ true
-  pub of_walls : HasSidesOf walls lattice
-  pub of_obstacles : HasSidesOf obstacles lattice
+  pub of_solid : HasSidesOf solid lattice
   pub wide : cells.width ≡ lattice.width
   pub low : place.there < lattice.height / 64
 
@@ -159,18 +158,18 @@ pub record IsNextTurned (row : ℕ) (mid next old now : Cells) : Type 0 where
   pub once : (x y : ℕ) → x < old.width → y < old.height → row ≤ begins_in old y → y / 64 ≤ row + 1 → has now x y ≡ has mid x y
   pub rest : (x y : ℕ) → x < old.width → y < old.height → row + 1 < y / 64 → has now x y ≡ has old x y
 
--- what leads from one to the other, among these walls and obstacles
-abbrev pub once_turned : Cells → Cells → Cells → Cells
-once_turned walls obstacles old = streamed 0 old (joined walls obstacles)
+-- what leads from one to the other, among these walls
+abbrev pub once_turned : Cells → Cells → Cells
+once_turned solid old = streamed 0 old solid
 
-abbrev pub twice_turned : Cells → Cells → Cells → Cells
-twice_turned walls obstacles old = streamed 1 (once_turned walls obstacles old) (joined walls obstacles)
+abbrev pub twice_turned : Cells → Cells → Cells
+twice_turned solid old = streamed 1 (once_turned solid old) solid
 
-abbrev pub TurnsNext : ℕ → Cells → Cells → Cells → Cells → Type 0
-TurnsNext row walls obstacles now new = (old : Cells) → IsLattice old → AreTurnedTwice row (once_turned walls obstacles old) (twice_turned walls obstacles old) old now → IsNextTurned row (once_turned walls obstacles old) (twice_turned walls obstacles old) old new
+abbrev pub TurnsNext : ℕ → Cells → Cells → Cells → Type 0
+TurnsNext row solid now new = (old : Cells) → IsLattice old → AreTurnedTwice row (once_turned solid old) (twice_turned solid old) old now → IsNextTurned row (once_turned solid old) (twice_turned solid old) old new
 
-abbrev pub TurnsSecond : ℕ → Cells → Cells → Cells → Cells → Type 0
-TurnsSecond row walls obstacles now new = (old : Cells) → IsLattice old → IsNextTurned row (once_turned walls obstacles old) (twice_turned walls obstacles old) old now → AreTurnedTwice (row + 1) (once_turned walls obstacles old) (twice_turned walls obstacles old) old new
+abbrev pub TurnsSecond : ℕ → Cells → Cells → Cells → Type 0
+TurnsSecond row solid now new = (old : Cells) → IsLattice old → IsNextTurned row (once_turned solid old) (twice_turned solid old) old now → AreTurnedTwice (row + 1) (once_turned solid old) (twice_turned solid old) old new
 
-abbrev pub TurnsTwice : ℕ → Cells → Cells → Cells → Cells → Type 0
-TurnsTwice row walls obstacles now new = (old : Cells) → IsLattice old → AreTurnedTwice row (once_turned walls obstacles old) (twice_turned walls obstacles old) old now → AreTurnedTwice (row + 1) (once_turned walls obstacles old) (twice_turned walls obstacles old) old new
+abbrev pub TurnsTwice : ℕ → Cells → Cells → Cells → Type 0
+TurnsTwice row solid now new = (old : Cells) → IsLattice old → AreTurnedTwice row (once_turned solid old) (twice_turned solid old) old now → AreTurnedTwice (row + 1) (once_turned solid old) (twice_turned solid old) old new

@@ -1,6 +1,6 @@
 -- Parts of a lattice: some of its rows of tiles, one after another round its torus. A strip is one, and so is the whole lattice.
 use Rattle.std.specs.Prelude.{◌≡◌, ℕ, ◌+◌, ◌-◌, ◌*◌, ◌/◌, ◌%◌, ◌<◌, ◌≤◌, true, pos}
-use Rattle.gas_terms.specs.Cells.{Cells, HasSidesOf, has, joined, extent, is_size, tile_count, IsFull}
+use Rattle.gas_terms.specs.Cells.{Cells, HasSidesOf, has, extent, is_size, tile_count, IsFull}
 use Rattle.gas_terms.specs.Gas.{streamed}
 use Rattle.gas_terms.specs.declared.accounts.Took.{Took}
 use Rattle.gas_terms.specs.declared.accounts.Moved.{Moved}
@@ -66,49 +66,46 @@ own_moves part p cells old new = let across = old.width / 64 in tiles_move (pos 
 abbrev pub whole_part : Cells → Part
 whole_part cells = record { first = 0; down = cells.height / 64; margin = 0 }
 
--- The cells are those of a part of a lattice with these walls and obstacles, but for k rows at
--- either end if it has margins.
-pub record IsPartOf (part : Part) (walls obstacles cells lattice : Cells) (k : ℕ) : Type 0 where
+-- The cells are those of a part of a lattice, but for k rows at either end if it has margins.
+pub record IsPartOf (part : Part) (cells lattice : Cells) (k : ℕ) : Type 0 where
   pub sized : is_size (extent lattice) ≡ true
   pub full : IsFull lattice
-  pub of_walls : HasSidesOf walls lattice
-  pub of_obstacles : HasSidesOf obstacles lattice
   pub placed : IsPlaced part cells lattice
   pub rows : HasRows part cells lattice k
 
 -- the same with some lattice
-pub record IsReady (part : Part) (walls obstacles cells : Cells) (k : ℕ) : Type 0 where
+pub record IsOfSome (part : Part) (cells : Cells) (k : ℕ) : Type 0 where
   pub lattice : Cells
-  pub is : IsPartOf part walls obstacles cells lattice k
+  pub is : IsPartOf part cells lattice k
 
--- and with some walls and obstacles, by its own rows alone
-pub record IsOfSome (part : Part) (cells : Cells) : Type 0 where
-  pub walls : Cells
-  pub obstacles : Cells
-  pub ready : IsReady part walls obstacles cells 64
+-- and with one that has walls like these
+pub record IsReady (part : Part) (solid cells : Cells) (k : ℕ) : Type 0 where
+  pub lattice : Cells
+  pub is : IsPartOf part cells lattice k
+  pub sides : HasSidesOf solid lattice
 
 -- A phase of parity p turned a part's own tiles. At parity 1 it needs one row of cells more above
 -- and below than its own.
-abbrev pub IsTurned : Part → ℕ → Cells → Cells → Cells → Cells → Type 0
-IsTurned part p walls obstacles old new = (lattice : Cells) → IsPartOf part walls obstacles old lattice (64 - p)
-    → IsPartOf part walls obstacles new (streamed p lattice (joined walls obstacles)) 64
+abbrev pub IsTurned : Part → ℕ → Cells → Cells → Cells → Type 0
+IsTurned part p solid old new = (lattice : Cells) → HasSidesOf solid lattice → IsPartOf part old lattice (64 - p)
+    → IsPartOf part new (streamed p lattice solid) 64
 
 -- A run of n phases can be made of a part: its rows are those of some lattice, and with margins it
 -- makes one phase at most.
 pub record CanRunPart (part : Part) (d : Dynamics) (n : ℕ) (particles : Cells) : Type 0 where
   pub parity : d.parity < 2
-  pub ready : IsReady part d.walls d.obstacles particles (64 - d.parity)
+  pub ready : IsReady part d.walls particles (64 - d.parity)
   pub few : part.margin * n ≤ 1
 
 -- What a run of n phases is: the part's own rows are the lattice's after it, and the flow is that
 -- of its own tiles.
 pub record HasRun (part : Part) (counted : Counted) (d : Dynamics) (n : ℕ) (old lattice new : Cells) (answer : Flow) : Type 0 where
-  pub is : IsPartOf part d.walls d.obstacles new (after_all d lattice n) 64
+  pub is : IsPartOf part new (after_all d lattice n) 64
   pub flow : answer ≡ flow_counted counted (own_flow part d old lattice n)
 
 -- So it is with each lattice that the part may be of. The particles keep their size.
 pub record HasRunPart (part : Part) (counted : Counted) (d : Dynamics) (n : ℕ) (old new : Cells) (answer : Flow) : Type 0 where
-  pub run : (lattice : Cells) → IsPartOf part d.walls d.obstacles old lattice (64 - d.parity)
+  pub run : (lattice : Cells) → HasSidesOf d.walls lattice → IsPartOf part old lattice (64 - d.parity)
       → HasRun part counted d n old lattice new answer
   pub sides : HasSidesOf new old
 

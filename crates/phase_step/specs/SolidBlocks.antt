@@ -1,6 +1,6 @@
 -- The blocks with a cell of a set, tile by tile.
 use Rattle.std.specs.Prelude.{◌≡◌, ℕ, ◌+◌, ◌-◌, ◌*◌, ◌%◌, ◌<◌, ◌≤◌, ◌⊎◌, ◌&&◌, nat_le, nat_lt, Bool, true, false, List, [], length, slice_index, slice_index_or}
-use Rattle.gas_terms.specs.Cells.{Cells, Rectangle, HasSidesOf, has, is_inside, tile_count, tile_rectangle}
+use Rattle.gas_terms.specs.Cells.{Cells, Rectangle, HasSidesOf, has, joined, is_inside, tile_count, tile_rectangle}
 use Rattle.gas_terms.specs.Gas.{site_of, is_walled}
 use Rattle.block_rule.specs.Shown.{HasNoCell}
 use Rattle.block_rule.specs.TileBlocks.{NamesBlocks, AreGivenBlocks}
@@ -30,9 +30,9 @@ pub record AreBlocksOf (set : Cells) (told : List ℕ) (words : List TileBlocks)
   pub each : (i : ℕ) → i < tile_count set
       → NamesBlocks (slice_index told i) (blocks_at words i) (is_walled_in set i)
 
--- the walled blocks of tile i: those that have a wall, and those that have an obstacle
+-- the walled blocks of tile i, and those of them that have an obstacle
 pub record AreTileSolids (walls obstacles : Cells) (i : ℕ) (tile_solids : TileSolids) : Type 0 where
-  pub of_walls : AreGivenBlocks tile_solids.walls (is_walled_in walls i)
+  pub of_all : AreGivenBlocks tile_solids.all (is_walled_in (joined walls obstacles) i)
   pub of_obstacles : AreGivenBlocks tile_solids.obstacles (is_walled_in obstacles i)
 
 -- no site has a cell of the set

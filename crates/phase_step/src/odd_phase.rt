@@ -2,14 +2,15 @@
 //! 62 lie in its row of tiles. Those of its last row end in the tiles below, across the seam.
 
 ghost use Rattle.std.specs.Prelude.{◌≡◌, ℕ, ◌+◌, ◌*◌, ◌/◌, ◌<◌, ◌≤◌, Bool};
-ghost use Rattle.gas_terms.specs.Cells.{Cells, HasSidesOf, joined, tile_count};
+ghost use Rattle.gas_terms.specs.Cells.{Cells, HasSidesOf, tile_count};
 ghost use Rattle.gas_terms.specs.Gas.{streamed};
-ghost use Rattle.block_rule.specs.TileBlocks.{AreGivenBlocks};
-ghost use Rattle.phase_step.specs.SolidBlocks.{is_walled_in};
 ghost use Rattle.phase_step.specs.OddPhase.{TurnsInner, IsSeamPut, IsInnerTurned, IsEdge, IsSeamEdge, ShowsSeam, IsRowThere, HasInner, HasSeam, IsInnerRowTurned, IsSeamRowTurned};
 
-use crate::steps::{Ground, TileSolids};
-use block_rule::{Beside, Carry, SeamRow, TurnedRow, WalledSets, put_bottom, put_top, seam_row};
+use crate::steps::KnownSolid;
+use block_rule::{
+    Beside, Carry, SeamRow, SetBlocks, TurnedRow, carried_on, put_bottom, put_top, seam_row,
+    turn_inner, turned_seam,
+};
 use gas_plane::{Plane, Tile, Turner};
 
 /// Where a row of tiles stands: its number, that of the row below, and the number of the lattice's row of tiles that it is.
@@ -23,7 +24,7 @@ pub struct RowPlace {
 /// Turns the tiles of a row one after another. It has the walled blocks of the next tile, and what the one before carries on.
 #[derive(Clone, Copy)]
 pub struct RowTurner<'a> {
-    pub sets: WalledSets<'a>,
+    pub walled: Option<SetBlocks<'a>>,
     pub carry: Carry,
 }
 
@@ -32,22 +33,8 @@ impl<'a> Turner for RowTurner<'a> {
 
     #[inline(always)]
     fn turn(&mut self, tile: &mut Tile, right: &Tile) {
-        self.sets.turn_inner(tile, right, &mut self.carry);
+        turn_inner(self.walled, tile, right, &mut self.carry);
     }
-}
-
-// The walled blocks of the lattice's tile i.
-#[inline(always)]
-fn sets_at(ground: Ground<'_>, i: u32) -> WalledSets<'_>
-    requires walls { i < tile_count ground.solids.now.walls }
-    requires obstacles { i < tile_count ground.solids.now.obstacles }
-    ensures walls { let s = ground.entry.solids.now in
-        AreGivenBlocks result.walls (is_walled_in s.walls i) }
-    ensures obstacles { let s = ground.entry.solids.now in
-        AreGivenBlocks result.obstacles (is_walled_in s.obstacles i) }
-{
-    let TileSolids { walls, obstacles } = ground.in_tile(i);
-    WalledSets { walls, obstacles }
 }
 
 // Turns the rows of blocks of a tile that lie in its row of tiles. `first` is the row's first tile as it was before the phase.
@@ -78,31 +65,28 @@ fn turn_inner_at(
 
 /// Turns the blocks that lie in a row of tiles: its rows of cells 1 to 62.
 #[inline(always)]
-pub fn turn_inner_row(particles: &mut Plane, ground: Ground<'_>, place: RowPlace)
+pub fn turn_inner_row(particles: &mut Plane, known: KnownSolid<'_>, place: RowPlace)
     requires row { place.row < particles.old.height / 64 }
     requires there { place.there < 64 }
-    requires walls { let a = particles.old.width / 64 in
-        place.there * a + a ≤ tile_count ground.solids.now.walls }
-    requires obstacles { let a = particles.old.width / 64 in
-        place.there * a + a ≤ tile_count ground.solids.now.obstacles }
+    requires solid { let a = particles.old.width / 64 in
+        place.there * a + a ≤ tile_count known.solid.now }
     ensures sides { HasSidesOf particles.new particles.old }
-    ensures turned { let s = ground.entry.solids.now in (lattice : Cells) →
-        IsRowThere place s.walls s.obstacles particles.old lattice →
+    ensures turned { let solid = known.entry.solid.now in (lattice : Cells) →
+        IsRowThere place solid particles.old lattice →
         HasInner place lattice.width particles.old lattice →
-        IsInnerRowTurned place (streamed 1 lattice (joined s.walls s.obstacles))
-        particles.old particles.new }
+        IsInnerRowTurned place (streamed 1 lattice solid) particles.old particles.new }
 {
     let across = particles.across();
     let row = place.row;
     let there = place.there * across;
     let last = across - 1;
     let first = *particles.tile(row * across);
-    let sets = sets_at(ground, there + last);
-    let carry = sets.carried_on(particles.tile(row * across + last), &first);
-    let mut turner = RowTurner { sets, carry };
+    let walled = known.in_tile(there + last);
+    let carry = carried_on(walled, particles.tile(row * across + last), &first);
+    let mut turner = RowTurner { walled, carry };
     for column in 0..across {
-        let sets = sets_at(ground, there + column);
-        turner.sets = sets;
+        let walled = known.in_tile(there + column);
+        turner.walled = walled;
         turn_inner_at(particles, across, row, column, &first, &mut turner);
     }
 }
@@ -164,20 +148,17 @@ fn put_seam(
 
 /// Turns the blocks that begin in the last row of cells of a row of tiles and end in the first one of the tiles below.
 #[inline(always)]
-pub fn turn_seam(particles: &mut Plane, ground: Ground<'_>, place: RowPlace)
+pub fn turn_seam(particles: &mut Plane, known: KnownSolid<'_>, place: RowPlace)
     requires row { place.row < particles.old.height / 64 }
     requires below { place.below < particles.old.height / 64 }
     requires there { place.there < 64 }
-    requires walls { let a = particles.old.width / 64 in
-        place.there * a + a ≤ tile_count ground.solids.now.walls }
-    requires obstacles { let a = particles.old.width / 64 in
-        place.there * a + a ≤ tile_count ground.solids.now.obstacles }
+    requires solid { let a = particles.old.width / 64 in
+        place.there * a + a ≤ tile_count known.solid.now }
     ensures sides { HasSidesOf particles.new particles.old }
-    ensures turned { let s = ground.entry.solids.now in (lattice : Cells) →
-        IsRowThere place s.walls s.obstacles particles.old lattice →
+    ensures turned { let solid = known.entry.solid.now in (lattice : Cells) →
+        IsRowThere place solid particles.old lattice →
         HasSeam place lattice.width particles.old lattice →
-        IsSeamRowTurned place (streamed 1 lattice (joined s.walls s.obstacles))
-        particles.old particles.new }
+        IsSeamRowTurned place (streamed 1 lattice solid) particles.old particles.new }
 {
     let across = particles.across();
     let RowPlace { row, below, there } = place;
@@ -187,12 +168,10 @@ pub fn turn_seam(particles: &mut Plane, ground: Ground<'_>, place: RowPlace)
     let under = *particles.tile(below * across);
     let none = Beside { upper: 0, lower: 0 };
     let seam = seam_at(particles, across, row, below, last, &first, &under);
-    let mut coming = sets_at(ground, there + last)
-        .turned_seam(seam, none)
-        .leaving;
+    let mut coming = turned_seam(known.in_tile(there + last), seam, none).leaving;
     for column in 0..across {
         let seam = seam_at(particles, across, row, below, column, &first, &under);
-        let words = sets_at(ground, there + column).turned_seam(seam, coming);
+        let words = turned_seam(known.in_tile(there + column), seam, coming);
         coming = put_seam(particles, across, row, below, column, &words);
     }
 }

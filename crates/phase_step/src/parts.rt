@@ -38,7 +38,7 @@ pub struct OwnTiles {
 
 /// The own tiles of such a part.
 pub fn own_tiles(part: Part, cells: &Plane) -> OwnTiles
-    requires { IsOfSome part cells.now }
+    requires { IsOfSome part cells.now 64 }
     ensures lattice { IsLattice cells.now }
     ensures first { result.first ≡ part.margin * (cells.now.width / 64) }
     ensures order { (result.first ≤ result.end) × (result.end ≤ tile_count cells.now) }

@@ -1,12 +1,12 @@
 //! Steps on one thread: what the particles meet, and a phase over planes.
 
-mod ground;
+mod known;
 mod solid;
 mod solids;
 mod sweep;
 mod tiles;
 
-pub use ground::Ground;
+pub use known::KnownSolid;
 pub use solid::Solid;
 pub use solids::{Solids, TileSolids};
 pub use sweep::turn_each;

@@ -79,7 +79,7 @@ module _ (p : ℕ) (particles walls obstacles : Cells) where
   turned cells others i same is =
       subst (λ w. (x y : ℕ) → x < 64 → y < 64 → has others (i % (w / 64) * 64 + x) (i / (w / 64) * 64 + y) ≡ has (streamed p particles (joined walls obstacles)) (i % (w / 64) * 64 + x) (i / (w / 64) * 64 + y)) same.wide is
 
-  after : (cells : Cells) (i : ℕ) (t : Tile) → HasSidesOf cells particles → IsTileAfter p particles walls obstacles i t
+  after : (cells : Cells) (i : ℕ) (t : Tile) → HasSidesOf cells particles → IsTileAfter p particles (joined walls obstacles) i t
       → (x y : ℕ) → x < 64 → y < 64 → tile.has t x y ≡ has (streamed p particles (joined walls obstacles)) (left_of cells i + x) (top_of cells i + y)
   after cells i t same is =
       subst (λ w. (x y : ℕ) → x < 64 → y < 64 → tile.has t x y ≡ has (streamed p particles (joined walls obstacles)) (i % (w / 64) * 64 + x) (i / (w / 64) * 64 + y)) (sym same.wide) is
@@ -93,14 +93,14 @@ module _ (p : ℕ) (particles walls obstacles : Cells) where
   pub within_as : (cells : Cells) (i : ℕ) → HasSidesOf cells particles → i < tile_count particles → i < tile_count cells
   within_as cells i same within = let e = count_as cells same in omega arith
 
-  pub write_here : (cells next : Cells) (i : ℕ) (t : Tile) → IsLattice cells → HasSidesOf cells particles → i < tile_count particles → IsTileAfter p particles walls obstacles i t → next ≡ with_tile cells i t
+  pub write_here : (cells next : Cells) (i : ℕ) (t : Tile) → IsLattice cells → HasSidesOf cells particles → i < tile_count particles → IsTileAfter p particles (joined walls obstacles) i t → next ≡ with_tile cells i t
       → IsTurnedAt p particles walls obstacles next i
   write_here cells next i t is same within right e =
       subst (λ c. IsTurnedAt p particles walls obstacles c i) (sym e)
       (turned cells (with_tile cells i t) i same (λ x y a b. here cells i t is (within_as cells i same within) x y a b ∙ after cells i t same right x y a b))
 
   -- a tile that is written leaves those that were turned
-  pub write_keeps : (cells next : Cells) (i : ℕ) (t : Tile) → IsLattice cells → HasSidesOf cells particles → i < tile_count particles → IsTileAfter p particles walls obstacles i t → next ≡ with_tile cells i t
+  pub write_keeps : (cells next : Cells) (i : ℕ) (t : Tile) → IsLattice cells → HasSidesOf cells particles → i < tile_count particles → IsTileAfter p particles (joined walls obstacles) i t → next ≡ with_tile cells i t
       → (k : ℕ) → k < tile_count particles → IsTurnedAt p particles walls obstacles cells k → IsTurnedAt p particles walls obstacles next k
   write_keeps cells next i t is same within right e k inside was =
       elim (cases_eq k i) [
@@ -111,7 +111,7 @@ module _ (p : ℕ) (particles walls obstacles : Cells) where
       ]
 
   -- one more of a list of numbers is written
-  pub write_more : (cells next : Cells) (numbers : List ℕ) (i : ℕ) (t : Tile) → IsLattice cells → HasSidesOf cells particles → i < tile_count particles → IsTileAfter p particles walls obstacles i t → next ≡ with_tile cells i t
+  pub write_more : (cells next : Cells) (numbers : List ℕ) (i : ℕ) (t : Tile) → IsLattice cells → HasSidesOf cells particles → i < tile_count particles → IsTileAfter p particles (joined walls obstacles) i t → next ≡ with_tile cells i t
       → ((k : ℕ) → k < tile_count particles → 0 < times k numbers → IsTurnedAt p particles walls obstacles cells k)
       → (k : ℕ) → k < tile_count particles → 0 < times k (numbers ++ i ∷ []) → IsTurnedAt p particles walls obstacles next k
   write_more cells next numbers i t is same within right e was k inside some_time =

@@ -1,7 +1,7 @@
 -- A strip in a run, as a part of the lattice.
 use Rattle.std.proofs.Common.{◌≡◌, ℕ, ◌+◌, ◌-◌, ◌*◌, ◌/◌, ◌%◌, List, All, length, map, sym, ap, ◌∙◌, subst, arith}
 use Rattle.std.proofs.lemmas.List.{length-map}
-use Rattle.gas_terms.specs.Cells.{Cells, Extent, HasSidesOf, extent, has}
+use Rattle.gas_terms.specs.Cells.{Extent, extent, has}
 use Rattle.gas_plane.specs.Planes.{IsLattice}
 use Rattle.gas_plane.proofs.Places.{high}
 use Rattle.phase_step.specs.Parts.{HasRows, IsPartOf}
@@ -12,17 +12,17 @@ use Rattle.phase_team.specs.declared.runs.strip.OwnRows.{OwnRows}
 use Rattle.phase_team.specs.declared.runs.strip.Strip.{Strip}
 use Rattle.phase_team.proofs.Courses.{course_sides, course_lattice}
 
-pub strip_part : (course : Course) (k m down : ℕ) (s : Strip) (walls obstacles : Cells) → IsLattice course.start → IsOf (extent course.start) s → HasSidesOf walls course.start → HasSidesOf obstacles course.start → down ≡ course.start.height / 64
+pub strip_part : (course : Course) (k m down : ℕ) (s : Strip) → IsLattice course.start → IsOf (extent course.start) s → down ≡ course.start.height / 64
     → HasRows (place_of ((lattice_at course k).height / 64) s.own) s.cells (lattice_at course k) m
-    → IsPartOf (record { first = s.own.first; down = down; margin = 1 }) walls obstacles s.cells (lattice_at course k) m
-strip_part course k m down s walls obstacles start of of_walls of_obstacles down_is rows =
+    → IsPartOf (record { first = s.own.first; down = down; margin = 1 }) s.cells (lattice_at course k) m
+strip_part course k m down s start of down_is rows =
     let lattice = lattice_at course k in
     let is = course_lattice course k start in
     let sides = course_sides course k in
     let tiles = (high (extent lattice) is.sized).tiles in
     let same : lattice.height / 64 ≡ down = ap (λ h. h / 64) sides.high ∙ sym down_is in
     let inside = of.inside.inside in
-    strip_is s.own.first down s.own.rows m walls obstacles s.cells lattice is.sized is.full (record { wide = of_walls.wide ∙ sym sides.wide; high = of_walls.high ∙ sym sides.high }) (record { wide = of_obstacles.wide ∙ sym sides.wide; high = of_obstacles.high ∙ sym sides.high })
+    strip_is s.own.first down s.own.rows m s.cells lattice is.sized is.full
     (omega (arith, same, tiles)) (of.wide ∙ sym sides.wide) of.high of.inside.some (omega (arith, inside, down_is))
     (λ x y xl low below. rows.row x y xl (omega (arith, low)) (omega (arith, below)) ∙ ap (λ d. has lattice x (((s.own.first + d - 1) * 64 + y) % (d * 64))) same)
 

@@ -43,7 +43,7 @@ takes task numbers = tiles_take task.parity task.old.now task.walls.now task.obs
 
 -- the tile is tile i as the task leaves it
 abbrev pub IsMade : Task → ℕ → Tile → Type 0
-IsMade task i t = IsTileAfter task.parity task.old.now task.walls.now task.obstacles.now i t
+IsMade task i t = IsTileAfter task.parity task.old.now (joined task.walls.now task.obstacles.now) i t
 
 -- the tile stands at one of the numbers below the limit, and is as the task leaves it
 abbrev pub IsRight : Task → ℕ → Turned → Type 0

@@ -201,7 +201,7 @@ impl<R: Threads + Clock + Drop> Stepper for Team<R, NoGate> {
     // Among walls, a run keeps one account, and works the other out from the momentum. What there is at the end is kept for the
     // next run.
     fn run_with<A: Action>(&mut self, particles: &mut Plane, run: Run<'_, A>) -> Flow {
-        let walls = run.solids.walls.cells();
+        let walls = &run.solids.walls;
         if walls.is_empty() && run.solids.obstacles.cells().is_empty() {
             return self.run_by_worth(particles, run, Counted::BOTH);
         }

@@ -18,13 +18,11 @@ use gas_terms::Moved;
 // and goes out.
 fn act_on_part(particles: &mut Plane, exchange: &Exchange, part: Part, parity: u8) -> Moved
     requires parity { parity < 2 }
-    requires some { IsOfSome part particles.old }
+    requires some { IsOfSome part particles.old 64 }
     ensures sides { HasSidesOf particles.new particles.old }
-    ensures rows { (walls obstacles lattice : Cells) →
-        IsPartOf part walls obstacles particles.old lattice 64 →
-        IsPartOf part walls obstacles particles.new (acted (leaves_of exchange.now) lattice) 64 }
-    ensures moved { (walls obstacles lattice : Cells) →
-        IsPartOf part walls obstacles particles.old lattice 64 →
+    ensures rows { (lattice : Cells) → IsPartOf part particles.old lattice 64 →
+        IsPartOf part particles.new (acted (leaves_of exchange.now) lattice) 64 }
+    ensures moved { (lattice : Cells) → IsPartOf part particles.old lattice 64 →
         result ≡ own_moves part parity particles.old lattice
         (acted (leaves_of exchange.now) lattice) }
 {
@@ -59,13 +57,11 @@ pub fn act_after<A: Action>(
     parity: u8,
 ) -> Moved
     requires parity { parity < 2 }
-    requires some { IsOfSome part particles.old }
+    requires some { IsOfSome part particles.old 64 }
     ensures sides { HasSidesOf particles.new particles.old }
-    ensures rows { (walls obstacles lattice : Cells) →
-        IsPartOf part walls obstacles particles.old lattice 64 →
-        IsPartOf part walls obstacles particles.new (acted (A.leaves action.now k) lattice) 64 }
-    ensures moved { (walls obstacles lattice : Cells) →
-        IsPartOf part walls obstacles particles.old lattice 64 →
+    ensures rows { (lattice : Cells) → IsPartOf part particles.old lattice 64 →
+        IsPartOf part particles.new (acted (A.leaves action.now k) lattice) 64 }
+    ensures moved { (lattice : Cells) → IsPartOf part particles.old lattice 64 →
         result ≡ own_moves part parity particles.old lattice
         (acted (A.leaves action.now k) lattice) }
 {

@@ -1,7 +1,5 @@
 //! A run: its phases, what they take, and the action after each.
 
-ghost use Rattle.std.specs.Prelude.{IsTrue};
-ghost use Rattle.phase_step.specs.SolidBlocks.{HasNoBlocks};
 ghost use Rattle.phase_step.specs.Parts.{CanRunPart, HasRunPart};
 ghost use Rattle.phase_step.specs.WholeRuns.{dynamics, CanRun, HasRunWhole};
 
@@ -11,47 +9,11 @@ use crate::parts::counting::count_part;
 use crate::parts::sweeping::turn_on;
 use crate::parts::turning::turn_part;
 use crate::parts::{Part, whole};
-use crate::steps::{Ground, Solids};
+use crate::steps::KnownSolid;
 use crate::sums::Flow;
 use crate::{Run, parity_at};
 use block_rule::Counted;
 use gas_plane::Plane;
-
-// The loop of a run. `absent` is what is known: that there are no walls, and that there are no
-// obstacles.
-#[inline(always)]
-fn run_on<A: Action>(
-    particles: &mut Plane,
-    part: Part,
-    run: Run<'_, A>,
-    absent: (bool, bool),
-    counted: Counted,
-) -> Flow
-    requires absent { (IsTrue absent.0 → HasNoBlocks run.solids.now.walls)
-        × (IsTrue absent.1 → HasNoBlocks run.solids.now.obstacles) }
-    requires run { let r = run in
-        CanRunPart part (dynamics r.parity r.solids.now (A.leaves r.action.now)) r.n
-        particles.old }
-    ensures { let r = run.entry in
-        HasRunPart part counted (dynamics r.parity r.solids.now (A.leaves r.action.now)) r.n
-        particles.old particles.new result }
-{
-    let (no_walls, no_obstacles) = absent;
-    let ground = Ground {
-        solids: run.solids,
-        no_walls,
-        no_obstacles,
-    };
-    let mut flow = Flow::ZERO;
-    for k in 0..run.n {
-        let now = parity_at(run.parity, k);
-        let took = count_part(particles, ground, part, now, counted);
-        turn_part(particles, ground, part, now);
-        let moved = act_after(particles, run.action, k, part, 1 - now);
-        flow = flow.plus(Flow { took, moved });
-    }
-    flow
-}
 
 /// A run on a part of a lattice, in place. A part with margins makes one phase at most. Returns
 /// what it comes to in the part's own tiles; an account that is not kept has 0.
@@ -70,15 +32,17 @@ pub fn run_part<A: Action>(
         HasRunPart part counted (dynamics r.parity r.solids.now (A.leaves r.action.now)) r.n
         particles.old particles.new result }
 {
-    let Solids { walls, obstacles } = run.solids;
-    let absent = (walls.has_no_blocks(), obstacles.has_no_blocks());
-    // Four loops: each asks its tiles for the sets that have cells.
-    match absent {
-        (true, true) => run_on(particles, part, run, (true, true), counted),
-        (true, false) => run_on(particles, part, run, (true, false), counted),
-        (false, true) => run_on(particles, part, run, (false, true), counted),
-        (false, false) => run_on(particles, part, run, (false, false), counted),
+    let known = KnownSolid::of(&run.solids.all);
+    let is_counted = run.solids.is_counted(counted);
+    let mut flow = Flow::ZERO;
+    for k in 0..run.n {
+        let now = parity_at(run.parity, k);
+        let took = count_part(particles, run.solids, part, now, counted, is_counted);
+        turn_part(particles, known, part, now);
+        let moved = act_after(particles, run.action, k, part, 1 - now);
+        flow = flow.plus(Flow { took, moved });
     }
+    flow
 }
 
 /// A run on the whole lattice, on the calling thread. An account that is not kept has 0.
@@ -89,12 +53,17 @@ pub fn run_whole<A: Action>(particles: &mut Plane, run: Run<'_, A>, counted: Cou
         HasRunWhole counted (dynamics r.parity r.solids.now (A.leaves r.action.now)) r.n
         particles.old particles.new result }
 {
-    let part = whole(particles);
-    let ground = Ground::of(run.solids);
-    if !run.action.acts() && !ground.is_counted(counted) {
-        turn_on(particles, ground, run.parity, run.n);
+    particles.shows_lattice();
+    if !run.action.acts() && !run.solids.is_counted(counted) {
+        turn_on(
+            particles,
+            KnownSolid::of(&run.solids.all),
+            run.parity,
+            run.n,
+        );
         return Flow::ZERO;
     }
+    let part = whole(particles);
     let flow = run_part(particles, part, run, counted);
     particles.shows_lattice();
     flow

@@ -5,7 +5,7 @@ use Rattle.block_rule.proofs.NamedBlocks.{words_given, nothing_given}
 use Rattle.block_rule.proofs.named.taken_by_obstacles.Goals as goal
 
 pub returns-in-Some : goal.returns-in-Some
-returns-in-Some c = λ obstructed is. is_counted c.args.counted _ _ c.if-not-counted.false (c.momentum_by_set.ensures obstructed (words_given c.args.obstacles c.in-Some.obstacles (walled_by obstructed) c.in-Some.is is))
+returns-in-Some c = λ obstructed is. is_counted c.args.counted _ _ c.if-not-counted.false (c.momentum_by_set.ensures.is obstructed (words_given c.args.obstacles c.in-Some.obstacles (walled_by obstructed) c.in-Some.is is))
 
 pub returns-in-None : goal.returns-in-None
 returns-in-None c = λ obstructed is.

@@ -1,5 +1,5 @@
 use Rattle.std.proofs.Common.{◌≡◌, ℕ, Bool, arith}
-use Rattle.block_rule.specs.Around.{around, taken}
+use Rattle.block_rule.specs.Around.{around, either, taken}
 use Rattle.block_rule.specs.TileBlocks.{NamesBlocks, walled_by}
 use Rattle.block_rule.proofs.Borders.{shows_tile}
 use Rattle.block_rule.proofs.Took.{took_together}
@@ -14,14 +14,14 @@ module _ (c : After-taken_among-took) where
   abbrev o : ℕ → ℕ → Bool
   o = around c.args.obstacles.now c.args.obstacle_border.now
 
-  of_walls : NamesBlocks c.tile_blocks-rows.result.0 c.tile_blocks-rows.result.1 (walled_by w)
-  of_walls = c.tile_blocks-rows.ensures w (c.window_of.ensures.seen c.args.wall_border.now c.neighbors-near_walls.ensures)
+  of_obstacles : NamesBlocks c.tile_blocks-rows.result.0 c.tile_blocks-rows.result.1 (walled_by o)
+  of_obstacles = c.tile_blocks-rows.ensures o (c.window_of-2.ensures.seen c.args.obstacle_border.now c.neighbors-near_obstacles.ensures)
 
-  of_obstacles : NamesBlocks c.tile_blocks-rows-2.result.0 c.tile_blocks-rows-2.result.1 (walled_by o)
-  of_obstacles = c.tile_blocks-rows-2.ensures o (c.window_of-2.ensures.seen c.args.obstacle_border.now c.neighbors-near_obstacles.ensures)
+  walled : NamesBlocks c.join-rows.result c.join-rows.new.self (walled_by (either w o))
+  walled = c.join-rows.ensures w o (c.tile_blocks-wall_rows.ensures w (c.window_of.ensures.seen c.args.wall_border.now c.neighbors-near_walls.ensures)) of_obstacles
 
   took : c.taken_among-took.result ≡ taken c.args.parity c.args.tile.now w o
-  took = c.taken_among-took.ensures w o of_walls of_obstacles
+  took = c.taken_among-took.ensures w o walled of_obstacles
 
 pub returns-then-parity-eq0 : goal.returns-then-parity-eq0
 returns-then-parity-eq0 c =
@@ -29,7 +29,7 @@ returns-then-parity-eq0 c =
     let b = (goal.at.returns-then-parity-eq0 c).After-taken_among-took in
     let e : a.parity ≡ 0 = c.if-parity-eq0.true in
     record {
-      cells = rw e (c.turn_tile_even.ensures (around a.tile.now a.border.now) (w b) (o b) (shows_tile a.tile.now a.border.now) (of_walls b) (of_obstacles b));
+      cells = rw e (c.turn_tile_even.ensures (around a.tile.now a.border.now) (either (w b) (o b)) (shows_tile a.tile.now a.border.now) (walled b));
       took = took b;
       together = took_together a.parity a.tile.now (w b) (o b) c.taken_among-took.result (took b);
     }
@@ -40,7 +40,7 @@ returns-else-parity-eq0 c =
     let b = (goal.at.returns-else-parity-eq0 c).After-taken_among-took in
     let e : a.parity ≡ 1 = omega arith in
     record {
-      cells = rw e (c.turn_tile_odd.ensures (around a.tile.now a.border.now) (w b) (o b) (c.window_of-else-parity-eq0.ensures.seen a.border.now c.neighbors-near.ensures) (of_walls b) (of_obstacles b));
+      cells = rw e (c.turn_tile_odd.ensures (around a.tile.now a.border.now) (either (w b) (o b)) (c.window_of-else-parity-eq0.ensures.seen a.border.now c.neighbors-near.ensures) (walled b));
       took = took b;
       together = took_together a.parity a.tile.now (w b) (o b) c.taken_among-took.result (took b);
     }

@@ -1,8 +1,9 @@
 use Rattle.std.proofs.Common.{◌≡◌, ◌+◌, ◌*◌, ◌/◌, ◌<◌, ◌≤◌, ◌∙◌, refl, sym, ap, subst, arith, mul-le-mul}
-use Rattle.gas_terms.specs.Cells.{extent, joined}
+use Rattle.gas_terms.specs.Cells.{extent}
 use Rattle.gas_terms.specs.Gas.{streamed}
 use Rattle.gas_plane.proofs.Places.{wide}
-use Rattle.phase_step.specs.SolidBlocks.{AreTileSolids}
+use Rattle.block_rule.specs.TileBlocks.{AreGivenBlocks}
+use Rattle.phase_step.specs.SolidBlocks.{is_walled_in}
 use Rattle.phase_step.proofs.EvenRows.{within_there, even_before, even_next, even_row}
 use Rattle.phase_step.proofs.even_phase.turn_even_row.Goals as goal
 
@@ -22,7 +23,7 @@ loop-column-init c =
 
 pub loop-column-preserved : goal.loop-column-preserved
 loop-column-preserved c =
-    let s = c.args.ground.solids.now in
+    let solid = c.args.known.solid.now in
     let old = c.args.particles.now in
     let place = c.args.place in
     let l = c.loop-column in
@@ -32,18 +33,18 @@ loop-column-preserved c =
       turned = λ lattice is ready.
           let e : c.across-across.result ≡ lattice.width / 64 = c.across-across.ensures.across ∙ ap (λ w. w / 64) is.wide in
           let less : l.column < lattice.width / 64 = subst (λ a. l.column < a) e c.loop-column-test.true in
-          let next = streamed 0 lattice (joined s.walls s.obstacles) in
+          let next = streamed 0 lattice solid in
           let so_far = l.invariant.turned lattice is ready in
           let number = ap (λ a. place.row * a + l.column) (c.across-across.ensures.across ∙ ap (λ w. w / 64) (sym so_far.sides.wide)) in
-          even_next place l.column s.walls s.obstacles old lattice is less old sized c.requires.row is.wide next l.particles _ number so_far c.turn_even_tile.new.tile
-          (c.turn_even_tile.ensures lattice s.walls s.obstacles _ is.sized (within_there place l.column s.walls s.obstacles old lattice is less) is.of_walls is.of_obstacles
-          (subst (λ a. AreTileSolids s.walls s.obstacles (place.there * a + l.column) c.in_tile-tile_solids.result) e c.in_tile-tile_solids.ensures)
-          (even_before place l.column s.walls s.obstacles old lattice is less old sized c.requires.row is.wide next l.particles _ number so_far c.tile_mut.result.now ready c.tile_mut.ensures.tile));
+          even_next place l.column solid old lattice is less old sized c.requires.row is.wide next l.particles _ number so_far c.turn_even_tile.new.tile
+          (c.turn_even_tile.ensures lattice solid _ is.sized (within_there place l.column solid old lattice is less) is.of_solid
+          (subst (λ a. AreGivenBlocks c.in_tile-walled.result (is_walled_in solid (place.there * a + l.column))) e c.in_tile-walled.ensures)
+          (even_before place l.column solid old lattice is less old sized c.requires.row is.wide next l.particles _ number so_far c.tile_mut.result.now ready c.tile_mut.ensures.tile));
     }
 
 pub returns-clause-turned : goal.returns-clause-turned
 returns-clause-turned c = λ lattice is ready.
-    let s = c.args.ground.solids.now in
+    let solid = c.args.known.solid.now in
     let l = c.loop-column in
     let e : c.across-across.result ≡ lattice.width / 64 = c.across-across.ensures.across ∙ ap (λ w. w / 64) is.wide in
-    even_row c.args.place l.column (streamed 0 lattice (joined s.walls s.obstacles)) c.args.particles.now l.particles is.sized (omega (arith, c.loop-column-test.false, l.auto.column-end) ∙ e) (l.invariant.turned lattice is ready)
+    even_row c.args.place l.column (streamed 0 lattice solid) c.args.particles.now l.particles is.sized (omega (arith, c.loop-column-test.false, l.auto.column-end) ∙ e) (l.invariant.turned lattice is ready)

@@ -1,13 +1,13 @@
-use Rattle.gas_terms.specs.Cells.{Cells, HasSidesOf, joined}
+use Rattle.gas_terms.specs.Cells.{Cells, HasSidesOf}
 use Rattle.gas_terms.specs.Gas.{streamed}
 use Rattle.phase_step.specs.OddPhase.{IsRowThere, HasRow, AreEvensTurned}
 use Rattle.phase_step.proofs.even_phase.turn_even_row.Given as goal
 
 abbrev pub invariant-loop-column : goal.invariant-loop-column
 invariant-loop-column l =
-    let s = l.ground.solids.now in
+    let solid = l.known.solid.now in
     record {
       sides : HasSidesOf l.particles l.initial.particles;
-      turned : (lattice : Cells) → IsRowThere l.fn.place s.walls s.obstacles l.initial.particles lattice → HasRow l.fn.place lattice.width l.initial.particles lattice
-          → AreEvensTurned l.fn.place l.column (streamed 0 lattice (joined s.walls s.obstacles)) l.initial.particles l.particles;
+      turned : (lattice : Cells) → IsRowThere l.fn.place solid l.initial.particles lattice → HasRow l.fn.place lattice.width l.initial.particles lattice
+          → AreEvensTurned l.fn.place l.column (streamed 0 lattice solid) l.initial.particles l.particles;
     }

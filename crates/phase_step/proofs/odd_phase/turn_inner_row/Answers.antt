@@ -7,7 +7,7 @@ use Rattle.phase_step.specs.SolidBlocks.{is_walled_in}
 use Rattle.phase_step.specs.OddPhase.{IsRowThere}
 use Rattle.phase_step.specs.declared.odd_phase.RowTurner.{RowTurner}
 use Rattle.phase_step.proofs.RowTiles.{tile_from, first_column}
-use Rattle.phase_step.proofs.RowWindows.{HasLast, has_last, window, walled, obstructed, edge, walls_in_view, obstacles_in_view}
+use Rattle.phase_step.proofs.RowWindows.{HasLast, has_last, window, walls_there, edge, given_there}
 use Rattle.phase_step.proofs.InnerRows.{last_seen, row_begun, is_edge, inner_next, inner_row}
 use Rattle.phase_step.proofs.odd_phase.turn_inner_row.Goals as goal
 use Rattle.phase_step.proofs.odd_phase.turn_inner_row.Goals.{After-carried_on-carry}
@@ -24,55 +24,52 @@ module _ (c : After-carried_on-carry) where
   first_is y k l =
       first_column c.args.particles.now c.args.place.row 0 _ c.tile.result.now y c.across-across.ensures.lattice.sized c.requires.row c.across-across.ensures.positive (ap (λ a. c.args.place.row * a) c.across-across.ensures.across ∙ omega arith) c.tile.ensures (omega (arith, l))
 
-  tiles : (lattice : Cells) → IsRowThere c.args.place c.args.ground.solids.now.walls c.args.ground.solids.now.obstacles c.args.particles.now lattice → HasLast c.across-across.result lattice
-  tiles lattice is = let s = c.args.ground.solids.now in has_last c.args.place s.walls s.obstacles c.args.particles.now lattice c.across-across.result is c.across-across.ensures.across c.across-across.ensures.positive
+  tiles : (lattice : Cells) → IsRowThere c.args.place c.args.known.solid.now c.args.particles.now lattice → HasLast c.across-across.result lattice
+  tiles lattice is = has_last c.args.place c.args.known.solid.now c.args.particles.now lattice c.across-across.result is c.across-across.ensures.across c.across-across.ensures.positive
 
 pub loop-column-init : goal.loop-column-init
 loop-column-init c =
     let after = (goal.at.loop-column-init c).After-carried_on-carry in
-    let s = c.args.ground.solids.now in
+    let solid = c.args.known.solid.now in
     let old = c.args.particles.now in
     let place = c.args.place in
     let column = c.across-across.result - 1 in
-    let sets = c.sets_at-sets.result in
+    let given = c.in_tile-walled.result in
     let sized = c.across-across.ensures.lattice.sized in
     record {
       sides = record { wide = refl; high = refl };
       turned = λ lattice is ready.
           let less = (tiles after lattice is).less in
           let e = (tiles after lattice is).all in
-          let w = walls_in_view place column s.walls s.obstacles old lattice is less sets (subst (λ a. AreGivenBlocks sets.walls (is_walled_in s.walls (place.there * a + column))) e c.sets_at-sets.ensures.walls) in
-          let o = obstacles_in_view place column s.walls s.obstacles old lattice is less sets (subst (λ a. AreGivenBlocks sets.obstacles (is_walled_in s.obstacles (place.there * a + column))) e c.sets_at-sets.ensures.obstacles) in
+          let named = given_there place column solid old lattice is less given (subst (λ a. AreGivenBlocks given (is_walled_in solid (place.there * a + column))) e c.in_tile-walled.ensures) in
           let less_old : column < old.width / 64 = let k = c.across-across.ensures.across in let p = c.across-across.ensures.positive in omega (arith, k, p) in
-          let seen = last_seen place column s.walls s.obstacles old lattice is less sized c.requires.row ready (tiles after lattice is).last c.tile.result.now (first_is after) c.tile-2.result.now
+          let seen = last_seen place column solid old lattice is less sized c.requires.row ready (tiles after lattice is).last c.tile.result.now (first_is after) c.tile-2.result.now
           (tile_from old place.row column _ c.tile-2.result.now sized c.requires.row less_old (ap (λ a. place.row * a + column) c.across-across.ensures.across) c.tile-2.result.now c.tile-2.ensures) in
-          row_begun place column s.walls s.obstacles old lattice is less sized c.requires.row ready (tiles after lattice is).last c.tile.result.now (first_is after) c.carried_on-carry.result
-          (c.carried_on-carry.ensures (window place column s.walls s.obstacles old lattice is less) (walled place column s.walls s.obstacles old lattice is less) (obstructed place column s.walls s.obstacles old lattice is less) seen w o);
+          row_begun place column solid old lattice is less sized c.requires.row ready (tiles after lattice is).last c.tile.result.now (first_is after) c.carried_on-carry.result
+          (c.carried_on-carry.ensures (window place column solid old lattice is less) (walls_there place column solid old lattice is less) seen named);
     }
 
 pub loop-column-preserved : goal.loop-column-preserved
 loop-column-preserved c =
     let after = (goal.at.loop-column-preserved c).After-carried_on-carry in
-    let s = c.args.ground.solids.now in
+    let solid = c.args.known.solid.now in
     let old = c.args.particles.now in
     let place = c.args.place in
     let l = c.loop-column in
     let column = l.column in
-    let sets = c.sets_at-sets-in-loop-column.result in
-    let given = c.sets_at-sets-in-loop-column.ensures in
+    let given = c.in_tile-walled-in-loop-column.result in
     let sized = c.across-across.ensures.lattice.sized in
     let sides = c.turn_inner_at.ensures.sides in
-    let before : RowTurner = record { sets = sets; carry = l.turner.carry } in
+    let before : RowTurner = record { walled = given; carry = l.turner.carry } in
     record {
       sides = record { wide = sides.wide ∙ l.invariant.sides.wide; high = sides.high ∙ l.invariant.sides.high };
       turned = λ lattice is ready.
           let e = (tiles after lattice is).all in
           let less : column < lattice.width / 64 = subst (λ a. column < a) e c.loop-column-test.true in
           let so_far = l.invariant.turned lattice is ready in
-          let w = walls_in_view place column s.walls s.obstacles old lattice is less sets (subst (λ a. AreGivenBlocks sets.walls (is_walled_in s.walls (place.there * a + column))) e given.walls) in
-          let o = obstacles_in_view place column s.walls s.obstacles old lattice is less sets (subst (λ a. AreGivenBlocks sets.obstacles (is_walled_in s.obstacles (place.there * a + column))) e given.obstacles) in
-          inner_next place column s.walls s.obstacles old lattice is less sized c.requires.row ready l.particles l.turner.carry so_far before c.turn_inner_at.new.turner c.turn_inner_at.new.particles refl
-          (c.turn_inner_at.ensures.turned (edge place column s.walls s.obstacles old lattice is less) (is_edge place column s.walls s.obstacles old lattice is less sized c.requires.row ready l.particles l.turner.carry so_far c.tile.result.now (first_is after))) w o;
+          let named = given_there place column solid old lattice is less given (subst (λ a. AreGivenBlocks given (is_walled_in solid (place.there * a + column))) e c.in_tile-walled-in-loop-column.ensures) in
+          inner_next place column solid old lattice is less sized c.requires.row ready l.particles l.turner.carry so_far before c.turn_inner_at.new.turner c.turn_inner_at.new.particles refl
+          (c.turn_inner_at.ensures.turned (edge place column solid old lattice is less) (is_edge place column solid old lattice is less sized c.requires.row ready l.particles l.turner.carry so_far c.tile.result.now (first_is after))) named;
     }
 
 pub returns-clause-turned : goal.returns-clause-turned

@@ -6,7 +6,7 @@ use Rattle.block_rule.specs.TileBlocks.{AreGivenBlocks}
 use Rattle.phase_step.specs.SolidBlocks.{is_walled_in}
 use Rattle.phase_step.specs.OddPhase.{IsRowThere, AreSeamsTurned}
 use Rattle.phase_step.proofs.RowTiles.{first_column}
-use Rattle.phase_step.proofs.RowWindows.{HasLast, has_last, window, walled, obstructed, walls_in_view, obstacles_in_view, next_cells}
+use Rattle.phase_step.proofs.RowWindows.{HasLast, has_last, window, walls_there, given_there, next_cells}
 use Rattle.phase_step.proofs.SeamRows.{upper_edge, lower_edge, seen_right, seen_corner, last_edge, last_bottom, last_top, row_begun, own_bottom, own_top, is_seam_edge, coming_in, seam_next, seam_row_turned}
 use Rattle.phase_step.proofs.odd_phase.turn_seam.Goals as goal
 use Rattle.phase_step.proofs.odd_phase.turn_seam.Goals.{After-turned_seam}
@@ -29,17 +29,17 @@ module _ (c : After-turned_seam) where
         first_column old below 0 _ c.tile-2.result.now 0 sized c.requires.below c.across-across.ensures.positive (ap (λ a. below * a) e ∙ omega arith) c.tile-2.ensures (omega arith) ∙ ap (has old 0) (let z : below * 64 + 0 ≡ below * 64 = omega arith in z),
       )
 
-  tiles : (lattice : Cells) → IsRowThere c.args.place c.args.ground.solids.now.walls c.args.ground.solids.now.obstacles c.args.particles.now lattice → HasLast c.across-across.result lattice
-  tiles lattice is = let s = c.args.ground.solids.now in has_last c.args.place s.walls s.obstacles c.args.particles.now lattice c.across-across.result is c.across-across.ensures.across c.across-across.ensures.positive
+  tiles : (lattice : Cells) → IsRowThere c.args.place c.args.known.solid.now c.args.particles.now lattice → HasLast c.across-across.result lattice
+  tiles lattice is = has_last c.args.place c.args.known.solid.now c.args.particles.now lattice c.across-across.result is c.across-across.ensures.across c.across-across.ensures.positive
 
 pub loop-column-init : goal.loop-column-init
 loop-column-init c =
     let after = (goal.at.loop-column-init c).After-turned_seam in
-    let s = c.args.ground.solids.now in
+    let solid = c.args.known.solid.now in
     let old = c.args.particles.now in
     let place = c.args.place in
     let column = c.across-across.result - 1 in
-    let sets = c.sets_at.result in
+    let given = c.in_tile.result in
     let sized = c.across-across.ensures.lattice.sized in
     let first = c.tile.result.now in
     let under = c.tile-2.result.now in
@@ -49,27 +49,25 @@ loop-column-init c =
           let less = (tiles after lattice is).less in
           let last = (tiles after lattice is).last in
           let e = (tiles after lattice is).all in
-          let w = walls_in_view place column s.walls s.obstacles old lattice is less sets (subst (λ a. AreGivenBlocks sets.walls (is_walled_in s.walls (place.there * a + column))) e c.sets_at.ensures.walls) in
-          let o = obstacles_in_view place column s.walls s.obstacles old lattice is less sets (subst (λ a. AreGivenBlocks sets.obstacles (is_walled_in s.obstacles (place.there * a + column))) e c.sets_at.ensures.obstacles) in
-          let shown = c.seam_at-seam.ensures (upper_edge place column s.walls s.obstacles old lattice is less sized c.requires.row c.requires.below ready) (lower_edge place column s.walls s.obstacles old lattice is less sized c.requires.row c.requires.below ready)
-          (last_edge place column s.walls s.obstacles old lattice is less sized c.requires.row c.requires.below ready first under (first_are after) last) (window place column s.walls s.obstacles old lattice is less)
-          (last_bottom place column s.walls s.obstacles old lattice is less sized c.requires.row c.requires.below ready first under (first_are after) last) (last_top place column s.walls s.obstacles old lattice is less sized c.requires.row c.requires.below ready first under (first_are after) last)
-          (seen_right place column s.walls s.obstacles old lattice is less sized c.requires.row c.requires.below ready) (seen_corner place column s.walls s.obstacles old lattice is less sized c.requires.row c.requires.below ready) in
-          row_begun place column s.walls s.obstacles old lattice is less sized c.requires.row c.requires.below ready first under (first_are after) last c.turned_seam.result.leaving
-          (c.turned_seam.ensures.leaving (window place column s.walls s.obstacles old lattice is less) (walled place column s.walls s.obstacles old lattice is less) (obstructed place column s.walls s.obstacles old lattice is less) shown w o);
+          let named = given_there place column solid old lattice is less given (subst (λ a. AreGivenBlocks given (is_walled_in solid (place.there * a + column))) e c.in_tile.ensures) in
+          let shown = c.seam_at-seam.ensures (upper_edge place column solid old lattice is less sized c.requires.row c.requires.below ready) (lower_edge place column solid old lattice is less sized c.requires.row c.requires.below ready)
+          (last_edge place column solid old lattice is less sized c.requires.row c.requires.below ready first under (first_are after) last) (window place column solid old lattice is less)
+          (last_bottom place column solid old lattice is less sized c.requires.row c.requires.below ready first under (first_are after) last) (last_top place column solid old lattice is less sized c.requires.row c.requires.below ready first under (first_are after) last)
+          (seen_right place column solid old lattice is less sized c.requires.row c.requires.below ready) (seen_corner place column solid old lattice is less sized c.requires.row c.requires.below ready) in
+          row_begun place column solid old lattice is less sized c.requires.row c.requires.below ready first under (first_are after) last c.turned_seam.result.leaving
+          (c.turned_seam.ensures.leaving (window place column solid old lattice is less) (walls_there place column solid old lattice is less) shown named);
     }
 
 pub loop-column-preserved : goal.loop-column-preserved
 loop-column-preserved c =
     let after = (goal.at.loop-column-preserved c).After-turned_seam in
-    let s = c.args.ground.solids.now in
+    let solid = c.args.known.solid.now in
     let old = c.args.particles.now in
     let place = c.args.place in
     let l = c.loop-column in
     let column = l.column in
     let now = l.particles in
-    let sets = c.sets_at-in-loop-column.result in
-    let given = c.sets_at-in-loop-column.ensures in
+    let given = c.in_tile-in-loop-column.result in
     let sized = c.across-across.ensures.lattice.sized in
     let first = c.tile.result.now in
     let under = c.tile-2.result.now in
@@ -81,16 +79,15 @@ loop-column-preserved c =
           let e = (tiles after lattice is).all in
           let less : column < lattice.width / 64 = subst (λ a. column < a) e c.loop-column-test.true in
           let so_far = l.invariant.turned lattice is ready in
-          let w = walls_in_view place column s.walls s.obstacles old lattice is less sets (subst (λ a. AreGivenBlocks sets.walls (is_walled_in s.walls (place.there * a + column))) e given.walls) in
-          let o = obstacles_in_view place column s.walls s.obstacles old lattice is less sets (subst (λ a. AreGivenBlocks sets.obstacles (is_walled_in s.obstacles (place.there * a + column))) e given.obstacles) in
-          let shown = c.seam_at-seam-in-loop-column.ensures (upper_edge place column s.walls s.obstacles old lattice is less sized c.requires.row c.requires.below ready) (lower_edge place column s.walls s.obstacles old lattice is less sized c.requires.row c.requires.below ready)
-          (is_seam_edge place column s.walls s.obstacles old lattice is less sized c.requires.row c.requires.below ready first under (first_are after) now l.coming so_far) (window place column s.walls s.obstacles old lattice is less)
-          (own_bottom place column s.walls s.obstacles old lattice is less sized c.requires.row c.requires.below ready first under (first_are after) now l.coming so_far) (own_top place column s.walls s.obstacles old lattice is less sized c.requires.row c.requires.below ready first under (first_are after) now l.coming so_far)
-          (seen_right place column s.walls s.obstacles old lattice is less sized c.requires.row c.requires.below ready) (seen_corner place column s.walls s.obstacles old lattice is less sized c.requires.row c.requires.below ready) in
-          subst (AreSeamsTurned place (column + 1) (next_cells place column s.walls s.obstacles old lattice is less) old c.put_seam-coming.new.particles) (sym c.put_seam-coming.ensures.leaving)
-          (seam_next place column s.walls s.obstacles old lattice is less sized c.requires.row c.requires.below ready first under (first_are after) now l.coming so_far c.put_seam-coming.new.particles words.result.own words.result.leaving put
-          (words.ensures.own (window place column s.walls s.obstacles old lattice is less) (walled place column s.walls s.obstacles old lattice is less) (obstructed place column s.walls s.obstacles old lattice is less) shown w o (coming_in place column s.walls s.obstacles old lattice is less sized c.requires.row c.requires.below ready first under (first_are after) now l.coming so_far))
-          (words.ensures.leaving (window place column s.walls s.obstacles old lattice is less) (walled place column s.walls s.obstacles old lattice is less) (obstructed place column s.walls s.obstacles old lattice is less) shown w o));
+          let named = given_there place column solid old lattice is less given (subst (λ a. AreGivenBlocks given (is_walled_in solid (place.there * a + column))) e c.in_tile-in-loop-column.ensures) in
+          let shown = c.seam_at-seam-in-loop-column.ensures (upper_edge place column solid old lattice is less sized c.requires.row c.requires.below ready) (lower_edge place column solid old lattice is less sized c.requires.row c.requires.below ready)
+          (is_seam_edge place column solid old lattice is less sized c.requires.row c.requires.below ready first under (first_are after) now l.coming so_far) (window place column solid old lattice is less)
+          (own_bottom place column solid old lattice is less sized c.requires.row c.requires.below ready first under (first_are after) now l.coming so_far) (own_top place column solid old lattice is less sized c.requires.row c.requires.below ready first under (first_are after) now l.coming so_far)
+          (seen_right place column solid old lattice is less sized c.requires.row c.requires.below ready) (seen_corner place column solid old lattice is less sized c.requires.row c.requires.below ready) in
+          subst (AreSeamsTurned place (column + 1) (next_cells place column solid old lattice is less) old c.put_seam-coming.new.particles) (sym c.put_seam-coming.ensures.leaving)
+          (seam_next place column solid old lattice is less sized c.requires.row c.requires.below ready first under (first_are after) now l.coming so_far c.put_seam-coming.new.particles words.result.own words.result.leaving put
+          (words.ensures.own (window place column solid old lattice is less) (walls_there place column solid old lattice is less) shown named (coming_in place column solid old lattice is less sized c.requires.row c.requires.below ready first under (first_are after) now l.coming so_far))
+          (words.ensures.leaving (window place column solid old lattice is less) (walls_there place column solid old lattice is less) shown named));
     }
 
 pub returns-clause-turned : goal.returns-clause-turned

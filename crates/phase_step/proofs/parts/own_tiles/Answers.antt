@@ -9,11 +9,11 @@ pub returns-clause-there : goal.returns-clause-there
 returns-clause-there c = ap (λ a. c.args.part.first * a) c.across-across.ensures.across
 
 pub returns-clause-count : goal.returns-clause-count
-returns-clause-count c = own_counted c.args.part c.args.cells.now c.requires.ready.lattice c.tiles.result c.across-across.result c.requires.ready.is.placed (tiles_are c.args.cells.now c.size.result c.tiles.result c.size.ensures.extent c.tiles.ensures.tiles) c.across-across.ensures.across
+returns-clause-count c = own_counted c.args.part c.args.cells.now c.requires.lattice c.tiles.result c.across-across.result c.requires.is.placed (tiles_are c.args.cells.now c.size.result c.tiles.result c.size.ensures.extent c.tiles.ensures.tiles) c.across-across.ensures.across
 
 pub returns-clause-few : goal.returns-clause-few
 returns-clause-few c =
-    let h = c.requires.ready in
+    let h = c.requires in
     let lattice = h.lattice in
     let inside = own_inside c.args.part c.args.cells.now lattice _ _ h.is.placed (returns-clause-there c) (returns-clause-count c) in
     let most : lattice.width / 64 * (lattice.height / 64) ≤ 64 * 64 = mul-le-mul (wide (extent lattice) h.is.sized).few (high (extent lattice) h.is.sized).few in

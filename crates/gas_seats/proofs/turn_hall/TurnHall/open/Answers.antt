@@ -1,4 +1,4 @@
-use Rattle.std.proofs.Common.{◌≡◌, ℕ, ◌+◌, ◌<◌, ◌∙◌, ◌++◌, ◌∷◌, ap, sym, subst, refl, length, [], Some, slice_get, slice_index_or, vec_len, rules, arith}
+use Rattle.std.proofs.Common.{◌≡◌, ℕ, ◌+◌, ◌<◌, ◌∙◌, ◌++◌, ◌∷◌, ap, sym, subst, refl, List, length, [], Some, slice_get, slice_index_or, vec_len, rules, arith}
 use Rattle.std.specs.Vec.Iter.{into_iter_items}
 use Rattle.ticket_lock.specs.Doors.{DoorView}
 use Rattle.gas_terms.specs.Gas.{Gas}
@@ -46,3 +46,22 @@ pub returns-in-None-clause-here : goal.returns-in-None-clause-here
 returns-in-None-clause-here g c =
     all_of_rule (λ (s : TurnSeatView). s.hall ≡ c.in-Ok-open.lock) (opening_seat c.in-Ok-open.lock c.args.lab) c.loop-door.all.items (λ i. refl)
     (λ i below. c.loop-door.invariant.5 i (let long = c.loop-door.all.ok.0 in omega (arith, below, long)))
+
+pub returns-in-None-clause-seats : goal.returns-in-None-clause-seats
+returns-in-None-clause-seats g c = λ i below. c.loop-door.invariant.5 i (let n = c.loop-door.invariant.2 in let e = c.in-None.ensures.steps.0 in omega (arith, below, n, e))
+
+pub loop-door-init : goal.loop-door-init
+loop-door-init g c =
+    let lock = c.in-Ok-open.lock in
+    let gives : into_iter_items c.into_iter-door-iterator.result ≡ c.in-Ok-open.doors.items = c.into_iter-door-iterator.ensures.into_iter_gives.0 in
+    let none : vec_len c.in-Ok.all ≡ 0 = search rules in
+    let all : length (into_iter_items c.into_iter-door-iterator.result) ≡ c.args.seats = search rules in (
+      tt,
+      tt,
+      omega (arith, none, all),
+      search rules,
+      λ k d below.
+          ap (λ (doors : List (DoorView Entry (Gas × ℕ))). slice_index_or doors k d) gives
+          ∙ (c.in-Ok-open.ensures.doors k d (subst (λ n. k < n) all below) ∙ ap (door_at lock c.args.lab) (let e : k ≡ vec_len c.in-Ok.all + k = omega (arith, none) in e)),
+      λ i below. absurd (omega (arith, none, below)),
+    )

@@ -16,12 +16,12 @@ use Rattle.phase_step.proofs.parts.acting.act_on_part.Goals as goal
 use Rattle.phase_step.proofs.parts.acting.act_on_part.Goals.{After-moved-here, In-loop-i}
 
 pub returns-then-is_still-clause-rows : goal.returns-then-is_still-clause-rows
-returns-then-is_still-clause-rows c = λ w o lattice is.
-    still_rows (leaves_of c.args.exchange.now) c.args.part w o c.args.particles.now lattice 64 (nowhere_is_still c.args.exchange.now (c.is_still.ensures.0 c.if-is_still.true)) is
+returns-then-is_still-clause-rows c = λ lattice is.
+    still_rows (leaves_of c.args.exchange.now) c.args.part c.args.particles.now lattice 64 (nowhere_is_still c.args.exchange.now (c.is_still.ensures.0 c.if-is_still.true)) is
 
 pub returns-then-is_still-clause-moved : goal.returns-then-is_still-clause-moved
-returns-then-is_still-clause-moved c = λ w o lattice is.
-    still_own c.args.parity (leaves_of c.args.exchange.now) c.args.part w o c.args.particles.now lattice 64 (nowhere_is_still c.args.exchange.now (c.is_still.ensures.0 c.if-is_still.true)) is
+returns-then-is_still-clause-moved c = λ lattice is.
+    still_own c.args.parity (leaves_of c.args.exchange.now) c.args.part c.args.particles.now lattice 64 (nowhere_is_still c.args.exchange.now (c.is_still.ensures.0 c.if-is_still.true)) is
 
 pub loop-i-init : goal.loop-i-init
 loop-i-init c =
@@ -32,19 +32,19 @@ loop-i-init c =
     record {
       from = omega arith;
       sides = record { wide = refl; high = refl };
-      made = λ w o lattice is. none_made (tile_of old) first 64 c.args.part (acted leaves lattice) old (none_before c.args.part old first t.ensures.lattice.sized t.ensures.first);
-      moved = λ w o lattice is. let e : 0 ≡ first - first = omega arith in ap (tiles_move (pos c.args.parity) lattice (acted leaves lattice) (c.args.part.first * (lattice.width / 64))) e;
+      made = λ lattice is. none_made (tile_of old) first 64 c.args.part (acted leaves lattice) old (none_before c.args.part old first t.ensures.lattice.sized t.ensures.first);
+      moved = λ lattice is. let e : 0 ≡ first - first = omega arith in ap (tiles_move (pos c.args.parity) lattice (acted leaves lattice) (c.args.part.first * (lattice.width / 64))) e;
     }
 
 corner : (c : In-loop-i) → (let j = c.own_tiles-own.result.there + (c.loop-i.i - c.own_tiles-own.result.first) in IsTileCorner (j % c.across-across.result * 64) (j / c.across-across.result * 64))
 corner c =
     let h = c.requires.some in
-    let is = h.ready.is in
+    let is = h.is in
     let t = c.own_tiles-own in
     let cells = c.args.particles.now in
     let i = c.loop-i.i in
-    corner_at h.ready.lattice c.across-across.result _ _ (lattice_is c.args.part h.walls h.obstacles cells h.ready.lattice 64 is) (within_there c.args.part cells h.ready.lattice i t.ensures.lattice.sized is.placed (t.ensures.own i c.loop-i.invariant.from c.loop-i-test.true))
-    (c.across-across.ensures.across ∙ ap (λ w. w / 64) is.placed.wide) (there_is c.args.part cells h.ready.lattice i t.result.first t.result.there is.placed t.ensures.first t.ensures.there)
+    corner_at h.lattice c.across-across.result _ _ (lattice_is c.args.part cells h.lattice 64 is) (within_there c.args.part cells h.lattice i t.ensures.lattice.sized is.placed (t.ensures.own i c.loop-i.invariant.from c.loop-i-test.true))
+    (c.across-across.ensures.across ∙ ap (λ w. w / 64) is.placed.wide) (there_is c.args.part cells h.lattice i t.result.first t.result.there is.placed t.ensures.first t.ensures.there)
 
 pub meets-requires : goal.meets-requires
 meets-requires c = corner (goal.at.meets-requires c).In-loop-i
@@ -66,25 +66,25 @@ loop-i-preserved-then-not-meets c =
     record {
       from = omega (arith, low);
       sides = c.loop-i.invariant.sides;
-      made = λ w o lattice is.
+      made = λ lattice is.
           let j = tile_in part (lattice.width / 64) i in
           let kept = kept_at leaves lattice c.across-across.result j _ (c.across-across.ensures.across ∙ ap (λ w. w / 64) is.placed.wide) (there_is part cells lattice i t.result.first t.result.there is.placed t.ensures.first t.ensures.there) (c.meets.ensures c.if-not-meets.true) in
-          tile_stays part w o cells lattice (acted leaves lattice) c.loop-i.particles i t.ensures.lattice.sized is own (c.loop-i.invariant.made w o lattice is) (kept_there leaves lattice j (lattice_is part w o cells lattice 64 is) (within_there part cells lattice i t.ensures.lattice.sized is.placed own) kept);
-      moved = λ w o lattice is.
+          tile_stays part cells lattice (acted leaves lattice) c.loop-i.particles i t.ensures.lattice.sized is own (c.loop-i.invariant.made lattice is) (kept_there leaves lattice j (lattice_is part cells lattice 64 is) (within_there part cells lattice i t.ensures.lattice.sized is.placed own) kept);
+      moved = λ lattice is.
           let j = tile_in part (lattice.width / 64) i in
           let kept = kept_at leaves lattice c.across-across.result j _ (c.across-across.ensures.across ∙ ap (λ w. w / 64) is.placed.wide) (there_is part cells lattice i t.result.first t.result.there is.placed t.ensures.first t.ensures.there) (c.meets.ensures c.if-not-meets.true) in
           moved_none c.loop-i.moved
-          ∙ moves_more_there tick lattice (acted leaves lattice) (part.first * (lattice.width / 64)) t.result.first i c.loop-i.moved _ low (c.loop-i.invariant.moved w o lattice is)
-          (own_moved tick part cells lattice (acted leaves lattice) i t.result.first _ is.placed t.ensures.first (stays_there tick leaves lattice j (lattice_is part w o cells lattice 64 is) (within_there part cells lattice i t.ensures.lattice.sized is.placed own) kept));
+          ∙ moves_more_there tick lattice (acted leaves lattice) (part.first * (lattice.width / 64)) t.result.first i c.loop-i.moved _ low (c.loop-i.invariant.moved lattice is)
+          (own_moved tick part cells lattice (acted leaves lattice) i t.result.first _ is.placed t.ensures.first (stays_there tick leaves lattice j (lattice_is part cells lattice 64 is) (within_there part cells lattice i t.ensures.lattice.sized is.placed own) kept));
     }
 
 own : (c : After-moved-here) → IsOwn c.args.part c.args.particles.now c.loop-i.i
 own c = c.own_tiles-own.ensures.own c.loop-i.i c.loop-i.invariant.from c.loop-i-test.true
 
 -- what an own tile was, becomes and moves
-module _ (c : After-moved-here) (w o lattice : Cells) (is : IsPartOf c.args.part w o c.args.particles.now lattice 64) where
+module _ (c : After-moved-here) (lattice : Cells) (is : IsPartOf c.args.part c.args.particles.now lattice 64) where
   whole : IsLattice lattice
-  whole = lattice_is c.args.part w o c.args.particles.now lattice 64 is
+  whole = lattice_is c.args.part c.args.particles.now lattice 64 is
 
   below : tile_in c.args.part (lattice.width / 64) c.loop-i.i < tile_count lattice
   below = within_there c.args.part c.args.particles.now lattice c.loop-i.i c.own_tiles-own.ensures.lattice.sized is.placed (own c)
@@ -92,8 +92,8 @@ module _ (c : After-moved-here) (w o lattice : Cells) (is : IsPartOf c.args.part
   from : (let r = tile_rectangle lattice (tile_in c.args.part (lattice.width / 64) c.loop-i.i) in IsTileFrom c.tile_mut.result.now lattice r.x r.y)
   from =
       let leaves = leaves_of c.args.exchange.now in
-      own_cells c.args.part w o c.args.particles.now lattice c.loop-i.i c.tile_mut.result.now c.own_tiles-own.ensures.lattice.sized is (own c)
-      (tile_before c.args.part (acted leaves lattice) c.args.particles.now c.loop-i.particles c.loop-i.i 64 c.tile_mut.result.now c.own_tiles-own.ensures.lattice (own c) (c.loop-i.invariant.made w o lattice is) c.tile_mut.ensures.tile)
+      own_cells c.args.part c.args.particles.now lattice c.loop-i.i c.tile_mut.result.now c.own_tiles-own.ensures.lattice.sized is (own c)
+      (tile_before c.args.part (acted leaves lattice) c.args.particles.now c.loop-i.particles c.loop-i.i 64 c.tile_mut.result.now c.own_tiles-own.ensures.lattice (own c) (c.loop-i.invariant.made lattice is) c.tile_mut.ensures.tile)
 
   left : (let r = tile_rectangle lattice (tile_in c.args.part (lattice.width / 64) c.loop-i.i) in IsLeftOf (leaves_of c.args.exchange.now) r.x r.y c.tile_mut.result.now c.on_tile.new.tile)
   left = left_at (leaves_of c.args.exchange.now) lattice c.across-across.result _ _ c.tile_mut.result.now c.on_tile.new.tile (c.across-across.ensures.across ∙ ap (λ w. w / 64) is.placed.wide)
@@ -112,14 +112,13 @@ plus-moved-requires c =
     let after = (goal.at.plus-moved-requires c).After-moved-here in
     let within = (own after).within in
     let few = few_tiles c.args.particles.now c.loop-i.i c.own_tiles-own.ensures.lattice (omega (arith, within)) in
-    let h = c.requires.some in
-    let r = h.ready in
+    let r = c.requires.some in
     let tick = pos c.args.parity in
     let leaves = leaves_of c.args.exchange.now in
     let n = c.loop-i.i - c.own_tiles-own.result.first in
     let fits = moved_fits c.loop-i.moved c.moved-here.result (16384 * n) 16384
-    (subst (IsMovedWithin (16384 * n)) (sym (c.loop-i.invariant.moved h.walls h.obstacles r.lattice r.is)) (tiles_move_within tick leaves r.lattice (c.args.part.first * (r.lattice.width / 64)) n))
-    (subst (IsMovedWithin 16384) (sym (is_moved after h.walls h.obstacles r.lattice r.is)) (tile_moves_within tick leaves r.lattice _))
+    (subst (IsMovedWithin (16384 * n)) (sym (c.loop-i.invariant.moved r.lattice r.is)) (tiles_move_within tick leaves r.lattice (c.args.part.first * (r.lattice.width / 64)) n))
+    (subst (IsMovedWithin 16384) (sym (is_moved after r.lattice r.is)) (tile_moves_within tick leaves r.lattice _))
     (omega (arith, few)) in
     record { injected = fits.0; drained = fits.1 }
 
@@ -134,25 +133,25 @@ loop-i-preserved c =
     record {
       from = omega (arith, low);
       sides = record { wide = c.loop-i.invariant.sides.wide; high = c.loop-i.invariant.sides.high };
-      made = λ w o lattice is.
-          tile_made part cells lattice (acted leaves lattice) c.loop-i.particles i c.on_tile.new.tile c.own_tiles-own.ensures.lattice.sized is.placed (own after) (c.loop-i.invariant.made w o lattice is)
-          (left_there leaves lattice (tile_in part (lattice.width / 64) i) c.tile_mut.result.now c.on_tile.new.tile (whole after w o lattice is) (below after w o lattice is) (from after w o lattice is) (left after w o lattice is));
-      moved = λ w o lattice is.
+      made = λ lattice is.
+          tile_made part cells lattice (acted leaves lattice) c.loop-i.particles i c.on_tile.new.tile c.own_tiles-own.ensures.lattice.sized is.placed (own after) (c.loop-i.invariant.made lattice is)
+          (left_there leaves lattice (tile_in part (lattice.width / 64) i) c.tile_mut.result.now c.on_tile.new.tile (whole after lattice is) (below after lattice is) (from after lattice is) (left after lattice is));
+      moved = λ lattice is.
           c.plus-moved.ensures
-          ∙ moves_more_there (pos c.args.parity) lattice (acted leaves lattice) (part.first * (lattice.width / 64)) c.own_tiles-own.result.first i c.loop-i.moved c.moved-here.result low (c.loop-i.invariant.moved w o lattice is)
-          (is_moved after w o lattice is);
+          ∙ moves_more_there (pos c.args.parity) lattice (acted leaves lattice) (part.first * (lattice.width / 64)) c.own_tiles-own.result.first i c.loop-i.moved c.moved-here.result low (c.loop-i.invariant.moved lattice is)
+          (is_moved after lattice is);
     }
 
 pub returns-clause-rows : goal.returns-clause-rows
-returns-clause-rows c = λ w o lattice is.
+returns-clause-rows c = λ lattice is.
     let t = c.own_tiles-own in
     let old = c.args.particles.now in
-    all_acted (tile_of old) c.loop-i.i (leaves_of c.args.exchange.now) c.args.part w o old lattice c.loop-i.particles is
-    (own_before c.args.part old t.result.first t.result.end c.loop-i.i t.ensures.lattice.sized t.ensures.first t.ensures.order.0 t.ensures.count (omega (arith, c.loop-i-test.false))) (c.loop-i.invariant.made w o lattice is)
+    all_acted (tile_of old) c.loop-i.i (leaves_of c.args.exchange.now) c.args.part old lattice c.loop-i.particles is
+    (own_before c.args.part old t.result.first t.result.end c.loop-i.i t.ensures.lattice.sized t.ensures.first t.ensures.order.0 t.ensures.count (omega (arith, c.loop-i-test.false))) (c.loop-i.invariant.made lattice is)
 
 pub returns-clause-moved : goal.returns-clause-moved
-returns-clause-moved c = λ w o lattice is.
+returns-clause-moved c = λ lattice is.
     let t = c.own_tiles-own in
     let n : c.loop-i.i - t.result.first ≡ t.result.end - t.result.first = omega (arith, c.loop-i-test.false, c.loop-i.auto.i-end) in
-    c.loop-i.invariant.moved w o lattice is
+    c.loop-i.invariant.moved lattice is
     ∙ ap (tiles_move (pos c.args.parity) lattice (acted (leaves_of c.args.exchange.now) lattice) (c.args.part.first * (lattice.width / 64))) (n ∙ (t.ensures.count ∙ ap (λ w. own_rows c.args.part c.args.particles.now * (w / 64)) is.placed.wide))

@@ -13,6 +13,6 @@ invariant-loop-i l =
     record {
       from : l.initial.i ≤ l.i;
       sides : HasSidesOf l.particles old;
-      made : (walls obstacles lattice : Cells) → IsPartOf l.fn.part walls obstacles old lattice 64 → AreMadeTo (tile_of old) l.i 64 l.fn.part (acted (leaves_of l.exchange) lattice) old l.particles;
-      moved : (walls obstacles lattice : Cells) → IsPartOf l.fn.part walls obstacles old lattice 64 → l.moved ≡ tiles_move (pos l.parity) lattice (acted (leaves_of l.exchange) lattice) (l.fn.part.first * (lattice.width / 64)) (l.i - l.initial.i);
+      made : (lattice : Cells) → IsPartOf l.fn.part old lattice 64 → AreMadeTo (tile_of old) l.i 64 l.fn.part (acted (leaves_of l.exchange) lattice) old l.particles;
+      moved : (lattice : Cells) → IsPartOf l.fn.part old lattice 64 → l.moved ≡ tiles_move (pos l.parity) lattice (acted (leaves_of l.exchange) lattice) (l.fn.part.first * (lattice.width / 64)) (l.i - l.initial.i);
     }

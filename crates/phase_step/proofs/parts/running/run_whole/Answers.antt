@@ -1,9 +1,7 @@
-use Rattle.std.proofs.Common.{◌≡◌, ◌*◌, ◌-◌, ◌/◌, ◌≤◌, sym, subst, arith}
-use Rattle.gas_terms.specs.Cells.{joined}
+use Rattle.std.proofs.Common.{◌≡◌, ◌*◌, ◌-◌, ◌/◌, ◌≤◌, ◌∙◌, sym, subst, arith}
+use Rattle.gas_terms.specs.Cells.{Cells, HasSidesOf}
 use Rattle.phase_step.specs.Parts.{HasRun}
 use Rattle.phase_step.specs.Runs.{after}
-use Rattle.phase_step.specs.SolidBlocks.{AreOfNone}
-use Rattle.phase_step.specs.declared.steps.solids.Solids.{Solids}
 use Rattle.phase_step.specs.WholeRuns.{dynamics}
 use Rattle.phase_step.specs.declared.parts.Part.{Part}
 use Rattle.phase_step.proofs.RowRuns.{whole_held, whole_same, whole_flow}
@@ -12,19 +10,23 @@ use Rattle.phase_step.proofs.parts.running.run_whole.Goals as goal
 
 pub run_part-flow-requires : goal.run_part-flow-requires
 run_part-flow-requires g c =
-    let s = c.args.run.solids.now in
     record {
       parity = c.requires.parity;
-      ready = record { lattice = c.args.particles.now; is = whole_held c.whole-part.result s.walls s.obstacles c.args.particles.now (64 - c.args.run.parity) c.whole-part.ensures.lattice c.whole-part.ensures.part c.requires.walls c.requires.obstacles };
+      ready = record { lattice = c.args.particles.now; is = whole_held c.whole-part.result c.args.particles.now (64 - c.args.run.parity) c.whole-part.ensures.lattice c.whole-part.ensures.part; sides = c.requires.walls };
       few = subst (λ (part : Part). part.margin * c.args.run.n ≤ 1) (sym c.whole-part.ensures.part) (omega arith);
     }
+
+pub turn_on-requires-clause-solid : goal.turn_on-requires-clause-solid
+turn_on-requires-clause-solid g c =
+    let s = c.args.run.solids.now in
+    subst (λ (solid : Cells). HasSidesOf solid c.args.particles.now) (sym (c.of.ensures ∙ s.together)) (record { wide = c.requires.walls.wide; high = c.requires.walls.high })
 
 pub returns-then-not-is_counted : goal.returns-then-not-is_counted
 returns-then-not-is_counted g c =
     let run = c.args.run in
     let s = run.solids.now in
-    still_run run.parity s.walls s.obstacles (g.A.Action.leaves run.action.now) c.args.particles.now c.whole-part.ensures.lattice (λ k. c.acts.ensures c.if-not-acts.true k) c.args.counted run.n c.turn_on.new.particles c.requires.walls c.requires.obstacles (subst (λ (s : Solids). AreOfNone c.args.counted s.walls s.obstacles) c.of-ground.ensures (c.is_counted.ensures c.if-not-is_counted.true))
-    (subst (λ (s : Solids). c.turn_on.new.particles ≡ after run.parity (joined s.walls s.obstacles) c.args.particles.now run.n) c.of-ground.ensures c.turn_on.ensures)
+    still_run run.parity s.walls s.obstacles (g.A.Action.leaves run.action.now) c.args.particles.now c.shows_lattice.ensures (λ k. c.acts.ensures c.if-not-acts.true k) c.args.counted run.n c.turn_on.new.particles c.requires.walls c.requires.obstacles (c.is_counted.ensures c.if-not-is_counted.true)
+    (subst (λ (solid : Cells). c.turn_on.new.particles ≡ after run.parity solid c.args.particles.now run.n) (c.of.ensures ∙ s.together) c.turn_on.ensures)
 
 pub returns : goal.returns
 returns g c =
@@ -33,12 +35,11 @@ returns g c =
     let d = dynamics run.parity s (g.A.Action.leaves run.action.now) in
     let cells = c.args.particles.now in
     let down = cells.height / 64 in
-    let lattice = c.whole-part.ensures.lattice in
     let new = c.run_part-flow.new.particles in
-    let whole = whole_held c.whole-part.result s.walls s.obstacles cells (64 - run.parity) lattice c.whole-part.ensures.part c.requires.walls c.requires.obstacles in
+    let whole = whole_held c.whole-part.result cells (64 - run.parity) c.whole-part.ensures.lattice c.whole-part.ensures.part in
     let made : HasRun (record { first = 0; down = down; margin = 0 }) c.args.counted d run.n cells cells new c.run_part-flow.result =
-    subst (λ (part : Part). HasRun part c.args.counted d run.n cells cells new c.run_part-flow.result) c.whole-part.ensures.part (c.run_part-flow.ensures.run cells whole) in
+    subst (λ (part : Part). HasRun part c.args.counted d run.n cells cells new c.run_part-flow.result) c.whole-part.ensures.part (c.run_part-flow.ensures.run cells c.requires.walls whole) in
     record {
-      particles = whole_same down 64 s.walls s.obstacles new _ c.shows_lattice.ensures.full made.is;
-      flow = whole_flow down run.n c.args.counted d cells new c.run_part-flow.result lattice.sized made;
+      particles = whole_same down 64 new _ c.shows_lattice-2.ensures.full made.is;
+      flow = whole_flow down run.n c.args.counted d cells new c.run_part-flow.result c.whole-part.ensures.lattice.sized made;
     }

@@ -1,14 +1,14 @@
-use Rattle.gas_terms.specs.Cells.{HasSidesOf, joined}
+use Rattle.gas_terms.specs.Cells.{HasSidesOf}
 use Rattle.gas_terms.specs.Gas.{streamed}
 use Rattle.phase_step.specs.OddPhase.{AreTurnedTwice}
 use Rattle.phase_step.proofs.parts.sweeping.turn_both.Given as goal
 
 abbrev pub invariant-loop-row : goal.invariant-loop-row
 invariant-loop-row l =
-    let s = l.ground.solids.now in
+    let solid = l.known.solid.now in
     let old = l.fn.particles in
-    let mid = streamed 0 old (joined s.walls s.obstacles) in
+    let mid = streamed 0 old solid in
     record {
       sides : HasSidesOf l.particles old;
-      turned : AreTurnedTwice l.row mid (streamed 1 mid (joined s.walls s.obstacles)) old l.particles;
+      turned : AreTurnedTwice l.row mid (streamed 1 mid solid) old l.particles;
     }

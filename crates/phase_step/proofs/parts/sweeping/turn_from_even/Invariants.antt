@@ -1,9 +1,9 @@
 use Rattle.std.proofs.Common.{◌≡◌, ◌*◌}
-use Rattle.gas_terms.specs.Cells.{HasSidesOf, joined}
+use Rattle.gas_terms.specs.Cells.{HasSidesOf}
 use Rattle.phase_step.specs.Runs.{after}
 use Rattle.phase_step.proofs.parts.sweeping.turn_from_even.Given as goal
 
 abbrev pub invariant-loop-pair : goal.invariant-loop-pair
 invariant-loop-pair l =
-    let s = l.ground.solids.now in
-    record { made : l.particles ≡ after 0 (joined s.walls s.obstacles) l.fn.particles (2 * l._pair); sides : HasSidesOf l.particles l.fn.particles }
+    let solid = l.known.solid.now in
+    record { made : l.particles ≡ after 0 solid l.fn.particles (2 * l._pair); sides : HasSidesOf l.particles l.fn.particles }

@@ -1,6 +1,6 @@
 use Rattle.std.proofs.Common.{◌≡◌, ◌+◌, ◌*◌, ◌%◌, ◌/◌, ◌<◌, true, ◌∙◌, sym, ap, ap₂, subst, arith}
 use Rattle.std.proofs.Math.Nat.{mod-lt}
-use Rattle.gas_terms.specs.Cells.{has, extent, is_size, joined}
+use Rattle.gas_terms.specs.Cells.{has, extent, is_size}
 use Rattle.gas_terms.specs.Gas.{streamed}
 use Rattle.gas_plane.proofs.Places.{high, cell_below}
 use Rattle.phase_step.specs.Parts.{start_of, row_in}
@@ -13,13 +13,13 @@ use Rattle.phase_step.proofs.PhaseSweeps.{sized_as}
 use Rattle.phase_step.proofs.parts.turning.turn_even_in.Goals as goal
 
 pub returns-clause-turned : goal.returns-clause-turned
-returns-clause-turned c = λ old lattice is so_far.
-    let s = c.args.ground.solids.now in
+returns-clause-turned c = λ old lattice of_solid is so_far.
+    let solid = c.args.known.solid.now in
     let part = c.args.part in
     let row = c.args.row in
     let now = c.args.particles.now in
     let new = c.turn_even_row.new.particles in
-    let next = streamed 0 lattice (joined s.walls s.obstacles) in
+    let next = streamed 0 lattice solid in
     let sides = so_far.sides in
     let own = c.requires.own in
     let low : row + part.margin < old.height / 64 = subst (λ h. row + part.margin < h / 64) sides.high c.requires.row in
@@ -31,8 +31,8 @@ returns-clause-turned c = λ old lattice is so_far.
     let same : here ≡ place = ap₂ (λ b t. let p : RowPlace = record { row = row; below = b; there = t } in p) below c.row_there.ensures in
     let some = down_some part old lattice is.placed is.sized in
     let is_down : lattice.height / 64 ≡ part.down = let e = is.placed.down in omega (arith, e) in
-    let row_is : IsRowThere place s.walls s.obstacles now lattice =
-    record { sized = is.sized; of_walls = is.of_walls; of_obstacles = is.of_obstacles; wide = sides.wide ∙ is.placed.wide; low = subst (λ n. place.there < n) (sym is_down) (mod-lt (start_of part + row) some) } in
+    let row_is : IsRowThere place solid now lattice =
+    record { sized = is.sized; of_solid = of_solid; wide = sides.wide ∙ is.placed.wide; low = subst (λ n. place.there < n) (sym is_down) (mod-lt (start_of part + row) some) } in
     let ready : HasRow place lattice.width now lattice =
     λ x y h k.
     let t = down.tiles in
@@ -41,7 +41,7 @@ returns-clause-turned c = λ old lattice is so_far.
     ∙ (is.rows.row x (row * 64 + y) h (omega (arith, own)) (omega (arith, low, t, k)) ∙ ap (has lattice x) (row_turns (start_of part) row part.down y some k)) in
     let made : IsEvenRowTurned place next now new =
     subst (λ (p : RowPlace). IsEvenRowTurned p next now new) same
-    (c.turn_even_row.ensures.turned lattice (subst (λ (p : RowPlace). IsRowThere p s.walls s.obstacles now lattice) (sym same) row_is) (subst (λ (p : RowPlace). HasRow p lattice.width now lattice) (sym same) ready)) in
+    (c.turn_even_row.ensures.turned lattice (subst (λ (p : RowPlace). IsRowThere p solid now lattice) (sym same) row_is) (subst (λ (p : RowPlace). HasRow p lattice.width now lattice) (sym same) ready)) in
     made_next (λ x y. y / 64) row 64 part next old now new so_far c.turn_even_row.ensures.sides
     (λ x y h k. made.rest x y (subst (λ w. x < w) (sym sides.wide) h) (subst (λ n. y < n) (sym sides.high) k))
     (λ x y h from to e.

@@ -1,4 +1,4 @@
-use Rattle.gas_terms.specs.Cells.{Cells, HasSidesOf, joined}
+use Rattle.gas_terms.specs.Cells.{Cells, HasSidesOf}
 use Rattle.gas_terms.specs.Gas.{streamed}
 use Rattle.phase_step.specs.Parts.{IsPartOf}
 use Rattle.phase_step.specs.OddPhase.{AreTurnedTo}
@@ -6,9 +6,9 @@ use Rattle.phase_step.proofs.parts.turning.turn_odd_rows.Given as goal
 
 abbrev pub invariant-loop-row : goal.invariant-loop-row
 invariant-loop-row l =
-    let s = l.ground.solids.now in
+    let solid = l.known.solid.now in
     let old = l.initial.particles in
     record {
       sides : HasSidesOf l.particles old;
-      turned : (lattice : Cells) → IsPartOf l.fn.part s.walls s.obstacles old lattice 63 → AreTurnedTo l.row l.fn.part (streamed 1 lattice (joined s.walls s.obstacles)) old l.particles;
+      turned : (lattice : Cells) → HasSidesOf solid lattice → IsPartOf l.fn.part old lattice 63 → AreTurnedTo l.row l.fn.part (streamed 1 lattice solid) old l.particles;
     }

@@ -1,6 +1,6 @@
 use Rattle.std.proofs.Common.{◌≡◌, ◌+◌, ◌∙◌, ap, ap₂, sym, subst, refl, pos, arith, add-one}
 use Rattle.gas_terms.specs.Accounts.{took_plus}
-use Rattle.gas_terms.specs.Cells.{tile_count, tile_rectangle}
+use Rattle.gas_terms.specs.Cells.{joined, tile_count, tile_rectangle}
 use Rattle.gas_plane.proofs.PlaneCounts.{few_tiles}
 use Rattle.gas_plane.proofs.Sweeps.{sweep_begins}
 use Rattle.gas_plane.specs.Planes.{with_tile, IsPosition}
@@ -32,7 +32,7 @@ plus-took-requires c =
 pub loop-i-preserved : goal.loop-i-preserved
 loop-i-preserved c =
     let took = subst (λ i. c.turn_tile_at-here.result ≡ taken_in (pos c.args.parity) c.args.old.now c.args.walls.now c.args.obstacles.now (tile_rectangle c.args.old.now i)) c.loop-i.invariant.tile c.turn_tile_at-here.ensures.took in
-    let after = subst (λ i. IsTileAfter c.args.parity c.args.old.now c.args.walls.now c.args.obstacles.now i c.turn_tile_at-here.new.out) c.loop-i.invariant.tile c.turn_tile_at-here.ensures.cells in
+    let after = subst (λ i. IsTileAfter c.args.parity c.args.old.now (joined c.args.walls.now c.args.obstacles.now) i c.turn_tile_at-here.new.out) c.loop-i.invariant.tile c.turn_tile_at-here.ensures.cells in
     let e : c.loop-i.i ≡ 0 + c.loop-i.i = omega arith in
     record {
       cells = phase_next c.args.parity c.args.old.now c.args.walls.now c.args.obstacles.now c.args.out.now c.loop-i.out (with_tile c.loop-i.out c.loop-i.i c.turn_tile_at-here.new.out) c.loop-i.i c.turn_tile_at-here.new.out c.size.ensures.lattice c.requires.out c.loop-i.invariant.cells after refl;

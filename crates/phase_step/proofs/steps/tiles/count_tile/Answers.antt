@@ -5,7 +5,7 @@ use Rattle.block_rule.specs.Around.{taken}
 use Rattle.block_rule.proofs.TorusTook.{tiles_took}
 use Rattle.phase_step.specs.SolidBlocks.{view_of}
 use Rattle.phase_step.proofs.PhaseSweeps.{place_is}
-use Rattle.phase_step.proofs.SolidBlocks.{given_in_view}
+use Rattle.phase_step.proofs.SolidBlocks.{given_in_view, given_in_both}
 use Rattle.phase_step.proofs.steps.tiles.count_tile.Goals as goal
 
 pub returns : goal.returns
@@ -15,7 +15,7 @@ returns c = λ lattice w o i is within of_walls of_obstacles solids from.
     let r = tile_rectangle lattice i in
     let place = place_is lattice w o i is.sized within of_walls of_obstacles in
     let same : p % 2 ≡ p = omega arith in
-    c.taken_among.ensures (view_of w r.x r.y) (view_of o r.x r.y) (given_in_view lattice w o w i c.args.tile_solids.walls place of_walls solids.of_walls) (given_in_view lattice w o o i c.args.tile_solids.obstacles place of_obstacles solids.of_obstacles)
+    c.taken_among.ensures (view_of w r.x r.y) (view_of o r.x r.y) (given_in_both lattice w o i c.args.tile_solids.all place solids.of_all) (given_in_view lattice o i c.args.tile_solids.obstacles (place_is lattice o o i is.sized within of_obstacles of_obstacles) solids.of_obstacles)
     ∙ ap (counted_of c.args.counted)
     (ap (λ q. taken q t (view_of w r.x r.y) (view_of o r.x r.y)) (sym same)
     ∙ tiles_took (pos p) t lattice w o r.x r.y (view_of w r.x r.y) (view_of o r.x r.y) place from.cell (record { cell = λ _ _ _ _. refl }) (record { cell = λ _ _ _ _. refl }))

@@ -6,7 +6,7 @@ use Rattle.gas_plane.specs.Tiles.{IsColumnOf}
 use Rattle.gas_plane.specs.declared.around.TileRows.{TileRows}
 use Rattle.block_rule.specs.Around.{around}
 use Rattle.block_rule.specs.declared.Window.{Window}
-use Rattle.block_rule.proofs.Torus.{tiles_turned}
+use Rattle.block_rule.proofs.Torus.{set_turned}
 use Rattle.phase_step.specs.SolidBlocks.{view_of}
 use Rattle.phase_step.proofs.PhaseSweeps.{place_is}
 use Rattle.phase_step.proofs.SolidBlocks.{given_in_view}
@@ -17,11 +17,11 @@ tile_of_column : (rows : TileRows) (column : ℕ) (cells : Cells) (i : ℕ) (t :
 tile_of_column rows column cells i t at from = subst (λ c. IsTileFrom t cells (c * 64) (i / (cells.width / 64) * 64)) at.place from
 
 pub returns : goal.returns
-returns c = λ lattice w o i at of_walls of_obstacles solids x y h k.
+returns c = λ lattice solid i at sides given x y h k.
     let particles : Window = record { tile = c.tile.result; round = c.round.result } in
     let near = around c.tile.result.now (border_near c.round.result).0 in
     let r = tile_rectangle lattice i in
-    let place = place_is lattice w o i at.lattice.sized at.within of_walls of_obstacles in
+    let place = place_is lattice solid solid i at.lattice.sized at.within sides sides in
     let view = window_view i lattice lattice particles refl refl place.right place.bottom (record { tile = tile_of_column c.args.rows c.args.column lattice i c.tile.result.now at (c.tile.ensures lattice _ at.rows); round = λ b is. c.round.ensures.ring lattice i b at is }) in
-    c.turn_tile_odd.ensures near (view_of w r.x r.y) (view_of o r.x r.y) (window_seen particles) (given_in_view lattice w o w i c.args.tile_solids.walls place of_walls solids.of_walls) (given_in_view lattice w o o i c.args.tile_solids.obstacles place of_obstacles solids.of_obstacles) x y h k
-    ∙ tiles_turned 1 lattice w o r.x r.y near (view_of w r.x r.y) (view_of o r.x r.y) (omega arith) place view (record { cell = λ _ _ _ _. refl }) (record { cell = λ _ _ _ _. refl }) x y h k
+    c.turn_tile_odd.ensures near (view_of solid r.x r.y) (window_seen particles) (given_in_view lattice solid i c.args.walled place given) x y h k
+    ∙ set_turned 1 lattice solid r.x r.y near (view_of solid r.x r.y) (omega arith) place view (record { cell = λ _ _ _ _. refl }) x y h k

@@ -25,8 +25,8 @@ abbrev before : (g : Over) (c : After-parity_at g) → Cells
 before g c = lattice_at g.N.RunName.course (c.args.input.now.from + c.args.k)
 
 is_part : (g : Over) (c : After-parity_at g)
-    → let i = c.args.input.now in let s = c.args.self.now in
-    IsPartOf (record { first = s.own.first; down = c.from.result; margin = 1 }) i.solids.now.walls i.solids.now.obstacles s.cells (before g c) (64 - c.parity_at.result)
+    → let s = c.args.self.now in
+    IsPartOf (record { first = s.own.first; down = c.from.result; margin = 1 }) s.cells (before g c) (64 - c.parity_at.result)
 is_part g c =
     let i = c.args.input.now in
     let s = c.args.self.now in
@@ -35,8 +35,16 @@ is_part g c =
     let start = i.start in
     let down : c.from.result ≡ course.start.height / 64 = c.from.ensures ∙ ap (λ n. n / 64) (c.height.ensures ∙ (ap (λ (e : Extent). e.height) c.size.ensures.extent ∙ ap (λ (c : Cells). c.height) (sym start))) in
     let parity : parity_at course.dynamics.parity k ≡ c.parity_at.result = ap (λ p. parity_at p k) i.parity_is ∙ sym c.parity_at.ensures.parity in
-    strip_part course k (64 - c.parity_at.result) c.from.result s i.solids.now.walls i.solids.now.obstacles (subst IsLattice (sym start) i.lattice) c.requires.strip (subst (HasSidesOf i.solids.now.walls) (sym start) i.of_walls) (subst (HasSidesOf i.solids.now.obstacles) (sym start) i.of_obstacles) down
+    strip_part course k (64 - c.parity_at.result) c.from.result s (subst IsLattice (sym start) i.lattice) c.requires.strip down
     (subst (λ p. HasRows (place_of ((lattice_at course k).height / 64) s.own) s.cells (lattice_at course k) (64 - p)) parity c.requires.rows)
+
+-- the walls have its sides
+of_walls : (g : Over) (c : After-parity_at g) → HasSidesOf c.args.input.now.solids.now.walls (before g c)
+of_walls g c =
+    let i = c.args.input.now in
+    let sides = course_sides g.N.RunName.course (i.from + c.args.k) in
+    let walls = subst (HasSidesOf i.solids.now.walls) (sym i.start) i.of_walls in
+    record { wide = walls.wide ∙ sym sides.wide; high = walls.high ∙ sym sides.high }
 
 -- how the lattice goes on in it
 abbrev turn : (g : Over) (c : After-parity_at g) → Dynamics
@@ -60,7 +68,7 @@ run_part-requires g c =
     let at = (goal.at.run_part-requires g c).After-parity_at in
     record {
       parity = c.parity_at.ensures.small;
-      ready = record { lattice = before g at; is = is_part g at };
+      ready = record { lattice = before g at; is = is_part g at; sides = of_walls g at };
       few = omega arith;
     }
 
@@ -71,7 +79,7 @@ returns-clause-rows g c =
     let i = c.args.input.now in
     let course = g.N.RunName.course in
     let k = i.from + c.args.k in
-    let run = c.run_part.ensures.run (before g at) (is_part g at) in
+    let run = c.run_part.ensures.run (before g at) (of_walls g at) (is_part g at) in
     let next = phase_next course k (turn g at) (is_phase g at) in
     let here : HasRows (record { first = s.own.first; down = c.from.result; margin = 1 }) c.run_part.new.particles (lattice_at course (k + 1)) 64 = subst (λ (lattice : Cells). HasRows (record { first = s.own.first; down = c.from.result; margin = 1 }) c.run_part.new.particles lattice 64) next run.is.rows in
     subst (λ d. HasRows (record { first = s.own.first; down = d; margin = 1 }) c.run_part.new.particles (lattice_at course (k + 1)) 64)
@@ -84,7 +92,7 @@ returns-clause-fits g c =
     let i = c.args.input.now in
     let course = g.N.RunName.course in
     let k = i.from + c.args.k in
-    let run = c.run_part.ensures.run (before g at) (is_part g at) in
+    let run = c.run_part.ensures.run (before g at) (of_walls g at) (is_part g at) in
     let own = s.own in
     let gives = strip_flow own.first c.from.result own.rows 1 i.counted (turn g at) s.cells (before g at) c.run_part.new.particles c.run_part.result c.requires.strip.high run in
     let start = subst IsLattice (sym i.start) i.lattice in
@@ -101,7 +109,7 @@ returns-clause-flow g c =
     let i = c.args.input.now in
     let course = g.N.RunName.course in
     let k = i.from + c.args.k in
-    let run = c.run_part.ensures.run (before g at) (is_part g at) in
+    let run = c.run_part.ensures.run (before g at) (of_walls g at) (is_part g at) in
     let own = s.own in
     let gives = strip_flow own.first c.from.result own.rows 1 i.counted (turn g at) s.cells (before g at) c.run_part.new.particles c.run_part.result c.requires.strip.high run in
     rows_next course k (turn g at) (is_phase g at) own.first own.rows c.run_part.result (gives ∙ ap (λ (kept : Counted). flow_counted kept (tiles_flow (turn g at).parity (turn g at).walls (turn g at).obstacles (turn g at).leaves (before g at) (own.first * ((before g at).width / 64)) (own.rows * ((before g at).width / 64)) 1)) (sym i.counted_is))
