@@ -8,7 +8,8 @@ use gas_ledger::{Flow, Sums, tally};
 use gas_plane::{Plane, Tile};
 use gas_terms::{Pair, Rect, Size, Took};
 use phase_step::{
-    Action, Change, Exchange, Later, Listed, PortArray, Run, Serial, Stepper, Still, act_on,
+    Action, ActionFrom, CellCounts, Exchange, Listed, PortArray, Run, Serial, Stepper, Still,
+    act_on,
 };
 use std::process::Abort;
 
@@ -124,7 +125,7 @@ fn action_at_a_tick_of_each_parity(rt: HostRuntime) {
 fn sums_by_classes(rt: HostRuntime) {
     expect_same(&rt, Sums::of_counts([1, 2, 3, 4], 0), sums(10, -2, -4));
     expect_same(&rt, Sums::of_counts([1, 2, 3, 4], 1), sums(10, 2, 4));
-    let change = Change {
+    let change = CellCounts {
         gained: [1, 0, 0, 0],
         lost: [0, 0, 0, 2],
     };
@@ -211,7 +212,7 @@ fn listed_exchanges_end(rt: HostRuntime) {
     let listed = Listed {
         exchanges: &exchanges,
     };
-    let later = Later {
+    let later = ActionFrom {
         action: &listed,
         by: 1,
     };

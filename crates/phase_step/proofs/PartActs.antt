@@ -14,7 +14,7 @@ use Rattle.phase_step.specs.TileRuns.{tile_moves, tiles_move}
 use Rattle.gas_terms.specs.Accounts.{moved_plus}
 use Rattle.gas_terms.specs.declared.accounts.Moved.{Moved}
 use Rattle.phase_step.specs.declared.parts.Part.{Part}
-use Rattle.phase_step.specs.declared.sums.change.Change.{Change}
+use Rattle.phase_step.specs.declared.sums.cell_counts.CellCounts.{CellCounts}
 use Rattle.phase_step.proofs.MovedSums.{moved_none}
 use Rattle.phase_step.proofs.OwnTiles.{own_within}
 use Rattle.phase_step.proofs.ActedTiles.{Stays, cell_within, still_acts}
@@ -31,7 +31,7 @@ left_there leaves lattice i old new is within from left x y h k =
     ∙ sym (has-cells_where lattice.width lattice.height (λ x y. leaves x y (has lattice x y)) (r.x + x) (r.y + y) place.0 place.1))
 
 -- what it moves there,
-pub moves_there : (tick : ℤ) (leaves : Leaves) (lattice : Cells) (i : ℕ) (change : Change) (old new : Tile) → IsLattice lattice → i < tile_count lattice → (let r = tile_rectangle lattice i in IsTileFrom old lattice r.x r.y) → (let r = tile_rectangle lattice i in IsLeftOf leaves r.x r.y old new)
+pub moves_there : (tick : ℤ) (leaves : Leaves) (lattice : Cells) (i : ℕ) (change : CellCounts) (old new : Tile) → IsLattice lattice → i < tile_count lattice → (let r = tile_rectangle lattice i in IsTileFrom old lattice r.x r.y) → (let r = tile_rectangle lattice i in IsLeftOf leaves r.x r.y old new)
     → AreTileCounts change.gained (λ x y. tile.has new x y && not (tile.has old x y)) → AreTileCounts change.lost (λ x y. tile.has old x y && not (tile.has new x y))
     → moved_by_counts tick change ≡ tile_moves tick lattice (acted leaves lattice) i
 moves_there tick leaves lattice i change old new is within from left gained lost =

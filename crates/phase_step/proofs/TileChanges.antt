@@ -19,7 +19,7 @@ use Rattle.gas_plane.proofs.PlaneCounts.{tile_sum, same_parity}
 use Rattle.phase_step.specs.Actions.{Leaves, acted, unmoved}
 use Rattle.gas_plane.specs.Counts.{AreCounts}
 use Rattle.phase_step.specs.Counts.{AreTileCounts, moved_by_counts}
-use Rattle.phase_step.specs.declared.sums.change.Change.{Change}
+use Rattle.phase_step.specs.declared.sums.cell_counts.CellCounts.{CellCounts}
 use Rattle.gas_terms.specs.declared.accounts.Moved.{Moved}
 use Rattle.gas_plane.proofs.Counting.{counted_sums}
 use Rattle.phase_step.proofs.Counting.{same_moved}
@@ -66,7 +66,7 @@ pub counts_are : (cells : Cells) (i : ℕ) (counts : List ℕ) (test : ℕ → �
 counts_are cells i counts test r is are same = record { count = λ a b p q. are.count a b p q ∙ tile_count_is cells a b i test r is same }
 
 -- a change of one tile moves what is new and what is gone in its rectangle
-pub tile_moved : (tick : ℤ) (leaves : Leaves) (cells : Cells) (i : ℕ) (change : Change) (old new : Tile) (r : Rectangle) → IsLattice cells → i < tile_count cells → IsSquareOf cells.width i r
+pub tile_moved : (tick : ℤ) (leaves : Leaves) (cells : Cells) (i : ℕ) (change : CellCounts) (old new : Tile) (r : Rectangle) → IsLattice cells → i < tile_count cells → IsSquareOf cells.width i r
     → AreTileCounts change.gained (λ x y. tile.has new x y && not (tile.has old x y)) → AreTileCounts change.lost (λ x y. tile.has old x y && not (tile.has new x y))
     → ((x y : ℕ) → x < 64 → y < 64 → tile.has old x y ≡ has cells (left_of cells i + x) (top_of cells i + y))
     → ((x y : ℕ) → x < 64 → y < 64 → tile.has new x y ≡ acting leaves cells (left_of cells i + x) (top_of cells i + y))

@@ -2,7 +2,7 @@ use Rattle.std.specs.Prelude.{◌≡◌, ℕ, ◌+◌, ◌*◌, ◌%◌, ◌<◌
 use Rattle.bit_tile.specs.Tile.{count_cells}
 use Rattle.gas_terms.specs.Counts.{sums_of_counts}
 use Rattle.gas_terms.specs.declared.accounts.Moved.{Moved}
-use Rattle.phase_step.specs.declared.sums.change.Change.{Change}
+use Rattle.phase_step.specs.declared.sums.cell_counts.CellCounts.{CellCounts}
 
 -- the counts of a tile's cells that pass the test: even column and even row, odd and even, even and odd, odd and odd
 pub record AreTileCounts (counts : List ℕ) (test : ℕ → ℕ → Bool) : Type 0 where
@@ -11,7 +11,7 @@ pub record AreTileCounts (counts : List ℕ) (test : ℕ → ℕ → Bool) : Typ
   pub few : (k : ℕ) → k < 4 → slice_index counts k ≤ 2048
 
 -- the sums of particles that come in and go out, by such counts
-abbrev pub moved_by_counts : ℤ → Change → Moved
+abbrev pub moved_by_counts : ℤ → CellCounts → Moved
 moved_by_counts tick change = record { injected = sums_of_counts tick change.gained; drained = sums_of_counts tick change.lost }
 
 -- a cell that was held, or not, changes when it is filled or emptied

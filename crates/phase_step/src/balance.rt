@@ -34,7 +34,7 @@ fn missing(before: Sums, after: Sums, flow: Flow) -> Pair
 }
 
 /// The one account that a long run keeps. Which one it is changes nothing but the time: that of a set without cells is quicker.
-pub fn one_account(walls: &Plane) -> Counted
+pub fn account_to_count(walls: &Plane) -> Counted
     ensures { result.obstacles ≡ not result.walls }
 {
     let walls = walls.is_empty();
@@ -46,7 +46,7 @@ pub fn one_account(walls: &Plane) -> Counted
 
 /// What a run comes to, by the sums of the particles before and after it and by what was counted in it, in one of the two
 /// accounts.
-pub fn completed(before: Sums, after: Sums, flow: Flow, counted: Counted) -> Flow
+pub fn with_missing_account(before: Sums, after: Sums, flow: Flow, counted: Counted) -> Flow
     requires few { AreFew before after flow }
     requires one { counted.obstacles ≡ not counted.walls }
     ensures { (all : Flow) → flow ≡ flow_counted counted all → after ≡ left_of before all →

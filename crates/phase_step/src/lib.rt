@@ -21,15 +21,15 @@ mod parts;
 mod steps;
 mod sums;
 
-pub use balance::{completed, one_account};
+pub use balance::{account_to_count, with_missing_account};
 pub use block_rule::Counted;
-pub use exchanges::{Action, Exchange, Later, Listed, PortArray, Still, any_area};
+pub use exchanges::{Action, ActionFrom, Exchange, Listed, PortArray, Still, any_area};
 use gas_plane::Plane;
 use gas_terms::Took;
 pub use parts::{Part, act_on, run_part, run_whole};
 use steps::turn_each;
 pub use steps::{Solid, Solids, turn_tile_at};
-pub use sums::{Change, Flow};
+pub use sums::{CellCounts, Flow};
 
 /// A run of n phases in which particles meet these walls and obstacles, from the given parity on, with an action after each.
 #[derive(Drop)]

@@ -216,7 +216,7 @@ fn gather(strips: &[Strip], cells: &mut Plane) -> Flow
 
 // Lists what an action does after each of the phases from phase `from` on, of which so many are left. Returns how many it lists:
 // all if it does nothing.
-fn list<A: Action>(action: &A, from: u16, left: u16, exchanges: &mut Vec<Exchange>) -> u16
+fn list_exchanges<A: Action>(action: &A, from: u16, left: u16, exchanges: &mut Vec<Exchange>) -> u16
     requires left { from + left ≤ 65535 }
     requires room { most_listed ≤ vec_capacity exchanges.old }
     ensures some { (result ≤ left) × (0 < left → 0 < result) }
@@ -256,7 +256,7 @@ fn run_named<R: Threads + Clock, N: RunName + Send + Sync, A: Action>(
     let board = Board::<N>::new(alloc, particles, strips.strips.len())?;
     let mut done = 0;
     while done < run.n {
-        let phases = list(run.action, done, run.n - done, &mut strips.exchanges);
+        let phases = list_exchanges(run.action, done, run.n - done, &mut strips.exchanges);
         let input = RunInput {
             particles: &*particles,
             solids: run.solids,

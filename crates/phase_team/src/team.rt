@@ -13,7 +13,8 @@ use crate::runs::{LeastRun, Strips, is_worth_strips, run_by, strips_for};
 use gas_plane::Plane;
 use gas_terms::Took;
 use phase_step::{
-    Action, Counted, Flow, Run, Serial, Stepper, completed, one_account, parity_at, run_whole,
+    Action, Counted, Flow, Run, Serial, Stepper, account_to_count, parity_at, run_whole,
+    with_missing_account,
 };
 use std::alloc::Global;
 use std::marker::Model;
@@ -205,12 +206,12 @@ impl<R: Threads + Clock + Drop> Stepper for Team<R, NoGate> {
         if walls.is_empty() && run.solids.obstacles.cells().is_empty() {
             return self.run_by_worth(particles, run, Counted::BOTH);
         }
-        let counted = one_account(walls);
+        let counted = account_to_count(walls);
         let end = parity_at(run.parity, run.n);
         let before = particles.keep_total(run.parity);
         let flow = self.run_by_worth(particles, run, counted);
         let after = particles.keep_total(end);
-        completed(before, after, flow, counted)
+        with_missing_account(before, after, flow, counted)
     }
 }
 

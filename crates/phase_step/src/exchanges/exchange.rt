@@ -10,7 +10,7 @@ ghost use Rattle.phase_step.specs.Exchanges.{leaves_of, nowhere, HasTilesOf};
 
 use crate::exchanges::PortArray;
 use crate::exchanges::set_cells::set_areas;
-use crate::sums::Change;
+use crate::sums::CellCounts;
 use gas_plane::Tile;
 use gas_terms::{Rect, Size};
 use std::marker::Model;
@@ -83,7 +83,7 @@ impl Exchange {
     }
 
     /// Acts on the tile that begins at (left, top). Returns how many cells came and went.
-    pub fn on_tile(&self, left: u32, top: u32, tile: &mut Tile) -> Change
+    pub fn on_tile(&self, left: u32, top: u32, tile: &mut Tile) -> CellCounts
         requires { IsTileCorner left top }
         ensures left { IsLeftOf (leaves_of self.now) left top tile.old tile.new }
         ensures gained { AreTileCounts result.gained
@@ -95,7 +95,7 @@ impl Exchange {
         let sources = self.sources.as_slice();
         let lost = set_areas(tile, drains, sources, left, top, false);
         let gained = set_areas(tile, sources, &[], left, top, true);
-        Change { gained, lost }
+        CellCounts { gained, lost }
     }
 }
 

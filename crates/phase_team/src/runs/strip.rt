@@ -13,7 +13,7 @@ use crate::runs::input::RunInput;
 use crate::runs::watch::Watch;
 use gas_plane::{Plane, after, before};
 use gas_terms::Size;
-use phase_step::{Flow, Later, Listed, Part, Run, parity_at, run_part};
+use phase_step::{ActionFrom, Flow, Listed, Part, Run, parity_at, run_part};
 use std::alloc::Global;
 use std::sync::atomic::Ordering;
 
@@ -114,7 +114,7 @@ impl Strip {
         let listed = Listed {
             exchanges: input.exchanges,
         };
-        let action = Later {
+        let action = ActionFrom {
             action: &listed,
             by: k,
         };
@@ -208,7 +208,7 @@ impl Strip {
     }
 
     // Shows and takes edges, if the phase that comes next needs them. False if a strip has given up.
-    fn meet<N: RunName, W: Watch>(
+    fn exchange_edges<N: RunName, W: Watch>(
         &mut self,
         input: &RunInput<'_, N>,
         number: u32,
@@ -258,7 +258,7 @@ impl Strip {
         for k in 0..input.phases {
             let here = self.make_phase(input, k);
             self.flow = self.flow.plus(here);
-            if !self.meet(input, number, input.from + k + 1, watch) {
+            if !self.exchange_edges(input, number, input.from + k + 1, watch) {
                 return false;
             }
         }

@@ -27,7 +27,7 @@ invariant_of-strips-in-loop-done g c =
     let size : extent g.N.RunName.course.start ≡ strips.size = ap (λ (c : Course). extent c.start) c.requires.course ∙ (sym c.requires.run.size ∙ sym c.loop-done.invariant.size) in
     record {
       laid = still_strips strips.size c.as_mut_slice.result.now new _ list (subst (AreStrips strips.size) (sym c.as_mut_slice.ensures.value) strips.laid) (subst (λ (size : Extent). All (IsOf size) new) size c.make_all.ensures.strips) c.make_all.ensures.own;
-      room = subst (λ n. most_listed ≤ n) (sym c.list-phases.ensures.room) strips.room;
+      room = subst (λ n. most_listed ≤ n) (sym c.list_exchanges-phases.ensures.room) strips.room;
     }
 
 pub loop-done-preserved : goal.loop-done-preserved
@@ -37,14 +37,14 @@ loop-done-preserved g c =
     let new = c.make_all.new.strips in
     let list = take_at new (drop (length new) strips.strips.items) strips.strips.len (search rules) in
     let went : IsTrue c.make_all.result = search rules in
-    let some = c.list-phases.ensures.some.0 in
+    let some = c.list_exchanges-phases.ensures.some.0 in
     let few = was.few in
     record {
       few = omega (arith, some, few);
       size = was.size;
       count = ap length list ∙ (same_count new c.as_mut_slice.result.now c.make_all.ensures.own ∙ (ap length c.as_mut_slice.ensures.value ∙ was.count));
       same = refl;
-      at = λ _. subst (All (IsAt g.N.RunName.course (c.loop-done.done + c.list-phases.result))) (sym list) (c.make_all.ensures.at went);
+      at = λ _. subst (All (IsAt g.N.RunName.course (c.loop-done.done + c.list_exchanges-phases.result))) (sym list) (c.make_all.ensures.at went);
     }
 
 pub gather-requires-clause-at : goal.gather-requires-clause-at

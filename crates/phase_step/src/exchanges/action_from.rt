@@ -8,12 +8,12 @@ use crate::exchanges::{Action, Exchange};
 /// What an action does from phase `by` on: the part of a run that begins there has phases 0, 1, .. of its own. No phase
 /// has a number above 65,535.
 #[derive(Drop)]
-pub struct Later<'a, A: Action> {
+pub struct ActionFrom<'a, A: Action> {
     pub action: &'a A,
     pub by: u16,
 }
 
-impl<A: Action> Action for Later<'_, A> {
+impl<A: Action> Action for ActionFrom<'_, A> {
     ghost leaves = { λ l k x y held. A.leaves l.action.now (min (l.by + k) last_phase) x y held };
 
     fn after_phase(&self, k: u16) -> Exchange {

@@ -10,14 +10,14 @@ use gas_terms::{Moved, Sums};
 /// How many cells came in and went out, in each class of columns and rows: even column and even row, odd and even,
 /// even and odd, odd and odd.
 #[derive(Clone, Copy)]
-pub struct Change {
+pub struct CellCounts {
     pub gained: [u64; 4],
     pub lost: [u64; 4],
 }
 
-impl Change {
+impl CellCounts {
     /// None came in and none went out.
-    pub const ZERO: Change = Change {
+    pub const ZERO: CellCounts = CellCounts {
         gained: [0; 4],
         lost: [0; 4],
     };

@@ -1,7 +1,7 @@
 use Rattle.std.proofs.Common.{◌≡◌, length}
 use Rattle.std.specs.Vec.{vec_capacity}
 use Rattle.phase_team.specs.Courses.{Lists}
-use Rattle.phase_team.proofs.runs.list.Given as goal
+use Rattle.phase_team.proofs.runs.list_exchanges.Given as goal
 
 abbrev pub invariant-loop-k : goal.invariant-loop-k
 invariant-loop-k g l = record {
