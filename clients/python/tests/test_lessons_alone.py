@@ -9,7 +9,8 @@ from gaslab import random_gas
 
 from .test_page_engine import EXAMPLES, NODE, OBSTACLES_X, run_engine
 
-LESSONS = [next(EXAMPLES.glob(f"{number}_*.md")).read_text("utf-8") for number in range(1, 12)]
+PAGES = sorted(EXAMPLES.glob("[0-9]*.md"), key=lambda it: int(it.stem.partition("_")[0]))
+LESSONS = [page.read_text("utf-8") for page in PAGES]
 TEXT = "\n".join(LESSONS)
 RUN, ALONE = "./gaslab run", "python3 tools/channel_gas.py"
 
@@ -38,6 +39,15 @@ def cells(replies):
 
 
 class Text(unittest.TestCase):
+    def test_the_index_has_each_page(self):
+        """By its title, with its first sentence, in order."""
+        page = (EXAMPLES / "README.md").read_text("utf-8")
+        index = re.findall(r"^\| \[(.+)\]\((.+)\) \| (.+) \|$", page, re.M)
+        titles = [(text[2:text.index("\n")], text.partition("**What it is.** ")[2].partition("\n")[0])
+                  for text in LESSONS]
+        self.assertEqual(index, [(title, it.name, about) for it, (title, about) in zip(PAGES, titles)])
+        self.assertEqual([int(title.partition(".")[0]) for title, _ in titles], list(range(1, 12)))
+
     def test_each_run_has_both_forms(self):
         count = 0
         for lesson in LESSONS:
