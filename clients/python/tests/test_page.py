@@ -8,7 +8,7 @@ import time
 import unittest
 from unittest import mock
 
-from gaslab.page.one_file import MOST, STATIC, bundle, one_file, read
+from gaslab.page.one_file import MOST, STATIC, bare_style, bundle, one_file, read
 from gaslab.pictures import palette
 
 from .firefox import FIREFOX, Firefox
@@ -417,6 +417,17 @@ class OneFile(Main, PageCase):
             self.browser.wait("laboratory.view.past.length", 8)
             self.settle()
             self.assertEqual(self.value(named), [[place, "mean of 8 pictures"]], (size, is_large))
+
+    def test_styles_have_the_same_rules_without_their_spaces(self):
+        """As Chromium reads them. Where a value has a variable, it keeps all spaces between the words."""
+        self.open("8")
+        rules = """.map((text) => { const it = new CSSStyleSheet(); it.replaceSync(text);
+            return [...it.cssRules].map(({ cssText }) => cssText.replace(/("[^"]*")|,?\\s+/g,
+                (space, string) => string ?? (space[0] === "," ? "," : " "))); })"""
+        for name, least in (("page.css", 100), ("print.css", 2)):
+            whole, bare = self.value(json.dumps([read(name), bare_style(read(name))]) + rules)
+            self.assertEqual(bare, whole, name)
+            self.assertGreaterEqual(len(whole), least)
 
     def test_nothing_moves_by_itself_when_motion_is_reduced(self):
         self.browser.reduce_motion(True)
