@@ -69,6 +69,7 @@ stage() {
     grep -q '^## What is proved$' "$here/README.md" &&
         mkdir -p "$to/lib" "$to/docs" &&
         cp "$here/gaslab" "$here/gaslab.html" "$here/CHANGELOG.md" "$to/" &&
+        cp "$here/LICENSE-MIT" "$here/LICENSE-APACHE" "$here/NOTICE" "$to/" &&
         cp "$parts/sources.sh" "$parts/run.sh" "$parts/help.sh" "$parts/install.sh" "$to/lib/" &&
         cp "$here/docs/FORMATS.md" "$here/docs/CLASS.md" "$here/docs/TEACH.md" "$here/docs/GAS.md" "$to/docs/" &&
         cp "$here/docs/PACKAGE.md" "$to/README.md" &&

@@ -64,10 +64,10 @@ class PageCase(unittest.TestCase):
         return self.value("laboratory.lab.picture.tick")
 
     def send(self, *lines):
-        """Sends lines as a person does, and waits for the picture after them."""
+        """Sends lines as a person does, and waits until the picture after them is drawn."""
         number = self.value("laboratory.lab.picture.number")
         replies = self.value(f"laboratory.send({json.dumps(lines)})")
-        self.browser.wait(f"laboratory.lab.picture.number > {number}", True)
+        self.browser.wait(f"laboratory.lab.shown?.number > {number}", True)
         return replies
 
     def pull(self, cells):

@@ -1,5 +1,5 @@
-"""The lessons of examples/README.md for somebody without the kit: each run by tools/channel_gas.py too, and
-the answers to exercises, by the page's engine."""
+"""The lessons for somebody without the kit: each run by tools/channel_gas.py too, and the answers to
+exercises, by the page's engine."""
 import re
 import subprocess
 import sys
@@ -9,7 +9,9 @@ from gaslab import random_gas
 
 from .test_page_engine import EXAMPLES, NODE, OBSTACLES_X, run_engine
 
-TEXT = (EXAMPLES / "README.md").read_text("utf-8")
+PAGES = sorted(EXAMPLES.glob("[0-9]*.md"), key=lambda it: int(it.stem.partition("_")[0]))
+LESSONS = [page.read_text("utf-8") for page in PAGES]
+TEXT = "\n".join(LESSONS)
 RUN, ALONE = "./gaslab run", "python3 tools/channel_gas.py"
 
 
@@ -37,11 +39,18 @@ def cells(replies):
 
 
 class Text(unittest.TestCase):
+    def test_the_index_has_each_page(self):
+        """By its title, with its first sentence, in order."""
+        page = (EXAMPLES / "README.md").read_text("utf-8")
+        index = re.findall(r"^\| \[(.+)\]\((.+)\) \| (.+) \|$", page, re.M)
+        titles = [(text[2:text.index("\n")], text.partition("**What it is.** ")[2].partition("\n")[0])
+                  for text in LESSONS]
+        self.assertEqual(index, [(title, it.name, about) for it, (title, about) in zip(PAGES, titles)])
+        self.assertEqual([int(title.partition(".")[0]) for title, _ in titles], list(range(1, 12)))
+
     def test_each_run_has_both_forms(self):
-        lessons = re.split(r"^## (?=\d+\. )", TEXT.partition("\n## Scenes")[0], flags=re.M)[1:]
-        self.assertEqual(len(lessons), 11)
         count = 0
-        for lesson in lessons:
+        for lesson in LESSONS:
             body = lesson.partition("**Run it.**")[2].partition("**What to notice")[0]
             runs = [it for it in code(body) if it.startswith(RUN)]
             others = [it for it in code(body) if it.startswith(ALONE)]
@@ -91,7 +100,7 @@ class Exercises(unittest.TestCase):
         for first in ([], ["put 112 112 32 32"]):        # the page's lesson has its square too
             *_, left, right = self.run_lines([*background, *first, *more], (256, 256))
             self.assertEqual([it.split(" ")[1] for it in (left, right)], ["6144", "6144"])
-        self.assertIn("**5.** 6144 each", TEXT)
+        self.assertIn("## Answers\n\n6144 each", LESSONS[4])
 
     def test_one_more_or_one_less(self):
         six = (EXAMPLES / "6_spoiled.txt").read_text().splitlines()[:6]

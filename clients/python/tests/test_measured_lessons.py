@@ -58,9 +58,9 @@ class MeasuredLessons(unittest.TestCase):
 
 class EvenBackgrounds(unittest.TestCase):
     def test_density_and_momentum(self):
-        """The table of docs/FORMATS.md: each square holds its density, and the same with full for empty."""
+        """Each square holds the density of its row in the table, and the same with full for empty."""
         table = re.findall(r"^\| (\d/\d) \| `([0-9a-f ]{15})` \| (\d/\d) \|$",
-                           (ROOT / "docs" / "FORMATS.md").read_text(), re.M)
+                           (ROOT / "examples" / "even_backgrounds.md").read_text(), re.M)
         self.assertEqual([row[0] for row in table], ["1/8", "1/4", "3/8", "1/2"])
         for density, digits, other in table:
             complement = " ".join(f"{15 - int(digit, 16):x}" for digit in digits.split())

@@ -8,7 +8,7 @@ import time
 import unittest
 from unittest import mock
 
-from gaslab.page.one_file import MOST, STATIC, bundle, one_file, read
+from gaslab.page.one_file import MOST, STATIC, bare_style, bundle, one_file, read
 from gaslab.pictures import palette
 
 from .firefox import FIREFOX, Firefox
@@ -20,7 +20,8 @@ from .test_page_engine import run_second, second
 # [how many pictures, pixels that flash, pixels that change, pictures that were skipped]. A flash is two
 # changes by a tenth, to and fro. Those pixels are counted that flash more than three times in a second, in
 # the 341 by 256 that have most of them. Time is that of the browser's frames, by which the page goes too.
-_FLASHES = """(async () => {
+# To try the count itself on any machine, `isCounted` has each drawn picture take the time of one at its rate.
+_FLASHES = """(async (isCounted) => {
   const { view: { canvas }, lab } = laboratory, seen = [];
   const [width, height] = [canvas.width, canvas.height].map((side) => side >> 1);
   const own = Object.assign(document.createElement("canvas"), { width, height });
@@ -31,10 +32,11 @@ _FLASHES = """(async () => {
   const { scale } = laboratory.view;
   for (let last = lab.shown.number; seen.length < 3 || seen.at(-1)[0] < seen[0][0] + 1500;) {
     if (laboratory.view.scale !== scale) throw new Error("what is beside the gas has moved it");
-    const now = await new Promise(requestAnimationFrame);
+    const frame = await new Promise(requestAnimationFrame);
     if (lab.shown.number === last) continue;
     last = lab.shown.number;
     c.drawImage(canvas, 0, 0, width, height);
+    const now = isCounted ? seen.length * 1000 / lab.shown.rate : frame;
     seen.push([now, c.getImageData(0, 0, width, height).data, last]);
   }
   const bright = (d, k) => .2126 * part[d[4 * k]] + .7152 * part[d[4 * k + 1]] + .0722 * part[d[4 * k + 2]];
@@ -59,14 +61,15 @@ _FLASHES = """(async () => {
     flashing = Math.max(flashing, sums[y][x] - sums[top][x] - sums[y][left] + sums[top][left]);
   }
   return [seen.length, flashing, changing, seen.at(-1)[2] - seen[0][2] - seen.length + 1];
-})()"""
-# Pixels of what is seen that are another colour after a second's ticks, and after those of one more
+})"""
+# Pixels of what is seen that are another colour after a second's ticks, and after those of one more. On a
+# slow machine ticks are lost between two pictures, so each second begins with the tick that was seen last.
 _MOVES = """(async (ticks) => {
-  const { view: { canvas: { width, height }, canvas }, lab } = laboratory, seen = [], began = lab.shown.tick;
+  const { view: { canvas: { width, height }, canvas }, lab } = laboratory, seen = [];
   const own = Object.assign(document.createElement("canvas"), { width, height });
   const c = own.getContext("2d", { willReadFrequently: true });
-  for (let k = 0; k < 3; k++) {
-    do await new Promise(requestAnimationFrame); while (lab.shown.tick < began + k * ticks);
+  for (let k = 0, due = lab.shown.tick; k < 3; k++, due = lab.shown.tick + ticks) {
+    do await new Promise(requestAnimationFrame); while (lab.shown.tick < due);
     c.drawImage(canvas, 0, 0);
     seen.push(new Uint32Array(c.getImageData(0, 0, width, height).data.buffer));
   }
@@ -312,7 +315,7 @@ class Main:
             self.value(f"laboratory.lab.change({{ mode: '{mode}' }})")
             for steps, rate in _SPEEDS:
                 self.send(f".play {steps} {rate}")
-                flashing = self.value(_FLASHES)[1]
+                flashing = self.flashes()[1]
                 self.assertLess(flashing, _AREA / 2, (mode, steps, rate))
 
     def test_the_stream_is_seen_to_move_at_every_speed(self):
@@ -326,6 +329,9 @@ class Main:
                 self.run_to(self.tick() + 2)
                 moves = self.value(f"{_MOVES}({steps * rate})")
                 self.assertGreater(min(moves), 300, (mode, steps, rate))
+
+    def flashes(self, is_counted=False):
+        return self.value(f"{_FLASHES}({json.dumps(is_counted)})")
 
     def press(self, k):
         self.value(f"document.querySelectorAll('.tries button')[{k}].click()")
@@ -341,23 +347,27 @@ class OneFile(Main, PageCase):
         each picture, cells change, but they don't flash."""
         self.open()
         self.run_to(110)
-        _, flashing, changing, skipped = self.value(_FLASHES)
+        _, flashing, changing, skipped = self.flashes()
         self.assertLess(flashing, _AREA / 2)
         if not skipped:
             self.assertLess(changing, 4 * _AREA)
         self.assertTrue(self.value("laboratory.view.isCalm"))
         self.value("laboratory.view.remember = function (p) { this.recent = [p]; this.isCalm = false; }")
-        self.assertGreater(self.value(_FLASHES)[1], 2 * _AREA, "single ticks flash, so the count counts")
+        flashing = self.flashes(is_counted=True)[1]
+        self.assertGreater(flashing, 2 * _AREA, "single ticks flash, so the count counts")
 
     def test_a_stream_with_skipped_pictures_does_not_flash(self):
         """On a slow machine, and when most pictures are lost: drawn as they come, those would flash.
         About half of what may flash was found once, where means and followed particles meet."""
         self.open()
         self.run_to(110)
-        self.browser.slow_down(8)
         self.addCleanup(self.browser.slow_down, 1)
-        _, flashing, _, skipped = self.value(_FLASHES)
-        self.assertLess(flashing, _AREA / 2)
+        for times in (8, 16, 32):
+            self.browser.slow_down(times)
+            _, flashing, _, skipped = self.flashes()
+            self.assertLess(flashing, _AREA / 2)
+            if skipped:
+                break
         self.assertGreater(skipped, 0, "it was slow enough")
         self.browser.slow_down(1)
         for mode in _MODES:
@@ -365,7 +375,7 @@ class OneFile(Main, PageCase):
             for steps, rate in _SPEEDS[1:]:
                 self.send(f".play {steps} {rate}")
                 self.value(_SKIPS)
-                flashing = self.value(_FLASHES)[1]
+                flashing = self.flashes()[1]
                 self.assertLess(flashing, _AREA, (mode, steps, rate))
                 self.value("keepAll()")
 
@@ -391,6 +401,33 @@ class OneFile(Main, PageCase):
         self.assertGreater(self.value("""(({ view: { full: { pixels } } }) => {
             const single = new Set(pixels);
             return paused.filter((v) => !single.has(v)).length; })(laboratory)"""), 1000)
+
+    def test_a_mean_is_named_where_the_key_has_no_room(self):
+        """On a phone, on a low screen and with larger text, in the corner of the gas."""
+        named = ("['key', 'blend'].map((id) => document.getElementById(id))"
+                 ".filter((e) => e.checkVisibility())"
+                 ".map((e) => [e.id, e.textContent.match(/mean of 8 pictures/)?.[0]])")
+        for size, is_large, place in (((1440, 900), False, "key"), ((390, 844), False, "blend"),
+                                      ((844, 390), False, "blend"), ((1440, 900), True, "blend")):
+            self.open(size=size)
+            if is_large:
+                self.value("document.getElementById('larger').click()")
+                self.addCleanup(self.value, "document.getElementById('larger').click()")
+            self.value("laboratory.lab.change({ mode: 'density', isMean: true })")
+            self.browser.wait("laboratory.view.past.length", 8)
+            self.settle()
+            self.assertEqual(self.value(named), [[place, "mean of 8 pictures"]], (size, is_large))
+
+    def test_styles_have_the_same_rules_without_their_spaces(self):
+        """As Chromium reads them. Where a value has a variable, it keeps all spaces between the words."""
+        self.open("8")
+        rules = """.map((text) => { const it = new CSSStyleSheet(); it.replaceSync(text);
+            return [...it.cssRules].map(({ cssText }) => cssText.replace(/("[^"]*")|,?\\s+/g,
+                (space, string) => string ?? (space[0] === "," ? "," : " "))); })"""
+        for name, least in (("page.css", 100), ("print.css", 2)):
+            whole, bare = self.value(json.dumps([read(name), bare_style(read(name))]) + rules)
+            self.assertEqual(bare, whole, name)
+            self.assertGreaterEqual(len(whole), least)
 
     def test_nothing_moves_by_itself_when_motion_is_reduced(self):
         self.browser.reduce_motion(True)

@@ -288,6 +288,19 @@ class Sizes(PageCase):
                 width = self.value("document.documentElement.scrollWidth")
                 self.assertLessEqual(width, size[0], (size, lesson))
 
+    def test_a_plot_that_begins_unseen_fits_its_place(self):
+        """Its curve begins while the lesson is shown in the place of the readings."""
+        self.open("4", size=(390, 844))
+        self.value("document.getElementById('tab-lesson').click(); laboratory.plots.choose(['count'])")
+        self.browser.wait("Boolean(laboratory.plots.graphs.count)", True)
+        self.assertFalse(self.value("document.getElementById('plot-count').checkVisibility()"))
+        self.value("document.getElementById('tab-readings').click()")
+        self.settle()
+        plot, place = self.value("['plot-count', 'plot-list']"
+                                 ".map((id) => document.getElementById(id).clientWidth)")
+        self.assertEqual((plot, self.value("document.documentElement.scrollWidth")), (place, 390))
+        self.assertEqual(self.value("laboratory.plots.graphs.count.size().width"), plot)
+
     def test_what_is_shown_and_time_are_in_reach(self):
         """In lesson 5, which has a density to choose and a slider of ticks."""
         for size in ((1280, 800), (960, 540), (844, 390)):

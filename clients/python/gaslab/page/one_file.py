@@ -51,7 +51,7 @@ def _text(own: dict[str, tuple[str, str]], bundles: dict[str, str], more: str, s
     rules = _RULES.format(scripts=scripts_of + hashes, more=more)
     sheets = read("dygraph.min.css"), _properties(), read("page.css"), read("print.css")
     styles = f'<meta http-equiv="Content-Security-Policy" content="{rules}">\n' + "".join(
-        f"<style>\n{_bare(sheet)}</style>\n" for sheet in sheets)
+        f"<style>\n{bare_style(sheet)}</style>\n" for sheet in sheets)
     parts = [f'<script type="{kind}" id="{key}">{_safe(text, kind)}</script>\n'
              for key, (kind, text) in own.items()]
     parts += [f'<script id="{key}">{_closed(script)}</script>\n' for key, script in scripts.items()]
@@ -144,6 +144,11 @@ def _bare(text: str) -> str:
 def bare_script(text: str) -> str:
     """A script without the comments behind its lines too. A test compares what is left, sign by sign."""
     return re.sub(r"(?<=[;,{}()\[\]+?]) +// .*$", "", _bare(text), flags=re.M)
+
+
+def bare_style(text: str) -> str:
+    """A style without the spaces behind its punctuation too. A test compares what a browser reads."""
+    return re.sub(r"(?<=[;{},])\s+", "", _bare(text))
 
 
 def _hash(script: str) -> str:

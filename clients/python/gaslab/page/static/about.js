@@ -47,7 +47,8 @@ export function help() {
   return [h("h2", T.keys), h("label.switch", single,
     ` ${T.single}`),
   h("div.keys", all.flatMap(({ shown, words }) => [
-    h("span", shown.split(" ").flatMap((key) => [h("kbd", key), " "])), h("span", words)]))];
+    h("span", shown.split(" ").flatMap((key) => [h("kbd", key), " "])), h("span", words)])),
+  h("p.licence", T.licence)];
 }
 
 export function share() {

@@ -1,7 +1,7 @@
 // What is shown: particles, velocities or density, zoom, and the key of colours.
 import { COLOURS, WAYS, ZOOM } from "./facts.js";
 import { TEXTS, told } from "./texts.js";
-import { at, choose, fill, h, rove } from "./elements.js";
+import { at, choose, fill, h, rove, setText } from "./elements.js";
 import { state } from "./state.js";
 import { view } from "./view.js";
 import { plots } from "./plots.js";
@@ -28,6 +28,7 @@ function showKey() {
   const [low, high] = view.shades.map((share) => `${Math.round(share * 100)} %`);
   const entry = (look, text) => h("span", h("i", { style: look }), text);
   const mean = meanOf(mode), hasTracers = view.tracers.length > 0;
+  setText(at("blend"), mean);                          // it stands in the gas where the key has no room
   const name = [mode, hasMarks, hasArrows, low, high, mean, hasTracers, state.arrows].join();
   if (at("key").dataset.name === name) return;
   const marks = [h("span", h("i.ring"), T.collides), h("span", h("i.ring.dashed"), T.bounces)];

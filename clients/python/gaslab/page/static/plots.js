@@ -209,6 +209,7 @@ class Plots {
       legend: names.length > 1 ? "always" : "onmouseover", axisLabelFontSize: font,
       underlayCallback: (c, area, graph) => this.drawNotes(c, area, graph, font) });
     this.graphs[id].kept = kept;
+    Object.assign(box.style, { width: "", height: "" });      // dygraphs gives a size to what isn't seen yet
   }
 
   /** How a column is drawn: runs back are dashed, runs before the present one paler. */
