@@ -8,7 +8,7 @@ use Rattle.gas_terms.specs.Accounts.{total_in, gained, lost, nothing, minus, mov
 use Rattle.gas_terms.proofs.AccountBounds.{size-even, size-width}
 use Rattle.gas_plane.specs.Planes.{IsLattice}
 use Rattle.gas_terms.specs.declared.accounts.Sums.{Sums}
-use Rattle.phase_step.specs.declared.sums.change.Change.{Change}
+use Rattle.phase_step.specs.declared.sums.cell_counts.CellCounts.{CellCounts}
 use Rattle.gas_terms.specs.declared.accounts.Moved.{Moved}
 use Rattle.gas_ledger.specs.PortLists.{PortLists, due_areas, left_by, ported_by}
 use Rattle.gas_plane.specs.Counts.{AreCounts}
@@ -44,7 +44,7 @@ ported_is ports tick cells =
     acted_same (λ x y held. is_left held ports.drains (due_areas tick ports.sources) x y) (left_by ports tick) cells (exchange_leaves ports tick)
 
 -- Counts over a row.
-pub moved_by_row : (tick : ℤ) (cells : Cells) (y : ℕ) (bytes : List ℕ) (change : Change) → IsLattice cells → y < cells.height
+pub moved_by_row : (tick : ℤ) (cells : Cells) (y : ℕ) (bytes : List ℕ) (change : CellCounts) → IsLattice cells → y < cells.height
     → AreCounts change.gained (without (row_replaced cells y bytes) cells) (row_of cells y) → AreCounts change.lost (without cells (row_replaced cells y bytes)) (row_of cells y)
     → moved_by_counts tick change ≡ moved_by tick cells (row_replaced cells y bytes)
 moved_by_row tick cells y bytes change is below came went =

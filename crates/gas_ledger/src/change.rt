@@ -9,10 +9,10 @@ ghost use Rattle.gas_ledger.specs.Gases.{row_of};
 
 use bit_tile::counts_in_row;
 use gas_plane::{Plane, sums, word_of};
-use phase_step::Change;
+use phase_step::CellCounts;
 
 /// What comes in and goes out when the bytes' cells replace row y.
-pub fn row_change(plane: &Plane, y: u32, bytes: &[u8]) -> Change
+pub fn row_change(plane: &Plane, y: u32, bytes: &[u8]) -> CellCounts
     requires y { y < plane.now.height }
     requires bytes { 8 * length bytes.now ≡ plane.now.width }
     ensures lattice { IsLattice plane.now }
@@ -34,5 +34,5 @@ pub fn row_change(plane: &Plane, y: u32, bytes: &[u8]) -> Change
         gained = more;
         lost = less;
     }
-    Change { gained, lost }
+    CellCounts { gained, lost }
 }
