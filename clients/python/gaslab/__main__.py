@@ -8,7 +8,8 @@ from typing import Optional
 
 from . import __version__
 from .cli import options, words
-from .protocol.errors import GaslabError, printable
+from .protocol.errors import GaslabError
+from .protocol.printable import printable
 
 SOURCES, LOOKS = options.GROUPS
 

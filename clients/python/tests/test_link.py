@@ -5,7 +5,8 @@ import threading
 import time
 import unittest
 
-from gaslab.protocol.errors import REFUSALS, Gone, Silent, Strange
+from gaslab.protocol.errors import Gone, Silent, Strange
+from gaslab.protocol.limits import REFUSALS
 from gaslab.protocol.link import Link
 
 from .test_replies import EACH

@@ -130,7 +130,8 @@ class Shells(unittest.TestCase):
 
     def test_limits_stand_beside_refusals(self):
         out, shell = self.done("step 5000; step 0")
-        self.assertEqual(out, 2 * "ERR 6 steps: one command makes 1 to 4,096 steps\n")
+        self.assertEqual(out, "ERR 6 steps: n is 1 to 4,096, and not 5000\n"
+                         "ERR 6 steps: n is 1 to 4,096, and not 0\n")
         self.assertEqual(shell.refusals, 2)
 
     def test_repeat(self):
@@ -158,8 +159,8 @@ class Shells(unittest.TestCase):
 
     def test_words_of_a_command(self):
         out, _ = self.done("put 10 10", "jump")
-        self.assertEqual(out, "ERR 3 count: put takes x y w h\n"
-                         "ERR 2 word: the first word of a line names a command\n")
+        self.assertEqual(out, "ERR 3 count: put takes x y w h, and not 2 words\n"
+                         "ERR 2 word: there is no command jump\n")
 
     def test_shoot_and_trace(self):
         out, _ = self.done("names off; shoot 2 2 1 1; trace 1", "shoot 3 2 1 1", "shoot 1")
@@ -393,7 +394,7 @@ class Words(unittest.TestCase):
     def test_random(self):
         from gaslab import random_gas
         words = ("random", "--width", 128, "--density", 0.2, "--drift", 0.5, "--seed", 9)
-        lines = "".join(line + "\n" for line in random_gas(128, 64, 0.2, (0.5, 0.0), 9))
+        lines = "".join(line + "\n" for line in random_gas(128, 64, 0.2, (0.5, 0.0), 9, 0))
         self.assertEqual(said(*words), (0, lines, ""))
         self.assertEqual(said("random", "--density", 2)[0], 1)
 
@@ -499,8 +500,8 @@ class Words(unittest.TestCase):
     def test_a_refused_script(self):
         status, _, errors = said("draw", self.path("script", "step 0\n"), *PROGRAM)
         self.assertEqual(status, 1)
-        self.assertEqual(errors, "gaslab draw: line 1: ERR 6 steps: one command makes 1 to 4,096 "
-                         "steps; asked: step 0\n")
+        self.assertEqual(errors, "gaslab draw: line 1: ERR 6 steps: n is 1 to 4,096, and not 0; "
+                         "asked: step 0\n")
 
     def test_as_a_module(self):
         done = subprocess.run([sys.executable, "-m", "gaslab", "random", "--seed", "1"],

@@ -5,13 +5,15 @@
 
 A laboratory knows none of these. What comes out of `Script.commands` is one command after another.
 """
+import os
 import re
 import sys
 from collections.abc import Iterable, Iterator
 from typing import Any, NamedTuple, Optional, Union
 
-from .commands import MOST_STEPS, SIDES
+from .commands import COMMANDS, MOST_STEPS, SIDES
 from .doors import PathLike
+from .limits import Size
 from .link import lines_of
 
 _LONGEST = 2 ** 27  # bytes; the longest journal as a script has less
@@ -25,11 +27,11 @@ class Script(NamedTuple):
 
     A part is a line number with a command, or with a count and the parts that are repeated.
     """
-    size: Optional[tuple[int, int]]
+    size: Optional[Size]
     parts: list[Any]
 
     @property
-    def lattice(self) -> tuple[int, int]:
+    def lattice(self) -> Size:
         """The size that it names, or else that its first command probes whole, or else 64 by 64."""
         place = re.fullmatch(r"probe 0 0 (\d+) (\d+)", str(self.parts[0][1])) if self.parts else None
         probed = tuple(map(int, place.groups())) if place else ()
@@ -38,6 +40,26 @@ class Script(NamedTuple):
     def commands(self) -> Iterator[tuple[int, str]]:
         """The commands with their line numbers from 1, with each `repeat` carried out."""
         return _unrolled(self.parts)
+
+
+ScriptLike = Union[str, Iterable[str], "os.PathLike[str]", Script]
+"""A script: a text, its lines, the `Path` of its file, or what `parse_script` returns."""
+
+
+def script_of(given: ScriptLike) -> Script:
+    """The script that a text, its lines or the file of a `Path` is.
+
+    Raises `ValueError`, with the line, if it is none, and `OSError` from the file. A text that is one word
+    and no command is refused too: it is likely the path of a file.
+    """
+    if isinstance(given, Script):
+        return given
+    if isinstance(given, os.PathLike):
+        return parse_script(read_text(given))
+    if isinstance(given, str) and given.split() == [given] and given not in COMMANDS:
+        raise ValueError(f"{given!r} is no command. A text is a script itself, and its file is named by a "
+                         f"Path: Path({given!r})")
+    return parse_script(given)
 
 
 def parse_script(text: Union[str, Iterable[str]]) -> Script:
@@ -50,7 +72,7 @@ def parse_script(text: Union[str, Iterable[str]]) -> Script:
     return Script(size, parts)
 
 
-def journal_script(size: tuple[int, int], commands: Iterable[str], is_after_snapshot: bool = False) -> str:
+def journal_script(size: Size, commands: Iterable[str], is_after_snapshot: bool = False) -> str:
     """The script of a journal, of lines that a laboratory takes: steps that follow one another are joined.
 
     Its first line probes the whole lattice, which tells its size. If the journal began from a snapshot, it
@@ -59,7 +81,7 @@ def journal_script(size: tuple[int, int], commands: Iterable[str], is_after_snap
     return "".join(journal_lines(size, commands, is_after_snapshot))
 
 
-def journal_lines(size: tuple[int, int], commands: Iterable[str],
+def journal_lines(size: Size, commands: Iterable[str],
                   is_after_snapshot: bool = False) -> Iterator[str]:
     """The lines of that script, with their newlines."""
     last = "ledger" if is_after_snapshot else "probe 0 0 {} {}".format(*size)
@@ -90,7 +112,7 @@ def _tokens(text: Union[str, Iterable[str]]) -> Tokens:
     return [(place, word) for place, word in found if word]
 
 
-def _size(place: int, command: str) -> tuple[int, int]:
+def _size(place: int, command: str) -> Size:
     words = command.split(" ")[1:]
     if len(words) != 2 or not set(words) <= set(map(str, SIDES)):
         raise ValueError(f"line {place}: size takes width and height, multiples of 64 from 64 to 4,096")
@@ -135,15 +157,20 @@ def _unrolled(parts: list[Any]) -> Iterator[tuple[int, str]]:
 
 def read_text(path: PathLike) -> str:
     """The text of a file; "-" is standard input. Raises `ValueError` if it is no text."""
-    if path == "-":
-        data = getattr(sys.stdin, "buffer", sys.stdin).read(_LONGEST + 1)
-    else:
-        with open(path, "rb") as file:
-            data = file.read(_LONGEST + 1)
+    data = _data(path)
     if len(data) > _LONGEST:
         raise ValueError(f"{path}: a script has at most {_LONGEST:,} bytes")
     try:
-        return data if isinstance(data, str) else data.decode()
+        return data.decode()
     except UnicodeDecodeError as fault:
         place = data.count(b"\n", 0, fault.start) + 1
         raise ValueError(f"{path}: line {place} is not UTF-8") from None
+
+
+def _data(path: PathLike) -> bytes:
+    if path != "-":
+        with open(path, "rb") as file:
+            return file.read(_LONGEST + 1)
+    stream: Any = getattr(sys.stdin, "buffer", sys.stdin)
+    data: Union[str, bytes] = stream.read(_LONGEST + 1)
+    return data.encode() if isinstance(data, str) else data
