@@ -55,15 +55,6 @@ class Scripts(unittest.TestCase):
         text = "# one\nput 0 0 1 1\n\nrepeat 2 {\n step 1; tally\n}\n"
         self.assertEqual(list(parse_script(text).commands()),
                          [(2, "put 0 0 1 1"), *2 * [(5, "step 1"), (5, "tally")]])
-        self.assertEqual(list(parse_script("put\v1\x85\u2028\n").commands()), [(1, "put 1")])
-
-    def test_the_lattice_that_a_script_asks_for(self):
-        """As `size` says, or a first line that probes a whole lattice; else it has 64 by 64 cells."""
-        for text, lattice in (("probe 0 0 128 192\nput 1 1 1 1", (128, 192)), ("probe 0 0 100 64", (64, 64)),
-                              ("size 192 64\nprobe 0 0 128 64", (192, 64)), ("", (64, 64)),
-                              ("put 0 0 1 1\nprobe 0 0 128 64", (64, 64)),
-                              ("repeat 2 { probe 0 0 128 64 }", (64, 64))):
-            self.assertEqual(parse_script(text).lattice, lattice, text)
 
     def test_sizes(self):
         self.assertEqual(parse_script("# x\n size  128 64 \nput 0 0 1 1"),

@@ -11,13 +11,14 @@ import sys
 from collections.abc import Iterable, Iterator
 from typing import Any, NamedTuple, Optional, Union
 
-from .commands import COMMANDS, MOST_STEPS, SIDES
+from .commands import COMMANDS, MOST_STEPS, RECTANGLES, SIDES
 from .doors import PathLike
 from .limits import Size
 from .link import lines_of
 
 _LONGEST = 2 ** 27  # bytes; the longest journal as a script has less
 _DEEPEST = 20
+_BLANKS = re.compile("[ \t\r\v\f]+")
 
 Tokens = list[tuple[int, str]]
 
@@ -32,10 +33,11 @@ class Script(NamedTuple):
 
     @property
     def lattice(self) -> Size:
-        """The size that it names, or else that its first command probes whole, or else 64 by 64."""
-        place = re.fullmatch(r"probe 0 0 (\d+) (\d+)", str(self.parts[0][1])) if self.parts else None
-        probed = tuple(map(int, place.groups())) if place else ()
-        return self.size or ((probed[0], probed[1]) if probed and set(probed) <= set(SIDES) else (64, 64))
+        """The size that it names, or else the smallest on which all its commands fit.
+
+        A script that the page saved names none: its first command probes the whole lattice.
+        """
+        return self.size or _fitting(self.parts)
 
     def commands(self) -> Iterator[tuple[int, str]]:
         """The commands with their line numbers from 1, with each `repeat` carried out."""
@@ -108,8 +110,27 @@ def _tokens(text: Union[str, Iterable[str]]) -> Tokens:
     found = []
     for place, line in enumerate(lines_of(text) if isinstance(text, str) else text, 1):
         line = line.partition("#")[0].replace("{", ";{;").replace("}", ";};")
-        found += [(place, " ".join(part.split())) for part in line.split(";")]
+        found += [(place, _BLANKS.sub(" ", part).strip(" ")) for part in line.split(";")]
     return [(place, word) for place, word in found if word]
+
+
+def _fitting(parts: list[Any]) -> Size:
+    """The smallest lattice on which all these parts fit."""
+    fits = [_fitting(inner[0]) if inner else _reach(*what.split(" ")) for _, what, *inner in parts]
+    width, height = (max(64, *(-(-it[k] // 64) * 64 for it in fits)) if fits else 64 for k in (0, 1))
+    return min(width, SIDES[-1]), min(height, SIDES[-1])
+
+
+def _reach(word: str, *rest: str) -> Size:
+    """How many columns and rows a command needs."""
+    numbers = [int(text) for text in rest[:4] if re.fullmatch("[0-9]{1,10}", text)]
+    if word in ("row", "read"):
+        cells = 4 * len(rest[1]) if len(rest) > 1 else 0
+        return cells, int(rest[0]) + 1 if rest and re.fullmatch("[0-9]{1,10}", rest[0]) else 0
+    if word in RECTANGLES and len(numbers) == 4:
+        x, y, w, h = numbers
+        return x + w, y + h
+    return 0, 0
 
 
 def _size(place: int, command: str) -> Size:
@@ -128,7 +149,11 @@ def _parts(tokens: Tokens, depth: int) -> list[Any]:
             raise ValueError(f"line {place}: size comes once, before the commands")
         if command == "{" or depth > _DEEPEST:
             raise ValueError(f"line {place}: a {{ comes after `repeat N`, {_DEEPEST} deep at most")
-        parts.append((place, *_repeat(place, rest, tokens, depth)) if word == "repeat" else (place, command))
+        if word == "repeat":
+            count, inner = _repeat(place, rest, tokens, depth)
+            parts += [(place, count, inner)] if count and inner else []
+        else:
+            parts.append((place, command))
     return parts
 
 
@@ -161,7 +186,7 @@ def read_text(path: PathLike) -> str:
     if len(data) > _LONGEST:
         raise ValueError(f"{path}: a script has at most {_LONGEST:,} bytes")
     try:
-        return data.decode()
+        return data.decode("utf-8-sig")
     except UnicodeDecodeError as fault:
         place = data.count(b"\n", 0, fault.start) + 1
         raise ValueError(f"{path}: line {place} is not UTF-8") from None
