@@ -3,13 +3,13 @@
 import { readFileSync } from "node:fs";
 
 const { engine, cases } = JSON.parse(readFileSync(0, "utf8"));
-const { NoScript, commandsOf, countOf, latticeOf, parseScript } = new Function(`${engine}return module_script;`)();
+const { commandsOf, countOf, latticeOf, parseScript } = new Function(`${engine}return module_script;`)();
 process.stdout.write(JSON.stringify(cases.map((text) => {
   try {
     const { size, parts } = parseScript(text);
     return { size, commands: commandsOf(parts), count: countOf(parts), lattice: size ?? latticeOf(parts) };
   } catch (fault) {
-    if (!(fault instanceof NoScript)) throw fault;
-    return { fault: fault.line };
+    if (!fault.cause) throw fault;
+    return { fault: fault.cause };
   }
 })));

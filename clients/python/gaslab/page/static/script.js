@@ -4,28 +4,23 @@ import { COUNTS } from "./engine.js";
 
 const DEEPEST = 20;
 
-/** A text that is no script: a `size` or a `repeat` in this line is wrong. */
-export class NoScript extends Error {
-  constructor(line, what) {
-    super(what);
-    this.line = line;
-  }
-}
+/** A text is no script: a `size` or a `repeat` in this line is wrong. */
+function fail(what, line) { throw new Error(what, { cause: line }); }
 
 /** Commands and braces, each with the number of its line. */
 const tokensOf = (text) => text.split("\n").flatMap((line, k) =>
   line.split("#", 1)[0].replace(/[{}]/g, ";$&;").split(";")
     .map((part) => [k + 1, part.split(/[ \t\r\v\f]+/).filter(Boolean).join(" ")])).filter(([, part]) => part);
 
-/** { size, parts }: a part is [line, command], or [line, count, parts] that are repeated. Throws NoScript. */
+/** { size, parts }: a part is [line, command], or [line, count, parts] that are repeated. It can `fail`. */
 export function parseScript(text) {
   const tokens = tokensOf(text).reverse(), [line, head] = tokens.at(-1) ?? [0, ""];
   const sides = /^size( |$)/.test(head) ? tokens.pop()[1].split(" ").slice(1) : null;
   const size = sides?.map(Number);
   if (sides && !(size.length === 2 && size.every((n, k) => isSide(n) && sides[k] === `${n}`)))
-    throw new NoScript(line, "size");
+    fail("size", line);
   const parts = partsOf(tokens, 0);
-  if (tokens.length) throw new NoScript(tokens.at(-1)[0], "repeat");
+  if (tokens.length) fail("repeat", tokens.at(-1)[0]);
   return { size: size ?? null, parts };
 }
 
@@ -33,12 +28,12 @@ function partsOf(tokens, depth) {
   const parts = [];
   while (tokens.length && tokens.at(-1)[1] !== "}") {
     const [line, command] = tokens.pop(), [word, ...rest] = command.split(" "), isRepeat = word === "repeat";
-    if (word === "size") throw new NoScript(line, word);
+    if (word === "size") fail(word, line);
     if (command === "{" || depth > DEEPEST
       || isRepeat && !(/^[0-9]{1,10}$/.test(rest.join(" ")) && tokens.pop()?.[1] === "{"))
-      throw new NoScript(line, "repeat");
+      fail("repeat", line);
     const part = isRepeat ? [line, Number(rest[0]), partsOf(tokens, depth + 1)] : [line, command];
-    if (isRepeat && !tokens.pop()) throw new NoScript(line, "repeat");
+    if (isRepeat && !tokens.pop()) fail("repeat", line);
     if (countOf([part])) parts.push(part);
   }
   return parts;
