@@ -1,9 +1,11 @@
 """The two ways to a laboratory: a program that is started, and a server that is joined."""
 import os
+import select
 import signal
 import socket
 import subprocess
 import tempfile
+import time
 import weakref
 from contextlib import suppress
 from functools import partial
@@ -50,11 +52,34 @@ class _Child:
                 stream.close()
         if self.maker != os.getpid():
             return  # a fork of the process that started it only lets go of it
+        _await_end(self.process.pid, patience)
         try:
-            self.process.wait(patience)
+            self.process.wait(0)
         except subprocess.TimeoutExpired:
             os.killpg(self.process.pid, signal.SIGKILL)  # it and what it has started
             self.process.wait()
+
+
+def _await_end(pid: int, seconds: float) -> None:
+    """Waits until a child ends, so many seconds at most, and reaps nothing.
+
+    `Popen.wait` looks again after some milliseconds, which is longer than most programs take to end.
+    """
+    try:
+        number = os.pidfd_open(pid)
+    except (AttributeError, OSError):  # a system without it, or a child that was reaped
+        with suppress(ChildProcessError):
+            deadline = time.monotonic() + seconds
+            while not os.waitid(os.P_PID, pid, os.WEXITED | os.WNOHANG | os.WNOWAIT) \
+                    and time.monotonic() < deadline:
+                time.sleep(0.001)
+        return
+    try:
+        ending = select.poll()
+        ending.register(number, select.POLLIN)
+        ending.poll(1000 * seconds)
+    finally:
+        os.close(number)
 
 
 class Program:
