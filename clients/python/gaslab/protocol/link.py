@@ -206,7 +206,8 @@ class Replies(Iterator[Reply]):
             raise RuntimeError("the lines of send() ask the laboratory themselves")
         self._is_filling = True
         try:
-            while len(self._link.unsent) < _WINDOW and len(self._asked) < self._ahead:
+            # one line is asked in any case: a side that answers before it reads leaves no room for more
+            while not self._asked or len(self._link.unsent) < _WINDOW and len(self._asked) < self._ahead:
                 line = next(self._lines, None)
                 if line is None:
                     break

@@ -88,7 +88,6 @@ _NUMBERS: dict[str, tuple[Any, tuple[tuple[int, int], ...]]] = {
     "BYE": (Bye, ())}
 _WORDS: dict[type, str] = {Row: "ROW", Entry: "ENTRY", **{kind: word for word, (kind, _) in _NUMBERS.items()}}
 _NUMBER = re.compile(r"0|-?[1-9][0-9]{0,18}", re.ASCII)
-_ROW = re.compile(r"(?:[0-9a-f]{16}){1,64}")
 _ENTRY = re.compile(r"(0|[1-9][0-9]?) (.*)", re.ASCII)
 
 
@@ -103,7 +102,7 @@ def parse_reply(text: str, asked: str, size: Optional[Size] = None) -> Reply:
     reply: Optional[Reply] = None
     if word in _NUMBERS:
         reply = _numbers(*_NUMBERS[word], text.split(" ")[1:])
-    elif word == "ROW" and _ROW.fullmatch(rest):
+    elif word == "ROW" and _is_row(rest):
         reply = Row(rest)
     elif word == "ENTRY":
         reply = _entry(rest)
@@ -124,6 +123,14 @@ def _numbers(kind: Any, ranges: tuple[tuple[int, int], ...], words: list[str]) -
         return None
     reply: Reply = kind(*numbers)
     return reply
+
+
+def _is_row(digits: str) -> bool:
+    """Whether these are the small hexadecimal digits of a row. To spell them again is the quickest check."""
+    try:
+        return 4 * len(digits) in SIDES and bytes.fromhex(digits).hex() == digits
+    except ValueError:
+        return False
 
 
 def _entry(rest: str) -> Optional[Entry]:
