@@ -477,7 +477,6 @@ class Words(unittest.TestCase):
                       ("show", "/dev/zero"), ("show", self.room), ("show", script),
                       ("draw", script, "-o", "/no/such/folder/it.png"),
                       ("draw", script, "-o", self.room / "it.jpg"),
-                      ("draw", script, "--program", "/no/program"),
                       ("draw", script, "--program", "/bin/false"),
                       ("random", "--density", "nan"), ("random", "--drift", "2"),
                       ("watch", "127.0.0.1", "1"), ("watch", "no.such.host.example", "1"),
@@ -493,6 +492,11 @@ class Words(unittest.TestCase):
         self.assertEqual(status, 1)
         self.assertEqual(errors, "gaslab draw: line 1: ERR 6 steps: n is 1 to 4,096, and not 0; "
                          "asked: step 0\n")
+
+    def test_without_a_program_there_is_a_line_to_paste(self):
+        status, _, errors = said("draw", "--program", "/no/such")
+        self.assertEqual(status, 1)
+        self.assertEqual(errors.splitlines()[1], "    ./gaslab --build && export GASLAB_PROGRAM=$PWD/gaslab")
 
     def test_as_a_module(self):
         done = subprocess.run([sys.executable, "-m", "gaslab", "random", "--seed", "1"],
