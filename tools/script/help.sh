@@ -23,6 +23,7 @@ help_of_script() {
 END_OF_HELP
     cat <<'END_OF_HELP'
   --is-built         Says whether the program is built. Status 0: from these sources, 1: from others, 2: not built
+                     --is-built --path prints where the proved program is, if it is built from these sources
   --install PREFIX   Installs the proved program as PREFIX/bin/gaslab, with its man page, lessons and completions.
                      --install --force PREFIX also replaces files that it did not install, but no folder
   --version          Says the version, the commit and the kit

@@ -118,6 +118,18 @@ tell_state() {
     return $state
 }
 
+# Says whether the program is built. With --path it prints where that is, and says on standard error why there is none.
+is_built_as_asked() {
+    case "$#:${1-}" in
+    0:) tell_state ;;
+    1:--path)
+        if is_built; then tell "$program" && return; fi
+        tell_state >&2
+        ;;
+    *) stop "--is-built takes --path, or nothing" ;;
+    esac
+}
+
 # The version: the first heading of CHANGELOG.md.
 version() { sed -n 's/^## \([0-9][0-9.]*\).*/\1/p' "$here/CHANGELOG.md" | head -n 1; }
 

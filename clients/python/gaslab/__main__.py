@@ -8,7 +8,8 @@ from typing import Optional
 
 from . import __version__
 from .cli import options, words
-from .protocol.errors import GaslabError, printable
+from .protocol.errors import GaslabError, Unreachable
+from .protocol.printable import printable
 
 SOURCES, LOOKS = options.GROUPS
 
@@ -87,7 +88,10 @@ def main(arguments: Optional[Sequence[str]] = None) -> int:
         os.dup2(os.open(os.devnull, os.O_WRONLY), sys.stdout.fileno())
         return 1
     except (GaslabError, OSError, ValueError, MemoryError) as fault:
-        print(f"gaslab {asked.word}: {printable(str(fault)) or type(fault).__name__}", file=sys.stderr)
+        # (a program that can't be reached has a line to paste in what it says)
+        lines = str(fault).split("\n") if isinstance(fault, Unreachable) else [str(fault)]
+        told = "\n".join(map(printable, lines)) or type(fault).__name__
+        print(f"gaslab {asked.word}: {told}", file=sys.stderr)
         return 1
     except KeyboardInterrupt:
         return 130

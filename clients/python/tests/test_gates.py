@@ -1,7 +1,7 @@
 """What builders of gates use: shoot, trace, truth tables, and scripts that are moved."""
 import unittest
 
-from gaslab import Ok, Refused, place, truth_table
+from gaslab import Ok, Refused, place, shoot, trace, truth_table
 from gaslab.measure.tables import columns_of
 
 from .stand_in import channel_gas
@@ -24,9 +24,9 @@ class Shooting(unittest.TestCase):
                         if wait:
                             lab.step(wait)
                         x, y = (20 + ((v == 1) != (wait % 2 == 0)) for v in (vx, vy))
-                        self.assertEqual(lab.shoot(x, y, vx, vy), Ok(wait))
+                        self.assertEqual(shoot(lab, x, y, vx, vy), Ok(wait))
                         lab.step(3)
-                        found = rows_of(lab.trace(0))
+                        found = rows_of(trace(lab, 0))
                         self.assertEqual(found, [(wait + 3, x + 3 * vx, y + 3 * vy, vx, vy)])
 
     def test_the_second_implementation_agrees(self):
@@ -34,9 +34,9 @@ class Shooting(unittest.TestCase):
         with run() as lab:
             for x, y in ((0, 0), (1, 0), (0, 1), (63, 63), (62, 63)):
                 vx, vy = gas.velocity((x, y), 0)
-                lab.shoot(x, y, vx, vy)
-                self.assertRaises(ValueError, lab.shoot, x, y, -vx, vy)
-                self.assertRaises(ValueError, lab.shoot, x, y, vx, -vy)
+                shoot(lab, x, y, vx, vy)
+                self.assertRaises(ValueError, shoot, lab, x, y, -vx, vy)
+                self.assertRaises(ValueError, shoot, lab, x, y, vx, -vy)
 
     def test_why_it_can_not(self):
         with run() as lab:
@@ -48,11 +48,11 @@ class Shooting(unittest.TestCase):
                      r"with \(1, 1\) can start in \(4, 4\)"),
                     ((63, 63, 1, 1), r"can start in \(62, 62\)"),
                     ((2, 2, 0, 1), "vx and vy are 1 or -1"), ((2, 2, 1, 2), "vx and vy are 1 or"),
-                    ((64, 2, 1, 1), "outside the gas of 64 by 64"), ((2, -2, 1, 1), "outside"),
+                    ((64, 2, 1, 1), "x is 0 to 63, and not 64"), ((2, -2, 1, 1), "y is 0 to 63, and not -2"),
                     ((4, 4, 1, 1), "is a wall or an obstacle"), ((6, 6, 1, 1), "is a wall or an"),
                     ((8, 8, 1, 1), "holds a particle already")):
                 with self.assertRaisesRegex(ValueError, why):
-                    lab.shoot(*call)
+                    shoot(lab, *call)
             self.assertEqual(len(lab.journal()), 3)
 
 
@@ -61,7 +61,7 @@ class Tracing(unittest.TestCase):
         """Lesson 3: they meet at tick 5 in (15, 15) and (16, 16), and turn by a quarter."""
         with run() as lab:
             lab.do("put 10 10 1 1\nput 21 21 1 1")
-            table = lab.trace(11)
+            table = trace(lab, 11)
         self.assertEqual(columns_of(table), ["tick", "x", "y", "vx", "vy"])
         found = {}
         for tick, x, y, vx, vy in rows_of(table):
@@ -84,13 +84,13 @@ class Tracing(unittest.TestCase):
         with run() as lab:
             lab.do(["wall 0 20 64 1", "put 3 3 1 1", "put 10 8 1 1", "put 30 31 1 1",
                     "put 41 5 1 1", "put 63 0 1 1"])
-            self.assertEqual(rows_of(lab.trace(30)), wanted)
-            self.assertEqual(rows_of(lab.trace(-30))[-5:], wanted[:5])
+            self.assertEqual(rows_of(trace(lab, 30)), wanted)
+            self.assertEqual(rows_of(trace(lab, -30))[-5:], wanted[:5])
 
     def test_too_many(self):
         with run() as lab:
             lab.put(0, 0, 13, 5)
-            self.assertRaisesRegex(ValueError, "at most 64 particles, and there are 65", lab.trace, 3)
+            self.assertRaisesRegex(ValueError, "at most 64 particles, and there are 65", trace, lab, 3)
             self.assertEqual(lab.tally().tick, 0)
 
 

@@ -5,8 +5,10 @@ import threading
 import time
 import unittest
 
-from gaslab.protocol.errors import REFUSALS, Gone, Silent, Strange
-from gaslab.protocol.link import Link
+from gaslab.protocol.errors import Gone, Silent, Strange
+from gaslab.protocol.limits import REFUSALS
+from gaslab.protocol.link import Link, Replies, Turn
+from gaslab.protocol.replies import Tally
 
 from .test_replies import EACH
 
@@ -137,7 +139,26 @@ class OtherSides(unittest.TestCase):
                 pair.link.next_line()
 
 
+class Door:
+    """A way to a laboratory by such a link."""
+    name = "there"
+
+    def __init__(self, link):
+        self.link = link
+
+
 class ManyLines(unittest.TestCase):
+    def test_a_side_that_answers_before_it_reads(self):
+        """It has read nothing of what was sent, so there is room for one line alone at a time."""
+        with Pair() as pair:
+            for _ in range(500):
+                pair.link.push("x" * 2000)
+            pair.link.flush()
+            self.assertGreater(len(pair.link.unsent), 65536)
+            pair.other.sendall(b"TALLY 0 0 0 0\n" * 3)
+            found = list(Replies(Door(pair.link), ["tally"] * 3, Turn()))
+            self.assertEqual(found, [Tally(0, 0, 0, 0)] * 3)
+
     def test_neither_side_waits_for_good(self):
         """The other side reads nothing while it cannot write, as a program of one thread does."""
         count, line, reply = 20000, "row 0 " + "0" * 1024, b"ROW " + b"0" * 1024 + b"\n"

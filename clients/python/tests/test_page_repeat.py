@@ -6,7 +6,7 @@ import math
 import statistics
 import unittest
 
-from gaslab import random_gas
+from gaslab import every, random_gas
 
 from .firefox import FIREFOX, Firefox
 from .page_case import PageCase
@@ -25,7 +25,7 @@ def rows_of(lines, density, drift, seed, steps, times):
     with run(width=64, height=64) as lab:
         lab.do(random_gas(64, 64, density, drift, seed))
         lab.do([f"erase {line.split(' ', 1)[1]}" for line in SOLID] + lines)
-        table = lab.every(steps, times, probes={"it": PROBE}, columns=columns)
+        table = every(lab, steps, times, probes={"it": PROBE}, columns=columns)
     found = [[float(table[name][n]) for name in columns] for n in range(times)]
     return [[*row[:3], row[3] / steps, *row[4:]] for row in found]
 

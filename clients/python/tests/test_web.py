@@ -203,7 +203,7 @@ class Pages(Served):
         """The pages are closed, and the server ends with what happened."""
         page = await self.join()
         self.assertEqual(await self.ask(page, "tally"), "TALLY 0 0 0 0")
-        self.web.hall.laboratory.lab._door._process.kill()
+        self.web.hall.laboratory.lab._session.door.process.kill()
         await page.send_str("2 tally")
         self.assertEqual(await self.end_of(page), 1001)
         with self.assertRaises(Gone):
@@ -212,7 +212,7 @@ class Pages(Served):
     async def test_an_idle_page_hears_of_a_program_that_died(self):
         page = await self.join()
         self.assertEqual(await self.ask(page, "tally"), "TALLY 0 0 0 0")
-        self.web.hall.laboratory.lab._door._process.kill()
+        self.web.hall.laboratory.lab._session.door.process.kill()
         self.assertEqual(await asyncio.wait_for(self.end_of(page), 10), 1001)
         with self.assertRaises(Gone):
             await self.task

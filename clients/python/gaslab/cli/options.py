@@ -148,7 +148,8 @@ def lab_of(asked: argparse.Namespace) -> Iterator[Lab]:
         script = until_quit(parse_script(read_text(asked.file)))
     if asked.join:
         start = Snapshot.read(load) if load else None
-        lab = Lab.join(*asked.join, timeout=asked.timeout, start=start)
+        host, port = asked.join
+        lab = Lab.join(host, port, asked.timeout, start)
     else:
         width, height = script.lattice
         lab = Lab.run(asked.width or width, asked.height or height, asked.workers, asked.cap, load,

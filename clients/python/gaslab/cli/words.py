@@ -5,25 +5,27 @@ import re
 import shutil
 import sys
 import time
-from collections.abc import Iterator
+from collections.abc import Iterator, Sequence
 from contextlib import nullcontext
 from typing import Optional, Union
 
 import numpy
 
 from ..lab.lab import Lab
-from ..measure.measuring import every, profile, random_gas, sums_of
+from ..measure.measuring import every, profile, sums_of
 from ..measure.tables import chart, csv_text
 from ..page.hall import Hall
 from ..page.laboratory import Laboratory, Means
 from ..page.one_file import one_file
 from ..pictures.drawing import film, picture
 from ..pictures.text import text_picture
-from ..protocol.doors import find_program
-from ..protocol.errors import Gone, Moving, Silent, Strange, Unreachable, printable
+from ..protocol.errors import Gone, Moving, Silent, Strange, Unreachable
+from ..protocol.printable import printable
+from ..protocol.programs import find_program
 from ..protocol.replies import Row, parse_reply, show_cells
 from ..protocol.scripts import Script, parse_script, read_text
 from ..snapshot.files import Snapshot
+from ..snapshot.gases import random_gas
 from ..snapshot.rectangles import cover
 from .options import gas_of, is_snapshot, lab_of, until_quit
 from .serving import serve
@@ -85,7 +87,7 @@ def profile_word(asked: argparse.Namespace) -> None:
 def random_word(asked: argparse.Namespace) -> None:
     """The lines of a random gas."""
     drift = (asked.drift, asked.drift_down)
-    for line in random_gas(asked.width, asked.height, asked.density, drift, asked.seed):
+    for line in random_gas(asked.width, asked.height, asked.density, drift, asked.seed, tick=0):
         print(line)
 
 
@@ -97,9 +99,11 @@ def show(asked: argparse.Namespace) -> None:
         print(f"# {gas.count} particles, {numpy.count_nonzero(gas.walls)} wall cells, "
               f"{numpy.count_nonzero(gas.obstacles)} obstacle cells")
         print(f"# {len(gas.sources)} sources, {len(gas.drains)} drains")
-    for word, areas in (("wall", cover(gas.walls, gas.walls)), ("block", cover(gas.obstacles, gas.obstacles)),
-                        ("source", gas.sources), ("drain", gas.drains)):
-        for area in areas:
+    areas: dict[str, Sequence[tuple[int, ...]]] = {
+        "wall": cover(gas.walls, gas.walls), "block": cover(gas.obstacles, gas.obstacles),
+        "source": gas.sources, "drain": gas.drains}
+    for word, rectangles in areas.items():
+        for area in rectangles:
             print(word, *area)
 
 

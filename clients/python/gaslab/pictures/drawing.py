@@ -2,20 +2,21 @@
 import io
 import os
 from collections.abc import Sequence
-from typing import Any, Optional, Union
+from typing import Any, Optional, SupportsIndex
 
 import numpy
 
+from ..lab.gas import Gas, as_snapshot
 from ..lab.lab import Lab
 from ..protocol.doors import PathLike
 from ..protocol.errors import library
-from ..snapshot.cells import as_cells, plane_of
+from ..protocol.numbers import whole
 from ..snapshot.files import Snapshot, draft
 from . import palette
-from .pixels import cell_pixels, check_looks, density_pixels, outlined, scaled
+from .pixels import Pixels, cell_pixels, check_looks, density_pixels, outlined, scaled
 
-Gas = Union[Lab, Snapshot, Sequence[Sequence[object]], Any]
-"""What can be drawn: a laboratory, a snapshot, or truth values of shape (height, width)."""
+Image = Any
+"""An image of Pillow, `PIL.Image.Image`."""
 
 _LONGER = 600  # pixels of the longer side, more or less, if no scale is given
 _MOST = 16384  # pixels a side
@@ -25,18 +26,9 @@ _PICTURES = {".png": "PNG", ".gif": "GIF"}
 _FILMS = {".png": "PNG", ".apng": "PNG", ".gif": "GIF"}
 
 
-def as_snapshot(gas: Gas, tick: int = 0) -> Snapshot:
-    """The gas as a snapshot. Bare truth values are particles at `tick`, without walls."""
-    if isinstance(gas, Snapshot):
-        return gas
-    if isinstance(gas, Lab):
-        return gas.look()
-    cells = as_cells(gas)
-    return Snapshot(cells.shape[1], cells.shape[0], tick, particle_bytes=plane_of(cells))
-
-
-def picture(gas: Gas, path: Optional[PathLike] = None, scale: Optional[int] = None,
-            mean: Optional[int] = None, colour: str = "kind", tick: int = 0) -> Any:
+def picture(gas: Gas, path: Optional[PathLike] = None, scale: Optional[SupportsIndex] = None,
+            mean: Optional[SupportsIndex] = None, colour: str = "kind",
+            tick: Optional[SupportsIndex] = None) -> Image:
     """A picture of a gas, as an image of Pillow, which a notebook shows.
 
     With `path` it is also written to that file, a PNG or a GIF by its ending. Each cell is a square of
@@ -44,27 +36,28 @@ def picture(gas: Gas, path: Optional[PathLike] = None, scale: Optional[int] = No
     obstacles, sources and drains have a colour each (`palette.CELLS`). With `colour="velocity"` a particle
     has the colour of its direction. With `mean=8` each square of 8 by 8 cells is one such square of pixels,
     and its shade is the density there, in particles a cell; a bar below shows the shades, and lines go round
-    walls, obstacles and ports. `tick` is for bare truth values, which have none. Raises `ValueError` for
-    other values or another ending.
+    walls, obstacles and ports. `tick` is that of bare cells, which need it for the colours of velocities.
+    Raises `ValueError` for other values or another ending.
     """
     kind = _kind(path, _PICTURES, "a picture") if path is not None else ""
-    image = _drawn(as_snapshot(gas, tick), scale, mean, colour)
+    image = _drawn(as_snapshot(gas, tick, colour == "velocity"), scale, mean, colour)
     if path is not None:
         with draft(path) as file:
             image.save(file, kind)
     return image
 
 
-def picture_bytes(gas: Gas, scale: Optional[int] = None, mean: Optional[int] = None,
-                  colour: str = "kind", tick: int = 0) -> bytes:
+def picture_bytes(gas: Gas, scale: Optional[SupportsIndex] = None, mean: Optional[SupportsIndex] = None,
+                  colour: str = "kind", tick: Optional[SupportsIndex] = None) -> bytes:
     """The PNG file of `picture` as bytes."""
     data = io.BytesIO()
     picture(gas, None, scale, mean, colour, tick).save(data, "PNG")
     return data.getvalue()
 
 
-def film(lab: Lab, path: PathLike, steps: int, frames: int, scale: Optional[int] = None,
-         mean: Optional[int] = None, colour: str = "kind", milliseconds: int = 100) -> None:
+def film(lab: Lab, path: PathLike, steps: SupportsIndex, frames: SupportsIndex,
+         scale: Optional[SupportsIndex] = None, mean: Optional[SupportsIndex] = None, colour: str = "kind",
+         milliseconds: SupportsIndex = 100) -> None:
     """Writes a film of `frames` frames that repeats, with `steps` steps between two of them.
 
     It is a GIF if the path ends in .gif, and an animated PNG if it ends in .png or .apng. The first frame is
@@ -74,15 +67,15 @@ def film(lab: Lab, path: PathLike, steps: int, frames: int, scale: Optional[int]
     values or another ending, before the first step.
     """
     kind = _kind(path, _FILMS, "a film")
-    if frames < 1 or not 1 <= milliseconds <= 65535:
-        raise ValueError("a film has at least one frame, each of 1 to 65,535 milliseconds")
+    number, pause = whole("frames", frames, 1, 10 ** 9), whole("milliseconds", milliseconds, 1, 65535)
+    between = whole("steps", steps, -2 ** 41, 2 ** 41)
     drawn = [_drawn(lab.look(), scale, mean, colour)]
-    for _ in range(frames - 1):
-        lab.advance(steps)
+    for _ in range(number - 1):
+        lab.advance(between)
         drawn.append(_drawn(lab.look(), scale, mean, colour))
     with draft(path) as file:
         drawn[0].save(file, kind, save_all=True, append_images=drawn[1:],
-                      duration=frames * [milliseconds], loop=0)
+                      duration=number * [pause], loop=0)
 
 
 def _kind(path: PathLike, kinds: dict[str, str], what: str) -> str:
@@ -92,29 +85,28 @@ def _kind(path: PathLike, kinds: dict[str, str], what: str) -> str:
     return kinds[ending]
 
 
-def _drawn(gas: Snapshot, scale: Optional[int], mean: Optional[int], colour: str) -> Any:
+def _drawn(gas: Snapshot, scale: Optional[SupportsIndex], mean: Optional[SupportsIndex],
+           colour: str) -> Image:
     """The picture as an image with a palette."""
-    check_looks(gas, mean, colour)
-    if scale is None:
-        scale = min(64, max(1, round(_LONGER * (mean or 1) / max(gas.width, gas.height))))
-    if not 1 <= scale <= 64:
-        raise ValueError(f"scale is from 1 to 64: not {scale}")
-    if scale * max(gas.width, gas.height) // (mean or 1) > _MOST:
-        raise ValueError(f"a picture has at most {_MOST:,} pixels a side: scale {scale} is more")
-    if mean is None:
-        return _image(scaled(cell_pixels(gas, colour), scale), palette.CELLS)
-    pixels = outlined(gas, scaled(density_pixels(gas, mean, solids=False), scale))
+    square = check_looks(gas, mean, colour)
+    longer = max(gas.width, gas.height) // (square or 1)
+    side = whole("scale", min(64, max(1, round(_LONGER / longer))) if scale is None else scale, 1, 64)
+    if side * longer > _MOST:
+        raise ValueError(f"a picture has at most {_MOST:,} pixels a side: scale {side} is more")
+    if square is None:
+        return _image(scaled(cell_pixels(gas, colour), side), palette.CELLS)
+    pixels = outlined(gas, scaled(density_pixels(gas, square, solids=False), side))
     return _with_bar(_image(pixels, palette.DENSITIES))
 
 
-def _image(pixels: Any, colours: Sequence[palette.Colour]) -> Any:
+def _image(pixels: Pixels, colours: Sequence[palette.Colour]) -> Image:
     image = library("PIL.Image").fromarray(pixels, "P")
     # of 256 colours, since Pillow can't write an animated PNG of fewer
     image.putpalette(numpy.array(colours, numpy.uint8).tobytes().ljust(768, b"\0"))
     return image
 
 
-def _with_bar(image: Any) -> Any:
+def _with_bar(image: Image) -> Image:
     """A density picture with the bar of its shades below."""
     width = max(image.width, _NARROWEST)
     whole = numpy.full((image.height + 2 * _BAR + 12, width), palette.EMPTY, numpy.uint8)

@@ -4,12 +4,14 @@ Many lines are sent while their replies are read, so neither side waits for good
 """
 import os
 import select
+import threading
 import time
 from collections import deque
 from collections.abc import Callable, Iterable, Iterator
-from typing import Optional, Union
+from typing import Optional, Protocol, Union
 
 from .errors import Gone, Refused, Silent, Strange
+from .limits import Size
 from .replies import Bye, Reply, parse_reply
 
 LINE_LIMIT = 2048
@@ -17,6 +19,20 @@ LINE_LIMIT = 2048
 _CHUNK = 65536
 _WINDOW = 65536  # bytes that wait to be written
 _MOST_ASKED = 16384  # lines that wait for their replies
+
+
+class Turn:
+    """One thread's turn, in a `with` statement. Another thread that comes meanwhile gets `RuntimeError`."""
+    def __init__(self) -> None:
+        self._lock = threading.RLock()
+
+    def __enter__(self) -> None:
+        if not self._lock.acquire(blocking=False):
+            raise RuntimeError("a Lab is for one thread at a time, and another thread is asking this one: "
+                               "start a Lab in each thread, or ask it while you hold a threading.Lock")
+
+    def __exit__(self, *_: object) -> None:
+        self._lock.release()
 
 
 class Link:
@@ -114,16 +130,29 @@ def lines_of(text: str) -> list[str]:
     return lines if lines[-1] else lines[:-1]
 
 
+class Door(Protocol):
+    """A way to a laboratory. What it has started ends when nobody holds it any more."""
+    name: str
+    link: Link
+
+    def close(self, polite: bool = True) -> None:
+        """Ends it. Without `polite` nothing is waited for."""
+
+
 class Replies(Iterator[Reply]):
     """The replies to lines that are being sent, in order.
 
     A refusal is a `Refused` among the replies and is not raised. Lines are taken from the iterable as they
-    are needed, and sent ahead of the replies. If the laboratory is asked something else in between, the rest
-    is sent first, and its replies are kept here.
+    are needed, and sent ahead of the replies, `ahead` of them at most. If the laboratory is asked something
+    else in between, the rest is sent first, and its replies are kept here. `size` is the lattice's, for what
+    refusals say. `turn` is held while something is sent or read.
     """
-    def __init__(self, link: Link, lines: Union[str, Iterable[str]]) -> None:
-        self._link = link
+    def __init__(self, door: Door, lines: Union[str, Iterable[str]], turn: Turn, size: Optional[Size] = None,
+                 ahead: int = _MOST_ASKED) -> None:
+        self._door = door  # which lasts as long as this
+        self._link, self._turn, self._size = door.link, turn, size
         self._lines = iter(lines_of(lines) if isinstance(lines, str) else lines)
+        self._ahead = min(ahead, _MOST_ASKED)
         self._asked: deque[str] = deque()
         self._kept: deque[Reply] = deque()
         self._is_filling = False
@@ -137,14 +166,19 @@ class Replies(Iterator[Reply]):
     def __next__(self) -> Reply:
         if self._kept:
             return self._kept.popleft()
-        reply = self._take()
+        with self._turn:
+            reply = self._take()
         if reply is None:
             raise StopIteration
         return reply
 
+    def stop(self) -> None:
+        """Takes no more lines. Those that were sent are still answered."""
+        self._lines = iter(())
+
     def finish(self) -> None:
         """Sends the rest, and keeps the replies for later."""
-        for reply in iter(self._take, None):
+        while (reply := self._take()) is not None:
             self._kept.append(reply)
 
     def _take(self) -> Optional[Reply]:
@@ -159,7 +193,7 @@ class Replies(Iterator[Reply]):
         except Gone as fault:
             self.has_ended = True
             raise Gone(f"{fault}; {len(self._asked)} lines have no answer") from fault
-        reply = parse_reply(text, self._asked.popleft())
+        reply = parse_reply(text, self._asked.popleft(), self._size)
         # after these the session is over: what else was sent is lost
         self.has_ended = isinstance(reply, Bye) or isinstance(reply, Refused) and reply.number == 1
         if self.has_ended and self._asked:
@@ -172,7 +206,8 @@ class Replies(Iterator[Reply]):
             raise RuntimeError("the lines of send() ask the laboratory themselves")
         self._is_filling = True
         try:
-            while len(self._link.unsent) < _WINDOW and len(self._asked) < _MOST_ASKED:
+            # one line is asked in any case: a side that answers before it reads leaves no room for more
+            while not self._asked or len(self._link.unsent) < _WINDOW and len(self._asked) < self._ahead:
                 line = next(self._lines, None)
                 if line is None:
                     break
