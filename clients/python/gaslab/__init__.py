@@ -5,6 +5,7 @@ what it finds. It proves nothing: what is proved is the program that it talks to
 """
 from .protocol.errors import (GaslabError, Gone, LIMITS, MissingLibrary, Moving, REFUSALS, Refused, Silent,
                               Strange, Unreachable)
+from .protocol.places import lesson
 from .protocol.replies import (Bye, Entry, Ledger, Ok, Probe, Reply, Row, Saved, Tally, named, parse_reply,
                                reply_text)
 from .snapshot.files import (Drain, MagicFault, PortFault, ShortFault, SizeFault, Snapshot, SnapshotFault,
@@ -23,7 +24,7 @@ __all__ = [
     "Bye", "Drain", "Entry", "Fields", "GaslabError", "Gone", "LIMITS", "Lab", "Ledger", "MagicFault",
     "MissingLibrary", "Moving", "Ok", "PortFault", "Probe", "REFUSALS", "Refused", "Reply", "Row", "Saved",
     "ShortFault", "Silent", "SizeFault", "Snapshot", "SnapshotFault", "Source", "Strange", "Tally",
-    "TickFault", "TrailingFault", "Unreachable", "Wave", "chart", "csv_text", "every", "film", "named",
-    "palette", "parse_reply", "picture", "picture_bytes", "place", "profile", "random_gas", "reply_text",
-    "text_picture", "truth_table", "velocity", "wave",
+    "TickFault", "TrailingFault", "Unreachable", "Wave", "chart", "csv_text", "every", "film", "lesson",
+    "named", "palette", "parse_reply", "picture", "picture_bytes", "place", "profile", "random_gas",
+    "reply_text", "text_picture", "truth_table", "velocity", "wave",
 ]
