@@ -11,6 +11,7 @@ from typing import Any, Optional, Union
 
 from .errors import Unreachable, printable
 from .link import Link
+from .places import WHEEL_PROGRAM
 
 PathLike = Union[str, "os.PathLike[str]"]
 
@@ -21,14 +22,13 @@ _BUILT = {0: "", 1: "was built from other sources", 2: "is not built"}
 
 
 def find_program(program: Optional[PathLike] = None) -> Path:
-    """The program to start: `program`, or what GASLAB_PROGRAM names, or a script `gaslab`.
+    """The program to start: `program`, or what GASLAB_PROGRAM names, or else the first that is found.
 
-    The script is the one of the repository that this package is in, or else the one on the PATH. Raises
-    `Unreachable` if there is none, or if a repository's program is not built from its sources as they are.
+    That is the program of the wheel that this package came in, or else the script `gaslab` of the repository
+    that this package is in, or else the `gaslab` on the PATH. Raises `Unreachable` if there is none, or if a
+    repository's program is not built from its sources as they are.
     """
-    own = _ROOT / "gaslab"
-    named = program if program is not None else os.environ.get("GASLAB_PROGRAM") or (
-        own if own.is_file() else shutil.which("gaslab"))
+    named = program if program is not None else os.environ.get("GASLAB_PROGRAM") or _found()
     if named is None:
         raise Unreachable("no program to start: set GASLAB_PROGRAM to gaslab's program, or give "
                           "program= (--program); a clone makes it by ./gaslab --build")
@@ -38,6 +38,13 @@ def find_program(program: Optional[PathLike] = None) -> Path:
     if is_script(path):
         _check_built(path)
     return path
+
+
+def _found() -> Optional[PathLike]:
+    for own in (WHEEL_PROGRAM, _ROOT / "gaslab"):
+        if own.is_file():
+            return own
+    return shutil.which("gaslab")
 
 
 def is_script(path: PathLike) -> bool:
