@@ -7,6 +7,7 @@ from ..protocol.doors import PathLike, Program, Server, find_program
 from ..snapshot.cells import check_sides
 from ..snapshot.files import Snapshot
 from .gates import Gates
+from .progress import Progress
 
 
 class Lab(Gates):
@@ -63,10 +64,10 @@ class Lab(Gates):
 
     def every(self, steps: int, times: int, ledger: bool = True,
               probes: Optional[Mapping[str, tuple[int, int, int, int]]] = None,
-              columns: Optional[Sequence[str]] = None) -> Any:
+              columns: Optional[Sequence[str]] = None, progress: Progress = None) -> Any:
         """Measures `times` times, each time after `steps` more steps: see `gaslab.every`."""
         from ..measure.measuring import every
-        return every(self, steps, times, ledger, probes, columns)
+        return every(self, steps, times, ledger, probes, columns, progress)
 
     def velocity(self, mean: int = 8) -> Any:
         """Density and both momentum densities in squares of cells: see `gaslab.velocity`."""

@@ -14,6 +14,7 @@ from ..protocol.link import Replies, lines_of
 from ..protocol.replies import Bye, Entry, Ledger, Ok, Probe, Reply, Row, Saved, Tally
 from ..protocol.scripts import Script, parse_script, read_text
 from ..snapshot.cells import plane_of
+from .progress import Progress, Told
 
 _LAST_WAIT = 5.0  # seconds
 
@@ -180,15 +181,16 @@ class Session:
         return self._expect(Ok, f"row {operator.index(y)} {cells}")
 
     def advance(self, steps: int, each: int = MOST_STEPS,
-                progress: Callable[[int, int], None] = lambda done, steps: None) -> None:
+                progress: Progress = None) -> None:
         """Makes any number of steps, backwards if it is negative, `each` in a command.
 
-        `progress` is called after each command with how many steps are done, and how many there are in all.
+        `progress` is told after each command how many steps are done, and how many there are in all.
         """
         move = self.step if steps >= 0 else self.back
         done, total = 0, abs(operator.index(steps))
-        while done < total:
-            part = min(each, total - done)
-            move(part)
-            done += part
-            progress(done, total)
+        with Told("steps", total, progress) as tell:
+            while done < total:
+                part = min(each, total - done)
+                move(part)
+                done += part
+                tell(done)

@@ -5,6 +5,7 @@ from typing import Any, NamedTuple, Optional, Union
 import numpy
 
 from ..lab.lab import Lab
+from ..lab.progress import Progress, Told
 from ..pictures.drawing import Gas, as_snapshot
 from ..pictures.pixels import check_looks, counts_of
 from ..protocol.replies import Ledger, Tally
@@ -15,15 +16,16 @@ from .tables import table_of
 
 
 def every(lab: Lab, steps: int, times: int, ledger: bool = True,
-          probes: Optional[Mapping[str, Rectangle]] = None, columns: Optional[Sequence[str]] = None) -> Any:
+          probes: Optional[Mapping[str, Rectangle]] = None, columns: Optional[Sequence[str]] = None,
+          progress: Progress = None) -> Any:
     """Measures `times` times, each time after `steps` more steps (backwards if negative).
 
     The columns are the tick; the count and the momentum `px`, `py` of the whole gas; with `ledger` its
     thirteen accounts; and for each of `probes`, a name with a rectangle (x, y, w, h), its `name_count`,
     `name_px` and `name_py`. Then comes the difference of each of these to the row before, or for the first
     row to the start, as `d_` and the name. So `d_obstacles_x` is the drag times `steps`, and `d_injected` and
-    `d_drained` are the flux in and out. `columns` names those that are wanted, in their order. Raises
-    `ValueError` for an unknown one, before the first step.
+    `d_drained` are the flux in and out. `columns` names those that are wanted, in their order. `progress` is
+    told how many rows are done. Raises `ValueError` for an unknown column, before the first step.
 
     The table is a DataFrame if pandas is installed, and else an array of numpy records.
     """
@@ -35,12 +37,14 @@ def every(lab: Lab, steps: int, times: int, ledger: bool = True,
         if name not in names:
             raise ValueError(f"no column {name}: there are {', '.join(names)}")
     before, rows = _measured(lab, ledger, areas), []
-    for _ in range(times):
-        lab.advance(steps)
-        now = _measured(lab, ledger, areas)
-        row = dict(zip(names, [*now, *(a - b for a, b in zip(now[1:], before[1:]))]))
-        rows.append([row[name] for name in columns or names])
-        before = now
+    with Told("every", times, progress) as tell:
+        for done in range(1, times + 1):
+            lab.advance(steps)
+            now = _measured(lab, ledger, areas)
+            row = dict(zip(names, [*now, *(a - b for a, b in zip(now[1:], before[1:]))]))
+            rows.append([row[name] for name in columns or names])
+            before = now
+            tell(done)
     return table_of(columns or names, rows)
 
 
