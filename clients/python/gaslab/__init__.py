@@ -12,6 +12,7 @@ from .snapshot.files import (Drain, MagicFault, PortFault, ShortFault, SizeFault
                              Source, TickFault, TrailingFault)
 from .lab.gates import place, truth_table
 from .lab.lab import Lab
+from .measure.flows import Flow, flow
 from .measure.measuring import Fields, Wave, every, profile, random_gas, velocity, wave
 from .measure.tables import chart, csv_text
 from .pictures import palette
@@ -21,10 +22,10 @@ from .pictures.text import text_picture
 __version__ = "1.0.0"
 
 __all__ = [
-    "Bye", "Drain", "Entry", "Fields", "GaslabError", "Gone", "LIMITS", "Lab", "Ledger", "MagicFault",
-    "MissingLibrary", "Moving", "Ok", "PortFault", "Probe", "REFUSALS", "Refused", "Reply", "Row", "Saved",
-    "ShortFault", "Silent", "SizeFault", "Snapshot", "SnapshotFault", "Source", "Strange", "Tally",
-    "TickFault", "TrailingFault", "Unreachable", "Wave", "chart", "csv_text", "every", "film", "lesson",
-    "named", "palette", "parse_reply", "picture", "picture_bytes", "place", "profile", "random_gas",
-    "reply_text", "text_picture", "truth_table", "velocity", "wave",
+    "Bye", "Drain", "Entry", "Fields", "Flow", "GaslabError", "Gone", "LIMITS", "Lab", "Ledger",
+    "MagicFault", "MissingLibrary", "Moving", "Ok", "PortFault", "Probe", "REFUSALS", "Refused", "Reply",
+    "Row", "Saved", "ShortFault", "Silent", "SizeFault", "Snapshot", "SnapshotFault", "Source", "Strange",
+    "Tally", "TickFault", "TrailingFault", "Unreachable", "Wave", "chart", "csv_text", "every", "film",
+    "flow", "lesson", "named", "palette", "parse_reply", "picture", "picture_bytes", "place", "profile",
+    "random_gas", "reply_text", "text_picture", "truth_table", "velocity", "wave",
 ]

@@ -56,8 +56,8 @@ def _measured(lab: Lab, ledger: bool, areas: Mapping[str, Rectangle]) -> list[in
 class Fields(NamedTuple):
     """Arrays of shape (height / mean, width / mean), each number for a square of cells.
 
-    `density` is in particles a cell; `px`, to the right, and `py`, downwards, are the momentum a cell. px /
-    density is the mean velocity to the right, in columns a tick.
+    `density` is in particles a cell; `px`, to the right, and `py`, downwards, are the momentum a cell. `flow`
+    gives the mean velocity.
     """
     density: Any
     px: Any
@@ -67,8 +67,8 @@ class Fields(NamedTuple):
 def velocity(gas: Gas, mean: int = 8, tick: int = 0) -> Fields:
     """Density and both momentum densities in squares of `mean` by `mean` cells.
 
-    Wall cells count as cells. `tick` is for bare truth values. Raises `ValueError` unless `mean` is 1 to 64
-    and divides both sides.
+    Wall cells count as cells. `tick` is for bare truth values. Raises `ValueError` unless `mean` divides both
+    sides.
     """
     found = as_snapshot(gas, tick)
     check_looks(found, mean, "kind")

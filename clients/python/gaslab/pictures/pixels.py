@@ -17,9 +17,8 @@ def check_looks(gas: Snapshot, mean: Optional[int], colour: str) -> None:
     """Raises `ValueError` unless a gas can be drawn in squares of so many cells and so coloured."""
     if colour not in COLOURS:
         raise ValueError(f"colour is one of {', '.join(COLOURS)}, and not {colour!r}")
-    if mean is not None and (not 1 <= mean <= 64 or gas.width % mean or gas.height % mean):
-        raise ValueError(f"mean is from 1 to 64 and divides both sides, {gas.width} and "
-                         f"{gas.height}: not {mean}")
+    if mean is not None and (mean < 1 or gas.width % mean or gas.height % mean):
+        raise ValueError(f"mean divides both sides, {gas.width} and {gas.height}: not {mean}")
     if mean is not None and colour != "kind":
         raise ValueError("mean shows densities, which have no velocity")
 
