@@ -10,8 +10,9 @@ from .protocol.replies import (Bye, Entry, Ledger, Ok, Probe, Reply, Row, Saved,
                                reply_text)
 from .snapshot.files import (Drain, MagicFault, PortFault, ShortFault, SizeFault, Snapshot, SnapshotFault,
                              Source, TickFault, TrailingFault)
-from .lab.gates import place, truth_table
+from .lab.gates import truth_table
 from .lab.lab import Lab
+from .lab.placing import Placed, place
 from .measure.flows import Flow, flow
 from .measure.measuring import Fields, Wave, every, profile, random_gas, velocity, wave
 from .measure.tables import chart, csv_text
@@ -23,9 +24,9 @@ __version__ = "1.0.0"
 
 __all__ = [
     "Bye", "Drain", "Entry", "Fields", "Flow", "GaslabError", "Gone", "LIMITS", "Lab", "Ledger",
-    "MagicFault", "MissingLibrary", "Moving", "Ok", "PortFault", "Probe", "REFUSALS", "Refused", "Reply",
-    "Row", "Saved", "ShortFault", "Silent", "SizeFault", "Snapshot", "SnapshotFault", "Source", "Strange",
-    "Tally", "TickFault", "TrailingFault", "Unreachable", "Wave", "chart", "csv_text", "every", "film",
-    "flow", "lesson", "named", "palette", "parse_reply", "picture", "picture_bytes", "place", "profile",
-    "random_gas", "reply_text", "text_picture", "truth_table", "velocity", "wave",
+    "MagicFault", "MissingLibrary", "Moving", "Ok", "Placed", "PortFault", "Probe", "REFUSALS", "Refused",
+    "Reply", "Row", "Saved", "ShortFault", "Silent", "SizeFault", "Snapshot", "SnapshotFault", "Source",
+    "Strange", "Tally", "TickFault", "TrailingFault", "Unreachable", "Wave", "chart", "csv_text", "every",
+    "film", "flow", "lesson", "named", "palette", "parse_reply", "picture", "picture_bytes", "place",
+    "profile", "random_gas", "reply_text", "text_picture", "truth_table", "velocity", "wave",
 ]

@@ -1,17 +1,16 @@
-"""For builders of gates: single particles, their ways, truth tables, and scripts that are moved."""
+"""For builders of gates: single particles, their ways, and truth tables."""
 import itertools
-import re
 from collections.abc import Iterable, Mapping
 from typing import Any, Union
 
 import numpy
 
-from ..protocol.commands import RECTANGLES, takes
 from ..protocol.replies import Ok
 from ..protocol.scripts import parse_script
+from .areas import Areas, rectangles_of
 from .looking import Looks
+from .progress import Progress, Told
 
-Area = tuple[int, ...]  # a cell (x, y) or a rectangle (x, y, w, h)
 _MOST_TRACED = 64
 _MOST_INPUTS = 10
 
@@ -66,62 +65,33 @@ class Gates(Looks):
         return table_of(("tick", "x", "y", "vx", "vy"), rows)
 
 
-def truth_table(script: Union[str, Iterable[str]], inputs: Mapping[str, Area],
-                outputs: Mapping[str, Area], **options: Any) -> Any:
+def truth_table(script: Union[str, Iterable[str]], inputs: Mapping[str, Areas],
+                outputs: Mapping[str, Areas], progress: Progress = None, **options: Any) -> Any:
     """Runs a script once for each choice of inputs, and counts the particles in the outputs.
 
-    Inputs and outputs are cells (x, y) or rectangles (x, y, w, h), by name. For each choice a new laboratory
-    begins; the chosen inputs are filled with particles; then the script's commands are done, and the outputs
-    are probed. The table has a column for each input, 0 or 1, and for each output. `script` is a text or its
-    lines; `size W H` in it is the size. `options` are those of `Lab.run`. Raises `Refused` as `Lab.do` does,
-    and `ValueError` for more than 10 inputs.
+    Inputs and outputs are cells (x, y), rectangles (x, y, w, h), or lists of both, by name. For each choice
+    a new laboratory begins; the chosen inputs are filled with particles; then the script's commands are
+    done, and the outputs are probed. The table has a column for each input, 0 or 1, and for each output,
+    which is the sum of its rectangles. `script` is a text or its lines; `size W H` in it is the size.
+    `progress` is told how many rows are done. `options` are those of `Lab.run`. Raises `Refused` as `Lab.do`
+    does, and `ValueError` for more than 10 inputs, or if two rectangles of one name overlap.
     """
     from ..measure.tables import table_of
     from .lab import Lab
     if len(inputs) > _MOST_INPUTS or set(inputs) & set(outputs):
         raise ValueError(f"a truth table has at most {_MOST_INPUTS} inputs, and outputs of other names")
     found, rows = parse_script(script), []
+    places = {name: rectangles_of(areas) for name, areas in (*inputs.items(), *outputs.items())}
     if found.size:
         options["width"], options["height"] = found.size
-    for choice in itertools.product((0, 1), repeat=len(inputs)):
-        with Lab.run(**options) as lab:
-            for chosen, area in zip(choice, inputs.values()):
-                if chosen:
-                    lab.put(*_rectangle(area))
-            lab.play(found)
-            counts = [lab.probe(*_rectangle(area)).count for area in outputs.values()]
-        rows.append((*choice, *counts))
+    with Told("truth table", 2 ** len(inputs), progress) as tell:
+        for choice in itertools.product((0, 1), repeat=len(inputs)):
+            with Lab.run(**options) as lab:
+                for chosen, name in zip(choice, inputs):
+                    for area in places[name] if chosen else ():
+                        lab.put(*area)
+                lab.play(found)
+                counts = [sum(lab.probe(*area).count for area in places[name]) for name in outputs]
+            rows.append((*choice, *counts))
+            tell(len(rows))
     return table_of((*inputs, *outputs), rows)
-
-
-def _rectangle(area: Area) -> Area:
-    if len(area) not in (2, 4):
-        raise ValueError(f"a cell is (x, y) and a rectangle (x, y, w, h), and not {area}")
-    return (*area, 1, 1)[:4]
-
-
-def place(script: Union[str, Iterable[str]], dx: int, dy: int) -> list[str]:
-    """The commands of a script, moved by dx columns and dy rows, which are even.
-
-    At an odd offset the particles would fly in other directions. Rectangles and the row of `read` are moved,
-    and all other commands stay. Raises `ValueError` with the line if a command would leave the lattice at its
-    left or upper edge, and for `row`, which fills a whole row.
-    """
-    if dx % 2 or dy % 2:
-        raise ValueError(f"an offset is even in both directions, and not ({dx}, {dy}): at an odd "
-                         "one particles fly in other directions")
-    return [_placed(line, number, dx, dy) for number, line in parse_script(script).commands()]
-
-
-def _placed(line: str, number: int, dx: int, dy: int) -> str:
-    word, *rest = line.split()
-    if word == "row":
-        raise ValueError(f"line {number}: row fills a whole row and can't be moved: use put")
-    moves = (dx, dy) if word in RECTANGLES else (dy,) if word == "read" else ()
-    old = rest[:len(moves)]
-    if len(old) < len(moves) or not all(re.fullmatch("[0-9]{1,10}", it) for it in old):
-        raise ValueError(f"line {number}: {takes(word)}")
-    moved = [int(coordinate) + offset for coordinate, offset in zip(old, moves)]
-    if moved and min(moved) < 0:
-        raise ValueError(f"line {number}: {line} would leave the lattice")
-    return " ".join((word, *map(str, moved), *rest[len(moves):]))
