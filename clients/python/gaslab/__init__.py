@@ -17,7 +17,8 @@ from .measure.flows import Flow, flow
 from .measure.measuring import Fields, Wave, every, profile, random_gas, velocity, wave
 from .measure.tables import chart, csv_text
 from .pictures import palette
-from .pictures.drawing import film, picture, picture_bytes
+from .pictures.drawing import picture, picture_bytes
+from .pictures.films import film
 from .pictures.text import text_picture
 
 __version__ = "1.0.0"

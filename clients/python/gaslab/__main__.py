@@ -15,9 +15,9 @@ SOURCES, LOOKS = options.GROUPS
 WORDS: dict[str, tuple[Callable[..., Optional[int]], str, tuple[str, ...], str, str]] = {
     "shell": (words.shell, "", (SOURCES,), "a prompt for commands, with pictures",
               "PROGRAM shell --width 128 --height 64"),
-    "draw": (words.draw, "--output", (SOURCES, LOOKS), "a picture of a gas, as a file or here",
+    "draw": (words.draw, "--output --show", (SOURCES, LOOKS), "a picture of a gas, as a file or here",
              "PROGRAM draw examples/4_tunnel.txt -o tunnel.png --mean 4"),
-    "film": (words.film_word, "--output! --steps --frames --milliseconds", (SOURCES, LOOKS),
+    "film": (words.film_word, "--output! --steps --frames --milliseconds --show", (SOURCES, LOOKS),
              "a film of a gas, a GIF or an animated PNG",
              "PROGRAM film examples/4_tunnel.txt -o tunnel.gif --steps 2 --frames 50"),
     "table": (words.table, "--steps=100 --times=30 --no-ledger --probe --columns --chart --column",

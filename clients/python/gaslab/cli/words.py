@@ -17,7 +17,8 @@ from ..measure.tables import chart, csv_text
 from ..page.hall import Hall
 from ..page.laboratory import Laboratory, Means
 from ..page.one_file import one_file
-from ..pictures.drawing import film, picture
+from ..pictures.drawing import picture
+from ..pictures.films import film
 from ..pictures.text import text_picture
 from ..protocol.doors import find_program
 from ..protocol.errors import Gone, Moving, Silent, Strange, Unreachable, printable
@@ -54,7 +55,9 @@ def draw(asked: argparse.Namespace) -> None:
     """A picture, as a file or here."""
     with gas_of(asked) as gas:
         if asked.output:
-            picture(gas, asked.output, asked.scale, asked.mean, asked.colour)
+            picture(gas, asked.output, asked.scale, asked.mean, asked.colour, show=asked.show)
+        elif asked.show:
+            raise ValueError("--show draws a file: name it by --output")
         else:
             print(text_picture(gas, columns(), is_coloured(), asked.colour, asked.mean))
 
@@ -63,7 +66,7 @@ def film_word(asked: argparse.Namespace) -> None:
     """A film."""
     with lab_of(asked) as lab:
         film(lab, asked.output, asked.steps, asked.frames, asked.scale, asked.mean, asked.colour,
-             asked.milliseconds)
+             asked.milliseconds, asked.show)
 
 
 def table(asked: argparse.Namespace) -> None:
