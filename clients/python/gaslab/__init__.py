@@ -15,6 +15,7 @@ from .lab.lab import Lab
 from .lab.placing import Placed, place
 from .measure.flows import Flow, flow
 from .measure.measuring import Fields, Wave, every, profile, random_gas, velocity, wave
+from .measure.recording import Recording, record
 from .measure.tables import chart, csv_text
 from .pictures import palette
 from .pictures.drawing import picture, picture_bytes
@@ -25,9 +26,10 @@ __version__ = "1.0.0"
 
 __all__ = [
     "Bye", "Drain", "Entry", "Fields", "Flow", "GaslabError", "Gone", "LIMITS", "Lab", "Ledger",
-    "MagicFault", "MissingLibrary", "Moving", "Ok", "Placed", "PortFault", "Probe", "REFUSALS", "Refused",
-    "Reply", "Row", "Saved", "ShortFault", "Silent", "SizeFault", "Snapshot", "SnapshotFault", "Source",
-    "Strange", "Tally", "TickFault", "TrailingFault", "Unreachable", "Wave", "chart", "csv_text", "every",
-    "film", "flow", "lesson", "named", "palette", "parse_reply", "picture", "picture_bytes", "place",
-    "profile", "random_gas", "reply_text", "text_picture", "truth_table", "velocity", "wave",
+    "MagicFault", "MissingLibrary", "Moving", "Ok", "Placed", "PortFault", "Probe", "REFUSALS",
+    "Recording", "Refused", "Reply", "Row", "Saved", "ShortFault", "Silent", "SizeFault", "Snapshot",
+    "SnapshotFault", "Source", "Strange", "Tally", "TickFault", "TrailingFault", "Unreachable", "Wave",
+    "chart", "csv_text", "every", "film", "flow", "lesson", "named", "palette", "parse_reply", "picture",
+    "picture_bytes", "place", "profile", "random_gas", "record", "reply_text", "text_picture",
+    "truth_table", "velocity", "wave",
 ]
