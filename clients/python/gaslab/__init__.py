@@ -13,6 +13,7 @@ from .snapshot.files import (Drain, MagicFault, PortFault, ShortFault, SizeFault
 from .lab.gates import truth_table
 from .lab.lab import Lab
 from .lab.placing import Placed, place
+from .measure.ensembles import SeedFault, ensemble
 from .measure.flows import Flow, flow
 from .measure.measuring import Fields, Wave, every, profile, random_gas, velocity, wave
 from .measure.recording import Recording, record
@@ -27,9 +28,9 @@ __version__ = "1.0.0"
 __all__ = [
     "Bye", "Drain", "Entry", "Fields", "Flow", "GaslabError", "Gone", "LIMITS", "Lab", "Ledger",
     "MagicFault", "MissingLibrary", "Moving", "Ok", "Placed", "PortFault", "Probe", "REFUSALS",
-    "Recording", "Refused", "Reply", "Row", "Saved", "ShortFault", "Silent", "SizeFault", "Snapshot",
-    "SnapshotFault", "Source", "Strange", "Tally", "TickFault", "TrailingFault", "Unreachable", "Wave",
-    "chart", "csv_text", "every", "film", "flow", "lesson", "named", "palette", "parse_reply", "picture",
-    "picture_bytes", "place", "profile", "random_gas", "record", "reply_text", "text_picture",
-    "truth_table", "velocity", "wave",
+    "Recording", "Refused", "Reply", "Row", "Saved", "SeedFault", "ShortFault", "Silent", "SizeFault",
+    "Snapshot", "SnapshotFault", "Source", "Strange", "Tally", "TickFault", "TrailingFault",
+    "Unreachable", "Wave", "chart", "csv_text", "ensemble", "every", "film", "flow", "lesson", "named",
+    "palette", "parse_reply", "picture", "picture_bytes", "place", "profile", "random_gas", "record",
+    "reply_text", "text_picture", "truth_table", "velocity", "wave",
 ]

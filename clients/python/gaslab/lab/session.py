@@ -81,6 +81,13 @@ class Session:
             self.is_closed = True
             self._door.close(polite)
 
+    def kill(self) -> None:
+        """Ends the program at once, or hangs up. Any thread may call it.
+
+        A thread that waits for a reply then gets `Gone`. The session still has to be closed.
+        """
+        self._door.kill()
+
     def quit(self) -> Bye:
         """Ends the session. No other line can be sent."""
         reply = self._ask(Bye, "quit")

@@ -95,6 +95,11 @@ class Program:
             parts.append(f"it said: {printable(said[-400:])}")
         return "; ".join(parts)
 
+    def kill(self) -> None:
+        """Ends the program at once, from any thread. One that waits for a reply then gets `Gone`."""
+        with suppress(ProcessLookupError):
+            os.killpg(self._process.pid, signal.SIGKILL)
+
     def close(self, polite: bool = True) -> None:
         """Ends the program's input, and the program if it does not end by itself."""
         if self._said.closed:
@@ -135,6 +140,11 @@ class Server:
         if is_silent:
             return f"the server at {self.name} is full, or busy with long steps of others"
         return f"the server at {self.name} has ended"
+
+    def kill(self) -> None:
+        """Hangs up at once, from any thread. One that waits for a reply then gets `Gone`."""
+        with suppress(OSError):
+            self._socket.shutdown(socket.SHUT_RDWR)
 
     def close(self, polite: bool = True) -> None:
         """Closes the socket."""
