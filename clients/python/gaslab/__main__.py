@@ -50,7 +50,7 @@ def parser() -> argparse.ArgumentParser:
     program = "gaslab-client" if is_command else "python3 clients/python"
     whole = argparse.ArgumentParser(
         prog=program, description="A client for gaslab. It proves nothing: what is proved is the "
-        "program that it talks to, GASLAB_PROGRAM or else ./gaslab of the repository.",
+        "program that it talks to: GASLAB_PROGRAM, or else the wheel's, or else ./gaslab of the repository.",
         epilog="WORD --help lists the options of a word, with an example for the top of the repository.")
     whole.add_argument("--version", action="version", version=f"gaslab-client {__version__}")
     parts = whole.add_subparsers(dest="word", metavar="WORD", required=True)

@@ -22,12 +22,12 @@ class Lab(Gates):
             program: Optional[PathLike] = None, timeout: float = 60.0) -> "Lab":
         """Starts the built program for one session.
 
-        It is `program`, or else what the variable GASLAB_PROGRAM of the environment names, or else the script
-        `gaslab` of this repository, or the one on the PATH. Width and height are in cells, multiples of 64
-        from 64 to 4,096. `workers` are threads, 1 to 16. `cap` is how many changes the journal has room for,
-        1 to 65,536. `load` is a snapshot to start from, which has the size, and `save` the file that `save`
-        writes. `timeout` is how many seconds a reply may take. Raises `ValueError` for other values, and
-        `Unreachable` if there is no built program.
+        It is `program`, or else what the variable GASLAB_PROGRAM of the environment names, or else the one
+        of the wheel that this package came in, or else the script `gaslab` of this repository, or the one on
+        the PATH. Width and height are in cells, multiples of 64 from 64 to 4,096. `workers` are threads, 1
+        to 16. `cap` is how many changes the journal has room for, 1 to 65,536. `load` is a snapshot to start
+        from, which has the size, and `save` the file that `save` writes. `timeout` is how many seconds a
+        reply may take. Raises `ValueError` for other values, and `Unreachable` if there is no built program.
         """
         start = Snapshot.read(load) if load is not None else None
         size = (start.width, start.height) if start else (width, height)
