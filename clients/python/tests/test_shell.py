@@ -357,6 +357,17 @@ class Words(unittest.TestCase):
         status, out, _ = said("draw", self.path("day.gas"), "--mean", 8)
         self.assertEqual((status, out), (0, 4 * (8 * "█" + "\n")))
 
+    def test_draw_momentum(self):
+        """Each second column is full: all fly to the right at tick 0, and as many down as up."""
+        gas = Snapshot(64, 64, particle_bytes=512 * b"\xaa")
+        day, png = self.path("day.gas"), self.path("it.png")
+        day.write_bytes(gas.to_bytes())
+        for show, colour in (("px", (0, 114, 178)), ("py", (255, 255, 255))):
+            self.assertEqual(said("draw", day, "-o", png, "--show", show), (0, "", ""))
+            self.assertEqual(read(png).pixel(99, 99), colour)
+        status, _, errors = said("draw", day, "--show", "px")
+        self.assertEqual((status, errors), (1, "gaslab draw: --show draws a file: name it by --output\n"))
+
     def test_film(self):
         script = self.path("script", "put 1 2 1 1\n")
         for name in ("it.png", "it.gif"):
