@@ -1,13 +1,19 @@
 """How far a long call is: who is told, when, and that nothing is left."""
 import io
+import os
 import sys
+import tempfile
 import time
 import types
 import unittest
 from unittest import mock
 
+from gaslab import ensemble, film, record, truth_table
 from gaslab.lab import progress
 from gaslab.lab.progress import Told
+from gaslab.protocol.scripts import parse_script
+
+from .test_lab import STAND_IN, run
 
 
 class Terminal(io.StringIO):
@@ -36,6 +42,13 @@ class ToPeople(unittest.TestCase):
 
     def test_texts_are_not_more_than_ten_a_second(self):
         self.assertEqual(self.shown(Terminal(), [1.0] + 19 * [0.01]).count("film"), 2)
+
+    def test_a_total_that_is_not_known(self):
+        stream = Terminal()
+        with mock.patch.object(sys, "stderr", stream), mock.patch.object(progress, "_PATIENCE", 0.0), \
+                Told("lines", 0) as tell:
+            tell(7)
+        self.assertTrue(stream.getvalue().startswith("\rlines: 7, 0 s\r"), stream.getvalue())
 
     def test_nobody_sees_a_file(self):
         self.assertEqual(self.shown(io.StringIO(), [5.0, 5.0]), "")
@@ -73,6 +86,37 @@ class ToPeople(unittest.TestCase):
             with Told("steps", 9) as inner:
                 inner(1)
         self.assertIn("steps: 1 of 9", stream.getvalue())
+
+
+class LongCalls(unittest.TestCase):
+    """Each call that can take over a second says how far it is, if a person sees it."""
+    def told_by(self, call):
+        stream = Terminal()
+        with run() as lab, mock.patch.object(progress, "_PATIENCE", 0.0), \
+                mock.patch.object(progress, "_PAUSE", 0.0), mock.patch.object(sys, "stderr", stream):
+            call(lab)
+        return [text.rpartition(",")[0] for text in stream.getvalue().split("\r") if text.strip()]
+
+    def test_each(self):
+        script = parse_script("tally\nrepeat 2 { put 0 0 1 1 }")
+        for call, wanted in (
+                (lambda lab: lab.advance(5, each=2), ["steps: 2 of 5", "steps: 4 of 5", "steps: 5 of 5"]),
+                (lambda lab: lab.do(["tally", "tally"]), ["lines: 1 of 2", "lines: 2 of 2"]),
+                (lambda lab: lab.do(iter(["tally", "tally"])), ["lines: 1", "lines: 2"]),
+                (lambda lab: lab.play(script), ["script: 1 of 3", "script: 2 of 3", "script: 3 of 3"]),
+                (lambda lab: lab.every(1, times=2), ["every: 1 of 2", "every: 2 of 2"]),
+                (lambda lab: record(lab, 1, times=1), ["record: 1 of 2", "record: 2 of 2"]),
+                (lambda lab: ensemble(lambda lab, seed: 0, 2, workers=1, program=STAND_IN)["value"],
+                 ["ensemble: 2 of 2"]),
+                (lambda lab: truth_table("step 1", {"A": (0, 0)}, {"B": (1, 1)}, program=STAND_IN),
+                 ["truth table: 1 of 2", "truth table: 2 of 2"])):
+            told = self.told_by(call)
+            self.assertEqual(told[-1:] if wanted[0].startswith("ensemble") else told, wanted)
+
+    def test_a_film(self):
+        with tempfile.TemporaryDirectory() as room:
+            told = self.told_by(lambda lab: film(lab, os.path.join(room, "it.gif"), 1, 2))
+        self.assertEqual(told, ["film: 1 of 2", "film: 2 of 2"])
 
 
 class ToAFunction(unittest.TestCase):

@@ -54,8 +54,8 @@ def _place() -> Optional[_Place]:
 class Told:
     """Tells how far a call is, as in `with Told("film", frames, progress) as tell: .. tell(done)`.
 
-    What was told is wiped at the end. A call within another one, or beside it in another thread, tells only
-    its own function.
+    What was told is wiped at the end. A total of 0 isn't known, and not told. A call within another one, or
+    beside it in another thread, tells only its own function.
     """
     _outermost: ClassVar[Optional["Told"]] = None
 
@@ -86,4 +86,5 @@ class Told:
             self._next = time.monotonic() + _PAUSE
             if self._place is not None:
                 seconds = time.monotonic() - self._began
-                self._place.show(f"{self._what}: {done} of {self._total}, {seconds:.0f} s")
+                of = f" of {self._total}" if self._total else ""
+                self._place.show(f"{self._what}: {done}{of}, {seconds:.0f} s")

@@ -1,6 +1,6 @@
 """A session with a laboratory: lines out, replies in, and the commands as methods."""
 import operator
-from collections.abc import Callable, Iterable
+from collections.abc import Callable, Iterable, Sized
 from contextlib import suppress
 from inspect import Parameter, Signature
 from typing import Any, Optional, TypeVar, Union
@@ -109,7 +109,8 @@ class Session:
         lines before it were carried out, and those behind it are not sent.
         """
         lines = lines_of(lines) if isinstance(lines, str) else lines
-        return self._do(enumerate(lines, 1))
+        with Told("lines", len(lines) if isinstance(lines, Sized) else 0) as tell:
+            return self._do(enumerate(lines, 1), tell)
 
     def play(self, script: Union[PathLike, Script]) -> list[Reply]:
         """Does the commands of a script, as `do`; `place` is then the number of the file's line.
@@ -119,7 +120,8 @@ class Session:
         """
         found = script if isinstance(script, Script) else parse_script(read_text(script))
         self.check_size(found)
-        return self._do(found.commands())
+        with Told("script", found.number()) as tell:
+            return self._do(found.commands(), tell)
 
     def check_size(self, script: Script) -> None:
         """Raises `ValueError` if a script names another size than this gas has."""
@@ -127,13 +129,14 @@ class Session:
             raise ValueError("the script is for {} by {} cells, and this gas has {} by {}".format(
                 *script.size, *self.size))
 
-    def _do(self, numbered: Iterable[tuple[int, str]]) -> list[Reply]:
+    def _do(self, numbered: Iterable[tuple[int, str]], tell: Callable[[int], None]) -> list[Reply]:
         replies = []
         for place, line in numbered:
             try:
                 replies.append(self.ask(line))
             except Refused as refused:
                 raise Refused(refused.number, refused.word, line, place) from None
+            tell(len(replies))
         return replies
 
     def send(self, lines: Union[str, Iterable[str]]) -> Replies:
