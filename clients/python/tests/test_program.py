@@ -85,6 +85,10 @@ sys.stdin.read()
 """
 
 
+def children_of(process):
+    return Path(f"/proc/{process}/task/{process}/children").read_text().split()
+
+
 class WhatIsLeft(unittest.TestCase):
     """The child and its files are gone after the client was killed, by any signal."""
 
@@ -120,8 +124,11 @@ class WhatIsLeft(unittest.TestCase):
             words = [sys.executable, str(CLIENT), "table", "--program", str(program)]
             with subprocess.Popen(words, env=self.environment, stdout=subprocess.PIPE,
                                   stderr=subprocess.PIPE, text=True) as client:
-                time.sleep(1)
-                children = Path(f"/proc/{client.pid}/task/{client.pid}/children").read_text().split()
+                deadline, children = time.monotonic() + 20, []
+                while not (children and children_of(children[0])):  # until it sleeps
+                    self.assertLess(time.monotonic(), deadline)
+                    time.sleep(0.05)
+                    children = children_of(client.pid)
                 self.assertEqual(len(children), 1)
                 client.send_signal(number)
                 out, errors = client.communicate(timeout=20)
