@@ -195,5 +195,5 @@ class Lessons(unittest.TestCase):
 
     def test_another_name_is_told_which_there_are(self):
         for name in ("tunnel", "", "../lessons/4_tunnel", "4_tunnel.txt"):
-            with self.assertRaisesRegex(ValueError, "no lesson .* there are 10_lines, .*4_tunnel"):
+            with self.assertRaisesRegex(ValueError, "no lesson .* there are 1_one_particle, .*4_tunnel, "):
                 lesson(name)

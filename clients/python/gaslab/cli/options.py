@@ -70,6 +70,7 @@ OPTIONS: dict[str, dict[str, Any]] = {
     "host": _option("where the server runs, such as 127.0.0.1"),
     "port": _option("the number that it listens at", whole(0, 65535)),
     "file": _option("a script that is run first, or a snapshot; - is standard input", nargs="?"),
+    "name": _option("such as 4_tunnel (the names of all)", nargs="?"),
     "snapshot": _option("a snapshot, as the command save writes it"),
     "--script": {"help": "the commands alone, without comments, as ./gaslab run reads them", **_SWITCH},
     "--join": _option("a server that is joined, as a seat", address, metavar="HOST:PORT"),

@@ -22,6 +22,7 @@ from ..pictures.films import film
 from ..pictures.text import text_picture
 from ..protocol.doors import find_program
 from ..protocol.errors import Gone, Moving, Silent, Strange, Unreachable, printable
+from ..protocol.places import lesson, lesson_names
 from ..protocol.replies import Row, parse_reply, show_cells
 from ..protocol.scripts import Script, parse_script, read_text
 from ..snapshot.files import Snapshot
@@ -90,6 +91,11 @@ def random_word(asked: argparse.Namespace) -> None:
     drift = (asked.drift, asked.drift_down)
     for line in random_gas(asked.width, asked.height, asked.density, drift, asked.seed):
         print(line)
+
+
+def lesson_word(asked: argparse.Namespace) -> None:
+    """The script of a lesson, or the names of all."""
+    print(lesson(asked.name).read_text() if asked.name else "\n".join(lesson_names()) + "\n", end="")
 
 
 def show(asked: argparse.Namespace) -> None:
