@@ -1,4 +1,4 @@
-"""The quick tests: without a browser, a notebook or an installation, in less than 20 seconds on four cores.
+"""The quick tests: without a browser, a notebook or an installation, in under 20 seconds on four idle cores.
 
     /usr/bin/python3 -m tests.quick
 
