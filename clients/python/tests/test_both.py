@@ -85,7 +85,8 @@ class Places(unittest.TestCase):
         for case, (script, dx, dy), ((corner, lines), *_) in zip(cases, scripts, found):
             self.assertEqual(corner, case["wanted"])
             for steps in (0, 1, 8):
-                self.assertEqual(sets_after(place(script, dx, dy), steps), sets_after(lines, steps), case)
+                self.assertEqual(sets_after(place(script, dx, dy).script, steps), sets_after(lines, steps),
+                                 case)
 
 
 @unittest.skipUnless(NODE, "there is no node")

@@ -13,7 +13,7 @@ from unittest import mock
 
 import numpy
 
-from gaslab import Refused, Snapshot, chart, csv_text, every, profile, random_gas, velocity, wave
+from gaslab import Refused, Snapshot, chart, csv_text, every, flow, profile, random_gas, velocity, wave
 from gaslab.measure.measuring import sums_of
 from gaslab.measure.tables import columns_of, table_of
 
@@ -176,7 +176,28 @@ class Fields(unittest.TestCase):
             found = velocity(lab, mean=8)
             self.assertEqual((found.density[0, 0], found.density.sum()), (1, 1))
             self.assertEqual((found.px.any(), found.py.any()), (False, False))
-            self.assertRaisesRegex(ValueError, "mean divides both sides", velocity, lab, 7)
+            self.assertRaisesRegex(ValueError, "mean divides both sides, 64 and 64 .*, and not 7",
+                                   velocity, lab, 7)
+
+    def test_mean_to_the_sides_of_the_lattice(self):
+        """One square is the whole gas: its sums are those of `tally`."""
+        for mean, width in ((64, 64), (128, 128)):
+            with run(width=width, height=mean) as lab:
+                lab.put(3, 3, 5, 7)
+                field, tally = velocity(lab, mean=mean), lab.tally()
+            self.assertEqual([it.tolist() for it in field], [[[sums / mean ** 2]] for sums in tally[1:]])
+        self.assertRaisesRegex(ValueError, "mean divides both sides, 128 and 64 .*, and not 128", velocity,
+                               Snapshot(128, 64), 128)
+        self.assertRaises(ValueError, velocity, Snapshot(64, 64), 0)
+
+    def test_mean_velocity(self):
+        """Two fly right and down in one square, and one left and down in another; two squares are empty."""
+        cells = {(0, 0), (2, 2), (33, 0)}
+        found = flow(velocity(Snapshot(64, 64, particle_bytes=plane(cells, 64)), mean=32))
+        self.assertEqual(found.vx.tolist(), [[1, -1], [None, None]])
+        self.assertEqual(found.vy.tolist(), [[1, 1], [None, None]])
+        self.assertEqual(found.vx.filled(0).tolist(), [[1, -1], [0, 0]])
+        self.assertEqual((found.vx.sum(), found.vy.mean()), (0, 1))
 
 
 class Waves(unittest.TestCase):

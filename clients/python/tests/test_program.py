@@ -7,6 +7,7 @@ import sys
 import tempfile
 import time
 import unittest
+from contextlib import contextmanager
 from pathlib import Path
 from unittest import mock
 
@@ -109,12 +110,22 @@ class WhichProgram(unittest.TestCase):
     def test_the_repository_that_it_was_installed_from(self):
         """By what pip notes of a folder that it installs: see `tests.test_install` for an installation."""
         self.script(0)
-        folder = self.room / "clients" / "python"
-        noted = json.dumps({"url": folder.as_uri(), "dir_info": {}})
+        with self.installed_from(self.room / "clients" / "python", "dir_info"), Lab.run() as lab:
+            self.assertEqual(lab.tally(), Tally(0, 0, 0, 0))
+
+    def test_no_repository_is_beside_a_wheel(self):
+        self.script(0)
+        os.environ["PATH"] = str(self.room / "nothing")
+        with self.installed_from(self.room / "files" / "gaslab-1.0.0-py3-none-any.whl", "archive_info"):
+            self.assertRaisesRegex(Unreachable, "no program to start", Lab.run)
+
+    @contextmanager
+    def installed_from(self, path, kind):
+        noted = json.dumps({"url": path.as_uri(), kind: {}})
         distribution = mock.Mock(read_text=lambda name: noted if name == "direct_url.json" else None)
         with mock.patch("gaslab.protocol.programs._ROOT", self.room / "nothing"), \
-                mock.patch("importlib.metadata.distribution", lambda name: distribution), Lab.run() as lab:
-            self.assertEqual(lab.tally(), Tally(0, 0, 0, 0))
+                mock.patch("importlib.metadata.distribution", lambda name: distribution):
+            yield
 
 
 ENDLESS = """
@@ -125,6 +136,10 @@ lab = Lab.run(program={program!r})
 print(lab._session.door.process.pid, flush=True)
 sys.stdin.read()
 """
+
+
+def children_of(process):
+    return Path(f"/proc/{process}/task/{process}/children").read_text().split()
 
 
 class WhatIsLeft(unittest.TestCase):
@@ -162,8 +177,11 @@ class WhatIsLeft(unittest.TestCase):
             words = [sys.executable, str(CLIENT), "table", "--program", str(program)]
             with subprocess.Popen(words, env=self.environment, stdout=subprocess.PIPE,
                                   stderr=subprocess.PIPE, text=True) as client:
-                time.sleep(1)
-                children = Path(f"/proc/{client.pid}/task/{client.pid}/children").read_text().split()
+                deadline, children = time.monotonic() + 20, []
+                while not (children and children_of(children[0])):  # until it sleeps
+                    self.assertLess(time.monotonic(), deadline)
+                    time.sleep(0.05)
+                    children = children_of(client.pid)
                 self.assertEqual(len(children), 1)
                 client.send_signal(number)
                 out, errors = client.communicate(timeout=20)

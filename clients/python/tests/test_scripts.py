@@ -86,7 +86,7 @@ class Texts(unittest.TestCase):
             commands = [command for _, command in script_of(given).commands()]
             self.assertEqual(commands, ["put 10 10 1 1", "step 1", "step 1"])
         for given in (script, script.splitlines(), path, parse_script(script)):
-            self.assertEqual(place(given, 2, 2), ["put 12 12 1 1", "step 1", "step 1"])
+            self.assertEqual(place(given, 2, 2).script, ["put 12 12 1 1", "step 1", "step 1"])
             table = truth_table(given, {"A": (20, 20)}, {"B": (0, 0, 64, 64)}, program=STAND_IN)
             self.assertEqual(table["B"].tolist(), [1, 2])
 

@@ -312,7 +312,7 @@ class Words(unittest.TestCase):
             self.assertIn(f"example:\n  {example}", out)
             with mock.patch("sys.argv", ["/usr/bin/gaslab-client"]):
                 self.assertIn(f"gaslab-client {word}", said(word, "--help")[1])
-        self.assertEqual(set(WORDS), {"shell", "draw", "film", "table", "profile", "random", "show",
+        self.assertEqual(set(WORDS), {"shell", "draw", "film", "table", "profile", "random", "lesson", "show",
                                       "journal", "page", "rows", "watch"})
 
     def test_no_word(self):
@@ -348,6 +348,29 @@ class Words(unittest.TestCase):
         self.assertEqual((status, out), (0, 32 * (64 * "█" + "\n")))
         status, out, _ = said("draw", self.path("day.gas"), "--mean", 8)
         self.assertEqual((status, out), (0, 4 * (8 * "█" + "\n")))
+
+    def test_lesson(self):
+        scripts = list((ROOT / "examples").glob("*.txt"))
+        for path in scripts:
+            self.assertEqual(said("lesson", path.stem), (0, path.read_text(), ""))
+        status, out, errors = said("lesson")
+        self.assertEqual((status, errors), (0, ""))
+        self.assertEqual(sorted(out.splitlines()), sorted(it.stem for it in scripts))
+        self.assertTrue(out.startswith("1_one_particle\n2_"), out)
+        status, out, errors = said("lesson", "tunnel")
+        self.assertEqual((status, out), (1, ""))
+        self.assertIn("gaslab lesson: no lesson 'tunnel': there are 1_one_particle, ", errors)
+
+    def test_draw_momentum(self):
+        """Each second column is full: all fly to the right at tick 0, and as many down as up."""
+        gas = Snapshot(64, 64, particle_bytes=512 * b"\xaa")
+        day, png = self.path("day.gas"), self.path("it.png")
+        day.write_bytes(gas.to_bytes())
+        for show, colour in (("px", (0, 114, 178)), ("py", (255, 255, 255))):
+            self.assertEqual(said("draw", day, "-o", png, "--show", show), (0, "", ""))
+            self.assertEqual(read(png).pixel(99, 99), colour)
+        status, _, errors = said("draw", day, "--show", "px")
+        self.assertEqual((status, errors), (1, "gaslab draw: --show draws a file: name it by --output\n"))
 
     def test_film(self):
         script = self.path("script", "put 1 2 1 1\n")

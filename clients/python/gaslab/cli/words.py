@@ -17,9 +17,11 @@ from ..measure.tables import chart, csv_text
 from ..page.hall import Hall
 from ..page.laboratory import Laboratory, Means
 from ..page.one_file import one_file
-from ..pictures.drawing import film, picture
+from ..pictures.drawing import picture
+from ..pictures.films import film
 from ..pictures.text import text_picture
 from ..protocol.errors import Gone, Moving, Silent, Strange, Unreachable
+from ..protocol.places import lesson, lesson_names
 from ..protocol.printable import printable
 from ..protocol.programs import find_program
 from ..protocol.replies import Row, parse_reply, show_cells
@@ -56,7 +58,9 @@ def draw(asked: argparse.Namespace) -> None:
     """A picture, as a file or here."""
     with gas_of(asked) as gas:
         if asked.output:
-            picture(gas, asked.output, asked.scale, asked.mean, asked.colour)
+            picture(gas, asked.output, asked.scale, asked.mean, asked.colour, show=asked.show)
+        elif asked.show:
+            raise ValueError("--show draws a file: name it by --output")
         else:
             print(text_picture(gas, columns(), is_coloured(), asked.colour, asked.mean))
 
@@ -65,7 +69,7 @@ def film_word(asked: argparse.Namespace) -> None:
     """A film."""
     with lab_of(asked) as lab:
         film(lab, asked.output, asked.steps, asked.frames, asked.scale, asked.mean, asked.colour,
-             asked.milliseconds)
+             asked.milliseconds, asked.show)
 
 
 def table(asked: argparse.Namespace) -> None:
@@ -89,6 +93,11 @@ def random_word(asked: argparse.Namespace) -> None:
     drift = (asked.drift, asked.drift_down)
     for line in random_gas(asked.width, asked.height, asked.density, drift, asked.seed, tick=0):
         print(line)
+
+
+def lesson_word(asked: argparse.Namespace) -> None:
+    """The script of a lesson, or the names of all."""
+    print(lesson(asked.name).read_text() if asked.name else "\n".join(lesson_names()) + "\n", end="")
 
 
 def show(asked: argparse.Namespace) -> None:

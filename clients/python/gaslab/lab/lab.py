@@ -1,7 +1,7 @@
 """The laboratory as an object: a program that is started, or a server that is joined."""
 import tempfile
 import time
-from collections.abc import Callable, Iterable, Iterator
+from collections.abc import Callable, Iterable, Iterator, Sized
 from functools import partial
 from pathlib import Path
 from typing import Optional, SupportsIndex, TypeVar, Union
@@ -12,7 +12,7 @@ from ..protocol.commands import COMMANDS, MOST_ENTRIES, MOST_STEPS, SIDES
 from ..protocol.doors import PathLike, Program, Server
 from ..protocol.errors import Moving, Strange
 from ..protocol.limits import Size
-from ..protocol.link import Door, Replies
+from ..protocol.link import Door, Replies, lines_of
 from ..protocol.numbers import whole
 from ..protocol.programs import executable, find_program
 from ..protocol.replies import Bye, Entry, Ledger, Ok, Probe, Reply, Row, Saved, Tally
@@ -23,7 +23,8 @@ from ..snapshot.gases import Drift, random_rows
 from ..snapshot.scene import Scene
 from .edits import edits
 from .journal import AHEAD, Journal
-from .session import Session, numbered
+from .progress import Progress, Told
+from .session import Session
 
 _BURST = 256  # rows that are read at once
 
@@ -66,7 +67,8 @@ class Lab:
         load: a snapshot to start from, which has the size.
         save: the file that `save` writes.
         program: what is started, or else what the variable GASLAB_PROGRAM of the environment names, or else
-            what the script `gaslab` of this repository has built, or that on the PATH.
+            the program of the wheel that this package came in, or else what the script `gaslab` of this
+            repository has built, or that on the PATH.
         timeout: how many seconds a reply may take.
 
         Raises `ValueError` or `TypeError` for other values, and `Unreachable` if there is no built program.
@@ -138,6 +140,13 @@ class Lab:
         """
         self._session.close(polite)
 
+    def kill(self) -> None:
+        """Ends the program at once, or hangs up. Any thread may call it.
+
+        A thread that waits for a reply then gets `Gone`. The lab still has to be closed.
+        """
+        self._session.kill()
+
     def ask(self, line: str) -> Reply:
         """Sends one line and returns its reply. Raises `Refused` if it is refused."""
         return self._session.ask(line)
@@ -148,7 +157,8 @@ class Lab:
         Raises `Refused` at the first refusal, with the line's number as its `place`, from 1. The lines before
         it were carried out, and those behind it are not sent.
         """
-        return self._session.do(numbered(lines))
+        found = lines_of(lines) if isinstance(lines, str) else lines
+        return self._session.do(enumerate(found, 1), "lines", len(found) if isinstance(found, Sized) else 0)
 
     def play(self, script: ScriptLike) -> list[Reply]:
         """Does the commands of a script, as `do`; `place` is then the number of the script's line.
@@ -160,7 +170,7 @@ class Lab:
         """
         found = script_of(script)
         self.check_size(found)
-        return self._session.do(found.commands())
+        return self._session.do(found.commands(), "script", found.number())
 
     def check_size(self, script: Script) -> None:
         """Raises `ValueError` if a script names another size than this gas has."""
@@ -178,19 +188,20 @@ class Lab:
         return self._session.send(lines, ahead)
 
     def advance(self, steps: SupportsIndex, each: SupportsIndex = MOST_STEPS,
-                progress: Callable[[int, int], None] = lambda done, steps: None) -> None:
+                progress: Progress = None) -> None:
         """Makes any number of steps, backwards if it is negative, `each` in a command.
 
-        `progress` is called after each command with how many steps are done, and how many there are in all.
-        Raises `Refused` as `step` and `back` do, when the steps before are done.
+        `progress` is told after each command how many steps are done, and how many there are in all. Raises
+        `Refused` as `step` and `back` do, when the steps before are done.
         """
         wanted, most = whole("steps", steps, -2 ** 41, 2 ** 41), whole("each", each, 1, MOST_STEPS)
         done, total = 0, abs(wanted)
-        while done < total:
-            part = min(most, total - done)
-            self._ok("step" if wanted >= 0 else "back", part)
-            done += part
-            progress(done, total)
+        with Told("steps", total, progress) as tell:
+            while done < total:
+                part = min(most, total - done)
+                self._ok("step" if wanted >= 0 else "back", part)
+                done += part
+                tell(done)
 
     # ---- changes
 

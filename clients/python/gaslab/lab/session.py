@@ -5,9 +5,10 @@ from typing import Optional, TypeVar, Union
 
 from ..protocol.errors import GaslabError, Gone, Refused, Strange
 from ..protocol.limits import Size
-from ..protocol.link import Door, Replies, Turn, lines_of
+from ..protocol.link import Door, Replies, Turn
 from ..protocol.printable import printable
 from ..protocol.replies import Bye, Reply, Row, Tally
+from .progress import Told
 
 _LAST_WAIT = 5.0  # seconds
 
@@ -44,6 +45,10 @@ class Session:
                 self.is_closed = True
                 self.door.close(polite)
 
+    def kill(self) -> None:
+        """Ends the program at once, or hangs up. Any thread may call it."""
+        self.door.kill()
+
     def quit(self) -> Bye:
         """Ends the session. No other line can be sent."""
         reply = self.expect(Bye, "quit")
@@ -59,14 +64,19 @@ class Session:
             raise reply
         return reply
 
-    def do(self, numbered: Iterable[tuple[int, str]]) -> list[Reply]:
-        """Does lines with their places one after the other, up to the first refusal."""
+    def do(self, numbered: Iterable[tuple[int, str]], what: str, total: int) -> list[Reply]:
+        """Does lines with their places one after the other, up to the first refusal.
+
+        `what` they are and how many, or 0 if that isn't known, is told when it takes long.
+        """
         replies = []
-        for place, line in numbered:
-            try:
-                replies.append(self.ask(line))
-            except Refused as refused:
-                raise refused.at(place) from None
+        with Told(what, total) as tell:
+            for place, line in numbered:
+                try:
+                    replies.append(self.ask(line))
+                except Refused as refused:
+                    raise refused.at(place) from None
+                tell(len(replies))
         return replies
 
     def do_ahead(self, lines: Iterable[str]) -> int:
@@ -118,8 +128,3 @@ def of_kind(kind: type[Kind], line: str, reply: Reply) -> Kind:
 
 def _no_answer(line: str, reply: Reply) -> Strange:
     return Strange(f"no answer to {line[:60]!r}: {printable(str(reply))[:80]}")
-
-
-def numbered(lines: Union[str, Iterable[str]]) -> Iterable[tuple[int, str]]:
-    """Lines, or those of a text, with their places from 1."""
-    return enumerate(lines_of(lines) if isinstance(lines, str) else lines, 1)

@@ -1,19 +1,18 @@
-"""For builders of gates: single particles, their ways, truth tables, and scripts that are moved."""
+"""For builders of gates: single particles, their ways, and truth tables."""
 import itertools
-import re
-from collections.abc import Mapping, Sequence
+from collections.abc import Mapping
 from typing import Any, SupportsIndex
 
 import numpy
 
 from ..lab.lab import Lab
-from ..protocol.commands import RECTANGLES, takes
+from ..lab.progress import Progress, Told
 from ..protocol.numbers import whole
 from ..protocol.replies import Ok
 from ..protocol.scripts import ScriptLike, script_of
+from .areas import Areas, rectangles_of
 from .tables import Table, table_of
 
-Area = Sequence[int]  # a cell (x, y) or a rectangle (x, y, w, h)
 _MOST_TRACED = 64
 _MOST_INPUTS = 10
 
@@ -66,63 +65,32 @@ def trace(lab: Lab, steps: SupportsIndex) -> Table:
     return table_of(("tick", "x", "y", "vx", "vy"), rows)
 
 
-def truth_table(script: ScriptLike, inputs: Mapping[str, Area], outputs: Mapping[str, Area],
-                **options: Any) -> Table:
+def truth_table(script: ScriptLike, inputs: Mapping[str, Areas], outputs: Mapping[str, Areas],
+                progress: Progress = None, **options: Any) -> Table:
     """Runs a script once for each choice of inputs, and counts the particles in the outputs.
 
-    Inputs and outputs are cells (x, y) or rectangles (x, y, w, h), by name. For each choice a new laboratory
-    begins at tick 0; the chosen inputs are filled with particles; then the script's commands are done, and
-    the outputs are probed. The table has a column for each input, 0 or 1, and for each output. `script` is a
-    text, its lines, or the `Path` of its file; `size W H` in it is the size. `options` are those of
-    `Lab.run`. Raises `Refused` as `Lab.do` does, and `ValueError` for more than 10 inputs.
+    Inputs and outputs are cells (x, y), rectangles (x, y, w, h), or lists of both, by name. For each choice a
+    new laboratory begins at tick 0; the chosen inputs are filled with particles; then the script's commands
+    are done, and the outputs are probed. The table has a column for each input, 0 or 1, and for each output,
+    which is the sum of its rectangles. `script` is a text, its lines, or the `Path` of its file; `size W H`
+    in it is the size. `progress` is told how many rows are done. `options` are those of `Lab.run`. Raises
+    `Refused` as `Lab.do` does, and `ValueError` for more than 10 inputs, or if two rectangles of one name
+    overlap.
     """
     if len(inputs) > _MOST_INPUTS or set(inputs) & set(outputs):
         raise ValueError(f"a truth table has at most {_MOST_INPUTS} inputs, and outputs of other names")
     found = script_of(script)
     if found.size:
         options["width"], options["height"] = found.size
-    filled, asked = ([_rectangle(area) for area in areas.values()] for areas in (inputs, outputs))
-    rows = []
-    for choice in itertools.product((0, 1), repeat=len(inputs)):
-        with Lab.run(**options) as lab:
-            for area in itertools.compress(filled, choice):
-                lab.put(*area)
-            lab.play(found)
-            rows.append((*choice, *(lab.probe(*area).count for area in asked)))
+    filled, asked = ([rectangles_of(areas) for areas in named.values()] for named in (inputs, outputs))
+    rows: list[tuple[int, ...]] = []
+    with Told("truth table", 2 ** len(inputs), progress) as tell:
+        for choice in itertools.product((0, 1), repeat=len(inputs)):
+            with Lab.run(**options) as lab:
+                for area in itertools.chain(*itertools.compress(filled, choice)):
+                    lab.put(*area)
+                lab.play(found)
+                counts = [sum(lab.probe(*area).count for area in areas) for areas in asked]
+            rows.append((*choice, *counts))
+            tell(len(rows))
     return table_of((*inputs, *outputs), rows)
-
-
-def _rectangle(area: Area) -> tuple[int, int, int, int]:
-    if len(area) not in (2, 4):
-        raise ValueError(f"a cell is (x, y) and a rectangle (x, y, w, h), and not {area}")
-    x, y, w, h = (*area, 1, 1)[:4]
-    return x, y, w, h
-
-
-def place(script: ScriptLike, dx: SupportsIndex, dy: SupportsIndex) -> list[str]:
-    """The commands of a script, moved by dx columns and dy rows, which are even.
-
-    At an odd offset the particles would fly in other directions. Rectangles and the row of `read` are moved,
-    and all other commands stay. `script` is a text, its lines, or the `Path` of its file. Raises `ValueError`
-    with the line if a command would leave the lattice at its left or upper edge, and for `row`, which fills a
-    whole row.
-    """
-    across, down = whole("dx", dx, -4096, 4096), whole("dy", dy, -4096, 4096)
-    if across % 2 or down % 2:
-        raise ValueError(f"an offset is even in both directions, and not ({across}, {down}): at an odd "
-                         "one particles fly in other directions")
-    return [_placed(line, number, across, down) for number, line in script_of(script).commands()]
-
-
-def _placed(line: str, number: int, dx: int, dy: int) -> str:
-    word, *rest = line.split()
-    if word == "row":
-        raise ValueError(f"line {number}: row fills a whole row and can't be moved: use put")
-    moves = (dx, dy) if word in RECTANGLES else (dy,) if word == "read" else ()
-    old = rest[:len(moves)]
-    if len(old) < len(moves) or not all(re.fullmatch("[0-9]{1,10}", it) for it in old):
-        raise ValueError(f"line {number}: {takes(word)}")
-    moved = [int(coordinate) + offset for coordinate, offset in zip(old, moves)]
-    if moved and min(moved) < 0:
-        raise ValueError(f"line {number}: {line} would leave the lattice")
-    return " ".join((word, *map(str, moved), *rest[len(moves):]))

@@ -7,6 +7,7 @@ from numpy.typing import NDArray
 
 from ..lab.gas import Gas, as_snapshot
 from ..lab.lab import Lab
+from ..lab.progress import Progress, Told
 from ..lab.session import of_kind
 from ..protocol.commands import MOST_STEPS
 from ..protocol.errors import Refused
@@ -23,7 +24,8 @@ _Line = tuple[str, type[Union[Ok, Tally, Ledger, Probe]]]  # and the kind of its
 
 
 def every(lab: Lab, steps: SupportsIndex, times: SupportsIndex, ledger: bool = True,
-          probes: Optional[Mapping[str, Rectangle]] = None, columns: Optional[Sequence[str]] = None) -> Table:
+          probes: Optional[Mapping[str, Rectangle]] = None, columns: Optional[Sequence[str]] = None,
+          progress: Progress = None) -> Table:
     """Measures `times` times, each time after `steps` more steps (backwards if negative).
 
     The columns are the tick; the count and the momentum `px`, `py` of the whole gas; with `ledger` its
@@ -31,6 +33,7 @@ def every(lab: Lab, steps: SupportsIndex, times: SupportsIndex, ledger: bool = T
     `name_px` and `name_py`. Then comes the difference of each of these to the row before, or for the first
     row to the start, as `d_` and the name. So `d_obstacles_x` is the drag times `steps`, and `d_injected` and
     `d_drained` are the flux in and out. `columns` is a list of those that are wanted, in their order.
+    `progress` is told how many rows are done.
 
     The steps of the next rows are sent before the replies of a row are read. Raises `Refused` for a probe
     that is not inside before the first step, and for steps when those before are done; `ValueError` for an
@@ -45,10 +48,12 @@ def every(lab: Lab, steps: SupportsIndex, times: SupportsIndex, ledger: bool = T
                           *(("probe {} {} {} {}".format(*area), Probe) for area in areas.values())]
     moves, number = _moves(whole("steps", steps, -2 ** 41, 2 ** 41)), whole("times", times, 0, 10 ** 9)
     before, rows = next(_measured(lab, asked, 1)), []
-    for now in _measured(lab, [*moves, *asked], number):
-        row = dict(zip(names, [*now, *(a - b for a, b in zip(now[1:], before[1:]))]))
-        rows.append([row[name] for name in wanted])
-        before = now
+    with Told("every", number, progress) as tell:
+        for now in _measured(lab, [*moves, *asked], number):
+            row = dict(zip(names, [*now, *(a - b for a, b in zip(now[1:], before[1:]))]))
+            rows.append([row[name] for name in wanted])
+            before = now
+            tell(len(rows))
     return table_of(wanted, rows)
 
 
@@ -89,8 +94,8 @@ def _measured(lab: Lab, lines: list[_Line], times: int) -> Iterator[list[int]]:
 class Fields(NamedTuple):
     """Arrays of shape (height / mean, width / mean), each number for a square of cells.
 
-    `density` is in particles a cell; `px`, to the right, and `py`, downwards, are the momentum a cell. px /
-    density is the mean velocity to the right, in columns a tick.
+    `density` is in particles a cell; `px`, to the right, and `py`, downwards, are the momentum a cell. `flow`
+    gives the mean velocity.
     """
     density: Numbers
     px: Numbers
@@ -101,7 +106,7 @@ def velocity(gas: Gas, mean: SupportsIndex = 8, tick: Optional[SupportsIndex] = 
     """Density and both momentum densities in squares of `mean` by `mean` cells.
 
     Wall cells count as cells. `tick` is that of bare cells, which need it. Raises `ValueError` unless `mean`
-    is 1 to 64 and divides both sides.
+    divides both sides.
     """
     found = as_snapshot(gas, tick)
     side = side_of_squares(mean, found.width, found.height)

@@ -103,6 +103,12 @@ class Program:
         if self._end.detach():
             self._child.end(_PATIENCE if polite else _HURRY)
 
+    def kill(self) -> None:
+        """Ends the program at once, from any thread. One that waits for a reply then gets `Gone`."""
+        if self.process.returncode is None:  # another process may have its number once it was reaped
+            with suppress(ProcessLookupError):
+                os.killpg(self.process.pid, signal.SIGKILL)
+
 
 def _acknowledge(connection: socket.socket) -> None:
     """Makes the system acknowledge at once what arrives, if it can.
@@ -132,8 +138,14 @@ class Server:
         self.link = Link(number, number, timeout, partial(_why_server, self.name),
                          partial(_acknowledge, connection))
         self._end = weakref.finalize(self, connection.close)
+        self._connection = connection
         _acknowledge(connection)
 
     def close(self, polite: bool = True) -> None:
         """Closes the socket."""
         self._end()
+
+    def kill(self) -> None:
+        """Hangs up at once, from any thread. One that waits for a reply then gets `Gone`."""
+        with suppress(OSError):
+            self._connection.shutdown(socket.SHUT_RDWR)

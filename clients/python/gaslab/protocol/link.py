@@ -138,6 +138,9 @@ class Door(Protocol):
     def close(self, polite: bool = True) -> None:
         """Ends it. Without `polite` nothing is waited for."""
 
+    def kill(self) -> None:
+        """Ends it at once, from any thread. One that waits for a reply then gets `Gone`."""
+
 
 class Replies(Iterator[Reply]):
     """The replies to lines that are being sent, in order.

@@ -12,6 +12,7 @@ from urllib.parse import unquote, urlparse
 
 from .doors import PathLike
 from .errors import Unreachable
+from .places import WHEEL_PROGRAM
 
 _LONGEST_SUM = 60.0  # seconds that the script gets to compare its sources
 _ROOT = Path(__file__).resolve().parents[4]
@@ -21,13 +22,14 @@ _BUILT = {1: "was built from other sources", 2: "is not built"}
 
 
 def find_program(program: Optional[PathLike] = None) -> Path:
-    """The program to start: `program`, or what GASLAB_PROGRAM names, or that of a script `gaslab`.
+    """The program to start: `program`, or what GASLAB_PROGRAM names, or else the first that is found.
 
-    The script is the one of the repository that this package is in or was installed from, or else the one on
-    the PATH. It is asked once in a process whether its program is built. Raises `Unreachable`, with the line
-    that helps, if there is none, or if a repository's program is not built from its sources as they are.
+    That is the program of the wheel that this package came in, or else that of a script `gaslab`: the one of
+    the repository that this package is in or was installed from, or the one on the PATH. The script is asked
+    once in a process whether its program is built. Raises `Unreachable`, with the line that helps, if there
+    is none, or if a repository's program is not built from its sources as they are.
     """
-    named = program if program is not None else os.environ.get("GASLAB_PROGRAM") or _script()
+    named = program if program is not None else os.environ.get("GASLAB_PROGRAM") or _found()
     if named is None:
         raise Unreachable(f"no program to start. {_BUILD_LINE}")
     path = Path(named).absolute()
@@ -48,8 +50,10 @@ def is_script(path: PathLike) -> bool:
         return b"--is-built" in file.read(1 << 14)
 
 
-def _script() -> Optional[PathLike]:
-    """The script of this package's repository, or else the one on the PATH."""
+def _found() -> Optional[PathLike]:
+    """The wheel's program, or the script of this package's repository, or else what is on the PATH."""
+    if WHEEL_PROGRAM.is_file():
+        return WHEEL_PROGRAM
     for root in (_ROOT, _installed_from()):
         if root and (root / "gaslab").is_file():
             return root / "gaslab"
@@ -62,9 +66,11 @@ def _installed_from() -> Optional[Path]:
         noted = metadata.distribution("gaslab").read_text("direct_url.json")
     except metadata.PackageNotFoundError:
         return None
-    url = urlparse(json.loads(noted or "{}").get("url", ""))
+    found = json.loads(noted or "{}")
+    url = urlparse(found.get("url", ""))
     folder = Path(unquote(url.path))
-    return folder.parents[1] if url.scheme == "file" and len(folder.parents) > 1 else None
+    is_folder = url.scheme == "file" and "dir_info" in found  # and no wheel
+    return folder.parents[1] if is_folder and len(folder.parents) > 1 else None
 
 
 @lru_cache(maxsize=None)

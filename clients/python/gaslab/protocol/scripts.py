@@ -39,6 +39,10 @@ class Script(NamedTuple):
         """
         return self.size or _fitting(self.parts)
 
+    def number(self) -> int:
+        """How many commands there are, with each `repeat` carried out."""
+        return _counted(self.parts)
+
     def commands(self) -> Iterator[tuple[int, str]]:
         """The commands with their line numbers from 1, with each `repeat` carried out."""
         return _unrolled(self.parts)
@@ -178,6 +182,10 @@ def _unrolled(parts: list[Any]) -> Iterator[tuple[int, str]]:
                 yield from _unrolled(inner[0])
         else:
             yield place, what
+
+
+def _counted(parts: list[Any]) -> int:
+    return sum(what * _counted(inner[0]) if inner else 1 for _, what, *inner in parts)
 
 
 def read_text(path: PathLike) -> str:

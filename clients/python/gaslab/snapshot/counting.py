@@ -5,6 +5,7 @@ from typing import Any, NamedTuple, SupportsIndex
 import numpy
 from numpy.typing import NDArray
 
+from ..protocol.commands import SIDES
 from ..protocol.numbers import whole
 from .cells import array_of
 
@@ -25,8 +26,8 @@ class Sums(NamedTuple):
 
 
 def side_of_squares(mean: SupportsIndex, width: int, height: int) -> int:
-    """`mean` as an `int`. Raises `ValueError` unless it is 1 to 64 and divides both sides of a lattice."""
-    side = whole("mean", mean, 1, 64)
+    """`mean` as an `int`. Raises `ValueError` unless it is 1 or more and divides both sides of a lattice."""
+    side = whole("mean", mean, 1, SIDES[-1])
     if width % side or height % side:
         raise ValueError(f"mean divides both sides, {width} and {height} (width and height), and not {side}")
     return side
