@@ -78,7 +78,6 @@ class Every(unittest.TestCase):
             self.assertRaises(Refused, every, lab, 1, 1, probes={"out": (60, 0, 5, 1)})
             self.assertEqual(lab.tally().tick, 0)
 
-
     def test_rows_are_sent_ahead(self):
         """While a step is made, the lines of four rows have been sent, and no more."""
         def answer(line):

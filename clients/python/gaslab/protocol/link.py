@@ -65,7 +65,7 @@ class Link:
         Raises `Gone` if the other side ends first, and `Silent` if the line is not whole after the timeout.
         The time that `refill` takes is not counted.
         """
-        deadline = time.monotonic() + self.timeout
+        deadline = time.monotonic() + self.timeout if not self._lines else 0.0
         while not self._lines:
             if self._at_end:
                 raise Gone("the other side left without an answer" + self._because(False))
@@ -184,7 +184,8 @@ class Replies(Iterator[Reply]):
     def _take(self) -> Optional[Reply]:
         if self.has_ended:
             return None
-        self._fill()
+        if 2 * len(self._asked) < self._ahead:  # at each reply it would take longer
+            self._fill()
         if not self._asked:
             self.has_ended = True
             return None
