@@ -113,8 +113,12 @@ class WhichProgram(unittest.TestCase):
         noted = json.dumps({"url": folder.as_uri(), "dir_info": {}})
         distribution = mock.Mock(read_text=lambda name: noted if name == "direct_url.json" else None)
         with mock.patch("gaslab.protocol.programs._ROOT", self.room / "nothing"), \
-                mock.patch("importlib.metadata.distribution", lambda name: distribution), Lab.run() as lab:
-            self.assertEqual(lab.tally(), Tally(0, 0, 0, 0))
+                mock.patch("importlib.metadata.distribution", lambda name: distribution):
+            with Lab.run() as lab:
+                self.assertEqual(lab.tally(), Tally(0, 0, 0, 0))
+            noted = json.dumps({"url": folder.as_uri() + ".whl", "archive_info": {}})
+            os.environ["PATH"] = "/usr/bin:/bin"
+            self.assertRaises(Unreachable, Lab.run)
 
 
 ENDLESS = """

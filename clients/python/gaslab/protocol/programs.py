@@ -62,9 +62,9 @@ def _installed_from() -> Optional[Path]:
         noted = metadata.distribution("gaslab").read_text("direct_url.json")
     except metadata.PackageNotFoundError:
         return None
-    url = urlparse(json.loads(noted or "{}").get("url", ""))
-    folder = Path(unquote(url.path))
-    return folder.parents[1] if url.scheme == "file" and len(folder.parents) > 1 else None
+    told = json.loads(noted or "{}")
+    folder = Path(unquote(urlparse(told.get("url", "")).path))
+    return folder.parents[1] if "dir_info" in told and len(folder.parents) > 1 else None
 
 
 @lru_cache(maxsize=None)
