@@ -2,8 +2,12 @@
 import ast
 import importlib.util
 import inspect
+import os
+import re
+import shutil
 import subprocess
 import sys
+import tempfile
 import unittest
 from pathlib import Path
 from types import FunctionType
@@ -73,6 +77,34 @@ class InIPython(unittest.TestCase):
         for told, names in ((probe, "count px py"), (ledger, "obstacles_x drained"),
                             (look, "particles walls tick write")):
             self.assertLessEqual(set(names.split()), set(told.split()), told)
+
+
+TYPED = """
+from gaslab import Lab, every, velocity
+lab = Lab.run()
+reveal_type(lab.probe(0, 0, 4, 4).count)
+reveal_type(lab.look().particles)
+reveal_type(velocity(lab).px)
+lab.probe("a", 2)
+lab.wall(0, 0, 1.5, 1)
+every(lab, "20", 3)
+"""
+
+
+@unittest.skipUnless(shutil.which("mypy"), "mypy is not installed")
+class Types(unittest.TestCase):
+    def test_what_a_checker_sees(self):
+        """Replies and arrays have their types, and wrong arguments are errors."""
+        with tempfile.TemporaryDirectory() as room:
+            Path(room, "it.py").write_text(TYPED)
+            done = subprocess.run(["mypy", "--strict", "--cache-dir=/dev/null", "it.py"], cwd=room, text=True,
+                                  env={**os.environ, "MYPYPATH": str(CLIENT)}, stdout=subprocess.PIPE)
+        told = done.stdout.splitlines()
+        for line, what in ((4, '"builtins.int"'), (5, r'"numpy.ndarray\[.*numpy.bool_'),
+                           (6, r'"numpy.ndarray\[.*numpy.floating'), (7, 'incompatible type "str"'),
+                           (7, "Missing positional arguments"), (8, 'incompatible type "float"'),
+                           (9, 'incompatible type "str"')):
+            self.assertTrue(any(re.match(f"it.py:{line}: .*{what}", it) for it in told), (line, what, told))
 
 
 class Imports(unittest.TestCase):

@@ -148,6 +148,32 @@ class Door:
 
 
 class ManyLines(unittest.TestCase):
+    def test_rows_many_at_once(self):
+        """Cut at any byte, and some of them replies to later lines that came early."""
+        rows = [f"{k:016x}" for k in range(300)]
+        data = "".join(f"ROW {row}\n" for row in rows).encode()
+        for size in (1, 7, 20, 21, 22, 5000):
+            with Pair() as pair:
+                def drip():
+                    for at in range(0, len(data), size):
+                        pair.other.sendall(data[at:at + size])
+                thread = threading.Thread(target=drip)
+                thread.start()
+                found = b"".join(Replies(Door(pair.link), ["read 0"] * part, Turn()).rows(64)
+                                 for part in (1, 199, 100))
+                thread.join()
+            self.assertEqual(found.hex(), "".join(rows))
+
+    def test_what_is_no_row(self):
+        right = b"ROW 00000000000000ff\n"
+        for wrong in (b"ROW 00000000000000FF\n", b"ROW 00000000000000 f\n", b"ROW " + 32 * b"0" + b"\n",
+                      b"ROX 00000000000000ff\n", b"OK 1\n", b"ERR 5 rect\n", b"ROW \xff0000000000000ff\n"):
+            with Pair() as pair:
+                pair.other.sendall(right + wrong + right)
+                replies = Replies(Door(pair.link), ["read 0", "read 1", "read 2"], Turn())
+                with self.assertRaisesRegex(Strange, "no answer to 'read 1'|asked: read 1"):
+                    replies.rows(64)
+
     def test_a_side_that_answers_before_it_reads(self):
         """It has read nothing of what was sent, so there is room for one line alone at a time."""
         with Pair() as pair:

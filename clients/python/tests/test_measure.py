@@ -6,6 +6,7 @@ import os
 import random
 import sys
 import tempfile
+import time
 import unittest
 import xml.etree.ElementTree
 from pathlib import Path
@@ -13,12 +14,15 @@ from unittest import mock
 
 import numpy
 
-from gaslab import Refused, Snapshot, chart, csv_text, every, flow, profile, random_gas, velocity, wave
-from gaslab.measure.measuring import sums_of
+from gaslab import (Ok, Refused, Snapshot, Tally, chart, csv_text, every, flow, profile, random_gas, velocity,
+                    wave)
+from gaslab.measure.measuring import _measured, sums_of
 from gaslab.measure.tables import columns_of, table_of
+from gaslab.snapshot.counting import count_in_squares
 
+from .fake import Fake, typical
 from .seen import read
-from .test_lab import ROOT, run
+from .test_lab import ROOT, joined, run
 from .test_pictures import plane
 
 
@@ -73,6 +77,41 @@ class Every(unittest.TestCase):
         with run() as lab:
             self.assertRaises(Refused, every, lab, 1, 1, probes={"out": (60, 0, 5, 1)})
             self.assertEqual(lab.tally().tick, 0)
+
+    def test_rows_are_sent_ahead(self):
+        """While a step is made, the lines of four rows have been sent, and no more."""
+        def answer(line):
+            time.sleep(0.2 if line.startswith("step") else 0)
+            return b"OK 0\n" if line.startswith("step") else typical(line)
+        with Fake(answer) as fake, joined(fake) as lab:
+            rows = _measured(lab, [("step 3", Ok), ("tally", Tally)], 20)
+            next(rows)
+            time.sleep(0.1)
+            sent = lab._session.door.link.unsent.count(b"\n") + len(lab._session._open._asked)
+            self.assertTrue(2 <= sent <= 8, sent)
+            rows.close()
+            self.assertEqual(lab.tally().tick, 0)
+            self.assertLessEqual(fake.lines.count("step 3"), 5)
+
+    def test_a_refusal_on_the_way_leaves_the_lab_usable(self):
+        with run(cap=5) as lab:
+            with self.assertRaisesRegex(Refused, "the journal is full"):
+                every(lab, 1, 10)
+            self.assertEqual((lab.tick, len(lab.journal())), (5, 5))
+        with run() as lab:
+            lab.drain(0, 0, 1, 1)
+            self.assertRaisesRegex(Refused, "no way back", every, lab, -1, 10)
+            self.assertEqual(lab.tick, 0)
+
+    def test_columns_is_a_list(self):
+        with run() as lab:
+            with self.assertRaisesRegex(ValueError, r"columns is a list of names, as in columns=\['tick'\]"):
+                every(lab, 1, 1, columns="tick")
+
+    def test_more_steps_than_a_command_makes(self):
+        with run() as lab:
+            self.assertEqual(every(lab, 4100, 1)["tick"].tolist(), [4100])
+            self.assertEqual([it.command for it in lab.journal()], ["step 4096", "step 4"])
 
 
 class Tables(unittest.TestCase):
@@ -169,6 +208,34 @@ class Fields(unittest.TestCase):
                 self.assertEqual(field.shape, (4, 8))
                 self.assertTrue(numpy.allclose(field, numbers / 256))
             self.assertEqual(sums_of(gas), (tick, *wanted.sum(axis=(1, 2)).astype(int)))
+
+    def test_each_square_against_the_cells(self):
+        """Squares of all kinds of sides, at even and odd ticks, by the rule for each cell's velocity."""
+        for width, height, tick in ((192, 384, 3), (128, 64, -2), (64, 4096, 1)):
+            cells = numpy.random.RandomState(5).random_sample((height, width)) < 0.4
+            gas = Snapshot.from_arrays(cells, tick=tick)
+            right, down = (1 - 2 * ((numpy.arange(side) + tick) % 2) for side in (width, height))
+            parts = cells.astype(int), cells * right, cells * down[:, None]
+            for mean in (it for it in range(1, 65) if width % it == 0 and height % it == 0):
+                squares = [part.reshape(height // mean, mean, width // mean, mean).sum(axis=(1, 3))
+                           for part in parts]
+                found = velocity(gas, mean)
+                for field, wanted in zip(found, squares):
+                    self.assertTrue((field == wanted / mean ** 2).all(), (width, mean, tick))
+                count = count_in_squares(gas.particle_bytes, width, mean)
+                self.assertTrue((count == squares[0]).all())
+            self.assertEqual(gas.count, cells.sum())
+
+    def test_a_full_gas(self):
+        """Counts as large as they can be."""
+        for side in (64, 4096):
+            gas = Snapshot(side, side, particle_bytes=b"\xff" * (side * side // 8))
+            for mean in (1, 2, 8, 64):
+                field = velocity(gas, mean)
+                self.assertTrue((field.density == 1).all() and (field.px == (mean == 1) * field.px).all())
+            self.assertEqual(sums_of(gas), (0, side * side, 0, 0))
+            self.assertEqual(set(profile(gas)["count"]), {side})
+            self.assertEqual(set(profile(gas, "y")["count"]), {side})
 
     def test_of_a_laboratory(self):
         with run() as lab:

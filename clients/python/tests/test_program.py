@@ -7,7 +7,6 @@ import sys
 import tempfile
 import time
 import unittest
-from contextlib import contextmanager
 from pathlib import Path
 from unittest import mock
 
@@ -110,22 +109,16 @@ class WhichProgram(unittest.TestCase):
     def test_the_repository_that_it_was_installed_from(self):
         """By what pip notes of a folder that it installs: see `tests.test_install` for an installation."""
         self.script(0)
-        with self.installed_from(self.room / "clients" / "python", "dir_info"), Lab.run() as lab:
-            self.assertEqual(lab.tally(), Tally(0, 0, 0, 0))
-
-    def test_no_repository_is_beside_a_wheel(self):
-        self.script(0)
-        os.environ["PATH"] = str(self.room / "nothing")
-        with self.installed_from(self.room / "files" / "gaslab-1.0.0-py3-none-any.whl", "archive_info"):
-            self.assertRaisesRegex(Unreachable, "no program to start", Lab.run)
-
-    @contextmanager
-    def installed_from(self, path, kind):
-        noted = json.dumps({"url": path.as_uri(), kind: {}})
+        folder = self.room / "clients" / "python"
+        noted = json.dumps({"url": folder.as_uri(), "dir_info": {}})
         distribution = mock.Mock(read_text=lambda name: noted if name == "direct_url.json" else None)
         with mock.patch("gaslab.protocol.programs._ROOT", self.room / "nothing"), \
                 mock.patch("importlib.metadata.distribution", lambda name: distribution):
-            yield
+            with Lab.run() as lab:
+                self.assertEqual(lab.tally(), Tally(0, 0, 0, 0))
+            noted = json.dumps({"url": folder.as_uri() + ".whl", "archive_info": {}})
+            os.environ["PATH"] = "/usr/bin:/bin"
+            self.assertRaises(Unreachable, Lab.run)
 
 
 ENDLESS = """

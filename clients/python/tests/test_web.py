@@ -311,14 +311,14 @@ class TheCommand(unittest.TestCase):
     def test_what_it_can_not_do(self):
         with tempfile.TemporaryDirectory() as room:
             script = Path(room, "script.txt")
-            script.write_text("put 0 0 1 1\nput 0 0 65 1\n")
-            for words, why in (((script,), "line 2: ERR 5 rect: "), (("a", "b", "c"), "it takes a script"),
+            script.write_text("put 0 0 1 1\nstep 0\n")
+            for words, why in (((script,), "line 2: ERR 6 steps: "), (("a", "b", "c"), "it takes a script"),
                                (("127.0.0.1", "x"), "'x' is no port"), ((Path(room, "no"),), "No such file"),
                                (("127.0.0.1", "1", "--to", "x"), "--to makes a file"),
                                (("--share", "0.0.0.0"), "--share takes the address"),
                                (("--share", "x"), "'x' does not appear to be"),
                                (("--load", script), "a snapshot does not begin with"),
-                               (("127.0.0.1", "99999"), "a port is 0 to 65,535")):
+                               (("127.0.0.1", "99999"), "port is 0 to 65,535")):
                 status, out, errors = said("page", *words, "--program", STAND_IN)
                 self.assertEqual((status, out), (1, ""), words)
                 self.assertIn(why, errors)

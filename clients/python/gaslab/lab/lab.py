@@ -469,20 +469,19 @@ class Lab:
 
     def _plane(self, burst: int) -> bytes:
         """The packed rows, read in bursts whose times are kept."""
-        parts: list[str] = []
+        parts: list[bytes] = []
         height = self.size[1]
         self.bursts = []
         for first in range(0, height, burst):
             began = time.monotonic()
-            parts += self._rows(range(first, min(first + burst, height)))
+            parts.append(self._rows(range(first, min(first + burst, height))))
             self.bursts.append(time.monotonic() - began)
-        return bytes.fromhex("".join(parts))
+        return b"".join(parts)
 
-    def _rows(self, rows: range) -> Iterator[str]:
-        """The digits of these rows."""
-        lines = [f"read {y}" for y in rows]
-        for line, row in zip(lines, self.send(lines)):
-            yield self._session.checked(Row, line, row).hex
+    def _rows(self, rows: range) -> bytes:
+        """These rows, packed."""
+        width = self.size[0]
+        return self.send([f"read {y}" for y in rows]).rows(width)
 
     def set(self, particles: Optional[ArrayLike] = None, walls: Optional[ArrayLike] = None,
             obstacles: Optional[ArrayLike] = None) -> int:
@@ -529,8 +528,10 @@ class Lab:
     def _row_edits(self, particles: Optional[Cells]) -> Iterator[str]:
         """The lines that make these the particles."""
         if particles is not None:
-            new, old = [plane_of(row).hex() for row in particles], list(self._rows(range(len(particles))))
-            yield from (f"row {y} {new[y]}" for y in range(len(new)) if new[y] != old[y])
+            old, size = self._rows(range(len(particles))), self.size[0] // 8
+            for y, new in enumerate(map(plane_of, particles)):
+                if new != old[y * size:(y + 1) * size]:
+                    yield f"row {y} {new.hex()}"
 
 
 def _program(path: Path, options: dict[str, object], timeout: float, load: Optional[PathLike]) -> Program:

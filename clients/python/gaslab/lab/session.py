@@ -3,11 +3,10 @@ from collections.abc import Iterable
 from contextlib import suppress
 from typing import Optional, TypeVar, Union
 
-from ..protocol.errors import GaslabError, Gone, Refused, Strange
+from ..protocol.errors import GaslabError, Gone, Refused
 from ..protocol.limits import Size
 from ..protocol.link import Door, Replies, Turn
-from ..protocol.printable import printable
-from ..protocol.replies import Bye, Reply, Row, Tally
+from ..protocol.replies import Bye, Reply, Row, Tally, no_answer
 from .progress import Told
 
 _LAST_WAIT = 5.0  # seconds
@@ -115,16 +114,12 @@ class Session:
     def checked(self, kind: type[Kind], line: str, reply: Reply) -> Kind:
         """The reply, if it is of that kind, and a row as wide as the lattice. Raises `Strange` if not."""
         if isinstance(reply, Row) and self.size is not None and 4 * len(reply.hex) != self.size[0]:
-            raise _no_answer(line, reply)
+            raise no_answer(line, reply)
         return of_kind(kind, line, reply)
 
 
 def of_kind(kind: type[Kind], line: str, reply: Reply) -> Kind:
     """The reply to a line, if it is of that kind. Raises `Strange` if not."""
     if not isinstance(reply, kind):
-        raise _no_answer(line, reply)
+        raise no_answer(line, reply)
     return reply
-
-
-def _no_answer(line: str, reply: Reply) -> Strange:
-    return Strange(f"no answer to {line[:60]!r}: {printable(str(reply))[:80]}")

@@ -5,7 +5,6 @@ import signal
 import socket
 import subprocess
 import tempfile
-import time
 import weakref
 from contextlib import suppress
 from functools import partial
@@ -52,27 +51,22 @@ class _Child:
                 stream.close()
         if self.maker != os.getpid():
             return  # a fork of the process that started it only lets go of it
-        _await_end(self.process.pid, patience)
         try:
-            self.process.wait(0)
+            _wait(self.process, patience)
         except subprocess.TimeoutExpired:
             os.killpg(self.process.pid, signal.SIGKILL)  # it and what it has started
             self.process.wait()
 
 
-def _await_end(pid: int, seconds: float) -> None:
-    """Waits until a child ends, so many seconds at most, and reaps nothing.
+def _wait(process: "subprocess.Popen[bytes]", seconds: float) -> None:
+    """Waits until a program ends. Raises `TimeoutExpired` if it has not after so many seconds.
 
-    `Popen.wait` looks again after some milliseconds, which is longer than most programs take to end.
+    `Popen.wait` alone looks again after some milliseconds, which is longer than most programs take to end.
     """
     try:
-        number = os.pidfd_open(pid)
-    except (AttributeError, OSError):  # a system without it, or a child that was reaped
-        with suppress(ChildProcessError):
-            deadline = time.monotonic() + seconds
-            while not os.waitid(os.P_PID, pid, os.WEXITED | os.WNOHANG | os.WNOWAIT) \
-                    and time.monotonic() < deadline:
-                time.sleep(0.001)
+        number = os.pidfd_open(process.pid)
+    except (AttributeError, OSError):  # a system without it, or a program that was waited for before
+        process.wait(seconds)
         return
     try:
         ending = select.poll()
@@ -80,6 +74,7 @@ def _await_end(pid: int, seconds: float) -> None:
         ending.poll(1000 * seconds)
     finally:
         os.close(number)
+    process.wait(0)
 
 
 class Program:

@@ -8,17 +8,21 @@ import threading
 import time
 from collections import deque
 from collections.abc import Callable, Iterable, Iterator
-from typing import Optional, Protocol, Union
+from contextlib import suppress
+from functools import partial
+from typing import Optional, Protocol, TypeVar, Union
 
 from .errors import Gone, Refused, Silent, Strange
 from .limits import Size
-from .replies import Bye, Reply, parse_reply
+from .replies import Bye, Reply, Row, no_answer, parse_reply
 
 LINE_LIMIT = 2048
 """The most bytes that a line or a reply has, its newline not counted."""
 _CHUNK = 65536
 _WINDOW = 65536  # bytes that wait to be written
 _MOST_ASKED = 16384  # lines that wait for their replies
+
+Taken = TypeVar("Taken", str, list[bytes])
 
 
 class Turn:
@@ -65,6 +69,22 @@ class Link:
         Raises `Gone` if the other side ends first, and `Silent` if the line is not whole after the timeout.
         The time that `refill` takes is not counted.
         """
+        if not self._lines:
+            self._await(refill)
+        line = self._lines.popleft()
+        try:
+            return line.decode()
+        except UnicodeDecodeError:
+            raise Strange(f"no reply of a laboratory: {line[:80]!r}") from None
+
+    def next_lines(self, most: int, refill: Callable[[], None] = lambda: None) -> list[bytes]:
+        """The lines that have arrived, from one to so many, in the way of `next_line`."""
+        if not self._lines:
+            self._await(refill)
+        return [self._lines.popleft() for _ in range(min(most, len(self._lines)))]
+
+    def _await(self, refill: Callable[[], None]) -> None:
+        """Waits until a line has arrived."""
         deadline = time.monotonic() + self.timeout
         while not self._lines:
             if self._at_end:
@@ -73,11 +93,6 @@ class Link:
             refill()
             deadline += time.monotonic() - began
             self._pump(deadline)
-        line = self._lines.popleft()
-        try:
-            return line.decode()
-        except UnicodeDecodeError:
-            raise Strange(f"no reply of a laboratory: {line[:80]!r}") from None
 
     def _pump(self, deadline: float) -> None:
         """Waits until something can be read or written, and does it."""
@@ -187,15 +202,12 @@ class Replies(Iterator[Reply]):
     def _take(self) -> Optional[Reply]:
         if self.has_ended:
             return None
-        self._fill()
+        if 2 * len(self._asked) < self._ahead:  # at each reply it would take longer
+            self._fill()
         if not self._asked:
             self.has_ended = True
             return None
-        try:
-            text = self._link.next_line(self._fill)
-        except Gone as fault:
-            self.has_ended = True
-            raise Gone(f"{fault}; {len(self._asked)} lines have no answer") from fault
+        text = self._arrived(self._link.next_line)
         reply = parse_reply(text, self._asked.popleft(), self._size)
         # after these the session is over: what else was sent is lost
         self.has_ended = isinstance(reply, Bye) or isinstance(reply, Refused) and reply.number == 1
@@ -203,6 +215,46 @@ class Replies(Iterator[Reply]):
             self._kept.append(reply)
             raise Gone(f"the session ended with {text}; {len(self._asked)} lines have no answer")
         return reply
+
+    def rows(self, width: int) -> bytes:
+        """The packed rows of lines that are all `read y`, which are taken many at once.
+
+        Raises `Strange` for a reply that is no row of `width` cells.
+        """
+        parts: list[bytes] = []
+        with self._turn:
+            while not self.has_ended:
+                self._fill()
+                self.has_ended = not self._asked
+                if self._asked:
+                    lines = self._arrived(partial(self._link.next_lines, len(self._asked)))
+                    parts += self._packed(lines, width)
+        return b"".join(parts)
+
+    def _packed(self, lines: list[bytes], width: int) -> Iterator[bytes]:
+        asked = [self._asked.popleft() for _ in lines]
+        digits = b"".join([line[4:] for line in lines])
+        with suppress(ValueError):
+            packed = bytes.fromhex(digits.decode("ascii"))
+            if packed.hex().encode() == digits and all(
+                    len(line) == 4 + width // 4 and line.startswith(b"ROW ") for line in lines):
+                return iter([packed])
+        return self._checked_rows(asked, lines, width)
+
+    def _checked_rows(self, asked: list[str], lines: list[bytes], width: int) -> Iterator[bytes]:
+        """The same, line by line, with the fault of a reply that is none."""
+        for line, text in zip(asked, lines):
+            reply = parse_reply(text.decode(errors="replace"), line, self._size)
+            if not isinstance(reply, Row) or 4 * len(reply.hex) != width:
+                raise no_answer(line, reply)
+            yield bytes.fromhex(reply.hex)
+
+    def _arrived(self, take: Callable[[Callable[[], None]], Taken]) -> Taken:
+        try:
+            return take(self._fill)
+        except Gone as fault:
+            self.has_ended = True
+            raise Gone(f"{fault}; {len(self._asked)} lines have no answer") from fault
 
     def _fill(self) -> None:
         if self._is_filling:

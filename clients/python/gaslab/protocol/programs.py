@@ -66,11 +66,9 @@ def _installed_from() -> Optional[Path]:
         noted = metadata.distribution("gaslab").read_text("direct_url.json")
     except metadata.PackageNotFoundError:
         return None
-    found = json.loads(noted or "{}")
-    url = urlparse(found.get("url", ""))
-    folder = Path(unquote(url.path))
-    is_folder = url.scheme == "file" and "dir_info" in found  # and no wheel
-    return folder.parents[1] if is_folder and len(folder.parents) > 1 else None
+    told = json.loads(noted or "{}")
+    folder = Path(unquote(urlparse(told.get("url", "")).path))
+    return folder.parents[1] if "dir_info" in told and len(folder.parents) > 1 else None
 
 
 @lru_cache(maxsize=None)

@@ -140,6 +140,11 @@ def _entry(rest: str) -> Optional[Entry]:
     return Entry(int(match[1]), match[2])
 
 
+def no_answer(line: str, reply: Reply) -> Strange:
+    """The fault of a reply that is none to this line."""
+    return Strange(f"no answer to {line[:60]!r}: {printable(str(reply))[:80]}")
+
+
 def reply_text(reply: Reply) -> str:
     """The line that spells a reply, as the laboratory writes it."""
     if isinstance(reply, Refused):
