@@ -1,6 +1,6 @@
 # shellcheck shell=sh
 # The program's help, and the words that the script takes.
-: "${program:?}"
+: "${program:?}" "${parts:?}"
 
 # Whether the words ask for help and nothing else.
 asks_for_help() {
@@ -17,14 +17,19 @@ help_of_script() {
   --build            Proves and builds the program. After that it starts at once.
                      It is built for this processor; --build --cpu x86-64-v2 builds it for any
   --test [CRATE..]   Compiles the tests and runs them, unproved, with checks while they run
-  --package          Packs the proved program for machines without the kit, as gaslab-VERSION-x86-64-v2.tar.gz;
-                     --package --cpu x86-64-v3 packs it for newer processors
+  --package          Packs the proved program for machines without the kit, as gaslab-VERSION-x86-64-v2.tar.gz, and as
+                     a wheel for pip. --package --cpu x86-64-v3 packs it for newer processors, without a wheel
   --verbose ..       Before other words: shows what the compiler says
 END_OF_HELP
     cat <<'END_OF_HELP'
   --is-built         Says whether the program is built. Status 0: from these sources, 1: from others, 2: not built
+                     --is-built --path prints where the proved program is, if it is built from these sources
+END_OF_HELP
+    [ ! -f "$parts/install.sh" ] || cat <<'END_OF_HELP'
   --install PREFIX   Installs the proved program as PREFIX/bin/gaslab, with its man page, lessons and completions.
                      --install --force PREFIX also replaces files that it did not install, but no folder
+END_OF_HELP
+    cat <<'END_OF_HELP'
   --version          Says the version, the commit and the kit
 Exit status 6: there was no program to run.
 END_OF_HELP

@@ -50,9 +50,9 @@ copy_program() {
     cp "$packed" "$2" && { sed "s/^cpu .*/cpu $1/; /^program /d" "$mark" && echo "program $(sum_of "$2")"; } >"$2.mark"
 }
 
-# Copies the Python client, without its tests and what Python keeps.
+# Copies the Python client, without its tests and what Python keeps. Its link to the lessons becomes a folder.
 copy_client() {
-    mkdir -p "$1/clients" && cp -R "$here/clients/python" "$1/clients/" || return
+    mkdir -p "$1/clients" && cp -RL "$here/clients/python" "$1/clients/" || return
     rm -rf "$1/clients/python/tests"
     find "$1/clients/python" \( -name __pycache__ -o -name '*.egg-info' -o -name build \) -prune -exec rm -rf {} +
 }
@@ -85,32 +85,43 @@ stage() {
 # Packs a folder of that name, in a folder, so that the same files give the same bytes.
 pack() {
     tar -C "$1" --sort=name --owner=0 --group=0 --numeric-owner --mtime='2000-01-01 00:00Z' -cf "$1/tar" "$2" &&
-        gzip -9n <"$1/tar" >"$draft" &&
-        chmod 644 "$draft" &&
-        on_signals '' &&
-        mv -T "$draft" "$2.tar.gz"
+        gzip -9n <"$1/tar" >"$drafts/$2.tar.gz"
 }
 
-# Takes away all that packing made, but the package.
+# Puts what was made into the current folder.
+put_packages() {
+    chmod 644 "$drafts"/* || return
+    on_signals ''
+    for made in "$drafts"/*; do mv -T "$made" "./${made##*/}" || return; done
+}
+
+# Takes away all that packing made, but the packages.
 clear_packing() {
     if [ -n "$child" ]; then kill "$child" 2>/dev/null && wait "$child"; fi
-    rm -rf "$staged" "$draft" "$room" "$log"
+    rm -rf "$staged" "$drafts" "$room" "$log"
     rmdir "$folder/out/rooms" 2>/dev/null
 }
 
-# Packs the program for the processors that these words name, or for x86-64-v2, into a file in the current folder.
+# Packs the program for the processors that these words name, or for x86-64-v2, into files in the current folder. A wheel has no
+# tag for processors, so there is one for x86-64-v2 alone, which every machine runs.
 package_as_asked() {
     take rooms
+    take wheel
     asked=x86-64-v2
     [ $# = 0 ] || asked_cpu "$@" || stop "--package takes --cpu x86-64-v2 or --cpu x86-64-v3, or nothing"
     umask 022
-    child='' staged='' draft='' room='' log=''
+    child='' staged='' drafts='' room='' log=''
     clear_by clear_packing
+    [ "$asked" != x86-64-v2 ] || need_wheel_tools
     need_program_for "$asked"
     name=gaslab-$(noted version)-$asked
     staged=$(mktemp -d) || not_written "${TMPDIR:-/tmp}"
     stage "$asked" "$staged/$name" || not_written "$staged"
-    draft=$(mktemp ./.gaslab.XXXXXX) || not_written "$PWD"
+    drafts=$(mktemp -d ./.gaslab.XXXXXX) || not_written "$PWD"
     pack "$staged" "$name" || not_written "$name.tar.gz"
-    sha256sum "$name.tar.gz"
+    [ "$asked" != x86-64-v2 ] || make_wheel "$staged/$name" "$staged/wheel"
+    names=$(ls "$drafts")
+    put_packages || not_written "$PWD"
+    # shellcheck disable=SC2086 # names of packages are words
+    sha256sum $names
 }

@@ -108,14 +108,28 @@ tell_state() {
     built_state
     state=$?
     if [ $state = 0 ] && ! runs_here "$(noted cpu)"; then state=3; fi
+    # a wheel's folder has this file
+    if [ -f "$here/platform" ]; then afresh='install the wheel again'; else afresh='unpack the package again'; fi
     case $state in
     0) tell "built from these sources for $(noted cpu), proved at commit $(noted commit)" && return ;;
-    1) said='built from other sources' again='the program was changed since: unpack the package again' ;;
-    2) said='not built' again='the program is missing: unpack the package again' ;;
+    1) said='built from other sources' again="the program was changed since: $afresh" ;;
+    2) said='not built' again="the program is missing: $afresh" ;;
     3) said="not built for this processor, but for $(noted cpu)" again="$said: use the package for x86-64-v2" state=2 ;;
     esac
     if is_package; then tell "$again"; else tell "$said: run ./gaslab --build"; fi
     return $state
+}
+
+# Says whether the program is built. With --path it prints where that is, and says on standard error why there is none.
+is_built_as_asked() {
+    case "$#:${1-}" in
+    0:) tell_state ;;
+    1:--path)
+        if is_built; then tell "$program" && return; fi
+        tell_state >&2
+        ;;
+    *) stop "--is-built takes --path, or nothing" ;;
+    esac
 }
 
 # The version: the first heading of CHANGELOG.md.

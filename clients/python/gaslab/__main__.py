@@ -8,16 +8,17 @@ from typing import Optional
 
 from . import __version__
 from .cli import options, words
-from .protocol.errors import GaslabError, printable
+from .protocol.errors import GaslabError, Unreachable
+from .protocol.printable import printable
 
 SOURCES, LOOKS = options.GROUPS
 
 WORDS: dict[str, tuple[Callable[..., Optional[int]], str, tuple[str, ...], str, str]] = {
     "shell": (words.shell, "", (SOURCES,), "a prompt for commands, with pictures",
               "PROGRAM shell --width 128 --height 64"),
-    "draw": (words.draw, "--output", (SOURCES, LOOKS), "a picture of a gas, as a file or here",
+    "draw": (words.draw, "--output --show", (SOURCES, LOOKS), "a picture of a gas, as a file or here",
              "PROGRAM draw examples/4_tunnel.txt -o tunnel.png --mean 4"),
-    "film": (words.film_word, "--output! --steps --frames --milliseconds", (SOURCES, LOOKS),
+    "film": (words.film_word, "--output! --steps --frames --milliseconds --show", (SOURCES, LOOKS),
              "a film of a gas, a GIF or an animated PNG",
              "PROGRAM film examples/4_tunnel.txt -o tunnel.gif --steps 2 --frames 50"),
     "table": (words.table, "--steps=100 --times=30 --no-ledger --probe --columns --chart --column",
@@ -29,6 +30,8 @@ WORDS: dict[str, tuple[Callable[..., Optional[int]], str, tuple[str, ...], str, 
     "random": (words.random_word, "--width=64 --height=64 --density --drift --drift-down --seed", (),
                "a random gas, as lines for ./gaslab run",
                "PROGRAM random --density 0.3 --drift 0.2 --seed 1 | ./gaslab run"),
+    "lesson": (words.lesson_word, "name", (), "the script of a lesson, or the names of all",
+               "PROGRAM lesson 4_tunnel | ./gaslab run"),
     "show": (words.show, "snapshot --script", (),
              "what is in a snapshot, and its walls as a script", "PROGRAM show day.gas"),
     "journal": (words.journal, "host port --timeout", (), "the journal of a running server, as a script",
@@ -50,7 +53,7 @@ def parser() -> argparse.ArgumentParser:
     program = "gaslab-client" if is_command else "python3 clients/python"
     whole = argparse.ArgumentParser(
         prog=program, description="A client for gaslab. It proves nothing: what is proved is the "
-        "program that it talks to, GASLAB_PROGRAM or else ./gaslab of the repository.",
+        "program that it talks to: GASLAB_PROGRAM, or else the wheel's, or else ./gaslab of the repository.",
         epilog="WORD --help lists the options of a word, with an example for the top of the repository.")
     whole.add_argument("--version", action="version", version=f"gaslab-client {__version__}")
     parts = whole.add_subparsers(dest="word", metavar="WORD", required=True)
@@ -87,7 +90,10 @@ def main(arguments: Optional[Sequence[str]] = None) -> int:
         os.dup2(os.open(os.devnull, os.O_WRONLY), sys.stdout.fileno())
         return 1
     except (GaslabError, OSError, ValueError, MemoryError) as fault:
-        print(f"gaslab {asked.word}: {printable(str(fault)) or type(fault).__name__}", file=sys.stderr)
+        # (a program that can't be reached has a line to paste in what it says)
+        lines = str(fault).split("\n") if isinstance(fault, Unreachable) else [str(fault)]
+        told = "\n".join(map(printable, lines)) or type(fault).__name__
+        print(f"gaslab {asked.word}: {told}", file=sys.stderr)
         return 1
     except KeyboardInterrupt:
         return 130

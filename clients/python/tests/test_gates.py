@@ -1,7 +1,8 @@
 """What builders of gates use: shoot, trace, truth tables, and scripts that are moved."""
 import unittest
 
-from gaslab import Ok, Refused, place, truth_table
+from gaslab import Ok, Refused, place, shoot, trace, truth_table
+from gaslab.measure.areas import rectangles_of
 from gaslab.measure.tables import columns_of
 
 from .stand_in import channel_gas
@@ -24,9 +25,9 @@ class Shooting(unittest.TestCase):
                         if wait:
                             lab.step(wait)
                         x, y = (20 + ((v == 1) != (wait % 2 == 0)) for v in (vx, vy))
-                        self.assertEqual(lab.shoot(x, y, vx, vy), Ok(wait))
+                        self.assertEqual(shoot(lab, x, y, vx, vy), Ok(wait))
                         lab.step(3)
-                        found = rows_of(lab.trace(0))
+                        found = rows_of(trace(lab, 0))
                         self.assertEqual(found, [(wait + 3, x + 3 * vx, y + 3 * vy, vx, vy)])
 
     def test_the_second_implementation_agrees(self):
@@ -34,9 +35,9 @@ class Shooting(unittest.TestCase):
         with run() as lab:
             for x, y in ((0, 0), (1, 0), (0, 1), (63, 63), (62, 63)):
                 vx, vy = gas.velocity((x, y), 0)
-                lab.shoot(x, y, vx, vy)
-                self.assertRaises(ValueError, lab.shoot, x, y, -vx, vy)
-                self.assertRaises(ValueError, lab.shoot, x, y, vx, -vy)
+                shoot(lab, x, y, vx, vy)
+                self.assertRaises(ValueError, shoot, lab, x, y, -vx, vy)
+                self.assertRaises(ValueError, shoot, lab, x, y, vx, -vy)
 
     def test_why_it_can_not(self):
         with run() as lab:
@@ -48,11 +49,11 @@ class Shooting(unittest.TestCase):
                      r"with \(1, 1\) can start in \(4, 4\)"),
                     ((63, 63, 1, 1), r"can start in \(62, 62\)"),
                     ((2, 2, 0, 1), "vx and vy are 1 or -1"), ((2, 2, 1, 2), "vx and vy are 1 or"),
-                    ((64, 2, 1, 1), "outside the gas of 64 by 64"), ((2, -2, 1, 1), "outside"),
+                    ((64, 2, 1, 1), "x is 0 to 63, and not 64"), ((2, -2, 1, 1), "y is 0 to 63, and not -2"),
                     ((4, 4, 1, 1), "is a wall or an obstacle"), ((6, 6, 1, 1), "is a wall or an"),
                     ((8, 8, 1, 1), "holds a particle already")):
                 with self.assertRaisesRegex(ValueError, why):
-                    lab.shoot(*call)
+                    shoot(lab, *call)
             self.assertEqual(len(lab.journal()), 3)
 
 
@@ -61,7 +62,7 @@ class Tracing(unittest.TestCase):
         """Lesson 3: they meet at tick 5 in (15, 15) and (16, 16), and turn by a quarter."""
         with run() as lab:
             lab.do("put 10 10 1 1\nput 21 21 1 1")
-            table = lab.trace(11)
+            table = trace(lab, 11)
         self.assertEqual(columns_of(table), ["tick", "x", "y", "vx", "vy"])
         found = {}
         for tick, x, y, vx, vy in rows_of(table):
@@ -84,13 +85,13 @@ class Tracing(unittest.TestCase):
         with run() as lab:
             lab.do(["wall 0 20 64 1", "put 3 3 1 1", "put 10 8 1 1", "put 30 31 1 1",
                     "put 41 5 1 1", "put 63 0 1 1"])
-            self.assertEqual(rows_of(lab.trace(30)), wanted)
-            self.assertEqual(rows_of(lab.trace(-30))[-5:], wanted[:5])
+            self.assertEqual(rows_of(trace(lab, 30)), wanted)
+            self.assertEqual(rows_of(trace(lab, -30))[-5:], wanted[:5])
 
     def test_too_many(self):
         with run() as lab:
             lab.put(0, 0, 13, 5)
-            self.assertRaisesRegex(ValueError, "at most 64 particles, and there are 65", lab.trace, 3)
+            self.assertRaisesRegex(ValueError, "at most 64 particles, and there are 65", trace, lab, 3)
             self.assertEqual(lab.tally().tick, 0)
 
 
@@ -116,6 +117,20 @@ class TruthTables(unittest.TestCase):
                             {"out": (64, 0, 64, 64)}, program=STAND_IN)
         self.assertEqual(rows_of(table), [(0, 2), (1, 5)])
 
+    def test_several_rectangles(self):
+        """Two particles fly right and down; either output has the sum of its parts."""
+        table = truth_table("step 2", {"in": [(0, 0), (10, 0, 1, 1)]},
+                            {"first": (2, 2), "both": [(2, 2), (12, 2, 4, 1)],
+                             "none": [(20, 20), (30, 30, 2, 2)]}, program=STAND_IN)
+        self.assertEqual(rows_of(table), [(0, 0, 0, 0), (1, 1, 2, 0)])
+
+    def test_overlapping_rectangles(self):
+        for areas in ([(0, 0, 2, 2), (1, 1)], [(5, 5), (5, 5)], [(0, 0, 9, 1), (3, 0, 1, 4)]):
+            with self.assertRaisesRegex(ValueError, "overlap, so a particle there would count twice"):
+                truth_table("step 1", {}, {"S": areas}, program=STAND_IN)
+        self.assertEqual(rectangles_of([(0, 0, 2, 2), (2, 0), (0, 2, 2, 1)]),
+                         [(0, 0, 2, 2), (2, 0, 1, 1), (0, 2, 2, 1)])
+
     def test_wrong_wishes(self):
         with self.assertRaisesRegex(Refused, "^line 2: ERR 6 steps"):
             truth_table("tally\nstep 0", INPUTS, OUTPUTS, program=STAND_IN)
@@ -132,17 +147,22 @@ class Placing(unittest.TestCase):
         script = ["put 1 2 3 4", "erase 1 2 3 4", "wall 1 2 3 4", "block 1 2 3 4", "unwall 1 2 3 4",
                   "source 1 2 3 4 5", "drain 1 2 3 4", "probe 1 2 3 4", "unport", "step 7", "back 7",
                   "tally", "ledger", "read 9", "entry 3", "save", "quit"]
-        self.assertEqual(place(script, 10, -2), [
+        self.assertEqual(place(script, 10, -2).script, [
             "put 11 0 3 4", "erase 11 0 3 4", "wall 11 0 3 4", "block 11 0 3 4", "unwall 11 0 3 4",
             "source 11 0 3 4 5", "drain 11 0 3 4", "probe 11 0 3 4", "unport", "step 7", "back 7",
             "tally", "ledger", "read 7", "entry 3", "save", "quit"])
         self.assertEqual(place("size 64 64\n# x\nrepeat 2 { put 0 0 1 1 }\n", 2, 4),
-                         2 * ["put 2 4 1 1"])
+                         (2 * ["put 2 4 1 1"], {}, {}))
+
+    def test_inputs_and_outputs_are_moved_too(self):
+        placed = place("step 1", 10, -2, {"A": (0, 2), "B": [(2, 2, 3, 1), (8, 9)]}, {"S": (1, 4, 2, 2)})
+        self.assertEqual(placed, (["step 1"], {"A": [(10, 0, 1, 1)], "B": [(12, 0, 3, 1), (18, 7, 1, 1)]},
+                                  {"S": [(11, 2, 2, 2)]}))
 
     def test_a_gate_works_where_it_is_placed(self):
         script = (ROOT / "examples" / "3_gate.txt").read_text()
         with run() as lab, run(width=128, height=128) as other:
-            self.assertEqual([reply for reply in other.do(place(script, 62, 70))],
+            self.assertEqual([reply for reply in other.do(place(script, 62, 70).script)],
                              lab.do(script))
 
     def test_wrong_wishes(self):
@@ -152,6 +172,28 @@ class Placing(unittest.TestCase):
                 ("tally\nput 0 4 1 1", (-2, 0), "^line 2: put 0 4 1 1 would leave the lattice"),
                 ("row 0 " + 16 * "0", (2, 2), "^line 1: row fills a whole row"),
                 ("put 1", (2, 2), "^line 1: put takes x y w h"),
-                ("put x y 1 1", (2, 2), "^line 1: put takes"), ("read", (2, 2), "read takes y")):
+                ("put x y 1 1", (2, 2), "^line 1: put takes"), ("read", (2, 2), "read takes y"),
+                ("read 0", (0, -2), "^line 1: read 0 would leave")):
             with self.assertRaisesRegex(ValueError, what):
                 place(script, *offset)
+        for more, what in (({"inputs": {"A": (1, 8)}}, r"^input A: \(1, 8, 1, 1\) would leave the lattice"),
+                           ({"outputs": {"S": [(9, 8), (0, 8)]}}, r"^output S: \(0, 8, 1, 1\) would leave"),
+                           ({"outputs": {"S": (1, 2, 3)}}, "a cell is")):
+            with self.assertRaisesRegex(ValueError, what):
+                place("step 1", -2, 0, **more)
+
+    def test_the_edges_of_the_lattice_that_it_is_moved_into(self):
+        script = ["put 60 10 4 2", "read 10"]
+        self.assertEqual(place(script, 64, 52, size=(128, 64)).script, ["put 124 62 4 2", "read 62"])
+        for offset, line in (((66, 52), "line 1: put 60 10 4 2"), ((64, 54), "line 1: put 60 10 4 2")):
+            with self.assertRaisesRegex(ValueError, f"^{line} would leave the lattice"):
+                place(script, *offset, size=(128, 64))
+        with self.assertRaisesRegex(ValueError, "^line 2: read 10 would leave the lattice"):
+            place(["step 1", "read 10"], 0, 54, size=(64, 64))
+        with self.assertRaisesRegex(ValueError, "^output S: "):
+            place("step 1", 2, 0, outputs={"S": (62, 0)}, size=(64, 64))
+
+    def test_a_gate_that_was_placed_has_the_same_truth_table(self):
+        placed = place("step 11", 64, 2, INPUTS, OUTPUTS, size=(128, 64))
+        self.assertEqual(rows_of(truth_table(*placed, program=STAND_IN, width=128)),
+                         rows_of(truth_table("step 11", INPUTS, OUTPUTS, program=STAND_IN)))

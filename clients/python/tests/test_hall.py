@@ -448,7 +448,7 @@ class Time(Halls):
                 with open(path, "wb") as made:
                     made.write(data)
             with Lab.run(load=paths[1], program=STAND_IN) as lab:
-                lab.play(paths[0])
+                lab.play(Path(paths[0]))
                 page.ask(".snapshot")
                 self.assertEqual(page.files()[-1][2], lab.look().to_bytes())
 

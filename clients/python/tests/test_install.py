@@ -15,11 +15,12 @@ from .test_lab import ROOT, STAND_IN
 
 CLIENT = ROOT / "clients" / "python"
 FIRST = """
-from gaslab import Lab, chart, film, picture
+from pathlib import Path
+from gaslab import Lab, chart, every, film, picture
 with Lab.run() as lab:
-    lab.play("4_tunnel.txt")
+    lab.play(Path("4_tunnel.txt"))
     picture(lab, "tunnel.png", mean=4)
-    chart(lab.every(20, times=3), "drag.svg", "tick", "d_obstacles_x")
+    chart(every(lab, 20, times=3), "drag.svg", "tick", "d_obstacles_x")
     film(lab, "tunnel.gif", steps=2, frames=3)
 """
 
@@ -74,7 +75,7 @@ class Installed(unittest.TestCase):
 
     def test_a_first_script(self):
         """The tunnel with its obstacle outlined, the drag, and a GIF."""
-        self.assertEqual(len(FIRST.strip().splitlines()), 6)
+        self.assertEqual(len(FIRST.strip().splitlines()), 7)
         shutil.copy(ROOT / "examples" / "4_tunnel.txt", self.empty)
         self.run_there(self.python, "-c", FIRST)
         seen = read(self.empty / "tunnel.png")
@@ -95,7 +96,7 @@ class WithoutALibrary(unittest.TestCase):
         text = ("from gaslab import *\n"
                 f"with Lab.run(program={str(STAND_IN)!r}) as lab:\n"
                 "    lab.do('put 0 0 1 1'); lab.set(walls=lab.particles()); print(lab.look().count)\n"
-                "    print(type(lab.every(1, 1)).__name__, lab.velocity().density.sum() * 64)\n")
+                "    print(type(every(lab, 1, 1)).__name__, velocity(lab).density.sum() * 64)\n")
         done = self.said(("PIL", "matplotlib", "pandas", "aiohttp"), text)
         self.assertEqual((done.stdout, done.stderr), ("1\nrecarray 1.0\n", ""))
 

@@ -1,4 +1,7 @@
-"""The notebook lesson.ipynb, executed by nbconvert over the second implementation."""
+"""The notebooks. lesson.ipynb is executed by nbconvert over the second implementation.
+
+The others take too long for that: tools/try_client executes them over the built program.
+"""
 import importlib.util
 import json
 import os
@@ -13,16 +16,16 @@ from .test_lab import ROOT, STAND_IN
 CLIENT = ROOT / "clients" / "python"
 
 
-def executed(program, room):
-    """What the notebook's cells write, one after the other, and how many pictures they show."""
+def executed(program, room, name="lesson"):
+    """What a notebook's cells write, one after the other, and how many pictures they show."""
     environment = {**os.environ, "GASLAB_PROGRAM": str(program), "PYTHONPATH": str(CLIENT),
                    "HOME": room, "IPYTHONDIR": room, "JUPYTER_PLATFORM_DIRS": "1"}
     done = subprocess.run([sys.executable, "-m", "nbconvert", "--to", "notebook", "--execute",
                            "--ExecutePreprocessor.timeout=600", "--output-dir", room,
-                           str(CLIENT / "lesson.ipynb")], env=environment, cwd=room,
+                           str(CLIENT / f"{name}.ipynb")], env=environment, cwd=room,
                           stdout=subprocess.PIPE, stderr=subprocess.STDOUT, text=True)
     assert done.returncode == 0, done.stdout
-    cells = json.loads(Path(room, "lesson.ipynb").read_text())["cells"]
+    cells = json.loads(Path(room, f"{name}.ipynb").read_text())["cells"]
     outputs = [output for cell in cells for output in cell.get("outputs", [])]
     text = "".join("".join(output.get("text", "")) for output in outputs)
     return text, sum("image/png" in output.get("data", {}) for output in outputs)
@@ -44,10 +47,15 @@ class Executed(unittest.TestCase):
 
 
 class Kept(unittest.TestCase):
-    def test_it_is_kept_without_outputs(self):
-        cells = json.loads((CLIENT / "lesson.ipynb").read_text())["cells"]
-        self.assertTrue(all(not cell.get("outputs") for cell in cells))
-        titles = [line for cell in cells if cell["cell_type"] == "markdown"
-                  for line in cell["source"] if line.startswith("## ")]
-        self.assertEqual(titles, ["## The tunnel\n", "## Drag against speed\n", "## A pulse\n",
-                                  "## There and back\n"])
+    TITLES = {"lesson": ["The tunnel", "Drag against speed", "A pulse", "There and back"],
+              "sound": ["One gas", "Many gases", "What is wrong with this gas"],
+              "drag": ["One gas", "Twelve gases", "Drag against speed", "Drag against height"]}
+
+    def test_they_are_kept_without_outputs(self):
+        self.assertEqual({it.stem for it in CLIENT.glob("*.ipynb")}, set(self.TITLES))
+        for name, wanted in self.TITLES.items():
+            cells = json.loads((CLIENT / f"{name}.ipynb").read_text())["cells"]
+            self.assertTrue(all(not cell.get("outputs") for cell in cells))
+            titles = [line[3:].rstrip() for cell in cells if cell["cell_type"] == "markdown"
+                      for line in cell["source"] if line.startswith("## ")]
+            self.assertEqual(titles, wanted)

@@ -90,7 +90,7 @@ class Exercises(unittest.TestCase):
         form = r"(random .+) > drift.txt\n    printf '(.+)' >> drift.txt"
         line, more = re.search(form, TEXT).groups()
         self.assertEqual(line, "random --width 512 --height 256 --density 0.25 --drift 0.5 --seed 1")
-        lines = [*random_gas(512, 256, density=0.25, drift=0.5, seed=1), *more.split("\\n")[:-1]]
+        lines = [*random_gas(512, 256, density=0.25, drift=0.5, seed=1, tick=0), *more.split("\\n")[:-1]]
         first, second, third = taken(self.run_lines(lines, (512, 256)))
         self.assertIn(f"have {first}, {second} and {third} as their eighth numbers", TEXT)
 

@@ -5,8 +5,10 @@ import threading
 import time
 import unittest
 
-from gaslab.protocol.errors import REFUSALS, Gone, Silent, Strange
-from gaslab.protocol.link import Link
+from gaslab.protocol.errors import Gone, Silent, Strange
+from gaslab.protocol.limits import REFUSALS
+from gaslab.protocol.link import Link, Replies, Turn
+from gaslab.protocol.replies import Tally
 
 from .test_replies import EACH
 
@@ -137,7 +139,52 @@ class OtherSides(unittest.TestCase):
                 pair.link.next_line()
 
 
+class Door:
+    """A way to a laboratory by such a link."""
+    name = "there"
+
+    def __init__(self, link):
+        self.link = link
+
+
 class ManyLines(unittest.TestCase):
+    def test_rows_many_at_once(self):
+        """Cut at any byte, and some of them replies to later lines that came early."""
+        rows = [f"{k:016x}" for k in range(300)]
+        data = "".join(f"ROW {row}\n" for row in rows).encode()
+        for size in (1, 7, 20, 21, 22, 5000):
+            with Pair() as pair:
+                def drip():
+                    for at in range(0, len(data), size):
+                        pair.other.sendall(data[at:at + size])
+                thread = threading.Thread(target=drip)
+                thread.start()
+                found = b"".join(Replies(Door(pair.link), ["read 0"] * part, Turn()).rows(64)
+                                 for part in (1, 199, 100))
+                thread.join()
+            self.assertEqual(found.hex(), "".join(rows))
+
+    def test_what_is_no_row(self):
+        right = b"ROW 00000000000000ff\n"
+        for wrong in (b"ROW 00000000000000FF\n", b"ROW 00000000000000 f\n", b"ROW " + 32 * b"0" + b"\n",
+                      b"ROX 00000000000000ff\n", b"OK 1\n", b"ERR 5 rect\n", b"ROW \xff0000000000000ff\n"):
+            with Pair() as pair:
+                pair.other.sendall(right + wrong + right)
+                replies = Replies(Door(pair.link), ["read 0", "read 1", "read 2"], Turn())
+                with self.assertRaisesRegex(Strange, "no answer to 'read 1'|asked: read 1"):
+                    replies.rows(64)
+
+    def test_a_side_that_answers_before_it_reads(self):
+        """It has read nothing of what was sent, so there is room for one line alone at a time."""
+        with Pair() as pair:
+            for _ in range(500):
+                pair.link.push("x" * 2000)
+            pair.link.flush()
+            self.assertGreater(len(pair.link.unsent), 65536)
+            pair.other.sendall(b"TALLY 0 0 0 0\n" * 3)
+            found = list(Replies(Door(pair.link), ["tally"] * 3, Turn()))
+            self.assertEqual(found, [Tally(0, 0, 0, 0)] * 3)
+
     def test_neither_side_waits_for_good(self):
         """The other side reads nothing while it cannot write, as a program of one thread does."""
         count, line, reply = 20000, "row 0 " + "0" * 1024, b"ROW " + b"0" * 1024 + b"\n"

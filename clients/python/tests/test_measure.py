@@ -6,6 +6,7 @@ import os
 import random
 import sys
 import tempfile
+import time
 import unittest
 import xml.etree.ElementTree
 from pathlib import Path
@@ -13,12 +14,15 @@ from unittest import mock
 
 import numpy
 
-from gaslab import Refused, Snapshot, chart, csv_text, profile, random_gas, velocity, wave
-from gaslab.measure.measuring import sums_of
+from gaslab import (Ok, Refused, Snapshot, Tally, chart, csv_text, every, flow, profile, random_gas, velocity,
+                    wave)
+from gaslab.measure.measuring import _measured, sums_of
 from gaslab.measure.tables import columns_of, table_of
+from gaslab.snapshot.counting import count_in_squares
 
+from .fake import Fake, typical
 from .seen import read
-from .test_lab import ROOT, run
+from .test_lab import ROOT, joined, run
 from .test_pictures import plane
 
 
@@ -32,7 +36,7 @@ class Every(unittest.TestCase):
         script = (ROOT / "examples" / "4_tunnel.txt").read_text()
         with run() as lab:
             list(lab.send(line for line in script.splitlines()[:6]))
-            table = lab.every(100, times=3, ledger=True, probes={"front": (20, 28, 8, 8)})
+            table = every(lab, 100, times=3, ledger=True, probes={"front": (20, 28, 8, 8)})
         for name, numbers in (("tick", [100, 200, 300]), ("obstacles_x", [448, 1048, 1648]),
                               ("walls_x", [40, 40, 40]), ("d_obstacles_x", [448, 600, 600])):
             self.assertEqual(table[name].tolist(), numbers)
@@ -45,7 +49,7 @@ class Every(unittest.TestCase):
         with run() as lab:
             lab.put(3, 3, 9, 9)
             lab.wall(20, 0, 1, 64)
-            table = lab.every(-5, times=4)
+            table = every(lab, -5, times=4)
         self.assertEqual(table["tick"].tolist(), [-5, -10, -15, -20])
         for name in columns_of(table)[1:]:
             if not name.startswith("d_"):
@@ -54,25 +58,60 @@ class Every(unittest.TestCase):
 
     def test_without_ledger(self):
         with run() as lab:
-            table = lab.every(1, times=2, ledger=False)
+            table = every(lab, 1, times=2, ledger=False)
         self.assertEqual(columns_of(table), ["tick", "count", "px", "py", "d_count", "d_px", "d_py"])
         self.assertEqual(rows_of(table), [(1,) + 6 * (0,), (2,) + 6 * (0,)])
 
     def test_chosen_columns(self):
         with run() as lab:
             lab.put(0, 0, 1, 1)
-            table = lab.every(2, 3, columns=["d_count", "tick", "a_count"],
-                              probes={"a": (4, 4, 1, 1)})
+            table = every(lab, 2, 3, columns=["d_count", "tick", "a_count"],
+                          probes={"a": (4, 4, 1, 1)})
             self.assertEqual(columns_of(table), ["d_count", "tick", "a_count"])
             self.assertEqual(rows_of(table), [(0, 2, 0), (0, 4, 1), (0, 6, 0)])
             with self.assertRaisesRegex(ValueError, "no column drag: there are tick, count, px"):
-                lab.every(2, 3, columns=["tick", "drag"])
+                every(lab, 2, 3, columns=["tick", "drag"])
             self.assertEqual(lab.tally().tick, 6)
 
     def test_a_wrong_probe_is_refused(self):
         with run() as lab:
-            self.assertRaises(Refused, lab.every, 1, 1, probes={"out": (60, 0, 5, 1)})
+            self.assertRaises(Refused, every, lab, 1, 1, probes={"out": (60, 0, 5, 1)})
             self.assertEqual(lab.tally().tick, 0)
+
+    def test_rows_are_sent_ahead(self):
+        """While a step is made, the lines of four rows have been sent, and no more."""
+        def answer(line):
+            time.sleep(0.2 if line.startswith("step") else 0)
+            return b"OK 0\n" if line.startswith("step") else typical(line)
+        with Fake(answer) as fake, joined(fake) as lab:
+            rows = _measured(lab, [("step 3", Ok), ("tally", Tally)], 20)
+            next(rows)
+            time.sleep(0.1)
+            sent = lab._session.door.link.unsent.count(b"\n") + len(lab._session._open._asked)
+            self.assertTrue(2 <= sent <= 8, sent)
+            rows.close()
+            self.assertEqual(lab.tally().tick, 0)
+            self.assertLessEqual(fake.lines.count("step 3"), 5)
+
+    def test_a_refusal_on_the_way_leaves_the_lab_usable(self):
+        with run(cap=5) as lab:
+            with self.assertRaisesRegex(Refused, "the journal is full"):
+                every(lab, 1, 10)
+            self.assertEqual((lab.tick, len(lab.journal())), (5, 5))
+        with run() as lab:
+            lab.drain(0, 0, 1, 1)
+            self.assertRaisesRegex(Refused, "no way back", every, lab, -1, 10)
+            self.assertEqual(lab.tick, 0)
+
+    def test_columns_is_a_list(self):
+        with run() as lab:
+            with self.assertRaisesRegex(ValueError, r"columns is a list of names, as in columns=\['tick'\]"):
+                every(lab, 1, 1, columns="tick")
+
+    def test_more_steps_than_a_command_makes(self):
+        with run() as lab:
+            self.assertEqual(every(lab, 4100, 1)["tick"].tolist(), [4100])
+            self.assertEqual([it.command for it in lab.journal()], ["step 4096", "step 4"])
 
 
 class Tables(unittest.TestCase):
@@ -170,13 +209,62 @@ class Fields(unittest.TestCase):
                 self.assertTrue(numpy.allclose(field, numbers / 256))
             self.assertEqual(sums_of(gas), (tick, *wanted.sum(axis=(1, 2)).astype(int)))
 
+    def test_each_square_against_the_cells(self):
+        """Squares of all kinds of sides, at even and odd ticks, by the rule for each cell's velocity."""
+        for width, height, tick in ((192, 384, 3), (128, 64, -2), (64, 4096, 1)):
+            cells = numpy.random.RandomState(5).random_sample((height, width)) < 0.4
+            gas = Snapshot.from_arrays(cells, tick=tick)
+            right, down = (1 - 2 * ((numpy.arange(side) + tick) % 2) for side in (width, height))
+            parts = cells.astype(int), cells * right, cells * down[:, None]
+            for mean in (it for it in range(1, 65) if width % it == 0 and height % it == 0):
+                squares = [part.reshape(height // mean, mean, width // mean, mean).sum(axis=(1, 3))
+                           for part in parts]
+                found = velocity(gas, mean)
+                for field, wanted in zip(found, squares):
+                    self.assertTrue((field == wanted / mean ** 2).all(), (width, mean, tick))
+                count = count_in_squares(gas.particle_bytes, width, mean)
+                self.assertTrue((count == squares[0]).all())
+            self.assertEqual(gas.count, cells.sum())
+
+    def test_a_full_gas(self):
+        """Counts as large as they can be."""
+        for side in (64, 4096):
+            gas = Snapshot(side, side, particle_bytes=b"\xff" * (side * side // 8))
+            for mean in (1, 2, 8, 64):
+                field = velocity(gas, mean)
+                self.assertTrue((field.density == 1).all() and (field.px == (mean == 1) * field.px).all())
+            self.assertEqual(sums_of(gas), (0, side * side, 0, 0))
+            self.assertEqual(set(profile(gas)["count"]), {side})
+            self.assertEqual(set(profile(gas, "y")["count"]), {side})
+
     def test_of_a_laboratory(self):
         with run() as lab:
             lab.put(0, 0, 8, 8)
-            found = lab.velocity(mean=8)
+            found = velocity(lab, mean=8)
             self.assertEqual((found.density[0, 0], found.density.sum()), (1, 1))
             self.assertEqual((found.px.any(), found.py.any()), (False, False))
-            self.assertRaisesRegex(ValueError, "mean is from 1 to 64", lab.velocity, 7)
+            self.assertRaisesRegex(ValueError, "mean divides both sides, 64 and 64 .*, and not 7",
+                                   velocity, lab, 7)
+
+    def test_mean_to_the_sides_of_the_lattice(self):
+        """One square is the whole gas: its sums are those of `tally`."""
+        for mean, width in ((64, 64), (128, 128)):
+            with run(width=width, height=mean) as lab:
+                lab.put(3, 3, 5, 7)
+                field, tally = velocity(lab, mean=mean), lab.tally()
+            self.assertEqual([it.tolist() for it in field], [[[sums / mean ** 2]] for sums in tally[1:]])
+        self.assertRaisesRegex(ValueError, "mean divides both sides, 128 and 64 .*, and not 128", velocity,
+                               Snapshot(128, 64), 128)
+        self.assertRaises(ValueError, velocity, Snapshot(64, 64), 0)
+
+    def test_mean_velocity(self):
+        """Two fly right and down in one square, and one left and down in another; two squares are empty."""
+        cells = {(0, 0), (2, 2), (33, 0)}
+        found = flow(velocity(Snapshot(64, 64, particle_bytes=plane(cells, 64)), mean=32))
+        self.assertEqual(found.vx.tolist(), [[1, -1], [None, None]])
+        self.assertEqual(found.vy.tolist(), [[1, 1], [None, None]])
+        self.assertEqual(found.vx.filled(0).tolist(), [[1, -1], [0, 0]])
+        self.assertEqual((found.vx.sum(), found.vy.mean()), (0, 1))
 
 
 class Waves(unittest.TestCase):
@@ -236,9 +324,9 @@ class Profiles(unittest.TestCase):
 
 
 class RandomGases(unittest.TestCase):
-    def sums(self, tick=0, **options):
+    def sums(self, **options):
         with run(width=256, height=128) as lab:
-            for reply in lab.send(random_gas(256, 128, **options)):
+            for reply in lab.send(random_gas(256, 128, tick=0, **options)):
                 self.assertEqual(type(reply).__name__, "Ok")
             return lab.tally()
 

@@ -53,7 +53,7 @@ def gases():
     """[tick, rows] of random gases, some steps on, by the second implementation."""
     channel_gas = second()
     for tick, density in ((0, .3), (3, .5), (8, .1)):
-        lines = [*random_gas(_WIDE, _HIGH, density, (.4, -.2), seed=5), "block 60 20 4 8"]
+        lines = [*random_gas(_WIDE, _HIGH, density, (.4, -.2), seed=5, tick=0), "block 60 20 4 8"]
         lines += [f"step {tick}"] if tick else []
         asks = [f"read {y}" for y in range(_HIGH)]
         replies = run_second(channel_gas, _WIDE, _HIGH, lines + asks)

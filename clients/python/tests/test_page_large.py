@@ -61,6 +61,31 @@ class LargeScripts(PageCase):
         self.check(opens)
         self.assertEqual(self.send("put 1 1 1 1")[0][:2], "OK")
 
+    def test_repeats_are_carried_out(self):
+        """What a person writes: a size, comments, several commands a line, and repeats. A quit ends it."""
+        self.open("8")
+        self.begin_to_open("# mine\nsize 128 64; put 100 10 1 1\nrepeat 3 { step 2; repeat 2 { step 1 } }"
+                           "\nquit\nput 0 0 1 1\n")
+        self.browser.wait(f"{READY} && laboratory.lab.picture.tick", 12)
+        self.assertEqual(self.value("laboratory.lab.link.send(['entry 9', 'tally', 'entry 10'])"),
+                         ["ENTRY 0 step 1", "TALLY 12 1 1 1", "ERR 9 entry"])
+        self.assertEqual(self.value("laboratory.lab.picture.width"), 128)
+
+    def test_repeats_of_too_many_are_refused_at_once(self):
+        def opens():
+            self.begin_to_open("repeat 4000000000 { repeat 2 { step 1 } }")
+            self.browser.wait(f"{CALLOUT} !== ''", True)
+            self.assertIn("The script has 8,000,000,000 lines. The page opens at most 300,000.",
+                          self.value(CALLOUT))
+
+        self.check(opens)
+
+    def test_a_wrong_repeat_is_named_with_its_line(self):
+        self.open("8")
+        self.begin_to_open("step 1\nrepeat x { step 1 }")
+        self.browser.wait(f"{CALLOUT} !== ''", True)
+        self.assertIn("Line 2: repeat takes a number and braces", self.value(CALLOUT))
+
     def test_60000_lines_are_opened_with_a_bar(self):
         text = script(60_000)
 

@@ -6,7 +6,7 @@ import math
 import statistics
 import unittest
 
-from gaslab import random_gas
+from gaslab import every, random_gas
 
 from .firefox import FIREFOX, Firefox
 from .page_case import PageCase
@@ -23,9 +23,9 @@ def rows_of(lines, density, drift, seed, steps, times):
     """What the client measures in a run: [count, px, py, drag, count in the probe, its px, its py]."""
     columns = ["count", "px", "py", "d_obstacles_x", "it_count", "it_px", "it_py"]
     with run(width=64, height=64) as lab:
-        lab.do(random_gas(64, 64, density, drift, seed))
+        lab.do(random_gas(64, 64, density, drift, seed, 0))
         lab.do([f"erase {line.split(' ', 1)[1]}" for line in SOLID] + lines)
-        table = lab.every(steps, times, probes={"it": PROBE}, columns=columns)
+        table = every(lab, steps, times, probes={"it": PROBE}, columns=columns)
     found = [[float(table[name][n]) for name in columns] for n in range(times)]
     return [[*row[:3], row[3] / steps, *row[4:]] for row in found]
 
@@ -40,7 +40,7 @@ class Gases(unittest.TestCase):
                  for width, height, density, right, down, seed in cases]
         found = run_node("repeats.mjs", {"gases": gases, "runs": []}, "worker")["rows"]
         for (width, height, density, right, down, seed), rows in zip(cases, found):
-            self.assertEqual(rows, list(random_gas(width, height, density, (right, down), seed)))
+            self.assertEqual(rows, list(random_gas(width, height, density, (right, down), seed, 0)))
 
     def test_runs_are_the_clients(self):
         """Each number of each gas: with walls and an obstacle, and with a drain and a source too."""

@@ -63,7 +63,8 @@ class Starts(unittest.TestCase):
 
     def test_a_random_start_is_the_clients(self):
         wind, = starts(("wind", {"density": 30, "right": -75, "height": 8, "seed": 7}))
-        self.assertEqual(wind, [*random_gas(128, 64, .3, -.75, seed=7), "erase 62 28 4 8", "block 62 28 4 8"])
+        gas = random_gas(128, 64, .3, -.75, seed=7, tick=0)
+        self.assertEqual(wind, [*gas, "erase 62 28 4 8", "block 62 28 4 8"])
 
     def test_a_wave_has_its_length_and_its_height(self):
         """An amplitude over n cells deviates by (2 * density / n) ** 0.5."""

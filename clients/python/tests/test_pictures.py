@@ -1,11 +1,14 @@
+import gc
 import os
 import tempfile
 import unittest
+import weakref
 from unittest import mock
 
 import numpy
 
 from gaslab import Drain, Snapshot, Source, film, palette, picture, picture_bytes, text_picture
+from gaslab.pictures.drawing import drawn
 from gaslab.pictures.pixels import density_pixels
 
 from .seen import read
@@ -84,7 +87,6 @@ class Cells(unittest.TestCase):
         self.assertEqual(picture_bytes([list(row) for row in bare.particles]), found)
 
     def test_a_notebook(self):
-        self.assertEqual(self.GAS._repr_png_(), picture_bytes(self.GAS))
         self.assertEqual(picture(self.GAS)._repr_png_()[:4], b"\x89PNG")
         with run() as lab:
             self.assertEqual(read(picture(lab)._repr_png_()).width, 576)
@@ -235,13 +237,53 @@ class Films(unittest.TestCase):
                 film(lab, os.path.join(room, name), 1, 5, milliseconds=40)
                 self.assertEqual(sum(read(os.path.join(room, name)).delays), 200)
 
+    def test_momentum(self):
+        """A particle that flies right is blue, and one that flies left is orange, in each frame."""
+        right, left = (colour(kind) for kind in (palette.PARTICLE, palette.OBSTACLE))
+        for name in ("film.png", "film.gif"):
+            with tempfile.TemporaryDirectory() as room, run() as lab:
+                lab.put(8, 8, 1, 1)
+                lab.put(41, 40, 1, 1)
+                film(lab, os.path.join(room, name), 8, 3, scale=3, mean=8, show="px", limit=1 / 64)
+                found = read(os.path.join(room, name))
+            for n in range(3):
+                for flies, (x, y) in ((right, (1 + n, 1 + n)), (left, (5 - n, 5 + n))):
+                    seen = {(x // 3, y // 3) for x, y in found.cells(flies, n) if y < 24}
+                    self.assertEqual(seen, {(x, y)})
+
+    def test_no_frame_is_kept(self):
+        """While a frame is drawn, the one before is the last that may still be there, with the first."""
+        drawings, most = [], []
+
+        def counted(*wishes):
+            gc.collect()
+            most.append(sum(it() is not None for it in drawings))
+            image = drawn(*wishes)
+            drawings.append(weakref.ref(image))
+            return image
+        with tempfile.TemporaryDirectory() as room, run() as lab, \
+                mock.patch("gaslab.pictures.films.drawn", counted):
+            for name in ("it.gif", "it.png"):
+                film(lab, os.path.join(room, name), 1, 12)
+        self.assertEqual(len(most), 24)
+        self.assertLessEqual(max(most), 2)
+
+    def test_progress(self):
+        told = []
+        with tempfile.TemporaryDirectory() as room, run() as lab:
+            film(lab, os.path.join(room, "it.gif"), 1, 3,
+                 progress=lambda done, total: told.append((done, total)))
+        self.assertEqual(told, [(1, 3), (2, 3), (3, 3)])
+
     def test_other_endings_are_refused_before_a_step(self):
         with run() as lab:
             for path in ("film", "film.mp4", "film.jpg"):
                 with self.assertRaisesRegex(ValueError, "film's path ends in .png or .apng or .gif"):
                     film(lab, path, steps=1, frames=2)
             for wish in ({"frames": 0}, {"frames": 2, "milliseconds": 0},
-                         {"frames": 2, "milliseconds": 65536}, {"frames": 2, "scale": 0}):
+                         {"frames": 2, "milliseconds": 65536}, {"frames": 2, "scale": 0},
+                         {"frames": 2, "show": "pz"}, {"frames": 2, "show": "px", "limit": 0},
+                         {"frames": 2, "show": "px", "colour": "velocity"}):
                 self.assertRaises(ValueError, film, lab, "/no/folder/it.gif", steps=1, **wish)
             self.assertEqual(lab.tally().tick, 0)
 
@@ -271,13 +313,17 @@ class HalfWrittenFiles(unittest.TestCase):
         def half(image, file, *_, **options):
             file.write(b"half")
             raise KeyboardInterrupt
+
+        def half_film(file, *_):
+            half(None, file)
         with tempfile.TemporaryDirectory() as room, run() as lab:
             path = os.path.join(room, "it.gif")
-            for write in (lambda: picture(lab, path), lambda: film(lab, path, steps=1, frames=2)):
+            for write, what in ((lambda: picture(lab, path), "PIL.Image.Image.save"),
+                                (lambda: film(lab, path, steps=1, frames=2), "gaslab.pictures.films._gif")):
                 write()
                 with open(path, "rb") as file:
                     old = file.read()
-                with mock.patch("PIL.Image.Image.save", half):
+                with mock.patch(what, half if "save" in what else half_film):
                     self.assertRaises(KeyboardInterrupt, write)
                 with open(path, "rb") as file:
                     self.assertEqual(file.read(), old)

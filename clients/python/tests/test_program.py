@@ -1,4 +1,5 @@
 """The program that is started: which it is, whether it is built, and what is left of it."""
+import json
 import os
 import signal
 import subprocess
@@ -10,6 +11,7 @@ from pathlib import Path
 from unittest import mock
 
 from gaslab import Lab, Tally, Unreachable
+from gaslab.protocol import programs
 
 from .test_lab import STAND_IN
 
@@ -25,17 +27,34 @@ class WhichProgram(unittest.TestCase):
         environment.start()
         self.addCleanup(environment.stop)
         os.environ.pop("GASLAB_PROGRAM", None)
+        programs._built.cache_clear()
 
     def script(self, status):
-        """A script `gaslab`, which says this status and else is the stand-in."""
+        """A script `gaslab`, which has this status when it is asked where its program is, and notes that."""
         script = self.room / "gaslab"
-        script.write_text(f'#!/bin/sh\nif [ "$1" = --is-built ]; then echo so; exit {status}; fi\n'
-                          f'exec {sys.executable} {STAND_IN} "$@"\n')
+        told = f"echo {STAND_IN}" if status == 0 else ":"
+        script.write_text(f'#!/bin/sh\n[ "$*" = "--is-built --path" ] || exit 9\n'
+                          f'echo asked >>"{self.room}/asked"\n{told}\nexit {status}\n')
         script.chmod(0o755)
         return script
 
     def own(self):
-        return mock.patch("gaslab.protocol.doors._ROOT", self.room)
+        return mock.patch("gaslab.protocol.programs._ROOT", self.room)
+
+    def test_the_build_is_checked_once(self):
+        self.script(0)
+        for _ in range(3):
+            with self.own(), Lab.run() as lab:
+                self.assertEqual(lab.tally(), Tally(0, 0, 0, 0))
+                self.assertEqual(lab._session.door.name, str(STAND_IN))
+        self.assertEqual((self.room / "asked").read_text(), "asked\n")
+
+    def test_a_build_that_was_missing_is_asked_for_again(self):
+        self.script(2)
+        with self.own():
+            self.assertRaises(Unreachable, Lab.run)
+            self.script(0)
+            Lab.run().close()
 
     def test_the_one_of_the_repository(self):
         self.script(0)
@@ -51,9 +70,22 @@ class WhichProgram(unittest.TestCase):
                 with self.own(), self.assertRaises(Unreachable) as caught:
                     Lab.run(**options)
                 self.assertLess(time.monotonic() - began, 2)
-                self.assertEqual(str(caught.exception),
-                                 f"the program {what}: run ./gaslab --build in {self.room}, or name "
-                                 "another program by GASLAB_PROGRAM or program= (--program)")
+                first, line, last = str(caught.exception).split("\n")
+                self.assertEqual(first, f"the program {what}. This line builds it:")
+                self.assertEqual(line, f"    (cd {self.room} && ./gaslab --build)")
+                self.assertIn("program= (--program) or GASLAB_PROGRAM", last)
+
+    def test_the_line_that_builds_it_can_be_pasted(self):
+        """By a shell, in a folder whose name has a blank and a quote."""
+        self.room = self.room / "a clone's"
+        self.room.mkdir()
+        self.script(1)
+        with self.own(), self.assertRaises(Unreachable) as caught:
+            Lab.run()
+        self.room.joinpath("gaslab").write_text("#!/bin/sh\necho built by $1 in $PWD\n")
+        line = str(caught.exception).split("\n")[1]
+        told = subprocess.run(["sh", "-c", line], stdout=subprocess.PIPE, text=True, check=True).stdout
+        self.assertEqual(told, f"built by --build in {self.room}\n")
 
     def test_a_named_one_needs_no_build(self):
         self.script(2)
@@ -66,13 +98,27 @@ class WhichProgram(unittest.TestCase):
     def test_an_installed_one_is_found_on_the_path(self):
         self.script(0)
         os.environ["PATH"] = f"{self.room}:{os.environ['PATH']}"
-        with mock.patch("gaslab.protocol.doors._ROOT", self.room / "nothing"), Lab.run() as lab:
+        with mock.patch("gaslab.protocol.programs._ROOT", self.room / "nothing"), Lab.run() as lab:
             self.assertEqual(lab.tally(), Tally(0, 0, 0, 0))
 
     def test_none_at_all(self):
         os.environ["PATH"] = str(self.room)
-        with mock.patch("gaslab.protocol.doors._ROOT", self.room):
-            self.assertRaisesRegex(Unreachable, "set GASLAB_PROGRAM", Lab.run)
+        with mock.patch("gaslab.protocol.programs._ROOT", self.room):
+            self.assertRaisesRegex(Unreachable, "builds one:\n    ./gaslab --build && export", Lab.run)
+
+    def test_the_repository_that_it_was_installed_from(self):
+        """By what pip notes of a folder that it installs: see `tests.test_install` for an installation."""
+        self.script(0)
+        folder = self.room / "clients" / "python"
+        noted = json.dumps({"url": folder.as_uri(), "dir_info": {}})
+        distribution = mock.Mock(read_text=lambda name: noted if name == "direct_url.json" else None)
+        with mock.patch("gaslab.protocol.programs._ROOT", self.room / "nothing"), \
+                mock.patch("importlib.metadata.distribution", lambda name: distribution):
+            with Lab.run() as lab:
+                self.assertEqual(lab.tally(), Tally(0, 0, 0, 0))
+            noted = json.dumps({"url": folder.as_uri() + ".whl", "archive_info": {}})
+            os.environ["PATH"] = "/usr/bin:/bin"
+            self.assertRaises(Unreachable, Lab.run)
 
 
 ENDLESS = """
@@ -80,9 +126,13 @@ import sys
 sys.path.insert(0, {client!r})
 from gaslab import Lab
 lab = Lab.run(program={program!r})
-print(lab._door._process.pid, flush=True)
+print(lab._session.door.process.pid, flush=True)
 sys.stdin.read()
 """
+
+
+def children_of(process):
+    return Path(f"/proc/{process}/task/{process}/children").read_text().split()
 
 
 class WhatIsLeft(unittest.TestCase):
@@ -120,8 +170,11 @@ class WhatIsLeft(unittest.TestCase):
             words = [sys.executable, str(CLIENT), "table", "--program", str(program)]
             with subprocess.Popen(words, env=self.environment, stdout=subprocess.PIPE,
                                   stderr=subprocess.PIPE, text=True) as client:
-                time.sleep(1)
-                children = Path(f"/proc/{client.pid}/task/{client.pid}/children").read_text().split()
+                deadline, children = time.monotonic() + 20, []
+                while not (children and children_of(children[0])):  # until it sleeps
+                    self.assertLess(time.monotonic(), deadline)
+                    time.sleep(0.05)
+                    children = children_of(client.pid)
                 self.assertEqual(len(children), 1)
                 client.send_signal(number)
                 out, errors = client.communicate(timeout=20)

@@ -75,23 +75,46 @@ class EachReply(unittest.TestCase):
 class EachRefusal(unittest.TestCase):
     def test_is_read(self):
         for number, word in REFUSALS.items():
-            found = parse_reply(f"ERR {number} {word}", "step 5000")
+            found = parse_reply(f"ERR {number} {word}", "step 50")
             self.assertIsInstance(found, Refused)
-            limit = "step takes n" if word == "count" else LIMITS[number]
+            limit = "step takes n, and not 1 word" if word == "count" else LIMITS[number]
             self.assertEqual((found.number, found.word, found.line, found.limit),
-                             (number, word, "step 5000", limit))
+                             (number, word, "step 50", limit))
             self.assertEqual(reply_text(found), f"ERR {number} {word}")
             self.assertEqual(named(found), f"ERR {number} {word}: {limit}")
-            self.assertIn("step 5000", str(found))
+            self.assertIn("step 50", str(found))
 
-    def test_a_wrong_count_names_the_words(self):
-        for line, limit in (("put 10 10", "put takes x y w h"), ("jump", LIMITS[3]),
-                            ("unport 1", "unport takes no other word")):
-            self.assertEqual(Refused(3, "count", line).limit, limit)
+    def test_the_number_that_is_wrong_and_its_range_are_named(self):
+        """Each line is one that a laboratory of 128 by 64 cells refuses with this number."""
+        for number, line, limit in (
+                (2, "jump 1", "there is no command jump"), (3, "jump", LIMITS[3]),
+                (3, "put 10 10", "put takes x y w h, and not 2 words"),
+                (3, "unport 1", "unport takes no other word, and not 1 word"),
+                (4, "probe -1 0 4 4", "x is 0 to 127, and not -1"),
+                (4, "step x", "n is 1 to 4,096, and not x"),
+                (4, "probe 0 99999999999 4 4", "y is 0 to 63, and not 99999999999"),
+                (5, "probe 128 0 4 4", "x is 0 to 127, and not 128"),
+                (5, "wall 0 0 0 4", "w is 1 to 128, and not 0"),
+                (5, "read 64", "y is 0 to 63, and not 64"),
+                (5, "probe 120 60 10 10", "x + w is at most the width, 128, and not 120 + 10"),
+                (5, "probe 0 60 10 10", "y + h is at most the height, 64, and not 60 + 10"),
+                (6, "step 0", "n is 1 to 4,096, and not 0"),
+                (6, "back 5000", "n is 1 to 4,096, and not 5000"),
+                (7, "source 0 0 1 1 70000", "period is 1 to 65,535, and not 70000"),
+                (8, "row 0 ff", "a row of 128 cells has 32 hexadecimal digits, and not 2"),
+                (8, "row 0 " + 31 * "0" + "g", "a hexadecimal digit is 0 to 9 or a to f, and not g"),
+                (9, "entry 7", "the journal has no entry 7 yet"), (11, "back 1", LIMITS[11])):
+            found = parse_reply(f"ERR {number} {REFUSALS[number]}", line, (128, 64))
+            self.assertEqual(found.limit, limit, line)
+
+    def test_without_a_size_it_says_what_it_can(self):
+        for line, limit in (("probe 60 60 10 10", LIMITS[5]),
+                            ("probe 0 0 0 1", "w is 1 to 4,294,967,295, and not 0")):
+            self.assertEqual(Refused(5, "rect", line).limit, limit)
 
     def test_its_place_is_told(self):
-        self.assertEqual(str(Refused(6, "steps", "step 0", 7)),
-                         "line 7: ERR 6 steps: one command makes 1 to 4,096 steps; asked: step 0")
+        self.assertEqual(str(Refused(6, "steps", "step 0").at(7)),
+                         "line 7: ERR 6 steps: n is 1 to 4,096, and not 0; asked: step 0")
 
     def test_what_steers_a_terminal_is_escaped(self):
         self.assertIn(r"asked: put \x1b[2J\x07", str(Refused(4, "number", "put \x1b[2J\x07")))

@@ -55,15 +55,6 @@ class Scripts(unittest.TestCase):
         text = "# one\nput 0 0 1 1\n\nrepeat 2 {\n step 1; tally\n}\n"
         self.assertEqual(list(parse_script(text).commands()),
                          [(2, "put 0 0 1 1"), *2 * [(5, "step 1"), (5, "tally")]])
-        self.assertEqual(list(parse_script("put\v1\x85\u2028\n").commands()), [(1, "put 1")])
-
-    def test_the_lattice_that_a_script_asks_for(self):
-        """As `size` says, or a first line that probes a whole lattice; else it has 64 by 64 cells."""
-        for text, lattice in (("probe 0 0 128 192\nput 1 1 1 1", (128, 192)), ("probe 0 0 100 64", (64, 64)),
-                              ("size 192 64\nprobe 0 0 128 64", (192, 64)), ("", (64, 64)),
-                              ("put 0 0 1 1\nprobe 0 0 128 64", (64, 64)),
-                              ("repeat 2 { probe 0 0 128 64 }", (64, 64))):
-            self.assertEqual(parse_script(text).lattice, lattice, text)
 
     def test_sizes(self):
         self.assertEqual(parse_script("# x\n size  128 64 \nput 0 0 1 1"),
@@ -130,7 +121,8 @@ class Shells(unittest.TestCase):
 
     def test_limits_stand_beside_refusals(self):
         out, shell = self.done("step 5000; step 0")
-        self.assertEqual(out, 2 * "ERR 6 steps: one command makes 1 to 4,096 steps\n")
+        self.assertEqual(out, "ERR 6 steps: n is 1 to 4,096, and not 5000\n"
+                         "ERR 6 steps: n is 1 to 4,096, and not 0\n")
         self.assertEqual(shell.refusals, 2)
 
     def test_repeat(self):
@@ -158,8 +150,8 @@ class Shells(unittest.TestCase):
 
     def test_words_of_a_command(self):
         out, _ = self.done("put 10 10", "jump")
-        self.assertEqual(out, "ERR 3 count: put takes x y w h\n"
-                         "ERR 2 word: the first word of a line names a command\n")
+        self.assertEqual(out, "ERR 3 count: put takes x y w h, and not 2 words\n"
+                         "ERR 2 word: there is no command jump\n")
 
     def test_shoot_and_trace(self):
         out, _ = self.done("names off; shoot 2 2 1 1; trace 1", "shoot 3 2 1 1", "shoot 1")
@@ -320,7 +312,7 @@ class Words(unittest.TestCase):
             self.assertIn(f"example:\n  {example}", out)
             with mock.patch("sys.argv", ["/usr/bin/gaslab-client"]):
                 self.assertIn(f"gaslab-client {word}", said(word, "--help")[1])
-        self.assertEqual(set(WORDS), {"shell", "draw", "film", "table", "profile", "random", "show",
+        self.assertEqual(set(WORDS), {"shell", "draw", "film", "table", "profile", "random", "lesson", "show",
                                       "journal", "page", "rows", "watch"})
 
     def test_no_word(self):
@@ -356,6 +348,29 @@ class Words(unittest.TestCase):
         self.assertEqual((status, out), (0, 32 * (64 * "█" + "\n")))
         status, out, _ = said("draw", self.path("day.gas"), "--mean", 8)
         self.assertEqual((status, out), (0, 4 * (8 * "█" + "\n")))
+
+    def test_lesson(self):
+        scripts = list((ROOT / "examples").glob("*.txt"))
+        for path in scripts:
+            self.assertEqual(said("lesson", path.stem), (0, path.read_text(), ""))
+        status, out, errors = said("lesson")
+        self.assertEqual((status, errors), (0, ""))
+        self.assertEqual(sorted(out.splitlines()), sorted(it.stem for it in scripts))
+        self.assertTrue(out.startswith("1_one_particle\n2_"), out)
+        status, out, errors = said("lesson", "tunnel")
+        self.assertEqual((status, out), (1, ""))
+        self.assertIn("gaslab lesson: no lesson 'tunnel': there are 1_one_particle, ", errors)
+
+    def test_draw_momentum(self):
+        """Each second column is full: all fly to the right at tick 0, and as many down as up."""
+        gas = Snapshot(64, 64, particle_bytes=512 * b"\xaa")
+        day, png = self.path("day.gas"), self.path("it.png")
+        day.write_bytes(gas.to_bytes())
+        for show, colour in (("px", (0, 114, 178)), ("py", (255, 255, 255))):
+            self.assertEqual(said("draw", day, "-o", png, "--show", show), (0, "", ""))
+            self.assertEqual(read(png).pixel(99, 99), colour)
+        status, _, errors = said("draw", day, "--show", "px")
+        self.assertEqual((status, errors), (1, "gaslab draw: --show draws a file: name it by --output\n"))
 
     def test_film(self):
         script = self.path("script", "put 1 2 1 1\n")
@@ -393,7 +408,7 @@ class Words(unittest.TestCase):
     def test_random(self):
         from gaslab import random_gas
         words = ("random", "--width", 128, "--density", 0.2, "--drift", 0.5, "--seed", 9)
-        lines = "".join(line + "\n" for line in random_gas(128, 64, 0.2, (0.5, 0.0), 9))
+        lines = "".join(line + "\n" for line in random_gas(128, 64, 0.2, (0.5, 0.0), 9, 0))
         self.assertEqual(said(*words), (0, lines, ""))
         self.assertEqual(said("random", "--density", 2)[0], 1)
 
@@ -485,7 +500,6 @@ class Words(unittest.TestCase):
                       ("show", "/dev/zero"), ("show", self.room), ("show", script),
                       ("draw", script, "-o", "/no/such/folder/it.png"),
                       ("draw", script, "-o", self.room / "it.jpg"),
-                      ("draw", script, "--program", "/no/program"),
                       ("draw", script, "--program", "/bin/false"),
                       ("random", "--density", "nan"), ("random", "--drift", "2"),
                       ("watch", "127.0.0.1", "1"), ("watch", "no.such.host.example", "1"),
@@ -499,8 +513,13 @@ class Words(unittest.TestCase):
     def test_a_refused_script(self):
         status, _, errors = said("draw", self.path("script", "step 0\n"), *PROGRAM)
         self.assertEqual(status, 1)
-        self.assertEqual(errors, "gaslab draw: line 1: ERR 6 steps: one command makes 1 to 4,096 "
-                         "steps; asked: step 0\n")
+        self.assertEqual(errors, "gaslab draw: line 1: ERR 6 steps: n is 1 to 4,096, and not 0; "
+                         "asked: step 0\n")
+
+    def test_without_a_program_there_is_a_line_to_paste(self):
+        status, _, errors = said("draw", "--program", "/no/such")
+        self.assertEqual(status, 1)
+        self.assertEqual(errors.splitlines()[1], "    ./gaslab --build && export GASLAB_PROGRAM=$PWD/gaslab")
 
     def test_as_a_module(self):
         done = subprocess.run([sys.executable, "-m", "gaslab", "random", "--seed", "1"],

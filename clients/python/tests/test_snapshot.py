@@ -183,7 +183,7 @@ class Arrays(unittest.TestCase):
         rule = "multiples of 64 from 64 to 4,096"
         for cells, what in (([[0] * 64, [0] * 65], "rows of several widths"), ([[0] * 63], rule),
                             ([[]], rule), ([], "shape"), ([0] * 64, "shape"),
-                            (numpy.zeros((64, 4160)), rule)):
+                            (numpy.zeros((64, 4160), bool), rule)):
             with self.assertRaisesRegex(ValueError, what):
                 as_cells(cells)
 
@@ -216,12 +216,12 @@ class Arrays(unittest.TestCase):
 
     def test_from_arrays_that_are_no_gas(self):
         one, other = numpy.zeros((64, 64), bool), numpy.zeros((64, 128), bool)
-        self.assertRaisesRegex(ValueError, "one shape", Snapshot.from_arrays, one, other)
+        self.assertRaisesRegex(ValueError, "one shape", Snapshot.from_arrays, one, other, tick=0)
         self.assertRaisesRegex(ValueError, "none is given", Snapshot.from_arrays)
-        self.assertRaises(PortFault, Snapshot.from_arrays, one, drains=[(60, 0, 5, 1)])
+        self.assertRaises(PortFault, Snapshot.from_arrays, one, drains=[(60, 0, 5, 1)], tick=0)
         for wish in ({"tick": 2 ** 41}, {"tick": 2 ** 70}, {"drains": [(-1, 0, 1, 1)]},
                      {"drains": [(0, 0, 1, 1)] * 300}):
-            self.assertRaises(ValueError, Snapshot.from_arrays, one, **wish)
+            self.assertRaises(ValueError, Snapshot.from_arrays, one, **{"tick": 0, **wish})
 
 
 class Drafts(unittest.TestCase):

@@ -203,7 +203,7 @@ class Pages(Served):
         """The pages are closed, and the server ends with what happened."""
         page = await self.join()
         self.assertEqual(await self.ask(page, "tally"), "TALLY 0 0 0 0")
-        self.web.hall.laboratory.lab._door._process.kill()
+        self.web.hall.laboratory.lab._session.door.process.kill()
         await page.send_str("2 tally")
         self.assertEqual(await self.end_of(page), 1001)
         with self.assertRaises(Gone):
@@ -212,7 +212,7 @@ class Pages(Served):
     async def test_an_idle_page_hears_of_a_program_that_died(self):
         page = await self.join()
         self.assertEqual(await self.ask(page, "tally"), "TALLY 0 0 0 0")
-        self.web.hall.laboratory.lab._door._process.kill()
+        self.web.hall.laboratory.lab._session.door.process.kill()
         self.assertEqual(await asyncio.wait_for(self.end_of(page), 10), 1001)
         with self.assertRaises(Gone):
             await self.task
@@ -311,14 +311,14 @@ class TheCommand(unittest.TestCase):
     def test_what_it_can_not_do(self):
         with tempfile.TemporaryDirectory() as room:
             script = Path(room, "script.txt")
-            script.write_text("put 0 0 1 1\nput 0 0 65 1\n")
-            for words, why in (((script,), "line 2: ERR 5 rect: "), (("a", "b", "c"), "it takes a script"),
+            script.write_text("put 0 0 1 1\nstep 0\n")
+            for words, why in (((script,), "line 2: ERR 6 steps: "), (("a", "b", "c"), "it takes a script"),
                                (("127.0.0.1", "x"), "'x' is no port"), ((Path(room, "no"),), "No such file"),
                                (("127.0.0.1", "1", "--to", "x"), "--to makes a file"),
                                (("--share", "0.0.0.0"), "--share takes the address"),
                                (("--share", "x"), "'x' does not appear to be"),
                                (("--load", script), "a snapshot does not begin with"),
-                               (("127.0.0.1", "99999"), "a port is 0 to 65,535")):
+                               (("127.0.0.1", "99999"), "port is 0 to 65,535")):
                 status, out, errors = said("page", *words, "--program", STAND_IN)
                 self.assertEqual((status, out), (1, ""), words)
                 self.assertIn(why, errors)

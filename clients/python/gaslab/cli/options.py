@@ -7,6 +7,7 @@ from itertools import takewhile
 from typing import Any, Optional, Union
 
 from ..lab.lab import Lab
+from ..pictures.momentum import SHOWS
 from ..pictures.pixels import COLOURS
 from ..protocol.commands import MOST_ENTRIES, SIDES
 from ..protocol.scripts import Script, parse_script, read_text
@@ -69,6 +70,7 @@ OPTIONS: dict[str, dict[str, Any]] = {
     "host": _option("where the server runs, such as 127.0.0.1"),
     "port": _option("the number that it listens at", whole(0, 65535)),
     "file": _option("a script that is run first, or a snapshot; - is standard input", nargs="?"),
+    "name": _option("such as 4_tunnel (the names of all)", nargs="?"),
     "snapshot": _option("a snapshot, as the command save writes it"),
     "--script": {"help": "the commands alone, without comments, as ./gaslab run reads them", **_SWITCH},
     "--join": _option("a server that is joined, as a seat", address, metavar="HOST:PORT"),
@@ -81,7 +83,9 @@ OPTIONS: dict[str, dict[str, Any]] = {
     "--program": _option("another program than GASLAB_PROGRAM or ./gaslab", metavar="PATH"),
     "--timeout": _option("seconds for a reply (60)", seconds, 60.0),
     "--scale": _option("pixels for each cell's side (some 600 in all)", whole(1, 64)),
-    "--mean": _option("show the density in squares of N by N cells", whole(1, 64), metavar="N"),
+    "--mean": _option("show the density in squares of N by N cells", whole(1, 4096), metavar="N"),
+    "--show": _option("show the momentum to the right (px) or downwards (py) in such squares (of 8)", None,
+                      choices=tuple(SHOWS)),
     "--colour": _option("what the colour of a particle shows (kind)", None, "kind", choices=COLOURS),
     "--output": _option("a file that ends in .png or .gif (drawn here)", metavar="PATH"),
     "--output!": _option("a file that ends in .png, .apng or .gif", metavar="PATH", required=True),
@@ -148,7 +152,8 @@ def lab_of(asked: argparse.Namespace) -> Iterator[Lab]:
         script = until_quit(parse_script(read_text(asked.file)))
     if asked.join:
         start = Snapshot.read(load) if load else None
-        lab = Lab.join(*asked.join, timeout=asked.timeout, start=start)
+        host, port = asked.join
+        lab = Lab.join(host, port, asked.timeout, start)
     else:
         width, height = script.lattice
         lab = Lab.run(asked.width or width, asked.height or height, asked.workers, asked.cap, load,

@@ -56,11 +56,17 @@ class _Served:
         """Serves. A signal is taken by the loop from before anything is started, and none is lost."""
         loop = asyncio.get_running_loop()
         ended: "asyncio.Future[int]" = loop.create_future()
+
+        def end(number: int) -> None:
+            if not ended.done():
+                ended.set_result(128 + number)
+
         for number in numbers:
-            loop.add_signal_handler(number, lambda it: ended.done() or ended.set_result(128 + it), number)
+            loop.add_signal_handler(number, end, number)
         self.web = Web(self.make_hall, self.asked.share or "127.0.0.1")
         task = loop.create_task(self.web.run(self.asked.page_port, self.ready))
-        await asyncio.wait([task, ended], return_when=asyncio.FIRST_COMPLETED)
+        both: list["asyncio.Future[Any]"] = [task, ended]
+        await asyncio.wait(both, return_when=asyncio.FIRST_COMPLETED)
         if not ended.done():
             self._fail(task.exception())
         task.cancel()

@@ -9,11 +9,14 @@ from contextlib import contextmanager, suppress
 from typing import Any, Optional, TextIO, Union
 
 from ..lab.lab import Lab
+from ..measure.gates import shoot, trace
 from ..measure.tables import csv_text
 from ..pictures.drawing import picture
 from ..pictures.text import text_picture
-from ..protocol.commands import COMMANDS
-from ..protocol.errors import GaslabError, Gone, LIMITS, REFUSALS, Refused, Strange, printable
+from ..protocol.commands import COMMANDS, Command
+from ..protocol.errors import GaslabError, Gone, Refused, Strange
+from ..protocol.limits import LIMITS, REFUSALS
+from ..protocol.printable import printable
 from ..protocol.replies import Bye, Reply, named, reply_text
 from ..protocol.scripts import Script, is_open, parse_script, read_text
 
@@ -32,9 +35,9 @@ def columns() -> int:
 
 def help_text(word: str = "") -> str:
     """What the shell says about a word, or about all."""
-    own = {name: (" ".join(list(inspect.signature(it).parameters)[1:]), it.__doc__, ())
+    own = {name: Command(" ".join(list(inspect.signature(it).parameters)[1:]), it.__doc__ or "")
            for name, it in Shell.WORDS.items()}
-    own["repeat"] = ("N { .. }", "as in: repeat 30 { step 100; ledger }", ())
+    own["repeat"] = Command("N { .. }", "as in: repeat 30 { step 100; ledger }")
     if not word:
         lines = [[f"  {name + ' ' + words:<24} {what}" for name, (words, what, _) in table.items()]
                  for table in (COMMANDS, own)]
@@ -136,11 +139,15 @@ class Shell:
 
     def word_shoot(self, x: str, y: str, vx: str, vy: str) -> None:
         """puts a particle that flies with (vx, vy), each 1 or -1"""
-        self._say(self.lab.shoot(int(x), int(y), int(vx), int(vy)))
+        self._say(shoot(self.lab, int(x), int(y), int(vx), int(vy)))
 
     def word_trace(self, n: str) -> None:
         """makes n steps, and tells where the particles are at each tick"""
-        self._say(csv_text(self.lab.trace(int(n))).rstrip("\n"))
+        self._say(csv_text(trace(self.lab, int(n))).rstrip("\n"))
+
+    def word_fresh(self) -> None:
+        """goes on from the same gas with a new journal and new accounts"""
+        self.lab.fresh()
 
     def word_draw(self, velocity: str = "kind") -> None:
         """draws the gas here; the colours may be those of velocities"""

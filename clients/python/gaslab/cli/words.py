@@ -5,25 +5,29 @@ import re
 import shutil
 import sys
 import time
-from collections.abc import Iterator
+from collections.abc import Iterator, Sequence
 from contextlib import nullcontext
 from typing import Optional, Union
 
 import numpy
 
 from ..lab.lab import Lab
-from ..measure.measuring import every, profile, random_gas, sums_of
+from ..measure.measuring import every, profile, sums_of
 from ..measure.tables import chart, csv_text
 from ..page.hall import Hall
 from ..page.laboratory import Laboratory, Means
 from ..page.one_file import one_file
-from ..pictures.drawing import film, picture
+from ..pictures.drawing import picture
+from ..pictures.films import film
 from ..pictures.text import text_picture
-from ..protocol.doors import find_program
-from ..protocol.errors import Gone, Moving, Silent, Strange, Unreachable, printable
+from ..protocol.errors import Gone, Moving, Silent, Strange, Unreachable
+from ..protocol.places import lesson, lesson_names
+from ..protocol.printable import printable
+from ..protocol.programs import find_program
 from ..protocol.replies import Row, parse_reply, show_cells
 from ..protocol.scripts import Script, parse_script, read_text
 from ..snapshot.files import Snapshot
+from ..snapshot.gases import random_gas
 from ..snapshot.rectangles import cover
 from .options import gas_of, is_snapshot, lab_of, until_quit
 from .serving import serve
@@ -54,7 +58,9 @@ def draw(asked: argparse.Namespace) -> None:
     """A picture, as a file or here."""
     with gas_of(asked) as gas:
         if asked.output:
-            picture(gas, asked.output, asked.scale, asked.mean, asked.colour)
+            picture(gas, asked.output, asked.scale, asked.mean, asked.colour, show=asked.show)
+        elif asked.show:
+            raise ValueError("--show draws a file: name it by --output")
         else:
             print(text_picture(gas, columns(), is_coloured(), asked.colour, asked.mean))
 
@@ -63,7 +69,7 @@ def film_word(asked: argparse.Namespace) -> None:
     """A film."""
     with lab_of(asked) as lab:
         film(lab, asked.output, asked.steps, asked.frames, asked.scale, asked.mean, asked.colour,
-             asked.milliseconds)
+             asked.milliseconds, asked.show)
 
 
 def table(asked: argparse.Namespace) -> None:
@@ -85,8 +91,13 @@ def profile_word(asked: argparse.Namespace) -> None:
 def random_word(asked: argparse.Namespace) -> None:
     """The lines of a random gas."""
     drift = (asked.drift, asked.drift_down)
-    for line in random_gas(asked.width, asked.height, asked.density, drift, asked.seed):
+    for line in random_gas(asked.width, asked.height, asked.density, drift, asked.seed, tick=0):
         print(line)
+
+
+def lesson_word(asked: argparse.Namespace) -> None:
+    """The script of a lesson, or the names of all."""
+    print(lesson(asked.name).read_text() if asked.name else "\n".join(lesson_names()) + "\n", end="")
 
 
 def show(asked: argparse.Namespace) -> None:
@@ -97,9 +108,11 @@ def show(asked: argparse.Namespace) -> None:
         print(f"# {gas.count} particles, {numpy.count_nonzero(gas.walls)} wall cells, "
               f"{numpy.count_nonzero(gas.obstacles)} obstacle cells")
         print(f"# {len(gas.sources)} sources, {len(gas.drains)} drains")
-    for word, areas in (("wall", cover(gas.walls, gas.walls)), ("block", cover(gas.obstacles, gas.obstacles)),
-                        ("source", gas.sources), ("drain", gas.drains)):
-        for area in areas:
+    areas: dict[str, Sequence[tuple[int, ...]]] = {
+        "wall": cover(gas.walls, gas.walls), "block": cover(gas.obstacles, gas.obstacles),
+        "source": gas.sources, "drain": gas.drains}
+    for word, rectangles in areas.items():
+        for area in rectangles:
             print(word, *area)
 
 

@@ -1,1 +1,1 @@
-"""The laboratory as an object, and what builders of gates do with it."""
+"""The laboratory as an object, and what can be drawn and measured."""

@@ -1,1 +1,1 @@
-"""Measuring: tables, charts, profiles, fields, and random gases."""
+"""Measuring: tables, charts, profiles and fields; and what builders of gates use."""

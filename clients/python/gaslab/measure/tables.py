@@ -1,5 +1,6 @@
 """Tables of numbers: frames of pandas, or records of numpy, as CSV and as charts."""
 import csv
+import importlib
 import io
 import os
 from collections.abc import Iterable, Sequence
@@ -11,26 +12,27 @@ from ..protocol.doors import PathLike
 from ..protocol.errors import library
 from ..snapshot.files import draft
 
+Table = Any
+"""A DataFrame if pandas is installed, and else an array of numpy records. `table["tick"]` is a column."""
 
-def table_of(names: Sequence[str], rows: Iterable[Sequence[Union[int, float]]]) -> Any:
-    """A table of these rows: `table["tick"]` is a column.
 
-    It is a DataFrame if pandas is installed, and else an array of numpy records.
-    """
+def table_of(names: Sequence[str], rows: Iterable[Sequence[Union[int, float]]]) -> Table:
+    """A table of these rows."""
     columns = [numpy.array(column) for column in zip(*rows)] or [numpy.zeros(0, int) for _ in names]
     try:
-        import pandas
+        pandas = importlib.import_module("pandas")
     except ImportError:
-        return numpy.rec.fromarrays(columns, names=list(names))
+        kinds = numpy.dtype([(name, column.dtype) for name, column in zip(names, columns)])
+        return numpy.rec.fromarrays(columns, dtype=kinds)
     return pandas.DataFrame(dict(zip(names, columns)))
 
 
-def columns_of(table: Any) -> list[str]:
+def columns_of(table: Table) -> list[str]:
     """The names of a table's columns, in order."""
     return list(table.columns if hasattr(table, "columns") else table.dtype.names)
 
 
-def csv_text(table: Any) -> str:
+def csv_text(table: Table) -> str:
     """A table as CSV with a line of names."""
     names, text = columns_of(table), io.StringIO()
     writer = csv.writer(text, lineterminator="\n")
@@ -39,7 +41,7 @@ def csv_text(table: Any) -> str:
     return text.getvalue()
 
 
-def chart(table: Any, path: PathLike, x: str, y: Union[str, Sequence[str]]) -> None:
+def chart(table: Table, path: PathLike, x: str, y: Union[str, Sequence[str]]) -> None:
     """Writes a chart of the columns `y` over the column `x`, a line with a mark for each number.
 
     The path ends in .svg, .png or .pdf. Raises `ValueError` for another ending, an unknown column, or a table

@@ -8,7 +8,8 @@ from itertools import count
 from typing import Optional, Union
 
 from ..protocol.commands import CHANGES, COMMANDS, MOST_STEPS, SIDES
-from ..protocol.errors import GaslabError, Moving, printable
+from ..protocol.errors import GaslabError, Moving
+from ..protocol.printable import printable
 from ..protocol.scripts import Script
 from ..snapshot.files import Snapshot, SnapshotFault
 from .laboratory import Laboratory, Means
@@ -111,8 +112,9 @@ class Hall:
 
     def close(self) -> None:
         """Ends all sessions."""
-        for it in {self.laboratory, self._old} - {None}:
-            it.close()
+        for it in (self.laboratory, self._old):
+            if it is not None:
+                it.close()
 
     def tell(self, event: str) -> None:
         """Sends an event to all pages."""
@@ -339,7 +341,7 @@ class Hall:
 
     def _open(self, seat: Seat, words: list[str]) -> str:
         size, name = _numbers(words[:2], 2), printable(" ".join(words[2:]))[:_LONGEST_TITLE]
-        return self._begin(tuple(size), name=name) if size and set(size) <= set(SIDES) else "NO size"
+        return self._begin((size[0], size[1]), name=name) if size and set(size) <= set(SIDES) else "NO size"
 
     def _fresh(self, seat: Seat, words: list[str]) -> str:
         old = self.laboratory
@@ -365,7 +367,7 @@ class Hall:
         except SnapshotFault:
             return "NO snapshot"
 
-    def _begin(self, size: tuple[int, ...] = (64, 64), start: Optional[Snapshot] = None,
+    def _begin(self, size: tuple[int, int] = (64, 64), start: Optional[Snapshot] = None,
                name: str = "") -> str:
         """Shows another gas. The one before stays if no program can be started for it."""
         try:
@@ -379,8 +381,9 @@ class Hall:
         while self.laboratory.is_owed:
             self._read_on()
         kept = None if self._is_new else self.laboratory
-        for it in {self._old, self.laboratory} - {kept, None}:
-            it.close()
+        for it in {self._old, self.laboratory} - {kept}:
+            if it is not None:
+                it.close()
         self._old, self.laboratory, self._is_new = kept, laboratory, False
         self._texts = {}
         for seat in self.seats.values():

@@ -6,9 +6,10 @@ from typing import NamedTuple, Optional
 
 from ..lab.lab import Lab
 from ..protocol.commands import MOST_ENTRIES, canonical
-from ..protocol.doors import PathLike, is_script
+from ..protocol.doors import PathLike
 from ..protocol.errors import Refused, Strange
 from ..protocol.link import LINE_LIMIT
+from ..protocol.programs import is_script
 from ..protocol.replies import Ok, Reply, reply_text
 from ..protocol.scripts import journal_lines
 from ..snapshot.files import Snapshot

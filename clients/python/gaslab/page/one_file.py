@@ -62,7 +62,7 @@ def _text(own: dict[str, tuple[str, str]], bundles: dict[str, str], more: str, s
 def _worded(markup: str) -> str:
     """Markup with the page's texts in place of their {{names}}."""
     name, = _TEXTS.findall(read("texts.js"))
-    texts = json.loads(read(name))["index"]
+    texts: dict[str, str] = json.loads(read(name))["index"]
     return re.sub(r"\{\{(\w+)\}\}", lambda it: html.escape(texts[it[1]]), markup)
 
 

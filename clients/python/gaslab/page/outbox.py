@@ -39,7 +39,8 @@ class Outbox:
     def take(self) -> Optional[Message]:
         """The next message, or None. Texts in a row come as one. The one before no longer waits."""
         self._went += self._under_way
-        self._under_way, found = 0, []
+        found: list[Message] = []
+        self._under_way = 0
         while self._waiting and self._under_way < ROOM:
             message, size = self._waiting[0]
             if found and not isinstance(found[0], type(message)) or found and isinstance(message, bytes):

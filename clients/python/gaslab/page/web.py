@@ -117,11 +117,10 @@ class Web:
 
     def _app(self) -> Any:
         """The addresses, with a look at each request before it is answered."""
-        @self.http.middleware
         async def guard(request: Any, handler: Callable[[Any], Any]) -> Any:
             self._check(request)
             return await handler(request)
-        app = self.http.Application(middlewares=[guard])
+        app = self.http.Application(middlewares=[self.http.middleware(guard)])
         for path, answer in (("", self._page), ("gas.html", self._one_file), ("socket", self._socket)):
             app.router.add_get("/{token}/" + path, answer)
         return app

@@ -5,9 +5,10 @@ each of the three common kinds of colour blindness do. colours.json has them, wi
 """
 import json
 from pathlib import Path
-from typing import Any
+from typing import Union
 
 import numpy
+from numpy.typing import NDArray
 
 Colour = tuple[int, int, int]
 """Red, green and blue, each from 0 to 255."""
@@ -44,10 +45,13 @@ _MARKS = {**dict(enumerate(CELLS[:_FIRST])), **dict(zip(
 _STEPS = numpy.linspace(0, len(RAMP) - 1, 256 - _FIRST)
 _SHADES = numpy.rint([numpy.interp(_STEPS, range(len(RAMP)), part) for part in zip(*RAMP)])
 
-DENSITIES: tuple[Colour, ...] = (*_MARKS.values(), *map(tuple, _SHADES.astype(int).T.tolist()))
+DENSITIES: tuple[Colour, ...] = (*_MARKS.values(), *(
+    (red, green, blue) for red, green, blue in _SHADES.astype(int).T.tolist()))
 """The palette of density pictures: marks, darker for ports, then from empty (white) to full."""
 
 
-def density_index(count: Any, cells: int) -> Any:
+def density_index(count: Union[int, NDArray[numpy.int64]], cells: int) -> NDArray[numpy.uint8]:
     """The indices in `DENSITIES` for `count` particles in `cells` cells, a number or an array."""
-    return (_FIRST + numpy.rint(count * (255 - _FIRST) / cells)).astype(numpy.uint8)
+    index: NDArray[numpy.uint8] = (_FIRST + numpy.rint(
+        numpy.asarray(count) * (255 - _FIRST) / cells)).astype(numpy.uint8)
+    return index

@@ -1,10 +1,17 @@
 """Gases as arrays of indices into a palette, one for each pixel."""
-from typing import Any, Optional
+from collections.abc import Iterator
+from typing import Optional, SupportsIndex
 
 import numpy
+from numpy.typing import NDArray
 
+from ..snapshot.cells import Cells
+from ..snapshot.counting import count_in_squares, side_of_squares
 from ..snapshot.files import Snapshot
 from . import palette
+
+Pixels = NDArray[numpy.uint8]
+"""Indices into a palette, of shape (height, width)."""
 
 COLOURS = ("kind", "velocity")
 """What the colour of a particle shows."""
@@ -13,28 +20,30 @@ _KINDS = numpy.array([[palette.LEFT_UP, palette.LEFT_DOWN],
                       [palette.RIGHT_UP, palette.RIGHT_DOWN]], numpy.uint8)
 
 
-def check_looks(gas: Snapshot, mean: Optional[int], colour: str) -> None:
-    """Raises `ValueError` unless a gas can be drawn in squares of so many cells and so coloured."""
+def check_looks(gas: Snapshot, mean: Optional[SupportsIndex], colour: str) -> Optional[int]:
+    """Raises `ValueError` unless a gas can be drawn in squares of so many cells and so coloured.
+
+    Returns `mean` as an `int`, or None.
+    """
     if colour not in COLOURS:
         raise ValueError(f"colour is one of {', '.join(COLOURS)}, and not {colour!r}")
-    if mean is not None and (not 1 <= mean <= 64 or gas.width % mean or gas.height % mean):
-        raise ValueError(f"mean is from 1 to 64 and divides both sides, {gas.width} and "
-                         f"{gas.height}: not {mean}")
-    if mean is not None and colour != "kind":
+    if mean is None:
+        return None
+    if colour != "kind":
         raise ValueError("mean shows densities, which have no velocity")
+    return side_of_squares(mean, gas.width, gas.height)
 
 
-def cell_pixels(gas: Snapshot, colour: str = "kind") -> Any:
+def cell_pixels(gas: Snapshot, colour: str = "kind") -> Pixels:
     """One pixel for each cell: `height` rows of `width` indices into `palette.CELLS`.
 
     With `colour` "velocity" a particle has the colour of its direction.
     """
     pixels = numpy.full((gas.height, gas.width), palette.EMPTY, numpy.uint8)
-    for ports, index in ((gas.sources, palette.SOURCE), (gas.drains, palette.DRAIN)):
-        for x, y, w, h, *_ in ports:
-            pixels[y:y + h, x:x + w] = index
+    for port, index in _ports(gas):
+        pixels[port] = index
     particles, walls, obstacles = gas.particles, gas.walls, gas.obstacles
-    kinds = numpy.uint8(palette.PARTICLE)
+    kinds = numpy.array(palette.PARTICLE, numpy.uint8)
     if colour == "velocity":
         right, down = ((numpy.arange(side) + gas.tick + 1) % 2 for side in (gas.width, gas.height))
         kinds = _KINDS[right[None, :], down[:, None]]
@@ -45,46 +54,52 @@ def cell_pixels(gas: Snapshot, colour: str = "kind") -> Any:
     return pixels
 
 
-def counts_of(cells: Any, mean: int) -> Any:
-    """How many of the cells each square of `mean` by `mean` cells has, or the sum of numbers."""
-    height, width = cells.shape
-    return cells.reshape(height // mean, mean, width // mean, mean).sum(axis=(1, 3), dtype=int)
+def _ports(gas: Snapshot) -> Iterator[tuple[tuple[slice, slice], int]]:
+    """The rows and columns of each source and drain, with its colour."""
+    for source in gas.sources:
+        yield _area(*source[:4]), palette.SOURCE
+    for drain in gas.drains:
+        yield _area(*drain), palette.DRAIN
 
 
-def density_pixels(gas: Snapshot, mean: int, solids: bool = True) -> Any:
+def _area(x: int, y: int, w: int, h: int) -> tuple[slice, slice]:
+    return slice(y, y + h), slice(x, x + w)
+
+
+def density_pixels(gas: Snapshot, mean: int, solids: bool = True) -> Pixels:
     """One pixel for each square of `mean` by `mean` cells: indices into `palette.DENSITIES`.
 
     With `solids` a square of which at least half is wall or obstacle has the colour of what it has more of.
     """
-    pixels = palette.density_index(counts_of(gas.particles, mean), mean * mean)
+    particles, walls, obstacles = (count_in_squares(plane, gas.width, mean) for plane in (
+        gas.particle_bytes, gas.wall_bytes, gas.obstacle_bytes))
+    pixels = palette.density_index(particles, mean * mean)
     if not solids:
         return pixels
-    walls, obstacles = counts_of(gas.walls, mean), counts_of(gas.obstacles, mean)
     solid = 2 * numpy.maximum(walls, obstacles) >= mean * mean
     pixels[solid] = numpy.where(walls > obstacles, palette.WALL, palette.OBSTACLE)[solid]
     return pixels
 
 
-def scaled(pixels: Any, scale: int) -> Any:
+def scaled(pixels: Pixels, scale: int) -> Pixels:
     """Each pixel as a square of `scale` by `scale` pixels."""
     return pixels.repeat(scale, axis=0).repeat(scale, axis=1)
 
 
-def outlined(gas: Snapshot, pixels: Any) -> Any:
+def outlined(gas: Snapshot, pixels: Pixels) -> Pixels:
     """A density picture, of any size, with walls and obstacles and lines round them and ports."""
     done = pixels.copy()
     for cells, inside, line in ((gas.walls, palette.WALL_INSIDE, palette.WALL),
                                 (gas.obstacles, palette.OBSTACLE_INSIDE, palette.OBSTACLE)):
         _draw(done, cells, inside, line)
-    for ports, line in ((gas.sources, palette.SOURCE), (gas.drains, palette.DRAIN)):
-        for x, y, w, h, *_ in ports:
-            area = numpy.zeros((gas.height, gas.width), bool)
-            area[y:y + h, x:x + w] = True
-            _draw(done, area, None, line)
+    for port, line in _ports(gas):
+        area = numpy.zeros((gas.height, gas.width), bool)
+        area[port] = True
+        _draw(done, area, None, line)
     return done
 
 
-def _draw(pixels: Any, cells: Any, inside: Optional[int], line: int) -> None:
+def _draw(pixels: Pixels, cells: Cells, inside: Optional[int], line: int) -> None:
     """Draws a line, of up to two pixels, along the edge of a set of cells, and fills it."""
     if not cells.any():
         return
@@ -97,11 +112,12 @@ def _draw(pixels: Any, cells: Any, inside: Optional[int], line: int) -> None:
         pixels[inner] = inside
 
 
-def _stretched(cells: Any, length: int) -> Any:
+def _stretched(cells: Cells, length: int) -> Cells:
     """An array with its rows stretched or pressed to `length`: true where any of its rows is."""
     number, place = cells.shape[0], numpy.arange(length)
     first = place * number // length
     last = numpy.maximum(first + 1, -(-(place + 1) * number // length))
     sums = numpy.zeros((number + 1, cells.shape[1]), int)
     sums[1:] = cells.cumsum(axis=0)
-    return sums[last] > sums[first]
+    done: Cells = sums[last] > sums[first]
+    return done

@@ -4,19 +4,39 @@ Many lines are sent while their replies are read, so neither side waits for good
 """
 import os
 import select
+import threading
 import time
 from collections import deque
 from collections.abc import Callable, Iterable, Iterator
-from typing import Optional, Union
+from contextlib import suppress
+from functools import partial
+from typing import Optional, Protocol, TypeVar, Union
 
 from .errors import Gone, Refused, Silent, Strange
-from .replies import Bye, Reply, parse_reply
+from .limits import Size
+from .replies import Bye, Reply, Row, no_answer, parse_reply
 
 LINE_LIMIT = 2048
 """The most bytes that a line or a reply has, its newline not counted."""
 _CHUNK = 65536
 _WINDOW = 65536  # bytes that wait to be written
 _MOST_ASKED = 16384  # lines that wait for their replies
+
+Taken = TypeVar("Taken", str, list[bytes])
+
+
+class Turn:
+    """One thread's turn, in a `with` statement. Another thread that comes meanwhile gets `RuntimeError`."""
+    def __init__(self) -> None:
+        self._lock = threading.RLock()
+
+    def __enter__(self) -> None:
+        if not self._lock.acquire(blocking=False):
+            raise RuntimeError("a Lab is for one thread at a time, and another thread is asking this one: "
+                               "start a Lab in each thread, or ask it while you hold a threading.Lock")
+
+    def __exit__(self, *_: object) -> None:
+        self._lock.release()
 
 
 class Link:
@@ -49,6 +69,22 @@ class Link:
         Raises `Gone` if the other side ends first, and `Silent` if the line is not whole after the timeout.
         The time that `refill` takes is not counted.
         """
+        if not self._lines:
+            self._await(refill)
+        line = self._lines.popleft()
+        try:
+            return line.decode()
+        except UnicodeDecodeError:
+            raise Strange(f"no reply of a laboratory: {line[:80]!r}") from None
+
+    def next_lines(self, most: int, refill: Callable[[], None] = lambda: None) -> list[bytes]:
+        """The lines that have arrived, from one to so many, in the way of `next_line`."""
+        if not self._lines:
+            self._await(refill)
+        return [self._lines.popleft() for _ in range(min(most, len(self._lines)))]
+
+    def _await(self, refill: Callable[[], None]) -> None:
+        """Waits until a line has arrived."""
         deadline = time.monotonic() + self.timeout
         while not self._lines:
             if self._at_end:
@@ -57,11 +93,6 @@ class Link:
             refill()
             deadline += time.monotonic() - began
             self._pump(deadline)
-        line = self._lines.popleft()
-        try:
-            return line.decode()
-        except UnicodeDecodeError:
-            raise Strange(f"no reply of a laboratory: {line[:80]!r}") from None
 
     def _pump(self, deadline: float) -> None:
         """Waits until something can be read or written, and does it."""
@@ -114,16 +145,32 @@ def lines_of(text: str) -> list[str]:
     return lines if lines[-1] else lines[:-1]
 
 
+class Door(Protocol):
+    """A way to a laboratory. What it has started ends when nobody holds it any more."""
+    name: str
+    link: Link
+
+    def close(self, polite: bool = True) -> None:
+        """Ends it. Without `polite` nothing is waited for."""
+
+    def kill(self) -> None:
+        """Ends it at once, from any thread. One that waits for a reply then gets `Gone`."""
+
+
 class Replies(Iterator[Reply]):
     """The replies to lines that are being sent, in order.
 
     A refusal is a `Refused` among the replies and is not raised. Lines are taken from the iterable as they
-    are needed, and sent ahead of the replies. If the laboratory is asked something else in between, the rest
-    is sent first, and its replies are kept here.
+    are needed, and sent ahead of the replies, `ahead` of them at most. If the laboratory is asked something
+    else in between, the rest is sent first, and its replies are kept here. `size` is the lattice's, for what
+    refusals say. `turn` is held while something is sent or read.
     """
-    def __init__(self, link: Link, lines: Union[str, Iterable[str]]) -> None:
-        self._link = link
+    def __init__(self, door: Door, lines: Union[str, Iterable[str]], turn: Turn, size: Optional[Size] = None,
+                 ahead: int = _MOST_ASKED) -> None:
+        self._door = door  # which lasts as long as this
+        self._link, self._turn, self._size = door.link, turn, size
         self._lines = iter(lines_of(lines) if isinstance(lines, str) else lines)
+        self._ahead = min(ahead, _MOST_ASKED)
         self._asked: deque[str] = deque()
         self._kept: deque[Reply] = deque()
         self._is_filling = False
@@ -137,29 +184,31 @@ class Replies(Iterator[Reply]):
     def __next__(self) -> Reply:
         if self._kept:
             return self._kept.popleft()
-        reply = self._take()
+        with self._turn:
+            reply = self._take()
         if reply is None:
             raise StopIteration
         return reply
 
+    def stop(self) -> None:
+        """Takes no more lines. Those that were sent are still answered."""
+        self._lines = iter(())
+
     def finish(self) -> None:
         """Sends the rest, and keeps the replies for later."""
-        for reply in iter(self._take, None):
+        while (reply := self._take()) is not None:
             self._kept.append(reply)
 
     def _take(self) -> Optional[Reply]:
         if self.has_ended:
             return None
-        self._fill()
+        if 2 * len(self._asked) < self._ahead:  # at each reply it would take longer
+            self._fill()
         if not self._asked:
             self.has_ended = True
             return None
-        try:
-            text = self._link.next_line(self._fill)
-        except Gone as fault:
-            self.has_ended = True
-            raise Gone(f"{fault}; {len(self._asked)} lines have no answer") from fault
-        reply = parse_reply(text, self._asked.popleft())
+        text = self._arrived(self._link.next_line)
+        reply = parse_reply(text, self._asked.popleft(), self._size)
         # after these the session is over: what else was sent is lost
         self.has_ended = isinstance(reply, Bye) or isinstance(reply, Refused) and reply.number == 1
         if self.has_ended and self._asked:
@@ -167,12 +216,53 @@ class Replies(Iterator[Reply]):
             raise Gone(f"the session ended with {text}; {len(self._asked)} lines have no answer")
         return reply
 
+    def rows(self, width: int) -> bytes:
+        """The packed rows of lines that are all `read y`, which are taken many at once.
+
+        Raises `Strange` for a reply that is no row of `width` cells.
+        """
+        parts: list[bytes] = []
+        with self._turn:
+            while not self.has_ended:
+                self._fill()
+                self.has_ended = not self._asked
+                if self._asked:
+                    lines = self._arrived(partial(self._link.next_lines, len(self._asked)))
+                    parts += self._packed(lines, width)
+        return b"".join(parts)
+
+    def _packed(self, lines: list[bytes], width: int) -> Iterator[bytes]:
+        asked = [self._asked.popleft() for _ in lines]
+        digits = b"".join([line[4:] for line in lines])
+        with suppress(ValueError):
+            packed = bytes.fromhex(digits.decode("ascii"))
+            if packed.hex().encode() == digits and all(
+                    len(line) == 4 + width // 4 and line.startswith(b"ROW ") for line in lines):
+                return iter([packed])
+        return self._checked_rows(asked, lines, width)
+
+    def _checked_rows(self, asked: list[str], lines: list[bytes], width: int) -> Iterator[bytes]:
+        """The same, line by line, with the fault of a reply that is none."""
+        for line, text in zip(asked, lines):
+            reply = parse_reply(text.decode(errors="replace"), line, self._size)
+            if not isinstance(reply, Row) or 4 * len(reply.hex) != width:
+                raise no_answer(line, reply)
+            yield bytes.fromhex(reply.hex)
+
+    def _arrived(self, take: Callable[[Callable[[], None]], Taken]) -> Taken:
+        try:
+            return take(self._fill)
+        except Gone as fault:
+            self.has_ended = True
+            raise Gone(f"{fault}; {len(self._asked)} lines have no answer") from fault
+
     def _fill(self) -> None:
         if self._is_filling:
             raise RuntimeError("the lines of send() ask the laboratory themselves")
         self._is_filling = True
         try:
-            while len(self._link.unsent) < _WINDOW and len(self._asked) < _MOST_ASKED:
+            # one line is asked in any case: a side that answers before it reads leaves no room for more
+            while not self._asked or len(self._link.unsent) < _WINDOW and len(self._asked) < self._ahead:
                 line = next(self._lines, None)
                 if line is None:
                     break

@@ -4,27 +4,59 @@ from collections.abc import Iterable
 from typing import Any, NamedTuple, Optional, Union
 
 import numpy
+from numpy.typing import NDArray
 
 from .commands import MOST_ENTRIES, MOST_SEATS, SIDES, parse_change
-from .errors import REFUSALS, Refused, Strange, printable
+from .errors import Refused, Strange
+from .limits import REFUSALS, Size
+from .printable import printable
 
 
-def _numbers_of(name: str, fields: str, what: str) -> Any:
-    kind: Any = NamedTuple(name, [(field, int) for field in fields.split()])  # type: ignore[misc]
-    kind.__doc__, kind.__module__ = what, __name__
-    return kind
+class Ok(NamedTuple):
+    """A change was made. `index` is its place in the journal, from 0."""
+    index: int  # type: ignore[assignment]  # it hides a method of tuples, and so does each `count` below
 
 
-Ok = _numbers_of("Ok", "index", "A change was made. `index` is its place in the journal, from 0.")
-Probe = _numbers_of("Probe", "count px py",
-                    "Sums in a rectangle: particles, and their momentum to the right and downwards.")
-Tally = _numbers_of("Tally", "tick count px py", "The tick, and the sums of the whole gas.")
-Ledger = _numbers_of("Ledger", "start injected drained start_x injected_x drained_x walls_x obstacles_x "
-                     "start_y injected_y drained_y walls_y obstacles_y",
-                     "The accounts: counts of particles, then momentum to the right (x), then downwards (y).")
-Saved = _numbers_of("Saved", "entries length",
-                    "A snapshot was written: the journal's length at that moment, and the file's in bytes.")
-Bye = _numbers_of("Bye", "", "The session has ended.")
+class Probe(NamedTuple):
+    """Sums in a rectangle: `count` particles, and their momentum, `px` to the right and `py` downwards."""
+    count: int  # type: ignore[assignment]
+    px: int
+    py: int
+
+
+class Tally(NamedTuple):
+    """The tick, and the sums of the whole gas: `count`, and the momentum `px`, `py`."""
+    tick: int
+    count: int  # type: ignore[assignment]
+    px: int
+    py: int
+
+
+class Ledger(NamedTuple):
+    """The accounts: counts of particles, then momentum to the right (x), then downwards (y)."""
+    start: int
+    injected: int
+    drained: int
+    start_x: int
+    injected_x: int
+    drained_x: int
+    walls_x: int
+    obstacles_x: int
+    start_y: int
+    injected_y: int
+    drained_y: int
+    walls_y: int
+    obstacles_y: int
+
+
+class Saved(NamedTuple):
+    """A snapshot was written: the journal's entries at that moment, and the file's length in bytes."""
+    entries: int
+    length: int
+
+
+class Bye(NamedTuple):
+    """The session has ended."""
 
 
 class Row(NamedTuple):
@@ -32,18 +64,19 @@ class Row(NamedTuple):
     hex: str
 
     @property
-    def cells(self) -> Any:
+    def cells(self) -> NDArray[numpy.bool_]:
         """The row as an array of truth values, of shape (width,)."""
         return numpy.unpackbits(numpy.frombuffer(bytes.fromhex(self.hex), numpy.uint8)).astype(bool)
 
 
 class Entry(NamedTuple):
-    """An entry of the journal: who made the change, and its command."""
+    """An entry of the journal: the `seat` that made the change, and its `command`."""
     seat: int
     command: str
 
 
 Reply = Union[Ok, Probe, Tally, Ledger, Row, Entry, Saved, Bye, Refused]
+"""A reply of a laboratory."""
 
 _MOST_CELLS = SIDES[-1] ** 2
 _COUNT, _MOMENTUM = (0, _MOST_CELLS), (-_MOST_CELLS, _MOST_CELLS)
@@ -53,30 +86,30 @@ _NUMBERS: dict[str, tuple[Any, tuple[tuple[int, int], ...]]] = {
     "TALLY": (Tally, ((-2 ** 40, 2 ** 40), _COUNT, _MOMENTUM, _MOMENTUM)),
     "LEDGER": (Ledger, 13 * (_ACCOUNT,)), "SAVED": (Saved, ((0, MOST_ENTRIES), (1558, 6291766))),
     "BYE": (Bye, ())}
-_WORDS = {Row: "ROW", Entry: "ENTRY", **{kind: word for word, (kind, _) in _NUMBERS.items()}}
+_WORDS: dict[type, str] = {Row: "ROW", Entry: "ENTRY", **{kind: word for word, (kind, _) in _NUMBERS.items()}}
 _NUMBER = re.compile(r"0|-?[1-9][0-9]{0,18}", re.ASCII)
-_ROW = re.compile(r"(?:[0-9a-f]{16}){1,64}")
 _ENTRY = re.compile(r"(0|[1-9][0-9]?) (.*)", re.ASCII)
 
 
-def parse_reply(text: str, asked: str) -> Reply:
+def parse_reply(text: str, asked: str, size: Optional[Size] = None) -> Reply:
     """The reply that a line spells, without its newline. `asked` is the line that was sent.
 
-    A refusal is returned as a `Refused` and not raised. Raises `Strange` for any other text: also if a number
-    is one that no laboratory gives, or if an entry is no change.
+    A refusal is returned as a `Refused` and not raised; `size` is the lattice's, for what it says. Raises
+    `Strange` for any other text: also if a number is one that no laboratory gives, or if an entry is no
+    change.
     """
     word, _, rest = text.partition(" ")
     reply: Optional[Reply] = None
     if word in _NUMBERS:
         reply = _numbers(*_NUMBERS[word], text.split(" ")[1:])
-    elif word == "ROW" and _ROW.fullmatch(rest):
+    elif word == "ROW" and _is_row(rest):
         reply = Row(rest)
     elif word == "ENTRY":
         reply = _entry(rest)
     elif word == "ERR":
         number, _, name = rest.partition(" ")
         known = _NUMBER.fullmatch(number) and REFUSALS.get(int(number)) == name
-        reply = Refused(int(number), name, asked) if known else None
+        reply = Refused(int(number), name, asked, size=size) if known else None
     if reply is None:
         raise Strange(f"no reply of a laboratory: {text[:80]!r}; asked: {printable(asked[:60])}")
     return reply
@@ -92,11 +125,24 @@ def _numbers(kind: Any, ranges: tuple[tuple[int, int], ...], words: list[str]) -
     return reply
 
 
+def _is_row(digits: str) -> bool:
+    """Whether these are the small hexadecimal digits of a row. To spell them again is the quickest check."""
+    try:
+        return 4 * len(digits) in SIDES and bytes.fromhex(digits).hex() == digits
+    except ValueError:
+        return False
+
+
 def _entry(rest: str) -> Optional[Entry]:
     match = _ENTRY.fullmatch(rest)
     if match is None or int(match[1]) >= MOST_SEATS or parse_change(match[2]) is None:
         return None
     return Entry(int(match[1]), match[2])
+
+
+def no_answer(line: str, reply: Reply) -> Strange:
+    """The fault of a reply that is none to this line."""
+    return Strange(f"no answer to {line[:60]!r}: {printable(str(reply))[:80]}")
 
 
 def reply_text(reply: Reply) -> str:

@@ -5,17 +5,20 @@
 
 A laboratory knows none of these. What comes out of `Script.commands` is one command after another.
 """
+import os
 import re
 import sys
 from collections.abc import Iterable, Iterator
 from typing import Any, NamedTuple, Optional, Union
 
-from .commands import MOST_STEPS, SIDES
+from .commands import COMMANDS, MOST_STEPS, RECTANGLES, SIDES
 from .doors import PathLike
+from .limits import Size
 from .link import lines_of
 
 _LONGEST = 2 ** 27  # bytes; the longest journal as a script has less
 _DEEPEST = 20
+_BLANKS = re.compile("[ \t\r\v\f]+")
 
 Tokens = list[tuple[int, str]]
 
@@ -25,19 +28,44 @@ class Script(NamedTuple):
 
     A part is a line number with a command, or with a count and the parts that are repeated.
     """
-    size: Optional[tuple[int, int]]
+    size: Optional[Size]
     parts: list[Any]
 
     @property
-    def lattice(self) -> tuple[int, int]:
-        """The size that it names, or else that its first command probes whole, or else 64 by 64."""
-        place = re.fullmatch(r"probe 0 0 (\d+) (\d+)", str(self.parts[0][1])) if self.parts else None
-        probed = tuple(map(int, place.groups())) if place else ()
-        return self.size or ((probed[0], probed[1]) if probed and set(probed) <= set(SIDES) else (64, 64))
+    def lattice(self) -> Size:
+        """The size that it names, or else the smallest on which all its commands fit.
+
+        A script that the page saved names none: its first command probes the whole lattice.
+        """
+        return self.size or _fitting(self.parts)
+
+    def number(self) -> int:
+        """How many commands there are, with each `repeat` carried out."""
+        return _counted(self.parts)
 
     def commands(self) -> Iterator[tuple[int, str]]:
         """The commands with their line numbers from 1, with each `repeat` carried out."""
         return _unrolled(self.parts)
+
+
+ScriptLike = Union[str, Iterable[str], "os.PathLike[str]", Script]
+"""A script: a text, its lines, the `Path` of its file, or what `parse_script` returns."""
+
+
+def script_of(given: ScriptLike) -> Script:
+    """The script that a text, its lines or the file of a `Path` is.
+
+    Raises `ValueError`, with the line, if it is none, and `OSError` from the file. A text that is one word
+    and no command is refused too: it is likely the path of a file.
+    """
+    if isinstance(given, Script):
+        return given
+    if isinstance(given, os.PathLike):
+        return parse_script(read_text(given))
+    if isinstance(given, str) and given.split() == [given] and given not in COMMANDS:
+        raise ValueError(f"{given!r} is no command. A text is a script itself, and its file is named by a "
+                         f"Path: Path({given!r})")
+    return parse_script(given)
 
 
 def parse_script(text: Union[str, Iterable[str]]) -> Script:
@@ -50,7 +78,7 @@ def parse_script(text: Union[str, Iterable[str]]) -> Script:
     return Script(size, parts)
 
 
-def journal_script(size: tuple[int, int], commands: Iterable[str], is_after_snapshot: bool = False) -> str:
+def journal_script(size: Size, commands: Iterable[str], is_after_snapshot: bool = False) -> str:
     """The script of a journal, of lines that a laboratory takes: steps that follow one another are joined.
 
     Its first line probes the whole lattice, which tells its size. If the journal began from a snapshot, it
@@ -59,7 +87,7 @@ def journal_script(size: tuple[int, int], commands: Iterable[str], is_after_snap
     return "".join(journal_lines(size, commands, is_after_snapshot))
 
 
-def journal_lines(size: tuple[int, int], commands: Iterable[str],
+def journal_lines(size: Size, commands: Iterable[str],
                   is_after_snapshot: bool = False) -> Iterator[str]:
     """The lines of that script, with their newlines."""
     last = "ledger" if is_after_snapshot else "probe 0 0 {} {}".format(*size)
@@ -86,11 +114,30 @@ def _tokens(text: Union[str, Iterable[str]]) -> Tokens:
     found = []
     for place, line in enumerate(lines_of(text) if isinstance(text, str) else text, 1):
         line = line.partition("#")[0].replace("{", ";{;").replace("}", ";};")
-        found += [(place, " ".join(part.split())) for part in line.split(";")]
+        found += [(place, _BLANKS.sub(" ", part).strip(" ")) for part in line.split(";")]
     return [(place, word) for place, word in found if word]
 
 
-def _size(place: int, command: str) -> tuple[int, int]:
+def _fitting(parts: list[Any]) -> Size:
+    """The smallest lattice on which all these parts fit."""
+    fits = [_fitting(inner[0]) if inner else _reach(*what.split(" ")) for _, what, *inner in parts]
+    width, height = (max(64, *(-(-it[k] // 64) * 64 for it in fits)) if fits else 64 for k in (0, 1))
+    return min(width, SIDES[-1]), min(height, SIDES[-1])
+
+
+def _reach(word: str, *rest: str) -> Size:
+    """How many columns and rows a command needs."""
+    numbers = [int(text) for text in rest[:4] if re.fullmatch("[0-9]{1,10}", text)]
+    if word in ("row", "read"):
+        cells = 4 * len(rest[1]) if len(rest) > 1 else 0
+        return cells, int(rest[0]) + 1 if rest and re.fullmatch("[0-9]{1,10}", rest[0]) else 0
+    if word in RECTANGLES and len(numbers) == 4:
+        x, y, w, h = numbers
+        return x + w, y + h
+    return 0, 0
+
+
+def _size(place: int, command: str) -> Size:
     words = command.split(" ")[1:]
     if len(words) != 2 or not set(words) <= set(map(str, SIDES)):
         raise ValueError(f"line {place}: size takes width and height, multiples of 64 from 64 to 4,096")
@@ -106,7 +153,11 @@ def _parts(tokens: Tokens, depth: int) -> list[Any]:
             raise ValueError(f"line {place}: size comes once, before the commands")
         if command == "{" or depth > _DEEPEST:
             raise ValueError(f"line {place}: a {{ comes after `repeat N`, {_DEEPEST} deep at most")
-        parts.append((place, *_repeat(place, rest, tokens, depth)) if word == "repeat" else (place, command))
+        if word == "repeat":
+            count, inner = _repeat(place, rest, tokens, depth)
+            parts += [(place, count, inner)] if count and inner else []
+        else:
+            parts.append((place, command))
     return parts
 
 
@@ -133,17 +184,26 @@ def _unrolled(parts: list[Any]) -> Iterator[tuple[int, str]]:
             yield place, what
 
 
+def _counted(parts: list[Any]) -> int:
+    return sum(what * _counted(inner[0]) if inner else 1 for _, what, *inner in parts)
+
+
 def read_text(path: PathLike) -> str:
     """The text of a file; "-" is standard input. Raises `ValueError` if it is no text."""
-    if path == "-":
-        data = getattr(sys.stdin, "buffer", sys.stdin).read(_LONGEST + 1)
-    else:
-        with open(path, "rb") as file:
-            data = file.read(_LONGEST + 1)
+    data = _data(path)
     if len(data) > _LONGEST:
         raise ValueError(f"{path}: a script has at most {_LONGEST:,} bytes")
     try:
-        return data if isinstance(data, str) else data.decode()
+        return data.decode("utf-8-sig")
     except UnicodeDecodeError as fault:
         place = data.count(b"\n", 0, fault.start) + 1
         raise ValueError(f"{path}: line {place} is not UTF-8") from None
+
+
+def _data(path: PathLike) -> bytes:
+    if path != "-":
+        with open(path, "rb") as file:
+            return file.read(_LONGEST + 1)
+    stream: Any = getattr(sys.stdin, "buffer", sys.stdin)
+    data: Union[str, bytes] = stream.read(_LONGEST + 1)
+    return data.encode() if isinstance(data, str) else data

@@ -4,12 +4,17 @@ import struct
 from collections.abc import Iterable, Iterator
 from contextlib import contextmanager
 from dataclasses import dataclass, field
-from typing import Any, BinaryIO, NamedTuple
+from functools import cached_property
+from typing import Any, BinaryIO, NamedTuple, Optional, SupportsIndex
+
+from numpy.typing import ArrayLike
 
 from ..protocol.commands import MOST_PORTS, SIDES
 from ..protocol.doors import PathLike
 from ..protocol.errors import GaslabError
-from .cells import array_of, as_cells, check_sides, plane_of
+from ..protocol.numbers import whole
+from .cells import Cells, array_of, as_cells, check_sides, plane_of
+from .counting import count_in_squares
 
 _LONGEST = 6291766  # bytes
 _LARGEST_SIDE = {b"HPPGAS1\n": 2048, b"HPPGAS2\n": 4096}
@@ -23,26 +28,51 @@ class SnapshotFault(GaslabError, ValueError):
         super().__init__(f"{self.name}: {what}")
 
 
-def _fault(name: str, what: str) -> type[SnapshotFault]:
-    return type(f"{name}Fault", (SnapshotFault,), {"name": name, "__doc__": what, "__module__": __name__})
+class ShortFault(SnapshotFault):
+    """A field's bytes are not all there."""
+    name = "Short"
 
 
-ShortFault = _fault("Short", "A field's bytes are not all there.")
-MagicFault = _fault("Magic", "The first 8 bytes are those of neither version.")
-SizeFault = _fault("Size", "A side is no multiple of 64, or too long.")
-TickFault = _fault("Tick", "The tick is not from -2^40 to 2^40.")
-PortFault = _fault("Port", "A count of ports is above 16, a rectangle is not inside, or a period is 0.")
-TrailingFault = _fault("Trailing", "There are bytes after the last field.")
-
-Drain = NamedTuple("Drain", [(name, int) for name in ("x", "y", "w", "h")])
-Drain.__doc__ = "A rectangle of cells that loses its particles at each tick."
-Source = NamedTuple("Source", [(name, int) for name in ("x", "y", "w", "h", "period")])
-Source.__doc__ = "A rectangle of cells that is filled at each tick that `period` divides."
+class MagicFault(SnapshotFault):
+    """The first 8 bytes are those of neither version."""
+    name = "Magic"
 
 
-def _cells_of(name: str, what: str) -> Any:
-    return property(lambda gas: array_of(getattr(gas, name), gas.width),
-                    doc=f"Truth values of shape (height, width): where {what} are.")
+class SizeFault(SnapshotFault):
+    """A side is no multiple of 64, or too long."""
+    name = "Size"
+
+
+class TickFault(SnapshotFault):
+    """The tick is not from -2^40 to 2^40."""
+    name = "Tick"
+
+
+class PortFault(SnapshotFault):
+    """A count of ports is above 16, a rectangle is not inside, or a period is 0."""
+    name = "Port"
+
+
+class TrailingFault(SnapshotFault):
+    """There are bytes after the last field."""
+    name = "Trailing"
+
+
+class Drain(NamedTuple):
+    """A rectangle of cells that loses its particles at each tick."""
+    x: int
+    y: int
+    w: int
+    h: int
+
+
+class Source(NamedTuple):
+    """A rectangle of cells that is filled at each tick that `period` divides."""
+    x: int
+    y: int
+    w: int
+    h: int
+    period: int
 
 
 @dataclass(frozen=True)
@@ -51,7 +81,8 @@ class Snapshot:
 
     `width` and `height` are in cells, `tick` in steps. The three sets of cells are packed planes of `width *
     height / 8` bytes; `particles`, `walls` and `obstacles` are the same as arrays of truth values of shape
-    (height, width). Drains and sources are in the order in which they were added.
+    (height, width), which are made once and can't be written: `.copy()` can. Drains and sources are in the
+    order in which they were added.
     """
     width: int
     height: int
@@ -73,29 +104,34 @@ class Snapshot:
             object.__setattr__(self, name, plane)
 
     @classmethod
-    def from_arrays(cls, particles: Any = None, walls: Any = None, obstacles: Any = None,
-                    tick: int = 0, drains: Iterable[Iterable[int]] = (),
-                    sources: Iterable[Iterable[int]] = ()) -> "Snapshot":
-        """The gas of these arrays of truth values, each of shape (height, width).
+    def from_arrays(cls, particles: Optional[ArrayLike] = None, walls: Optional[ArrayLike] = None,
+                    obstacles: Optional[ArrayLike] = None, tick: Optional[SupportsIndex] = None,
+                    drains: Iterable[Iterable[int]] = (), sources: Iterable[Iterable[int]] = ()
+                    ) -> "Snapshot":
+        """The gas of arrays of shape (height, width), of truth values or whole numbers 0 and 1.
 
-        At least one is given; the others are empty. A drain is (x, y, w, h) in cells, and a source has its
-        period in ticks behind. Raises `ValueError` if they are no gas.
+        At least one is given; the others are empty. Particles need their `tick`, since a cell's velocity
+        changes from tick to tick: 0 for a new gas. A drain is (x, y, w, h) in cells, and a source has its
+        period in ticks behind. Raises `ValueError` if they are no gas, or if the tick is missing.
         """
-        names = ("particles", "walls", "obstacles")
-        given = {name: as_cells(cells, name) for name, cells in
-                 zip(names, (particles, walls, obstacles)) if cells is not None}
+        if particles is not None and tick is None:
+            raise ValueError("particles need tick=, since a cell's velocity changes from tick to tick: "
+                             "0 for a new gas, or that of the gas that they are from")
+        named = {"particles": particles, "walls": walls, "obstacles": obstacles}
+        given = {name: as_cells(cells, name) for name, cells in named.items() if cells is not None}
         shapes = {cells.shape for cells in given.values()}
         if len(shapes) != 1:
             raise ValueError("particles, walls and obstacles have one shape: "
                              + (" and ".join(map(str, sorted(shapes))) or "none is given"))
         (height, width), = shapes
-        planes = (plane_of(given[name]) if name in given else b"" for name in names)
-        gas = cls(width, height, tick, tuple(Drain(*it) for it in drains),
-                  tuple(Source(*it) for it in sources), *planes)
+        planes = [plane_of(given[name]) if name in given else b"" for name in named]
+        now = whole("tick", tick or 0, -2 ** 40, 2 ** 40)
+        gas = cls(width, height, now, tuple(Drain(*it) for it in drains),
+                  tuple(Source(*it) for it in sources), planes[0], planes[1], planes[2])
         try:
             return cls.from_bytes(gas.to_bytes())
         except struct.error as fault:
-            raise ValueError(f"a tick or a port is out of range: {fault}") from None
+            raise ValueError(f"a port is out of range: {fault}") from None
 
     @classmethod
     def read(cls, path: PathLike) -> "Snapshot":
@@ -120,18 +156,29 @@ class Snapshot:
         planes = (self.particle_bytes, self.wall_bytes, self.obstacle_bytes)
         return b"".join((b"HPPGAS2\n", head, *ports, *planes))
 
-    particles = _cells_of("particle_bytes", "particles")
-    walls = _cells_of("wall_bytes", "walls")
-    obstacles = _cells_of("obstacle_bytes", "obstacles")
+    def __reduce__(self) -> tuple[Any, ...]:
+        """Pickles the fields alone: arrays that come from a pickle could be written."""
+        return Snapshot, tuple(getattr(self, name) for name in self.__dataclass_fields__)
+
+    @cached_property
+    def particles(self) -> Cells:
+        """Where particles are: truth values of shape (height, width), which can't be written."""
+        return array_of(self.particle_bytes, self.width)
+
+    @cached_property
+    def walls(self) -> Cells:
+        """Where walls are: truth values of shape (height, width), which can't be written."""
+        return array_of(self.wall_bytes, self.width)
+
+    @cached_property
+    def obstacles(self) -> Cells:
+        """Where obstacles are: truth values of shape (height, width), which can't be written."""
+        return array_of(self.obstacle_bytes, self.width)
 
     @property
     def count(self) -> int:
         """How many particles there are."""
-        return int(self.particles.sum())
-
-    def _repr_png_(self) -> bytes:
-        from ..pictures.drawing import picture_bytes
-        return picture_bytes(self)
+        return int(count_in_squares(self.particle_bytes, self.width, 64).sum())
 
 
 class _Reader:
@@ -139,7 +186,7 @@ class _Reader:
     def __init__(self, data: bytes) -> None:
         self.data, self.at = data, 0
 
-    def take(self, form: str, what: str) -> Any:
+    def take(self, form: str, what: str) -> tuple[Any, ...]:
         size = struct.calcsize(form)
         part = self.data[self.at:self.at + size]
         if len(part) < size:
@@ -160,19 +207,21 @@ class _Reader:
         drains, sources = self.take("BB", "the counts of ports")
         if drains > MOST_PORTS or sources > MOST_PORTS:
             raise PortFault(f"{drains} drains and {sources} sources: at most 16 of each")
-        ports = [tuple(self.port(kind, width, height) for _ in range(count))
-                 for kind, count in ((Drain, drains), (Source, sources))]
-        version = int(magic[6:7])
-        names = ("particles", "walls", "obstacles")[:version + 1]
-        planes = [self.take(f"{width * height // 8}s", f"the plane of {it}")[0] for it in names]
+        found_drains = tuple(Drain(*self.port(4, width, height)) for _ in range(drains))
+        found_sources = tuple(Source(*self.port(5, width, height)) for _ in range(sources))
+        version, size = int(magic[6:7]), width * height // 8
+        planes = {it: self.take(f"{size}s", f"the plane of {it}")[0]
+                  for it in ("particles", "walls", "obstacles")[:version + 1]}
         if self.at < len(self.data):
             raise TrailingFault("bytes after the last field")
-        return Snapshot(width, height, tick, *ports, *planes, version=version)
+        return Snapshot(width, height, tick, found_drains, found_sources, planes["particles"],
+                        planes["walls"], planes.get("obstacles", b""), version)
 
-    def port(self, kind: Any, width: int, height: int) -> Any:
-        port = kind(*self.take(f">{len(kind._fields)}H", "a port"))
-        is_inside = port.w and port.h and port.x + port.w <= width and port.y + port.h <= height
-        if not is_inside or 0 in port[4:]:
+    def port(self, length: int, width: int, height: int) -> tuple[int, ...]:
+        """The numbers of a drain or a source."""
+        port = self.take(f">{length}H", "a port")
+        x, y, w, h, *period = port
+        if not (w and h and x + w <= width and y + h <= height) or 0 in period:
             raise PortFault(f"{port} in a lattice of {width} by {height}")
         return port
 

@@ -2,15 +2,18 @@
 from typing import Any
 
 import numpy
+from numpy.typing import NDArray
 
 from ..protocol.commands import MOST_ENTRIES
+from .cells import Cells
 
 Rectangle = tuple[int, int, int, int]
 """x, y, w and h in cells: the left upper corner, width and height."""
 _MOST_TRIED = 64  # rectangles round a cell, the largest ones
+_Numbers = NDArray[Any]
 
 
-def cover(needed: Any, allowed: Any) -> list[Rectangle]:
+def cover(needed: Cells, allowed: Cells) -> list[Rectangle]:
     """Rectangles that have all `needed` cells and else only `allowed` ones. They may overlap.
 
     Both are arrays of truth values of one shape. Each next rectangle begins with the first cell that is still
@@ -40,7 +43,7 @@ def cover(needed: Any, allowed: Any) -> list[Rectangle]:
     return sorted(done, key=lambda it: (it[1], it[0]))
 
 
-def _around(first: Any, last: Any, x: int, y: int) -> list[Any]:
+def _around(first: _Numbers, last: _Numbers, x: int, y: int) -> list[Rectangle]:
     """The largest allowed rectangles round the cell (x, y). The runs are those of its column."""
     up, a, b = _blocks(first[y::-1], last[y::-1], x)
     down, c, d = _blocks(first[y:], last[y:], x)
@@ -51,7 +54,7 @@ def _around(first: Any, last: Any, x: int, y: int) -> list[Any]:
     return list(zip(*(it.ravel()[chosen].tolist() for it in (low, tops, high - low, rows))))
 
 
-def _blocks(first: Any, last: Any, x: int) -> Any:
+def _blocks(first: _Numbers, last: _Numbers, x: int) -> tuple[_Numbers, _Numbers, _Numbers]:
     """How many rows in turn can be taken, with the columns that are allowed in all of them."""
     number = int(numpy.argmax(numpy.append(first > x, True)))
     low, high = numpy.maximum.accumulate(first[:number]), numpy.minimum.accumulate(last[:number])

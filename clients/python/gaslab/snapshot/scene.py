@@ -1,6 +1,4 @@
 """Walls, obstacles and ports, replayed from the journal, since no command reads them."""
-from typing import Any
-
 import numpy
 
 from ..protocol.commands import MOST_PORTS, parse_change
@@ -15,7 +13,7 @@ class Scene:
     """
     def __init__(self, start: Snapshot) -> None:
         self.size = start.width, start.height
-        self.walls, self.obstacles = start.walls, start.obstacles
+        self.walls, self.obstacles = start.walls.copy(), start.obstacles.copy()
         self.drains, self.sources = list(start.drains), list(start.sources)
 
     def enact(self, command: str) -> None:
@@ -37,7 +35,7 @@ class Scene:
                           .format(*self.size, command[:80]))
 
     def _edit(self, word: str, x: int, y: int, w: int, h: int) -> None:
-        area: Any = numpy.s_[y:y + h, x:x + w]
+        area = numpy.s_[y:y + h, x:x + w]
         if word != "block":
             self.walls[area] = word == "wall"
         if word != "wall":

@@ -4,12 +4,13 @@ import { TEXTS, told } from "./texts.js";
 import { isRefusal } from "./wording.js";
 import { button, h } from "./elements.js";
 import { state } from "./state.js";
-import { LONGEST, linesOf } from "./engine.js";
+import { LONGEST } from "./engine.js";
 import { view } from "./view.js";
 import { pause, send } from "./session.js";
 import { fields, text } from "./dialog.js";
 import { checked, numberField } from "./checks.js";
 import { inputs, outputs } from "./names.js";
+import { tableOf, way } from "./truth.js";
 
 const T = TEXTS.truth_table;
 
@@ -25,9 +26,6 @@ function likelyInputs() {
   return cells;
 }
 
-/** Lines that lead from a tick to another. */
-const way = (from, to) => linesOf({ at: to, lines: [] }, { tick: from, hasPorts: false });
-
 /** Goes to a tick, and waits for its picture. */
 async function goTo(tick) {
   const lines = way(state.picture.tick, tick), bad = (await send(lines, { isQuiet: true })).find(isRefusal);
@@ -36,23 +34,12 @@ async function goTo(tick) {
     await new Promise((done) => state.addEventListener("changed", done, { once: true }));
 }
 
-/** What is in rectangles at later ticks, { rect, tick }, for each choice of full inputs at a tick. */
+/** The rows of the table of a gas that is at its tick, and is so again then. */
 async function counted(cells, start, asked) {
-  const put = (isFull) => cells.map(([x, y], k) => `${isFull[k] ? "put" : "erase"} ${x} ${y} 1 1`);
-  const cases = Array.from({ length: 1 << cells.length },
-    (_, n) => cells.map((_cell, k) => n >> (cells.length - 1 - k) & 1));
-  const order = [...asked.keys()].sort((a, b) => asked[a].tick - asked[b].tick);
-  const run = order.flatMap((k, n) => [...way(n ? asked[order[n - 1]].tick : start, asked[k].tick),
-    `probe ${asked[k].rect.join(" ")}`]);
-  const home = way(asked[order.at(-1)]?.tick ?? start, start), has = cells.map((cell) => view.has(...cell));
-  const replies = await send([...cases.flatMap((isFull) => [...put(isFull), ...run, ...home]), ...put(has)],
-    { isQuiet: true });
-  const bad = replies.find(isRefusal);
+  const { lines, rows } = tableOf(cells, start, asked, cells.map((cell) => view.has(...cell)));
+  const replies = await send(lines, { isQuiet: true }), bad = replies.find(isRefusal);
   if (bad) throw new Error(told(T.bad, { reply: bad }));
-  const counts = replies.filter((reply) => reply.startsWith("PROBE"))
-    .map((reply) => Number(reply.split(" ")[1]));
-  return cases.map((isFull, n) => [...isFull,
-    ...asked.map((_, k) => counts[n * asked.length + order.indexOf(k)])]);
+  return rows(replies);
 }
 
 /** The rows of a table. In the end the gas is as before, at its tick. */
