@@ -23,7 +23,7 @@ platform_of() {
 # Copies from a package to a new folder what the wheel is made of: stage_wheel PACKAGE FOLDER
 stage_wheel() {
     own=$2/gaslab/program
-    cp -R "$1/clients/python" "$2" && mkdir -p "$own/lib" && cp "$1/gaslab" "$1/PROVED.md" "$own/" || return
+    cp -R "$1/clients/python" "$2" && cp -R "$1/examples" "$2/gaslab/lessons" && mkdir -p "$own/lib" && cp "$1/gaslab" "$1/PROVED.md" "$own/" || return
     for it in sources.sh run.sh help.sh gaslab_program gaslab_program.mark; do cp "$1/lib/$it" "$own/lib/" || return; done
     platform_of "$own/lib/gaslab_program" >"$own/platform" || return
     for it in LICENSE-MIT LICENSE-APACHE NOTICE; do [ ! -f "$here/$it" ] || cp "$here/$it" "$2/" || return; done

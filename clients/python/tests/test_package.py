@@ -27,8 +27,9 @@ LINE = "import sys, setuptools.build_meta as it; it.build_{}(sys.argv[1])"
 
 
 def copied(room):
-    """A copy of this folder, without what others built there."""
-    source = Path(room, "source")
+    """A copy of this folder beside the lessons, without what others built there."""
+    source = Path(room, "clients", "python")
+    shutil.copytree(EXAMPLES, Path(room, "examples"))
     shutil.copytree(CLIENT, source, ignore=shutil.ignore_patterns("build", "*.egg-info", "__pycache__"))
     return source
 
@@ -99,7 +100,8 @@ class OfTheClient(unittest.TestCase):
     def test_tests_are_with_the_sources_alone(self):
         tests = {f"tests/{it.name}" for it in (CLIENT / "tests").iterdir() if it.is_file()}
         more = {"lesson.ipynb", "bin/gaslab", "pictures/tunnel.png", "setup.cfg", "__main__.py"}
-        self.assertEqual((tests | more) - self.sources, set())
+        lessons = {f"gaslab/lessons/{it.relative_to(EXAMPLES)}" for it in EXAMPLES.rglob("*") if it.is_file()}
+        self.assertEqual((tests | more | lessons) - self.sources, set())
         self.assertFalse([it for it in self.names if "tests/" in it])
 
 

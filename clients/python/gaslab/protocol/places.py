@@ -2,7 +2,8 @@
 from pathlib import Path
 
 _PACKAGE = Path(__file__).resolve().parents[1]
-_LESSONS = _PACKAGE / "lessons"
+_INSTALLED = _PACKAGE / "lessons"
+_LESSONS = _INSTALLED if _INSTALLED.is_dir() else _PACKAGE.parents[2] / "examples"
 WHEEL_PROGRAM = _PACKAGE / "program" / "lib" / "gaslab_program"
 """The program, if this client was installed from a wheel that has one. Otherwise there is no such file."""
 
