@@ -1,3 +1,4 @@
+-- Sums over the bits of a word, and how many are set.
 use Rattle.std.proofs.Common.{◌≡◌, ℕ, zero, suc, ◌+◌, ◌*◌, ◌/◌, ◌%◌, ◌^◌, ◌<◌, ◌≤◌, Bool, false, if◌then◌else◌, [], ◌∷◌, ◌++◌, refl, sym, ◌∙◌, ap, arith, add-one, zero-add, add-zero, cond}
 use Rattle.std.proofs.Math.Numerals.{one-add}
 use Rattle.std.specs.List.{range_with_len, sum_by, count_by}

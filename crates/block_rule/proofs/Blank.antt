@@ -1,3 +1,4 @@
+-- A block is walled by walls and obstacles together if one of them has a cell of it.
 use Rattle.std.proofs.Common.{◌≡◌, ℕ, Bool, ◌||◌, arith}
 use Rattle.block_rule.specs.Around.{either, is_walled_at}
 use Rattle.block_rule.proofs.Around.{walled_by_cells}

@@ -15,6 +15,7 @@ use bit_tile::Tile;
 pub trait Turner {
     ghost turns: { Self → TileWords → TileWords → TileWords → Self → Type 0 };
 
+    /// Turns a tile, beside the one that stands to its right.
     fn turn(&mut self, tile: &mut Tile, right: &Tile)
         ensures { turns self.old tile.old right.now tile.new self.new };
 }

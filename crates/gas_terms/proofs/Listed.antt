@@ -1,3 +1,4 @@
+-- Each site of a parity is listed.
 use Rattle.std.proofs.Common.{◌≡◌, ℕ, zero, suc, ◌+◌, ◌*◌, ◌/◌, ◌%◌, ◌<◌, ◌≤◌, List, map, length, inl, inr, subst, ◌∙◌, arith}
 use Rattle.std.specs.List.{range_with_len, flat_map, All, Contains}
 use Rattle.std.proofs.lemmas.Bool.{cases_lt}

@@ -37,6 +37,7 @@ impl RowBits {
         })
     }
 
+    /// An equal row of its own.
     pub fn copy(&self, alloc: Global) -> Result<RowBits, NoMemory>
         ensures { IfOk result (λ row. row ≡ self.now) }
     {
@@ -45,6 +46,7 @@ impl RowBits {
         })
     }
 
+    /// The bytes: of eight cells each, with the left one highest.
     pub fn bytes(&self) -> &[u8]
         ensures bytes { result.now ≡ self.now }
         ensures short { length self.now ≤ most_row_bytes }

@@ -1,3 +1,4 @@
+-- Two amounts that came and went are equal by their parts.
 use Rattle.std.proofs.Common.{◌≡◌, ap₂}
 use Rattle.gas_terms.specs.declared.accounts.Sums.{Sums}
 use Rattle.gas_terms.specs.declared.accounts.Moved.{Moved}

@@ -36,6 +36,7 @@ impl<T: Copy> PortArray<T> {
         }
     }
 
+    /// An equal array of its own.
     pub fn copy(&self) -> PortArray<T>
         ensures { result ≡ self.now }
     {
@@ -45,6 +46,7 @@ impl<T: Copy> PortArray<T> {
         }
     }
 
+    /// Puts a value behind the last one. There has to be room.
     pub fn push(&mut self, value: T)
         requires { length self.old < most_ports }
         ensures { self.new ≡ self.old ++ value ∷ [] }
@@ -53,6 +55,7 @@ impl<T: Copy> PortArray<T> {
         self.count += 1;
     }
 
+    /// The values, in the order in which they were put.
     pub fn as_slice(&self) -> &[T]
         ensures items { result.now ≡ self.now }
         ensures few { length self.now ≤ most_ports }
@@ -60,6 +63,7 @@ impl<T: Copy> PortArray<T> {
         &self.values[..self.count]
     }
 
+    /// How many values it has.
     pub fn len(&self) -> usize
         ensures len { result ≡ length self.now }
         ensures few { length self.now ≤ most_ports }
@@ -67,6 +71,7 @@ impl<T: Copy> PortArray<T> {
         self.as_slice().len()
     }
 
+    /// Takes all values out.
     pub fn clear(&mut self)
         ensures { self.new ≡ [] }
     {
