@@ -5,15 +5,16 @@ use Rattle.bit_tile.specs.declared.Tile.{Tile}
 use Rattle.bit_tile.proofs.Bits.{bit-or, bit-zero, get_or-replicate_zero}
 use Rattle.bit_tile.proofs.Words32.{bit_of_set_same, bit_of_set_other, bit_of_clear}
 use Rattle.std.specs.Int.{w32, bit_not}
-use Rattle.block_rule.specs.Around.{block_start, is_block_walled, is_walled_at}
+use Rattle.block_rule.specs.Around.{block_start, either, is_block_walled, is_walled_at}
 use Rattle.block_rule.specs.Rows.{ShowsTile, IsMade, IsMadeOdd, even_row}
 use Rattle.block_rule.specs.declared.blocks.Blocks.{Blocks}
 use Rattle.std.proofs.lemmas.Bool.{cases_eq, cases_lt, eq-eqb, ne_eqb}
 use Rattle.block_rule.specs.Shown.{TellsRows}
 use Rattle.block_rule.specs.NamedBlocks.{AreEvenBlocksOf, AreOddBlocksOf}
-use Rattle.block_rule.specs.TileBlocks.{NamesBlocks, DifferInRows}
+use Rattle.block_rule.specs.TileBlocks.{NamesBlocks, DifferInRows, walled_by}
 use Rattle.block_rule.specs.declared.blocks_in_tile.OddBlocks.{OddBlocks}
 use Rattle.block_rule.specs.declared.blocks_in_tile.TileBlocks.{TileBlocks}
+use Rattle.block_rule.proofs.Blank.{walled_either}
 use Rattle.block_rule.proofs.Holding.{same_block}
 use Rattle.block_rule.proofs.NamedBlocks.{none_there, odd_start, even_start, row_start}
 use Rattle.block_rule.proofs.Windows.{cell_by, ee_shown, oe_shown, eo_shown, oo_shown}
@@ -32,6 +33,17 @@ nothing_named =
   where
     nothing : (n i k : ℕ) → bit (get_or (replicate {A = ℕ} n 0) k 0) i ≡ false
     nothing n i k = ap (λ w. bit w i) (get_or-replicate_zero n k) ∙ bit-zero i
+
+-- what is named by one test is named by another that says the same
+pub names_same : (told : ℕ) (b : TileBlocks) (test other : ℕ → ℕ → ℕ → Bool) → ((p x y : ℕ) → p < 2 → x < 64 → y < 64 → test p x y ≡ other p x y) → NamesBlocks told b test → NamesBlocks told b other
+names_same told b test other same are = grind (arith)
+
+or_false : (a : Bool) → (a || false) ≡ a
+or_false a = grind arith
+
+pub named_alone : (told : ℕ) (b : TileBlocks) (window : ℕ → ℕ → Bool) → NamesBlocks told b (walled_by (either window (λ _ _. false))) → NamesBlocks told b (walled_by window)
+named_alone told b window =
+    names_same told b (walled_by (either window (λ _ _. false))) (walled_by window) (λ p x y _ _ _. walled_either p window (λ _ _. false) x y ∙ or_false (is_walled_at p window x y))
 
 -- any word of blocks that lie in rows 2 * j and 2 * j + 1, as the loop joins them
 abbrev pub any_of : TileBlocks → ℕ → ℕ
@@ -86,8 +98,18 @@ even_row_named window t new j k shows made i h =
     block : (x y far_x far_y : ℕ) → x + 1 ≡ far_x → y + 1 ≡ far_y → (window x y || window far_x y || window x far_y || window far_x far_y) ≡ is_block_walled window x y
     block x y far_x far_y e f = rw (← e, ← f) refl
 
+either_block : (some other : ℕ → ℕ → Bool) (x y : ℕ) → is_block_walled (either some other) x y ≡ (is_block_walled some x y || is_block_walled other x y)
+either_block some other x y = grind arith
+
 pub row_named : (window : ℕ → ℕ → Bool) (k y : ℕ) (new : Blocks) → y ≡ 2 * k → IsMadeOdd (λ own beside facing across. (own || facing) || (beside || across)) window y new → IsRowNamed window k new.upper_left new.upper_right
 row_named window k y new e made = grind (arith, right_first)
+
+-- with the blocks that other words name
+pub row_joined : (some other : ℕ → ℕ → Bool) (k begin end more_begin more_end : ℕ) → IsRowNamed some k begin end → IsRowNamed other k more_begin more_end → IsRowNamed (either some other) k (bit_or begin more_begin) (bit_or end more_end)
+row_joined some other k begin end more_begin more_end is more = grind (arith, bit-or, either_block)
+
+pub even_joined : (some other : ℕ → ℕ → Bool) (x y word more i : ℕ) → bit word i ≡ is_walled_at 0 some x y → bit more i ≡ is_walled_at 0 other x y → bit (bit_or word more) i ≡ is_walled_at 0 (either some other) x y
+even_joined some other x y word more i is others = bit-or word more i ∙ (ap₂ (λ a b. a || b) is others ∙ sym (walled_either 0 some other x y))
 
 -- all of them, and each of all
 pub all_named : (b : OddBlocks) (window : ℕ → ℕ → Bool) → ((k : ℕ) → k < 33 → IsRowNamed window k (get_or b.begin k 0) (get_or b.end k 0)) → AreOddBlocksOf b (is_walled_at 1 window)

@@ -1,13 +1,13 @@
 -- The walled blocks of a tile at odd parity.
-use Rattle.std.proofs.Common.{◌≡◌, refl, ◌⊎◌, ℕ, ◌+◌, ◌-◌, ◌*◌, ◌/◌, ◌%◌, ◌<◌, ◌≤◌, Bool, true, false, not, ◌&&◌, ◌||◌, length, get_or, set, sym, subst, ◌∙◌, ap, ap₂, arith, inl, inr, List, Option, Some, None, bit_or}
+use Rattle.std.proofs.Common.{◌≡◌, refl, ◌⊎◌, ℕ, ◌+◌, ◌-◌, ◌*◌, ◌/◌, ◌%◌, ◌<◌, ◌≤◌, Bool, false, ◌&&◌, ◌||◌, length, get_or, set, sym, subst, ◌∙◌, ap, ap₂, arith, inl, inr, List, Option, Some, None, bit_or}
 use Rattle.std.proofs.lemmas.Bool.{cases_eq, eq-eqb, ne_eqb}
 use Rattle.bit_tile.specs.Bit.{bit}
 use Rattle.bit_tile.specs.Tile.{has, HasCells}
 use Rattle.bit_tile.specs.declared.Tile.{Tile}
-use Rattle.block_rule.specs.Around.{block_start, either, is_block_walled, is_for_walls, is_walled_at, turned}
+use Rattle.block_rule.specs.Around.{block_start, either, is_block_walled, is_walled_at, turned}
 use Rattle.block_rule.specs.Cell.{made, turned_cell}
 use Rattle.bit_tile.proofs.Bits.{bit-zero, bit-or}
-use Rattle.bit_tile.proofs.Classes.{IsClass, by_class, is_even_even, is_odd_even, is_even_odd, is_odd_odd}
+use Rattle.bit_tile.proofs.Classes.{IsClass, is_even_even, is_odd_even, is_even_odd, is_odd_odd}
 use Rattle.block_rule.specs.Classes.{AreCounts, particles_among}
 use Rattle.block_rule.specs.Shown.{HasNoCell, TellsRows}
 use Rattle.block_rule.proofs.Blank.{walled_either}

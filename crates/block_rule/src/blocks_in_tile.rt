@@ -38,6 +38,14 @@ pub struct SetBlocks<'a> {
     pub blocks: &'a TileBlocks,
 }
 
+impl SetBlocks<'static> {
+    /// No blocks.
+    pub const NONE: SetBlocks<'static> = SetBlocks {
+        rows: 0,
+        blocks: &TileBlocks::NONE,
+    };
+}
+
 // The row of odd blocks that begins at the window's row 2 * k.
 #[inline]
 fn odd_row(set: &Window, k: usize) -> OddRow
@@ -53,28 +61,30 @@ fn odd_row(set: &Window, k: usize) -> OddRow
     }
 }
 
-// Those of odd parity become the set's.
-fn renew_odd(words: &mut OddBlocks, set: &Window, from: usize, end: usize)
+// Those of odd parity become the blocks with a cell of the set, and those that others name.
+fn renew_odd(words: &mut OddBlocks, set: &Window, others: &OddBlocks, from: usize, end: usize)
     requires { end ≤ 33 }
-    ensures { (before now : ℕ → ℕ → Bool) → IsSeenIn set.now now →
-        DifferInRows from end before now →
+    ensures { (before some other : ℕ → ℕ → Bool) → IsSeenIn set.now some →
+        AreOddBlocksOf others.now (is_walled_at 1 other) →
+        DifferInRows from end before (either some other) →
         AreOddBlocksOf words.old (is_walled_at 1 before) →
-        AreOddBlocksOf words.new (is_walled_at 1 now) }
+        AreOddBlocksOf words.new (is_walled_at 1 (either some other)) }
 {
     for k in from..end {
         let named = made_odd(AnyCorner, odd_row(set, k));
-        words.begin[k] = named.upper_left;
-        words.end[k] = named.upper_right;
+        words.begin[k] = named.upper_left | others.begin[k];
+        words.end[k] = named.upper_right | others.end[k];
     }
 }
 
 // And those of even parity.
-fn renew_even(words: &mut [u32; 32], set: &Tile, from: usize, end: usize)
+fn renew_even(words: &mut [u32; 32], set: &Tile, others: &[u32; 32], from: usize, end: usize)
     requires { end ≤ 33 }
-    ensures { (before now : ℕ → ℕ → Bool) → ShowsTile now set.now →
-        DifferInRows from end before now →
+    ensures { (before some other : ℕ → ℕ → Bool) → ShowsTile some set.now →
+        AreEvenBlocksOf others.now (is_walled_at 0 other) →
+        DifferInRows from end before (either some other) →
         AreEvenBlocksOf words.old (is_walled_at 0 before) →
-        AreEvenBlocksOf words.new (is_walled_at 0 now) }
+        AreEvenBlocksOf words.new (is_walled_at 0 (either some other)) }
 {
     for j in from.saturating_sub(1)..end.min(32) {
         let named = AnyCorner.made(Blocks {
@@ -83,7 +93,7 @@ fn renew_even(words: &mut [u32; 32], set: &Tile, from: usize, end: usize)
             lower_left: set.even_odd[j],
             lower_right: set.odd_odd[j],
         });
-        words[j] = named.upper_left;
+        words[j] = named.upper_left | others[j];
     }
 }
 
@@ -110,16 +120,6 @@ fn renew_rows(rows: u32, blocks: &TileBlocks, from: usize, end: usize) -> u32
     told
 }
 
-// Words name the blocks that others name, too.
-fn add<const N: usize>(words: &mut [u32; N], others: &[u32; N])
-    ensures { (i k : ℕ) → k < N → bit (slice_index words.new k) i
-        ≡ (bit (slice_index words.old k) i || bit (slice_index others.now k) i) }
-{
-    for k in 0..N {
-        words[k] |= others[k];
-    }
-}
-
 impl TileBlocks {
     /// No block.
     pub const NONE: TileBlocks = TileBlocks {
@@ -130,41 +130,39 @@ impl TileBlocks {
         },
     };
 
-    /// They become the blocks with a cell of the set, if they were those of a set that differs from it in rows 2 * from to
-    /// 2 * end - 1 of the window alone. `rows` tells in which of the tile's rows they lay; returns the word that tells it now.
-    pub fn renew(&mut self, rows: u32, set: &Window, from: usize, end: usize) -> u32
+    /// They become the blocks with a cell of the set, and those of the others. If they were those of a set, that set differs from
+    /// both together in rows 2 * from to 2 * end - 1 of the window alone. `rows` tells in which of the tile's rows they lay;
+    /// returns the word that tells it now.
+    pub fn renew(
+        &mut self,
+        rows: u32,
+        set: &Window,
+        others: SetBlocks<'_>,
+        from: usize,
+        end: usize,
+    ) -> u32
         requires { end ≤ 33 }
-        ensures { (before now : ℕ → ℕ → Bool) → IsSeenIn set.now now →
-            DifferInRows from end before now →
+        ensures { (before some other : ℕ → ℕ → Bool) → IsSeenIn set.now some →
+            NamesBlocks others.entry.rows others.entry.blocks.now (walled_by other) →
+            DifferInRows from end before (either some other) →
             NamesBlocks rows self.old (walled_by before) →
-            NamesBlocks result self.new (walled_by now) }
+            NamesBlocks result self.new (walled_by (either some other)) }
     {
-        renew_even(&mut self.even, set.tile, from, end);
-        renew_odd(&mut self.odd, set, from, end);
+        let TileBlocks { even, odd } = others.blocks;
+        renew_even(&mut self.even, set.tile, even, from, end);
+        renew_odd(&mut self.odd, set, odd, from, end);
         renew_rows(rows, self, from, end)
-    }
-
-    /// Adds the blocks of another set. `rows` tells in which of the tile's rows they lay; returns the word that tells it now.
-    pub fn join(&mut self, rows: u32, other: SetBlocks<'_>) -> u32
-        ensures { (walled obstructed : ℕ → ℕ → Bool) →
-            NamesBlocks rows self.old (walled_by walled) →
-            NamesBlocks other.entry.rows other.entry.blocks.now (walled_by obstructed) →
-            NamesBlocks result self.new (walled_by (either walled obstructed)) }
-    {
-        let TileBlocks { even, odd } = other.blocks;
-        add(&mut self.even, even);
-        add(&mut self.odd.begin, &odd.begin);
-        add(&mut self.odd.end, &odd.end);
-        rows | other.rows
     }
 }
 
-/// The blocks of a tile with a cell of the set, and a word that tells in which of the tile's rows they lie, of either parity.
-pub fn tile_blocks(set: &Window) -> (u32, TileBlocks)
-    ensures { (window : ℕ → ℕ → Bool) → IsSeenIn set.now window →
-        NamesBlocks result.0 result.1 (walled_by window) }
+/// The blocks of a tile with a cell of the set, and those of the others, with a word that tells in which of the tile's rows they
+/// lie, of either parity.
+pub fn tile_blocks(set: &Window, others: SetBlocks<'_>) -> (u32, TileBlocks)
+    ensures { (some other : ℕ → ℕ → Bool) → IsSeenIn set.now some →
+        NamesBlocks others.entry.rows others.entry.blocks.now (walled_by other) →
+        NamesBlocks result.0 result.1 (walled_by (either some other)) }
 {
     let mut blocks = TileBlocks::NONE;
-    let rows = blocks.renew(0, set, 0, 33);
+    let rows = blocks.renew(0, set, others, 0, 33);
     (rows, blocks)
 }

@@ -67,15 +67,17 @@ pub fn turn_tile(
         is_walled_at parity (either (around walls.now wall_border.now)
         (around obstacles.now obstacle_border.now)) x y) }
 {
-    let near_walls = wall_border.neighbors();
-    let (wall_rows, mut blocks) = tile_blocks(&window_of(walls, &near_walls));
     let near_obstacles = obstacle_border.neighbors();
-    let (rows, with_obstacle) = tile_blocks(&window_of(obstacles, &near_obstacles));
+    let (rows, with_obstacle) = tile_blocks(
+        &window_of(obstacles, &near_obstacles),
+        SetBlocks::NONE,
+    );
     let obstacles = SetBlocks {
         rows,
         blocks: &with_obstacle,
     };
-    let rows = blocks.join(wall_rows, obstacles);
+    let near_walls = wall_border.neighbors();
+    let (rows, blocks) = tile_blocks(&window_of(walls, &near_walls), obstacles);
     let walled = Some(SetBlocks {
         rows,
         blocks: &blocks,

@@ -97,7 +97,7 @@ fn window<'a>(tile: &'a Tile, near: &'a Neighbors) -> Window<'a> {
 // The blocks that have a cell of a tile without neighbors.
 fn blocks_of(cells: &Tile) -> (u32, TileBlocks) {
     let near = no_border().neighbors();
-    tile_blocks(&window(cells, &near))
+    tile_blocks(&window(cells, &near), SetBlocks::NONE)
 }
 
 fn given(named: &(u32, TileBlocks)) -> Option<SetBlocks<'_>> {
@@ -108,18 +108,15 @@ fn given(named: &(u32, TileBlocks)) -> Option<SetBlocks<'_>> {
     })
 }
 
-// Those with a cell of either tile.
-fn joined(some: &(u32, TileBlocks), others: &(u32, TileBlocks)) -> (u32, TileBlocks) {
-    let (rows, mut blocks) = *some;
-    let (more, with) = others;
-    let rows = blocks.join(
-        rows,
-        SetBlocks {
-            rows: *more,
-            blocks: with,
-        },
-    );
-    (rows, blocks)
+// Those with a cell of the tile, and the others.
+fn blocks_with(cells: &Tile, others: &(u32, TileBlocks)) -> (u32, TileBlocks) {
+    let near = no_border().neighbors();
+    let (rows, blocks) = others;
+    let others = SetBlocks {
+        rows: *rows,
+        blocks,
+    };
+    tile_blocks(&window(cells, &near), others)
 }
 
 // The tile with this border after the rule at an odd tick, without walls.
@@ -173,7 +170,7 @@ fn particles_of_named_blocks_stay(rt: HostRuntime) {
     let none = Tile::empty();
     let near = no_border().neighbors();
     let (rows, mut blocks) = named;
-    expect_same(&rt, blocks.renew(rows, &window(&none, &near), 5, 7), 0);
+    expect_same(&rt, blocks.renew(rows, &window(&none, &near), SetBlocks::NONE, 5, 7), 0);
     expect_same(&rt, blocks.even[5], 0);
 }
 
@@ -183,12 +180,10 @@ fn particles_of_named_blocks_stay(rt: HostRuntime) {
 fn accounts_that_are_not_kept_are_zero(rt: HostRuntime) {
     let old = tile_of([(10, 10), (20, 21)].as_slice());
     let near = no_border().neighbors();
-    let even_walls = blocks_of(&cells_at(0b1111, 10, 10));
     let even_obstacles = blocks_of(&cells_at(0b1111, 20, 20));
-    let even = joined(&even_walls, &even_obstacles);
-    let odd_walls = blocks_of(&cells_at(0b1111, 9, 9));
+    let even = blocks_with(&cells_at(0b1111, 10, 10), &even_obstacles);
     let odd_obstacles = blocks_of(&cells_at(0b1111, 19, 21));
-    let odd = joined(&odd_walls, &odd_obstacles);
+    let odd = blocks_with(&cells_at(0b1111, 9, 9), &odd_obstacles);
     for (walls, obstacles) in [(true, false), (false, true), (true, true), (false, false)] {
         let counted = Counted { walls, obstacles };
 

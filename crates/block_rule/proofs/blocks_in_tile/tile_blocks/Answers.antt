@@ -3,5 +3,5 @@ use Rattle.block_rule.proofs.BlockNames.{nothing_named}
 use Rattle.block_rule.proofs.blocks_in_tile.tile_blocks.Goals as goal
 
 pub returns : goal.returns
-returns c = λ window seen.
-    c.renew-rows.ensures (λ _ _. false) window seen (λ u v h k far. absurd (elim far [ inl below ↦ omega (arith, below) | inr above ↦ omega (arith, above, k) ])) nothing_named
+returns c = λ some other seen others.
+    c.renew-rows.ensures (λ _ _. false) some other seen others (λ u v h k far. absurd (elim far [ inl below ↦ omega (arith, below) | inr above ↦ omega (arith, above, k) ])) nothing_named

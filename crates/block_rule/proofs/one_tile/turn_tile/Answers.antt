@@ -1,6 +1,7 @@
-use Rattle.std.proofs.Common.{◌≡◌, ℕ, Bool, arith}
+use Rattle.std.proofs.Common.{◌≡◌, ℕ, Bool, false, arith}
 use Rattle.block_rule.specs.Around.{around, either, taken}
 use Rattle.block_rule.specs.TileBlocks.{NamesBlocks, walled_by}
+use Rattle.block_rule.proofs.BlockNames.{nothing_named, named_alone}
 use Rattle.block_rule.proofs.Borders.{shows_tile}
 use Rattle.block_rule.proofs.Took.{took_together}
 use Rattle.block_rule.proofs.one_tile.turn_tile.Goals as goal
@@ -15,10 +16,10 @@ module _ (c : After-taken_among-took) where
   o = around c.args.obstacles.now c.args.obstacle_border.now
 
   of_obstacles : NamesBlocks c.tile_blocks-rows.result.0 c.tile_blocks-rows.result.1 (walled_by o)
-  of_obstacles = c.tile_blocks-rows.ensures o (c.window_of-2.ensures.seen c.args.obstacle_border.now c.neighbors-near_obstacles.ensures)
+  of_obstacles = named_alone c.tile_blocks-rows.result.0 c.tile_blocks-rows.result.1 o (c.tile_blocks-rows.ensures o (λ _ _. false) (c.window_of.ensures.seen c.args.obstacle_border.now c.neighbors-near_obstacles.ensures) nothing_named)
 
-  walled : NamesBlocks c.join-rows.result c.join-rows.new.self (walled_by (either w o))
-  walled = c.join-rows.ensures w o (c.tile_blocks-wall_rows.ensures w (c.window_of.ensures.seen c.args.wall_border.now c.neighbors-near_walls.ensures)) of_obstacles
+  walled : NamesBlocks c.tile_blocks-rows-2.result.0 c.tile_blocks-rows-2.result.1 (walled_by (either w o))
+  walled = c.tile_blocks-rows-2.ensures w o (c.window_of-2.ensures.seen c.args.wall_border.now c.neighbors-near_walls.ensures) of_obstacles
 
   took : c.taken_among-took.result ≡ taken c.args.parity c.args.tile.now w o
   took = c.taken_among-took.ensures w o walled of_obstacles
