@@ -108,7 +108,7 @@ impl Gas {
         // ports are a port set.
         let _ = self.tick.get();
         let _ = self.solids.walls.size();
-        let _ = self.solids.obstacles.cells().size();
+        let _ = self.solids.obstacles.size();
         let _ = self.ports.drains();
         self.particles.size()
     }
@@ -131,7 +131,7 @@ impl Gas {
     pub fn obstacles(&self) -> &Plane
         ensures { result.now ≡ self.now.obstacles }
     {
-        self.solids.obstacles.cells()
+        &self.solids.obstacles
     }
 
     /// Its drains and sources.

@@ -9,7 +9,7 @@ use crate::lattices::{are_same, fit, plane, scattered, solids};
 use crate::steppers::{add_taken, step, team};
 use gas_plane::{Plane, Tile};
 use gas_terms::{Pair, Rect, Size, Took};
-use phase_step::{Serial, Solid, turn_tile_at};
+use phase_step::{Serial, Solids, turn_tile_at};
 use phase_team::NoGate;
 use std::process::Abort;
 use std::thread::Threads;
@@ -94,11 +94,11 @@ fn wall_that_was_cleared_holds_nothing_back(rt: HostRuntime) {
 }
 
 // Which blocks of a tile are named, by three words of it: for even parity, and for odd parity those that begin in it and end in it.
-fn named(solid: &Solid, tile: u32, row: usize) -> (u32, u32, u32) {
-    if tile >= solid.cells().size().tiles() || row >= 32 {
+fn named(solids: &Solids, tile: u32, row: usize) -> (u32, u32, u32) {
+    if tile >= solids.walls.size().tiles() || row >= 32 {
         return (0, 0, 0);
     }
-    match solid.in_tile(tile) {
+    match solids.walled_in(tile) {
         Some(set) => {
             let blocks = set.blocks;
             (blocks.even[row], blocks.odd.begin[row], blocks.odd.end[row])
@@ -115,25 +115,28 @@ fn words_name_the_blocks_of_walls(rt: HostRuntime) {
     let cells = plane(&rt, 128, 128, &[(0, 0), (21, 20)]);
     let none = plane(&rt, 128, 128, &[]);
     fit(&rt, &cells, &cells, &none, &cells);
-    let both = solids(&rt, &cells, &none);
-    expect_that(&rt, both.obstacles.has_no_blocks());
-    let mut walls = both.all;
-    expect_that(&rt, !walls.has_no_blocks());
+    let mut walls = solids(&rt, &cells, &none);
+    expect_that(&rt, !walls.are_none());
     expect_that(&rt, named(&walls, 0, 0) == (1, 0, 1));
     expect_that(&rt, named(&walls, 0, 10) == (1024, 1024, 2048));
     expect_that(&rt, named(&walls, 0, 11) == (0, 0, 0));
     expect_that(&rt, named(&walls, 1, 0) == (0, 2147483648, 0));
     expect_that(&rt, named(&walls, 3, 0) == (0, 0, 0));
-    // Without the first they are those of the second, and with it again as before.
+    // Without the first they are those of the second, and with a wall or an obstacle there again as before.
     let size = cells.size();
     let first = Rect::within(size, 0, 0, 1, 1).expect(&rt, "a cell");
     expect_that(&rt, first.fits(size));
-    walls.clear(first);
+    walls.remove(first);
     expect_that(&rt, named(&walls, 0, 0) == (0, 0, 0));
     expect_that(&rt, named(&walls, 0, 10) == (1024, 1024, 2048));
     expect_that(&rt, named(&walls, 1, 0) == (0, 0, 0));
-    walls.fill(first);
+    walls.add_walls(first);
     expect_that(&rt, named(&walls, 0, 0) == (1, 0, 1));
+    expect_that(&rt, named(&walls, 1, 0) == (0, 2147483648, 0));
+    walls.remove(first);
+    walls.add_obstacles(first);
+    expect_that(&rt, named(&walls, 0, 0) == (1, 0, 1));
+    expect_that(&rt, named(&walls, 0, 10) == (1024, 1024, 2048));
     expect_that(&rt, named(&walls, 1, 0) == (0, 2147483648, 0));
 }
 

@@ -16,6 +16,7 @@ pub mod Untaken
 pub mod RunSteps
 pub mod Balances
 pub mod SolidBlocks
+pub mod Others
 pub mod Together
 pub mod ActionSums
 pub mod ActionBounds

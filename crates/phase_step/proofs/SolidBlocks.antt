@@ -21,20 +21,17 @@ use Rattle.block_rule.specs.declared.blocks_in_tile.TileBlocks.{TileBlocks}
 use Rattle.block_rule.specs.Around.{around, none as none_there}
 use Rattle.block_rule.specs.Shown.{IsSeenIn}
 use Rattle.block_rule.specs.declared.Window.{Window}
-use Rattle.block_rule.proofs.Torus.{walled_same, window_is_view, solid_view}
+use Rattle.block_rule.proofs.Torus.{walled_same, window_is_view, view_either, solid_view}
 use Rattle.phase_step.specs.Turns.{IsWindowFrom}
 use Rattle.phase_step.proofs.TurnedTiles.{bare_view, bare_window, border_near, tile_window, window_seen, window_view}
-use Rattle.phase_step.specs.SolidBlocks.{no_words, blocks_at, is_walled_in, view_of, window_of, is_reached, HaveAllTiles, AreBlocksOf, DifferIn, IsFar, IsNearIn, AreRenewedUpTo}
+use Rattle.phase_step.specs.SolidBlocks.{zero_words, no_words, blocks_at, is_walled_in, view_of, window_of, is_reached, HaveAllTiles, AreBlocksOf, DifferIn, IsFar, IsNearIn, AreRenewedUpTo}
 use Rattle.phase_step.proofs.PhaseSweeps.{place_is, sized_as, tiles_as}
 use Rattle.block_rule.specs.TileBlocks.{AreGivenBlocks, DifferInRows, walled_by}
-use Rattle.block_rule.proofs.BlockNames.{zero_words, nothing_named}
+use Rattle.block_rule.proofs.BlockNames.{nothing_named, names_same}
 use Rattle.block_rule.specs.declared.blocks_in_tile.SetBlocks.{SetBlocks}
 use Rattle.gas_terms.specs.Gas.{site_of, is_walled}
 use Rattle.phase_step.specs.Turns.{IsPlaceOf}
-
--- what is named by one test is named by another that says the same
-pub names_same : (told : ℕ) (b : TileBlocks) (test other : ℕ → ℕ → ℕ → Bool) → ((p x y : ℕ) → p < 2 → x < 64 → y < 64 → test p x y ≡ other p x y) → NamesBlocks told b test → NamesBlocks told b other
-names_same told b test other same are = grind (arith)
+use Rattle.phase_step.specs.Others.{nothing_of}
 
 -- the place of a tile
 module _ (set : Cells) (i : ℕ) (sized : is_size (extent set) ≡ true) (within : i < tile_count set) where
@@ -86,24 +83,6 @@ module _ (area : Rectangle) (before now : Cells) (differ : DifferIn area before 
       sym (walled_here before i (sized_as now before back sized) there p two (window_of before i) (record { cell = λ _ _ _ _. refl }) x y h k)
       ∙ (walled_alike p (window_of before i) (window_of now i) x y h k (λ u v b c. window_same u v b c (far u v b c))
       ∙ walled_here now i sized within p two (window_of now i) (record { cell = λ _ _ _ _. refl }) x y h k)
-
--- words that are renewed, from those of another set
-pub named_again : (before now : Cells) (i from end rows told : ℕ) (old new : TileBlocks) (w : Window) → HasSidesOf before now → is_size (extent now) ≡ true → i < tile_count now → IsWindowFrom w now (tile_rectangle now i).x (tile_rectangle now i).y → DifferInRows from end (window_of before i) (window_of now i)
-    → ((some other : ℕ → ℕ → Bool) → IsSeenIn w other → DifferInRows from end some other → NamesBlocks rows old (walled_by some) → NamesBlocks told new (walled_by other)) → NamesBlocks rows old (is_walled_in before i) → NamesBlocks told new (is_walled_in now i)
-named_again before now i from end rows told old new w sides sized within seen differ renew are =
-    let back : HasSidesOf now before = record { wide = sym sides.wide; high = sym sides.high } in
-    let there : i < tile_count before = subst (λ n. i < n) (tiles_as now before back) within in
-    let place = place now i sized within in
-    let near = around w.tile.now (border_near w.round).0 in
-    let view = window_view i now now w refl refl place.right place.bottom seen in
-    names_same told new (λ p. is_walled_at p near) (is_walled_in now i)
-    (λ p x y two h k. walled_here now i sized within p two near (near_view p two view) x y h k)
-    (renew (window_of before i) near (window_seen w) (λ u v h k far. differ u v h k far ∙ sym (view.cell u v (omega (arith, h)) (omega (arith, k))))
-    (names_same rows old (is_walled_in before i) (walled_by (window_of before i))
-    (λ p x y two h k. sym (walled_here before i (sized_as now before back sized) there p two (window_of before i) (record { cell = λ _ _ _ _. refl }) x y h k)) are))
-  where
-    near_view : (p : ℕ) → p < 2 → IsView 1 (around w.tile.now (border_near w.round).0) now (tile_rectangle now i).x (tile_rectangle now i).y → IsView p (around w.tile.now (border_near w.round).0) now (tile_rectangle now i).x (tile_rectangle now i).y
-    near_view p two view = record { cell = λ u v h k. view.cell u v (omega (arith, h)) (omega (arith, k)) }
 
 -- the words are renewed tile by tile
 pub renewed_next : (i word : ℕ) (b : TileBlocks) (before now : Cells) (told : List ℕ) (words : List TileBlocks) → i < tile_count now → HaveAllTiles now told words → NamesBlocks word b (is_walled_in now i) → AreRenewedUpTo i before now told words → AreRenewedUpTo (i + 1) before now (set told i word) (set words i b)
@@ -229,8 +208,8 @@ windows_differ area before now i from end row differ sized within e near u v h k
 pub none_named : (told : ℕ) (b : TileBlocks) (test : ℕ → ℕ → ℕ → Bool) → told ≡ 0 → NamesBlocks told b test → (p : ℕ) → p < 2 → (x y : ℕ) → x < 64 → y < 64 → test p x y ≡ false
 none_named told b test e are p two x y h k = are.rows p two x y h k (rw e (bit-zero (y / 2)))
 
-pub words_read : (inside seen : Cells) (told : List ℕ) (words : List TileBlocks) (i word : ℕ) (b : TileBlocks) → inside ≡ seen → AreBlocksOf inside told words → i < tile_count seen → (i < length told → word ≡ get_or told i 0) → (i < length words → b ≡ blocks_at words i) → NamesBlocks word b (is_walled_in seen i)
-words_read inside seen told words i word b e are within told_there words_there = grind (arith, tile_count, is_walled_in, get_or)
+pub words_read : (set : Cells) (told : List ℕ) (words : List TileBlocks) (i word : ℕ) (b : TileBlocks) → AreBlocksOf set told words → i < tile_count set → (i < length told → word ≡ get_or told i 0) → (i < length words → b ≡ blocks_at words i) → NamesBlocks word b (is_walled_in set i)
+words_read set told words i word b are within told_there words_there = grind (arith, tile_count, is_walled_in, get_or)
 
 pub all_rows : (set : Cells) (row : ℕ) → set.height / 64 ≤ row → tile_count set ≤ row * (set.width / 64)
 all_rows set row down = omega (arith, mul_comm (set.width / 64) (set.height / 64), mul-le-mul_right (set.width / 64) down)
@@ -260,6 +239,12 @@ module _ (set : Cells) (lattice : IsLattice set) (none : HasNone set) (n : ℕ) 
 pub has_none : (set : Cells) (width height : ℕ) → set ≡ cells_where width height (λ _ _. false) → HasNone set
 has_none set width height e = subst HasNone (sym e) (record { cell = λ x y h k. has-cells_where width height (λ _ _. false) x y h k })
 
+pub nothing_walled : (set other : Cells) (i : ℕ) → IsLattice set → i < tile_count set → other ≡ nothing_of set → NamesBlocks 0 zero_words (is_walled_in other i)
+nothing_walled set other i lattice within e =
+    let bare : IsLattice (nothing_of set) = record { sized = lattice.sized; full = full-cells_where set.width set.height (λ _ _. false) } in
+    subst (λ (o : Cells). NamesBlocks 0 zero_words (is_walled_in o i)) (sym e)
+    (names_same 0 zero_words (walled_by none_there) (is_walled_in (nothing_of set) i) (λ p x y two h k. sym (none_walled (nothing_of set) bare (has_none (nothing_of set) set.width set.height refl) i within p two x y h k)) nothing_named)
+
 -- an edit changes its rectangle alone
 pub filled_differs : (area : Rectangle) (before now : Cells) → now ≡ filled before area → DifferIn area before now
 filled_differs area before now e = grind (arith, wide, high, has, is_inside, has-cells_where)
@@ -268,9 +253,6 @@ pub cleared_differs : (area : Rectangle) (before now : Cells) → now ≡ cleare
 cleared_differs area before now e = grind (arith, wide, high, has, is_inside, has-cells_where, not)
 
 -- all words are made anew, from those of no cells on
-abbrev pub nothing_of : Cells → Cells
-nothing_of set = cells_where set.width set.height (λ _ _. false)
-
 pub zeros_are : (set : Cells) (n : ℕ) (told : List ℕ) (words : List TileBlocks) → IsLattice set → n ≡ tile_count set → told ≡ replicate n 0 → words ≡ replicate n zero_words → AreBlocksOf (nothing_of set) told words
 zeros_are set n told words lattice count of_told of_words =
     no_blocks_named (nothing_of set) (record { sized = lattice.sized; full = full-cells_where set.width set.height (λ _ _. false) }) (has_none (nothing_of set) set.width set.height refl) n told words count of_told of_words
@@ -292,6 +274,47 @@ given_in_view old set i given place = given_same given (is_walled_in set i) _ (v
 
 pub named_in_view : (old set : Cells) (i rows : ℕ) (blocks : TileBlocks) → IsPlaceOf old set set i → NamesBlocks rows blocks (is_walled_in set i) → NamesBlocks rows blocks (walled_by (view_of set (tile_rectangle old i).x (tile_rectangle old i).y))
 named_in_view old set i rows blocks place = names_same rows blocks (is_walled_in set i) _ (view_same old set i place)
+
+-- words that are made of a tile's window and of others' words
+module _ (set o : Cells) (i : ℕ) (w : Window) (rows_o : ℕ) (b_o : TileBlocks) (of_o : HasSidesOf o set) (sized : is_size (extent set) ≡ true) (within : i < tile_count set) (seen : IsWindowFrom w set (tile_rectangle set i).x (tile_rectangle set i).y) (named : NamesBlocks rows_o b_o (is_walled_in o i)) where
+  abbrev near : ℕ → ℕ → Bool
+  near = around w.tile.now (border_near w.round).0
+
+  abbrev far : ℕ → ℕ → Bool
+  far = view_of o (tile_rectangle set i).x (tile_rectangle set i).y
+
+  wide_set : {n : ℕ} → 0 < n / 64 → 0 < n
+  wide_set some = omega (arith, some)
+
+  together : IsView 1 (either near far) (joined set o) (tile_rectangle set i).x (tile_rectangle set i).y
+  together =
+      let place = place set i sized within in
+      view_either has-cells_where 1 near far set o (tile_rectangle set i).x (tile_rectangle set i).y (wide_set (wide (extent set) sized).some) (wide_set (high_of (extent set) sized).some) of_o
+      (window_view i set set w refl refl place.right place.bottom seen) (record { cell = λ _ _ _ _. refl })
+
+  -- what they name is the joined sets'
+  both_named : (told : ℕ) (b : TileBlocks) → NamesBlocks told b (walled_by (either near far)) → NamesBlocks told b (is_walled_in (joined set o) i)
+  both_named told b =
+      names_same told b (walled_by (either near far)) (is_walled_in (joined set o) i)
+      (λ p x y two h k. walled_here (joined set o) i sized within p two (either near far) (record { cell = λ u v h k. together.cell u v (omega (arith, h)) (omega (arith, k)) }) x y h k)
+
+  others_named : NamesBlocks rows_o b_o (walled_by far)
+  others_named = named_in_view set o i rows_o b_o (place_is set o o i sized within of_o of_o) named
+
+  pub named_beside : (told : ℕ) (b : TileBlocks) → ((some other : ℕ → ℕ → Bool) → IsSeenIn w some → NamesBlocks rows_o b_o (walled_by other) → NamesBlocks told b (walled_by (either some other))) → NamesBlocks told b (is_walled_in (joined set o) i)
+  named_beside told b made = both_named told b (made near far (window_seen w) others_named)
+
+  -- and renewed, from those of other cells
+  pub named_again : (before : Cells) (from end rows told : ℕ) (old new : TileBlocks) → HasSidesOf before set → DifferInRows from end (window_of before i) (window_of (joined set o) i)
+      → ((was some other : ℕ → ℕ → Bool) → IsSeenIn w some → NamesBlocks rows_o b_o (walled_by other) → DifferInRows from end was (either some other) → NamesBlocks rows old (walled_by was) → NamesBlocks told new (walled_by (either some other))) → NamesBlocks rows old (is_walled_in before i)
+      → NamesBlocks told new (is_walled_in (joined set o) i)
+  named_again before from end rows told old new sides differ renew are =
+      let back : HasSidesOf set before = record { wide = sym sides.wide; high = sym sides.high } in
+      let there : i < tile_count before = subst (λ n. i < n) (tiles_as set before back) within in
+      both_named told new
+      (renew (window_of before i) near far (window_seen w) others_named (λ u v h k far. differ u v h k far ∙ sym (together.cell u v (omega (arith, h)) (omega (arith, k))))
+      (names_same rows old (is_walled_in before i) (walled_by (window_of before i))
+      (λ p x y two h k. sym (walled_here before i (sized_as set before back sized) there p two (window_of before i) (record { cell = λ _ _ _ _. refl }) x y h k)) are))
 
 -- and of walls and obstacles together
 both_same : (old walls obstacles : Cells) (i : ℕ) → IsPlaceOf old walls obstacles i → (p x y : ℕ) → p < 2 → x < 64 → y < 64

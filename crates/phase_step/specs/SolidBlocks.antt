@@ -1,5 +1,5 @@
 -- The blocks with a cell of a set, tile by tile.
-use Rattle.std.specs.Prelude.{◌≡◌, ℕ, ◌+◌, ◌-◌, ◌*◌, ◌%◌, ◌<◌, ◌≤◌, ◌⊎◌, ◌&&◌, nat_le, nat_lt, Bool, true, false, List, [], length, slice_index, slice_index_or}
+use Rattle.std.specs.Prelude.{◌≡◌, ℕ, ◌+◌, ◌-◌, ◌*◌, ◌%◌, ◌<◌, ◌≤◌, ◌⊎◌, ◌&&◌, nat_le, nat_lt, Bool, true, false, List, [], length, replicate, slice_index, slice_index_or}
 use Rattle.gas_terms.specs.Cells.{Cells, Rectangle, HasSidesOf, has, joined, is_inside, tile_count, tile_rectangle}
 use Rattle.gas_terms.specs.Gas.{site_of, is_walled}
 use Rattle.block_rule.specs.Shown.{HasNoCell}
@@ -11,6 +11,10 @@ use Rattle.phase_step.specs.declared.steps.solids.TileSolids.{TileSolids}
 -- the words of tile i
 abbrev pub no_words : TileBlocks
 no_words = record { even = []; odd = record { begin = []; end = [] } }
+
+-- those that name no block
+abbrev pub zero_words : TileBlocks
+zero_words = record { even = replicate 32 0; odd = record { begin = replicate 33 0; end = replicate 33 0 } }
 
 abbrev pub blocks_at : List TileBlocks → ℕ → TileBlocks
 blocks_at blocks i = slice_index_or blocks i no_words

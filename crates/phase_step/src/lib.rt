@@ -28,7 +28,7 @@ use gas_plane::Plane;
 use gas_terms::Took;
 pub use parts::{Part, act_on, run_part, run_whole};
 use steps::turn_each;
-pub use steps::{Solid, Solids, turn_tile_at};
+pub use steps::{Solids, turn_tile_at};
 pub use sums::{CellCounts, Flow};
 
 /// A run of n phases in which particles meet these walls and obstacles, from the given parity on, with an action after each.

@@ -5,6 +5,7 @@ ghost use Rattle.std.specs.Prelude.{◌≡◌, ℕ, ◌+◌, ◌*◌, ◌/◌, �
 ghost use Rattle.gas_terms.specs.Cells.{Cells, HasSidesOf, tile_count};
 ghost use Rattle.gas_terms.specs.Gas.{streamed};
 ghost use Rattle.phase_step.specs.OddPhase.{TurnsInner, IsSeamPut, IsInnerTurned, IsEdge, IsSeamEdge, ShowsSeam, IsRowThere, HasInner, HasSeam, IsInnerRowTurned, IsSeamRowTurned};
+ghost use Rattle.phase_step.specs.Solid.{all_of};
 
 use crate::steps::KnownSolid;
 use block_rule::{
@@ -69,9 +70,9 @@ pub fn turn_inner_row(particles: &mut Plane, known: KnownSolid<'_>, place: RowPl
     requires row { place.row < particles.old.height / 64 }
     requires there { place.there < 64 }
     requires solid { let a = particles.old.width / 64 in
-        place.there * a + a ≤ tile_count known.solid.now }
+        place.there * a + a ≤ tile_count (all_of known.solids.now) }
     ensures sides { HasSidesOf particles.new particles.old }
-    ensures turned { let solid = known.entry.solid.now in (lattice : Cells) →
+    ensures turned { let solid = all_of known.entry.solids.now in (lattice : Cells) →
         IsRowThere place solid particles.old lattice →
         HasInner place lattice.width particles.old lattice →
         IsInnerRowTurned place (streamed 1 lattice solid) particles.old particles.new }
@@ -153,9 +154,9 @@ pub fn turn_seam(particles: &mut Plane, known: KnownSolid<'_>, place: RowPlace)
     requires below { place.below < particles.old.height / 64 }
     requires there { place.there < 64 }
     requires solid { let a = particles.old.width / 64 in
-        place.there * a + a ≤ tile_count known.solid.now }
+        place.there * a + a ≤ tile_count (all_of known.solids.now) }
     ensures sides { HasSidesOf particles.new particles.old }
-    ensures turned { let solid = known.entry.solid.now in (lattice : Cells) →
+    ensures turned { let solid = all_of known.entry.solids.now in (lattice : Cells) →
         IsRowThere place solid particles.old lattice →
         HasSeam place lattice.width particles.old lattice →
         IsSeamRowTurned place (streamed 1 lattice solid) particles.old particles.new }

@@ -203,7 +203,7 @@ impl<R: Threads + Clock + Drop> Stepper for Team<R, NoGate> {
     // next run.
     fn run_with<A: Action>(&mut self, particles: &mut Plane, run: Run<'_, A>) -> Flow {
         let walls = &run.solids.walls;
-        if walls.is_empty() && run.solids.obstacles.cells().is_empty() {
+        if walls.is_empty() && run.solids.obstacles.is_empty() {
             return self.run_by_worth(particles, run, Counted::BOTH);
         }
         let counted = account_to_count(walls);

@@ -32,7 +32,7 @@ pub fn run_part<A: Action>(
         HasRunPart part counted (dynamics r.parity r.solids.now (A.leaves r.action.now)) r.n
         particles.old particles.new result }
 {
-    let known = KnownSolid::of(&run.solids.all);
+    let known = KnownSolid::of(run.solids);
     let is_counted = run.solids.is_counted(counted);
     let mut flow = Flow::ZERO;
     for k in 0..run.n {
@@ -55,12 +55,7 @@ pub fn run_whole<A: Action>(particles: &mut Plane, run: Run<'_, A>, counted: Cou
 {
     particles.shows_lattice();
     if !run.action.acts() && !run.solids.is_counted(counted) {
-        turn_on(
-            particles,
-            KnownSolid::of(&run.solids.all),
-            run.parity,
-            run.n,
-        );
+        turn_on(particles, KnownSolid::of(run.solids), run.parity, run.n);
         return Flow::ZERO;
     }
     let part = whole(particles);

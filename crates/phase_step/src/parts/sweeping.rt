@@ -7,12 +7,13 @@ ghost use Rattle.gas_terms.specs.Gas.{streamed};
 ghost use Rattle.phase_step.specs.SolidBlocks.{HasNoBlocks};
 ghost use Rattle.phase_step.specs.OddPhase.{TurnsNext, TurnsSecond, TurnsTwice};
 ghost use Rattle.phase_step.specs.Runs.{after};
+ghost use Rattle.phase_step.specs.Solid.{all_of};
 
 use crate::even_phase::turn_even_row;
 use crate::odd_phase::{RowPlace, turn_inner_row, turn_seam};
 use crate::parts::turning::turn_part;
 use crate::parts::whole;
-use crate::steps::{KnownSolid, Solid};
+use crate::steps::{KnownSolid, Solids};
 use gas_plane::{Plane, after};
 
 // Where a row of tiles of the whole lattice stands.
@@ -33,9 +34,9 @@ fn place_of(row: u32, down: u32) -> RowPlace
 #[inline(always)]
 fn turn_next(particles: &mut Plane, known: KnownSolid<'_>, row: u32)
     requires row { row < particles.old.height / 64 }
-    requires solid { HasSidesOf known.solid.now particles.old }
+    requires solid { HasSidesOf (all_of known.solids.now) particles.old }
     ensures sides { HasSidesOf particles.new particles.old }
-    ensures turned { TurnsNext row known.entry.solid.now particles.old particles.new }
+    ensures turned { TurnsNext row (all_of known.entry.solids.now) particles.old particles.new }
 {
     let down = particles.down();
     if row + 1 < down {
@@ -47,9 +48,9 @@ fn turn_next(particles: &mut Plane, known: KnownSolid<'_>, row: u32)
 #[inline(always)]
 fn turn_second(particles: &mut Plane, known: KnownSolid<'_>, row: u32)
     requires row { row < particles.old.height / 64 }
-    requires solid { HasSidesOf known.solid.now particles.old }
+    requires solid { HasSidesOf (all_of known.solids.now) particles.old }
     ensures sides { HasSidesOf particles.new particles.old }
-    ensures turned { TurnsSecond row known.entry.solid.now particles.old particles.new }
+    ensures turned { TurnsSecond row (all_of known.entry.solids.now) particles.old particles.new }
 {
     let place = place_of(row, particles.down());
     turn_inner_row(particles, known, place);
@@ -58,67 +59,81 @@ fn turn_second(particles: &mut Plane, known: KnownSolid<'_>, row: u32)
 
 // Both, compiled for no walls. The compiler makes vectors of each only by itself.
 #[inline(never)]
-fn turn_next_free(particles: &mut Plane, solid: &Solid, row: u32)
-    requires none { HasNoBlocks solid.now }
+fn turn_next_free(particles: &mut Plane, solids: &Solids, row: u32)
+    requires none { HasNoBlocks (all_of solids.now) }
     requires row { row < particles.old.height / 64 }
-    requires solid { HasSidesOf solid.now particles.old }
+    requires solid { HasSidesOf (all_of solids.now) particles.old }
     ensures sides { HasSidesOf particles.new particles.old }
-    ensures turned { TurnsNext row solid.now particles.old particles.new }
+    ensures turned { TurnsNext row (all_of solids.now) particles.old particles.new }
 {
-    turn_next(particles, KnownSolid { solid, free: true }, row);
+    turn_next(particles, KnownSolid { solids, free: true }, row);
 }
 
 #[inline(never)]
-fn turn_second_free(particles: &mut Plane, solid: &Solid, row: u32)
-    requires none { HasNoBlocks solid.now }
+fn turn_second_free(particles: &mut Plane, solids: &Solids, row: u32)
+    requires none { HasNoBlocks (all_of solids.now) }
     requires row { row < particles.old.height / 64 }
-    requires solid { HasSidesOf solid.now particles.old }
+    requires solid { HasSidesOf (all_of solids.now) particles.old }
     ensures sides { HasSidesOf particles.new particles.old }
-    ensures turned { TurnsSecond row solid.now particles.old particles.new }
+    ensures turned { TurnsSecond row (all_of solids.now) particles.old particles.new }
 {
-    turn_second(particles, KnownSolid { solid, free: true }, row);
+    turn_second(particles, KnownSolid { solids, free: true }, row);
 }
 
 // And among some.
 #[inline(never)]
-fn turn_next_among(particles: &mut Plane, solid: &Solid, row: u32)
+fn turn_next_among(particles: &mut Plane, solids: &Solids, row: u32)
     requires row { row < particles.old.height / 64 }
-    requires solid { HasSidesOf solid.now particles.old }
+    requires solid { HasSidesOf (all_of solids.now) particles.old }
     ensures sides { HasSidesOf particles.new particles.old }
-    ensures turned { TurnsNext row solid.now particles.old particles.new }
+    ensures turned { TurnsNext row (all_of solids.now) particles.old particles.new }
 {
-    turn_next(particles, KnownSolid { solid, free: false }, row);
+    turn_next(
+        particles,
+        KnownSolid {
+            solids,
+            free: false,
+        },
+        row,
+    );
 }
 
 #[inline(never)]
-fn turn_second_among(particles: &mut Plane, solid: &Solid, row: u32)
+fn turn_second_among(particles: &mut Plane, solids: &Solids, row: u32)
     requires row { row < particles.old.height / 64 }
-    requires solid { HasSidesOf solid.now particles.old }
+    requires solid { HasSidesOf (all_of solids.now) particles.old }
     ensures sides { HasSidesOf particles.new particles.old }
-    ensures turned { TurnsSecond row solid.now particles.old particles.new }
+    ensures turned { TurnsSecond row (all_of solids.now) particles.old particles.new }
 {
-    turn_second(particles, KnownSolid { solid, free: false }, row);
+    turn_second(
+        particles,
+        KnownSolid {
+            solids,
+            free: false,
+        },
+        row,
+    );
 }
 
 fn turn_twice(particles: &mut Plane, known: KnownSolid<'_>, row: u32)
     requires row { row < particles.old.height / 64 }
-    requires solid { HasSidesOf known.solid.now particles.old }
+    requires solid { HasSidesOf (all_of known.solids.now) particles.old }
     ensures sides { HasSidesOf particles.new particles.old }
-    ensures turned { TurnsTwice row known.entry.solid.now particles.old particles.new }
+    ensures turned { TurnsTwice row (all_of known.entry.solids.now) particles.old particles.new }
 {
     if known.free {
-        turn_next_free(particles, known.solid, row);
-        turn_second_free(particles, known.solid, row);
+        turn_next_free(particles, known.solids, row);
+        turn_second_free(particles, known.solids, row);
     } else {
-        turn_next_among(particles, known.solid, row);
-        turn_second_among(particles, known.solid, row);
+        turn_next_among(particles, known.solids, row);
+        turn_second_among(particles, known.solids, row);
     }
 }
 
 // The phases of parity 0 and 1.
 fn turn_both(particles: &mut Plane, known: KnownSolid<'_>)
-    requires solid { HasSidesOf known.solid.now particles.old }
-    ensures { let solid = known.entry.solid.now in
+    requires solid { HasSidesOf (all_of known.solids.now) particles.old }
+    ensures { let solid = all_of known.entry.solids.now in
         particles.new ≡ streamed 1 (streamed 0 particles.old solid) solid }
 {
     let down = particles.down();
@@ -132,8 +147,8 @@ fn turn_both(particles: &mut Plane, known: KnownSolid<'_>)
 // A phase of the whole lattice.
 fn turn_whole(particles: &mut Plane, known: KnownSolid<'_>, parity: u8)
     requires parity { parity < 2 }
-    requires solid { HasSidesOf known.solid.now particles.old }
-    ensures { particles.new ≡ streamed parity particles.old known.entry.solid.now }
+    requires solid { HasSidesOf (all_of known.solids.now) particles.old }
+    ensures { particles.new ≡ streamed parity particles.old (all_of known.entry.solids.now) }
 {
     let part = whole(particles);
     turn_part(particles, known, part, parity);
@@ -142,8 +157,8 @@ fn turn_whole(particles: &mut Plane, known: KnownSolid<'_>, parity: u8)
 
 // So many phases, of which the first has parity 0.
 fn turn_from_even(particles: &mut Plane, known: KnownSolid<'_>, n: u16)
-    requires solid { HasSidesOf known.solid.now particles.old }
-    ensures { particles.new ≡ after 0 known.entry.solid.now particles.old n }
+    requires solid { HasSidesOf (all_of known.solids.now) particles.old }
+    ensures { particles.new ≡ after 0 (all_of known.entry.solids.now) particles.old n }
 {
     for _pair in 0..n / 2 {
         turn_both(particles, known);
@@ -156,8 +171,8 @@ fn turn_from_even(particles: &mut Plane, known: KnownSolid<'_>, n: u16)
 /// So many phases of the whole lattice, of which the first has this parity. Nothing is counted, and nothing acts between them.
 pub fn turn_on(particles: &mut Plane, known: KnownSolid<'_>, parity: u8, n: u16)
     requires parity { parity < 2 }
-    requires solid { HasSidesOf known.solid.now particles.old }
-    ensures { particles.new ≡ after parity known.entry.solid.now particles.old n }
+    requires solid { HasSidesOf (all_of known.solids.now) particles.old }
+    ensures { particles.new ≡ after parity (all_of known.entry.solids.now) particles.old n }
 {
     if parity == 0 {
         turn_from_even(particles, known, n);

@@ -6,11 +6,12 @@ ghost use Rattle.gas_terms.specs.Gas.{streamed};
 ghost use Rattle.phase_step.specs.SolidBlocks.{HasNoBlocks};
 ghost use Rattle.phase_step.specs.Parts.{IsPartOf, IsReady, IsTurned};
 ghost use Rattle.phase_step.specs.OddPhase.{AreTurnedTo, AreRowsMadeTo};
+ghost use Rattle.phase_step.specs.Solid.{all_of};
 
 use crate::even_phase::turn_even_row;
 use crate::odd_phase::{RowPlace, turn_inner_row, turn_seam};
 use crate::parts::{Part, row_there};
-use crate::steps::{KnownSolid, Solid};
+use crate::steps::{KnownSolid, Solids};
 use gas_plane::{Plane, after};
 
 // The phase of parity 1 of the blocks that begin in a row of tiles of a part, in place. In a row of
@@ -19,9 +20,9 @@ use gas_plane::{Plane, after};
 fn turn_odd_row(particles: &mut Plane, known: KnownSolid<'_>, part: Part, row: u32)
     requires part { (part.first < part.down) × (part.down ≤ 64) × (part.margin ≤ 1) }
     requires row { row + part.margin < particles.old.height / 64 }
-    requires solid { tile_count known.solid.now ≡ part.down * (particles.old.width / 64) }
+    requires solid { tile_count (all_of known.solids.now) ≡ part.down * (particles.old.width / 64) }
     ensures sides { HasSidesOf particles.new particles.old }
-    ensures turned { let solid = known.entry.solid.now in (old lattice : Cells) →
+    ensures turned { let solid = all_of known.entry.solids.now in (old lattice : Cells) →
         HasSidesOf solid lattice → IsPartOf part old lattice 63 →
         let next = streamed 1 lattice solid in
         AreTurnedTo row part next old particles.old →
@@ -43,9 +44,9 @@ fn turn_odd_row(particles: &mut Plane, known: KnownSolid<'_>, part: Part, row: u
 // above its first own row.
 #[inline(always)]
 fn turn_odd_rows(particles: &mut Plane, known: KnownSolid<'_>, part: Part)
-    requires ready { IsReady part known.solid.now particles.old 63 }
+    requires ready { IsReady part (all_of known.solids.now) particles.old 63 }
     ensures sides { HasSidesOf particles.new particles.old }
-    ensures phase { IsTurned part 1 known.entry.solid.now particles.old particles.new }
+    ensures phase { IsTurned part 1 (all_of known.entry.solids.now) particles.old particles.new }
 {
     for row in 0..particles.down() - part.margin {
         turn_odd_row(particles, known, part, row);
@@ -55,35 +56,42 @@ fn turn_odd_rows(particles: &mut Plane, known: KnownSolid<'_>, part: Part)
 // The same, compiled for no walls. The compiler makes vectors of it only apart from the loops of a
 // run.
 #[inline(never)]
-fn turn_odd_free(particles: &mut Plane, solid: &Solid, part: Part)
-    requires none { HasNoBlocks solid.now }
-    requires ready { IsReady part solid.now particles.old 63 }
+fn turn_odd_free(particles: &mut Plane, solids: &Solids, part: Part)
+    requires none { HasNoBlocks (all_of solids.now) }
+    requires ready { IsReady part (all_of solids.now) particles.old 63 }
     ensures sides { HasSidesOf particles.new particles.old }
-    ensures phase { IsTurned part 1 solid.now particles.old particles.new }
+    ensures phase { IsTurned part 1 (all_of solids.now) particles.old particles.new }
 {
-    turn_odd_rows(particles, KnownSolid { solid, free: true }, part);
+    turn_odd_rows(particles, KnownSolid { solids, free: true }, part);
 }
 
 // And among some.
 #[inline(never)]
-fn turn_odd_among(particles: &mut Plane, solid: &Solid, part: Part)
-    requires ready { IsReady part solid.now particles.old 63 }
+fn turn_odd_among(particles: &mut Plane, solids: &Solids, part: Part)
+    requires ready { IsReady part (all_of solids.now) particles.old 63 }
     ensures sides { HasSidesOf particles.new particles.old }
-    ensures phase { IsTurned part 1 solid.now particles.old particles.new }
+    ensures phase { IsTurned part 1 (all_of solids.now) particles.old particles.new }
 {
-    turn_odd_rows(particles, KnownSolid { solid, free: false }, part);
+    turn_odd_rows(
+        particles,
+        KnownSolid {
+            solids,
+            free: false,
+        },
+        part,
+    );
 }
 
 #[inline(always)]
 fn turn_odd_part(particles: &mut Plane, known: KnownSolid<'_>, part: Part)
-    requires ready { IsReady part known.solid.now particles.old 63 }
+    requires ready { IsReady part (all_of known.solids.now) particles.old 63 }
     ensures sides { HasSidesOf particles.new particles.old }
-    ensures phase { IsTurned part 1 known.entry.solid.now particles.old particles.new }
+    ensures phase { IsTurned part 1 (all_of known.entry.solids.now) particles.old particles.new }
 {
     if known.free {
-        turn_odd_free(particles, known.solid, part);
+        turn_odd_free(particles, known.solids, part);
     } else {
-        turn_odd_among(particles, known.solid, part);
+        turn_odd_among(particles, known.solids, part);
     }
 }
 
@@ -93,9 +101,9 @@ fn turn_even_in(particles: &mut Plane, known: KnownSolid<'_>, part: Part, row: u
     requires part { (part.first < part.down) × (part.down ≤ 64) × (part.margin ≤ 1) }
     requires own { part.margin ≤ row }
     requires row { row + part.margin < particles.old.height / 64 }
-    requires solid { tile_count known.solid.now ≡ part.down * (particles.old.width / 64) }
+    requires solid { tile_count (all_of known.solids.now) ≡ part.down * (particles.old.width / 64) }
     ensures sides { HasSidesOf particles.new particles.old }
-    ensures turned { let solid = known.entry.solid.now in (old lattice : Cells) →
+    ensures turned { let solid = all_of known.entry.solids.now in (old lattice : Cells) →
         HasSidesOf solid lattice → IsPartOf part old lattice 64 →
         let next = streamed 0 lattice solid in
         AreRowsMadeTo row part next old particles.old →
@@ -112,9 +120,9 @@ fn turn_even_in(particles: &mut Plane, known: KnownSolid<'_>, part: Part, row: u
 // The phase of parity 0 of a part's own tiles, in place.
 #[inline(always)]
 fn turn_even_rows(particles: &mut Plane, known: KnownSolid<'_>, part: Part)
-    requires ready { IsReady part known.solid.now particles.old 64 }
+    requires ready { IsReady part (all_of known.solids.now) particles.old 64 }
     ensures sides { HasSidesOf particles.new particles.old }
-    ensures phase { IsTurned part 0 known.entry.solid.now particles.old particles.new }
+    ensures phase { IsTurned part 0 (all_of known.entry.solids.now) particles.old particles.new }
 {
     for row in part.margin..particles.down() - part.margin {
         turn_even_in(particles, known, part, row);
@@ -123,35 +131,42 @@ fn turn_even_rows(particles: &mut Plane, known: KnownSolid<'_>, part: Part)
 
 // The same, compiled for no walls.
 #[inline(never)]
-fn turn_even_free(particles: &mut Plane, solid: &Solid, part: Part)
-    requires none { HasNoBlocks solid.now }
-    requires ready { IsReady part solid.now particles.old 64 }
+fn turn_even_free(particles: &mut Plane, solids: &Solids, part: Part)
+    requires none { HasNoBlocks (all_of solids.now) }
+    requires ready { IsReady part (all_of solids.now) particles.old 64 }
     ensures sides { HasSidesOf particles.new particles.old }
-    ensures phase { IsTurned part 0 solid.now particles.old particles.new }
+    ensures phase { IsTurned part 0 (all_of solids.now) particles.old particles.new }
 {
-    turn_even_rows(particles, KnownSolid { solid, free: true }, part);
+    turn_even_rows(particles, KnownSolid { solids, free: true }, part);
 }
 
 // And among some.
 #[inline(never)]
-fn turn_even_among(particles: &mut Plane, solid: &Solid, part: Part)
-    requires ready { IsReady part solid.now particles.old 64 }
+fn turn_even_among(particles: &mut Plane, solids: &Solids, part: Part)
+    requires ready { IsReady part (all_of solids.now) particles.old 64 }
     ensures sides { HasSidesOf particles.new particles.old }
-    ensures phase { IsTurned part 0 solid.now particles.old particles.new }
+    ensures phase { IsTurned part 0 (all_of solids.now) particles.old particles.new }
 {
-    turn_even_rows(particles, KnownSolid { solid, free: false }, part);
+    turn_even_rows(
+        particles,
+        KnownSolid {
+            solids,
+            free: false,
+        },
+        part,
+    );
 }
 
 #[inline(always)]
 fn turn_even_part(particles: &mut Plane, known: KnownSolid<'_>, part: Part)
-    requires ready { IsReady part known.solid.now particles.old 64 }
+    requires ready { IsReady part (all_of known.solids.now) particles.old 64 }
     ensures sides { HasSidesOf particles.new particles.old }
-    ensures phase { IsTurned part 0 known.entry.solid.now particles.old particles.new }
+    ensures phase { IsTurned part 0 (all_of known.entry.solids.now) particles.old particles.new }
 {
     if known.free {
-        turn_even_free(particles, known.solid, part);
+        turn_even_free(particles, known.solids, part);
     } else {
-        turn_even_among(particles, known.solid, part);
+        turn_even_among(particles, known.solids, part);
     }
 }
 
@@ -159,9 +174,9 @@ fn turn_even_part(particles: &mut Plane, known: KnownSolid<'_>, part: Part)
 #[inline(always)]
 pub fn turn_part(particles: &mut Plane, known: KnownSolid<'_>, part: Part, parity: u8)
     requires parity { parity < 2 }
-    requires ready { IsReady part known.solid.now particles.old (64 - parity) }
+    requires ready { IsReady part (all_of known.solids.now) particles.old (64 - parity) }
     ensures sides { HasSidesOf particles.new particles.old }
-    ensures phase { IsTurned part parity known.entry.solid.now particles.old particles.new }
+    ensures phase { IsTurned part parity (all_of known.entry.solids.now) particles.old particles.new }
 {
     if parity == 0 {
         turn_even_part(particles, known, part);

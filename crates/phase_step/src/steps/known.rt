@@ -4,39 +4,40 @@ ghost use Rattle.std.specs.Prelude.{◌≡◌, ◌<◌, IsTrue};
 ghost use Rattle.gas_terms.specs.Cells.{tile_count};
 ghost use Rattle.block_rule.specs.TileBlocks.{AreGivenBlocks};
 ghost use Rattle.phase_step.specs.SolidBlocks.{is_walled_in, HasNoBlocks};
+ghost use Rattle.phase_step.specs.Solid.{all_of};
 
-use crate::steps::solid::Solid;
+use crate::steps::solids::Solids;
 use block_rule::SetBlocks;
 
 /// Cells that particles do not pass. If they are known to be none, a loop that is compiled for none asks no tile for them.
 #[derive(Clone, Copy)]
 pub struct KnownSolid<'a> {
-    pub solid: &'a Solid,
+    pub solids: &'a Solids,
     pub free: bool,
-    pub ghost none: { IsTrue free → HasNoBlocks solid.now },
+    pub ghost none: { IsTrue free → HasNoBlocks (all_of solids.now) },
 }
 
 impl<'a> KnownSolid<'a> {
     /// What is known of these cells.
-    pub fn of(solid: &'a Solid) -> KnownSolid<'a>
-        ensures { result.solid.now ≡ solid.now }
+    pub fn of(solids: &'a Solids) -> KnownSolid<'a>
+        ensures { all_of result.solids.now ≡ all_of solids.now }
     {
         KnownSolid {
-            solid,
-            free: solid.has_no_blocks(),
+            solids,
+            free: solids.are_none(),
         }
     }
 
     /// The walled blocks of tile i.
     #[inline(always)]
     pub fn in_tile(self, i: u32) -> Option<SetBlocks<'a>>
-        requires { i < tile_count self.solid.now }
-        ensures { AreGivenBlocks result (is_walled_in self.entry.solid.now i) }
+        requires { i < tile_count (all_of self.solids.now) }
+        ensures { AreGivenBlocks result (is_walled_in (all_of self.entry.solids.now) i) }
     {
         if self.free {
             None
         } else {
-            self.solid.in_tile(i)
+            self.solids.walled_in(i)
         }
     }
 }

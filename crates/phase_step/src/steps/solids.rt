@@ -1,23 +1,26 @@
 //! Walls and obstacles, with their blocks.
 
-ghost use Rattle.std.specs.Prelude.{◌≡◌, ◌<◌, false, IfOk};
+ghost use Rattle.std.specs.Prelude.{◌≡◌, ◌<◌, false, IfOk, IsTrue};
 ghost use Rattle.gas_terms.specs.Cells.{cells_where, filled, cleared, joined, tile_count, HasSidesOf};
-ghost use Rattle.phase_step.specs.SolidBlocks.{AreTileSolids, AreOfNone};
+ghost use Rattle.block_rule.specs.TileBlocks.{AreGivenBlocks};
+ghost use Rattle.phase_step.specs.SolidBlocks.{is_walled_in, AreBlocksOf, AreTileSolids, AreOfNone, HasNoBlocks};
 
-use crate::steps::solid::Solid;
+use crate::steps::set_words::{SetWords, renew, renew_alone};
 use block_rule::{Counted, SetBlocks};
 use gas_plane::Plane;
 use gas_terms::{NoMemory, Rect, Size};
 use std::alloc::Global;
 
-/// Walls and obstacles, and the cells of either. Obstacles and all cells know their blocks, so that no phase works these out.
+/// Walls and obstacles. Words name the blocks that have an obstacle, and all walled blocks, so that no phase works these out.
 #[derive(Drop)]
 pub struct Solids {
     pub walls: Plane,
-    pub obstacles: Solid,
-    pub all: Solid,
+    pub obstacles: Plane,
+    of_obstacles: SetWords,
+    of_all: SetWords,
     pub ghost sides: { HasSidesOf obstacles walls },
-    pub ghost together: { all ≡ joined walls obstacles },
+    pub ghost obstructed: { AreBlocksOf obstacles of_obstacles.rows.items of_obstacles.blocks.items },
+    pub ghost walled: { AreBlocksOf (joined walls obstacles) of_all.rows.items of_all.blocks.items },
 }
 
 /// The walled blocks of one tile, and those of them that have an obstacle. `None` if there are none.
@@ -35,12 +38,15 @@ impl Solids {
             × (solids.obstacles ≡ cells_where size.width size.height (λ _ _. false))) }
     {
         let walls = Plane::empty(alloc, size)?;
-        let obstacles = Solid::empty(alloc, size)?;
-        let all = Solid::empty(alloc, size)?;
+        let obstacles = Plane::empty(alloc, size)?;
+        let tiles = walls.size().tiles();
+        let of_obstacles = SetWords::none(alloc, tiles)?;
+        let of_all = SetWords::none(alloc, tiles)?;
         Ok(Solids {
             walls,
             obstacles,
-            all,
+            of_obstacles,
+            of_all,
         })
     }
 
@@ -49,13 +55,13 @@ impl Solids {
         requires { HasSidesOf obstacles walls }
         ensures { IfOk result (λ solids. (solids.walls ≡ walls) × (solids.obstacles ≡ obstacles)) }
     {
-        let both = of_both(alloc, &walls, &obstacles)?;
-        let obstacles = Solid::of(alloc, obstacles)?;
-        let all = Solid::of(alloc, both)?;
+        let of_obstacles = SetWords::alone(alloc, &obstacles)?;
+        let of_all = SetWords::of(alloc, &walls, Some(&of_obstacles))?;
         Ok(Solids {
             walls,
             obstacles,
-            all,
+            of_obstacles,
+            of_all,
         })
     }
 
@@ -66,11 +72,13 @@ impl Solids {
     {
         let walls = self.walls.copy(alloc)?;
         let obstacles = self.obstacles.copy(alloc)?;
-        let all = self.all.copy(alloc)?;
+        let of_obstacles = self.of_obstacles.copy(alloc)?;
+        let of_all = self.of_all.copy(alloc)?;
         Ok(Solids {
             walls,
             obstacles,
-            all,
+            of_obstacles,
+            of_all,
         })
     }
 
@@ -80,7 +88,12 @@ impl Solids {
         ensures obstacles { self.new.obstacles ≡ self.old.obstacles }
     {
         self.walls.fill(area);
-        self.all.fill(area);
+        renew(
+            &self.walls,
+            Some(&self.of_obstacles),
+            area,
+            &mut self.of_all,
+        );
     }
 
     /// Makes each cell of the rectangle an obstacle.
@@ -89,7 +102,13 @@ impl Solids {
         ensures obstacles { self.new.obstacles ≡ filled self.old.obstacles area }
     {
         self.obstacles.fill(area);
-        self.all.fill(area);
+        renew_alone(&self.obstacles, area, &mut self.of_obstacles);
+        renew(
+            &self.walls,
+            Some(&self.of_obstacles),
+            area,
+            &mut self.of_all,
+        );
     }
 
     /// Removes walls and obstacles from the rectangle.
@@ -99,7 +118,21 @@ impl Solids {
     {
         self.walls.clear(area);
         self.obstacles.clear(area);
-        self.all.clear(area);
+        renew_alone(&self.obstacles, area, &mut self.of_obstacles);
+        renew(
+            &self.walls,
+            Some(&self.of_obstacles),
+            area,
+            &mut self.of_all,
+        );
+    }
+
+    /// True only if there is neither a wall nor an obstacle, and so no walled block.
+    pub fn are_none(&self) -> bool
+        ensures { IsTrue result → HasNoBlocks (joined self.now.walls self.now.obstacles) }
+    {
+        self.walls.shows_lattice();
+        self.walls.is_empty() & self.obstacles.is_empty()
     }
 
     /// False only if the accounts that are kept are of sets without cells, which take nothing.
@@ -107,12 +140,23 @@ impl Solids {
         ensures { result ≡ false → AreOfNone counted self.now.walls self.now.obstacles }
     {
         self.walls.shows_lattice();
+        self.obstacles.shows_lattice();
         let of_walls = counted.walls & !self.walls.is_empty();
-        let of_obstacles = counted.obstacles & !self.obstacles.has_no_blocks();
+        let of_obstacles = counted.obstacles & !self.obstacles.is_empty();
         of_walls | of_obstacles
     }
 
     /// The walled blocks of tile i.
+    #[inline(always)]
+    pub fn walled_in(&self, i: u32) -> Option<SetBlocks<'_>>
+        requires { i < tile_count self.now.walls }
+        ensures { AreGivenBlocks result
+            (is_walled_in (joined self.now.walls self.now.obstacles) i) }
+    {
+        self.of_all.in_tile(i)
+    }
+
+    /// The walled blocks of tile i, and those of them that have an obstacle.
     #[inline(always)]
     pub fn in_tile(&self, i: u32) -> TileSolids<'_>
         requires walls { i < tile_count self.now.walls }
@@ -120,23 +164,8 @@ impl Solids {
         ensures { AreTileSolids self.now.walls self.now.obstacles i result }
     {
         TileSolids {
-            all: self.all.in_tile(i),
-            obstacles: self.obstacles.in_tile(i),
+            all: self.walled_in(i),
+            obstacles: self.of_obstacles.in_tile(i),
         }
     }
-}
-
-// The cells of either set. Fails if memory runs out.
-fn of_both(alloc: Global, walls: &Plane, obstacles: &Plane) -> Result<Plane, NoMemory>
-    requires { HasSidesOf obstacles.now walls.now }
-    ensures { IfOk result (λ both. both ≡ joined walls.now obstacles.now) }
-{
-    let size = walls.size();
-    let mut both = Plane::empty(alloc, size)?;
-    for i in 0..size.tiles() {
-        let mut tile = *walls.tile(i);
-        tile.join(obstacles.tile(i));
-        both.set_tile(i, tile);
-    }
-    Ok(both)
 }

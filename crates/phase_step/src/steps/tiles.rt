@@ -10,7 +10,7 @@ ghost use Rattle.block_rule.specs.Windows.{taken_in};
 ghost use Rattle.phase_step.specs.SolidBlocks.{is_walled_in, AreTileSolids};
 ghost use Rattle.phase_step.specs.Turns.{IsTileAfter};
 
-use crate::steps::solid::window_in;
+use crate::steps::set_words::window_in;
 use crate::steps::solids::TileSolids;
 use block_rule::{
     Counted, SetBlocks, Window, taken_among, tile_blocks, turn_tile_even, turn_tile_odd,
@@ -85,13 +85,12 @@ pub fn turn_tile_at(
     ensures took { result ≡ taken_in (pos parity) old.now walls.now obstacles.now
         (tile_rectangle old.now at.tile) }
 {
-    let (wall_rows, mut blocks) = tile_blocks(&window_in(walls, at.tile));
-    let (rows, with_obstacle) = tile_blocks(&window_in(obstacles, at.tile));
+    let (rows, with_obstacle) = tile_blocks(&window_in(obstacles, at.tile), SetBlocks::NONE);
     let of_obstacles = SetBlocks {
         rows,
         blocks: &with_obstacle,
     };
-    let rows = blocks.join(wall_rows, of_obstacles);
+    let (rows, blocks) = tile_blocks(&window_in(walls, at.tile), of_obstacles);
     let walled = Some(SetBlocks {
         rows,
         blocks: &blocks,

@@ -5,6 +5,7 @@ use Rattle.gas_plane.proofs.Places.{wide}
 use Rattle.block_rule.specs.TileBlocks.{AreGivenBlocks}
 use Rattle.phase_step.specs.SolidBlocks.{is_walled_in}
 use Rattle.phase_step.proofs.EvenRows.{within_there, even_before, even_next, even_row}
+use Rattle.phase_step.specs.Solid.{all_of}
 use Rattle.phase_step.proofs.even_phase.turn_even_row.Goals as goal
 
 pub overflow_mul-there : goal.overflow_mul-there
@@ -23,7 +24,7 @@ loop-column-init c =
 
 pub loop-column-preserved : goal.loop-column-preserved
 loop-column-preserved c =
-    let solid = c.args.known.solid.now in
+    let solid = all_of c.args.known.solids.now in
     let old = c.args.particles.now in
     let place = c.args.place in
     let l = c.loop-column in
@@ -44,7 +45,7 @@ loop-column-preserved c =
 
 pub returns-clause-turned : goal.returns-clause-turned
 returns-clause-turned c = λ lattice is ready.
-    let solid = c.args.known.solid.now in
+    let solid = all_of c.args.known.solids.now in
     let l = c.loop-column in
     let e : c.across-across.result ≡ lattice.width / 64 = c.across-across.ensures.across ∙ ap (λ w. w / 64) is.wide in
     even_row c.args.place l.column (streamed 0 lattice solid) c.args.particles.now l.particles is.sized (omega (arith, c.loop-column-test.false, l.auto.column-end) ∙ e) (l.invariant.turned lattice is ready)

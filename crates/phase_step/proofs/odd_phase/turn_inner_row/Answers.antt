@@ -9,6 +9,7 @@ use Rattle.phase_step.specs.declared.odd_phase.RowTurner.{RowTurner}
 use Rattle.phase_step.proofs.RowTiles.{tile_from, first_column}
 use Rattle.phase_step.proofs.RowWindows.{HasLast, has_last, window, walls_there, edge, given_there}
 use Rattle.phase_step.proofs.InnerRows.{last_seen, row_begun, is_edge, inner_next, inner_row}
+use Rattle.phase_step.specs.Solid.{all_of}
 use Rattle.phase_step.proofs.odd_phase.turn_inner_row.Goals as goal
 use Rattle.phase_step.proofs.odd_phase.turn_inner_row.Goals.{After-carried_on-carry}
 
@@ -24,13 +25,13 @@ module _ (c : After-carried_on-carry) where
   first_is y k l =
       first_column c.args.particles.now c.args.place.row 0 _ c.tile.result.now y c.across-across.ensures.lattice.sized c.requires.row c.across-across.ensures.positive (ap (λ a. c.args.place.row * a) c.across-across.ensures.across ∙ omega arith) c.tile.ensures (omega (arith, l))
 
-  tiles : (lattice : Cells) → IsRowThere c.args.place c.args.known.solid.now c.args.particles.now lattice → HasLast c.across-across.result lattice
-  tiles lattice is = has_last c.args.place c.args.known.solid.now c.args.particles.now lattice c.across-across.result is c.across-across.ensures.across c.across-across.ensures.positive
+  tiles : (lattice : Cells) → IsRowThere c.args.place (all_of c.args.known.solids.now) c.args.particles.now lattice → HasLast c.across-across.result lattice
+  tiles lattice is = has_last c.args.place (all_of c.args.known.solids.now) c.args.particles.now lattice c.across-across.result is c.across-across.ensures.across c.across-across.ensures.positive
 
 pub loop-column-init : goal.loop-column-init
 loop-column-init c =
     let after = (goal.at.loop-column-init c).After-carried_on-carry in
-    let solid = c.args.known.solid.now in
+    let solid = all_of c.args.known.solids.now in
     let old = c.args.particles.now in
     let place = c.args.place in
     let column = c.across-across.result - 1 in
@@ -52,7 +53,7 @@ loop-column-init c =
 pub loop-column-preserved : goal.loop-column-preserved
 loop-column-preserved c =
     let after = (goal.at.loop-column-preserved c).After-carried_on-carry in
-    let solid = c.args.known.solid.now in
+    let solid = all_of c.args.known.solids.now in
     let old = c.args.particles.now in
     let place = c.args.place in
     let l = c.loop-column in

@@ -1,11 +1,12 @@
 use Rattle.gas_terms.specs.Cells.{Cells, HasSidesOf}
 use Rattle.gas_terms.specs.Gas.{streamed}
 use Rattle.phase_step.specs.OddPhase.{IsRowThere, HasInner, AreInnersTurned}
+use Rattle.phase_step.specs.Solid.{all_of}
 use Rattle.phase_step.proofs.odd_phase.turn_inner_row.Given as goal
 
 abbrev pub invariant-loop-column : goal.invariant-loop-column
 invariant-loop-column l =
-    let solid = l.known.solid.now in
+    let solid = all_of l.known.solids.now in
     record {
       sides : HasSidesOf l.particles l.initial.particles;
       turned : (lattice : Cells) → IsRowThere l.fn.place solid l.initial.particles lattice → HasInner l.fn.place lattice.width l.initial.particles lattice

@@ -8,6 +8,7 @@ use Rattle.phase_step.specs.OddPhase.{IsRowThere, AreSeamsTurned}
 use Rattle.phase_step.proofs.RowTiles.{first_column}
 use Rattle.phase_step.proofs.RowWindows.{HasLast, has_last, window, walls_there, given_there, next_cells}
 use Rattle.phase_step.proofs.SeamRows.{upper_edge, lower_edge, seen_right, seen_corner, last_edge, last_bottom, last_top, row_begun, own_bottom, own_top, is_seam_edge, coming_in, seam_next, seam_row_turned}
+use Rattle.phase_step.specs.Solid.{all_of}
 use Rattle.phase_step.proofs.odd_phase.turn_seam.Goals as goal
 use Rattle.phase_step.proofs.odd_phase.turn_seam.Goals.{After-turned_seam}
 
@@ -29,13 +30,13 @@ module _ (c : After-turned_seam) where
         first_column old below 0 _ c.tile-2.result.now 0 sized c.requires.below c.across-across.ensures.positive (ap (λ a. below * a) e ∙ omega arith) c.tile-2.ensures (omega arith) ∙ ap (has old 0) (let z : below * 64 + 0 ≡ below * 64 = omega arith in z),
       )
 
-  tiles : (lattice : Cells) → IsRowThere c.args.place c.args.known.solid.now c.args.particles.now lattice → HasLast c.across-across.result lattice
-  tiles lattice is = has_last c.args.place c.args.known.solid.now c.args.particles.now lattice c.across-across.result is c.across-across.ensures.across c.across-across.ensures.positive
+  tiles : (lattice : Cells) → IsRowThere c.args.place (all_of c.args.known.solids.now) c.args.particles.now lattice → HasLast c.across-across.result lattice
+  tiles lattice is = has_last c.args.place (all_of c.args.known.solids.now) c.args.particles.now lattice c.across-across.result is c.across-across.ensures.across c.across-across.ensures.positive
 
 pub loop-column-init : goal.loop-column-init
 loop-column-init c =
     let after = (goal.at.loop-column-init c).After-turned_seam in
-    let solid = c.args.known.solid.now in
+    let solid = all_of c.args.known.solids.now in
     let old = c.args.particles.now in
     let place = c.args.place in
     let column = c.across-across.result - 1 in
@@ -61,7 +62,7 @@ loop-column-init c =
 pub loop-column-preserved : goal.loop-column-preserved
 loop-column-preserved c =
     let after = (goal.at.loop-column-preserved c).After-turned_seam in
-    let solid = c.args.known.solid.now in
+    let solid = all_of c.args.known.solids.now in
     let old = c.args.particles.now in
     let place = c.args.place in
     let l = c.loop-column in

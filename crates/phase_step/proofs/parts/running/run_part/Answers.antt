@@ -35,7 +35,7 @@ phase_made g c lattice of_walls start =
     let sides = sides_there c.args.run.parity s.walls s.obstacles (g.A.Action.leaves c.args.run.action.now) lattice c.loop-k.k of_walls in
     let streamed_there : Cells = streamed c.parity_at-now.result there solid in
     let turned : IsTurned c.args.part c.parity_at-now.result solid c.loop-k.particles c.turn_part.new.particles =
-    subst (λ (solid : Cells). IsTurned c.args.part c.parity_at-now.result solid c.loop-k.particles c.turn_part.new.particles) (c.of-known.ensures ∙ s.together) c.turn_part.ensures.phase in
+    subst (λ (solid : Cells). IsTurned c.args.part c.parity_at-now.result solid c.loop-k.particles c.turn_part.new.particles) c.of-known.ensures c.turn_part.ensures.phase in
     let come = turned there (record { wide = sides.wide; high = sides.high }) ready in
     record {
       small = c.requires.parity;
@@ -90,7 +90,7 @@ turn_part-requires-clause-ready g c =
     let s = run.solids.now in
     let h = c.requires.ready in
     let leaves = g.A.Action.leaves run.action.now in
-    subst (λ (solid : Cells). IsReady c.args.part solid c.loop-k.particles (64 - c.parity_at-now.result)) (sym (c.of-known.ensures ∙ s.together))
+    subst (λ (solid : Cells). IsReady c.args.part solid c.loop-k.particles (64 - c.parity_at-now.result)) (sym c.of-known.ensures)
     (record {
       lattice = after_all (dynamics run.parity s leaves) h.lattice c.loop-k.k;
       is = c.loop-k.invariant.ready h.lattice c.parity_at-now.result h.sides h.is (omega arith) c.parity_at-now.ensures.parity;
@@ -120,7 +120,7 @@ act_after-moved-requires-clause-some g c =
     let there = after_all (dynamics run.parity s leaves) h.lattice c.loop-k.k in
     let solid = joined s.walls s.obstacles in
     let turned : IsTurned c.args.part c.parity_at-now.result solid c.loop-k.particles c.turn_part.new.particles =
-    subst (λ (solid : Cells). IsTurned c.args.part c.parity_at-now.result solid c.loop-k.particles c.turn_part.new.particles) (c.of-known.ensures ∙ s.together) c.turn_part.ensures.phase in
+    subst (λ (solid : Cells). IsTurned c.args.part c.parity_at-now.result solid c.loop-k.particles c.turn_part.new.particles) c.of-known.ensures c.turn_part.ensures.phase in
     let sides = sides_there run.parity s.walls s.obstacles leaves h.lattice c.loop-k.k h.sides in
     record {
       lattice = streamed c.parity_at-now.result there solid;

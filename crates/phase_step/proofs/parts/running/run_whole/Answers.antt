@@ -19,14 +19,14 @@ run_part-flow-requires g c =
 pub turn_on-requires-clause-solid : goal.turn_on-requires-clause-solid
 turn_on-requires-clause-solid g c =
     let s = c.args.run.solids.now in
-    subst (λ (solid : Cells). HasSidesOf solid c.args.particles.now) (sym (c.of.ensures ∙ s.together)) (record { wide = c.requires.walls.wide; high = c.requires.walls.high })
+    subst (λ (solid : Cells). HasSidesOf solid c.args.particles.now) (sym c.of.ensures) (record { wide = c.requires.walls.wide; high = c.requires.walls.high })
 
 pub returns-then-not-is_counted : goal.returns-then-not-is_counted
 returns-then-not-is_counted g c =
     let run = c.args.run in
     let s = run.solids.now in
     still_run run.parity s.walls s.obstacles (g.A.Action.leaves run.action.now) c.args.particles.now c.shows_lattice.ensures (λ k. c.acts.ensures c.if-not-acts.true k) c.args.counted run.n c.turn_on.new.particles c.requires.walls c.requires.obstacles (c.is_counted.ensures c.if-not-is_counted.true)
-    (subst (λ (solid : Cells). c.turn_on.new.particles ≡ after run.parity solid c.args.particles.now run.n) (c.of.ensures ∙ s.together) c.turn_on.ensures)
+    (subst (λ (solid : Cells). c.turn_on.new.particles ≡ after run.parity solid c.args.particles.now run.n) c.of.ensures c.turn_on.ensures)
 
 pub returns : goal.returns
 returns g c =

@@ -4,11 +4,12 @@ use Rattle.phase_step.specs.OddPhase.{IsRowThere, HasRow, IsEvenRowTurned}
 use Rattle.phase_step.specs.declared.odd_phase.RowPlace.{RowPlace}
 use Rattle.gas_terms.proofs.Steps.{full_streamed}
 use Rattle.phase_step.proofs.TwoPhases.{place_in, place_is, row_there_is, first_turned, all_turned_twice}
+use Rattle.phase_step.specs.Solid.{all_of}
 use Rattle.phase_step.proofs.parts.sweeping.turn_both.Goals as goal
 
 pub loop-row-init : goal.loop-row-init
 loop-row-init c =
-    let solid = c.args.known.solid.now in
+    let solid = all_of c.args.known.solids.now in
     let old = c.args.particles.now in
     let of = c.down-down.ensures.lattice in
     let mid = streamed 0 old solid in
@@ -41,7 +42,7 @@ loop-row-preserved c =
 
 pub returns : goal.returns
 returns c =
-    let solid = c.args.known.solid.now in
+    let solid = all_of c.args.known.solids.now in
     let old = c.args.particles.now in
     let mid = streamed 0 old solid in
     let next = streamed 1 mid solid in

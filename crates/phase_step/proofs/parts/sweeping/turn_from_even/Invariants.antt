@@ -1,9 +1,10 @@
 use Rattle.std.proofs.Common.{◌≡◌, ◌*◌}
 use Rattle.gas_terms.specs.Cells.{HasSidesOf}
 use Rattle.phase_step.specs.Runs.{after}
+use Rattle.phase_step.specs.Solid.{all_of}
 use Rattle.phase_step.proofs.parts.sweeping.turn_from_even.Given as goal
 
 abbrev pub invariant-loop-pair : goal.invariant-loop-pair
 invariant-loop-pair l =
-    let solid = l.known.solid.now in
+    let solid = all_of l.known.solids.now in
     record { made : l.particles ≡ after 0 solid l.fn.particles (2 * l._pair); sides : HasSidesOf l.particles l.fn.particles }

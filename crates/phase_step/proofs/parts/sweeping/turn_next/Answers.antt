@@ -2,11 +2,12 @@ use Rattle.std.proofs.Common.{◌≡◌, ◌+◌, ◌%◌, ◌/◌, ◌<◌, ◌
 use Rattle.phase_step.specs.OddPhase.{IsRowThere, HasRow, IsEvenRowTurned, once_turned}
 use Rattle.phase_step.specs.declared.odd_phase.RowPlace.{RowPlace}
 use Rattle.phase_step.proofs.TwoPhases.{place_in, place_is, row_there_is, setting, ready_row, next_turned, none_next}
+use Rattle.phase_step.specs.Solid.{all_of}
 use Rattle.phase_step.proofs.parts.sweeping.turn_next.Goals as goal
 
 pub returns-then-row-down-clause-turned : goal.returns-then-row-down-clause-turned
 returns-then-row-down-clause-turned c = λ old of so_far.
-    let solid = c.args.known.solid.now in
+    let solid = all_of c.args.known.solids.now in
     let row = c.args.row in
     let now = c.args.particles.now in
     let new = c.turn_even_row.new.particles in
@@ -22,7 +23,7 @@ returns-then-row-down-clause-turned c = λ old of so_far.
 
 pub returns-else-row-down-clause-turned : goal.returns-else-row-down-clause-turned
 returns-else-row-down-clause-turned c = λ old of so_far.
-    let solid = c.args.known.solid.now in
+    let solid = all_of c.args.known.solids.now in
     let row = c.args.row in
     let now = c.args.particles.now in
     let low = (setting solid old now row so_far.sides c.requires.solid c.requires.row).low in

@@ -2,11 +2,12 @@ use Rattle.std.proofs.Common.{◌≡◌, suc, ◌-◌, ◌∙◌, ap, ap₂, ari
 use Rattle.gas_terms.specs.Cells.{Cells}
 use Rattle.phase_step.specs.Runs.{after}
 use Rattle.phase_step.proofs.StillRuns.{odd_first}
+use Rattle.phase_step.specs.Solid.{all_of}
 use Rattle.phase_step.proofs.parts.sweeping.turn_on.Goals as goal
 
 pub returns-then-n-gt0 : goal.returns-then-n-gt0
 returns-then-n-gt0 c =
-    let solid = c.args.known.solid.now in
+    let solid = all_of c.args.known.solids.now in
     let small = c.requires.parity in
     let not_even = c.if-parity-eq0.false in
     let odd : 1 ≡ c.args.parity = omega (arith, small, not_even) in

@@ -3,11 +3,12 @@ use Rattle.gas_terms.specs.Cells.{Cells, HasSidesOf}
 use Rattle.phase_step.specs.OddPhase.{IsRowThere, HasInner, HasSeam, IsInnerRowTurned, IsSeamRowTurned, once_turned, twice_turned}
 use Rattle.phase_step.specs.declared.odd_phase.RowPlace.{RowPlace}
 use Rattle.phase_step.proofs.TwoPhases.{place_in, place_is, row_there_is, setting, inner_ready, seam_ready, turned_twice}
+use Rattle.phase_step.specs.Solid.{all_of}
 use Rattle.phase_step.proofs.parts.sweeping.turn_second.Goals as goal
 
 pub returns-clause-turned : goal.returns-clause-turned
 returns-clause-turned c = λ old of ready.
-    let solid = c.args.known.solid.now in
+    let solid = all_of c.args.known.solids.now in
     let row = c.args.row in
     let now = c.args.particles.now in
     let sides = ready.sides in

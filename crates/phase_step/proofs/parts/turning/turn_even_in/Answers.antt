@@ -10,11 +10,12 @@ use Rattle.phase_step.proofs.MadeCells.{made_next}
 use Rattle.phase_step.proofs.OddParts.{place_in}
 use Rattle.phase_step.proofs.OwnTiles.{down_some, row_turns}
 use Rattle.phase_step.proofs.PhaseSweeps.{sized_as}
+use Rattle.phase_step.specs.Solid.{all_of}
 use Rattle.phase_step.proofs.parts.turning.turn_even_in.Goals as goal
 
 pub returns-clause-turned : goal.returns-clause-turned
 returns-clause-turned c = λ old lattice of_solid is so_far.
-    let solid = c.args.known.solid.now in
+    let solid = all_of c.args.known.solids.now in
     let part = c.args.part in
     let row = c.args.row in
     let now = c.args.particles.now in

@@ -3,11 +3,12 @@ use Rattle.gas_terms.specs.Cells.{extent}
 use Rattle.gas_terms.specs.Gas.{streamed}
 use Rattle.gas_plane.proofs.Places.{high}
 use Rattle.phase_step.proofs.MadeCells.{all_turned, none_made}
+use Rattle.phase_step.specs.Solid.{all_of}
 use Rattle.phase_step.proofs.parts.turning.turn_even_rows.Goals as goal
 
 pub loop-row-init : goal.loop-row-init
 loop-row-init c =
-    let solid = c.args.known.solid.now in
+    let solid = all_of c.args.known.solids.now in
     let part = c.args.part in
     record {
       own = omega arith;
@@ -28,7 +29,7 @@ loop-row-preserved c =
 
 pub returns-clause-phase : goal.returns-clause-phase
 returns-clause-phase c = λ lattice of_solid is.
-    let solid = c.args.known.solid.now in
+    let solid = all_of c.args.known.solids.now in
     let old = c.args.particles.now in
     let down = c.down.ensures.down in
     let some = is.placed.some in

@@ -5,12 +5,13 @@ use Rattle.phase_step.specs.OddPhase.{IsRowThere, HasInner, HasSeam, IsSeamRowTu
 use Rattle.phase_step.specs.declared.odd_phase.RowPlace.{RowPlace}
 use Rattle.phase_step.proofs.PhaseSweeps.{sized_as}
 use Rattle.phase_step.proofs.OddParts.{IsInnerDone, place_in, row_there_is, inner_ready, seam_ready, odd_row_next}
+use Rattle.phase_step.specs.Solid.{all_of}
 use Rattle.phase_step.proofs.parts.turning.turn_odd_row.Goals.{then-row-part, else-row-part}
 use Rattle.phase_step.proofs.parts.turning.turn_odd_row.Goals as goal
 
 pub returns-clause-turned : goal.returns-clause-turned
 returns-clause-turned c = λ old lattice of_solid is so_far.
-    let solid = c.args.known.solid.now in
+    let solid = all_of c.args.known.solids.now in
     let part = c.args.part in
     let row = c.args.row in
     let now = c.args.particles.now in

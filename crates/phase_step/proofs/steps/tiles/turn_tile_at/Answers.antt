@@ -1,4 +1,4 @@
-use Rattle.std.proofs.Common.{◌≡◌, sym, subst, pos, arith}
+use Rattle.std.proofs.Common.{◌≡◌, ◌<◌, false, sym, ◌∙◌, subst, pos, arith}
 use Rattle.std.proofs.Math.Nat.{mod-lt}
 use Rattle.gas_terms.specs.Cells.{Cells, HasSidesOf, joined, extent, tile_rectangle}
 use Rattle.gas_plane.specs.Tiles.{AreRowsRound, IsColumnOf}
@@ -8,8 +8,9 @@ use Rattle.block_rule.specs.Windows.{taken_in}
 use Rattle.block_rule.specs.TileBlocks.{NamesBlocks}
 use Rattle.phase_step.specs.SolidBlocks.{is_walled_in, view_of}
 use Rattle.phase_step.specs.Turns.{IsTileAfter}
-use Rattle.phase_step.proofs.PhaseSweeps.{place_is}
-use Rattle.phase_step.proofs.SolidBlocks.{named_on, named_in_view, named_in_both}
+use Rattle.phase_step.proofs.PhaseSweeps.{place_is, sized_as, tiles_as}
+use Rattle.block_rule.proofs.BlockNames.{named_alone, nothing_named}
+use Rattle.phase_step.proofs.SolidBlocks.{named_on, named_beside}
 use Rattle.phase_step.proofs.steps.tiles.turn_tile_at.Goals as goal
 use Rattle.phase_step.proofs.steps.tiles.turn_tile_at.Goals.{After-count_tile-took}
 
@@ -31,21 +32,18 @@ module _ (c : After-count_tile-took) where
   abbrev o : Cells
   o = c.args.obstacles.now
 
-  of_walls : NamesBlocks c.tile_blocks-wall_rows.result.0 c.tile_blocks-wall_rows.result.1 (is_walled_in w c.args.at.tile)
-  of_walls = named_on w old c.args.at.tile c.tile_blocks-wall_rows.result.0 c.tile_blocks-wall_rows.result.1 c.window_in.result c.requires.walls c.requires.lattice.sized c.requires.tile c.window_in.ensures c.tile_blocks-wall_rows.ensures
-
   of_obstacles : NamesBlocks c.tile_blocks-rows.result.0 c.tile_blocks-rows.result.1 (is_walled_in o c.args.at.tile)
-  of_obstacles = named_on o old c.args.at.tile c.tile_blocks-rows.result.0 c.tile_blocks-rows.result.1 c.window_in-2.result c.requires.obstacles c.requires.lattice.sized c.requires.tile c.window_in-2.ensures c.tile_blocks-rows.ensures
+  of_obstacles =
+      named_on o old c.args.at.tile c.tile_blocks-rows.result.0 c.tile_blocks-rows.result.1 c.window_in.result c.requires.obstacles c.requires.lattice.sized c.requires.tile c.window_in.ensures
+      (λ window seen. named_alone c.tile_blocks-rows.result.0 c.tile_blocks-rows.result.1 window (c.tile_blocks-rows.ensures window (λ _ _. false) seen nothing_named))
 
-  walled : NamesBlocks c.join-rows.result c.join-rows.new.self (is_walled_in (joined w o) c.args.at.tile)
+  walled : NamesBlocks c.tile_blocks-rows-2.result.0 c.tile_blocks-rows-2.result.1 (is_walled_in (joined w o) c.args.at.tile)
   walled =
-      let sized = c.requires.lattice.sized in
-      let i = c.args.at.tile in
-      let r = tile_rectangle old i in
-      named_in_both old w o i c.join-rows.result c.join-rows.new.self (place_is old w o i sized c.requires.tile c.requires.walls c.requires.obstacles)
-      (c.join-rows.ensures (view_of w r.x r.y) (view_of o r.x r.y)
-      (named_in_view old w i _ _ (place_is old w w i sized c.requires.tile c.requires.walls c.requires.walls) of_walls)
-      (named_in_view old o i _ _ (place_is old o o i sized c.requires.tile c.requires.obstacles c.requires.obstacles) of_obstacles))
+      let of_w = c.requires.walls in
+      let of_o = c.requires.obstacles in
+      named_beside w o c.args.at.tile c.window_in-2.result c.tile_blocks-rows.result.0 c.tile_blocks-rows.result.1 (record { wide = of_o.wide ∙ sym of_w.wide; high = of_o.high ∙ sym of_w.high })
+      (sized_as old w (record { wide = sym of_w.wide; high = sym of_w.high }) c.requires.lattice.sized) (subst (λ n. c.args.at.tile < n) (tiles_as old w (record { wide = sym of_w.wide; high = sym of_w.high })) c.requires.tile) c.window_in-2.ensures of_obstacles
+      c.tile_blocks-rows-2.result.0 c.tile_blocks-rows-2.result.1 c.tile_blocks-rows-2.ensures
 
   took : c.count_tile-took.result ≡ taken_in (pos c.args.parity) old w o (tile_rectangle old c.args.at.tile)
   took =

@@ -1,7 +1,25 @@
-use Rattle.phase_step.proofs.Together.{bare_joined}
+use Rattle.std.proofs.Common.{◌≡◌, ◌*◌, ◌/◌, false, ◌∙◌, ap, sym, subst}
+use Rattle.gas_terms.specs.Cells.{Cells, Extent, HasSidesOf, joined, cells_where}
+use Rattle.gas_plane.specs.Planes.{IsLattice, HasNone}
+use Rattle.phase_step.proofs.SolidBlocks.{no_blocks_named, has_none}
+use Rattle.phase_step.proofs.Together.{none_joined, lattice_joined}
 use Rattle.phase_step.proofs.steps.solids.Solids.empty.Goals as goal
 
 pub invariant_of-result : goal.invariant_of-result
 invariant_of-result c =
-    let is = bare_joined c.in_ok-walls.walls c.in_ok-obstacles.obstacles c.in_ok-all.all c.args.size.width c.args.size.height c.in_ok-walls.ensures c.in_ok-obstacles.ensures c.in_ok-all.ensures in
-    record { sides = is.0; together = is.1 }
+    let w = c.in_ok-walls.walls in
+    let o = c.in_ok-obstacles.obstacles in
+    let n = c.tiles-tiles.result in
+    let same : o ≡ w = c.in_ok-obstacles.ensures ∙ sym c.in_ok-walls.ensures in
+    let is = c.size.ensures.lattice in
+    let count = c.tiles-tiles.ensures.tiles ∙ ap (λ (s : Extent). s.width / 64 * (s.height / 64)) c.size.ensures.extent in
+    let no_walls = has_none w c.args.size.width c.args.size.height c.in_ok-walls.ensures in
+    let no_obstacles = has_none o c.args.size.width c.args.size.height c.in_ok-obstacles.ensures in
+    let sides : HasSidesOf o w = record { wide = ap (λ (c : Cells). c.width) same; high = ap (λ (c : Cells). c.height) same } in
+    record {
+      sides = sides;
+      obstructed =
+          no_blocks_named o (subst IsLattice (sym same) is) no_obstacles n c.in_ok-of_obstacles.of_obstacles.rows.items c.in_ok-of_obstacles.of_obstacles.blocks.items
+          (count ∙ ap (λ (c : Cells). c.width / 64 * (c.height / 64)) (sym same)) c.in_ok-of_obstacles.ensures.0 c.in_ok-of_obstacles.ensures.1;
+      walled = no_blocks_named (joined w o) (lattice_joined w o is) (none_joined w o sides no_walls no_obstacles) n c.in_ok-of_all.of_all.rows.items c.in_ok-of_all.of_all.blocks.items count c.in_ok-of_all.ensures.0 c.in_ok-of_all.ensures.1;
+    }

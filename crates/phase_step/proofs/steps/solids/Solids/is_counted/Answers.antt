@@ -8,8 +8,8 @@ uncounted a b c d none = grind arith
 
 pub returns : goal.returns
 returns c = λ none.
-    let absent = uncounted c.args.counted.walls c.is_empty.result c.args.counted.obstacles c.has_no_blocks.result none in
+    let absent = uncounted c.args.counted.walls c.is_empty.result c.args.counted.obstacles c.is_empty-2.result none in
     record {
       walls = λ e. none_walled c.args.self.now.walls c.shows_lattice.ensures (c.is_empty.ensures.0 (absent.0 e));
-      obstacles = λ e. c.has_no_blocks.ensures.blocks (absent.1 e);
+      obstacles = λ e. none_walled c.args.self.now.obstacles c.shows_lattice-2.ensures (c.is_empty-2.ensures.0 (absent.1 e));
     }
