@@ -1,7 +1,6 @@
 pub mod Rings
 pub mod Counting
 pub mod Exchanging
-pub mod SetCells
 pub mod ActedTiles
 pub mod TileChanges
 pub mod ActionRuns

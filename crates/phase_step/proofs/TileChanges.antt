@@ -1,5 +1,5 @@
 -- What comes and goes in one tile.
-use Rattle.std.proofs.Common.{◌≡◌, ℕ, ◌+◌, ◌*◌, ◌/◌, ◌%◌, ◌<◌, ◌==◌, ◌&&◌, not, Bool, false, cond, List, [], ◌∷◌, refl, sym, ◌∙◌, ap, ap₂, arith, ℤ}
+use Rattle.std.proofs.Common.{◌≡◌, ℕ, ◌+◌, ◌*◌, ◌/◌, ◌%◌, ◌<◌, ◌≤◌, ◌==◌, ◌&&◌, not, Bool, false, cond, get_or, List, [], ◌∷◌, refl, sym, ◌∙◌, ap, ap₂, arith, ℤ}
 use Rattle.bit_tile.specs.Tile as tile
 use Rattle.bit_tile.specs.Tile.{HasCells, count_cells}
 use Rattle.bit_tile.specs.declared.Tile.{Tile}
@@ -31,6 +31,10 @@ count_same f g a b same = grind (arith, sum_below-same, count_below-same)
 
 pub counts_as : (counts : List ℕ) (f g : ℕ → ℕ → Bool) → AreTileCounts counts f → ((x y : ℕ) → x < 64 → y < 64 → f x y ≡ g x y) → AreTileCounts counts g
 counts_as counts f g are same = record { count = λ a b p q. are.count a b p q ∙ count_same f g a b same; few = are.few }
+
+-- the counts of a tile's cells, as wider numbers
+pub widened_counts : (counts wide : List ℕ) (t : Tile) → ((i j : ℕ) → i < 2 → j < 2 → get_or counts (2 * j + i) 0 ≡ count_cells (λ x y. tile.has t x y && x % 2 == i && y % 2 == j)) → ((k : ℕ) → get_or counts k 0 ≤ 2048) → ((k : ℕ) → get_or wide k 0 ≡ get_or counts k 0) → AreTileCounts wide (tile.has t)
+widened_counts counts wide t are few same = record { count = λ a b p q. same (2 * b + a) ∙ are a b p q; few = λ k _. omega (arith, same k, few k) }
 
 -- no cell passes
 pub no_counts : (test : ℕ → ℕ → Bool) → ((x y : ℕ) → x < 64 → y < 64 → test x y ≡ false) → AreTileCounts (0 ∷ 0 ∷ 0 ∷ 0 ∷ []) test

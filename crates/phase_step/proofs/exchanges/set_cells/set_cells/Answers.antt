@@ -1,35 +1,23 @@
-use Rattle.std.proofs.Common.{◌≡◌, ℕ, Bool, not, ◌&&◌, ◌∙◌, if◌then◌else◌, refl, arith}
+use Rattle.std.proofs.Common.{◌≡◌, ◌&&◌, Bool, ap, sym, ◌∙◌, arith}
 use Rattle.bit_tile.specs.Tile.{has}
-use Rattle.bit_tile.proofs.Classes.{by_class, is_even_even, is_odd_even, is_even_odd, is_odd_odd}
-use Rattle.bit_tile.proofs.Counts.{class, four_classes}
 use Rattle.phase_step.specs.Counts.{changes}
-use Rattle.phase_step.proofs.SetCells.{class_counted, few_counts}
+use Rattle.phase_step.proofs.TileChanges.{counts_as, widened_counts}
 use Rattle.phase_step.proofs.exchanges.set_cells.set_cells.Goals as goal
 
-pub returns-clause-cells : goal.returns-clause-cells
-returns-clause-cells c =
-    let t = c.args.tile.now in
-    let s = c.args.cells.now in
-    let u = c.args.kept.now in
-    let choose : Bool → Bool → Bool → Bool = λ a k b. if a && not k then c.args.held else b in
-    let at : (a a' k k' b b' : Bool) → a ≡ a' → k ≡ k' → b ≡ b' → choose a k b ≡ choose a' k' b' = λ a a' k k' b b' e f g. rw (e, f, g) refl in
-    by_class _ _
-    (λ i j h k. c.set_class.ensures.cells i j h k ∙ at _ _ _ _ _ _ (is_even_even s i j h k) (is_even_even u i j h k) (is_even_even t i j h k))
-    (λ i j h k. c.set_class-2.ensures.cells i j h k ∙ at _ _ _ _ _ _ (is_odd_even s i j h k) (is_odd_even u i j h k) (is_odd_even t i j h k))
-    (λ i j h k. c.set_class-3.ensures.cells i j h k ∙ at _ _ _ _ _ _ (is_even_odd s i j h k) (is_even_odd u i j h k) (is_even_odd t i j h k))
-    (λ i j h k. c.set_class-4.ensures.cells i j h k ∙ at _ _ _ _ _ _ (is_odd_odd s i j h k) (is_odd_odd u i j h k) (is_odd_odd t i j h k))
+exchanged : (was cell : Bool) → (was && cell) ≡ (cell && was)
+exchanged was cell = grind arith
 
-pub returns-clause-count : goal.returns-clause-count
-returns-clause-count c =
+pub returns-then-held-clause-count : goal.returns-then-held-clause-count
+returns-then-held-clause-count c =
     let t = c.args.tile.now in
     let s = c.args.cells.now in
-    let u = c.args.kept.now in
-    let both : Bool → Bool → Bool → Bool = λ a k b. (a && not k) && changes c.args.held b in
-    let at : (a a' k k' b b' : Bool) → a ≡ a' → k ≡ k' → b ≡ b' → both a k b ≡ both a' k' b' = λ a a' k k' b b' e f g. rw (e, f, g) refl in
-    let test : ℕ → ℕ → Bool = λ x y. (has s x y && not (has u x y)) && changes c.args.held (has t x y) in
-    few_counts _ test
-    (four_classes (class test) _ _ _ _
-    (class_counted _ 0 0 _ test (omega arith) (omega arith) c.set_class.ensures.count (λ i j h k. at _ _ _ _ _ _ (is_even_even s i j h k) (is_even_even u i j h k) (is_even_even t i j h k)))
-    (class_counted _ 1 0 _ test (omega arith) (omega arith) c.set_class-2.ensures.count (λ i j h k. at _ _ _ _ _ _ (is_odd_even s i j h k) (is_odd_even u i j h k) (is_odd_even t i j h k)))
-    (class_counted _ 0 1 _ test (omega arith) (omega arith) c.set_class-3.ensures.count (λ i j h k. at _ _ _ _ _ _ (is_even_odd s i j h k) (is_even_odd u i j h k) (is_even_odd t i j h k)))
-    (class_counted _ 1 1 _ test (omega arith) (omega arith) c.set_class-4.ensures.count (λ i j h k. at _ _ _ _ _ _ (is_odd_odd s i j h k) (is_odd_odd u i j h k) (is_odd_odd t i j h k))))
+    counts_as _ (has c.cut.new.self) (λ x y. has s x y && changes c.args.held (has t x y)) (widened_counts _ _ c.cut.new.self c.count_by_parity.ensures.counts c.count_by_parity.ensures.bound c.widened.ensures)
+    (λ x y h k. c.cut.ensures x y h k ∙ ap (λ b. has s x y && changes b (has t x y)) (sym c.if-held.true))
+
+pub returns-else-held-clause-count : goal.returns-else-held-clause-count
+returns-else-held-clause-count c =
+    let t = c.args.tile.now in
+    let s = c.args.cells.now in
+    counts_as _ (has c.meet-changed.result) (λ x y. has s x y && changes c.args.held (has t x y))
+    (widened_counts _ _ c.meet-changed.result c.count_by_parity-else-held.ensures.counts c.count_by_parity-else-held.ensures.bound c.widened-else-held.ensures)
+    (λ x y h k. c.meet-changed.ensures x y h k ∙ (exchanged (has t x y) (has s x y) ∙ ap (λ b. has s x y && changes b (has t x y)) (sym c.if-held.false)))
