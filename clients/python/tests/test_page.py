@@ -508,7 +508,7 @@ class Style(unittest.TestCase):
         self.assertEqual((found.stdout, found.returncode), ("", 0))
 
     def test_each_module_is_short(self):
-        """See docs/DECISIONS.md: one subject each, at most 250 lines."""
+        """See DECISIONS.md of the client: one subject each, at most 250 lines."""
         for path in STATIC.glob("*.js"):
             if not path.name.startswith("dygraph"):
                 self.assertLessEqual(len(path.read_text("utf-8").splitlines()), 250, path.name)

@@ -1,3 +1,4 @@
+use Rattle.phase_step.proofs.Together.{tiles_alike}
 use Rattle.phase_step.proofs.steps.solids.Solids.of.Goals as goal
 
 pub invariant_of-result : goal.invariant_of-result
