@@ -382,6 +382,8 @@ def main():
     options.add_argument("--without-collisions", action="store_true", help="let particles pass through one another")
     options.add_argument("scripts", nargs="*", metavar="SCRIPT", help="sessions, in place of standard input")
     asked = options.parse_args()
+    if not sys.stdout or not (asked.scripts or sys.stdin):
+        sys.exit(1)  # one of them is closed
     try:
         scripts = [open(path, "rb") for path in asked.scripts] or [sys.stdin.buffer]
     except OSError as fault:

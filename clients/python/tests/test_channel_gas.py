@@ -66,6 +66,11 @@ class Faults(unittest.TestCase):
             found, status, said = run(b"", *words)
             self.assertEqual((found, status, "Traceback" in said), ([], 2, False), said)
 
+    def test_streams_that_are_closed(self):
+        for streams in ("<&-", "</dev/null >&-", ">/dev/full"):
+            done = subprocess.run(f"exec {sys.executable} {TOOL} {streams}", shell=True, capture_output=True, input=b"tally\n")
+            self.assertEqual((done.stdout, done.returncode, done.stderr), (b"", 1, b""), streams)
+
     def test_any_bytes_get_a_line_each(self):
         draw = random.Random(5)
         words = "put row step back source drain unport probe read entry 0 1 9 64 -1 x 99999999999".split(" ")

@@ -1,10 +1,11 @@
 -- The numbers of tiles, and where a tile's cells stand.
-use Rattle.std.proofs.Common.{◌≡◌, ℕ, ◌+◌, ◌-◌, ◌*◌, ◌/◌, ◌%◌, ◌<◌, ◌≤◌, true, sym, ◌∙◌, ap, arith, inl, inr, ◌⊎◌}
+use Rattle.std.proofs.Common.{◌≡◌, ℕ, ◌+◌, ◌-◌, ◌*◌, ◌/◌, ◌%◌, ◌<◌, ◌≤◌, nat_le, nat_lt, true, ◌&&◌, sym, ◌∙◌, ap, arith, inl, inr, ◌⊎◌}
 use Rattle.std.proofs.lemmas.Nat.{mod-mul-add}
+use Rattle.std.proofs.Math.Bool.{and_assoc}
 use Rattle.std.proofs.lemmas.Bool.{cases_eq}
 use Rattle.std.proofs.lemmas.Bool.Decides.{nat_tests}
 use Rattle.bit_tile.proofs.Circles.{stays, wraps}
-use Rattle.gas_terms.specs.Cells.{Extent, is_side, is_size}
+use Rattle.gas_terms.specs.Cells.{Extent, is_side, is_size, Rectangle, is_inside}
 
 pub record IsWholeTiles (n : ℕ) : Type 0 where
   pub tiles : n / 64 * 64 ≡ n
@@ -63,3 +64,10 @@ ring_cases i h =
       | inl e ↦ inl e
       | inr ne ↦ elim (cases_eq i 65) [ inl e ↦ inr (inl e) | inr nf ↦ inr (inr (i - 1, omega arith, omega arith)) ]
     ]
+
+-- Two rectangles have two cells alike if the tests of their columns agree, and those of their rows.
+pub inside_alike : (a b : Rectangle) (x y u v : ℕ) → (nat_le a.x x && nat_lt x (a.x + a.w)) ≡ (nat_le b.x u && nat_lt u (b.x + b.w))
+    → (nat_le a.y y && nat_lt y (a.y + a.h)) ≡ (nat_le b.y v && nat_lt v (b.y + b.h)) → is_inside a x y ≡ is_inside b u v
+inside_alike a b x y u v columns rows =
+    and_assoc (nat_le a.x x && nat_lt x (a.x + a.w)) (nat_le a.y y) (nat_lt y (a.y + a.h)) ∙ (λ i. columns i && rows i)
+    ∙ sym (and_assoc (nat_le b.x u && nat_lt u (b.x + b.w)) (nat_le b.y v) (nat_lt v (b.y + b.h)))

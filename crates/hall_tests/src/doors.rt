@@ -147,6 +147,8 @@ fn both<N: HallName + Send + Sync, R: Threads + Wait + Clock + Abort + Sync + Co
     let (hall, seats) = open_two::<N, R>(rt, alloc, blank, lab, &turns);
     let seats = take_turns(rt, alloc, &hall, seats);
     expect_that(rt, !turns.met_limit());
+    // Two puts and a copy.
+    expect_same(rt, turns.last_call(), 2);
     close_two(rt, hall, seats);
 }
 

@@ -38,6 +38,7 @@ pub struct TestGate<C: Clock> {
     first_made: AtomicBool,
     second_made: AtomicBool,
     come: AtomicU32,
+    last_call: AtomicU32,
     met_limit: AtomicBool,
 }
 
@@ -49,6 +50,7 @@ impl<C: Clock> TestGate<C> {
             first_made: AtomicBool::new(false),
             second_made: AtomicBool::new(false),
             come: AtomicU32::new(0),
+            last_call: AtomicU32::new(0),
             met_limit: AtomicBool::new(false),
         }
     }
@@ -71,6 +73,11 @@ impl<C: Clock> TestGate<C> {
 
     pub fn met_limit(&self) -> bool {
         self.met_limit.load(Ordering::SeqCst)
+    }
+
+    /// The number of seat 0's last call.
+    pub fn last_call(&self) -> u32 {
+        self.last_call.load(Ordering::SeqCst)
     }
 
     fn hold(&self, until: &AtomicBool) {
@@ -99,6 +106,9 @@ impl<C: Clock> HallGate for &TestGate<C> {
     }
 
     fn after(&self, seat: u16, call: u32) {
+        if seat == 0 {
+            self.last_call.store(call, Ordering::SeqCst);
+        }
         match (self.waiting, seat, call) {
             (Waiting::ByTurns, 0, 0) => {
                 self.first_made.store(true, Ordering::SeqCst);
