@@ -1,6 +1,6 @@
 -- Words of other cells beside a set: which cells these are, and that there are words for each tile.
 use Rattle.std.proofs.Common.{◌≡◌, ℕ, ◌<◌, Bool, false, ◌||◌, Option, None, Some, refl, sym, ap, subst, ◌∙◌, arith}
-use Rattle.gas_terms.specs.Cells.{Cells, HasSidesOf, cells_where, joined, has, tile_count}
+use Rattle.gas_terms.specs.Cells.{Cells, HasSidesOf, joined, has, tile_count}
 use Rattle.gas_terms.proofs.Cells.{has-cells_where, full-cells_where, same_cells}
 use Rattle.gas_plane.specs.Planes.{IsLattice}
 use Rattle.phase_step.proofs.PhaseSweeps.{tiles_as}

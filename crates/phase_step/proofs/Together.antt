@@ -1,5 +1,5 @@
 -- Walls and obstacles together, after an edit.
-use Rattle.std.proofs.Common.{◌≡◌, ℕ, ◌+◌, ◌*◌, ◌/◌, ◌<◌, Bool, not, ◌&&◌, ◌||◌, List, sym, ap, ap₂, ◌∙◌, subst, arith}
+use Rattle.std.proofs.Common.{◌≡◌, ℕ, ◌<◌, Bool, not, ◌&&◌, ◌||◌, List, sym, ap, ap₂, ◌∙◌, subst, arith}
 use Rattle.gas_terms.specs.Cells.{Cells, Rectangle, HasSidesOf, has, cells_where, filled, cleared, joined, is_inside}
 use Rattle.gas_terms.proofs.Cells.{has-cells_where, full-cells_where, same_cells_where}
 use Rattle.gas_plane.specs.Planes.{IsLattice, HasNone}

@@ -1,5 +1,5 @@
 -- Words that name the blocks of other cells beside a set's, if there are any.
-use Rattle.std.specs.Prelude.{◌≡◌, ℕ, ◌<◌, Bool, false, Option, MatchOption, length, ⊤}
+use Rattle.std.specs.Prelude.{◌≡◌, ℕ, ◌<◌, false, Option, MatchOption, length, ⊤}
 use Rattle.gas_terms.specs.Cells.{Cells, HasSidesOf, cells_where}
 use Rattle.phase_step.specs.SolidBlocks.{HaveAllTiles, AreBlocksOf}
 use Rattle.phase_step.specs.declared.steps.set_words.SetWords.{SetWords}

@@ -1,4 +1,4 @@
-use Rattle.std.proofs.Common.{◌+◌, ◌&&◌, ap}
+use Rattle.std.proofs.Common.{◌&&◌, ap}
 use Rattle.bit_tile.specs.Tile.{has}
 use Rattle.phase_step.specs.Counts.{changes}
 use Rattle.phase_step.proofs.TileChanges.{counts_as, no_counts}

@@ -1,4 +1,4 @@
-use Rattle.std.proofs.Common.{◌≡◌, ◌*◌, ◌-◌, ◌/◌, ◌≤◌, ◌∙◌, sym, subst, arith}
+use Rattle.std.proofs.Common.{◌≡◌, ◌*◌, ◌-◌, ◌/◌, ◌≤◌, sym, subst, arith}
 use Rattle.gas_terms.specs.Cells.{Cells, HasSidesOf}
 use Rattle.phase_step.specs.Parts.{HasRun}
 use Rattle.phase_step.specs.Runs.{after}

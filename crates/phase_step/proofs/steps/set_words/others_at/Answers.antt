@@ -1,6 +1,6 @@
 use Rattle.std.proofs.Common.{ap, option_copied}
 use Rattle.std.proofs.lemmas.List.{get_or_read}
-use Rattle.phase_step.specs.SolidBlocks.{no_words, is_walled_in}
+use Rattle.phase_step.specs.SolidBlocks.{no_words}
 use Rattle.phase_step.proofs.SolidBlocks.{words_read, nothing_walled}
 use Rattle.phase_step.proofs.Others.{none_of, some_of, in_other}
 use Rattle.phase_step.proofs.steps.set_words.others_at.Goals as goal

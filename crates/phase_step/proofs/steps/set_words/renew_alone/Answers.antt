@@ -1,5 +1,5 @@
-use Rattle.std.proofs.Common.{◌≡◌, refl, sym, subst}
-use Rattle.gas_terms.specs.Cells.{Cells, joined}
+use Rattle.std.proofs.Common.{refl, sym, subst}
+use Rattle.gas_terms.specs.Cells.{Cells}
 use Rattle.phase_step.specs.SolidBlocks.{AreBlocksOf, DifferIn}
 use Rattle.phase_step.specs.Others.{nothing_of}
 use Rattle.phase_step.proofs.Others.{joined_nothing}

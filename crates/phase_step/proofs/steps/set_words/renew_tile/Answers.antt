@@ -1,6 +1,6 @@
-use Rattle.std.proofs.Common.{◌≡◌, ◌<◌, Option, None, Some, get_or, sym, subst, arith, option_copied, refl}
+use Rattle.std.proofs.Common.{◌≡◌, get_or, sym, subst, arith, option_copied}
 use Rattle.std.proofs.lemmas.List.{get_or_read}
-use Rattle.gas_terms.specs.Cells.{Cells, HasSidesOf, cells_where, joined, tile_count}
+use Rattle.gas_terms.specs.Cells.{joined}
 use Rattle.block_rule.specs.TileBlocks.{NamesBlocks}
 use Rattle.phase_step.specs.SolidBlocks.{no_words, blocks_at, is_walled_in}
 use Rattle.phase_step.proofs.SolidBlocks.{named_again, renewed_next}

@@ -6,9 +6,9 @@ use Rattle.gas_plane.proofs.Places.{wide}
 use Rattle.gas_plane.proofs.Rings.{row_in}
 use Rattle.block_rule.specs.Windows.{taken_in}
 use Rattle.block_rule.specs.TileBlocks.{NamesBlocks}
-use Rattle.phase_step.specs.SolidBlocks.{is_walled_in, view_of}
+use Rattle.phase_step.specs.SolidBlocks.{is_walled_in}
 use Rattle.phase_step.specs.Turns.{IsTileAfter}
-use Rattle.phase_step.proofs.PhaseSweeps.{place_is, sized_as, tiles_as}
+use Rattle.phase_step.proofs.PhaseSweeps.{sized_as, tiles_as}
 use Rattle.block_rule.proofs.BlockNames.{named_alone, nothing_named}
 use Rattle.phase_step.proofs.SolidBlocks.{named_on, named_beside}
 use Rattle.phase_step.proofs.steps.tiles.turn_tile_at.Goals as goal

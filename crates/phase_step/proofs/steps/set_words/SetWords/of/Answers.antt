@@ -1,4 +1,4 @@
-use Rattle.std.proofs.Common.{◌≡◌, ◌≤◌, ◌*◌, ◌/◌, ◌∙◌, refl, ap, inl, inr, arith}
+use Rattle.std.proofs.Common.{◌≤◌, ◌*◌, ◌/◌, ◌∙◌, refl, ap, inl, inr, arith}
 use Rattle.gas_terms.specs.Cells.{Extent, joined, tile_count}
 use Rattle.phase_step.specs.Others.{nothing_of}
 use Rattle.phase_step.proofs.SolidBlocks.{zeros_are, renewed_starts, renewed_ends}

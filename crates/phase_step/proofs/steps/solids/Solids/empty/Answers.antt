@@ -1,6 +1,6 @@
-use Rattle.std.proofs.Common.{◌≡◌, ◌*◌, ◌/◌, false, ◌∙◌, ap, sym, subst}
-use Rattle.gas_terms.specs.Cells.{Cells, Extent, HasSidesOf, joined, cells_where}
-use Rattle.gas_plane.specs.Planes.{IsLattice, HasNone}
+use Rattle.std.proofs.Common.{◌≡◌, ◌*◌, ◌/◌, ◌∙◌, ap, sym, subst}
+use Rattle.gas_terms.specs.Cells.{Cells, Extent, HasSidesOf, joined}
+use Rattle.gas_plane.specs.Planes.{IsLattice}
 use Rattle.phase_step.proofs.SolidBlocks.{no_blocks_named, has_none}
 use Rattle.phase_step.proofs.Together.{none_joined, lattice_joined}
 use Rattle.phase_step.proofs.steps.solids.Solids.empty.Goals as goal

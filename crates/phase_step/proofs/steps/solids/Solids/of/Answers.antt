@@ -1,4 +1,3 @@
-use Rattle.phase_step.proofs.Together.{tiles_alike}
 use Rattle.phase_step.proofs.steps.solids.Solids.of.Goals as goal
 
 pub invariant_of-result : goal.invariant_of-result
