@@ -1,20 +1,20 @@
 -- What rectangles leave of a tile.
-use Rattle.std.proofs.Common.{◌≡◌, ℕ, ◌+◌, ◌==◌, ◌&&◌, ◌||◌, not, Bool, true, false, List, [], ◌∷◌, length, if◌then◌else◌, refl, ◌∙◌, ap, arith}
+use Rattle.std.proofs.Common.{◌≡◌, ℕ, ◌+◌, ◌/◌, ◌<◌, ◌==◌, ◌&&◌, ◌||◌, not, Bool, true, false, List, [], ◌∷◌, length, if◌then◌else◌, refl, sym, ◌∙◌, ap, ap₂, arith}
 use Rattle.std.proofs.lemmas.Bool.Decides.{nat_tests}
 use Rattle.bit_tile.specs.Tile as tile
 use Rattle.bit_tile.specs.Tile.{HasCells}
 use Rattle.bit_tile.specs.declared.Tile.{Tile}
 use Rattle.gas_terms.specs.Cells.{Rectangle}
-use Rattle.phase_step.specs.Actions.{IsStill}
+use Rattle.phase_step.specs.Actions.{IsStill, IsTileCorner}
 use Rattle.phase_step.specs.Counts.{AreTileCounts}
-use Rattle.phase_step.specs.Exchanges.{Areas, is_in_any, is_left, is_set, leaves_of, nowhere}
+use Rattle.phase_step.specs.Exchanges.{Areas, HasTilesOf, is_in_any, is_left, is_set, leaves_of, nowhere}
 use Rattle.phase_step.proofs.TileChanges.{counts_as}
 
 as_before : (held : Bool) → ((held && true) || false) ≡ held
 as_before true = refl
 as_before false = refl
 
-stays : (held out come : Bool) → out ≡ false → come ≡ false → ((held && not out) || come) ≡ held
+pub stays : (held out come : Bool) → out ≡ false → come ≡ false → ((held && not out) || come) ≡ held
 stays held out come e f = rw (e, f) (as_before held)
 
 -- and without rectangles every cell stays
@@ -49,3 +49,14 @@ module _ (old mid new : Tile) (drains sources : List Rectangle) (left top : ℕ)
 
   pub tile_gained : (counts : List ℕ) → AreTileCounts counts (λ x y. is_set sources [] (left + x) (top + y) && not (tile.has mid x y)) → AreTileCounts counts (λ x y. tile.has new x y && not (tile.has old x y))
   tile_gained counts are = grind (arith, counts_as, is_in_any, not, false, gained_is, tile_left)
+
+-- a tile that no rectangle meets stays as it is
+met_by : (b seen : Bool) → (b ≡ true → seen ≡ true) → seen ≡ false → b ≡ false
+met_by b seen more none = grind arith
+
+pub unmet : (met : Tile) (areas : List Rectangle) (left top x y : ℕ) → HasTilesOf met areas → IsTileCorner left top → x < 64 → y < 64 → tile.has met (left / 64) (top / 64) ≡ false → is_in_any areas (left + x) (top + y) ≡ false
+unmet met areas left top x y tiles corner h k none =
+    let column : (left + x) / 64 ≡ left / 64 = omega (arith, corner.column, h) in
+    let row : (top + y) / 64 ≡ top / 64 = omega (arith, corner.row, k) in
+    met_by (is_in_any areas (left + x) (top + y)) (tile.has met (left / 64) (top / 64))
+    (λ e. ap₂ (tile.has met) (sym column) (sym row) ∙ tiles (left + x) (top + y) (omega (arith, corner.column, corner.right, h)) (omega (arith, corner.row, corner.bottom, k)) e) none
