@@ -18,7 +18,7 @@ use Rattle.phase_step.proofs.ActionRuns.{acted_same}
 use Rattle.phase_step.specs.Exchanges.{is_in_any, is_left}
 use Rattle.gas_ledger.specs.Gases.{row_of}
 use Rattle.gas_plane.proofs.Counting.{counted_sums, counts_small}
-use Rattle.phase_step.proofs.Counting.{same_moved}
+use Rattle.phase_step.proofs.FlowSums.{same_moved}
 use Rattle.gas_terms.proofs.RowSums.{row_alone, other_row}
 use Rattle.gas_terms.proofs.Emptied.{not_both, gained-filled, lost-filled, gained-cleared, lost-cleared}
 use Rattle.gas_terms.specs.Counts.{AreSmall}

@@ -3,8 +3,7 @@ use Rattle.std.proofs.Common.{◌≡◌, ℕ, ℤ, Bool, true, false, Option, So
 use Rattle.gas_terms.specs.Cells.{Cells, Extent, HasSidesOf}
 use Rattle.phase_step.specs.Runs.{after}
 use Rattle.phase_step.specs.Actions.{Leaves, after_with}
-use Rattle.phase_step.proofs.RunTakes.{sides_after}
-use Rattle.phase_step.proofs.ActionRuns.{sides_with}
+use Rattle.phase_step.proofs.ActionRuns.{sides_after, sides_with}
 use Rattle.gas_ledger.specs.PortLists.{PortLists, LieWithin}
 use Rattle.gas_ledger.specs.Gases.{FitTogether}
 

@@ -2,11 +2,13 @@
 use Rattle.std.proofs.Common.{◌≡◌, ℕ, zero, suc, ◌+◌, ◌<◌, Bool, refl, sym, ap, ap₂, ◌∙◌, arith}
 use Rattle.gas_terms.specs.Cells.{Cells, joined}
 use Rattle.gas_terms.specs.Gas.{streamed}
-use Rattle.gas_terms.specs.Accounts.{taken, took_plus}
-use Rattle.phase_step.specs.Runs.{parity_at, after, run_takes}
-use Rattle.phase_step.specs.Actions.{Leaves, acted, after_with, takes_with}
+use Rattle.gas_terms.specs.Accounts.{taken}
+use Rattle.phase_step.specs.Runs.{parity_at, after, run_takes, takings}
+use Rattle.phase_step.specs.Actions.{Leaves, acted, after_with, flows, phase_with, flow_with}
+use Rattle.phase_step.specs.declared.sums.flow.Flow.{Flow}
 use Rattle.phase_step.proofs.ActedTiles.{still_acts}
 use Rattle.phase_step.proofs.ActionRuns.{acted_same}
+use Rattle.phase_step.proofs.Amounts.{sum_same, sum_as}
 use Rattle.gas_terms.proofs.Steps.{full_streamed}
 
 -- the actions are the same in the first n phases
@@ -58,6 +60,7 @@ still_after p solid c (suc n) =
     sym (still_acts (still n) (streamed (parity_at p n) now solid) (full_streamed (parity_at p n) now solid) (λ x y held. refl))
     ∙ ap (λ (now : Cells). streamed (parity_at p n) now solid) (still_after p solid c n)
 
-pub still_takes : (p : ℕ) (w o c : Cells) (n : ℕ) → takes_with p w o still c n ≡ run_takes p w o c n
-still_takes p w o c zero = refl
-still_takes p w o c (suc n) = ap₂ took_plus (still_takes p w o c n) (ap (λ (now : Cells). taken (parity_at p n) now w o) (still_after p (joined w o) c n))
+pub still_takes : (p : ℕ) (w o c : Cells) (n : ℕ) → (flow_with p w o still c n).took ≡ run_takes p w o c n
+still_takes p w o c n =
+    sym (sum_as flows takings (λ (f : Flow). f.took) refl (λ a b. refl) (phase_with p w o still c) n)
+    ∙ sum_same takings _ _ n (λ k less. ap (λ (now : Cells). taken (parity_at p k) now w o) (still_after p (joined w o) c k))

@@ -1,10 +1,10 @@
 -- The momentum before and after a run, and what was taken in it.
-use Rattle.std.proofs.Common.{◌≡◌, ℕ, zero, suc, ◌+◌, ◌*◌, ◌%◌, ◌<◌, ◌≤◌, ◌^◌, Bool, true, false, not, [], map, ℤ, pos, ◌+ℤ◌, ◌-ℤ◌, nat_abs, w64, FitsSigned, to_z, of_z, refl, sym, ap, ◌∙◌, subst, arith}
+use Rattle.std.proofs.Common.{◌≡◌, ℕ, zero, suc, ◌+◌, ◌*◌, ◌%◌, ◌<◌, ◌≤◌, ◌^◌, true, false, not, [], map, ℤ, pos, ◌+ℤ◌, ◌-ℤ◌, nat_abs, w64, FitsSigned, to_z, of_z, refl, sym, ap, ◌∙◌, subst, arith, mul-le-mul}
 use Rattle.std.proofs.lemmas.Int.{ints}
 use Rattle.gas_terms.specs.Velocity.{parity}
 use Rattle.gas_terms.specs.Cells.{Cells, HasEvenSides, joined, extent, is_size, tile_count}
 use Rattle.gas_terms.specs.Gas.{streamed}
-use Rattle.gas_terms.specs.Accounts.{taken, total, plus, minus, less_taken, together, gained, lost, sums_of, channels, TakenFits, pair_plus, IsOfAtMost, IsTakenOfAtMost}
+use Rattle.gas_terms.specs.Accounts.{taken, total, plus, minus, less_taken, together, gained, lost, sums_of, channels, pair_plus, IsOfAtMost, IsTakenOfAtMost}
 use Rattle.gas_terms.specs.declared.accounts.Pair.{Pair}
 use Rattle.gas_terms.specs.declared.accounts.Sums.{Sums}
 use Rattle.gas_terms.specs.declared.accounts.Took.{Took}
@@ -14,32 +14,15 @@ use Rattle.gas_terms.proofs.AccountBounds.{more_sums}
 use Rattle.gas_terms.proofs.Totals.{same_sums}
 use Rattle.gas_plane.specs.Planes.{IsLattice}
 use Rattle.gas_plane.proofs.PlaneCounts.{few_tiles}
-use Rattle.block_rule.specs.Accounts.{if_counted}
 use Rattle.block_rule.specs.declared.walled.Counted.{Counted}
 use Rattle.phase_step.specs.Runs.{parity_at}
-use Rattle.phase_step.specs.Actions.{Leaves, acted, after_with, takes_with, moves_with, flow_with, flow_plus, FlowsFit}
+use Rattle.phase_step.specs.Actions.{Leaves, acted, after_with, flow_with}
 use Rattle.phase_step.specs.Balance.{flow_counted, left_of, missing, AreFew}
 use Rattle.phase_step.specs.declared.sums.flow.Flow.{Flow}
-use Rattle.phase_step.proofs.ActionRuns.{same_flow, sides_with, takes_with_within, moves_with_bounded}
+use Rattle.phase_step.proofs.ActionRuns.{sides_with}
+use Rattle.phase_step.proofs.FlowSums.{pair_same, took_same, same_flow, IsFlowOf, counted_few}
 use Rattle.phase_step.proofs.PhaseSweeps.{even_sides}
-use Rattle.phase_step.proofs.RunTakes.{counted_plus, counted_within}
-use Rattle.phase_step.proofs.TakenSums.{pair_same, took_same}
-
--- accounts that are kept
-pub flows_counted : (c : Counted) (a b : Flow) → flow_plus (flow_counted c a) (flow_counted c b) ≡ flow_counted c (flow_plus a b)
-flows_counted c a b = same_flow _ _ (counted_plus c a.took b.took) refl
-
-kept_fit : (counted : Bool) (a b : Pair) → TakenFits (pair_plus a b) → TakenFits (pair_plus (if_counted counted a) (if_counted counted b))
-kept_fit true a b fits = fits
-kept_fit false a b fits = (omega (arith, ints), omega (arith, ints))
-
-pub counted_fit : (c : Counted) (a b : Flow) → FlowsFit a b → FlowsFit (flow_counted c a) (flow_counted c b)
-counted_fit c a b fits = record {
-  walls = kept_fit c.walls a.took.walls b.took.walls fits.walls;
-  obstacles = kept_fit c.obstacles a.took.obstacles b.took.obstacles fits.obstacles;
-  injected = fits.injected;
-  drained = fits.drained;
-}
+use Rattle.phase_step.proofs.TileFlows.{tiles_flow_few, tiles_flow_all}
 
 -- sums depend on the parity of the tick alone
 total_at : (t u : ℤ) (cells : Cells) → parity t ≡ parity u → total t cells ≡ total u cells
@@ -72,18 +55,18 @@ module _ (p : ℕ) (w o : Cells) (leaves : ℕ → Leaves) (c : Cells) (small : 
       let now = after_with p (joined w o) leaves c n in
       let come = streamed q now (joined w o) in
       let next = acted (leaves n) come in
+      let flow = flow_with p w o leaves c n in
       let tick = pos (parity_at p (suc n)) in
       let sides = sides_with p (joined w o) leaves c n in
       let even_now : HasEvenSides now.width now.height = record { wide = ap (λ n. n % 2) sides.wide ∙ even.wide; high = ap (λ n. n % 2) sides.high ∙ even.high } in
       let two : (p + n) % 2 < 2 = omega arith in
       let turn : (p + suc n) % 2 % 2 ≡ ((p + n) % 2 + 1) % 2 = omega arith in
       balanced_once (total (pos q) now) (total tick come) (total tick next) (total (pos p) c)
-      (moves_with p (joined w o) leaves c n).injected (moves_with p (joined w o) leaves c n).drained (gained tick come next) (lost tick come next)
-      (together (takes_with p w o leaves c n)) (together (taken q now w o))
+      flow.moved.injected flow.moved.drained (gained tick come next) (lost tick come next) (together flow.took) (together (taken q now w o))
       (run_balances n)
       (total_at tick (pos q +ℤ pos 1) come turn ∙ phase_keeps q now w o two even_now)
       (total-change tick come next even_now (record { wide = refl; high = refl }))
-      ∙ ap (less_taken (minus (plus (total (pos p) c) (moves_with p (joined w o) leaves c (suc n)).injected) (moves_with p (joined w o) leaves c (suc n)).drained)) (together_plus (takes_with p w o leaves c n) (taken q now w o))
+      ∙ ap (less_taken (minus (plus (total (pos p) c) (plus flow.moved.injected (gained tick come next))) (plus flow.moved.drained (lost tick come next)))) (together_plus flow.took (taken q now w o))
 
 -- the account that was not kept is what is missing
 pub found_obstacles : (c : Counted) (before after : Sums) (flow all : Flow) → c.walls ≡ true → c.obstacles ≡ not c.walls → flow ≡ flow_counted c all → after ≡ left_of before all
@@ -144,15 +127,17 @@ pub few_in_run : (p : ℕ) (w o : Cells) (leaves : ℕ → Leaves) (c : Cells) (
     → IsOfAtMost (2 ^ 24) before → IsOfAtMost (2 ^ 24) after → AreFew before after flow
 few_in_run p w o leaves c n kept before after flow is lattice few of_before of_after =
     let tiles : tile_count c ≤ 4096 = few_tiles c (tile_count c) lattice (omega arith) in
-    let moved = moves_with_bounded p (joined w o) leaves c n lattice.sized in
-    let took = counted_within (2 ^ 26 * n) kept _ (takes_with_within p w o leaves c n lattice.sized tiles) in
-    let wx = took.wx in let wy = took.wy in let ox = took.ox in let oy = took.oy in
+    let m = 16384 * tile_count c * n in
+    let most : 16384 * tile_count c * n ≤ 2 ^ 26 * 65536 = mul-le-mul (let e : 16384 * tile_count c ≤ 2 ^ 26 = omega arith in e) (let e : n ≤ 65536 = omega arith in e) in
+    let all = subst (IsFlowOf m) (tiles_flow_all p w o leaves c n lattice.sized) (tiles_flow_few p w o leaves c 0 (tile_count c) n) in
+    let took = counted_few m kept _ all.took in
+    let more : (t : Pair) → IsTakenOfAtMost m t → IsTakenOfAtMost (2 ^ 46) t = λ t few. record { x = omega (arith, most, few.x); y = omega (arith, most, few.y) } in
     subst (λ (f : Flow). AreFew before after f) (sym is)
     (record {
       before = more_sums (2 ^ 24) (2 ^ 48) _ (omega arith) of_before;
       after = more_sums (2 ^ 24) (2 ^ 48) _ (omega arith) of_after;
-      injected = more_sums (2 ^ 24 * n) (2 ^ 48) _ (omega arith) moved.injected;
-      drained = more_sums (2 ^ 24 * n) (2 ^ 48) _ (omega arith) moved.drained;
-      walls = record { x = omega arith; y = omega arith };
-      obstacles = record { x = omega arith; y = omega arith };
+      injected = more_sums m (2 ^ 48) _ (omega (arith, most)) all.moved.injected;
+      drained = more_sums m (2 ^ 48) _ (omega (arith, most)) all.moved.drained;
+      walls = more _ took.walls;
+      obstacles = more _ took.obstacles;
     })

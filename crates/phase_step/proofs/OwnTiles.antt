@@ -17,7 +17,8 @@ use Rattle.phase_step.specs.Runs.{tiles_take}
 use Rattle.phase_step.specs.Parts.{start_of, row_in, own_rows, tile_in, IsPlaced, IsOwn, IsPartOf}
 use Rattle.phase_step.specs.declared.parts.Part.{Part}
 use Rattle.phase_step.proofs.PhaseSweeps.{tiles_as}
-use Rattle.phase_step.proofs.RunTakes.{counted_plus, own_fits}
+use Rattle.phase_step.proofs.FlowSums.{counted_plus}
+use Rattle.phase_step.proofs.TileFlows.{take_fits}
 
 -- a row of the torus by its row of tiles
 pub row_turns : (a k d y : ℕ) → 0 < d → y < 64 → (a * 64 + (k * 64 + y)) % (d * 64) ≡ (a + k) % d * 64 + y
@@ -171,6 +172,9 @@ own_inside part cells lattice there count placed e f =
 pub there_is : (part : Part) (cells lattice : Cells) (i first there : ℕ) → IsPlaced part cells lattice → first ≡ part.margin * (cells.width / 64) → there ≡ part.first * (cells.width / 64) → there + (i - first) ≡ tile_in part (lattice.width / 64) i
 there_is part cells lattice i first there placed e f = ap₂ (λ m n. n + (i - m)) e f ∙ ap (λ w. tile_in part (w / 64) i) placed.wide
 
+pub own_number : (part : Part) (cells lattice : Cells) (i first : ℕ) → IsPlaced part cells lattice → first ≡ part.margin * (cells.width / 64) → tile_in part (lattice.width / 64) i ≡ part.first * (lattice.width / 64) + (i - first)
+own_number part cells lattice i first placed e = ap (λ f. part.first * (lattice.width / 64) + (i - f)) (ap (λ w. part.margin * (w / 64)) (sym placed.wide) ∙ sym e)
+
 pub there_below : (lattice set : Cells) (first end there i : ℕ) → HasSidesOf set lattice → there + (end - first) ≤ tile_count lattice → first ≤ i → i < end → there + (i - first) < tile_count set
 there_below lattice set first end there i sides inside from to = let e = tiles_as set lattice sides in omega (arith, inside, from, to, e)
 
@@ -178,11 +182,8 @@ there_below lattice set first end there i sides inside from to = let e = tiles_a
 module _ (p : ℕ) (part : Part) (cells lattice w o : Cells) (kept : Counted) (i k from : ℕ) (took here : Took) (of : IsLattice cells) (own : IsOwn part cells i) (is : IsPartOf part cells lattice k) (e : from ≡ part.margin * (cells.width / 64))
     (so_far : took ≡ counted_of kept (tiles_take p lattice w o (part.first * (lattice.width / 64)) (i - from)))
     (takes : here ≡ counted_of kept (taken_in (pos p) lattice w o (tile_rectangle lattice (tile_in part (lattice.width / 64) i)))) where
-  from_is : part.margin * (lattice.width / 64) ≡ from
-  from_is = ap (λ w. part.margin * (w / 64)) (sym is.placed.wide) ∙ sym e
-
   here_is : here ≡ counted_of kept (taken_in (pos p) lattice w o (tile_rectangle lattice (part.first * (lattice.width / 64) + (i - from))))
-  here_is = takes ∙ ap (λ f. counted_of kept (taken_in (pos p) lattice w o (tile_rectangle lattice (part.first * (lattice.width / 64) + (i - f))))) from_is
+  here_is = takes ∙ ap (λ j. counted_of kept (taken_in (pos p) lattice w o (tile_rectangle lattice j))) (own_number part cells lattice i from is.placed e)
 
   pub own_more : took_plus took here ≡ counted_of kept (tiles_take p lattice w o (part.first * (lattice.width / 64)) (i + 1 - from))
   own_more =
@@ -196,4 +197,4 @@ module _ (p : ℕ) (part : Part) (cells lattice w o : Cells) (kept : Counted) (i
   own_adds =
       let first = part.first * (lattice.width / 64) in
       let few = few_tiles cells i of (let w = own.within in omega (arith, w)) in
-      own_fits p lattice w o kept first (i - from) (first + (i - from)) took here (omega (arith, few)) so_far here_is
+      take_fits p lattice w o kept first (i - from) (first + (i - from)) took here (omega (arith, few)) so_far here_is

@@ -1,5 +1,5 @@
 -- An action on a part's own tiles is that on the lattice's.
-use Rattle.std.proofs.Common.{◌≡◌, ℕ, zero, suc, ◌+◌, ◌-◌, ◌*◌, ◌/◌, ◌%◌, ◌<◌, ◌≤◌, ◌&&◌, not, ℤ, pos, refl, sym, ap, ap₂, ◌∙◌, subst, arith}
+use Rattle.std.proofs.Common.{◌≡◌, ℕ, ◌+◌, ◌*◌, ◌/◌, ◌%◌, ◌<◌, ◌≤◌, ◌&&◌, not, ℤ, pos, refl, sym, ap, ◌∙◌, subst, arith}
 use Rattle.bit_tile.specs.Tile as tile
 use Rattle.bit_tile.specs.Tile.{HasCells}
 use Rattle.bit_tile.specs.declared.Tile.{Tile}
@@ -7,17 +7,16 @@ use Rattle.gas_terms.specs.Cells.{Cells, has, extent, tile_count, tile_rectangle
 use Rattle.gas_terms.proofs.Cells.{has-cells_where}
 use Rattle.gas_plane.specs.Planes.{IsLattice, IsTileFrom}
 use Rattle.gas_plane.proofs.Places.{wide, high}
-use Rattle.phase_step.specs.Actions.{Leaves, IsLeftOf, IsTileCorner, IsStill, KeepsTile, acted, unmoved}
+use Rattle.phase_step.specs.Actions.{Leaves, IsLeftOf, IsTileCorner, IsStill, KeepsTile, acted, unmoved, movements}
 use Rattle.phase_step.specs.Counts.{AreTileCounts, moved_by_counts}
-use Rattle.phase_step.specs.Parts.{tile_in, own_moves, IsPlaced, IsPartOf}
+use Rattle.phase_step.specs.Parts.{own_moves, IsPartOf}
 use Rattle.phase_step.specs.TileRuns.{tile_moves, tiles_move}
-use Rattle.gas_terms.specs.Accounts.{moved_plus}
-use Rattle.gas_terms.specs.declared.accounts.Moved.{Moved}
 use Rattle.phase_step.specs.declared.parts.Part.{Part}
 use Rattle.phase_step.specs.declared.sums.cell_counts.CellCounts.{CellCounts}
-use Rattle.phase_step.proofs.MovedSums.{moved_none}
+use Rattle.phase_step.proofs.Amounts.{sum_none}
+use Rattle.phase_step.proofs.FlowSums.{movements_add}
 use Rattle.phase_step.proofs.OwnTiles.{own_within}
-use Rattle.phase_step.proofs.ActedTiles.{Stays, cell_within, still_acts}
+use Rattle.phase_step.proofs.ActedTiles.{cell_within, still_acts}
 use Rattle.phase_step.proofs.TileChanges.{tile_moved, none_moved}
 
 -- A tile of the lattice: what an action leaves of it,
@@ -71,26 +70,15 @@ left_at leaves lattice across i j old new e f left = grind (arith)
 pub kept_at : (leaves : Leaves) (lattice : Cells) (across i j : ℕ) → across ≡ lattice.width / 64 → j ≡ i → KeepsTile leaves (j % across * 64) (j / across * 64) → (let r = tile_rectangle lattice i in KeepsTile leaves r.x r.y)
 kept_at leaves lattice across i j e f kept = grind (arith)
 
--- one more own tile, of those of the lattice from tile `first` on
-pub own_moved : (tick : ℤ) (part : Part) (cells lattice next : Cells) (i from : ℕ) (here : Moved) → IsPlaced part cells lattice → from ≡ part.margin * (cells.width / 64)
-    → here ≡ tile_moves tick lattice next (tile_in part (lattice.width / 64) i) → here ≡ tile_moves tick lattice next (part.first * (lattice.width / 64) + (i - from))
-own_moved tick part cells lattice next i from here placed e moved = moved ∙ ap (λ f. tile_moves tick lattice next (part.first * (lattice.width / 64) + (i - f))) (ap (λ w. part.margin * (w / 64)) (sym placed.wide) ∙ sym e)
-
-pub moves_more_there : (tick : ℤ) (old new : Cells) (first from i : ℕ) (moved here : Moved) → from ≤ i → moved ≡ tiles_move tick old new first (i - from) → here ≡ tile_moves tick old new (first + (i - from))
-    → moved_plus moved here ≡ tiles_move tick old new first (i + 1 - from)
-moves_more_there tick old new first from i moved here low so_far e = let next : suc (i - from) ≡ i + 1 - from = omega arith in ap₂ moved_plus so_far e ∙ ap (tiles_move tick old new first) next
-
 -- an action that is still leaves the lattice as it is
 pub still_rows : (leaves : Leaves) (part : Part) (cells lattice : Cells) (k : ℕ) → IsStill leaves → IsPartOf part cells lattice k → IsPartOf part cells (acted leaves lattice) k
 still_rows leaves part cells lattice k still is = subst (λ (there : Cells). IsPartOf part cells there k) (still_acts leaves lattice is.full still) is
 
 -- and moves nothing
 pub still_moves_there : (tick : ℤ) (leaves : Leaves) (old : Cells) (first n : ℕ) → IsLattice old → IsStill leaves → first + n ≤ tile_count old → unmoved ≡ tiles_move tick old (acted leaves old) first n
-still_moves_there tick leaves old first zero is still within = refl
-still_moves_there tick leaves old first (suc n) is still within =
-    let stays : Stays leaves old (first + n) = λ x y p q. still _ _ _ in
-    moved_none unmoved
-    ∙ ap₂ moved_plus (still_moves_there tick leaves old first n is still (omega arith)) (sym (none_moved tick leaves old (first + n) (tile_rectangle old (first + n)) is (omega arith) (record { left = refl; top = refl; wide = refl; high = refl }) stays))
+still_moves_there tick leaves old first n is still within =
+    sum_none movements movements_add _ n
+    (λ i less. sym (none_moved tick leaves old (first + i) (tile_rectangle old (first + i)) is (omega arith) (record { left = refl; top = refl; wide = refl; high = refl }) (λ x y p q. still _ _ _)))
 
 pub still_own : (p : ℕ) (leaves : Leaves) (part : Part) (cells lattice : Cells) (k : ℕ) → IsStill leaves → IsPartOf part cells lattice k → unmoved ≡ own_moves part p cells lattice (acted leaves lattice)
 still_own p leaves part cells lattice k still is = still_moves_there (pos p) leaves lattice _ _ (record { sized = is.sized; full = is.full }) still (own_within part cells lattice is.placed)

@@ -5,7 +5,7 @@ use Rattle.std.proofs.lemmas.Int.{ints}
 use Rattle.gas_terms.specs.Velocity.{parity}
 use Rattle.gas_terms.specs.Cells.{Cells, without}
 use Rattle.gas_terms.specs.Gas.{streamed, solid}
-use Rattle.gas_terms.specs.Accounts.{channels, sums_of, taken, took_plus, plus, with_taken, nothing, moved_by, moved_plus, with_moved}
+use Rattle.gas_terms.specs.Accounts.{channels, sums_of, taken, took_plus, with_taken, moved_by, moved_plus, with_moved}
 use Rattle.gas_terms.specs.BookedGas.{BookedGas, stepped}
 use Rattle.gas_terms.specs.declared.accounts.Ledger.{Ledger}
 use Rattle.gas_terms.specs.declared.accounts.Sums.{Sums}
@@ -17,7 +17,8 @@ use Rattle.gas_terms.specs.declared.accounts.Moved.{Moved}
 use Rattle.phase_step.specs.Actions.{acted, after_with, unmoved}
 use Rattle.phase_step.specs.PortedRuns.{left_by_ports, steps_take, steps_move, stepped_on}
 use Rattle.phase_step.proofs.RunSteps.{later, taken_twice, taken_none, at_same}
-use Rattle.phase_step.proofs.MovedSums.{plus_regrouped, plus_none}
+use Rattle.phase_step.proofs.Amounts.{grouped}
+use Rattle.phase_step.proofs.FlowSums.{totals, totals_add}
 
 -- ledgers, by their accounts of what came and went
 booked : (l : Ledger) (a b c d : Sums) → a ≡ c → b ≡ d → record l { injected = a; drained = b } ≡ record l { injected = c; drained = d }
@@ -25,10 +26,12 @@ booked l a b c d e f = ap₂ (λ i d. record l { injected = i; drained = d }) e 
 
 -- two parts of a run, in the ledger
 flows_twice : (l : Ledger) (t u : Took) (m n : Moved) → with_moved (with_taken (with_moved (with_taken l t) m) u) n ≡ with_moved (with_taken l (took_plus t u)) (moved_plus m n)
-flows_twice l t u m n = grind (arith, booked, with_taken, plus, plus_regrouped, with_moved, moved_plus, taken_twice)
+flows_twice l t u m n =
+    booked (with_taken (with_taken l t) u) _ _ _ _ (grouped totals totals_add l.injected m.injected n.injected) (grouped totals totals_add l.drained m.drained n.drained)
+    ∙ ap (λ (l : Ledger). with_moved l (moved_plus m n)) (taken_twice l t u)
 
 flows_none : (l : Ledger) → l ≡ with_moved (with_taken l runs.nothing) unmoved
-flows_none l = grind (arith, taken_none, booked, with_taken, nothing, plus, plus_none)
+flows_none l = taken_none l ∙ booked (with_taken l runs.nothing) _ _ _ _ (totals_add.right l.injected) (totals_add.right l.drained)
 
 -- what a change moves is the same at ticks of one parity
 pub same_parity : (t u : ℤ) (old new : Cells) → parity t ≡ parity u → moved_by t old new ≡ moved_by u old new

@@ -13,17 +13,15 @@ use Rattle.std.proofs.lemmas.Nat.{mod-mul-add}
 use Rattle.phase_step.specs.Runs.{parity_at, tiles_take}
 use Rattle.phase_step.specs.Actions.{Leaves, acted, after_with, flow_plus, flow_with, FlowsFit}
 use Rattle.phase_step.specs.Balance.{flow_counted}
-use Rattle.phase_step.specs.TileRuns.{tiles_move, tiles_flow}
-use Rattle.phase_step.specs.Parts.{own_rows, own_flow, own_take, own_moves, IsPartOf, HasRun, whole_part}
+use Rattle.phase_step.specs.TileRuns.{tiles_move, phase_flow, tiles_flow}
+use Rattle.phase_step.specs.Parts.{own_rows, own_take, own_moves, IsPartOf, HasRun, whole_part}
 use Rattle.phase_step.specs.WholeRuns.{Dynamics, after_all}
 use Rattle.phase_step.specs.declared.parts.Part.{Part}
 use Rattle.phase_step.specs.declared.sums.flow.Flow.{Flow}
-use Rattle.phase_step.proofs.ActionRuns.{same_flow, sides_with}
-use Rattle.phase_step.proofs.ActionSums.{takes_all_with, moves_all, moves_all_with}
-use Rattle.phase_step.proofs.Balances.{flows_counted, counted_fit}
+use Rattle.phase_step.proofs.ActionRuns.{sides_with}
+use Rattle.phase_step.proofs.FlowSums.{same_flow, counted_none}
 use Rattle.phase_step.proofs.OwnTiles.{rows_left}
-use Rattle.phase_step.proofs.RunTakes.{counted_none}
-use Rattle.phase_step.proofs.OwnPhases.{IsOwnPhase, own_flow_next, own_flow_fits}
+use Rattle.phase_step.proofs.TileFlows.{moves_all, tiles_flow_all, own_flow_next, own_flow_fits}
 
 -- how many tiles are its own
 pub own_few : (part : Part) (cells lattice : Cells) (k : ℕ) → IsPartOf part cells lattice k → own_rows part cells * (lattice.width / 64) ≤ 4096
@@ -52,28 +50,30 @@ module _ (part : Part) (counted : Counted) (d : Dynamics) (q k : ℕ) (lattice o
   rows_are : (cells : Cells) → HasSidesOf cells old → own_rows part cells ≡ own_rows part old
   rows_are cells sides = ap (λ h. h / 64 - 2 * part.margin) sides.high
 
-  -- what is taken in the accounts that are kept
-  here_is : here ≡ flow_counted counted (record { took = own_take part q now (after_with d.parity (joined d.walls d.obstacles) d.leaves lattice k) d.walls d.obstacles; moved = here.moved })
-  here_is = same_flow here (flow_counted counted (record { took = own_take part q now (after_with d.parity (joined d.walls d.obstacles) d.leaves lattice k) d.walls d.obstacles; moved = here.moved })) is.took refl
-
+  -- what is taken in the accounts that are kept, and what moves
   tick_is : 1 - q ≡ parity_at d.parity (suc k)
   tick_is = let e = is.parity in let s = is.small in omega (arith, e, s)
 
-  own_is : (let there = after_with d.parity (joined d.walls d.obstacles) d.leaves lattice k in let come_there = streamed q there (joined d.walls d.obstacles) in
-      IsOwnPhase d.parity d.walls d.obstacles d.leaves lattice (part.first * (lattice.width / 64)) (own_rows part old * (lattice.width / 64)) k there come_there (acted (d.leaves k) come_there)
-      (record { took = own_take part q now there d.walls d.obstacles; moved = here.moved }))
-  own_is = grind (arith, after_with, joined, streamed, own_take, tiles_take, parity_at, across_is, rows_are, own_moves, acted, tick_is, tiles_move, pos, suc)
+  own_is : here ≡ flow_counted counted (phase_flow d.parity d.walls d.obstacles d.leaves lattice (part.first * (lattice.width / 64)) (own_rows part old * (lattice.width / 64)) k)
+  own_is =
+      let there = after_with d.parity (joined d.walls d.obstacles) d.leaves lattice k in
+      let left : ℕ → Cells = λ r. streamed r there (joined d.walls d.obstacles) in
+      let of_rows : ℕ → ℕ → ℕ → Flow = λ r a m. record { took = counted_of counted (tiles_take r there d.walls d.obstacles (part.first * a) (m * a)); moved = tiles_move (pos (parity_at d.parity (suc k))) (left r) (acted (d.leaves k) (left r)) (part.first * a) (m * a) } in
+      same_flow here (of_rows q (there.width / 64) (own_rows part now)) is.took
+      (is.moved
+      ∙ ap₂ (λ t m. tiles_move (pos t) (left q) (acted (d.leaves k) (left q)) (part.first * (there.width / 64)) (m * (there.width / 64))) tick_is (rows_are come is.come_sides ∙ sym (rows_are now is.now_sides)))
+      ∙ (ap₂ (λ a m. of_rows q a m) across_is (rows_are now is.now_sides)
+      ∙ ap (λ r. of_rows r (lattice.width / 64) (own_rows part old)) is.parity)
 
   pub run_next : HasRun part counted d (k + 1) old lattice next (flow_plus flow here)
-  run_next = grind (arith, after_with, joined, streamed, own_take, next_is, flow_plus, here_is, flows_counted, own_flow, flow_counted, own_flow_next, own_rows, acted, own_is)
+  run_next =
+      record {
+        is = subst (λ (there : Cells). IsPartOf part next there 64) next_is is.action;
+        flow = own_flow_next d.parity d.walls d.obstacles d.leaves lattice counted (part.first * (lattice.width / 64)) (own_rows part old * (lattice.width / 64)) k flow here is.so_far.flow own_is;
+      }
 
   pub run_fits : k ≤ 65536 → own_rows part old * (lattice.width / 64) ≤ 4096 → FlowsFit flow here
-  run_fits short few =
-      let there = after_with d.parity (joined d.walls d.obstacles) d.leaves lattice k in
-      let come_there = streamed q there (joined d.walls d.obstacles) in
-      let every : Flow = record { took = own_take part q now there d.walls d.obstacles; moved = here.moved } in
-      let fits = own_flow_fits d.parity d.walls d.obstacles d.leaves lattice (part.first * (lattice.width / 64)) (own_rows part old * (lattice.width / 64)) k there come_there (acted (d.leaves k) come_there) (own_flow part d old lattice k) every own_is refl few short in
-      subst (λ (f : Flow). FlowsFit f here) (sym is.so_far.flow) (subst (FlowsFit (flow_counted counted (own_flow part d old lattice k))) (sym here_is) (counted_fit counted (own_flow part d old lattice k) every fits))
+  run_fits short few = own_flow_fits d.parity d.walls d.obstacles d.leaves lattice counted (part.first * (lattice.width / 64)) (own_rows part old * (lattice.width / 64)) k flow here is.so_far.flow own_is few short
 
 -- no phase yet
 pub run_begins : (part : Part) (counted : Counted) (d : Dynamics) (old lattice : Cells) (p : ℕ) → IsPartOf part old lattice (64 - p)
@@ -121,7 +121,7 @@ whole_flow down n counted d cells new answer sized run =
     run.flow
     ∙ ap (flow_counted counted)
     (ap₂ (λ f m. tiles_flow d.parity d.walls d.obstacles d.leaves cells f m n) first count
-    ∙ same_flow _ _ (takes_all_with d.parity d.walls d.obstacles d.leaves cells n sized) (moves_all_with d.parity (joined d.walls d.obstacles) d.leaves cells n sized))
+    ∙ tiles_flow_all d.parity d.walls d.obstacles d.leaves cells n sized)
 
 -- what an action on it moves
 pub whole_moves : (p : ℕ) (leaves : Leaves) (cells : Cells) → is_size (extent cells) ≡ true → own_moves (whole_part cells) p cells cells (acted leaves cells) ≡ moved_by (pos p) cells (acted leaves cells)

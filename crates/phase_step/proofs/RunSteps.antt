@@ -16,8 +16,9 @@ use Rattle.gas_terms.proofs.Steps.{unstreamed-streamed}
 use Rattle.gas_terms.proofs.Stretches.{IsReady, stepped-ready, stepped-plain}
 use Rattle.gas_terms.proofs.StoppedTotals.{taken-streamed}
 use Rattle.phase_step.specs.Runs.{parity_at, after, nothing, takes_after, takes_before, ran, ran_back}
-use Rattle.phase_step.proofs.TakenSums.{pair_same}
-use Rattle.phase_step.proofs.RunTakes.{sides_after}
+use Rattle.phase_step.proofs.ActionRuns.{sides_after}
+use Rattle.phase_step.proofs.Amounts.{grouped}
+use Rattle.phase_step.proofs.FlowSums.{pair_same, momenta, momenta_add}
 
 -- the parity so many ticks later
 other : (p q k : ℕ) → p < 2 → q ≡ 1 - (p + k) % 2 → q ≡ (p + suc k) % 2
@@ -44,23 +45,17 @@ earlier t (suc k) =
 made : (l : Ledger) (a b c d : Pair) → a ≡ c → b ≡ d → record l { walls = a; obstacles = b } ≡ record l { walls = c; obstacles = d }
 made l a b c d e f = ap₂ (λ w o. record l { walls = w; obstacles = o }) e f
 
-plus_twice : (a b c : Pair) → pair_plus (pair_plus a b) c ≡ pair_plus a (pair_plus b c)
-plus_twice a b c = pair_same (omega (arith, ints)) (omega (arith, ints))
-
 minus_twice : (a b c : Pair) → pair_minus (pair_minus a b) c ≡ pair_minus a (pair_plus b c)
 minus_twice a b c = pair_same (omega (arith, ints)) (omega (arith, ints))
-
-plus_none : (a : Pair) → a ≡ pair_plus a (record { x = pos 0; y = pos 0 })
-plus_none a = pair_same (omega (arith, ints)) (omega (arith, ints))
 
 minus_none : (a : Pair) → a ≡ pair_minus a (record { x = pos 0; y = pos 0 })
 minus_none a = pair_same (omega (arith, ints)) (omega (arith, ints))
 
 pub taken_twice : (l : Ledger) (t u : Took) → with_taken (with_taken l t) u ≡ with_taken l (took_plus t u)
-taken_twice l t u = made l _ _ _ _ (plus_twice l.walls t.walls u.walls) (plus_twice l.obstacles t.obstacles u.obstacles)
+taken_twice l t u = made l _ _ _ _ (grouped momenta momenta_add l.walls t.walls u.walls) (grouped momenta momenta_add l.obstacles t.obstacles u.obstacles)
 
 pub taken_none : (l : Ledger) → l ≡ with_taken l nothing
-taken_none l = made l l.walls l.obstacles _ _ (plus_none l.walls) (plus_none l.obstacles)
+taken_none l = made l l.walls l.obstacles _ _ (momenta_add.right l.walls) (momenta_add.right l.obstacles)
 
 given_twice : (l : Ledger) (t u : Took) → with_given_back (with_given_back l t) u ≡ with_given_back l (took_plus t u)
 given_twice l t u = made l _ _ _ _ (minus_twice l.walls t.walls u.walls) (minus_twice l.obstacles t.obstacles u.obstacles)

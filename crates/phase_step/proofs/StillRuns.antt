@@ -2,23 +2,22 @@
 use Rattle.std.proofs.Common.{◌≡◌, ℕ, zero, suc, ◌+◌, ◌*◌, ◌/◌, ◌%◌, true, pos, refl, sym, ap, ap₂, ◌∙◌, arith}
 use Rattle.gas_terms.specs.Cells.{Cells, HasSidesOf, joined, extent, is_size, tile_count}
 use Rattle.gas_terms.specs.Gas.{streamed}
-use Rattle.gas_terms.specs.Accounts.{took_plus, moved_plus}
 use Rattle.gas_terms.proofs.Steps.{full_streamed}
 use Rattle.gas_plane.specs.Planes.{IsLattice}
-use Rattle.block_rule.specs.Accounts.{counted_of}
 use Rattle.block_rule.specs.declared.walled.Counted.{Counted}
-use Rattle.phase_step.specs.Runs.{parity_at, nothing, tiles_take, after}
-use Rattle.phase_step.specs.Actions.{Leaves, IsStill, after_with, unmoved, no_flow}
-use Rattle.phase_step.specs.TileRuns.{tiles_take_with, tiles_move_with}
+use Rattle.phase_step.specs.Runs.{parity_at, after}
+use Rattle.phase_step.specs.Actions.{Leaves, IsStill, after_with, no_flow, flows}
+use Rattle.phase_step.specs.Balance.{flow_counted}
+use Rattle.phase_step.specs.TileRuns.{phase_flow}
 use Rattle.phase_step.specs.SolidBlocks.{AreOfNone}
 use Rattle.phase_step.specs.WholeRuns.{HasRunWhole}
 use Rattle.phase_step.proofs.ActionParts.{still, still_after, after_same}
-use Rattle.phase_step.proofs.ActionRuns.{same_flow, sides_with}
-use Rattle.phase_step.proofs.ActionSums.{takes_all_with, moves_all_with}
-use Rattle.phase_step.proofs.MovedSums.{moved_none}
+use Rattle.phase_step.proofs.ActionRuns.{sides_with}
+use Rattle.phase_step.proofs.Amounts.{sum_as, sum_none}
+use Rattle.phase_step.proofs.FlowSums.{same_flow, flows_add, flows_counted, counted_none}
 use Rattle.phase_step.proofs.PartActs.{still_moves_there}
 use Rattle.phase_step.proofs.PhaseSweeps.{sized_as, tiles_as}
-use Rattle.phase_step.proofs.RunTakes.{counted_none, counted_plus, plus_nothing}
+use Rattle.phase_step.proofs.TileFlows.{tiles_flow_all}
 use Rattle.phase_step.proofs.Untaken.{tiles_untaken}
 
 -- two phases more, from an even one on
@@ -50,29 +49,21 @@ module _ (p : ℕ) (w o : Cells) (leaves : ℕ → Leaves) (c : Cells) (of : IsL
   sized : (k : ℕ) → is_size (extent (now k)) ≡ true
   sized k = let s = sides_with p (joined w o) leaves c k in sized_as c (now k) (record { wide = sym s.wide; high = sym s.high }) of.sized
 
-  -- nothing is taken
-  untaken : (kept : Counted) (k : ℕ) → HasSidesOf w c → HasSidesOf o c → AreOfNone kept w o → nothing ≡ counted_of kept (tiles_take_with p w o leaves c 0 (tile_count c) k)
-  untaken kept zero of_walls of_obstacles none = counted_none kept
-  untaken kept (suc k) of_walls of_obstacles none =
+  -- nothing is taken, and nothing comes and goes
+  none_flows : (kept : Counted) (k : ℕ) → HasSidesOf w c → HasSidesOf o c → AreOfNone kept w o → no_flow ≡ flow_counted kept (phase_flow p w o leaves c 0 (tile_count c) k)
+  none_flows kept k of_walls of_obstacles none =
       let s = sides_with p (joined w o) leaves c k in
-      plus_nothing nothing
-      ∙ (ap₂ took_plus (untaken kept k of_walls of_obstacles none)
-      (tiles_untaken (parity_at p k) (now k) w o kept 0 (tile_count c) (omega arith) (sized k) (record { wide = of_walls.wide ∙ sym s.wide; high = of_walls.high ∙ sym s.high }) (record { wide = of_obstacles.wide ∙ sym s.wide; high = of_obstacles.high ∙ sym s.high }) none (let e = tiles_as (now k) c s in omega (arith, e)))
-      ∙ counted_plus kept (tiles_take_with p w o leaves c 0 (tile_count c) k) (tiles_take (parity_at p k) (now k) w o 0 (tile_count c)))
-
-  -- and nothing comes and goes
-  none_moves : (k : ℕ) → unmoved ≡ tiles_move_with p (joined w o) leaves c 0 (tile_count c) k
-  none_moves zero = refl
-  none_moves (suc k) =
       let come = streamed (parity_at p k) (now k) (joined w o) in
-      let s = sides_with p (joined w o) leaves c k in
-      moved_none unmoved
-      ∙ ap₂ moved_plus (none_moves k)
+      same_flow _ _
+      (tiles_untaken (parity_at p k) (now k) w o kept 0 (tile_count c) (omega arith) (sized k) (record { wide = of_walls.wide ∙ sym s.wide; high = of_walls.high ∙ sym s.high }) (record { wide = of_obstacles.wide ∙ sym s.wide; high = of_obstacles.high ∙ sym s.high }) none (let e = tiles_as (now k) c s in omega (arith, e)))
       (still_moves_there (pos (parity_at p (suc k))) (leaves k) come 0 (tile_count c) (record { sized = sized k; full = full_streamed (parity_at p k) (now k) (joined w o) }) (acts_not k) (let e = tiles_as (now k) c s in omega (arith, e)))
 
   pub still_run : (kept : Counted) (n : ℕ) (new : Cells) → HasSidesOf w c → HasSidesOf o c → AreOfNone kept w o → new ≡ after p (joined w o) c n → HasRunWhole kept (record { parity = p; walls = w; obstacles = o; leaves = leaves }) n c new no_flow
   still_run kept n new of_walls of_obstacles none is =
       record {
         particles = is ∙ sym (after_same p (joined w o) leaves still c n (λ k h x y held. acts_not k x y held) ∙ still_after p (joined w o) c n);
-        flow = same_flow _ _ (untaken kept n of_walls of_obstacles none ∙ ap (counted_of kept) (takes_all_with p w o leaves c n of.sized)) (none_moves n ∙ moves_all_with p (joined w o) leaves c n of.sized);
+        flow =
+            sum_none flows flows_add (λ k. flow_counted kept (phase_flow p w o leaves c 0 (tile_count c) k)) n (λ k less. none_flows kept k of_walls of_obstacles none)
+            ∙ (sum_as flows flows (flow_counted kept) (same_flow _ _ (counted_none kept) refl) (flows_counted kept) (phase_flow p w o leaves c 0 (tile_count c)) n
+            ∙ ap (flow_counted kept) (tiles_flow_all p w o leaves c n of.sized));
       }

@@ -22,7 +22,7 @@ use Rattle.phase_step.specs.Counts.{AreTileCounts, moved_by_counts}
 use Rattle.phase_step.specs.declared.sums.cell_counts.CellCounts.{CellCounts}
 use Rattle.gas_terms.specs.declared.accounts.Moved.{Moved}
 use Rattle.gas_plane.proofs.Counting.{counted_sums}
-use Rattle.phase_step.proofs.Counting.{same_moved}
+use Rattle.phase_step.proofs.FlowSums.{same_moved}
 use Rattle.phase_step.proofs.ActedTiles.{acting, Stays, cell_within}
 
 -- tiles that agree count alike

@@ -1,11 +1,10 @@
 -- Sets without blocks take nothing.
-use Rattle.std.proofs.Common.{◌≡◌, ℕ, zero, suc, ◌+◌, ◌*◌, ◌/◌, ◌%◌, ◌<◌, ◌≤◌, Bool, true, false, not, ◌&&◌, ◌||◌, pos, refl, sym, ap, ap₂, ◌∙◌, subst, arith, mul-le-mul}
+use Rattle.std.proofs.Common.{◌≡◌, ℕ, ◌+◌, ◌*◌, ◌/◌, ◌%◌, ◌<◌, ◌≤◌, Bool, true, false, not, ◌&&◌, ◌||◌, pos, refl, sym, ap, ap₂, ◌∙◌, subst, arith, mul-le-mul}
 use Rattle.gas_terms.specs.Cells.{Cells, HasSidesOf, has, joined, extent, is_size, tile_count, tile_rectangle}
 use Rattle.gas_terms.specs.Gas.{Site, IsSite, site_of, is_walled, takes_for_walls, takes_for_obstacles}
 use Rattle.gas_terms.specs.Velocity.{parity}
-use Rattle.gas_terms.specs.Accounts.{took_plus, total_in, stopped, twice_momentum}
+use Rattle.gas_terms.specs.Accounts.{total_in, stopped, twice_momentum}
 use Rattle.gas_terms.specs.declared.accounts.Pair.{Pair}
-use Rattle.gas_terms.specs.declared.accounts.Took.{Took}
 use Rattle.gas_terms.proofs.Cells.{has-cells_where}
 use Rattle.gas_terms.proofs.Emptied.{total_in-none}
 use Rattle.gas_terms.proofs.Sites.{site_of-is}
@@ -13,12 +12,13 @@ use Rattle.gas_terms.proofs.Walled.{walled_by_either}
 use Rattle.block_rule.specs.Accounts.{if_counted, counted_of}
 use Rattle.block_rule.specs.Windows.{taken_in}
 use Rattle.block_rule.specs.declared.walled.Counted.{Counted}
-use Rattle.phase_step.specs.Runs.{nothing, tiles_take}
+use Rattle.phase_step.specs.Runs.{nothing, takings, tiles_take}
 use Rattle.phase_step.specs.Parts.{own_rows, own_take, IsPartOf}
 use Rattle.phase_step.specs.SolidBlocks.{AreOfNone, HasNoBlocks}
 use Rattle.phase_step.specs.declared.parts.Part.{Part}
 use Rattle.phase_step.proofs.PhaseSweeps.{place_is, tiles_as}
-use Rattle.phase_step.proofs.RunTakes.{counted_none, counted_plus, plus_nothing}
+use Rattle.phase_step.proofs.Amounts.{sum_as, sum_none}
+use Rattle.phase_step.proofs.FlowSums.{took_same, takings_add, counted_none, counted_plus}
 
 and_false : (a b : Bool) → b ≡ false → (a && b) ≡ false
 and_false a b e = grind arith
@@ -66,17 +66,15 @@ if_none true p h = h refl
 if_none false p h = refl
 
 pub tiles_untaken : (p : ℕ) (c w o : Cells) (kept : Counted) (first n : ℕ) → p < 2 → is_size (extent c) ≡ true → HasSidesOf w c → HasSidesOf o c → AreOfNone kept w o → first + n ≤ tile_count c → nothing ≡ counted_of kept (tiles_take p c w o first n)
-tiles_untaken p c w o kept first zero small sized of_walls of_obstacles none within = counted_none kept
-tiles_untaken p c w o kept first (suc n) small sized of_walls of_obstacles none within =
-    let i = first + n in
-    let less : i < tile_count c = omega (arith, within) in
-    let here : nothing ≡ counted_of kept (taken_in (pos p) c w o (tile_rectangle c i)) =
-    sym (ap₂ (λ (a b : Pair). let t : Took = record { walls = a; obstacles = b } in t)
-    (if_none kept.walls _ (λ e. no_walls p c w o i small sized less of_walls of_obstacles (none.walls e)))
-    (if_none kept.obstacles _ (λ e. no_obstacles p c w o i small sized less of_walls of_obstacles (none.obstacles e)))) in
-    plus_nothing nothing
-    ∙ (ap₂ took_plus (tiles_untaken p c w o kept first n small sized of_walls of_obstacles none (omega (arith, within))) here
-    ∙ counted_plus kept (tiles_take p c w o first n) (taken_in (pos p) c w o (tile_rectangle c i)))
+tiles_untaken p c w o kept first n small sized of_walls of_obstacles none within =
+    sum_none takings takings_add (λ k. counted_of kept (taken_in (pos p) c w o (tile_rectangle c (first + k)))) n
+    (λ k less.
+    let i = first + k in
+    let here : i < tile_count c = omega (arith, within, less) in
+    sym (took_same
+    (if_none kept.walls _ (λ e. no_walls p c w o i small sized here of_walls of_obstacles (none.walls e)))
+    (if_none kept.obstacles _ (λ e. no_obstacles p c w o i small sized here of_walls of_obstacles (none.obstacles e)))))
+    ∙ sum_as takings takings (counted_of kept) (counted_none kept) (counted_plus kept) (λ k. taken_in (pos p) c w o (tile_rectangle c (first + k))) n
 
 -- so nothing is taken in a part
 pub own_untaken : (p : ℕ) (part : Part) (cells lattice w o : Cells) (kept : Counted) (k : ℕ) → p < 2 → IsPartOf part cells lattice k → HasSidesOf w lattice → HasSidesOf o lattice → AreOfNone kept w o → nothing ≡ counted_of kept (own_take part p cells lattice w o)

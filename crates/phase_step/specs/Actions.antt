@@ -7,8 +7,8 @@ use Rattle.gas_terms.specs.Cells.{Cells, has, cells_where, joined, most_side}
 use Rattle.gas_terms.specs.Gas.{streamed}
 use Rattle.gas_terms.specs.Accounts.{taken, took_plus, pair_plus, TakenFits, SumsFit, plus, moved_by, moved_plus}
 use Rattle.gas_terms.specs.Accounts as accounts
-use Rattle.gas_terms.specs.declared.accounts.Took.{Took}
 use Rattle.gas_terms.specs.declared.accounts.Moved.{Moved}
+use Rattle.phase_step.specs.Amounts.{Amounts, sum_first}
 use Rattle.phase_step.specs.Runs.{parity_at, nothing}
 use Rattle.phase_step.specs.declared.sums.flow.Flow.{Flow}
 
@@ -43,38 +43,39 @@ IsLeftOf leaves left top old new = HasCells new (λ x y. leaves (left + x) (top 
 abbrev pub acted : Leaves → Cells → Cells
 acted leaves cells = cells_where cells.width cells.height (λ x y. leaves x y (has cells x y))
 
--- what several changes bring in and take out
+-- nothing that comes in or goes out, and how changes add up
 abbrev pub unmoved : Moved
 unmoved = record { injected = accounts.nothing; drained = accounts.nothing }
+
+abbrev pub movements : Amounts Moved
+movements = record { none = unmoved; plus = moved_plus }
+
+-- nothing of either, and how flows add up
+abbrev pub no_flow : Flow
+no_flow = record { took = nothing; moved = unmoved }
+
+abbrev pub flow_plus : Flow → Flow → Flow
+flow_plus a b = record { took = took_plus a.took b.took; moved = moved_plus a.moved b.moved }
+
+abbrev pub flows : Amounts Flow
+flows = record { none = no_flow; plus = flow_plus }
 
 -- the particles after so many phases, after each of which there was an action: after phase k the one of k
 abbrev pub after_with : ℕ → Cells → (ℕ → Leaves) → Cells → ℕ → Cells
 after_with p solid leaves particles zero = particles
 after_with p solid leaves particles (suc k) = acted (leaves k) (streamed (parity_at p k) (after_with p solid leaves particles k) solid)
 
--- what walls and obstacles take in so many phases
-abbrev pub takes_with : ℕ → Cells → Cells → (ℕ → Leaves) → Cells → ℕ → Took
-takes_with p walls obstacles leaves particles zero = nothing
-takes_with p walls obstacles leaves particles (suc k) =
-    took_plus (takes_with p walls obstacles leaves particles k) (taken (parity_at p k) (after_with p (joined walls obstacles) leaves particles k) walls obstacles)
+-- what phase k comes to, and the action after it, which acts at the next tick
+abbrev pub phase_with : ℕ → Cells → Cells → (ℕ → Leaves) → Cells → ℕ → Flow
+phase_with p walls obstacles leaves particles k =
+    let solid = joined walls obstacles in
+    let now = after_with p solid leaves particles k in
+    let come = streamed (parity_at p k) now solid in
+    record { took = taken (parity_at p k) now walls obstacles; moved = moved_by (pos (parity_at p (suc k))) come (acted (leaves k) come) }
 
--- what the actions bring in and take out: that of phase k acts at the next tick
-abbrev pub moves_with : ℕ → Cells → (ℕ → Leaves) → Cells → ℕ → Moved
-moves_with p solid leaves particles zero = unmoved
-moves_with p solid leaves particles (suc k) =
-    let come = streamed (parity_at p k) (after_with p solid leaves particles k) solid in
-    moved_plus (moves_with p solid leaves particles k) (moved_by (pos (parity_at p (suc k))) come (acted (leaves k) come))
-
--- both
+-- and so many phases
 abbrev pub flow_with : ℕ → Cells → Cells → (ℕ → Leaves) → Cells → ℕ → Flow
-flow_with p walls obstacles leaves particles n =
-    record { took = takes_with p walls obstacles leaves particles n; moved = moves_with p (joined walls obstacles) leaves particles n }
-
-abbrev pub no_flow : Flow
-no_flow = record { took = nothing; moved = unmoved }
-
-abbrev pub flow_plus : Flow → Flow → Flow
-flow_plus a b = record { took = took_plus a.took b.took; moved = moved_plus a.moved b.moved }
+flow_with p walls obstacles leaves particles n = sum_first flows (phase_with p walls obstacles leaves particles) n
 
 -- each number of two flows together fits an i64
 pub record FlowsFit (a b : Flow) : Type 0 where

@@ -5,7 +5,7 @@ use Rattle.gas_terms.specs.Gas.{Gas, solid, is_drained, is_filled}
 use Rattle.gas_terms.specs.Accounts.{with_taken, with_moved}
 use Rattle.gas_terms.specs.BookedGas.{BookedGas}
 use Rattle.gas_terms.specs.declared.accounts.Took.{Took}
-use Rattle.phase_step.specs.Actions.{Leaves, after_with, takes_with, moves_with}
+use Rattle.phase_step.specs.Actions.{Leaves, after_with, flow_with}
 use Rattle.gas_terms.specs.declared.accounts.Moved.{Moved}
 
 -- what the ports leave after phase k, at the tick that it leads to
@@ -19,10 +19,10 @@ gas_stepped n g =
     record g { tick = g.tick +ℤ pos n; particles = after_with (parity g.tick) (solid g) (left_by_ports g) g.particles n }
 
 abbrev pub steps_take : ℕ → Gas → Took
-steps_take n g = takes_with (parity g.tick) g.walls g.obstacles (left_by_ports g) g.particles n
+steps_take n g = (flow_with (parity g.tick) g.walls g.obstacles (left_by_ports g) g.particles n).took
 
 abbrev pub steps_move : ℕ → Gas → Moved
-steps_move n g = moves_with (parity g.tick) (solid g) (left_by_ports g) g.particles n
+steps_move n g = (flow_with (parity g.tick) g.walls g.obstacles (left_by_ports g) g.particles n).moved
 
 -- the gas with its ledger n ticks later
 abbrev pub stepped_on : ℕ → BookedGas → BookedGas

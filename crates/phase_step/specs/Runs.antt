@@ -7,6 +7,7 @@ use Rattle.gas_terms.specs.Accounts.{taken, took_plus, with_taken, with_given_ba
 use Rattle.gas_terms.specs.BookedGas.{BookedGas}
 use Rattle.gas_terms.specs.declared.accounts.Took.{Took}
 use Rattle.block_rule.specs.Windows.{taken_in}
+use Rattle.phase_step.specs.Amounts.{Amounts, sum_first}
 
 -- the parity of phase k of a run whose first phase has parity p
 abbrev pub parity_at : ℕ → ℕ → ℕ
@@ -17,20 +18,22 @@ abbrev pub after : ℕ → Cells → Cells → ℕ → Cells
 after p solid particles zero = particles
 after p solid particles (suc k) = streamed (parity_at p k) (after p solid particles k) solid
 
+-- nothing that is taken, and how what is taken adds up
 abbrev pub nothing : Took
 nothing = record { walls = record { x = pos 0; y = pos 0 }; obstacles = record { x = pos 0; y = pos 0 } }
 
+abbrev pub takings : Amounts Took
+takings = record { none = nothing; plus = took_plus }
+
 -- what walls and obstacles take in so many phases
 abbrev pub run_takes : ℕ → Cells → Cells → Cells → ℕ → Took
-run_takes p walls obstacles particles zero = nothing
-run_takes p walls obstacles particles (suc k) =
-    took_plus (run_takes p walls obstacles particles k) (taken (parity_at p k) (after p (joined walls obstacles) particles k) walls obstacles)
+run_takes p walls obstacles particles n =
+    sum_first takings (λ k. taken (parity_at p k) (after p (joined walls obstacles) particles k) walls obstacles) n
 
 -- what they take in a phase of parity p, of the particles of n tiles from tile `first` on
 abbrev pub tiles_take : ℕ → Cells → Cells → Cells → ℕ → ℕ → Took
-tiles_take p particles walls obstacles first zero = nothing
-tiles_take p particles walls obstacles first (suc n) =
-    took_plus (tiles_take p particles walls obstacles first n) (taken_in (pos p) particles walls obstacles (tile_rectangle particles (first + n)))
+tiles_take p particles walls obstacles first n =
+    sum_first takings (λ i. taken_in (pos p) particles walls obstacles (tile_rectangle particles (first + i))) n
 
 -- a gas n ticks later, on which no port acted, and what walls and obstacles took on the way
 abbrev pub gas_after : ℕ → Gas → Gas

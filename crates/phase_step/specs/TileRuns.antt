@@ -1,20 +1,13 @@
 -- What a run with an action after each phase comes to in some tiles.
-use Rattle.std.specs.Prelude.{ℕ, zero, suc, ◌+◌, ℤ, pos}
+use Rattle.std.specs.Prelude.{ℕ, suc, ◌+◌, ℤ, pos}
 use Rattle.gas_terms.specs.Cells.{Cells, joined, without, tile_rectangle}
 use Rattle.gas_terms.specs.Gas.{streamed}
-use Rattle.gas_terms.specs.Accounts.{total_in, took_plus, moved_plus}
-use Rattle.gas_terms.specs.declared.accounts.Took.{Took}
-use Rattle.phase_step.specs.Runs.{parity_at, nothing, tiles_take}
-use Rattle.phase_step.specs.Actions.{Leaves, acted, after_with, unmoved}
+use Rattle.gas_terms.specs.Accounts.{total_in}
+use Rattle.phase_step.specs.Amounts.{sum_first}
+use Rattle.phase_step.specs.Runs.{parity_at, tiles_take}
+use Rattle.phase_step.specs.Actions.{Leaves, acted, after_with, movements, flows}
 use Rattle.gas_terms.specs.declared.accounts.Moved.{Moved}
 use Rattle.phase_step.specs.declared.sums.flow.Flow.{Flow}
-
--- what walls and obstacles take of the particles of n tiles from tile `first` on, in so many phases with an action after each
-abbrev pub tiles_take_with : ℕ → Cells → Cells → (ℕ → Leaves) → Cells → ℕ → ℕ → ℕ → Took
-tiles_take_with p walls obstacles leaves particles first n zero = nothing
-tiles_take_with p walls obstacles leaves particles first n (suc k) =
-    took_plus (tiles_take_with p walls obstacles leaves particles first n k)
-    (tiles_take (parity_at p k) (after_with p (joined walls obstacles) leaves particles k) walls obstacles first n)
 
 -- what a change of the particles brings in and takes out in tile i
 abbrev pub tile_moves : ℤ → Cells → Cells → ℕ → Moved
@@ -23,20 +16,20 @@ tile_moves tick old new i =
 
 -- and in n tiles from tile `first` on
 abbrev pub tiles_move : ℤ → Cells → Cells → ℕ → ℕ → Moved
-tiles_move tick old new first zero = unmoved
-tiles_move tick old new first (suc n) = moved_plus (tiles_move tick old new first n) (tile_moves tick old new (first + n))
+tiles_move tick old new first n = sum_first movements (λ i. tile_moves tick old new (first + i)) n
 
--- what the actions after so many phases bring in and take out in those tiles
-abbrev pub tiles_move_with : ℕ → Cells → (ℕ → Leaves) → Cells → ℕ → ℕ → ℕ → Moved
-tiles_move_with p solid leaves particles first n zero = unmoved
-tiles_move_with p solid leaves particles first n (suc k) =
-    let come = streamed (parity_at p k) (after_with p solid leaves particles k) solid in
-    moved_plus (tiles_move_with p solid leaves particles first n k) (tiles_move (pos (parity_at p (suc k))) come (acted (leaves k) come) first n)
+-- what phase k of a run and the action after it come to in those tiles
+abbrev pub phase_flow : ℕ → Cells → Cells → (ℕ → Leaves) → Cells → ℕ → ℕ → ℕ → Flow
+phase_flow p walls obstacles leaves particles first n k =
+    let solid = joined walls obstacles in
+    let now = after_with p solid leaves particles k in
+    let come = streamed (parity_at p k) now solid in
+    record {
+      took = tiles_take (parity_at p k) now walls obstacles first n;
+      moved = tiles_move (pos (parity_at p (suc k))) come (acted (leaves k) come) first n;
+    }
 
--- what a run comes to in those tiles
+-- and so many phases
 abbrev pub tiles_flow : ℕ → Cells → Cells → (ℕ → Leaves) → Cells → ℕ → ℕ → ℕ → Flow
 tiles_flow p walls obstacles leaves particles first n k =
-    record {
-      took = tiles_take_with p walls obstacles leaves particles first n k;
-      moved = tiles_move_with p (joined walls obstacles) leaves particles first n k;
-    }
+    sum_first flows (phase_flow p walls obstacles leaves particles first n) k

@@ -2,34 +2,19 @@
 use Rattle.std.proofs.Common.{◌≡◌, ℕ, zero, suc, ◌+◌, ◌*◌, ◌/◌, ◌≤◌, Bool, true, pos, refl, sym, ap, ap₂, ◌∙◌, subst, arith}
 use Rattle.gas_terms.specs.Cells.{Cells, Extent, HasSidesOf, IsFull, extent, has, is_size, joined}
 use Rattle.gas_terms.specs.Gas.{streamed}
-use Rattle.gas_terms.specs.Accounts.{took_plus, moved_plus}
-use Rattle.gas_terms.specs.declared.accounts.Took.{Took}
-use Rattle.gas_terms.specs.declared.accounts.Moved.{Moved}
 use Rattle.gas_terms.proofs.Cells.{full-cells_where}
 use Rattle.gas_plane.specs.Planes.{IsLattice}
-use Rattle.phase_step.specs.Runs.{parity_at, nothing, tiles_take}
-use Rattle.phase_step.specs.Actions.{Leaves, acted, after_with, flow_plus, unmoved, FlowsFit}
+use Rattle.phase_step.specs.Runs.{parity_at, tiles_take}
+use Rattle.phase_step.specs.Actions.{Leaves, acted, after_with, flow_plus, FlowsFit}
 use Rattle.phase_step.specs.Balance.{flow_counted}
-use Rattle.phase_step.specs.TileRuns.{tiles_flow, tiles_move}
+use Rattle.phase_step.specs.TileRuns.{tiles_move, phase_flow, tiles_flow}
 use Rattle.phase_step.specs.WholeRuns.{Dynamics, after_all}
 use Rattle.phase_step.specs.declared.sums.flow.Flow.{Flow}
-use Rattle.std.proofs.Math.IntN.{+ℤ_idl}
-use Rattle.gas_terms.proofs.Totals.{same_sums}
-use Rattle.phase_step.proofs.Counting.{same_moved}
-use Rattle.phase_step.proofs.TakenSums.{pair_same, took_same}
 use Rattle.phase_step.proofs.ActionParts.{part_after_with}
 use Rattle.phase_step.proofs.ActionRuns.{sides_with, acted_same}
-use Rattle.phase_step.proofs.Balances.{flows_counted, counted_fit}
-use Rattle.phase_step.proofs.OwnPhases.{IsOwnPhase, own_flow_next, own_flow_fits}
+use Rattle.phase_step.proofs.FlowSums.{flows_add}
+use Rattle.phase_step.proofs.TileFlows.{own_flow_next, own_flow_fits}
 use Rattle.phase_team.specs.Courses.{Course, lattice_at, rows_give}
-
-nothing_plus : (a : Took) → took_plus nothing a ≡ a
-nothing_plus a = took_same (pair_same (+ℤ_idl a.walls.x) (+ℤ_idl a.walls.y)) (pair_same (+ℤ_idl a.obstacles.x) (+ℤ_idl a.obstacles.y))
-
-none_moved : (a : Moved) → moved_plus unmoved a ≡ a
-none_moved a =
-    same_moved _ _ (same_sums _ _ (+ℤ_idl a.injected.count) (+ℤ_idl a.injected.px) (+ℤ_idl a.injected.py))
-    (same_sums _ _ (+ℤ_idl a.drained.count) (+ℤ_idl a.drained.px) (+ℤ_idl a.drained.py))
 
 pub same_extent : (a b : Cells) → HasSidesOf a b → extent a ≡ extent b
 same_extent a b sides = ap₂ (λ w h. let e : Extent = record { width = w; height = h } in e) sides.wide sides.high
@@ -77,60 +62,36 @@ module _ (course : Course) (k : ℕ) (turn : Dynamics) (is : IsPhase course k tu
         cells = refl;
       })
 
-  -- in n tiles from tile a on
-  own_phase : (a n : ℕ) → let d = course.dynamics in let now = lattice_at course k in let come = streamed (parity_at d.parity k) now (joined d.walls d.obstacles) in
-      IsOwnPhase d.parity d.walls d.obstacles d.leaves course.start a n k now come (acted (d.leaves k) come) (tiles_flow turn.parity d.walls d.obstacles turn.leaves now a n 1)
-  own_phase a n =
-      let d = course.dynamics in
-      let solid = joined d.walls d.obstacles in
-      let now = lattice_at course k in
-      let come = streamed (parity_at d.parity k) now solid in
-      let parity = is.parity in
-      let here : parity_at turn.parity 0 ≡ parity_at d.parity k = omega (arith, parity) in
-      let next : parity_at turn.parity 1 ≡ parity_at d.parity (suc k) = omega (arith, parity) in
-      record {
-        at = refl;
-        phase = refl;
-        took = nothing_plus (tiles_take (parity_at turn.parity 0) now d.walls d.obstacles a n) ∙ ap (λ r. tiles_take r now d.walls d.obstacles a n) here;
-        action = refl;
-        moved =
-            none_moved (tiles_move (pos (parity_at turn.parity 1)) (streamed (parity_at turn.parity 0) now solid) (acted (turn.leaves 0) (streamed (parity_at turn.parity 0) now solid)) a n)
-            ∙ (ap₂ (λ r t. tiles_move (pos t) (streamed r now solid) (acted (turn.leaves 0) (streamed r now solid)) a n) here next
-            ∙ ap (λ (left : Cells). tiles_move (pos (parity_at d.parity (suc k))) come left a n) (acted_same (turn.leaves 0) (d.leaves k) come is.same));
-      }
-
   -- what it comes to in so many rows of tiles
   abbrev phase_gives : ℕ → ℕ → Flow
   phase_gives first rows =
       let a = (lattice_at course k).width / 64 in flow_counted course.counted (tiles_flow turn.parity turn.walls turn.obstacles turn.leaves (lattice_at course k) (first * a) (rows * a) 1)
 
   gives : (first rows : ℕ) → let d = course.dynamics in let a = course.start.width / 64 in
-      phase_gives first rows ≡ flow_counted course.counted (tiles_flow turn.parity d.walls d.obstacles turn.leaves (lattice_at course k) (first * a) (rows * a) 1)
+      phase_gives first rows ≡ flow_counted course.counted (phase_flow d.parity d.walls d.obstacles d.leaves course.start (first * a) (rows * a) k)
   gives first rows =
       let d = course.dynamics in
-      ap₂ (λ (w o : Cells). let a = (lattice_at course k).width / 64 in flow_counted course.counted (tiles_flow turn.parity w o turn.leaves (lattice_at course k) (first * a) (rows * a) 1)) is.walls is.obstacles
-      ∙ ap (λ w. flow_counted course.counted (tiles_flow turn.parity d.walls d.obstacles turn.leaves (lattice_at course k) (first * (w / 64)) (rows * (w / 64)) 1)) (course_sides course k).wide
+      let now = lattice_at course k in
+      let parity = is.parity in
+      let here : parity_at turn.parity 0 ≡ parity_at d.parity k = omega (arith, parity) in
+      let next : parity_at turn.parity 1 ≡ parity_at d.parity (suc k) = omega (arith, parity) in
+      let come : ℕ → Cells = λ q. streamed q now (joined d.walls d.obstacles) in
+      let flow : ℕ → ℕ → Cells → ℕ → Flow = λ q t (left : Cells) a.
+      record { took = tiles_take q now d.walls d.obstacles (first * a) (rows * a); moved = tiles_move (pos t) (come q) left (first * a) (rows * a) } in
+      ap (flow_counted course.counted)
+      (flows_add.left (phase_flow turn.parity turn.walls turn.obstacles turn.leaves now (first * (now.width / 64)) (rows * (now.width / 64)) 0)
+      ∙ (ap₂ (λ (w o : Cells). phase_flow turn.parity w o turn.leaves now (first * (now.width / 64)) (rows * (now.width / 64)) 0) is.walls is.obstacles
+      ∙ (ap₂ (λ q t. flow q t (acted (turn.leaves 0) (come q)) (now.width / 64)) here next
+      ∙ ap₂ (λ (left : Cells) w. flow (parity_at d.parity k) (parity_at d.parity (suc k)) left (w / 64)) (acted_same (turn.leaves 0) (d.leaves k) (come (parity_at d.parity k)) is.same) (course_sides course k).wide)))
 
   pub rows_next : (first rows : ℕ) (here : Flow) → here ≡ phase_gives first rows → flow_plus (rows_give course k first rows) here ≡ rows_give course (k + 1) first rows
   rows_next first rows here e =
       let d = course.dynamics in
-      let now = lattice_at course k in
-      let come = streamed (parity_at d.parity k) now (joined d.walls d.obstacles) in
       let a = course.start.width / 64 in
-      let so_far = tiles_flow d.parity d.walls d.obstacles d.leaves course.start (first * a) (rows * a) k in
-      let more = tiles_flow turn.parity d.walls d.obstacles turn.leaves now (first * a) (rows * a) 1 in
-      ap (flow_plus (rows_give course k first rows)) (e ∙ gives first rows)
-      ∙ (flows_counted course.counted so_far more
-      ∙ ap (flow_counted course.counted) (own_flow_next d.parity d.walls d.obstacles d.leaves course.start (first * a) (rows * a) k now come (acted (d.leaves k) come) so_far more (own_phase (first * a) (rows * a)) refl))
+      own_flow_next d.parity d.walls d.obstacles d.leaves course.start course.counted (first * a) (rows * a) k (rows_give course k first rows) here refl (e ∙ gives first rows)
 
   pub rows_next_fit : (first rows : ℕ) (here : Flow) → here ≡ phase_gives first rows → rows * (course.start.width / 64) ≤ 4096 → k ≤ 65536 → FlowsFit (rows_give course k first rows) here
   rows_next_fit first rows here e few short =
       let d = course.dynamics in
-      let now = lattice_at course k in
-      let come = streamed (parity_at d.parity k) now (joined d.walls d.obstacles) in
       let a = course.start.width / 64 in
-      let so_far = tiles_flow d.parity d.walls d.obstacles d.leaves course.start (first * a) (rows * a) k in
-      let more = tiles_flow turn.parity d.walls d.obstacles turn.leaves now (first * a) (rows * a) 1 in
-      subst (FlowsFit (rows_give course k first rows)) (sym (e ∙ gives first rows))
-      (counted_fit course.counted so_far more
-      (own_flow_fits d.parity d.walls d.obstacles d.leaves course.start (first * a) (rows * a) k now come (acted (d.leaves k) come) so_far more (own_phase (first * a) (rows * a)) refl few short))
+      own_flow_fits d.parity d.walls d.obstacles d.leaves course.start course.counted (first * a) (rows * a) k (rows_give course k first rows) here refl (e ∙ gives first rows) few short

@@ -1,9 +1,10 @@
 use Rattle.std.specs.Prelude.{◌≡◌, ℕ, ◌+◌, ◌<◌, List, pos}
 use Rattle.gas_terms.specs.Cells.{Cells, has, joined, tile_rectangle}
 use Rattle.gas_terms.specs.Gas.{streamed}
-use Rattle.gas_terms.specs.Accounts.{int_sum_by}
 use Rattle.gas_terms.specs.declared.accounts.Took.{Took}
 use Rattle.block_rule.specs.Windows.{taken_in}
+use Rattle.phase_step.specs.Amounts.{sum_each}
+use Rattle.phase_step.specs.Runs.{takings}
 
 -- tile i of the set of cells is as it is after the phase of parity p of the particles
 abbrev pub IsTurnedAt : ℕ → Cells → Cells → Cells → Cells → ℕ → Type 0
@@ -18,14 +19,4 @@ tile_takes p particles walls obstacles i = taken_in (pos p) particles walls obst
 
 -- what they take in the tiles of these numbers
 abbrev pub tiles_take : ℕ → Cells → Cells → Cells → List ℕ → Took
-tiles_take p particles walls obstacles numbers =
-    record {
-      walls = record {
-        x = int_sum_by (λ i. (tile_takes p particles walls obstacles i).walls.x) numbers;
-        y = int_sum_by (λ i. (tile_takes p particles walls obstacles i).walls.y) numbers;
-      };
-      obstacles = record {
-        x = int_sum_by (λ i. (tile_takes p particles walls obstacles i).obstacles.x) numbers;
-        y = int_sum_by (λ i. (tile_takes p particles walls obstacles i).obstacles.y) numbers;
-      };
-    }
+tiles_take p particles walls obstacles numbers = sum_each takings (tile_takes p particles walls obstacles) numbers

@@ -1,7 +1,9 @@
-use Rattle.std.proofs.Common.{◌≡◌, ℕ, pos, ◌+ℤ◌, ap, ap₂, sym, ◌∙◌}
+use Rattle.std.proofs.Common.{◌≡◌, ℕ, pos, ◌+ℤ◌, ap, ap₂, sym, subst, ◌∙◌}
 use Rattle.gas_terms.specs.Cells.{Cells, joined}
+use Rattle.gas_terms.specs.Gas.{Gas}
 use Rattle.gas_terms.specs.Velocity.{parity}
-use Rattle.phase_step.specs.Actions.{Leaves, after_with, takes_with, moves_with}
+use Rattle.phase_step.specs.Actions.{Leaves, after_with, flow_with}
+use Rattle.phase_step.specs.PortedRuns.{steps_take, steps_move}
 use Rattle.phase_step.specs.declared.sums.flow.Flow.{Flow}
 use Rattle.gas_ledger.specs.PortLists.{left_by}
 use Rattle.gas_ledger.specs.Gases.{gas_of}
@@ -26,10 +28,10 @@ pub returns-clause-took : goal.returns-clause-took
 returns-clause-took g c =
     let l = c.self.inside in
     let leaves : ℕ → Leaves = λ k. left_by l.ports (l.tick +ℤ pos k +ℤ pos 1) in
-    rw (← c.self.view_is) (ap (λ (f : Flow). f.took) c.run_with.ensures.flow ∙ ap (λ p. takes_with p l.solids.walls l.solids.obstacles leaves l.particles c.args.n) c.parity-parity.ensures)
+    subst (λ (was : Gas). c.run_with.result.took ≡ steps_take c.args.n was) c.self.view_is (ap (λ (f : Flow). f.took) (c.run_with.ensures.flow ∙ ap (λ p. flow_with p l.solids.walls l.solids.obstacles leaves l.particles c.args.n) c.parity-parity.ensures))
 
 pub returns-clause-moved : goal.returns-clause-moved
 returns-clause-moved g c =
     let l = c.self.inside in
     let leaves : ℕ → Leaves = λ k. left_by l.ports (l.tick +ℤ pos k +ℤ pos 1) in
-    rw (← c.self.view_is) (ap (λ (f : Flow). f.moved) c.run_with.ensures.flow ∙ ap (λ p. moves_with p (joined l.solids.walls l.solids.obstacles) leaves l.particles c.args.n) c.parity-parity.ensures)
+    subst (λ (was : Gas). c.run_with.result.moved ≡ steps_move c.args.n was) c.self.view_is (ap (λ (f : Flow). f.moved) (c.run_with.ensures.flow ∙ ap (λ p. flow_with p l.solids.walls l.solids.obstacles leaves l.particles c.args.n) c.parity-parity.ensures))

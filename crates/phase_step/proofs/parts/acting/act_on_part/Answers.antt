@@ -2,16 +2,17 @@ use Rattle.std.proofs.Common.{◌≡◌, ◌+◌, ◌-◌, ◌*◌, ◌/◌, ◌
 use Rattle.gas_terms.specs.Cells.{Cells, tile_count, tile_rectangle}
 use Rattle.gas_plane.specs.Planes.{IsLattice, IsTileFrom, tile_of}
 use Rattle.gas_plane.proofs.PlaneCounts.{few_tiles}
-use Rattle.phase_step.specs.Actions.{IsLeftOf, IsTileCorner, acted}
+use Rattle.phase_step.specs.Actions.{IsLeftOf, IsTileCorner, acted, movements}
 use Rattle.phase_step.specs.Exchanges.{leaves_of}
 use Rattle.phase_step.specs.Parts.{own_rows, tile_in, IsOwn, IsPartOf}
 use Rattle.phase_step.specs.TileRuns.{tile_moves, tiles_move}
-use Rattle.phase_step.proofs.ActionBounds.{IsMovedWithin, moved_fits, tile_moves_within, tiles_move_within}
+use Rattle.phase_step.proofs.Amounts.{sum_next}
 use Rattle.phase_step.proofs.Exchanging.{nowhere_is_still}
+use Rattle.phase_step.proofs.FlowSums.{movements_add, IsMovedOf, moved_fits}
 use Rattle.phase_step.proofs.MadeCells.{all_acted, none_before, none_made, own_before, tile_before, tile_made, tile_stays}
-use Rattle.phase_step.proofs.MovedSums.{moved_none}
-use Rattle.phase_step.proofs.OwnTiles.{lattice_is, own_cells, there_is, within_there}
-use Rattle.phase_step.proofs.PartActs.{corner_at, kept_at, kept_there, left_at, left_there, moves_there, stays_there, own_moved, moves_more_there, still_rows, still_own}
+use Rattle.phase_step.proofs.OwnTiles.{lattice_is, own_cells, own_number, there_is, within_there}
+use Rattle.phase_step.proofs.PartActs.{corner_at, kept_at, kept_there, left_at, left_there, moves_there, stays_there, still_rows, still_own}
+use Rattle.phase_step.proofs.TileFlows.{tile_moves_few, tiles_move_few}
 use Rattle.phase_step.proofs.parts.acting.act_on_part.Goals as goal
 use Rattle.phase_step.proofs.parts.acting.act_on_part.Goals.{After-moved-here, In-loop-i}
 
@@ -73,9 +74,10 @@ loop-i-preserved-then-not-meets c =
       moved = λ lattice is.
           let j = tile_in part (lattice.width / 64) i in
           let kept = kept_at leaves lattice c.across-across.result j _ (c.across-across.ensures.across ∙ ap (λ w. w / 64) is.placed.wide) (there_is part cells lattice i t.result.first t.result.there is.placed t.ensures.first t.ensures.there) (c.meets.ensures c.if-not-meets.true) in
-          moved_none c.loop-i.moved
-          ∙ moves_more_there tick lattice (acted leaves lattice) (part.first * (lattice.width / 64)) t.result.first i c.loop-i.moved _ low (c.loop-i.invariant.moved lattice is)
-          (own_moved tick part cells lattice (acted leaves lattice) i t.result.first _ is.placed t.ensures.first (stays_there tick leaves lattice j (lattice_is part cells lattice 64 is) (within_there part cells lattice i t.ensures.lattice.sized is.placed own) kept));
+          movements_add.right c.loop-i.moved
+          ∙ sum_next movements _ t.result.first i c.loop-i.moved _ low (c.loop-i.invariant.moved lattice is)
+          (stays_there tick leaves lattice j (lattice_is part cells lattice 64 is) (within_there part cells lattice i t.ensures.lattice.sized is.placed own) kept
+          ∙ ap (tile_moves tick lattice (acted leaves lattice)) (own_number part cells lattice i t.result.first is.placed t.ensures.first));
     }
 
 own : (c : After-moved-here) → IsOwn c.args.part c.args.particles.now c.loop-i.i
@@ -103,9 +105,9 @@ module _ (c : After-moved-here) (lattice : Cells) (is : IsPartOf c.args.part c.a
   is_moved =
       let leaves = leaves_of c.args.exchange.now in
       let j = tile_in c.args.part (lattice.width / 64) c.loop-i.i in
-      own_moved (pos c.args.parity) c.args.part c.args.particles.now lattice (acted leaves lattice) c.loop-i.i c.own_tiles-own.result.first _ is.placed c.own_tiles-own.ensures.first
-      (c.moved-here.ensures (pos c.args.parity) (let s = c.requires.parity in omega (arith, s))
-      ∙ moves_there (pos c.args.parity) leaves lattice j c.on_tile.result c.tile_mut.result.now c.on_tile.new.tile whole below from left c.on_tile.ensures.gained c.on_tile.ensures.lost)
+      c.moved-here.ensures (pos c.args.parity) (let s = c.requires.parity in omega (arith, s))
+      ∙ (moves_there (pos c.args.parity) leaves lattice j c.on_tile.result c.tile_mut.result.now c.on_tile.new.tile whole below from left c.on_tile.ensures.gained c.on_tile.ensures.lost
+      ∙ ap (tile_moves (pos c.args.parity) lattice (acted leaves lattice)) (own_number c.args.part c.args.particles.now lattice c.loop-i.i c.own_tiles-own.result.first is.placed c.own_tiles-own.ensures.first))
 
 pub plus-moved-requires : goal.plus-moved-requires
 plus-moved-requires c =
@@ -116,9 +118,9 @@ plus-moved-requires c =
     let tick = pos c.args.parity in
     let leaves = leaves_of c.args.exchange.now in
     let n = c.loop-i.i - c.own_tiles-own.result.first in
-    let fits = moved_fits c.loop-i.moved c.moved-here.result (16384 * n) 16384
-    (subst (IsMovedWithin (16384 * n)) (sym (c.loop-i.invariant.moved r.lattice r.is)) (tiles_move_within tick leaves r.lattice (c.args.part.first * (r.lattice.width / 64)) n))
-    (subst (IsMovedWithin 16384) (sym (is_moved after r.lattice r.is)) (tile_moves_within tick leaves r.lattice _))
+    let fits = moved_fits (16384 * n) 16384 c.loop-i.moved c.moved-here.result
+    (subst (IsMovedOf (16384 * n)) (sym (c.loop-i.invariant.moved r.lattice r.is)) (tiles_move_few tick leaves r.lattice (c.args.part.first * (r.lattice.width / 64)) n))
+    (subst (IsMovedOf 16384) (sym (is_moved after r.lattice r.is)) (tile_moves_few tick leaves r.lattice _))
     (omega (arith, few)) in
     record { injected = fits.0; drained = fits.1 }
 
@@ -138,7 +140,7 @@ loop-i-preserved c =
           (left_there leaves lattice (tile_in part (lattice.width / 64) i) c.tile_mut.result.now c.on_tile.new.tile (whole after lattice is) (below after lattice is) (from after lattice is) (left after lattice is));
       moved = λ lattice is.
           c.plus-moved.ensures
-          ∙ moves_more_there (pos c.args.parity) lattice (acted leaves lattice) (part.first * (lattice.width / 64)) c.own_tiles-own.result.first i c.loop-i.moved c.moved-here.result low (c.loop-i.invariant.moved lattice is)
+          ∙ sum_next movements _ c.own_tiles-own.result.first i c.loop-i.moved c.moved-here.result low (c.loop-i.invariant.moved lattice is)
           (is_moved after lattice is);
     }
 

@@ -5,7 +5,7 @@ use Rattle.block_rule.specs.Windows.{taken_in}
 use Rattle.phase_step.specs.Parts.{own_rows, tile_in, IsOwn, IsPartOf}
 use Rattle.phase_step.specs.Runs.{tiles_take}
 use Rattle.phase_step.specs.SolidBlocks.{AreTileSolids}
-use Rattle.phase_step.proofs.RunTakes.{counted_none}
+use Rattle.phase_step.proofs.FlowSums.{counted_none}
 use Rattle.phase_step.proofs.Untaken.{own_untaken}
 use Rattle.phase_step.proofs.OwnTiles.{lattice_is, own_adds, own_cells, own_more, there_below, there_is, within_there}
 use Rattle.phase_step.proofs.RowRuns.{sides_on}

@@ -9,7 +9,7 @@ use Rattle.phase_step.specs.Runs.{tiles_take}
 use Rattle.phase_step.specs.Turns.{IsTileAfter}
 use Rattle.phase_step.specs.WholeRuns.{every}
 use Rattle.phase_step.proofs.PhaseSweeps.{tiles_as, tiles_are, phased, phase_next, phase_ends}
-use Rattle.phase_step.proofs.RunTakes.{own_fits, all_take}
+use Rattle.phase_step.proofs.TileFlows.{take_fits, all_take}
 use Rattle.phase_step.proofs.steps.sweep.turn_each.Goals as goal
 
 pub loop-i-init : goal.loop-i-init
@@ -26,7 +26,7 @@ plus-took-requires c =
     let took = subst (λ i. c.turn_tile_at-here.result ≡ taken_in (pos c.args.parity) c.args.old.now c.args.walls.now c.args.obstacles.now (tile_rectangle c.args.old.now i)) c.loop-i.invariant.tile c.turn_tile_at-here.ensures.took in
     let few = few_tiles c.args.out.now (tile_count c.args.out.now) c.size.ensures.lattice (omega arith) in
     let all = tiles_are c.args.out.now c.size.result c.tiles-i-end.result c.size.ensures.extent c.tiles-i-end.ensures.tiles in
-    let fits = own_fits c.args.parity c.args.old.now c.args.walls.now c.args.obstacles.now every 0 c.loop-i.i c.loop-i.i c.loop-i.took c.turn_tile_at-here.result (omega (arith, few, all)) c.loop-i.invariant.took took in
+    let fits = take_fits c.args.parity c.args.old.now c.args.walls.now c.args.obstacles.now every 0 c.loop-i.i c.loop-i.i c.loop-i.took c.turn_tile_at-here.result (omega (arith, few, all)) c.loop-i.invariant.took took in
     record { walls = fits.0; obstacles = fits.1 }
 
 pub loop-i-preserved : goal.loop-i-preserved
