@@ -1,5 +1,5 @@
 -- What tiles take and what moves in them: of how many particles, in parts, and in all tiles.
-use Rattle.std.proofs.Common.{◌≡◌, ℕ, suc, ◌+◌, ◌*◌, ◌%◌, ◌<◌, ◌≤◌, ◌==◌, Bool, true, false, ℤ, pos, ◌-ℤ◌, ◌*ℤ◌, nat_abs, refl, sym, ap, ap₂, ◌∙◌, subst, arith, add-one, mul-le-mul}
+use Rattle.std.proofs.Common.{◌≡◌, ℕ, suc, ◌+◌, ◌*◌, ◌%◌, ◌<◌, ◌≤◌, ◌^◌, ◌==◌, Bool, true, false, ℤ, pos, ◌-ℤ◌, ◌*ℤ◌, nat_abs, refl, sym, ap, ap₂, ◌∙◌, subst, arith, add-one, mul-le-mul}
 use Rattle.std.specs.List.{range_with_len}
 use Rattle.std.proofs.lemmas.Int.{ints}
 use Rattle.gas_terms.specs.Velocity.{sign, parity}
@@ -117,6 +117,13 @@ all_take p c w o small sized =
     ∙ (took_same (sym (taken-stopped (pos p) c (takes_for_walls w o) (even_sides c sized))) (sym (taken-stopped (pos p) c (takes_for_obstacles w o) (even_sides c sized)))
     ∙ ap (λ q. taken q c w o) same)))
 
+-- a lattice's tiles have so many particles in a run
+pub few_in_all : (n k : ℕ) → n ≤ 4096 → k ≤ 65536 → 16384 * n * k ≤ 2 ^ 42
+few_in_all n k few short =
+    let most : n * k ≤ 4096 * 65536 = mul-le-mul few short in
+    let e : 16384 * n * k ≡ 16384 * (n * k) = omega arith in
+    omega (arith, most, e)
+
 module _ (p : ℕ) (w o : Cells) (leaves : ℕ → Leaves) (c : Cells) where
   phase_few : (first n k : ℕ) → IsFlowOf (16384 * n) (phase_flow p w o leaves c first n k)
   phase_few first n k =
@@ -166,8 +173,7 @@ module _ (p : ℕ) (w o : Cells) (leaves : ℕ → Leaves) (c : Cells) where
   pub own_flow_fits : (kept : Counted) (first n k : ℕ) (flow here : Flow) → flow ≡ flow_counted kept (tiles_flow p w o leaves c first n k) → here ≡ flow_counted kept (phase_flow p w o leaves c first n k)
       → n ≤ 4096 → k ≤ 65536 → FlowsFit flow here
   own_flow_fits kept first n k flow here so_far e few short =
-      let most : n * k ≤ 4096 * 65536 = mul-le-mul few short in
-      let f : 16384 * n * k ≡ 16384 * (n * k) = omega arith in
+      let most = few_in_all n k few short in
       subst (λ (g : Flow). FlowsFit g here) (sym so_far)
       (subst (FlowsFit (flow_counted kept (tiles_flow p w o leaves c first n k))) (sym e)
-      (flows_fit (16384 * n * k) (16384 * n) kept _ _ (tiles_flow_few first n k) (phase_few first n k) (omega (arith, most, f, few))))
+      (flows_fit (16384 * n * k) (16384 * n) kept _ _ (tiles_flow_few first n k) (phase_few first n k) (omega (arith, most, few))))
