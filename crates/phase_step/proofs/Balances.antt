@@ -1,5 +1,5 @@
 -- The momentum before and after a run, and what was taken in it.
-use Rattle.std.proofs.Common.{◌≡◌, ℕ, zero, suc, ◌+◌, ◌*◌, ◌%◌, ◌<◌, ◌≤◌, ◌^◌, true, false, not, [], map, ℤ, pos, ◌+ℤ◌, ◌-ℤ◌, nat_abs, w64, FitsSigned, to_z, of_z, refl, sym, ap, ◌∙◌, subst, arith, mul-le-mul}
+use Rattle.std.proofs.Common.{◌≡◌, ℕ, zero, suc, ◌+◌, ◌*◌, ◌%◌, ◌<◌, ◌≤◌, ◌^◌, true, false, not, [], map, ℤ, pos, ◌+ℤ◌, ◌-ℤ◌, nat_abs, w64, FitsSigned, to_z, of_z, refl, sym, ap, ◌∙◌, subst, arith}
 use Rattle.std.proofs.lemmas.Int.{ints}
 use Rattle.gas_terms.specs.Velocity.{parity}
 use Rattle.gas_terms.specs.Cells.{Cells, HasEvenSides, joined, extent, is_size, tile_count}
@@ -22,7 +22,7 @@ use Rattle.phase_step.specs.declared.sums.flow.Flow.{Flow}
 use Rattle.phase_step.proofs.ActionRuns.{sides_with}
 use Rattle.phase_step.proofs.FlowSums.{pair_same, took_same, same_flow, IsFlowOf, counted_few}
 use Rattle.phase_step.proofs.PhaseSweeps.{even_sides}
-use Rattle.phase_step.proofs.TileFlows.{tiles_flow_few, tiles_flow_all}
+use Rattle.phase_step.proofs.TileFlows.{few_in_all, tiles_flow_few, tiles_flow_all}
 
 -- sums depend on the parity of the tick alone
 total_at : (t u : ℤ) (cells : Cells) → parity t ≡ parity u → total t cells ≡ total u cells
@@ -128,7 +128,7 @@ pub few_in_run : (p : ℕ) (w o : Cells) (leaves : ℕ → Leaves) (c : Cells) (
 few_in_run p w o leaves c n kept before after flow is lattice few of_before of_after =
     let tiles : tile_count c ≤ 4096 = few_tiles c (tile_count c) lattice (omega arith) in
     let m = 16384 * tile_count c * n in
-    let most : 16384 * tile_count c * n ≤ 2 ^ 26 * 65536 = mul-le-mul (let e : 16384 * tile_count c ≤ 2 ^ 26 = omega arith in e) (let e : n ≤ 65536 = omega arith in e) in
+    let most = few_in_all (tile_count c) n tiles (omega arith) in
     let all = subst (IsFlowOf m) (tiles_flow_all p w o leaves c n lattice.sized) (tiles_flow_few p w o leaves c 0 (tile_count c) n) in
     let took = counted_few m kept _ all.took in
     let more : (t : Pair) → IsTakenOfAtMost m t → IsTakenOfAtMost (2 ^ 46) t = λ t few. record { x = omega (arith, most, few.x); y = omega (arith, most, few.y) } in

@@ -1,24 +1,15 @@
--- A part's own tiles: which of the lattice they are, and what they take.
-use Rattle.std.proofs.Common.{◌≡◌, ℕ, suc, ◌+◌, ◌-◌, ◌*◌, ◌/◌, ◌%◌, ◌<◌, ◌≤◌, true, pos, sym, ap, ap₂, ◌∙◌, subst, arith, mul-le-mul}
+-- A part's own tiles: which of the lattice they are.
+use Rattle.std.proofs.Common.{◌≡◌, ℕ, ◌+◌, ◌-◌, ◌*◌, ◌/◌, ◌%◌, ◌<◌, ◌≤◌, true, sym, ap, ap₂, ◌∙◌, subst, arith, mul-le-mul}
 use Rattle.std.proofs.Math.Nat.{mod-lt, div-lt_iff_lt-mul}
 use Rattle.std.proofs.lemmas.Nat.{div-add-mod', div-mul-add, mod-mul-add, mul-add-lt, le-div}
 use Rattle.gas_terms.specs.Cells.{Cells, HasSidesOf, has, extent, is_size, tile_count, tile_rectangle}
-use Rattle.gas_terms.specs.Accounts.{took_plus, pair_plus, TakenFits}
-use Rattle.gas_terms.specs.declared.accounts.Took.{Took}
 use Rattle.bit_tile.specs.declared.Tile.{Tile}
 use Rattle.gas_plane.specs.Planes.{IsLattice, IsTileFrom}
 use Rattle.gas_plane.proofs.Places.{wide, high, cell_below}
-use Rattle.gas_plane.proofs.PlaneCounts.{few_tiles}
 use Rattle.gas_plane.proofs.Sweeps.{left_of, top_of}
-use Rattle.block_rule.specs.Accounts.{counted_of}
-use Rattle.block_rule.specs.Windows.{taken_in}
-use Rattle.block_rule.specs.declared.walled.Counted.{Counted}
-use Rattle.phase_step.specs.Runs.{tiles_take}
 use Rattle.phase_step.specs.Parts.{start_of, row_in, own_rows, tile_in, IsPlaced, IsOwn, IsPartOf}
 use Rattle.phase_step.specs.declared.parts.Part.{Part}
 use Rattle.phase_step.proofs.PhaseSweeps.{tiles_as}
-use Rattle.phase_step.proofs.FlowSums.{counted_plus}
-use Rattle.phase_step.proofs.TileFlows.{take_fits}
 
 -- a row of the torus by its row of tiles
 pub row_turns : (a k d y : ℕ) → 0 < d → y < 64 → (a * 64 + (k * 64 + y)) % (d * 64) ≡ (a + k) % d * 64 + y
@@ -177,24 +168,3 @@ own_number part cells lattice i first placed e = ap (λ f. part.first * (lattice
 
 pub there_below : (lattice set : Cells) (first end there i : ℕ) → HasSidesOf set lattice → there + (end - first) ≤ tile_count lattice → first ≤ i → i < end → there + (i - first) < tile_count set
 there_below lattice set first end there i sides inside from to = let e = tiles_as set lattice sides in omega (arith, inside, from, to, e)
-
--- what is taken in the own tile i, when `took` was taken in those below it
-module _ (p : ℕ) (part : Part) (cells lattice w o : Cells) (kept : Counted) (i k from : ℕ) (took here : Took) (of : IsLattice cells) (own : IsOwn part cells i) (is : IsPartOf part cells lattice k) (e : from ≡ part.margin * (cells.width / 64))
-    (so_far : took ≡ counted_of kept (tiles_take p lattice w o (part.first * (lattice.width / 64)) (i - from)))
-    (takes : here ≡ counted_of kept (taken_in (pos p) lattice w o (tile_rectangle lattice (tile_in part (lattice.width / 64) i)))) where
-  here_is : here ≡ counted_of kept (taken_in (pos p) lattice w o (tile_rectangle lattice (part.first * (lattice.width / 64) + (i - from))))
-  here_is = takes ∙ ap (λ j. counted_of kept (taken_in (pos p) lattice w o (tile_rectangle lattice j))) (own_number part cells lattice i from is.placed e)
-
-  pub own_more : took_plus took here ≡ counted_of kept (tiles_take p lattice w o (part.first * (lattice.width / 64)) (i + 1 - from))
-  own_more =
-      let first = part.first * (lattice.width / 64) in
-      let next : suc (i - from) ≡ i + 1 - from = let l = own.low in omega (arith, e, l) in
-      ap₂ took_plus so_far here_is
-      ∙ (counted_plus kept (tiles_take p lattice w o first (i - from)) (taken_in (pos p) lattice w o (tile_rectangle lattice (first + (i - from))))
-      ∙ ap (λ m. counted_of kept (tiles_take p lattice w o first m)) next)
-
-  pub own_adds : TakenFits (pair_plus took.walls here.walls) × TakenFits (pair_plus took.obstacles here.obstacles)
-  own_adds =
-      let first = part.first * (lattice.width / 64) in
-      let few = few_tiles cells i of (let w = own.within in omega (arith, w)) in
-      take_fits p lattice w o kept first (i - from) (first + (i - from)) took here (omega (arith, few)) so_far here_is

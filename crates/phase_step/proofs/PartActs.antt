@@ -1,5 +1,5 @@
 -- An action on a part's own tiles is that on the lattice's.
-use Rattle.std.proofs.Common.{◌≡◌, ℕ, ◌+◌, ◌-◌, ◌*◌, ◌/◌, ◌%◌, ◌<◌, ◌≤◌, ◌&&◌, not, ℤ, pos, refl, sym, ap, ◌∙◌, subst, arith}
+use Rattle.std.proofs.Common.{◌≡◌, ℕ, ◌+◌, ◌*◌, ◌/◌, ◌%◌, ◌<◌, ◌≤◌, ◌&&◌, not, ℤ, pos, refl, sym, ap, ◌∙◌, subst, arith}
 use Rattle.bit_tile.specs.Tile as tile
 use Rattle.bit_tile.specs.Tile.{HasCells}
 use Rattle.bit_tile.specs.declared.Tile.{Tile}
@@ -9,9 +9,8 @@ use Rattle.gas_plane.specs.Planes.{IsLattice, IsTileFrom}
 use Rattle.gas_plane.proofs.Places.{wide, high}
 use Rattle.phase_step.specs.Actions.{Leaves, IsLeftOf, IsTileCorner, IsStill, KeepsTile, acted, unmoved, movements}
 use Rattle.phase_step.specs.Counts.{AreTileCounts, moved_by_counts}
-use Rattle.phase_step.specs.Parts.{tile_in, own_moves, IsPlaced, IsPartOf}
+use Rattle.phase_step.specs.Parts.{own_moves, IsPartOf}
 use Rattle.phase_step.specs.TileRuns.{tile_moves, tiles_move}
-use Rattle.gas_terms.specs.declared.accounts.Moved.{Moved}
 use Rattle.phase_step.specs.declared.parts.Part.{Part}
 use Rattle.phase_step.specs.declared.sums.cell_counts.CellCounts.{CellCounts}
 use Rattle.phase_step.proofs.Amounts.{sum_none}

@@ -1,6 +1,6 @@
 -- Runs in which nothing is counted and nothing acts.
-use Rattle.std.proofs.Common.{◌≡◌, ℕ, zero, suc, ◌+◌, ◌*◌, ◌/◌, ◌%◌, true, pos, refl, sym, ap, ap₂, ◌∙◌, arith}
-use Rattle.gas_terms.specs.Cells.{Cells, HasSidesOf, joined, extent, is_size, tile_count}
+use Rattle.std.proofs.Common.{◌≡◌, ℕ, zero, suc, ◌+◌, ◌*◌, ◌/◌, ◌%◌, pos, refl, sym, ap, ap₂, ◌∙◌, arith}
+use Rattle.gas_terms.specs.Cells.{Cells, HasSidesOf, joined, tile_count}
 use Rattle.gas_terms.specs.Gas.{streamed}
 use Rattle.gas_terms.proofs.Steps.{full_streamed}
 use Rattle.gas_plane.specs.Planes.{IsLattice}
@@ -12,11 +12,11 @@ use Rattle.phase_step.specs.TileRuns.{phase_flow}
 use Rattle.phase_step.specs.SolidBlocks.{AreOfNone}
 use Rattle.phase_step.specs.WholeRuns.{HasRunWhole}
 use Rattle.phase_step.proofs.ActionParts.{still, still_after, after_same}
-use Rattle.phase_step.proofs.ActionRuns.{sides_with}
+use Rattle.phase_step.proofs.ActionRuns.{sides_with, sized_with}
 use Rattle.phase_step.proofs.Amounts.{sum_as, sum_none}
 use Rattle.phase_step.proofs.FlowSums.{same_flow, flows_add, flows_counted, counted_none}
 use Rattle.phase_step.proofs.PartActs.{still_moves_there}
-use Rattle.phase_step.proofs.PhaseSweeps.{sized_as, tiles_as}
+use Rattle.phase_step.proofs.PhaseSweeps.{tiles_as}
 use Rattle.phase_step.proofs.TileFlows.{tiles_flow_all}
 use Rattle.phase_step.proofs.Untaken.{tiles_untaken}
 
@@ -46,17 +46,15 @@ module _ (p : ℕ) (w o : Cells) (leaves : ℕ → Leaves) (c : Cells) (of : IsL
   abbrev now : ℕ → Cells
   now k = after_with p (joined w o) leaves c k
 
-  sized : (k : ℕ) → is_size (extent (now k)) ≡ true
-  sized k = let s = sides_with p (joined w o) leaves c k in sized_as c (now k) (record { wide = sym s.wide; high = sym s.high }) of.sized
-
   -- nothing is taken, and nothing comes and goes
   none_flows : (kept : Counted) (k : ℕ) → HasSidesOf w c → HasSidesOf o c → AreOfNone kept w o → no_flow ≡ flow_counted kept (phase_flow p w o leaves c 0 (tile_count c) k)
   none_flows kept k of_walls of_obstacles none =
       let s = sides_with p (joined w o) leaves c k in
       let come = streamed (parity_at p k) (now k) (joined w o) in
+      let sized = sized_with p (joined w o) leaves c k of.sized in
       same_flow _ _
-      (tiles_untaken (parity_at p k) (now k) w o kept 0 (tile_count c) (omega arith) (sized k) (record { wide = of_walls.wide ∙ sym s.wide; high = of_walls.high ∙ sym s.high }) (record { wide = of_obstacles.wide ∙ sym s.wide; high = of_obstacles.high ∙ sym s.high }) none (let e = tiles_as (now k) c s in omega (arith, e)))
-      (still_moves_there (pos (parity_at p (suc k))) (leaves k) come 0 (tile_count c) (record { sized = sized k; full = full_streamed (parity_at p k) (now k) (joined w o) }) (acts_not k) (let e = tiles_as (now k) c s in omega (arith, e)))
+      (tiles_untaken (parity_at p k) (now k) w o kept 0 (tile_count c) (omega arith) sized (record { wide = of_walls.wide ∙ sym s.wide; high = of_walls.high ∙ sym s.high }) (record { wide = of_obstacles.wide ∙ sym s.wide; high = of_obstacles.high ∙ sym s.high }) none (let e = tiles_as (now k) c s in omega (arith, e)))
+      (still_moves_there (pos (parity_at p (suc k))) (leaves k) come 0 (tile_count c) (record { sized = sized; full = full_streamed (parity_at p k) (now k) (joined w o) }) (acts_not k) (let e = tiles_as (now k) c s in omega (arith, e)))
 
   pub still_run : (kept : Counted) (n : ℕ) (new : Cells) → HasSidesOf w c → HasSidesOf o c → AreOfNone kept w o → new ≡ after p (joined w o) c n → HasRunWhole kept (record { parity = p; walls = w; obstacles = o; leaves = leaves }) n c new no_flow
   still_run kept n new of_walls of_obstacles none is =

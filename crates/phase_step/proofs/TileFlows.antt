@@ -1,11 +1,11 @@
 -- What tiles take and what moves in them: of how many particles, in parts, and in all tiles.
-use Rattle.std.proofs.Common.{◌≡◌, ℕ, suc, ◌+◌, ◌*◌, ◌%◌, ◌<◌, ◌≤◌, ◌==◌, Bool, true, false, ℤ, pos, ◌-ℤ◌, ◌*ℤ◌, nat_abs, refl, sym, ap, ap₂, ◌∙◌, subst, arith, add-one, mul-le-mul}
+use Rattle.std.proofs.Common.{◌≡◌, ℕ, suc, ◌+◌, ◌-◌, ◌*◌, ◌%◌, ◌<◌, ◌≤◌, ◌^◌, ◌==◌, Bool, true, false, ℤ, pos, ◌-ℤ◌, ◌*ℤ◌, nat_abs, refl, sym, ap, ap₂, ◌∙◌, subst, arith, add-one, mul-le-mul}
 use Rattle.std.specs.List.{range_with_len}
 use Rattle.std.proofs.lemmas.Int.{ints}
 use Rattle.gas_terms.specs.Velocity.{sign, parity}
 use Rattle.gas_terms.specs.Cells.{Cells, Rectangle, joined, without, extent, is_size, tile_count, tile_rectangle}
 use Rattle.gas_terms.specs.Gas.{streamed, takes_for_walls, takes_for_obstacles}
-use Rattle.gas_terms.specs.Accounts.{plus_all, total_in, parity_count, sums_by_parity, stopped, twice_momentum, taken, pair_plus, plus, moved_by, TakenFits, IsOfAtMost, IsTakenOfAtMost}
+use Rattle.gas_terms.specs.Accounts.{plus_all, total_in, parity_count, sums_by_parity, stopped, twice_momentum, taken, took_plus, pair_plus, plus, moved_by, TakenFits, IsOfAtMost, IsTakenOfAtMost}
 use Rattle.gas_terms.specs.declared.accounts.Sums.{Sums}
 use Rattle.gas_terms.specs.declared.accounts.Took.{Took}
 use Rattle.gas_terms.specs.declared.accounts.Moved.{Moved}
@@ -24,7 +24,7 @@ use Rattle.phase_step.specs.TileRuns.{tile_moves, tiles_move, phase_flow, tiles_
 use Rattle.phase_step.specs.declared.sums.flow.Flow.{Flow}
 use Rattle.phase_step.proofs.ActionRuns.{sized_with, count_with}
 use Rattle.phase_step.proofs.Amounts.{sum_same, sum_from_zero, sum_few, each_below, sum_as, sum_split, sum_both}
-use Rattle.phase_step.proofs.FlowSums.{pair_same, took_same, same_moved, same_flow, totals, takings_add, movements_add, flows_add, flows_counted, IsTakenOf, IsMovedOf, IsFlowOf, none_taken, none_moved, took_few, moved_few, flow_few, counted_few, took_fits, flows_fit}
+use Rattle.phase_step.proofs.FlowSums.{pair_same, took_same, same_moved, same_flow, totals, takings_add, movements_add, flows_add, counted_plus, flows_counted, IsTakenOf, IsMovedOf, IsFlowOf, none_taken, none_moved, took_few, moved_few, flow_few, counted_few, took_fits, flows_fit}
 use Rattle.phase_step.proofs.PhaseSweeps.{even_sides, whole_tiles}
 
 -- the particles of a tile
@@ -70,7 +70,15 @@ tiles_take_few p c w o first n = sum_few takings IsTakenOf (none_taken 0) took_f
 pub tiles_move_few : (tick : ℤ) (leaves : Leaves) (come : Cells) (first n : ℕ) → IsMovedOf (16384 * n) (tiles_move tick come (acted leaves come) first n)
 tiles_move_few tick leaves come first n = sum_few movements IsMovedOf (none_moved 0) moved_few 16384 _ (λ i. tile_moves_few tick leaves come (first + i)) n
 
--- one tile more
+-- one tile more, where they are counted from `from` on
+pub take_next : (p : ℕ) (c w o : Cells) (kept : Counted) (first from i : ℕ) (took here : Took) → from ≤ i → took ≡ counted_of kept (tiles_take p c w o first (i - from)) → here ≡ counted_of kept (taken_in (pos p) c w o (tile_rectangle c (first + (i - from))))
+    → took_plus took here ≡ counted_of kept (tiles_take p c w o first (i + 1 - from))
+take_next p c w o kept first from i took here low so_far e =
+    let next : suc (i - from) ≡ i + 1 - from = omega arith in
+    ap₂ took_plus so_far e
+    ∙ (counted_plus kept (tiles_take p c w o first (i - from)) (taken_in (pos p) c w o (tile_rectangle c (first + (i - from))))
+    ∙ ap (λ m. counted_of kept (tiles_take p c w o first m)) next)
+
 pub take_fits : (p : ℕ) (c w o : Cells) (kept : Counted) (first n i : ℕ) (took here : Took) → n ≤ 4096 → took ≡ counted_of kept (tiles_take p c w o first n) → here ≡ counted_of kept (taken_in (pos p) c w o (tile_rectangle c i))
     → TakenFits (pair_plus took.walls here.walls) × TakenFits (pair_plus took.obstacles here.obstacles)
 take_fits p c w o kept first n i took here few so_far e =
@@ -116,6 +124,13 @@ all_take p c w o small sized =
     ∙ same_moved _ _ (sym (total-tiles (pos p) by_walls across down)) (sym (total-tiles (pos p) by_obstacles across down)))
     ∙ (took_same (sym (taken-stopped (pos p) c (takes_for_walls w o) (even_sides c sized))) (sym (taken-stopped (pos p) c (takes_for_obstacles w o) (even_sides c sized)))
     ∙ ap (λ q. taken q c w o) same)))
+
+-- a lattice's tiles have so many particles in a run
+pub few_in_all : (n k : ℕ) → n ≤ 4096 → k ≤ 65536 → 16384 * n * k ≤ 2 ^ 42
+few_in_all n k few short =
+    let most : n * k ≤ 4096 * 65536 = mul-le-mul few short in
+    let e : 16384 * n * k ≡ 16384 * (n * k) = omega arith in
+    omega (arith, most, e)
 
 module _ (p : ℕ) (w o : Cells) (leaves : ℕ → Leaves) (c : Cells) where
   phase_few : (first n k : ℕ) → IsFlowOf (16384 * n) (phase_flow p w o leaves c first n k)
@@ -166,8 +181,7 @@ module _ (p : ℕ) (w o : Cells) (leaves : ℕ → Leaves) (c : Cells) where
   pub own_flow_fits : (kept : Counted) (first n k : ℕ) (flow here : Flow) → flow ≡ flow_counted kept (tiles_flow p w o leaves c first n k) → here ≡ flow_counted kept (phase_flow p w o leaves c first n k)
       → n ≤ 4096 → k ≤ 65536 → FlowsFit flow here
   own_flow_fits kept first n k flow here so_far e few short =
-      let most : n * k ≤ 4096 * 65536 = mul-le-mul few short in
-      let f : 16384 * n * k ≡ 16384 * (n * k) = omega arith in
+      let most = few_in_all n k few short in
       subst (λ (g : Flow). FlowsFit g here) (sym so_far)
       (subst (FlowsFit (flow_counted kept (tiles_flow p w o leaves c first n k))) (sym e)
-      (flows_fit (16384 * n * k) (16384 * n) kept _ _ (tiles_flow_few first n k) (phase_few first n k) (omega (arith, most, f, few))))
+      (flows_fit (16384 * n * k) (16384 * n) kept _ _ (tiles_flow_few first n k) (phase_few first n k) (omega (arith, most, few))))

@@ -43,14 +43,14 @@ IsLeftOf leaves left top old new = HasCells new (λ x y. leaves (left + x) (top 
 abbrev pub acted : Leaves → Cells → Cells
 acted leaves cells = cells_where cells.width cells.height (λ x y. leaves x y (has cells x y))
 
--- what changes bring in and take out, one after another
+-- nothing that comes in or goes out, and how changes add up
 abbrev pub unmoved : Moved
 unmoved = record { injected = accounts.nothing; drained = accounts.nothing }
 
 abbrev pub movements : Amounts Moved
 movements = record { none = unmoved; plus = moved_plus }
 
--- and what is taken besides
+-- nothing of either, and how flows add up
 abbrev pub no_flow : Flow
 no_flow = record { took = nothing; moved = unmoved }
 

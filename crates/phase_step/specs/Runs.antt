@@ -18,7 +18,7 @@ abbrev pub after : ℕ → Cells → Cells → ℕ → Cells
 after p solid particles zero = particles
 after p solid particles (suc k) = streamed (parity_at p k) (after p solid particles k) solid
 
--- what is taken, one after another
+-- nothing that is taken, and how what is taken adds up
 abbrev pub nothing : Took
 nothing = record { walls = record { x = pos 0; y = pos 0 }; obstacles = record { x = pos 0; y = pos 0 } }
 

@@ -1,6 +1,6 @@
 -- How a lattice goes on in a run, phase by phase.
-use Rattle.std.proofs.Common.{◌≡◌, ℕ, zero, suc, ◌+◌, ◌*◌, ◌/◌, ◌≤◌, Bool, true, pos, refl, sym, ap, ap₂, ◌∙◌, subst, arith}
-use Rattle.gas_terms.specs.Cells.{Cells, Extent, HasSidesOf, IsFull, extent, has, is_size, joined}
+use Rattle.std.proofs.Common.{◌≡◌, ℕ, zero, suc, ◌+◌, ◌*◌, ◌/◌, ◌≤◌, Bool, pos, refl, ap, ap₂, ◌∙◌, arith}
+use Rattle.gas_terms.specs.Cells.{Cells, HasSidesOf, IsFull, has, joined}
 use Rattle.gas_terms.specs.Gas.{streamed}
 use Rattle.gas_terms.proofs.Cells.{full-cells_where}
 use Rattle.gas_plane.specs.Planes.{IsLattice}
@@ -11,13 +11,10 @@ use Rattle.phase_step.specs.TileRuns.{tiles_move, phase_flow, tiles_flow}
 use Rattle.phase_step.specs.WholeRuns.{Dynamics, after_all}
 use Rattle.phase_step.specs.declared.sums.flow.Flow.{Flow}
 use Rattle.phase_step.proofs.ActionParts.{part_after_with}
-use Rattle.phase_step.proofs.ActionRuns.{sides_with, acted_same}
+use Rattle.phase_step.proofs.ActionRuns.{sides_with, sized_with, acted_same}
 use Rattle.phase_step.proofs.FlowSums.{flows_add}
 use Rattle.phase_step.proofs.TileFlows.{own_flow_next, own_flow_fits}
 use Rattle.phase_team.specs.Courses.{Course, lattice_at, rows_give}
-
-pub same_extent : (a b : Cells) → HasSidesOf a b → extent a ≡ extent b
-same_extent a b sides = ap₂ (λ w h. let e : Extent = record { width = w; height = h } in e) sides.wide sides.high
 
 full_with : (p : ℕ) (solid : Cells) (leaves : ℕ → Leaves) (c : Cells) (k : ℕ) → IsFull c → IsFull (after_with p solid leaves c k)
 full_with p solid leaves c zero full = full
@@ -33,7 +30,7 @@ pub course_lattice : (course : Course) (k : ℕ) → IsLattice course.start → 
 course_lattice course k is =
     let d = course.dynamics in
     record {
-      sized = subst (λ (e : Extent). is_size e ≡ true) (sym (same_extent (lattice_at course k) course.start (course_sides course k))) is.sized;
+      sized = sized_with d.parity (joined d.walls d.obstacles) d.leaves course.start k is.sized;
       full = full_with d.parity (joined d.walls d.obstacles) d.leaves course.start k is.full;
     }
 

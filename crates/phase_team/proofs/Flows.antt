@@ -1,5 +1,5 @@
 -- What a run comes to in some rows of tiles, and in all of them.
-use Rattle.std.proofs.Common.{◌≡◌, ℕ, true, ◌+◌, ◌*◌, ◌/◌, ◌≤◌, ◌^◌, refl, sym, ap, ap₂, ◌∙◌, arith}
+use Rattle.std.proofs.Common.{◌≡◌, ℕ, true, ◌+◌, ◌*◌, ◌/◌, ◌≤◌, refl, sym, ap, ap₂, ◌∙◌, arith}
 use Rattle.std.proofs.lemmas.Nat.{mul-le}
 use Rattle.gas_terms.specs.Cells.{extent, is_size, tile_count}
 use Rattle.gas_plane.proofs.Places.{wide}
@@ -9,15 +9,8 @@ use Rattle.phase_step.specs.TileRuns.{phase_flow, tiles_flow}
 use Rattle.phase_step.specs.declared.sums.flow.Flow.{Flow}
 use Rattle.phase_step.proofs.Amounts.{sum_none}
 use Rattle.phase_step.proofs.FlowSums.{same_flow, flows_add, flows_counted, counted_none, flows_fit}
-use Rattle.phase_step.proofs.TileFlows.{tiles_flow_few, tiles_flow_split, tiles_flow_all}
+use Rattle.phase_step.proofs.TileFlows.{few_in_all, tiles_flow_few, tiles_flow_split, tiles_flow_all}
 use Rattle.phase_team.specs.Courses.{Course, flow_at, rows_give}
-
-few_cells : (rows a k : ℕ) → rows ≤ 64 → a ≤ 64 → k ≤ 65535 → 16384 * (rows * a) * k ≤ 2 ^ 42
-few_cells rows a k few some short =
-    let most : rows * a ≤ 4096 = mul-le rows a 64 64 few some in
-    let e : 16384 * (rows * a) ≤ 2 ^ 26 = omega arith in
-    let f : 16384 * (rows * a) * k ≤ 2 ^ 26 * 65535 = mul-le (16384 * (rows * a)) k (2 ^ 26) 65535 e short in
-    omega (arith, f)
 
 module _ (course : Course) (k : ℕ) where
   pub no_rows_give : no_flow ≡ rows_give course k 0 0
@@ -59,8 +52,8 @@ module _ (course : Course) (k : ℕ) where
       let d = course.dynamics in
       let a = course.start.width / 64 in
       let across = (wide (extent course.start) sized).few in
-      let p = few_cells m a k few across short in
-      let q = few_cells n a k more across short in
+      let p = few_in_all (m * a) k (mul-le m a 64 64 few across) (omega (arith, short)) in
+      let q = few_in_all (n * a) k (mul-le n a 64 64 more across) (omega (arith, short)) in
       flows_fit (16384 * (m * a) * k) (16384 * (n * a) * k) course.counted _ _
       (tiles_flow_few d.parity d.walls d.obstacles d.leaves course.start (first * a) (m * a) k)
       (tiles_flow_few d.parity d.walls d.obstacles d.leaves course.start (next * a) (n * a) k)

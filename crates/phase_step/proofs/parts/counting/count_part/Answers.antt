@@ -1,5 +1,6 @@
-use Rattle.std.proofs.Common.{◌≡◌, ◌-◌, ◌*◌, ◌/◌, ◌∙◌, ap, subst, pos, arith}
+use Rattle.std.proofs.Common.{◌≡◌, ◌+◌, ◌-◌, ◌*◌, ◌/◌, ◌∙◌, ap, subst, pos, arith}
 use Rattle.gas_terms.specs.Cells.{Cells, HasSidesOf, tile_rectangle}
+use Rattle.gas_plane.proofs.PlaneCounts.{few_tiles}
 use Rattle.block_rule.specs.Accounts.{counted_of}
 use Rattle.block_rule.specs.Windows.{taken_in}
 use Rattle.phase_step.specs.Parts.{own_rows, tile_in, IsOwn, IsPartOf}
@@ -7,8 +8,9 @@ use Rattle.phase_step.specs.Runs.{tiles_take}
 use Rattle.phase_step.specs.SolidBlocks.{AreTileSolids}
 use Rattle.phase_step.proofs.FlowSums.{counted_none}
 use Rattle.phase_step.proofs.Untaken.{own_untaken}
-use Rattle.phase_step.proofs.OwnTiles.{lattice_is, own_adds, own_cells, own_more, there_below, there_is, within_there}
+use Rattle.phase_step.proofs.OwnTiles.{lattice_is, own_cells, own_number, there_below, there_is, within_there}
 use Rattle.phase_step.proofs.RowRuns.{sides_on}
+use Rattle.phase_step.proofs.TileFlows.{take_next, take_fits}
 use Rattle.phase_step.proofs.parts.counting.count_part.Goals as goal
 use Rattle.phase_step.proofs.parts.counting.count_part.Goals.{After-count_tile-here}
 
@@ -39,9 +41,9 @@ in_tile-tile_solids-requires-clause-obstacles c =
 own : (c : After-count_tile-here) → IsOwn c.args.part c.args.particles.now c.loop-i.i
 own c = c.own_tiles-own.ensures.own c.loop-i.i c.loop-i.invariant.from c.loop-i-test.true
 
--- what is taken in the lattice's tile
+-- what is taken in the lattice's tile, by its place among the own ones
 takes : (c : After-count_tile-here) (lattice : Cells) → HasSidesOf c.args.solids.now.walls lattice → IsPartOf c.args.part c.args.particles.now lattice 64
-    → c.count_tile-here.result ≡ counted_of c.args.counted (taken_in (pos c.args.parity) lattice c.args.solids.now.walls c.args.solids.now.obstacles (tile_rectangle lattice (tile_in c.args.part (lattice.width / 64) c.loop-i.i)))
+    → c.count_tile-here.result ≡ counted_of c.args.counted (taken_in (pos c.args.parity) lattice c.args.solids.now.walls c.args.solids.now.obstacles (tile_rectangle lattice (c.args.part.first * (lattice.width / 64) + (c.loop-i.i - c.own_tiles-own.result.first))))
 takes c lattice sides is =
     let s = c.args.solids.now in
     let part = c.args.part in
@@ -53,6 +55,7 @@ takes c lattice sides is =
     c.count_tile-here.ensures lattice s.walls s.obstacles (tile_in part (lattice.width / 64) i) (lattice_is part cells lattice 64 is) (within_there part cells lattice i sized is.placed (own c)) sides (sides_on _ _ _ s.sides sides)
     (subst (λ j. AreTileSolids s.walls s.obstacles j c.in_tile-tile_solids.result) there c.in_tile-tile_solids.ensures)
     (own_cells part cells lattice i c.tile.result.now sized is (own c) c.tile.ensures)
+    ∙ ap (λ j. counted_of c.args.counted (taken_in (pos c.args.parity) lattice s.walls s.obstacles (tile_rectangle lattice j))) (own_number part cells lattice i t.result.first is.placed t.ensures.first)
 
 pub plus-took-requires : goal.plus-took-requires
 plus-took-requires c =
@@ -60,7 +63,9 @@ plus-took-requires c =
     let h = c.requires.ready in
     let t = c.own_tiles-own in
     let after = (goal.at.plus-took-requires c).After-count_tile-here in
-    let fits = own_adds c.args.parity c.args.part c.args.particles.now h.lattice s.walls s.obstacles c.args.counted c.loop-i.i 64 t.result.first c.loop-i.took c.count_tile-here.result t.ensures.lattice (own after) h.is t.ensures.first
+    let within = (own after).within in
+    let few = few_tiles c.args.particles.now c.loop-i.i t.ensures.lattice (omega (arith, within)) in
+    let fits = take_fits c.args.parity h.lattice s.walls s.obstacles c.args.counted (c.args.part.first * (h.lattice.width / 64)) (c.loop-i.i - t.result.first) _ c.loop-i.took c.count_tile-here.result (omega (arith, few))
     (c.loop-i.invariant.took h.lattice h.sides h.is) (takes after h.lattice h.sides h.is) in
     record { walls = fits.0; obstacles = fits.1 }
 
@@ -74,7 +79,7 @@ loop-i-preserved c =
       from = let l = c.loop-i.invariant.from in omega (arith, l);
       took = λ lattice sides is.
           c.plus-took.ensures
-          ∙ own_more c.args.parity c.args.part c.args.particles.now lattice w o c.args.counted c.loop-i.i 64 t.result.first c.loop-i.took c.count_tile-here.result t.ensures.lattice (own after) is t.ensures.first (c.loop-i.invariant.took lattice sides is) (takes after lattice sides is);
+          ∙ take_next c.args.parity lattice w o c.args.counted (c.args.part.first * (lattice.width / 64)) t.result.first c.loop-i.i c.loop-i.took c.count_tile-here.result c.loop-i.invariant.from (c.loop-i.invariant.took lattice sides is) (takes after lattice sides is);
     }
 
 pub returns-then-not-is_counted : goal.returns-then-not-is_counted
