@@ -170,7 +170,11 @@ fn particles_of_named_blocks_stay(rt: HostRuntime) {
     let none = Tile::empty();
     let near = no_border().neighbors();
     let (rows, mut blocks) = named;
-    expect_same(&rt, blocks.renew(rows, &window(&none, &near), SetBlocks::NONE, 5, 7), 0);
+    expect_same(
+        &rt,
+        blocks.renew(rows, &window(&none, &near), SetBlocks::NONE, 5, 7),
+        0,
+    );
     expect_same(&rt, blocks.even[5], 0);
 }
 
