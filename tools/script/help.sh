@@ -42,6 +42,7 @@ show_help() {
     elif is_package; then
         stop "$(tell_state)"
     else
+        take run
         take unproved
         need_unproved
         shows=${kept:?}
