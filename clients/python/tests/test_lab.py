@@ -516,6 +516,18 @@ class Looking(unittest.TestCase):
             with self.assertRaisesRegex(Strange, "no answer to 'read 0': "):
                 self.looked(other)
 
+    def test_memory_that_runs_out_is_a_refusal(self):
+        row = b"ROW " + 16 * b"0" + b"\n"
+        for rows, entry in ((b"ERR 14 memory\n", b"ERR 9 entry\n"), (row, b"ERR 14 memory\n")):
+            def answer(line):
+                word = line.split(" ")[0]
+                if word in ("read", "entry"):
+                    return {"read": rows, "entry": entry}[word]
+                return probed(line) if word == "probe" else typical(line)
+            with Fake(answer) as fake, joined(fake) as lab:
+                with self.assertRaisesRegex(Refused, "^ERR 14 memory: memory ran out; asked: "):
+                    lab.look()
+
     def test_entries_that_the_lattice_forbids_are_strange(self):
         row = b"ROW " + 16 * b"0" + b"\n"
         self.assertEqual(len(self.looked(row, ["drain 0 0 1 1"] * 16).drains), 16)

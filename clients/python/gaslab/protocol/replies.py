@@ -7,7 +7,7 @@ import numpy
 from numpy.typing import NDArray
 
 from .commands import MOST_ENTRIES, MOST_SEATS, SIDES, parse_change
-from .errors import Refused, Strange
+from .errors import GaslabError, Refused, Strange
 from .limits import REFUSALS, Size
 from .printable import printable
 
@@ -140,8 +140,10 @@ def _entry(rest: str) -> Optional[Entry]:
     return Entry(int(match[1]), match[2])
 
 
-def no_answer(line: str, reply: Reply) -> Strange:
-    """The fault of a reply that is none to this line."""
+def no_answer(line: str, reply: Reply) -> GaslabError:
+    """The fault of a reply that is none to this line. Memory can run out at any line: that is a refusal."""
+    if isinstance(reply, Refused) and reply.number == 14:
+        return reply
     return Strange(f"no answer to {line[:60]!r}: {printable(str(reply))[:80]}")
 
 
