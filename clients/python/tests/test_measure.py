@@ -78,6 +78,14 @@ class Every(unittest.TestCase):
             self.assertRaises(Refused, every, lab, 1, 1, probes={"out": (60, 0, 5, 1)})
             self.assertEqual(lab.tally().tick, 0)
 
+    def test_a_probe_with_the_name_of_another_column_is_refused(self):
+        area = (0, 0, 1, 1)
+        with run() as lab:
+            for probes, name in (({"d": area}, "d_count"), ({"a": area, "d_a": area}, "d_a_count")):
+                with self.assertRaisesRegex(ValueError, f"a probe has another name: {name} is a column"):
+                    every(lab, 1, 1, probes=probes)
+            self.assertEqual(lab.tick, 0)
+
     def test_rows_are_sent_ahead(self):
         """While a step is made, the lines of four rows have been sent, and no more."""
         def answer(line):

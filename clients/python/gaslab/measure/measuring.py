@@ -37,12 +37,15 @@ def every(lab: Lab, steps: SupportsIndex, times: SupportsIndex, ledger: bool = T
 
     The steps of the next rows are sent before the replies of a row are read. Raises `Refused` for a probe
     that is not inside before the first step, and for steps when those before are done; `ValueError` for an
-    unknown column, before the first step.
+    unknown column, or for a probe whose columns have names that others have, before the first step.
     """
     areas = dict(probes or {})
     names = ["tick", "count", "px", "py", *(Ledger._fields if ledger else ())]
     names += [f"{name}_{part}" for name in areas for part in ("count", "px", "py")]
     names += ["d_" + name for name in names[1:]]
+    twice = [name for name in names if names.count(name) > 1]
+    if twice:
+        raise ValueError(f"a probe has another name: {twice[0]} is a column already")
     wanted = names if columns is None else _known(columns, names)
     asked: list[_Line] = [("tally", Tally), *([("ledger", Ledger)] if ledger else []),
                           *(("probe {} {} {} {}".format(*area), Probe) for area in areas.values())]
