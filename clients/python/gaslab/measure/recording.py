@@ -58,10 +58,14 @@ class Recording(Mapping[str, Array]):
 
     @classmethod
     def load(cls, path: PathLike) -> "Recording":
-        """The recording in a file that `save` wrote. Raises `ValueError` if it is none."""
+        """The recording in a file that `save` wrote. Raises `ValueError` if it is none, or damaged."""
         _check_path(path)
-        with numpy.load(path) as file:
-            return cls({name: file[name] for name in file.files})
+        with open(path, "rb") as file:
+            try:
+                arrays = numpy.load(file)
+                return cls({name: arrays[name] for name in arrays.files})
+            except Exception as fault:  # of many kinds, by what is wrong with the file
+                raise ValueError(f"{path} can't be read as a recording: {fault}") from fault
 
 
 def _check_path(path: PathLike) -> None:
