@@ -330,6 +330,16 @@ class Words(unittest.TestCase):
         self.assertEqual(said("draw", script, "-o", png, "--scale", 2, *PROGRAM), (0, "", ""))
         self.assertEqual(read(png).cells((0, 114, 178)), {(2, 4), (3, 4), (2, 5), (3, 5)})
 
+    def test_draw_a_script_from_a_pipe(self):
+        source, sink = os.pipe()
+        os.write(sink, b"put 0 0 64 64\n")
+        os.close(sink)
+        try:
+            status, out, _ = said("draw", f"/dev/fd/{source}", *PROGRAM)
+        finally:
+            os.close(source)
+        self.assertEqual((status, set(out)), (0, {"\u2588", "\n"}))
+
     def test_a_script_names_the_size(self):
         script, png = self.path("script", "size 128 64 # wide\nput 1 2 1 1\n"), self.path("it.png")
         self.assertEqual(said("draw", script, "-o", png, "--scale", 1, *PROGRAM), (0, "", ""))
