@@ -15,6 +15,7 @@ from unittest import mock
 from gaslab import LIMITS, Lab, REFUSALS, Snapshot
 from gaslab.__main__ import WORDS, main
 from gaslab.cli.shell import Shell, help_text, prompted
+from gaslab.page.one_file import one_file
 from gaslab.protocol.commands import COMMANDS
 from gaslab.protocol.scripts import is_open, parse_script
 
@@ -339,6 +340,14 @@ class Words(unittest.TestCase):
         finally:
             os.close(source)
         self.assertEqual((status, set(out)), (0, {"\u2588", "\n"}))
+
+    def test_a_page_that_is_not_made_leaves_the_file_as_it_was(self):
+        kept = self.path("gas.html", "kept")
+        status, _, errors = said("page", "--to", kept, self.path("none.txt"))
+        self.assertEqual((status, kept.read_text(), os.listdir(self.room)), (1, "kept", ["gas.html"]))
+        self.assertIn("none.txt", errors)
+        self.assertEqual(said("page", "--to", kept), (0, "", ""))
+        self.assertEqual(kept.read_text("utf-8"), one_file())
 
     def test_a_script_names_the_size(self):
         script, png = self.path("script", "size 128 64 # wide\nput 1 2 1 1\n"), self.path("it.png")

@@ -26,7 +26,7 @@ from ..protocol.printable import printable
 from ..protocol.programs import find_program
 from ..protocol.replies import Row, parse_reply, show_cells
 from ..protocol.scripts import Script, parse_script, read_text
-from ..snapshot.files import Snapshot
+from ..snapshot.files import Snapshot, draft
 from ..snapshot.gases import random_gas
 from ..snapshot.rectangles import cover
 from .options import gas_of, is_snapshot, lab_of, until_quit
@@ -132,8 +132,8 @@ def page(asked: argparse.Namespace) -> Optional[int]:
         raise ValueError("--to makes a file of a script or a snapshot, not of a server's gas")
     asked.file = asked.gas[0] if len(asked.gas) == 1 else None
     if asked.to:
-        with open(asked.to, "w", encoding="utf-8") as made:
-            made.write(one_file(*_contents(asked)))
+        with draft(asked.to) as made:
+            made.write(one_file(*_contents(asked)).encode())
         return None
     return serve(asked, _joined if len(asked.gas) == 2 else _own)
 
