@@ -120,6 +120,10 @@ class Shells(unittest.TestCase):
         out, _ = self.done("names off; put 0 0 1 1; tally; entry 0")
         self.assertEqual(out, "OK 0\nTALLY 0 1 1 1\nENTRY 0 put 0 0 1 1\n")
 
+    def test_names_are_on_or_off(self):
+        out, _ = self.done("names of", "unport")
+        self.assertEqual(out, "names takes on or off, and not of\nOK index 0\n")
+
     def test_limits_stand_beside_refusals(self):
         out, shell = self.done("step 5000; step 0")
         self.assertEqual(out, "ERR 6 steps: n is 1 to 4,096, and not 5000\n"
@@ -173,7 +177,8 @@ class Shells(unittest.TestCase):
     def test_play_stops_at_the_first_refusal_and_names_its_line(self):
         out, shell = self.played(b"put 0 0 1 1\n\n# x\nput 64 0 1 1\nstep 1\n")
         self.assertEqual(out.splitlines()[0::2], ["OK 0", "TALLY 0 1 1 1"])
-        self.assertRegex(out.splitlines()[1], "^line 4: ERR 5 rect: .*; asked: put 64 0 1 1$")
+        self.assertEqual(out.splitlines()[1],
+                         "line 4: ERR 5 rect: x is 0 to 63, and not 64; asked: put 64 0 1 1")
         self.assertEqual(shell.refusals, 1)
 
     def test_play_of_what_is_no_script(self):

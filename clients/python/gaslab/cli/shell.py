@@ -81,7 +81,7 @@ class Shell:
         for place, command in script.commands():
             reply = self._one(command)
             if stops and isinstance(reply, Refused):
-                raise Refused(reply.number, reply.word, reply.line, place)
+                raise reply.at(place)
             if reply is not None:
                 self._say(reply)
             if self.has_ended:
@@ -160,7 +160,9 @@ class Shell:
 
     def word_names(self, on_or_off: str) -> None:
         """replies with names, or as they come"""
-        self.with_names = {"on": True, "off": False}.get(on_or_off, self.with_names)
+        if on_or_off not in ("on", "off"):
+            raise ValueError(f"names takes on or off, and not {on_or_off[:40]}")
+        self.with_names = on_or_off == "on"
 
     def word_help(self, word: str = "") -> None:
         """tells about a word, or which words there are"""
