@@ -263,7 +263,9 @@ class Interrupts(unittest.TestCase):
                 return it
             raise it
         with mock.patch("builtins.input", answer), contextlib.redirect_stderr(io.StringIO()):
-            self.assertEqual(list(prompted(None)), ["put 0 0 1 1", "tally"])
+            with tempfile.TemporaryDirectory() as room:
+                found = list(prompted(os.path.join(room, "history")))
+        self.assertEqual(found, ["put 0 0 1 1", "tally"])
 
     def test_in_a_terminal(self):
         """A shell in a terminal of its own: Ctrl-C in a long run, then another command."""

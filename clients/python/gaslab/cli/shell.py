@@ -180,8 +180,8 @@ Shell.WORDS = {name[len("word_"):]: method for name, method in vars(Shell).items
                if name.startswith("word_")}
 
 
-def prompted(history: Optional[str]) -> Iterator[str]:
-    """What is typed at a prompt, a whole text at a time, with a history if the system has one.
+def prompted(history: str) -> Iterator[str]:
+    """What is typed at a prompt, a whole text at a time, with a history in this file if Python has readline.
 
     Ctrl-C drops what is typed, and Ctrl-D ends.
     """
