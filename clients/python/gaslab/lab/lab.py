@@ -13,7 +13,7 @@ from ..protocol.doors import PathLike, Program, Server
 from ..protocol.errors import Moving, Strange
 from ..protocol.limits import Size
 from ..protocol.link import Door, Replies, lines_of
-from ..protocol.numbers import whole
+from ..protocol.numbers import whole, whole_steps
 from ..protocol.programs import executable, find_program
 from ..protocol.replies import Bye, Entry, Ledger, Ok, Probe, Reply, Row, Saved, Tally
 from ..protocol.scripts import Script, ScriptLike, script_of
@@ -194,7 +194,7 @@ class Lab:
         `progress` is told after each command how many steps are done, and how many there are in all. Raises
         `Refused` as `step` and `back` do, when the steps before are done.
         """
-        wanted, most = whole("steps", steps, -2 ** 41, 2 ** 41), whole("each", each, 1, MOST_STEPS)
+        wanted, most = whole_steps(steps), whole("each", each, 1, MOST_STEPS)
         done, total = 0, abs(wanted)
         with Told("steps", total, progress) as tell:
             while done < total:
@@ -270,7 +270,7 @@ class Lab:
         Returns the change's place in the journal. Raises `ValueError` for other cells, and `Refused` for no
         row (5), other digits (8), or if the journal is full (13).
         """
-        place = whole("y", y, -2 ** 63, 2 ** 63)
+        place = whole("y", y)
         if not isinstance(cells, str):
             found, width = as_truth(cells, "a row"), self.size[0]
             if found.shape != (width,):
@@ -414,7 +414,7 @@ class Lab:
 
     def _asked(self, kind: type[Kind], word: str, *numbers: SupportsIndex) -> Kind:
         names = COMMANDS[word].words.split()
-        told = [str(whole(name, it, -2 ** 63, 2 ** 63)) for name, it in zip(names, numbers)]
+        told = [str(whole(name, it)) for name, it in zip(names, numbers)]
         return self._session.expect(kind, " ".join((word, *told)))
 
     # ---- the whole gas

@@ -57,7 +57,7 @@ def ensemble(f: Callable[[Lab, int], Any], seeds: Union[SupportsIndex, Iterable[
 
 def _seeds(seeds: Union[SupportsIndex, Iterable[SupportsIndex]]) -> list[int]:
     given = seeds if isinstance(seeds, Iterable) else range(1, whole("seeds", seeds, 0, 2 ** 32) + 1)
-    chosen = [whole("a seed", seed, -2 ** 63, 2 ** 63) for seed in given]
+    chosen = [whole("a seed", seed) for seed in given]
     if len(chosen) < 2 or len(set(chosen)) < len(chosen):
         raise ValueError("an ensemble has at least two seeds, each once: one run has no standard error")
     return chosen

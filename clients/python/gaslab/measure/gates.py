@@ -7,7 +7,7 @@ import numpy
 
 from ..lab.lab import Lab
 from ..lab.progress import Progress, Told
-from ..protocol.numbers import whole
+from ..protocol.numbers import whole, whole_steps
 from ..protocol.replies import Ok
 from ..protocol.scripts import ScriptLike, script_of
 from .areas import Areas, rectangles_of
@@ -29,7 +29,7 @@ def shoot(lab: Lab, x: SupportsIndex, y: SupportsIndex, vx: SupportsIndex, vy: S
     """
     (width, height), tick = lab.size, lab.tick
     across, down = whole("x", x, 0, width - 1), whole("y", y, 0, height - 1)
-    wanted = whole("vx", vx, -2 ** 63, 2 ** 63), whole("vy", vy, -2 ** 63, 2 ** 63)
+    wanted = whole("vx", vx), whole("vy", vy)
     if set(wanted) - {1, -1}:
         raise ValueError(f"vx and vy are 1 or -1, and not {wanted}")
     flies = _velocity(across + tick), _velocity(down + tick)
@@ -53,7 +53,7 @@ def trace(lab: Lab, steps: SupportsIndex) -> Table:
     velocity `vx`, `vy`. At each tick they are in the order of rows. Raises `ValueError` if there are more
     than 64 particles.
     """
-    rows, total = [], whole("steps", steps, -2 ** 41, 2 ** 41)
+    rows, total = [], whole_steps(steps)
     for done in range(abs(total) + 1):
         if done:
             lab.advance(1 if total > 0 else -1)

@@ -11,7 +11,7 @@ from ..lab.progress import Progress, Told
 from ..lab.session import of_kind
 from ..protocol.commands import MOST_STEPS
 from ..protocol.errors import Refused
-from ..protocol.numbers import whole
+from ..protocol.numbers import whole, whole_steps
 from ..protocol.replies import Ledger, Ok, Probe, Tally
 from ..snapshot.counting import in_columns, in_rows, in_squares, side_of_squares
 from ..snapshot.files import Snapshot
@@ -49,7 +49,7 @@ def every(lab: Lab, steps: SupportsIndex, times: SupportsIndex, ledger: bool = T
     wanted = names if columns is None else _known(columns, names)
     asked: list[_Line] = [("tally", Tally), *([("ledger", Ledger)] if ledger else []),
                           *(("probe {} {} {} {}".format(*area), Probe) for area in areas.values())]
-    moves, number = _moves(whole("steps", steps, -2 ** 41, 2 ** 41)), whole("times", times, 0, 10 ** 9)
+    moves, number = _moves(whole_steps(steps)), whole("times", times, 0, 10 ** 9)
     before, rows = next(_measured(lab, asked, 1)), []
     with Told("every", number, progress) as tell:
         for now in _measured(lab, [*moves, *asked], number):

@@ -10,7 +10,7 @@ from ..lab.lab import Lab
 from ..lab.progress import Progress, Told
 from ..protocol.doors import PathLike
 from ..protocol.limits import Size
-from ..protocol.numbers import whole
+from ..protocol.numbers import whole, whole_steps
 from ..snapshot.counting import side_of_squares
 from ..snapshot.files import draft
 from ..snapshot.rectangles import Rectangle
@@ -88,7 +88,7 @@ def record(lab: Lab, steps: SupportsIndex, times: SupportsIndex, mean: SupportsI
     `progress` is told how many of the `times + 1` are done. Raises `ValueError`, before the first step, for
     an unknown name, or unless `times` is 0 or more and `mean` divides both sides.
     """
-    between, number = whole("steps", steps, -2 ** 41, 2 ** 41), whole("times", times, 0, 10 ** 9) + 1
+    between, number = whole_steps(steps), whole("times", times, 0, 10 ** 9) + 1
     asked = _Asked(lab.size, mean, _known("fields", fields, FIELDS), _known("profiles", profiles, _ALONG),
                    dict(probes or {}))
     with Told("record", number, progress) as tell:

@@ -8,7 +8,7 @@ from ..lab.lab import Lab
 from ..lab.progress import Progress, Told
 from ..protocol.doors import PathLike
 from ..protocol.errors import library
-from ..protocol.numbers import whole
+from ..protocol.numbers import whole, whole_steps
 from ..snapshot.files import draft
 from .drawing import Image, drawn, kind_of
 
@@ -33,7 +33,7 @@ def film(lab: Lab, path: PathLike, steps: SupportsIndex, frames: SupportsIndex,
     """
     kind = kind_of(path, _KINDS, "a film")
     number, pause = whole("frames", frames, 1, 10 ** 9), whole("milliseconds", milliseconds, 1, 65535)
-    between = whole("steps", steps, -2 ** 41, 2 ** 41)
+    between = whole_steps(steps)
 
     def frame() -> Image:
         return drawn(lab.look(), scale, mean, colour, show, limit)

@@ -9,14 +9,13 @@ from typing import Any, BinaryIO, NamedTuple, Optional, SupportsIndex
 
 from numpy.typing import ArrayLike
 
-from ..protocol.commands import MOST_PORTS, SIDES
+from ..protocol.commands import MOST_PORTS, MOST_SNAPSHOT, MOST_TICK, SIDES
 from ..protocol.doors import PathLike
 from ..protocol.errors import GaslabError
-from ..protocol.numbers import whole
+from ..protocol.numbers import whole_tick
 from .cells import Cells, array_of, as_cells, check_sides, plane_of
 from .counting import count_in_squares
 
-_LONGEST = 6291766  # bytes
 _LARGEST_SIDE = {b"HPPGAS1\n": 2048, b"HPPGAS2\n": 4096}
 
 
@@ -125,7 +124,7 @@ class Snapshot:
                              + (" and ".join(map(str, sorted(shapes))) or "none is given"))
         (height, width), = shapes
         planes = [plane_of(given[name]) if name in given else b"" for name in named]
-        now = whole("tick", tick or 0, -2 ** 40, 2 ** 40)
+        now = whole_tick(tick)
         gas = cls(width, height, now, tuple(Drain(*it) for it in drains),
                   tuple(Source(*it) for it in sources), planes[0], planes[1], planes[2])
         try:
@@ -137,7 +136,7 @@ class Snapshot:
     def read(cls, path: PathLike) -> "Snapshot":
         """The snapshot in a file. Raises a `SnapshotFault`, or `OSError` from the file."""
         with open(path, "rb") as file:
-            return cls.from_bytes(file.read(_LONGEST + 1))
+            return cls.from_bytes(file.read(MOST_SNAPSHOT + 1))
 
     @classmethod
     def from_bytes(cls, data: bytes) -> "Snapshot":
@@ -202,7 +201,7 @@ class _Reader:
         if not all(side in SIDES and side <= _LARGEST_SIDE[magic] for side in (width, height)):
             raise SizeFault(f"{width} by {height} in a snapshot that begins with {magic!r}")
         tick, = self.take(">q", "the tick")
-        if abs(tick) > 2 ** 40:
+        if abs(tick) > MOST_TICK:
             raise TickFault(f"{tick} is not from -2^40 to 2^40")
         drains, sources = self.take("BB", "the counts of ports")
         if drains > MOST_PORTS or sources > MOST_PORTS:
