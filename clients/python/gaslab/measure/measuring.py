@@ -13,6 +13,7 @@ from ..protocol.commands import MOST_STEPS
 from ..protocol.errors import Refused
 from ..protocol.numbers import whole, whole_steps
 from ..protocol.replies import Ledger, Ok, Probe, Tally
+from ..snapshot.cells import directions
 from ..snapshot.counting import in_columns, in_rows, in_squares, side_of_squares
 from ..snapshot.files import Snapshot
 from ..snapshot.rectangles import Rectangle
@@ -150,8 +151,7 @@ def wave(gas: Gas, across: SupportsIndex, down: SupportsIndex = 0,
     right, below = (numpy.exp(-2j * numpy.pi * number * numpy.arange(side) / side) / side
                     for number, side in zip(lengths, (found.width, found.height)))
     cells = found.particles.astype(numpy.int8)
-    to_right, to_bottom = (1 - 2 * ((numpy.arange(side) + found.tick) % 2)
-                           for side in (found.width, found.height))
+    to_right, to_bottom = (directions(side, found.tick) for side in (found.width, found.height))
     density, px, py = (complex(2 * (below * rows) @ (cells @ (right * columns))) for rows, columns in (
         (1, 1), (1, to_right), (to_bottom, 1)))
     return Wave(density, px, py)

@@ -53,6 +53,19 @@ def as_cells(cells: ArrayLike, what: str = "the array") -> Cells:
     return found
 
 
+def direction(place: int, tick: int) -> int:
+    """Which way a particle in this column moves at a tick: 1 to the right, -1 to the left.
+
+    By its row it moves 1 downwards or -1 upwards.
+    """
+    return 1 - 2 * ((place + tick) % 2)
+
+
+def directions(side: int, tick: int) -> NDArray[numpy.int64]:
+    """The same of all columns or rows of a lattice, from 0 on."""
+    return 1 - 2 * ((numpy.arange(side, dtype=numpy.int64) + tick) % 2)
+
+
 def plane_of(cells: Cells) -> bytes:
     """The packed plane, or row, of an array of truth values."""
     return numpy.packbits(cells, axis=-1).tobytes()

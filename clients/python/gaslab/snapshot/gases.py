@@ -5,7 +5,7 @@ from typing import Optional, SupportsIndex, Union
 import numpy
 
 from ..protocol.numbers import whole, whole_tick
-from .cells import Cells, check_sides, plane_of
+from .cells import Cells, check_sides, directions, plane_of
 
 Drift = Union[float, tuple[float, float]]
 """The mean velocity to the right, or a pair with that downwards, in columns and rows a step."""
@@ -43,7 +43,6 @@ def random_rows(width: SupportsIndex, height: SupportsIndex, density: float, dri
                          "lab.tick for that of a laboratory")
     # its numbers stay the same in each version of numpy
     draw = numpy.random.RandomState(None if seed is None else whole("seed", seed, 0, 2 ** 32 - 1))
-    now = whole_tick(tick)
-    right, down = (1 - 2 * ((numpy.arange(int(side)) + now) % 2) for side in (width, height))
+    right, down = (directions(int(side), whole_tick(tick)) for side in (width, height))
     across = 1 + drift_x * right
     return (draw.random_sample(across.size) < share * across for share in density * (1 + drift_y * down))
