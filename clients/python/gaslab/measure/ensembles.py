@@ -12,7 +12,7 @@ from ..lab.lab import Lab
 from ..lab.progress import Progress, Told
 from ..protocol.errors import GaslabError
 from ..protocol.numbers import whole
-from .tables import Table, columns_of, table_of
+from .tables import Table, columns_of, table_of_columns
 
 _PLACES = ("tick", "from", "to")
 """Columns that say when or where a row was measured."""
@@ -152,4 +152,4 @@ def _summary(runs: Mapping[int, Columns]) -> Table:
             raise ValueError(f"{name} is not the same in all runs, so their rows can't be compared")
         else:
             columns[name] = values[0]
-    return table_of(list(columns), list(zip(*columns.values())))
+    return table_of_columns(columns)

@@ -17,7 +17,7 @@ from ..snapshot.cells import directions
 from ..snapshot.counting import in_columns, in_rows, in_squares, side_of_squares
 from ..snapshot.files import Snapshot
 from ..snapshot.rectangles import Rectangle
-from .tables import Table, table_of
+from .tables import Table, check_columns, table_of, table_of_columns
 
 Numbers = NDArray[numpy.float64]
 _AHEAD = 4  # rows of a table that are asked for ahead
@@ -65,9 +65,7 @@ def _known(columns: Sequence[str], names: list[str]) -> list[str]:
     """The columns that are wanted, if all are known."""
     if isinstance(columns, str):
         raise ValueError(f"columns is a list of names, as in columns=[{columns!r}], and not a text")
-    for name in columns:
-        if name not in names:
-            raise ValueError(f"no column {name}: there are {', '.join(names)}")
+    check_columns(columns, names)
     return list(columns)
 
 
@@ -175,5 +173,5 @@ def profile(gas: Gas, along: str = "x", bins: Optional[SupportsIndex] = None,
     sums = (in_columns if along == "x" else in_rows)(found.particle_bytes, found.width, found.tick)
     count, px, py = (numpy.add.reduceat(part, edges[:-1]) for part in sums)
     density = count / (edges[1:] - edges[:-1]) / breadth
-    return table_of(("from", "to", "count", "density", "px", "py"),
-                    list(zip(edges[:-1], edges[1:], count, density, px, py)))
+    return table_of_columns({"from": edges[:-1], "to": edges[1:], "count": count, "density": density,
+                             "px": px, "py": py})
