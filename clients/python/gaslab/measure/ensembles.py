@@ -144,6 +144,8 @@ def _summary(runs: Mapping[int, Columns]) -> Table:
             raise ValueError(f"seeds {first} and {seed} returned other columns, or not as many rows")
     columns: Columns = {}
     for name in wanted:
+        if name + "_error" in wanted:
+            raise ValueError(f"{name}_error is the standard error of {name}: no run returns it")
         values = numpy.array([found[name] for found in runs.values()])
         if name not in _PLACES:
             columns[name] = values.mean(axis=0)
