@@ -587,6 +587,16 @@ class Setting(unittest.TestCase):
             self.assertEqual(lab.set(particles=self.disc), 0)
             self.assertEqual(lab.set(obstacles=numpy.zeros((64, 64), int)), 1)
 
+    def test_replies_that_are_none_to_a_change(self):
+        """A server of 64 by 64, with no entries, that answers each row by a tally."""
+        def answer(line):
+            word = line.split(" ")[0]
+            return {"row": b"TALLY 0 0 0 0\n", "entry": b"ERR 9 entry\n"}.get(word) or (
+                probed(line) if word == "probe" else typical(line))
+        with Fake(answer) as fake, joined(fake) as lab:
+            with self.assertRaisesRegex(Strange, "no answer to 'row 0 [0-9a-f]{16}': Tally"):
+                lab.fill(0.5, seed=1)
+
     def test_wrong_shapes(self):
         with run(width=128) as lab:
             for name, shape in (("particles", (64, 64)), ("walls", (128, 64))):
