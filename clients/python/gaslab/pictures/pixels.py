@@ -20,10 +20,10 @@ _KINDS = numpy.array([[palette.LEFT_UP, palette.LEFT_DOWN],
                       [palette.RIGHT_UP, palette.RIGHT_DOWN]], numpy.uint8)
 
 
-def check_looks(gas: Snapshot, mean: Optional[SupportsIndex], colour: str) -> Optional[int]:
-    """Raises `ValueError` unless a gas can be drawn in squares of so many cells and so coloured.
+def checked_mean(gas: Snapshot, mean: Optional[SupportsIndex], colour: str) -> Optional[int]:
+    """`mean` as an `int`, or None.
 
-    Returns `mean` as an `int`, or None.
+    Raises `ValueError` unless a gas can be drawn in squares of so many cells and so coloured.
     """
     if colour not in COLOURS:
         raise ValueError(f"colour is one of {', '.join(COLOURS)}, and not {colour!r}")

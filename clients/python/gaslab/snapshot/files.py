@@ -81,7 +81,7 @@ class Snapshot:
     `width` and `height` are in cells, `tick` in steps. The three sets of cells are packed planes of `width *
     height / 8` bytes; `particles`, `walls` and `obstacles` are the same as arrays of truth values of shape
     (height, width), which are made once and can't be written: `.copy()` can. Drains and sources are in the
-    order in which they were added.
+    order in which they were added. `version` is that of the file that it was read from; `write` writes 2.
     """
     width: int
     height: int
