@@ -75,6 +75,12 @@ class WhichProgram(unittest.TestCase):
                 self.assertEqual(line, f"    (cd {self.room} && ./gaslab --build)")
                 self.assertIn("program= (--program) or GASLAB_PROGRAM", last)
 
+    def test_a_script_that_the_system_cannot_start(self):
+        script = self.script(0)
+        script.write_text("#!/no/such/interpreter --is-built\n")
+        with self.own(), self.assertRaisesRegex(Unreachable, "does not say whether it is built. This line"):
+            Lab.run()
+
     def test_the_line_that_builds_it_can_be_pasted(self):
         """By a shell, in a folder whose name has a blank and a quote."""
         self.room = self.room / "a clone's"
