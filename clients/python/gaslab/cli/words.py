@@ -146,9 +146,10 @@ def _contents(asked: argparse.Namespace) -> tuple[str, Optional[bytes]]:
     if asked.file and asked.load:
         raise ValueError("a file beside --load needs a program")
     if is_snapshot(path):
-        Snapshot.read(path)
         with open(path, "rb") as file:
-            return os.path.basename(path), file.read()
+            data = file.read()
+        Snapshot.from_bytes(data)  # which raises what is wrong with it
+        return os.path.basename(path), data
     script = parse_script(read_text(path))
     first = [f"size {script.size[0]} {script.size[1]}"] if script.size else []
     lines = [*first, *(command for _, command in script.commands())]
