@@ -202,6 +202,7 @@ class Shells(unittest.TestCase):
                                "picture", "tally")
         self.assertIn("is not closed", out)
         self.assertIn("colour is one of kind, velocity", out)
+        self.assertIn("'x' is no whole number\n", out)
         self.assertTrue(out.endswith("TALLY tick 0, count 0, px 0, py 0\n"))
         self.assertFalse(shell.has_ended)
 
