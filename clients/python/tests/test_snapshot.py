@@ -243,6 +243,15 @@ class Drafts(unittest.TestCase):
         self.assertEqual(self.path.read_bytes(), b"new")
         self.assertEqual(os.listdir(self.path.parent), ["it"])
 
+    def test_two_at_a_time(self):
+        """Of several threads, or one that a process with the same number left when it was killed."""
+        with draft(self.path) as last:
+            with draft(self.path) as first:
+                first.write(b"first")
+            last.write(b"last")
+            self.assertEqual(self.path.read_bytes(), b"first")
+        self.assertEqual(self.path.read_bytes(), b"last")
+
     def test_a_link_stays_a_link(self):
         link = self.path.with_name("link")
         link.symlink_to(self.path)

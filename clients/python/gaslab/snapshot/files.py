@@ -5,6 +5,7 @@ from collections.abc import Iterable, Iterator
 from contextlib import contextmanager
 from dataclasses import dataclass, field
 from functools import cached_property
+from secrets import token_hex
 from typing import Any, BinaryIO, NamedTuple, Optional, SupportsIndex
 
 from numpy.typing import ArrayLike
@@ -234,7 +235,7 @@ def draft(path: PathLike) -> Iterator[BinaryIO]:
     place = os.path.realpath(path)
     is_file = os.path.isfile(place) or not os.path.exists(place)
     folder, name = os.path.split(place)
-    beside = os.path.join(folder, f".{name}.{os.getpid()}.tmp") if is_file else place
+    beside = os.path.join(folder, f".{name}.{token_hex(4)}.tmp") if is_file else place
     file = open(beside, "xb" if is_file else "wb")
     try:
         with file:
