@@ -243,6 +243,12 @@ class Drafts(unittest.TestCase):
         self.assertEqual(self.path.read_bytes(), b"new")
         self.assertEqual(os.listdir(self.path.parent), ["it"])
 
+    def test_a_fault_names_the_path_that_was_given(self):
+        path = self.path / "none" / "it"
+        with self.assertRaises(FileNotFoundError) as caught, draft(path):
+            pass
+        self.assertEqual(caught.exception.filename, str(path))
+
     def test_two_at_a_time(self):
         """Of several threads, or one that a process with the same number left when it was killed."""
         with draft(self.path) as last:

@@ -236,7 +236,11 @@ def draft(path: PathLike) -> Iterator[BinaryIO]:
     is_file = os.path.isfile(place) or not os.path.exists(place)
     folder, name = os.path.split(place)
     beside = os.path.join(folder, f".{name}.{token_hex(4)}.tmp") if is_file else place
-    file = open(beside, "xb" if is_file else "wb")
+    try:
+        file = open(beside, "xb" if is_file else "wb")
+    except OSError as fault:
+        fault.filename = os.fspath(path)  # nobody knows the other name
+        raise
     try:
         with file:
             yield file
