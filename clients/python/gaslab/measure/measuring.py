@@ -41,8 +41,8 @@ def every(lab: Lab, steps: SupportsIndex, times: SupportsIndex, ledger: bool = T
     unknown column, or for a probe whose columns have names that others have, before the first step.
     """
     areas = dict(probes or {})
-    names = ["tick", "count", "px", "py", *(Ledger._fields if ledger else ())]
-    names += [f"{name}_{part}" for name in areas for part in ("count", "px", "py")]
+    names = [*Tally._fields, *(Ledger._fields if ledger else ())]
+    names += [f"{name}_{part}" for name in areas for part in Probe._fields]
     names += ["d_" + name for name in names[1:]]
     twice = [name for name in names if names.count(name) > 1]
     if twice:

@@ -11,17 +11,18 @@ from ..lab.progress import Progress, Told
 from ..protocol.doors import PathLike
 from ..protocol.limits import Size
 from ..protocol.numbers import whole, whole_steps
+from ..protocol.replies import Probe
 from ..snapshot.counting import side_of_squares
 from ..snapshot.files import draft
 from ..snapshot.rectangles import Rectangle
-from .measuring import profile, velocity
+from .measuring import Fields, profile, velocity
 
 Array = NDArray[Any]
 
-FIELDS = ("density", "px", "py")
+FIELDS = Fields._fields
 """The fields that can be recorded."""
 _ALONG = ("x", "y")
-_SUMS = ("count", "px", "py")
+_SUMS = Probe._fields
 
 
 class Recording(Mapping[str, Array]):
