@@ -219,6 +219,10 @@ class Arrays(unittest.TestCase):
         self.assertRaisesRegex(ValueError, "one shape", Snapshot.from_arrays, one, other, tick=0)
         self.assertRaisesRegex(ValueError, "none is given", Snapshot.from_arrays)
         self.assertRaises(PortFault, Snapshot.from_arrays, one, drains=[(60, 0, 5, 1)], tick=0)
+        for ports in ({"drains": [(0, 0, 5)]}, {"drains": [(0, 0, 5, 1.5)]}, {"drains": [(0, -1, 5, 1)]},
+                      {"sources": [(0, 0, 5, 1)]}, {"drains": 300 * [(0, 0, 1, 1)]}, {"drains": [7]}):
+            with self.assertRaisesRegex(ValueError, "a drain is .x, y, w, h. and a source"):
+                Snapshot.from_arrays(one, tick=0, **ports)
         for wish in ({"tick": 2 ** 41}, {"tick": 2 ** 70}, {"drains": [(-1, 0, 1, 1)]},
                      {"drains": [(0, 0, 1, 1)] * 300}):
             self.assertRaises(ValueError, Snapshot.from_arrays, one, **{"tick": 0, **wish})

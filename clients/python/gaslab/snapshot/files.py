@@ -126,12 +126,13 @@ class Snapshot:
         (height, width), = shapes
         planes = [plane_of(given[name]) if name in given else b"" for name in named]
         now = whole_tick(tick)
-        gas = cls(width, height, now, tuple(Drain(*it) for it in drains),
-                  tuple(Source(*it) for it in sources), planes[0], planes[1], planes[2])
         try:
+            gas = cls(width, height, now, tuple(Drain(*it) for it in drains),
+                      tuple(Source(*it) for it in sources), planes[0], planes[1], planes[2])
             return cls.from_bytes(gas.to_bytes())
-        except struct.error as fault:
-            raise ValueError(f"a port is out of range: {fault}") from None
+        except (struct.error, TypeError) as fault:
+            raise ValueError(f"a drain is (x, y, w, h) and a source (x, y, w, h, period), of whole numbers "
+                             f"from 0, and there are at most {MOST_PORTS} of each: {fault}") from None
 
     @classmethod
     def read(cls, path: PathLike) -> "Snapshot":
