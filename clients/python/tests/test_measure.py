@@ -296,6 +296,13 @@ class Waves(unittest.TestCase):
             found = wave(lab, 1)
         self.assertAlmostEqual(abs(found.density), 2 / 64 / math.sin(math.pi / 64))
 
+    def test_of_columns_in_turn(self):
+        """The density is 1/2 + 1/2 * cos(pi * x), and of squares in turn 1/2 + 1/2 * cos(pi * (x + y))."""
+        y, x = numpy.ogrid[:64, :128]
+        for cells, across, down in (((x + 0 * y) % 2 == 0, 64, 0), ((x + y) % 2 == 0, 64, 32)):
+            found = wave(cells, across, down, tick=0)
+            self.assertAlmostEqual(found.density, 0.5)
+
     def test_no_wave(self):
         self.assertRaisesRegex(ValueError, "at least one length", wave, numpy.zeros((64, 64)), 0)
 

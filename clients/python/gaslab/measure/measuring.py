@@ -150,7 +150,10 @@ def wave(gas: Gas, across: SupportsIndex, down: SupportsIndex = 0,
                     for number, side in zip(lengths, (found.width, found.height)))
     cells = found.particles.astype(numpy.int8)
     to_right, to_bottom = (directions(side, found.tick) for side in (found.width, found.height))
-    density, px, py = (complex(2 * (below * rows) @ (cells @ (right * columns))) for rows, columns in (
+    # a wave has two terms, of which a sum finds one; that of columns or rows in turn has one
+    is_in_turn = all(2 * number % side == 0 for number, side in zip(lengths, (found.width, found.height)))
+    terms = 1 if is_in_turn else 2
+    density, px, py = (complex(terms * (below * rows) @ (cells @ (right * columns))) for rows, columns in (
         (1, 1), (1, to_right), (to_bottom, 1)))
     return Wave(density, px, py)
 
