@@ -16,7 +16,7 @@ def check_sides(width: object, height: object) -> None:
     """Raises `ValueError` unless a lattice may be so wide and so high."""
     if width not in SIDES or height not in SIDES:
         raise ValueError("sides are multiples of 64 from 64 to 4,096, and not "
-                         f"{width} by {height} (width by height)")
+                         f"{width!r} by {height!r} (width by height)")
 
 
 def as_truth(given: ArrayLike, what: str) -> Cells:
