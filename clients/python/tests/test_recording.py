@@ -87,7 +87,7 @@ class Files(unittest.TestCase):
                 path.write_bytes(data)
                 with self.assertRaisesRegex(ValueError, "run.npz can't be read as a recording: "):
                     Recording.load(path)
-            for at in range(0, len(whole), 9):
+            for at in range(0, len(whole), 50):
                 path.write_bytes(whole[:at] + bytes([whole[at] ^ 255]) + whole[at + 1:])
                 with suppress(ValueError):  # some bytes, such as those of a date, are not read
                     Recording.load(path)
