@@ -68,7 +68,8 @@ class Faults(unittest.TestCase):
 
     def test_streams_that_are_closed(self):
         for streams in ("<&-", "</dev/null >&-", ">/dev/full"):
-            done = subprocess.run(f"exec {sys.executable} {TOOL} {streams}", shell=True, capture_output=True, input=b"tally\n")
+            done = subprocess.run(f"exec {sys.executable} {TOOL} {streams}", shell=True, capture_output=True,
+                                  input=b"tally\n")
             self.assertEqual((done.stdout, done.returncode, done.stderr), (b"", 1, b""), streams)
 
     def test_any_bytes_get_a_line_each(self):

@@ -150,6 +150,10 @@ class Faults(unittest.TestCase):
             ensemble(lambda lab, seed: 0, 2, workers=0, **OPTIONS)
         self.assertRaises(TypeError, ensemble, lambda lab, seed: 0, [1, 1.5], **OPTIONS)
 
+    def test_a_name_of_a_standard_error_is_not_a_name_of_a_mean(self):
+        with self.assertRaisesRegex(ValueError, "a_error is the standard error of a: no run returns it"):
+            ensemble(lambda lab, seed: {"a_error": 5, "a": seed}, 2, **OPTIONS)
+
     def test_runs_that_cannot_be_compared(self):
         for f, what in (
                 (lambda lab, seed: {str(seed): 0}, "seeds 1 and 2 returned other columns"),

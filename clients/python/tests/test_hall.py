@@ -15,7 +15,7 @@ from gaslab.page.hall import Hall
 from gaslab.page.laboratory import Laboratory, Means
 from gaslab.page.outbox import Outbox
 from gaslab.page.rooms import place, room, sweep
-from gaslab.protocol.scripts import journal_script
+from gaslab.protocol.scripts import journal_lines
 
 from .fake import Fake
 from .test_lab import STAND_IN
@@ -466,10 +466,10 @@ class Scripts(unittest.TestCase):
     def test_a_journal_as_a_script(self):
         """Steps that follow one another are joined, as far as one command makes them."""
         commands = ["step 1", "step 2", "put 0 0 1 1", "step 4095", "step 1", "step 1", "back 1", "back 4096"]
-        self.assertEqual(journal_script((128, 64), commands),
+        self.assertEqual("".join(journal_lines((128, 64), commands)),
                          "probe 0 0 128 64\nstep 3\nput 0 0 1 1\nstep 4096\nstep 1\nback 1\nback 4096\n"
                          "tally\nledger\n")
-        self.assertEqual(journal_script((64, 64), [], True), "ledger\ntally\nledger\n")
+        self.assertEqual(list(journal_lines((64, 64), [], True)), ["ledger\n", "tally\n", "ledger\n"])
 
 
 class AServersGas(unittest.TestCase):

@@ -516,6 +516,18 @@ class Looking(unittest.TestCase):
             with self.assertRaisesRegex(Strange, "no answer to 'read 0': "):
                 self.looked(other)
 
+    def test_memory_that_runs_out_is_a_refusal(self):
+        row = b"ROW " + 16 * b"0" + b"\n"
+        for rows, entry in ((b"ERR 14 memory\n", b"ERR 9 entry\n"), (row, b"ERR 14 memory\n")):
+            def answer(line):
+                word = line.split(" ")[0]
+                if word in ("read", "entry"):
+                    return {"read": rows, "entry": entry}[word]
+                return probed(line) if word == "probe" else typical(line)
+            with Fake(answer) as fake, joined(fake) as lab:
+                with self.assertRaisesRegex(Refused, "^ERR 14 memory: memory ran out; asked: "):
+                    lab.look()
+
     def test_entries_that_the_lattice_forbids_are_strange(self):
         row = b"ROW " + 16 * b"0" + b"\n"
         self.assertEqual(len(self.looked(row, ["drain 0 0 1 1"] * 16).drains), 16)
@@ -574,6 +586,16 @@ class Setting(unittest.TestCase):
             self.assertEqual(lab.set(particles=self.disc), 21)
             self.assertEqual(lab.set(particles=self.disc), 0)
             self.assertEqual(lab.set(obstacles=numpy.zeros((64, 64), int)), 1)
+
+    def test_replies_that_are_none_to_a_change(self):
+        """A server of 64 by 64, with no entries, that answers each row by a tally."""
+        def answer(line):
+            word = line.split(" ")[0]
+            return {"row": b"TALLY 0 0 0 0\n", "entry": b"ERR 9 entry\n"}.get(word) or (
+                probed(line) if word == "probe" else typical(line))
+        with Fake(answer) as fake, joined(fake) as lab:
+            with self.assertRaisesRegex(Strange, "no answer to 'row 0 [0-9a-f]{16}': Tally"):
+                lab.fill(0.5, seed=1)
 
     def test_wrong_shapes(self):
         with run(width=128) as lab:

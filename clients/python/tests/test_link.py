@@ -133,10 +133,13 @@ class OtherSides(unittest.TestCase):
                     pair.link.next_line()
 
     def test_no_text(self):
+        """It is the reply to its line, so the next line has the next reply."""
         with Pair() as pair:
-            pair.other.sendall(b"OK \xff\n")
-            with self.assertRaisesRegex(Strange, "no reply of a laboratory"):
-                pair.link.next_line()
+            pair.other.sendall(b"OK \xff\nTALLY 1 2 0 0\n")
+            replies = Replies(Door(pair.link), ["step 1", "tally"], Turn())
+            with self.assertRaisesRegex(Strange, "no reply of a laboratory: 'OK \ufffd'; asked: step 1"):
+                next(replies)
+            self.assertEqual(list(replies), [Tally(1, 2, 0, 0)])
 
 
 class Door:

@@ -78,6 +78,14 @@ class Every(unittest.TestCase):
             self.assertRaises(Refused, every, lab, 1, 1, probes={"out": (60, 0, 5, 1)})
             self.assertEqual(lab.tally().tick, 0)
 
+    def test_a_probe_with_the_name_of_another_column_is_refused(self):
+        area = (0, 0, 1, 1)
+        with run() as lab:
+            for probes, name in (({"d": area}, "d_count"), ({"a": area, "d_a": area}, "d_a_count")):
+                with self.assertRaisesRegex(ValueError, f"a probe has another name: {name} is a column"):
+                    every(lab, 1, 1, probes=probes)
+            self.assertEqual(lab.tick, 0)
+
     def test_rows_are_sent_ahead(self):
         """While a step is made, the lines of four rows have been sent, and no more."""
         def answer(line):
@@ -287,6 +295,13 @@ class Waves(unittest.TestCase):
             lab.put(0, 0, 32, 64)
             found = wave(lab, 1)
         self.assertAlmostEqual(abs(found.density), 2 / 64 / math.sin(math.pi / 64))
+
+    def test_of_columns_in_turn(self):
+        """The density is 1/2 + 1/2 * cos(pi * x), and of squares in turn 1/2 + 1/2 * cos(pi * (x + y))."""
+        y, x = numpy.ogrid[:64, :128]
+        for cells, across, down in (((x + 0 * y) % 2 == 0, 64, 0), ((x + y) % 2 == 0, 64, 32)):
+            found = wave(cells, across, down, tick=0)
+            self.assertAlmostEqual(found.density, 0.5)
 
     def test_no_wave(self):
         self.assertRaisesRegex(ValueError, "at least one length", wave, numpy.zeros((64, 64)), 0)

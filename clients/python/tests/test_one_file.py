@@ -4,10 +4,12 @@ import re
 import subprocess
 import unittest
 
-from gaslab.page.one_file import MOST, STATIC, bare_script, one_file, served_file
+from gaslab.page.one_file import STATIC, bare_script, one_file, served_file
 
 from .test_lab import ROOT
 from .test_page_engine import NODE
+
+MOST = 480_000  # bytes of the file
 
 
 class Kept(unittest.TestCase):

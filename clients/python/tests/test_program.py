@@ -75,6 +75,12 @@ class WhichProgram(unittest.TestCase):
                 self.assertEqual(line, f"    (cd {self.room} && ./gaslab --build)")
                 self.assertIn("program= (--program) or GASLAB_PROGRAM", last)
 
+    def test_a_script_that_the_system_cannot_start(self):
+        script = self.script(0)
+        script.write_text("#!/no/such/interpreter --is-built\n")
+        with self.own(), self.assertRaisesRegex(Unreachable, "does not say whether it is built. This line"):
+            Lab.run()
+
     def test_the_line_that_builds_it_can_be_pasted(self):
         """By a shell, in a folder whose name has a blank and a quote."""
         self.room = self.room / "a clone's"
@@ -160,6 +166,17 @@ class WhatIsLeft(unittest.TestCase):
                 client.send_signal(number)
                 self.assertEqual(client.wait(20), -number)
                 self.wait_for_nothing(lambda: Path("/proc", child).exists())
+
+    def test_of_a_close_that_is_interrupted(self):
+        """By Ctrl-C, while a program that is in a long sleep gets its time to end."""
+        program = Path(self.room, "program")
+        program.write_text("#!/bin/sh\nread line; echo TALLY 0 0 0 0; read line; echo BYE; exec sleep 99\n")
+        program.chmod(0o755)
+        lab = Lab.run(program=program)
+        child = lab._session.door.process
+        with mock.patch("gaslab.protocol.doors._wait", side_effect=KeyboardInterrupt):
+            self.assertRaises(KeyboardInterrupt, lab.close)
+        self.assertEqual((child.returncode, lab.is_closed), (-signal.SIGKILL, True))
 
     def test_of_the_command_line(self):
         """The stand-in is in a long sleep, so only a signal ends it."""

@@ -126,3 +126,10 @@ class ToAFunction(unittest.TestCase):
             for done in (1, 2, 3):
                 tell(done)
         self.assertEqual(told, [(1, 3), (2, 3), (3, 3)])
+
+    def test_a_wait_is_no_part(self):
+        told = []
+        with Told("ensemble", 2, lambda done, total: told.append(done)) as tell:
+            for done in (0, 0, 1, 1, 2):
+                tell(done)
+        self.assertEqual(told, [1, 2])

@@ -1,7 +1,10 @@
 """Runs that are recorded, of single particles: the rule tells where each is."""
+import io
 import os
 import tempfile
 import unittest
+from contextlib import suppress
+from pathlib import Path
 from unittest import mock
 
 import numpy
@@ -72,6 +75,22 @@ class Files(unittest.TestCase):
                     self.assertEqual(list(found), list(made))
                     for name in made:
                         self.assertTrue(numpy.array_equal(found[name], made[name]), name)
+
+    def test_other_contents(self):
+        with tempfile.TemporaryDirectory() as room:
+            path = Path(room, "run.npz")
+            self.assertRaises(FileNotFoundError, Recording.load, path)
+            Recording({"tick": numpy.arange(500), "px": numpy.arange(500.0)}).save(path)
+            whole, plain = path.read_bytes(), io.BytesIO()
+            numpy.save(plain, numpy.arange(9))
+            for data in (b"", b"tick", plain.getvalue(), whole[:-1], whole[:500], b"#" + whole[1:]):
+                path.write_bytes(data)
+                with self.assertRaisesRegex(ValueError, "run.npz can't be read as a recording: "):
+                    Recording.load(path)
+            for at in range(0, len(whole), 50):
+                path.write_bytes(whole[:at] + bytes([whole[at] ^ 255]) + whole[at + 1:])
+                with suppress(ValueError):  # some bytes, such as those of a date, are not read
+                    Recording.load(path)
 
     def test_other_endings(self):
         for path in ("run", "run.npy", "run.csv"):

@@ -3,6 +3,7 @@ import unittest
 from gaslab import (Bye, Entry, LIMITS, Ledger, Ok, Probe, REFUSALS, Refused, Row, Saved, Strange,
                     Tally, named, parse_reply)
 from gaslab import reply_text
+from gaslab.protocol.commands import COMMANDS
 
 EACH = [
     ("OK 0", Ok(0), "OK index 0"),
@@ -111,6 +112,13 @@ class EachRefusal(unittest.TestCase):
         for line, limit in (("probe 60 60 10 10", LIMITS[5]),
                             ("probe 0 0 0 1", "w is 1 to 4,294,967,295, and not 0")):
             self.assertEqual(Refused(5, "rect", line).limit, limit)
+
+    def test_any_refusal_of_any_line(self):
+        """Also those that no laboratory would give to it."""
+        for line in ("", *COMMANDS, *(f"{word} 1" for word in COMMANDS), "entry x", "put 1 1 1 1 1"):
+            for number in REFUSALS:
+                for size in (None, (128, 64)):
+                    self.assertTrue(Refused(number, REFUSALS[number], line, size=size).limit)
 
     def test_its_place_is_told(self):
         self.assertEqual(str(Refused(6, "steps", "step 0").at(7)),

@@ -15,6 +15,7 @@ from unittest import mock
 from gaslab import LIMITS, Lab, REFUSALS, Snapshot
 from gaslab.__main__ import WORDS, main
 from gaslab.cli.shell import Shell, help_text, prompted
+from gaslab.page.one_file import one_file
 from gaslab.protocol.commands import COMMANDS
 from gaslab.protocol.scripts import is_open, parse_script
 
@@ -119,6 +120,10 @@ class Shells(unittest.TestCase):
         out, _ = self.done("names off; put 0 0 1 1; tally; entry 0")
         self.assertEqual(out, "OK 0\nTALLY 0 1 1 1\nENTRY 0 put 0 0 1 1\n")
 
+    def test_names_are_on_or_off(self):
+        out, _ = self.done("names of", "unport")
+        self.assertEqual(out, "names takes on or off, and not of\nOK index 0\n")
+
     def test_limits_stand_beside_refusals(self):
         out, shell = self.done("step 5000; step 0")
         self.assertEqual(out, "ERR 6 steps: n is 1 to 4,096, and not 5000\n"
@@ -172,7 +177,8 @@ class Shells(unittest.TestCase):
     def test_play_stops_at_the_first_refusal_and_names_its_line(self):
         out, shell = self.played(b"put 0 0 1 1\n\n# x\nput 64 0 1 1\nstep 1\n")
         self.assertEqual(out.splitlines()[0::2], ["OK 0", "TALLY 0 1 1 1"])
-        self.assertRegex(out.splitlines()[1], "^line 4: ERR 5 rect: .*; asked: put 64 0 1 1$")
+        self.assertEqual(out.splitlines()[1],
+                         "line 4: ERR 5 rect: x is 0 to 63, and not 64; asked: put 64 0 1 1")
         self.assertEqual(shell.refusals, 1)
 
     def test_play_of_what_is_no_script(self):
@@ -196,6 +202,7 @@ class Shells(unittest.TestCase):
                                "picture", "tally")
         self.assertIn("is not closed", out)
         self.assertIn("colour is one of kind, velocity", out)
+        self.assertIn("'x' is no whole number\n", out)
         self.assertTrue(out.endswith("TALLY tick 0, count 0, px 0, py 0\n"))
         self.assertFalse(shell.has_ended)
 
@@ -257,7 +264,9 @@ class Interrupts(unittest.TestCase):
                 return it
             raise it
         with mock.patch("builtins.input", answer), contextlib.redirect_stderr(io.StringIO()):
-            self.assertEqual(list(prompted(None)), ["put 0 0 1 1", "tally"])
+            with tempfile.TemporaryDirectory() as room:
+                found = list(prompted(os.path.join(room, "history")))
+        self.assertEqual(found, ["put 0 0 1 1", "tally"])
 
     def test_in_a_terminal(self):
         """A shell in a terminal of its own: Ctrl-C in a long run, then another command."""
@@ -329,6 +338,24 @@ class Words(unittest.TestCase):
         script, png = self.path("script", "put 1 2 1 1\n\nquit\n"), self.path("it.png")
         self.assertEqual(said("draw", script, "-o", png, "--scale", 2, *PROGRAM), (0, "", ""))
         self.assertEqual(read(png).cells((0, 114, 178)), {(2, 4), (3, 4), (2, 5), (3, 5)})
+
+    def test_draw_a_script_from_a_pipe(self):
+        source, sink = os.pipe()
+        os.write(sink, b"put 0 0 64 64\n")
+        os.close(sink)
+        try:
+            status, out, _ = said("draw", f"/dev/fd/{source}", *PROGRAM)
+        finally:
+            os.close(source)
+        self.assertEqual((status, set(out)), (0, {"\u2588", "\n"}))
+
+    def test_a_page_that_is_not_made_leaves_the_file_as_it_was(self):
+        kept = self.path("gas.html", "kept")
+        status, _, errors = said("page", "--to", kept, self.path("none.txt"))
+        self.assertEqual((status, kept.read_text(), os.listdir(self.room)), (1, "kept", ["gas.html"]))
+        self.assertIn("none.txt", errors)
+        self.assertEqual(said("page", "--to", kept), (0, "", ""))
+        self.assertEqual(kept.read_text("utf-8"), one_file())
 
     def test_a_script_names_the_size(self):
         script, png = self.path("script", "size 128 64 # wide\nput 1 2 1 1\n"), self.path("it.png")

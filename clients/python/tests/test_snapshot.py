@@ -219,6 +219,10 @@ class Arrays(unittest.TestCase):
         self.assertRaisesRegex(ValueError, "one shape", Snapshot.from_arrays, one, other, tick=0)
         self.assertRaisesRegex(ValueError, "none is given", Snapshot.from_arrays)
         self.assertRaises(PortFault, Snapshot.from_arrays, one, drains=[(60, 0, 5, 1)], tick=0)
+        for ports in ({"drains": [(0, 0, 5)]}, {"drains": [(0, 0, 5, 1.5)]}, {"drains": [(0, -1, 5, 1)]},
+                      {"sources": [(0, 0, 5, 1)]}, {"drains": 300 * [(0, 0, 1, 1)]}, {"drains": [7]}):
+            with self.assertRaisesRegex(ValueError, "a drain is .x, y, w, h. and a source"):
+                Snapshot.from_arrays(one, tick=0, **ports)
         for wish in ({"tick": 2 ** 41}, {"tick": 2 ** 70}, {"drains": [(-1, 0, 1, 1)]},
                      {"drains": [(0, 0, 1, 1)] * 300}):
             self.assertRaises(ValueError, Snapshot.from_arrays, one, **{"tick": 0, **wish})
@@ -242,6 +246,21 @@ class Drafts(unittest.TestCase):
             raise KeyError
         self.assertEqual(self.path.read_bytes(), b"new")
         self.assertEqual(os.listdir(self.path.parent), ["it"])
+
+    def test_a_fault_names_the_path_that_was_given(self):
+        path = self.path / "none" / "it"
+        with self.assertRaises(FileNotFoundError) as caught, draft(path):
+            pass
+        self.assertEqual(caught.exception.filename, str(path))
+
+    def test_two_at_a_time(self):
+        """Of several threads, or one that a process with the same number left when it was killed."""
+        with draft(self.path) as last:
+            with draft(self.path) as first:
+                first.write(b"first")
+            last.write(b"last")
+            self.assertEqual(self.path.read_bytes(), b"first")
+        self.assertEqual(self.path.read_bytes(), b"last")
 
     def test_a_link_stays_a_link(self):
         link = self.path.with_name("link")

@@ -1,5 +1,6 @@
 """The options of the command line, and how words find their gas by them."""
 import argparse
+import os
 import re
 from collections.abc import Callable, Iterator
 from contextlib import contextmanager
@@ -131,7 +132,8 @@ def add(parser: argparse._ActionsContainer, names: str) -> None:
 
 
 def is_snapshot(path: Optional[str]) -> bool:
-    if path is None or path == "-":
+    """Whether a file is a snapshot. A pipe is a script: what is read of it to tell would be lost."""
+    if path is None or path == "-" or not os.path.isfile(path):
         return False
     with open(path, "rb") as file:
         return file.read(6) == b"HPPGAS"

@@ -1,6 +1,7 @@
 """The shell: a prompt for commands, with names in the replies and the limit beside each `ERR`."""
 import inspect
 import os
+import re
 import shutil
 import signal
 import sys
@@ -81,7 +82,7 @@ class Shell:
         for place, command in script.commands():
             reply = self._one(command)
             if stops and isinstance(reply, Refused):
-                raise Refused(reply.number, reply.word, reply.line, place)
+                raise reply.at(place)
             if reply is not None:
                 self._say(reply)
             if self.has_ended:
@@ -131,7 +132,7 @@ class Shell:
                 self._say("")
             if is_stopped:
                 raise _Stopped("stopped")
-        self.lab.advance(int(n), _PIECE, tell)
+        self.lab.advance(_whole(n), _PIECE, tell)
 
     def word_play(self, FILE: str) -> None:
         """does the commands of a script, up to the first ERR"""
@@ -139,11 +140,11 @@ class Shell:
 
     def word_shoot(self, x: str, y: str, vx: str, vy: str) -> None:
         """puts a particle that flies with (vx, vy), each 1 or -1"""
-        self._say(shoot(self.lab, int(x), int(y), int(vx), int(vy)))
+        self._say(shoot(self.lab, *(_whole(it) for it in (x, y, vx, vy))))
 
     def word_trace(self, n: str) -> None:
         """makes n steps, and tells where the particles are at each tick"""
-        self._say(csv_text(trace(self.lab, int(n))).rstrip("\n"))
+        self._say(csv_text(trace(self.lab, _whole(n))).rstrip("\n"))
 
     def word_fresh(self) -> None:
         """goes on from the same gas with a new journal and new accounts"""
@@ -160,7 +161,9 @@ class Shell:
 
     def word_names(self, on_or_off: str) -> None:
         """replies with names, or as they come"""
-        self.with_names = {"on": True, "off": False}.get(on_or_off, self.with_names)
+        if on_or_off not in ("on", "off"):
+            raise ValueError(f"names takes on or off, and not {on_or_off[:40]}")
+        self.with_names = on_or_off == "on"
 
     def word_help(self, word: str = "") -> None:
         """tells about a word, or which words there are"""
@@ -174,12 +177,19 @@ class Shell:
         print(what, file=self.out, flush=True)
 
 
+def _whole(text: str) -> int:
+    """The number that a text is. Raises `ValueError`."""
+    if not re.fullmatch("-?[0-9]{1,20}", text):
+        raise ValueError(f"{text[:40]!r} is no whole number")
+    return int(text)
+
+
 Shell.WORDS = {name[len("word_"):]: method for name, method in vars(Shell).items()
                if name.startswith("word_")}
 
 
-def prompted(history: Optional[str]) -> Iterator[str]:
-    """What is typed at a prompt, a whole text at a time, with a history if the system has one.
+def prompted(history: str) -> Iterator[str]:
+    """What is typed at a prompt, a whole text at a time, with a history in this file if Python has readline.
 
     Ctrl-C drops what is typed, and Ctrl-D ends.
     """

@@ -26,7 +26,7 @@ from ..protocol.printable import printable
 from ..protocol.programs import find_program
 from ..protocol.replies import Row, parse_reply, show_cells
 from ..protocol.scripts import Script, parse_script, read_text
-from ..snapshot.files import Snapshot
+from ..snapshot.files import Snapshot, draft
 from ..snapshot.gases import random_gas
 from ..snapshot.rectangles import cover
 from .options import gas_of, is_snapshot, lab_of, until_quit
@@ -132,8 +132,8 @@ def page(asked: argparse.Namespace) -> Optional[int]:
         raise ValueError("--to makes a file of a script or a snapshot, not of a server's gas")
     asked.file = asked.gas[0] if len(asked.gas) == 1 else None
     if asked.to:
-        with open(asked.to, "w", encoding="utf-8") as made:
-            made.write(one_file(*_contents(asked)))
+        with draft(asked.to) as made:
+            made.write(one_file(*_contents(asked)).encode())
         return None
     return serve(asked, _joined if len(asked.gas) == 2 else _own)
 
@@ -146,9 +146,10 @@ def _contents(asked: argparse.Namespace) -> tuple[str, Optional[bytes]]:
     if asked.file and asked.load:
         raise ValueError("a file beside --load needs a program")
     if is_snapshot(path):
-        Snapshot.read(path)
         with open(path, "rb") as file:
-            return os.path.basename(path), file.read()
+            data = file.read()
+        Snapshot.from_bytes(data)  # which raises what is wrong with it
+        return os.path.basename(path), data
     script = parse_script(read_text(path))
     first = [f"size {script.size[0]} {script.size[1]}"] if script.size else []
     lines = [*first, *(command for _, command in script.commands())]

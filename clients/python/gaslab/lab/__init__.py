@@ -1,1 +1,1 @@
-"""The laboratory as an object, and what can be drawn and measured."""
+"""Lab: one session with a laboratory. And Gas: what can be drawn and measured."""

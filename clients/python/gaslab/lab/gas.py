@@ -3,7 +3,7 @@ from typing import Optional, SupportsIndex, Union
 
 from numpy.typing import ArrayLike
 
-from ..protocol.numbers import whole
+from ..protocol.numbers import whole_tick
 from ..snapshot.cells import as_cells, plane_of
 from ..snapshot.files import Snapshot
 from .lab import Lab
@@ -24,5 +24,5 @@ def as_snapshot(gas: Gas, tick: Optional[SupportsIndex] = None, needs_tick: bool
     cells = as_cells(gas)
     if tick is None and needs_tick:
         raise ValueError("bare cells need tick=, since a cell's velocity changes from tick to tick")
-    now = whole("tick", tick or 0, -2 ** 40, 2 ** 40)
+    now = whole_tick(tick)
     return Snapshot(cells.shape[1], cells.shape[0], now, particle_bytes=plane_of(cells))

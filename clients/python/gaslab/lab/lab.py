@@ -13,7 +13,7 @@ from ..protocol.doors import PathLike, Program, Server
 from ..protocol.errors import Moving, Strange
 from ..protocol.limits import Size
 from ..protocol.link import Door, Replies, lines_of
-from ..protocol.numbers import whole
+from ..protocol.numbers import whole, whole_steps
 from ..protocol.programs import executable, find_program
 from ..protocol.replies import Bye, Entry, Ledger, Ok, Probe, Reply, Row, Saved, Tally
 from ..protocol.scripts import Script, ScriptLike, script_of
@@ -43,7 +43,8 @@ class Lab:
     of a `Lab` that nobody holds any more is ended.
 
     `known` are the entries of the journal that were read so far; after `look` they are those that made this
-    gas. `bursts` are the seconds that each burst of rows of the last look took.
+    gas. `bursts` are the seconds that each burst of rows of the last look took. With a shelf, a look reads no
+    entries and no rows.
     """
     def __init__(self, door: Door, size: Optional[Size] = None, start: Optional[Snapshot] = None,
                  shelf: Optional[PathLike] = None,
@@ -75,11 +76,13 @@ class Lab:
         The first lab of a process asks the script whether its program is built, and later ones don't.
         """
         start = Snapshot.read(load) if load is not None else None
-        check_sides(*((start.width, start.height) if start else (width, height)))
-        size = (start.width, start.height) if start else (int(width), int(height))
+        if start:
+            width, height = start.width, start.height
+        check_sides(width, height)
+        size = int(width), int(height)
         _check_timeout(timeout)
         options = dict(width=size[0], height=size[1], workers=whole("workers", workers, 1, 16),
-                       cap=whole("cap", cap, 1, MOST_ENTRIES), load=load, save=save)
+                       cap=whole("cap", cap, 1, MOST_ENTRIES), save=save)
         begin = partial(_program, executable(find_program(program)), options, timeout)
         return cls(begin(load), size, start, again=begin)
 
@@ -166,7 +169,8 @@ class Lab:
         script: a text, its lines, or the `Path` of its file. It may have `#` comments, blank lines, several
             commands in a line with `;` between them, `repeat`, and `size W H` before the commands.
 
-        Raises `ValueError` if it is no script, or one for another size, and `OSError` from the file.
+        Raises `ValueError` if it is no script, or one for another size, `OSError` from the file, and
+        `Refused` at the first refusal.
         """
         found = script_of(script)
         self.check_size(found)
@@ -194,7 +198,7 @@ class Lab:
         `progress` is told after each command how many steps are done, and how many there are in all. Raises
         `Refused` as `step` and `back` do, when the steps before are done.
         """
-        wanted, most = whole("steps", steps, -2 ** 41, 2 ** 41), whole("each", each, 1, MOST_STEPS)
+        wanted, most = whole_steps(steps), whole("each", each, 1, MOST_STEPS)
         done, total = 0, abs(wanted)
         with Told("steps", total, progress) as tell:
             while done < total:
@@ -270,7 +274,7 @@ class Lab:
         Returns the change's place in the journal. Raises `ValueError` for other cells, and `Refused` for no
         row (5), other digits (8), or if the journal is full (13).
         """
-        place = whole("y", y, -2 ** 63, 2 ** 63)
+        place = whole("y", y)
         if not isinstance(cells, str):
             found, width = as_truth(cells, "a row"), self.size[0]
             if found.shape != (width,):
@@ -414,7 +418,7 @@ class Lab:
 
     def _asked(self, kind: type[Kind], word: str, *numbers: SupportsIndex) -> Kind:
         names = COMMANDS[word].words.split()
-        told = [str(whole(name, it, -2 ** 63, 2 ** 63)) for name, it in zip(names, numbers)]
+        told = [str(whole(name, it)) for name, it in zip(names, numbers)]
         return self._session.expect(kind, " ".join((word, *told)))
 
     # ---- the whole gas
@@ -456,10 +460,10 @@ class Lab:
         if self._shelf is not None:
             self.save()
             return Snapshot.read(self._shelf)
-        number = whole("tries", tries, 1, 10 ** 9)
+        number, most = whole("tries", tries, 1, 10 ** 9), whole("burst", burst, 1, SIDES[-1])
         for _ in range(number):
             scene, tally = self.scene(), self.tally()
-            rows = self._plane(whole("burst", burst, 1, SIDES[-1]))
+            rows = self._plane(most)
             known = len(self.known)
             if len(self.journal()) == known:
                 planes = rows, plane_of(scene.walls), plane_of(scene.obstacles)
@@ -535,6 +539,7 @@ class Lab:
 
 
 def _program(path: Path, options: dict[str, object], timeout: float, load: Optional[PathLike]) -> Program:
+    """Starts a program with these options, from a snapshot if one is named."""
     return Program(path, {**options, "load": load}, timeout)
 
 

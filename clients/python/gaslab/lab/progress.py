@@ -62,6 +62,7 @@ class Told:
     def __init__(self, what: str, total: int, progress: Progress = None) -> None:
         self._what, self._total, self._progress = what, total, progress
         self._began = self._next = 0.0
+        self._done = 0
         self._place: Optional[_Place] = None
 
     def __enter__(self) -> Callable[[int], None]:
@@ -80,7 +81,9 @@ class Told:
 
     def _tell(self, done: int) -> None:
         if callable(self._progress):
-            self._progress(done, self._total)
+            if done != self._done:
+                self._done = done
+                self._progress(done, self._total)
         elif self._progress is None and Told._outermost is self and time.monotonic() >= self._next:
             self._place = self._place or _place()
             self._next = time.monotonic() + _PAUSE

@@ -1,12 +1,13 @@
 """A session with a laboratory: lines out, replies in."""
 from collections.abc import Iterable
 from contextlib import suppress
+from itertools import tee
 from typing import Optional, TypeVar, Union
 
 from ..protocol.errors import GaslabError, Gone, Refused
 from ..protocol.limits import Size
 from ..protocol.link import Door, Replies, Turn
-from ..protocol.replies import Bye, Reply, Row, Tally, no_answer
+from ..protocol.replies import Bye, Ok, Reply, Row, Tally, no_answer
 from .progress import Told
 
 _LAST_WAIT = 5.0  # seconds
@@ -81,12 +82,16 @@ class Session:
     def do_ahead(self, lines: Iterable[str]) -> int:
         """Does lines that are sent ahead of their replies, and returns how many there are.
 
-        Raises the first refusal. Lines behind it can be done too.
+        Each is a change. Raises the first refusal. Lines behind it can be done too.
         """
         first, count = None, 0
-        for reply in self.send(lines):
-            first = first or (reply.at(count + 1) if isinstance(reply, Refused) else None)
+        sent, asked = tee(lines)
+        for line, reply in zip(asked, self.send(sent)):
             count += 1
+            if isinstance(reply, Refused):
+                first = first or reply.at(count)
+            else:
+                self.checked(Ok, line, reply)
         if first:
             raise first
         return count

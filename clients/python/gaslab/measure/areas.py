@@ -31,5 +31,5 @@ def rectangles_of(areas: Areas) -> list[Rectangle]:
 def _rectangle(area: Any) -> Rectangle:
     if not isinstance(area, Sequence) or len(area) not in (2, 4):
         raise ValueError(f"a cell is (x, y) and a rectangle (x, y, w, h), and not {area}")
-    x, y, w, h = (whole(name, number, -2 ** 63, 2 ** 63) for name, number in zip("xywh", (*area, 1, 1)))
+    x, y, w, h = (whole(name, number) for name, number in zip("xywh", (*area, 1, 1)))
     return x, y, w, h

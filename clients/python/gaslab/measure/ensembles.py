@@ -12,7 +12,7 @@ from ..lab.lab import Lab
 from ..lab.progress import Progress, Told
 from ..protocol.errors import GaslabError
 from ..protocol.numbers import whole
-from .tables import Table, columns_of, table_of
+from .tables import Table, columns_of, table_of_columns
 
 _PLACES = ("tick", "from", "to")
 """Columns that say when or where a row was measured."""
@@ -57,7 +57,7 @@ def ensemble(f: Callable[[Lab, int], Any], seeds: Union[SupportsIndex, Iterable[
 
 def _seeds(seeds: Union[SupportsIndex, Iterable[SupportsIndex]]) -> list[int]:
     given = seeds if isinstance(seeds, Iterable) else range(1, whole("seeds", seeds, 0, 2 ** 32) + 1)
-    chosen = [whole("a seed", seed, -2 ** 63, 2 ** 63) for seed in given]
+    chosen = [whole("a seed", seed) for seed in given]
     if len(chosen) < 2 or len(set(chosen)) < len(chosen):
         raise ValueError("an ensemble has at least two seeds, each once: one run has no standard error")
     return chosen
@@ -144,6 +144,8 @@ def _summary(runs: Mapping[int, Columns]) -> Table:
             raise ValueError(f"seeds {first} and {seed} returned other columns, or not as many rows")
     columns: Columns = {}
     for name in wanted:
+        if name + "_error" in wanted:
+            raise ValueError(f"{name}_error is the standard error of {name}: no run returns it")
         values = numpy.array([found[name] for found in runs.values()])
         if name not in _PLACES:
             columns[name] = values.mean(axis=0)
@@ -152,4 +154,4 @@ def _summary(runs: Mapping[int, Columns]) -> Table:
             raise ValueError(f"{name} is not the same in all runs, so their rows can't be compared")
         else:
             columns[name] = values[0]
-    return table_of(list(columns), list(zip(*columns.values())))
+    return table_of_columns(columns)

@@ -7,18 +7,15 @@ import numpy
 
 from ..lab.lab import Lab
 from ..lab.progress import Progress, Told
-from ..protocol.numbers import whole
+from ..protocol.numbers import whole, whole_steps
 from ..protocol.replies import Ok
 from ..protocol.scripts import ScriptLike, script_of
+from ..snapshot.cells import direction
 from .areas import Areas, rectangles_of
 from .tables import Table, table_of
 
 _MOST_TRACED = 64
 _MOST_INPUTS = 10
-
-
-def _velocity(place: int) -> int:
-    return 1 if place % 2 == 0 else -1
 
 
 def shoot(lab: Lab, x: SupportsIndex, y: SupportsIndex, vx: SupportsIndex, vy: SupportsIndex) -> Ok:
@@ -29,10 +26,10 @@ def shoot(lab: Lab, x: SupportsIndex, y: SupportsIndex, vx: SupportsIndex, vy: S
     """
     (width, height), tick = lab.size, lab.tick
     across, down = whole("x", x, 0, width - 1), whole("y", y, 0, height - 1)
-    wanted = whole("vx", vx, -2 ** 63, 2 ** 63), whole("vy", vy, -2 ** 63, 2 ** 63)
+    wanted = whole("vx", vx), whole("vy", vy)
     if set(wanted) - {1, -1}:
         raise ValueError(f"vx and vy are 1 or -1, and not {wanted}")
-    flies = _velocity(across + tick), _velocity(down + tick)
+    flies = direction(across, tick), direction(down, tick)
     if flies != wanted:
         beside = tuple(place if found == asked else place + (1 if place + 1 < side else -1)
                        for place, found, asked, side in zip((across, down), flies, wanted, lab.size))
@@ -53,7 +50,7 @@ def trace(lab: Lab, steps: SupportsIndex) -> Table:
     velocity `vx`, `vy`. At each tick they are in the order of rows. Raises `ValueError` if there are more
     than 64 particles.
     """
-    rows, total = [], whole("steps", steps, -2 ** 41, 2 ** 41)
+    rows, total = [], whole_steps(steps)
     for done in range(abs(total) + 1):
         if done:
             lab.advance(1 if total > 0 else -1)
@@ -61,7 +58,7 @@ def trace(lab: Lab, steps: SupportsIndex) -> Table:
         if count > _MOST_TRACED:
             raise ValueError(f"trace is for at most {_MOST_TRACED} particles, and there are {count}")
         for y, x in numpy.argwhere(lab.particles()).tolist():
-            rows.append((tick, x, y, _velocity(x + tick), _velocity(y + tick)))
+            rows.append((tick, x, y, direction(x, tick), direction(y, tick)))
     return table_of(("tick", "x", "y", "vx", "vy"), rows)
 
 

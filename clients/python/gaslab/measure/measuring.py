@@ -11,12 +11,13 @@ from ..lab.progress import Progress, Told
 from ..lab.session import of_kind
 from ..protocol.commands import MOST_STEPS
 from ..protocol.errors import Refused
-from ..protocol.numbers import whole
+from ..protocol.numbers import whole, whole_steps
 from ..protocol.replies import Ledger, Ok, Probe, Tally
+from ..snapshot.cells import directions
 from ..snapshot.counting import in_columns, in_rows, in_squares, side_of_squares
 from ..snapshot.files import Snapshot
 from ..snapshot.rectangles import Rectangle
-from .tables import Table, table_of
+from .tables import Table, check_columns, table_of, table_of_columns
 
 Numbers = NDArray[numpy.float64]
 _AHEAD = 4  # rows of a table that are asked for ahead
@@ -37,16 +38,19 @@ def every(lab: Lab, steps: SupportsIndex, times: SupportsIndex, ledger: bool = T
 
     The steps of the next rows are sent before the replies of a row are read. Raises `Refused` for a probe
     that is not inside before the first step, and for steps when those before are done; `ValueError` for an
-    unknown column, before the first step.
+    unknown column, or for a probe whose columns have names that others have, before the first step.
     """
     areas = dict(probes or {})
-    names = ["tick", "count", "px", "py", *(Ledger._fields if ledger else ())]
-    names += [f"{name}_{part}" for name in areas for part in ("count", "px", "py")]
+    names = [*Tally._fields, *(Ledger._fields if ledger else ())]
+    names += [f"{name}_{part}" for name in areas for part in Probe._fields]
     names += ["d_" + name for name in names[1:]]
+    twice = [name for name in names if names.count(name) > 1]
+    if twice:
+        raise ValueError(f"a probe has another name: {twice[0]} is a column already")
     wanted = names if columns is None else _known(columns, names)
     asked: list[_Line] = [("tally", Tally), *([("ledger", Ledger)] if ledger else []),
                           *(("probe {} {} {} {}".format(*area), Probe) for area in areas.values())]
-    moves, number = _moves(whole("steps", steps, -2 ** 41, 2 ** 41)), whole("times", times, 0, 10 ** 9)
+    moves, number = _moves(whole_steps(steps)), whole("times", times, 0, 10 ** 9)
     before, rows = next(_measured(lab, asked, 1)), []
     with Told("every", number, progress) as tell:
         for now in _measured(lab, [*moves, *asked], number):
@@ -61,9 +65,7 @@ def _known(columns: Sequence[str], names: list[str]) -> list[str]:
     """The columns that are wanted, if all are known."""
     if isinstance(columns, str):
         raise ValueError(f"columns is a list of names, as in columns=[{columns!r}], and not a text")
-    for name in columns:
-        if name not in names:
-            raise ValueError(f"no column {name}: there are {', '.join(names)}")
+    check_columns(columns, names)
     return list(columns)
 
 
@@ -147,9 +149,11 @@ def wave(gas: Gas, across: SupportsIndex, down: SupportsIndex = 0,
     right, below = (numpy.exp(-2j * numpy.pi * number * numpy.arange(side) / side) / side
                     for number, side in zip(lengths, (found.width, found.height)))
     cells = found.particles.astype(numpy.int8)
-    to_right, to_bottom = (1 - 2 * ((numpy.arange(side) + found.tick) % 2)
-                           for side in (found.width, found.height))
-    density, px, py = (complex(2 * (below * rows) @ (cells @ (right * columns))) for rows, columns in (
+    to_right, to_bottom = (directions(side, found.tick) for side in (found.width, found.height))
+    # a wave has two terms, of which a sum finds one; that of columns or rows in turn has one
+    is_in_turn = all(2 * number % side == 0 for number, side in zip(lengths, (found.width, found.height)))
+    terms = 1 if is_in_turn else 2
+    density, px, py = (complex(terms * (below * rows) @ (cells @ (right * columns))) for rows, columns in (
         (1, 1), (1, to_right), (to_bottom, 1)))
     return Wave(density, px, py)
 
@@ -172,5 +176,5 @@ def profile(gas: Gas, along: str = "x", bins: Optional[SupportsIndex] = None,
     sums = (in_columns if along == "x" else in_rows)(found.particle_bytes, found.width, found.tick)
     count, px, py = (numpy.add.reduceat(part, edges[:-1]) for part in sums)
     density = count / (edges[1:] - edges[:-1]) / breadth
-    return table_of(("from", "to", "count", "density", "px", "py"),
-                    list(zip(edges[:-1], edges[1:], count, density, px, py)))
+    return table_of_columns({"from": edges[:-1], "to": edges[1:], "count": count, "density": density,
+                             "px": px, "py": py})

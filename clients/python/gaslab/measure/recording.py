@@ -10,18 +10,19 @@ from ..lab.lab import Lab
 from ..lab.progress import Progress, Told
 from ..protocol.doors import PathLike
 from ..protocol.limits import Size
-from ..protocol.numbers import whole
+from ..protocol.numbers import whole, whole_steps
+from ..protocol.replies import Probe
 from ..snapshot.counting import side_of_squares
 from ..snapshot.files import draft
 from ..snapshot.rectangles import Rectangle
-from .measuring import profile, velocity
+from .measuring import Fields, profile, velocity
 
 Array = NDArray[Any]
 
-FIELDS = ("density", "px", "py")
+FIELDS = Fields._fields
 """The fields that can be recorded."""
 _ALONG = ("x", "y")
-_SUMS = ("count", "px", "py")
+_SUMS = Probe._fields
 
 
 class Recording(Mapping[str, Array]):
@@ -58,10 +59,14 @@ class Recording(Mapping[str, Array]):
 
     @classmethod
     def load(cls, path: PathLike) -> "Recording":
-        """The recording in a file that `save` wrote. Raises `ValueError` if it is none."""
+        """The recording in a file that `save` wrote. Raises `ValueError` if it is none, or damaged."""
         _check_path(path)
-        with numpy.load(path) as file:
-            return cls({name: file[name] for name in file.files})
+        with open(path, "rb") as file:
+            try:
+                arrays = numpy.load(file)
+                return cls({name: arrays[name] for name in arrays.files})
+            except Exception as fault:  # of many kinds, by what is wrong with the file
+                raise ValueError(f"{path} can't be read as a recording: {fault}") from fault
 
 
 def _check_path(path: PathLike) -> None:
@@ -84,7 +89,7 @@ def record(lab: Lab, steps: SupportsIndex, times: SupportsIndex, mean: SupportsI
     `progress` is told how many of the `times + 1` are done. Raises `ValueError`, before the first step, for
     an unknown name, or unless `times` is 0 or more and `mean` divides both sides.
     """
-    between, number = whole("steps", steps, -2 ** 41, 2 ** 41), whole("times", times, 0, 10 ** 9) + 1
+    between, number = whole_steps(steps), whole("times", times, 0, 10 ** 9) + 1
     asked = _Asked(lab.size, mean, _known("fields", fields, FIELDS), _known("profiles", profiles, _ALONG),
                    dict(probes or {}))
     with Told("record", number, progress) as tell:

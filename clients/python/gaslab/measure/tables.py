@@ -3,10 +3,11 @@ import csv
 import importlib
 import io
 import os
-from collections.abc import Iterable, Sequence
+from collections.abc import Iterable, Mapping, Sequence
 from typing import Any, Union
 
 import numpy
+from numpy.typing import NDArray
 
 from ..protocol.doors import PathLike
 from ..protocol.errors import library
@@ -19,17 +20,29 @@ Table = Any
 def table_of(names: Sequence[str], rows: Iterable[Sequence[Union[int, float]]]) -> Table:
     """A table of these rows."""
     columns = [numpy.array(column) for column in zip(*rows)] or [numpy.zeros(0, int) for _ in names]
+    return table_of_columns(dict(zip(names, columns)))
+
+
+def table_of_columns(columns: Mapping[str, NDArray[Any]]) -> Table:
+    """A table of these columns, arrays of one length by their names."""
     try:
         pandas = importlib.import_module("pandas")
     except ImportError:
-        kinds = numpy.dtype([(name, column.dtype) for name, column in zip(names, columns)])
-        return numpy.rec.fromarrays(columns, dtype=kinds)
-    return pandas.DataFrame(dict(zip(names, columns)))
+        kinds = numpy.dtype([(name, column.dtype) for name, column in columns.items()])
+        return numpy.rec.fromarrays(list(columns.values()), dtype=kinds)
+    return pandas.DataFrame(dict(columns))
 
 
 def columns_of(table: Table) -> list[str]:
     """The names of a table's columns, in order."""
     return list(table.columns if hasattr(table, "columns") else table.dtype.names)
+
+
+def check_columns(wanted: Iterable[str], names: Sequence[str]) -> None:
+    """Raises `ValueError`, with the names that there are, if one is wanted that is none of these."""
+    for name in wanted:
+        if name not in names:
+            raise ValueError(f"no column {name}: there are {', '.join(names)}")
 
 
 def csv_text(table: Table) -> str:
@@ -51,9 +64,7 @@ def chart(table: Table, path: PathLike, x: str, y: Union[str, Sequence[str]]) ->
     ending = os.path.splitext(os.fspath(path))[1][1:].lower()
     if ending not in ("svg", "png", "pdf"):
         raise ValueError(f"a chart's path ends in .svg, .png or .pdf: not {path}")
-    for name in (x, *names):
-        if name not in columns_of(table):
-            raise ValueError(f"no column {name}: there are {', '.join(columns_of(table))}")
+    check_columns((x, *names), columns_of(table))
     if not len(table) or not names:
         raise ValueError("a chart has at least one line with one number")
     with library("matplotlib").rc_context({"svg.hashsalt": "gaslab", "svg.fonttype": "none"}):

@@ -4,6 +4,7 @@ from contextlib import ExitStack, suppress
 from pathlib import Path
 from typing import NamedTuple, Optional
 
+from ..lab.journal import AHEAD
 from ..lab.lab import Lab
 from ..protocol.commands import MOST_ENTRIES, canonical
 from ..protocol.doors import PathLike
@@ -17,7 +18,6 @@ from .pictures import LAYOUT, Reading
 from .rooms import room
 
 _TRIES = 3  # looks at a gas that others change
-_MOST_AHEAD = 512  # entries that are asked for at once
 _PART = 1 << 15  # characters of a script that are made at once
 
 
@@ -100,7 +100,7 @@ class Laboratory:
         Raises `Strange` if a server said `OK k` to a line, and entry k is another one.
         """
         ahead, is_whole = 1, False
-        while not is_whole and ahead <= _MOST_AHEAD:
+        while not is_whole and ahead <= AHEAD:
             is_whole, ahead = self.lab.read_on(ahead), 2 * ahead
         for k, entry in enumerate(self.lab.known[len(self.makers):], len(self.makers)):
             line, maker = self._made.pop(k, (entry.command, -1 - entry.seat))

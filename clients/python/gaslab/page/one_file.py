@@ -11,7 +11,6 @@ from ..pictures import palette
 from ..protocol.commands import COMMANDS
 
 STATIC = Path(__file__).parent / "static"
-MOST = 480_000  # bytes
 _IMPORT = re.compile(r'^import (?:(\w+|\{ [^}]+ \}) from )?"\./(\w+\.(?:js|json))";\n', re.M)
 _EXPORT = re.compile(r"^export (?:async function|function|class|const|let) (\w+|\{[^}]+\})", re.M)
 _RULES = ("default-src 'none'; script-src {scripts}; style-src 'unsafe-inline'; img-src data: blob:; "

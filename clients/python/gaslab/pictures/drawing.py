@@ -12,7 +12,7 @@ from ..protocol.errors import library
 from ..protocol.numbers import whole
 from ..snapshot.files import Snapshot, draft
 from . import momentum, palette
-from .pixels import Pixels, cell_pixels, check_looks, density_pixels, outlined, scaled
+from .pixels import Pixels, cell_pixels, checked_mean, density_pixels, outlined, scaled
 
 Image = Any
 """An image of Pillow, `PIL.Image.Image`."""
@@ -67,7 +67,7 @@ def kind_of(path: PathLike, kinds: dict[str, str], what: str) -> str:
 def drawn(gas: Snapshot, scale: Optional[SupportsIndex], mean: Optional[SupportsIndex], colour: str,
           show: Optional[str] = None, limit: float = 0.5) -> Image:
     """The picture as an image with a palette: see `picture`."""
-    square = check_looks(gas, _checked_show(show, limit, mean), colour)
+    square = checked_mean(gas, _mean_for(show, limit, mean), colour)
     longer = max(gas.width, gas.height) // (square or 1)
     side = whole("scale", min(64, max(1, round(_LONGER / longer))) if scale is None else scale, 1, 64)
     if side * longer > _MOST:
@@ -82,9 +82,11 @@ def drawn(gas: Snapshot, scale: Optional[SupportsIndex], mean: Optional[Supports
     return _with_bar(pixels, palette.DENSITIES, ("0", "particles a cell", "1"))
 
 
-def _checked_show(show: Optional[str], limit: float,
-                  mean: Optional[SupportsIndex]) -> Optional[SupportsIndex]:
-    """The sides of the squares: `mean`, or 8 cells for a picture of momentum."""
+def _mean_for(show: Optional[str], limit: float, mean: Optional[SupportsIndex]) -> Optional[SupportsIndex]:
+    """The sides of the squares: `mean`, or 8 cells for a picture of momentum if it isn't given.
+
+    Raises `ValueError` for another `show` or `limit`.
+    """
     if show is None:
         return mean
     if show not in momentum.SHOWS:

@@ -1,5 +1,6 @@
 """Films of a laboratory. Each frame is written as it is drawn, so a long film takes little memory."""
 import io
+import itertools
 import struct
 from collections.abc import Callable, Iterator
 from typing import BinaryIO, Optional, SupportsIndex
@@ -8,12 +9,13 @@ from ..lab.lab import Lab
 from ..lab.progress import Progress, Told
 from ..protocol.doors import PathLike
 from ..protocol.errors import library
-from ..protocol.numbers import whole
+from ..protocol.numbers import whole, whole_steps
 from ..snapshot.files import draft
 from .drawing import Image, drawn, kind_of
 
 _KINDS = {".png": "PNG", ".apng": "PNG", ".gif": "GIF"}
-_HEAD = 8  # bytes of a PNG before its first part
+_HEAD = b"\x89PNG\r\n\x1a\n"
+"""The bytes of a PNG before its first part."""
 
 Writer = Callable[[Image], None]
 
@@ -33,7 +35,7 @@ def film(lab: Lab, path: PathLike, steps: SupportsIndex, frames: SupportsIndex,
     """
     kind = kind_of(path, _KINDS, "a film")
     number, pause = whole("frames", frames, 1, 10 ** 9), whole("milliseconds", milliseconds, 1, 65535)
-    between = whole("steps", steps, -2 ** 41, 2 ** 41)
+    between = whole_steps(steps)
 
     def frame() -> Image:
         return drawn(lab.look(), scale, mean, colour, show, limit)
@@ -63,19 +65,19 @@ def _gif(file: BinaryIO, first: Image, frames: int, milliseconds: int) -> tuple[
 def _animated_png(file: BinaryIO, first: Image, frames: int, milliseconds: int) -> tuple[Writer, bytes]:
     """The same for an animated PNG, whose frames are those of single PNGs."""
     put = library("PIL.PngImagePlugin").putchunk
-    numbers = iter(range(2 * frames))
+    numbers = itertools.count()
     parts = dict(_parts(first))
-    file.write(b"\x89PNG\r\n\x1a\n")
+    file.write(_HEAD)
     put(file, b"IHDR", parts[b"IHDR"])
     put(file, b"acTL", struct.pack(">II", frames, 0))
     put(file, b"PLTE", parts[b"PLTE"])
-    is_first = iter([True])
 
     def write(image: Image) -> None:
-        head = struct.pack(">IIIIIHHBB", next(numbers), *image.size, 0, 0, milliseconds, 1000, 0, 0)
+        number = next(numbers)
+        head = struct.pack(">IIIIIHHBB", number, *image.size, 0, 0, milliseconds, 1000, 0, 0)
         put(file, b"fcTL", head)
         data = b"".join(part for name, part in _parts(image) if name == b"IDAT")
-        if next(is_first, False):
+        if number == 0:
             put(file, b"IDAT", data)
         else:
             put(file, b"fdAT", struct.pack(">I", next(numbers)) + data)
@@ -88,8 +90,8 @@ def _parts(image: Image) -> Iterator[tuple[bytes, bytes]]:
     """The parts of an image's PNG: their names and contents."""
     data = io.BytesIO()
     image.save(data, "PNG")
-    at, whole = _HEAD, data.getvalue()
-    while at < len(whole):
-        length, name = struct.unpack_from(">I4s", whole, at)
-        yield name, whole[at + 8:at + 8 + length]
+    at, png = len(_HEAD), data.getvalue()
+    while at < len(png):
+        length, name = struct.unpack_from(">I4s", png, at)
+        yield name, png[at + 8:at + 8 + length]
         at += 12 + length

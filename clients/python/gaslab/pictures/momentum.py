@@ -11,11 +11,9 @@ SHOWS = {"px": "momentum to the right", "py": "momentum downwards"}
 
 _FIRST, _LAST = int(palette.density_index(0, 1)), int(palette.density_index(1, 1))
 _ENDS = (palette.CELLS[palette.OBSTACLE], palette.CELLS[palette.EMPTY], palette.CELLS[palette.PARTICLE])
-_STEPS = numpy.linspace(-1, 1, _LAST - _FIRST + 1)
-_SHADES = numpy.rint([numpy.interp(_STEPS, (-1, 0, 1), part) for part in zip(*_ENDS)]).astype(int)
 
 COLOURS: tuple[palette.Colour, ...] = (
-    *palette.DENSITIES[:_FIRST], *((red, green, blue) for red, green, blue in _SHADES.T.tolist()))
+    *palette.DENSITIES[:_FIRST], *palette.blended(_ENDS, _LAST - _FIRST + 1))
 """The palette of these pictures: marks, then orange (left or up), white (none), and blue (right or down)."""
 
 

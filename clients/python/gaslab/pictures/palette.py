@@ -4,6 +4,7 @@ They are from the palette of Okabe and Ito, with greys and two light tints. The 
 each of the three common kinds of colour blindness do. colours.json has them, with those of the page.
 """
 import json
+from collections.abc import Sequence
 from pathlib import Path
 from typing import Union
 
@@ -34,19 +35,23 @@ SHADES: list[str] = _DATA["ramp"]
 """The shades of densities, as #rrggbb, from empty to full, with others between them."""
 CELLS: tuple[Colour, ...] = tuple(map(_parts, _DATA["cells"].values()))
 """The palette of pictures that show each cell: index to colour."""
-
-_FIRST = 7
 RAMP: tuple[Colour, ...] = tuple(map(_parts, SHADES))
-"""The same shades as numbers."""
+"""The `SHADES` as numbers."""
+_FIRST = HIT + 1  # the index of the first shade; marks have those before
 WALL_INSIDE, OBSTACLE_INSIDE = PARTICLE, HIT
 """In `DENSITIES`: the tints inside the outlines of walls and obstacles."""
 _MARKS = {**dict(enumerate(CELLS[:_FIRST])), **dict(zip(
     (WALL, WALL_INSIDE, OBSTACLE_INSIDE, SOURCE, DRAIN), map(_parts, _DATA["marks"].values())))}
-_STEPS = numpy.linspace(0, len(RAMP) - 1, 256 - _FIRST)
-_SHADES = numpy.rint([numpy.interp(_STEPS, range(len(RAMP)), part) for part in zip(*RAMP)])
 
-DENSITIES: tuple[Colour, ...] = (*_MARKS.values(), *(
-    (red, green, blue) for red, green, blue in _SHADES.astype(int).T.tolist()))
+
+def blended(colours: Sequence[Colour], number: int) -> list[Colour]:
+    """So many colours from the first to the last of these, by way of those between them."""
+    places = numpy.linspace(0, len(colours) - 1, number)
+    parts = numpy.rint([numpy.interp(places, range(len(colours)), part) for part in zip(*colours)])
+    return [(red, green, blue) for red, green, blue in parts.astype(int).T.tolist()]
+
+
+DENSITIES: tuple[Colour, ...] = (*_MARKS.values(), *blended(RAMP, 256 - _FIRST))
 """The palette of density pictures: marks, darker for ports, then from empty (white) to full."""
 
 

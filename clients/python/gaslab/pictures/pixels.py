@@ -5,7 +5,7 @@ from typing import Optional, SupportsIndex
 import numpy
 from numpy.typing import NDArray
 
-from ..snapshot.cells import Cells
+from ..snapshot.cells import Cells, directions
 from ..snapshot.counting import count_in_squares, side_of_squares
 from ..snapshot.files import Snapshot
 from . import palette
@@ -20,10 +20,10 @@ _KINDS = numpy.array([[palette.LEFT_UP, palette.LEFT_DOWN],
                       [palette.RIGHT_UP, palette.RIGHT_DOWN]], numpy.uint8)
 
 
-def check_looks(gas: Snapshot, mean: Optional[SupportsIndex], colour: str) -> Optional[int]:
-    """Raises `ValueError` unless a gas can be drawn in squares of so many cells and so coloured.
+def checked_mean(gas: Snapshot, mean: Optional[SupportsIndex], colour: str) -> Optional[int]:
+    """`mean` as an `int`, or None.
 
-    Returns `mean` as an `int`, or None.
+    Raises `ValueError` unless a gas can be drawn in squares of so many cells and so coloured.
     """
     if colour not in COLOURS:
         raise ValueError(f"colour is one of {', '.join(COLOURS)}, and not {colour!r}")
@@ -45,7 +45,7 @@ def cell_pixels(gas: Snapshot, colour: str = "kind") -> Pixels:
     particles, walls, obstacles = gas.particles, gas.walls, gas.obstacles
     kinds = numpy.array(palette.PARTICLE, numpy.uint8)
     if colour == "velocity":
-        right, down = ((numpy.arange(side) + gas.tick + 1) % 2 for side in (gas.width, gas.height))
+        right, down = ((directions(side, gas.tick) + 1) // 2 for side in (gas.width, gas.height))
         kinds = _KINDS[right[None, :], down[:, None]]
     pixels = numpy.where(particles, kinds, pixels)
     pixels[walls] = palette.WALL

@@ -6,7 +6,7 @@ import numpy
 
 from ..lab.gas import Gas, as_snapshot
 from . import palette
-from .pixels import cell_pixels, check_looks, density_pixels
+from .pixels import cell_pixels, checked_mean, density_pixels
 
 _MEANS = (1, 2, 4, 8, 16, 32, 64)
 
@@ -22,7 +22,7 @@ def text_picture(gas: Gas, columns: int = 80, coloured: bool = True, colour: str
     the lower, or none. `tick` is that of bare cells, which need it for the colours of velocities.
     """
     found = as_snapshot(gas, tick, colour == "velocity")
-    asked = check_looks(found, mean, colour)
+    asked = checked_mean(found, mean, colour)
     fitting = (it for it in _MEANS if found.width <= it * columns
                and (rows is None or found.height <= 2 * it * rows))
     square: int = next(fitting, _MEANS[-1]) if asked is None else asked

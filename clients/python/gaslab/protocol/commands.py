@@ -6,10 +6,14 @@ SIDES = range(64, 4097, 64)
 """The widths and heights that a lattice may have, in cells."""
 MOST_STEPS = 4096
 """The most steps that one command makes."""
+MOST_TICK = 2 ** 40
+"""The last tick; the first is -2^40."""
 MOST_ENTRIES = 65536
 """The most entries that a journal has room for."""
 MOST_PORTS = 16
 """The most sources, and the most drains."""
+LEAST_SNAPSHOT, MOST_SNAPSHOT = 1558, 6291766
+"""The bytes of a snapshot that a laboratory writes: of 64 by 64 cells, and of the largest with all ports."""
 MOST_SEATS = 64
 """The most sessions of a server."""
 

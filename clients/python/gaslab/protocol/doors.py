@@ -52,10 +52,12 @@ class _Child:
         if self.maker != os.getpid():
             return  # a fork of the process that started it only lets go of it
         try:
-            _wait(self.process, patience)
-        except subprocess.TimeoutExpired:
-            os.killpg(self.process.pid, signal.SIGKILL)  # it and what it has started
-            self.process.wait()
+            with suppress(subprocess.TimeoutExpired):
+                _wait(self.process, patience)
+        finally:
+            if self.process.returncode is None:  # it was too slow, or Ctrl-C came
+                os.killpg(self.process.pid, signal.SIGKILL)  # it and what it has started
+                self.process.wait()
 
 
 def _wait(process: "subprocess.Popen[bytes]", seconds: float) -> None:

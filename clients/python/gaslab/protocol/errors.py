@@ -7,7 +7,10 @@ from .printable import printable
 
 
 class GaslabError(Exception):
-    """Anything that this package raises by itself, but for wrong arguments."""
+    """Anything that this package raises by itself, but for wrong arguments and for calls at the same time.
+
+    Those are `ValueError` and `TypeError`, and `RuntimeError` for a second thread that asks a lab.
+    """
 
 
 class Refused(GaslabError):
@@ -45,7 +48,7 @@ class Unreachable(GaslabError, ConnectionError):
 
 
 class Gone(GaslabError, ConnectionError):
-    """The other side ended before it had answered."""
+    """The other side ended before it had answered, or the session was closed."""
 
 
 class Silent(GaslabError, TimeoutError):

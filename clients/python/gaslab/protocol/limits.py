@@ -55,7 +55,8 @@ def _count(word: str, rest: list[str], size: Optional[Size]) -> str:
 
 
 def _no_entry(word: str, rest: list[str], size: Optional[Size]) -> str:
-    return f"the journal has no entry {rest[0]} yet" if word == "entry" and rest[0].isdecimal() else ""
+    is_entry = word == "entry" and len(rest) == 1 and rest[0].isdecimal()
+    return f"the journal has no entry {rest[0]} yet" if is_entry else ""
 
 
 def _digits(word: str, rest: list[str], size: Optional[Size]) -> str:

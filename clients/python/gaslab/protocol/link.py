@@ -64,21 +64,16 @@ class Link:
         self.unsent += line.encode() + b"\n"
 
     def next_line(self, refill: Callable[[], None] = lambda: None) -> str:
-        """The next line that arrives. `refill` is called on the way, to queue more lines.
-
-        Raises `Gone` if the other side ends first, and `Silent` if the line is not whole after the timeout.
-        The time that `refill` takes is not counted.
-        """
-        if not self._lines:
-            self._await(refill)
-        line = self._lines.popleft()
-        try:
-            return line.decode()
-        except UnicodeDecodeError:
-            raise Strange(f"no reply of a laboratory: {line[:80]!r}") from None
+        """The next line that arrives, with U+FFFD for what is no UTF-8: no reply has that."""
+        line, = self.next_lines(1, refill)
+        return line.decode(errors="replace")
 
     def next_lines(self, most: int, refill: Callable[[], None] = lambda: None) -> list[bytes]:
-        """The lines that have arrived, from one to so many, in the way of `next_line`."""
+        """The lines that have arrived, one to so many. `refill` is called on the way, to queue more lines.
+
+        Raises `Gone` if the other side ends first, and `Silent` if no line is whole after the timeout. The
+        time that `refill` takes is not counted.
+        """
         if not self._lines:
             self._await(refill)
         return [self._lines.popleft() for _ in range(min(most, len(self._lines)))]

@@ -79,7 +79,7 @@ def _built(script: Path) -> Path:
                               stdout=subprocess.PIPE, stderr=subprocess.DEVNULL, text=True,
                               timeout=_LONGEST_SUM)
         status, told = done.returncode, done.stdout.rstrip("\n")
-    except subprocess.TimeoutExpired:
+    except (OSError, subprocess.TimeoutExpired):
         status, told = -1, ""
     if status or not os.access(told, os.X_OK):
         what = _BUILT.get(status, "does not say whether it is built")

@@ -6,8 +6,8 @@ from typing import Any, NamedTuple, Optional, Union
 import numpy
 from numpy.typing import NDArray
 
-from .commands import MOST_ENTRIES, MOST_SEATS, SIDES, parse_change
-from .errors import Refused, Strange
+from .commands import LEAST_SNAPSHOT, MOST_ENTRIES, MOST_SEATS, MOST_SNAPSHOT, MOST_TICK, SIDES, parse_change
+from .errors import GaslabError, Refused, Strange
 from .limits import REFUSALS, Size
 from .printable import printable
 
@@ -83,9 +83,9 @@ _COUNT, _MOMENTUM = (0, _MOST_CELLS), (-_MOST_CELLS, _MOST_CELLS)
 _ACCOUNT = (1 - 2 ** 63, 2 ** 63 - 1)
 _NUMBERS: dict[str, tuple[Any, tuple[tuple[int, int], ...]]] = {
     "OK": (Ok, ((0, MOST_ENTRIES - 1),)), "PROBE": (Probe, (_COUNT, _MOMENTUM, _MOMENTUM)),
-    "TALLY": (Tally, ((-2 ** 40, 2 ** 40), _COUNT, _MOMENTUM, _MOMENTUM)),
-    "LEDGER": (Ledger, 13 * (_ACCOUNT,)), "SAVED": (Saved, ((0, MOST_ENTRIES), (1558, 6291766))),
-    "BYE": (Bye, ())}
+    "TALLY": (Tally, ((-MOST_TICK, MOST_TICK), _COUNT, _MOMENTUM, _MOMENTUM)),
+    "LEDGER": (Ledger, 13 * (_ACCOUNT,)),
+    "SAVED": (Saved, ((0, MOST_ENTRIES), (LEAST_SNAPSHOT, MOST_SNAPSHOT))), "BYE": (Bye, ())}
 _WORDS: dict[type, str] = {Row: "ROW", Entry: "ENTRY", **{kind: word for word, (kind, _) in _NUMBERS.items()}}
 _NUMBER = re.compile(r"0|-?[1-9][0-9]{0,18}", re.ASCII)
 _ENTRY = re.compile(r"(0|[1-9][0-9]?) (.*)", re.ASCII)
@@ -140,8 +140,10 @@ def _entry(rest: str) -> Optional[Entry]:
     return Entry(int(match[1]), match[2])
 
 
-def no_answer(line: str, reply: Reply) -> Strange:
-    """The fault of a reply that is none to this line."""
+def no_answer(line: str, reply: Reply) -> GaslabError:
+    """The fault of a reply that is none to this line. Memory can run out at any line: that is a refusal."""
+    if isinstance(reply, Refused) and reply.number == 14:
+        return reply
     return Strange(f"no answer to {line[:60]!r}: {printable(str(reply))[:80]}")
 
 

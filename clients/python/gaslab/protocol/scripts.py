@@ -78,18 +78,13 @@ def parse_script(text: Union[str, Iterable[str]]) -> Script:
     return Script(size, parts)
 
 
-def journal_script(size: Size, commands: Iterable[str], is_after_snapshot: bool = False) -> str:
-    """The script of a journal, of lines that a laboratory takes: steps that follow one another are joined.
+def journal_lines(size: Size, commands: Iterable[str], is_after_snapshot: bool = False) -> Iterator[str]:
+    """A journal's script, as lines with their newlines. A laboratory takes each of them.
 
-    Its first line probes the whole lattice, which tells its size. If the journal began from a snapshot, it
-    asks for the ledger instead. The last two lines ask for tally and ledger.
+    Steps that follow one another are joined. The first line probes the whole lattice, which tells its size.
+    If the journal began from a snapshot, it asks for the ledger instead. The last two lines ask for tally and
+    ledger.
     """
-    return "".join(journal_lines(size, commands, is_after_snapshot))
-
-
-def journal_lines(size: Size, commands: Iterable[str],
-                  is_after_snapshot: bool = False) -> Iterator[str]:
-    """The lines of that script, with their newlines."""
     last = "ledger" if is_after_snapshot else "probe 0 0 {} {}".format(*size)
     for command in commands:
         word, *words = command.split(" ")

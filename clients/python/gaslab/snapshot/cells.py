@@ -16,7 +16,7 @@ def check_sides(width: object, height: object) -> None:
     """Raises `ValueError` unless a lattice may be so wide and so high."""
     if width not in SIDES or height not in SIDES:
         raise ValueError("sides are multiples of 64 from 64 to 4,096, and not "
-                         f"{width} by {height} (width by height)")
+                         f"{width!r} by {height!r} (width by height)")
 
 
 def as_truth(given: ArrayLike, what: str) -> Cells:
@@ -51,6 +51,19 @@ def as_cells(cells: ArrayLike, what: str = "the array") -> Cells:
         raise ValueError(f"{what} has shape (height, width), both multiples of 64 from 64 to 4,096, and not "
                          f"{found.shape}")
     return found
+
+
+def direction(place: int, tick: int) -> int:
+    """Which way a particle in this column moves at a tick: 1 to the right, -1 to the left.
+
+    By its row it moves 1 downwards or -1 upwards.
+    """
+    return 1 - 2 * ((place + tick) % 2)
+
+
+def directions(side: int, tick: int) -> NDArray[numpy.int64]:
+    """The same of all columns or rows of a lattice, from 0 on."""
+    return 1 - 2 * ((numpy.arange(side, dtype=numpy.int64) + tick) % 2)
 
 
 def plane_of(cells: Cells) -> bytes:

@@ -7,7 +7,7 @@ from numpy.typing import NDArray
 
 from ..protocol.commands import SIDES
 from ..protocol.numbers import whole
-from .cells import array_of
+from .cells import array_of, direction, directions
 
 Counts = NDArray[numpy.int64]
 
@@ -39,17 +39,16 @@ def in_squares(plane: bytes, width: int, mean: int, tick: int) -> Sums:
     `mean` divides both sides. A particle in (x, y) moves to the right if x + tick is even, and downwards if
     y + tick is.
     """
-    sign = 1 - 2 * (tick % 2)
     if mean % 8:
         cells = array_of(plane, width).view(numpy.int8)
-        right, down = (sign * (1 - 2 * (numpy.arange(side) % 2)).astype(numpy.int8)
-                       for side in cells.shape[::-1])
+        right, down = (directions(side, tick).astype(numpy.int8) for side in cells.shape[::-1])
         parts = cells, cells * right, cells * down[:, None]
         return Sums(*(_columns_added(_rows_added(part, mean), mean) for part in parts))
     packed = numpy.frombuffer(plane, numpy.uint8).reshape(-1, width // 8)
     pairs = _COUNT[packed].reshape(-1, 2, width // 8)
     even, odd = (_columns_added(_rows_added(pairs[:, k], mean // 2), mean // 8) for k in (0, 1))
     slant = _columns_added(_rows_added(_SLANT[packed], mean), mean // 8)
+    sign = direction(0, tick)
     return Sums(even + odd, sign * slant, sign * (even - odd))
 
 
@@ -66,17 +65,15 @@ def in_columns(plane: bytes, width: int, tick: int) -> Sums:
     bits = array_of(plane, width).view(numpy.uint8)
     few = numpy.add.reduce(bits.reshape(-1, _ROWS // 2, 2, width), axis=1, dtype=numpy.uint8)
     even, odd = few.sum(axis=0, dtype=numpy.int64)
-    sign = 1 - 2 * (tick % 2)
     count = even + odd
-    return Sums(count, sign * (1 - 2 * (numpy.arange(width) % 2)) * count, sign * (even - odd))
+    return Sums(count, directions(width, tick) * count, direction(0, tick) * (even - odd))
 
 
 def in_rows(plane: bytes, width: int, tick: int) -> Sums:
     """The sums of each row, of shape (height,)."""
     packed = numpy.frombuffer(plane, numpy.uint8).reshape(-1, width // 8)
     count, slant = (table[packed].sum(axis=1, dtype=numpy.int64) for table in (_COUNT, _SLANT))
-    sign = 1 - 2 * (tick % 2)
-    return Sums(count, sign * slant, sign * (1 - 2 * (numpy.arange(len(count)) % 2)) * count)
+    return Sums(count, direction(0, tick) * slant, directions(len(count), tick) * count)
 
 
 def _rows_added(numbers: NDArray[Any], rows: int) -> NDArray[Any]:

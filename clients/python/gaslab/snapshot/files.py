@@ -5,18 +5,18 @@ from collections.abc import Iterable, Iterator
 from contextlib import contextmanager
 from dataclasses import dataclass, field
 from functools import cached_property
+from secrets import token_hex
 from typing import Any, BinaryIO, NamedTuple, Optional, SupportsIndex
 
 from numpy.typing import ArrayLike
 
-from ..protocol.commands import MOST_PORTS, SIDES
+from ..protocol.commands import MOST_PORTS, MOST_SNAPSHOT, MOST_TICK, SIDES
 from ..protocol.doors import PathLike
 from ..protocol.errors import GaslabError
-from ..protocol.numbers import whole
+from ..protocol.numbers import whole_tick
 from .cells import Cells, array_of, as_cells, check_sides, plane_of
 from .counting import count_in_squares
 
-_LONGEST = 6291766  # bytes
 _LARGEST_SIDE = {b"HPPGAS1\n": 2048, b"HPPGAS2\n": 4096}
 
 
@@ -82,7 +82,7 @@ class Snapshot:
     `width` and `height` are in cells, `tick` in steps. The three sets of cells are packed planes of `width *
     height / 8` bytes; `particles`, `walls` and `obstacles` are the same as arrays of truth values of shape
     (height, width), which are made once and can't be written: `.copy()` can. Drains and sources are in the
-    order in which they were added.
+    order in which they were added. `version` is that of the file that it was read from; `write` writes 2.
     """
     width: int
     height: int
@@ -125,19 +125,20 @@ class Snapshot:
                              + (" and ".join(map(str, sorted(shapes))) or "none is given"))
         (height, width), = shapes
         planes = [plane_of(given[name]) if name in given else b"" for name in named]
-        now = whole("tick", tick or 0, -2 ** 40, 2 ** 40)
-        gas = cls(width, height, now, tuple(Drain(*it) for it in drains),
-                  tuple(Source(*it) for it in sources), planes[0], planes[1], planes[2])
+        now = whole_tick(tick)
         try:
+            gas = cls(width, height, now, tuple(Drain(*it) for it in drains),
+                      tuple(Source(*it) for it in sources), planes[0], planes[1], planes[2])
             return cls.from_bytes(gas.to_bytes())
-        except struct.error as fault:
-            raise ValueError(f"a port is out of range: {fault}") from None
+        except (struct.error, TypeError) as fault:
+            raise ValueError(f"a drain is (x, y, w, h) and a source (x, y, w, h, period), of whole numbers "
+                             f"from 0, and there are at most {MOST_PORTS} of each: {fault}") from None
 
     @classmethod
     def read(cls, path: PathLike) -> "Snapshot":
         """The snapshot in a file. Raises a `SnapshotFault`, or `OSError` from the file."""
         with open(path, "rb") as file:
-            return cls.from_bytes(file.read(_LONGEST + 1))
+            return cls.from_bytes(file.read(MOST_SNAPSHOT + 1))
 
     @classmethod
     def from_bytes(cls, data: bytes) -> "Snapshot":
@@ -202,7 +203,7 @@ class _Reader:
         if not all(side in SIDES and side <= _LARGEST_SIDE[magic] for side in (width, height)):
             raise SizeFault(f"{width} by {height} in a snapshot that begins with {magic!r}")
         tick, = self.take(">q", "the tick")
-        if abs(tick) > 2 ** 40:
+        if abs(tick) > MOST_TICK:
             raise TickFault(f"{tick} is not from -2^40 to 2^40")
         drains, sources = self.take("BB", "the counts of ports")
         if drains > MOST_PORTS or sources > MOST_PORTS:
@@ -235,8 +236,12 @@ def draft(path: PathLike) -> Iterator[BinaryIO]:
     place = os.path.realpath(path)
     is_file = os.path.isfile(place) or not os.path.exists(place)
     folder, name = os.path.split(place)
-    beside = os.path.join(folder, f".{name}.{os.getpid()}.tmp") if is_file else place
-    file = open(beside, "xb" if is_file else "wb")
+    beside = os.path.join(folder, f".{name}.{token_hex(4)}.tmp") if is_file else place
+    try:
+        file = open(beside, "xb" if is_file else "wb")
+    except OSError as fault:
+        fault.filename = os.fspath(path)  # nobody knows the other name
+        raise
     try:
         with file:
             yield file

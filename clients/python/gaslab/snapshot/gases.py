@@ -4,8 +4,8 @@ from typing import Optional, SupportsIndex, Union
 
 import numpy
 
-from ..protocol.numbers import whole
-from .cells import Cells, check_sides, plane_of
+from ..protocol.numbers import whole, whole_tick
+from .cells import Cells, check_sides, directions, plane_of
 
 Drift = Union[float, tuple[float, float]]
 """The mean velocity to the right, or a pair with that downwards, in columns and rows a step."""
@@ -41,10 +41,8 @@ def random_rows(width: SupportsIndex, height: SupportsIndex, density: float, dri
     if (drift_x or drift_y) and tick is None:
         raise ValueError("a drift needs tick=, the tick at which the lines are done: 0 for a new gas, "
                          "lab.tick for that of a laboratory")
-    start = 0 if seed is None else whole("seed", seed, 0, 2 ** 32 - 1)
     # its numbers stay the same in each version of numpy
-    draw = numpy.random.RandomState(None if seed is None else start)
-    now = whole("tick", tick or 0, -2 ** 40, 2 ** 40)
-    right, down = (1 - 2 * ((numpy.arange(int(side)) + now) % 2) for side in (width, height))
+    draw = numpy.random.RandomState(None if seed is None else whole("seed", seed, 0, 2 ** 32 - 1))
+    right, down = (directions(int(side), whole_tick(tick)) for side in (width, height))
     across = 1 + drift_x * right
     return (draw.random_sample(across.size) < share * across for share in density * (1 + drift_y * down))
