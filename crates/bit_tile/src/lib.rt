@@ -16,13 +16,6 @@ pub use row::counts_in_row;
 pub use word::joined;
 use word::{gather, in_turn};
 
-static NO_CELLS: Tile = Tile {
-    even_even: [0; 32],
-    odd_even: [0; 32],
-    even_odd: [0; 32],
-    odd_odd: [0; 32],
-};
-
 /// A set of 64 by 64 cells, in four classes by the parities of column and row (`odd_even`: odd columns of even rows). Bit i
 /// of word j of a class is the cell in the class's column i and row j: the cell in column 5 of row 8 is bit 2 of
 /// `odd_even[4]`.
@@ -47,14 +40,6 @@ impl Tile {
             even_odd: [0; 32],
             odd_odd: [0; 32],
         }
-    }
-
-    /// The one tile without cells that all planes share for reading, so that it stays in the cache.
-    #[inline]
-    pub fn shared_empty() -> &'static Tile
-        ensures { HasCells result.now (λ _ _. false) }
-    {
-        &NO_CELLS
     }
 
     /// All cells.

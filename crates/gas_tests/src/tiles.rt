@@ -192,9 +192,8 @@ fn cells_of_a_row_are_counted_by_class(rt: HostRuntime) {
 #[test]
 fn whole_and_empty_tiles(rt: HostRuntime) {
     expect_same(&rt, Tile::full().count(), 4096);
-    expect_same(&rt, Tile::shared_empty().count(), 0);
+    expect_same(&rt, Tile::empty().count(), 0);
     expect_that(&rt, same_cells(&Tile::full(), &Tile::rect(0, 0, 64, 64)));
-    expect_that(&rt, same_cells(Tile::shared_empty(), &Tile::empty()));
     for (x, y) in [(0, 0), (63, 0), (5, 31), (0, 63), (63, 63)] {
         let mut tile = Tile::full();
         tile.set(x, y, false);
