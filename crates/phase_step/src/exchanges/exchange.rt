@@ -72,8 +72,7 @@ impl Exchange {
         self.drains.len() == 0 && self.sources.len() == 0
     }
 
-    /// False only if all cells of the tile that begins at (left, top) stay. A tile that is met by no rectangle is not looked at
-    /// again.
+    /// False only if all cells of the tile that begins at (left, top) stay.
     #[inline]
     pub fn meets(&self, left: u32, top: u32) -> bool
         requires { IsTileCorner left top }

@@ -176,7 +176,8 @@ pub fn turn_part(particles: &mut Plane, known: KnownSolid<'_>, part: Part, parit
     requires parity { parity < 2 }
     requires ready { IsReady part (all_of known.solids.now) particles.old (64 - parity) }
     ensures sides { HasSidesOf particles.new particles.old }
-    ensures phase { IsTurned part parity (all_of known.entry.solids.now) particles.old particles.new }
+    ensures phase { let solid = all_of known.entry.solids.now in
+        IsTurned part parity solid particles.old particles.new }
 {
     if parity == 0 {
         turn_even_part(particles, known, part);

@@ -34,7 +34,8 @@ impl SetWords {
     /// Those of the set, with what others name. Fails if memory runs out.
     pub fn of(alloc: Global, set: &Plane, others: Option<&SetWords>) -> Result<SetWords, NoMemory>
         requires { HaveOthers set.now (option_copied others) }
-        ensures { IfOk result (λ words. (other : Cells) → AreOthers set.now (option_copied others.entry) other →
+        ensures { IfOk result (λ words. (other : Cells) →
+            AreOthers set.now (option_copied others.entry) other →
             AreBlocksOf (joined set.now other) words.rows.items words.blocks.items) }
     {
         let tiles = set.size().tiles();
