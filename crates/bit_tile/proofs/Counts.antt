@@ -1,5 +1,5 @@
 -- Counts of a class.
-use Rattle.std.proofs.Common.{◌≡◌, ℕ, ◌+◌, ◌*◌, ◌%◌, ◌^◌, ◌<◌, ◌==◌, Bool, false, not, inl, inr, ◌&&◌, if◌then◌else◌, zero, suc, List, [], ◌∷◌, get_or, bit_and, sym, ◌∙◌, ap, ap₂, arith}
+use Rattle.std.proofs.Common.{◌≡◌, ℕ, ◌+◌, ◌*◌, ◌%◌, ◌^◌, ◌<◌, ◌==◌, Bool, true, false, not, inl, inr, ◌&&◌, if◌then◌else◌, zero, suc, List, [], ◌∷◌, get_or, bit_and, sym, ◌∙◌, ap, ap₂, arith}
 use Rattle.std.proofs.lemmas.Bool.{cases_eq, eq-eqb, ne_eqb, and_right}
 use Rattle.std.proofs.lemmas.Nat.{and_le_l}
 use Rattle.bit_tile.specs.Bit.{bit}
@@ -94,6 +94,9 @@ sum_below-add zero f g = omega (arith, sum_below-zero f, sum_below-zero g, sum_b
 sum_below-add (suc n) f g =
     omega (arith, sum_below-suc n f, sum_below-suc n g, sum_below-suc n (λ k. f k + g k), sum_below-add n f g)
 
+part_first : (p a b : Bool) → ((true && a && b) && p) ≡ (p && a && b)
+part_first p a b = grind arith
+
 abbrev pub cells_counted : (ℕ → ℕ → Bool) → ℕ
 cells_counted test = sum_below 64 (λ y. count_below 64 (λ x. test x y))
 
@@ -106,6 +109,24 @@ pub cells-split : (p r : ℕ → ℕ → Bool) → cells_counted p ≡ cells_cou
 cells-split p r =
     sum_below-same 64 _ _ (λ y _. count_below-split 64 (λ x. p x y) (λ x. r x y))
     ∙ sum_below-add 64 (λ y. count_below 64 (λ x. p x y && r x y)) (λ y. count_below 64 (λ x. p x y && not (r x y)))
+
+-- all pass
+count_below-all : (n : ℕ) → count_below n (λ _. true) ≡ n
+count_below-all zero = count_below-zero (λ _. true)
+count_below-all (suc n) = omega (arith, count_below-suc n (λ _. true), count_below-all n)
+
+sum_below-of : (n m : ℕ) → sum_below n (λ _. m) ≡ n * m
+sum_below-of zero m = omega (arith, sum_below-zero (λ _. m))
+sum_below-of (suc n) m = omega (arith, sum_below-suc n (λ _. m), sum_below-of n m)
+
+-- a class has 1,024 cells: those of a set, and the others
+pub whole_class : (has : ℕ → ℕ → Bool) (i j : ℕ) → i < 2 → j < 2 → class has i j + class (λ x y. not (has x y)) i j ≡ 1024
+whole_class has i j i_two j_two =
+    let all = class_count (λ _ _. true) i j i_two j_two ∙ (sum_below-same 32 _ (λ _. 32) (λ k _. count_below-all 32) ∙ sum_below-of 32 32) in
+    let split = cells-split (λ x y. true && x % 2 == i && y % 2 == j) has in
+    let own = cells_same (λ x y. (true && x % 2 == i && y % 2 == j) && has x y) (λ x y. has x y && x % 2 == i && y % 2 == j) (λ x y _ _. part_first (has x y) (x % 2 == i) (y % 2 == j)) in
+    let rest = cells_same (λ x y. (true && x % 2 == i && y % 2 == j) && not (has x y)) (λ x y. not (has x y) && x % 2 == i && y % 2 == j) (λ x y _ _. part_first (not (has x y)) (x % 2 == i) (y % 2 == j)) in
+    omega (arith, all, split, own, rest)
 
 -- the cells in the columns of a parity are two classes, and so are those in the rows of a parity
 not_one : (n : ℕ) → not (n % 2 == 0) ≡ (n % 2 == 1)

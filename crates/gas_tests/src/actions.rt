@@ -185,6 +185,31 @@ fn exchange_of_a_tile(rt: HostRuntime) {
     }
 }
 
+// The tile at the left, or the one at the right.
+fn whole_tile(rt: &impl Abort, x: u32) -> Rect {
+    let size = Size::new(128, 64).expect(rt, "a size");
+    Rect::within(size, x, 0, 64, 64).expect(rt, "a rectangle")
+}
+
+// A tile has 1,024 cells of each class. Six are held at first.
+#[test]
+fn exchange_of_a_whole_tile(rt: HostRuntime) {
+    let (here, beside) = (whole_tile(&rt, 0), whole_tile(&rt, 64));
+    let filled = [1022, 1023, 1022, 1023];
+    let cases = [
+        (stroke(here, beside), Tile::empty(), [0; 4], [2, 1, 2, 1]),
+        (stroke(beside, here), Tile::full(), filled, [0; 4]),
+        (stroke(here, here), Tile::full(), filled, [0; 4]),
+    ];
+    for (exchange, want, gained, lost) in cases {
+        let mut tile = Tile::rect(0, 0, 3, 2);
+        let change = exchange.on_tile(0, 0, &mut tile);
+        expect_that(&rt, same_cells(&tile, &want));
+        expect_same(&rt, change.gained, gained);
+        expect_same(&rt, change.lost, lost);
+    }
+}
+
 #[test]
 fn exchange_without_ports_is_still(rt: HostRuntime) {
     let none = Exchange::none();

@@ -1,11 +1,11 @@
 -- What comes and goes in one tile.
-use Rattle.std.proofs.Common.{◌≡◌, ℕ, ◌+◌, ◌*◌, ◌/◌, ◌%◌, ◌<◌, ◌≤◌, ◌==◌, ◌&&◌, not, Bool, false, cond, get_or, List, [], ◌∷◌, refl, sym, ◌∙◌, ap, ap₂, arith, ℤ}
+use Rattle.std.proofs.Common.{◌≡◌, ℕ, ◌+◌, ◌-◌, ◌*◌, ◌/◌, ◌%◌, ◌<◌, ◌≤◌, ◌==◌, ◌&&◌, not, Bool, false, cond, get_or, List, [], ◌∷◌, refl, sym, ◌∙◌, ap, ap₂, arith, ℤ}
 use Rattle.bit_tile.specs.Tile as tile
 use Rattle.bit_tile.specs.Tile.{HasCells, count_cells}
 use Rattle.bit_tile.specs.declared.Tile.{Tile}
 use Rattle.bit_tile.proofs.Sums.{sum_below-same, count_below-same}
 use Rattle.bit_tile.proofs.Bits.{get_or-replicate_zero}
-use Rattle.bit_tile.proofs.Counts.{cells_counted-none}
+use Rattle.bit_tile.proofs.Counts.{cells_counted-none, whole_class}
 use Rattle.gas_terms.specs.Cells.{Cells, Rectangle, has, without, tile_count}
 use Rattle.gas_terms.specs.Accounts.{total_in, parity_count}
 use Rattle.gas_terms.specs.Accounts as accounts
@@ -35,6 +35,10 @@ counts_as counts f g are same = record { count = λ a b p q. are.count a b p q �
 -- the counts of a tile's cells, as wider numbers
 pub widened_counts : (counts wide : List ℕ) (t : Tile) → ((i j : ℕ) → i < 2 → j < 2 → get_or counts (2 * j + i) 0 ≡ count_cells (λ x y. tile.has t x y && x % 2 == i && y % 2 == j)) → ((k : ℕ) → get_or counts k 0 ≤ 2048) → ((k : ℕ) → get_or wide k 0 ≡ get_or counts k 0) → AreTileCounts wide (tile.has t)
 widened_counts counts wide t are few same = record { count = λ a b p q. same (2 * b + a) ∙ are a b p q; few = λ k _. omega (arith, same k, few k) }
+
+-- the counts of those that are not there
+pub lacking_counts : (counts lacking : List ℕ) (t : Tile) → ((i j : ℕ) → i < 2 → j < 2 → get_or counts (2 * j + i) 0 ≡ count_cells (λ x y. tile.has t x y && x % 2 == i && y % 2 == j)) → ((k : ℕ) → k < 4 → get_or lacking k 0 ≡ 1024 - get_or counts k 0) → AreTileCounts lacking (λ x y. not (tile.has t x y))
+lacking_counts counts lacking t are same = record { count = λ a b p q. omega (arith, same (2 * b + a) (omega arith), are a b p q, whole_class (tile.has t) a b p q); few = λ k h. omega (arith, same k h) }
 
 -- no cell passes
 pub no_counts : (test : ℕ → ℕ → Bool) → ((x y : ℕ) → x < 64 → y < 64 → test x y ≡ false) → AreTileCounts (0 ∷ 0 ∷ 0 ∷ 0 ∷ []) test

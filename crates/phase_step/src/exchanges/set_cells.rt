@@ -1,6 +1,6 @@
 //! Fills or empties the cells that rectangles have of a tile, and counts those that change.
 
-ghost use Rattle.std.specs.Prelude.{◌≡◌, ℕ, ◌+◌, ◌<◌, ◌&&◌, true, false, if◌then◌else◌, IsTrue, MatchOption, slice_index};
+ghost use Rattle.std.specs.Prelude.{◌≡◌, ℕ, ◌+◌, ◌-◌, ◌<◌, ◌&&◌, true, false, if◌then◌else◌, IsTrue, MatchOption, slice_index};
 ghost use Rattle.bit_tile.specs.Tile.{HasCells};
 ghost use Rattle.bit_tile.specs.Tile as in_tile;
 ghost use Rattle.phase_step.specs.Counts.{AreTileCounts, changes};
@@ -20,6 +20,35 @@ fn widened(counts: [u32; 4]) -> [u64; 4]
         counts[2] as u64,
         counts[3] as u64,
     ]
+}
+
+// How many cells the classes of a tile lack.
+#[inline(always)]
+fn lacking(counts: [u32; 4]) -> [u64; 4]
+    ensures { (k : ℕ) → k < 4 → slice_index result k ≡ 1024 - slice_index counts k }
+{
+    let [a, b, c, d] = widened(counts);
+    [
+        1024u64.saturating_sub(a),
+        1024u64.saturating_sub(b),
+        1024u64.saturating_sub(c),
+        1024u64.saturating_sub(d),
+    ]
+}
+
+// Fills or empties a whole tile. Returns how many cells change, by their classes.
+fn set_all(tile: &mut Tile, held: bool) -> [u64; 4]
+    ensures cells { HasCells tile.new (λ _ _. held) }
+    ensures count { AreTileCounts result (λ x y. changes held (in_tile.has tile.old x y)) }
+{
+    let counts = tile.count_by_parity();
+    if held {
+        *tile = Tile::full();
+        lacking(counts)
+    } else {
+        *tile = Tile::empty();
+        widened(counts)
+    }
 }
 
 // Fills or empties those cells of a tile. Returns how many change, by their classes.
@@ -55,15 +84,25 @@ fn one_covers(areas: &[Rect], left: u32, top: u32) -> bool
     false
 }
 
+// Whether no rectangle has a cell of the tile that begins at (left, top).
+fn are_apart(areas: &[Rect], left: u32, top: u32) -> bool
+    ensures { IsTrue result → (x y : ℕ) → x < 64 → y < 64 →
+        is_in_any areas.now (left + x) (top + y) ≡ false }
+{
+    for area in areas {
+        if part_of(*area, left, top).is_some() {
+            return false;
+        }
+    }
+    true
+}
+
 // The cells that the rectangles have of the tile that begins at (left, top), if there are any.
 fn cells_of(areas: &[Rect], left: u32, top: u32) -> Option<Tile>
     ensures { MatchOption result
         ((x y : ℕ) → x < 64 → y < 64 → is_in_any areas.now (left + x) (top + y) ≡ false)
         (λ cells. HasCells cells (λ x y. is_in_any areas.now (left + x) (top + y))) }
 {
-    if one_covers(areas, left, top) {
-        return Some(Tile::full());
-    }
     let mut cells: Option<Tile> = None;
     for area in areas {
         if let Some(part) = part_of(*area, left, top) {
@@ -76,15 +115,12 @@ fn cells_of(areas: &[Rect], left: u32, top: u32) -> Option<Tile>
     cells
 }
 
-// Those that no rectangle of `kept` has. If one of these has the whole tile, no other is looked at.
+// Those that no rectangle of `kept` has.
 fn cells_but(areas: &[Rect], kept: &[Rect], left: u32, top: u32) -> Option<Tile>
     ensures { MatchOption result
         ((x y : ℕ) → x < 64 → y < 64 → is_set areas.now kept.now (left + x) (top + y) ≡ false)
         (λ cells. HasCells cells (λ x y. is_set areas.now kept.now (left + x) (top + y))) }
 {
-    if one_covers(kept, left, top) {
-        return None;
-    }
     let Some(mut cells) = cells_of(areas, left, top) else {
         return None;
     };
@@ -109,6 +145,12 @@ pub fn set_areas(
     ensures count { AreTileCounts result (λ x y.
         is_set areas.now kept.now (left + x) (top + y) && changes held (in_tile.has tile.old x y)) }
 {
+    if one_covers(kept, left, top) {
+        return [0; 4];
+    }
+    if one_covers(areas, left, top) && are_apart(kept, left, top) {
+        return set_all(tile, held);
+    }
     match cells_but(areas, kept, left, top) {
         Some(cells) => set_cells(tile, &cells, held),
         None => [0; 4],
