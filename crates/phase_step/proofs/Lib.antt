@@ -22,6 +22,7 @@ pub mod OwnTiles
 pub mod EvenRows
 pub mod OddParts
 pub mod TwoPhases
+pub mod StripSweeps
 pub mod PartActs
 pub mod StillRuns
 pub mod RowTiles

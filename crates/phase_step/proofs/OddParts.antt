@@ -143,7 +143,7 @@ module _ (part : Part) (solid old : Cells) (row : ℕ) (sized : is_size (extent 
         }
 
     -- its rows of cells in the lattice
-    inner_there : (y : ℕ) → y < 64 → row_in part (row * 64 + y) ≡ place.there * 64 + y
+    pub inner_there : (y : ℕ) → y < 64 → row_in part (row * 64 + y) ≡ place.there * 64 + y
     inner_there y h = row_turns (start_of part) row part.down y some_down h
 
     turn_there : (start_of part + place.below) % part.down ≡ (place.there + 1) % part.down
@@ -163,7 +163,7 @@ module _ (part : Part) (solid old : Cells) (row : ℕ) (sized : is_size (extent 
               ∙ (ap (λ n. n % part.down) (let z : start_of part + part.down ≡ start_of part + row + 1 = omega (arith, turn) in z) ∙ sym (mod-add-mod (start_of part + row) part.down 1))))
         ]
 
-    below_in : row_in part (place.below * 64) ≡ below_there place lattice * 64
+    pub below_in : row_in part (place.below * 64) ≡ below_there place lattice * 64
     below_in =
         let z : place.below * 64 ≡ place.below * 64 + 0 = omega arith in
         let n : below_there place lattice * 64 + 0 ≡ below_there place lattice * 64 = omega arith in

@@ -4,7 +4,7 @@ use Rattle.std.specs.Prelude.{◌≡◌, ◌⊎◌, ℕ, ◌+◌, ◌-◌, ◌*�
 use Rattle.bit_tile.specs.Bit.{bit}
 use Rattle.bit_tile.specs.Tile as tile
 use Rattle.bit_tile.specs.declared.Tile.{Tile}
-use Rattle.gas_terms.specs.Cells.{Cells, HasSidesOf, has, extent, is_size}
+use Rattle.gas_terms.specs.Cells.{Cells, HasSidesOf, has, extent, is_size, tile_count}
 use Rattle.gas_terms.specs.Gas.{streamed}
 use Rattle.gas_plane.specs.Planes.{IsLattice}
 use Rattle.block_rule.specs.Around.{turned}
@@ -13,7 +13,7 @@ use Rattle.block_rule.specs.TileBlocks.{AreGivenBlocks, walled_by}
 use Rattle.block_rule.specs.declared.blocks.Blocks.{Blocks}
 use Rattle.block_rule.specs.declared.blocks.Beside.{Beside}
 use Rattle.block_rule.specs.declared.in_place.Carry.{Carry}
-use Rattle.phase_step.specs.Parts.{AreMadeTo}
+use Rattle.phase_step.specs.Parts.{start_of, row_in, AreMadeTo}
 use Rattle.phase_step.specs.declared.parts.Part.{Part}
 use Rattle.phase_step.specs.declared.odd_phase.RowPlace.{RowPlace}
 use Rattle.phase_step.specs.declared.odd_phase.RowTurner.{RowTurner}
@@ -173,3 +173,37 @@ TurnsSecond row solid now new = (old : Cells) → IsLattice old → IsNextTurned
 
 abbrev pub TurnsTwice : ℕ → Cells → Cells → Cells → Type 0
 TurnsTwice row solid now new = (old : Cells) → IsLattice old → AreTurnedTwice row (once_turned solid old) (twice_turned solid old) old now → AreTurnedTwice (row + 1) (once_turned solid old) (twice_turned solid old) old new
+
+-- where a row of tiles of a part stands, that has so many of them
+abbrev pub place_at : Part → ℕ → ℕ → RowPlace
+place_at part down row = record { row = row; below = (row + 1) % down; there = (start_of part + row) % part.down }
+
+-- The blocks of parity 1 that begin in a row of tiles have turned.
+pub record IsBegunTurned (place : RowPlace) (next old now : Cells) : Type 0 where
+  pub inner : HasInner place next.width now next
+  pub seam : HasSeam place next.width now next
+  pub rest : (x y : ℕ) → x < old.width → y < old.height → (IsInnerOf place y → ⊥) → (IsSeamOf place y → ⊥) → has now x y ≡ has old x y
+
+-- There is such a row of tiles, and one below it, and the walls have it.
+pub record IsRowIn (place : RowPlace) (solid cells : Cells) : Type 0 where
+  pub row : place.row < cells.height / 64
+  pub below : place.below < cells.height / 64
+  pub there : place.there < 64
+  pub room : place.there * (cells.width / 64) + cells.width / 64 ≤ tile_count solid
+
+-- a row of tiles turns at parity 1, and at parity 0, of whatever lattice it is
+abbrev pub TurnsBegun : RowPlace → Cells → Cells → Cells → Type 0
+TurnsBegun place solid old new =
+    (lattice : Cells) → IsRowThere place solid old lattice → HasInner place lattice.width old lattice → HasSeam place lattice.width old lattice → IsBegunTurned place (streamed 1 lattice solid) old new
+
+abbrev pub TurnsEven : RowPlace → Cells → Cells → Cells → Type 0
+TurnsEven place solid old new =
+    (lattice : Cells) → IsRowThere place solid old lattice → HasRow place lattice.width old lattice → IsEvenRowTurned place (streamed 0 lattice solid) old new
+
+-- Two phases of a strip in one sweep: its own rows of tiles before this one have turned at parity 1 and then at parity 0. The first row
+-- of cells of this one has turned at parity 1, and those below it not at all.
+pub record AreTurnedOn (row : ℕ) (part : Part) (mid next old now : Cells) : Type 0 where
+  pub sides : HasSidesOf now old
+  pub twice : (x y : ℕ) → x < old.width → part.margin * 64 ≤ y → y < row * 64 → has now x y ≡ has next x (row_in part y)
+  pub once : (x : ℕ) → x < old.width → has now x (row * 64) ≡ has mid x (row_in part (row * 64))
+  pub rest : (x y : ℕ) → x < old.width → y < old.height → row * 64 < y → has now x y ≡ has old x y

@@ -26,7 +26,7 @@ pub use block_rule::Counted;
 pub use exchanges::{Action, ActionFrom, Exchange, Listed, PortArray, Still, any_area};
 use gas_plane::Plane;
 use gas_terms::Took;
-pub use parts::{Part, act_on, run_part, run_whole};
+pub use parts::{Part, act_on, run_part, run_whole, turn_strip};
 use steps::turn_each;
 pub use steps::{Solids, turn_tile_at};
 pub use sums::{CellCounts, Flow};

@@ -9,12 +9,14 @@ ghost use Rattle.phase_step.specs.Parts.{start_of, own_rows, IsOwn, IsOfSome, Is
 mod acting;
 mod counting;
 mod running;
+mod strip_sweep;
 mod sweeping;
 mod turning;
 
 pub use acting::act_on;
 use gas_plane::Plane;
 pub use running::{run_part, run_whole};
+pub use strip_sweep::turn_strip;
 
 /// Where the rows of some particles stand in a lattice of `down` rows of tiles. Their own rows of
 /// tiles are the lattice's from row `first` on. Above and below these there are `margin` rows of
