@@ -1,7 +1,7 @@
 -- What the program may be set up with.
 use Rattle.std.specs.Prelude.{ℕ, ◌≤◌, ⊤}
 use Rattle.gas_terms.specs.Laboratory.{most_entries}
-use Rattle.phase_team.specs.Limits.{most_workers}
+use Rattle.phase_strips.specs.Limits.{most_workers}
 use Rattle.gas_run.specs.declared.setup.Setup.{Setup}
 use Rattle.gas_run.specs.declared.setup.Service.{Service}
 use Rattle.gas_run.specs.declared.setup.Service.TheVariants.{Run, Serve}

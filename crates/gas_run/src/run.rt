@@ -14,7 +14,7 @@ use gas_snapshot::Shelf;
 use gas_talk::{SessionEnd, serve_alone};
 use gas_terms::NoMemory;
 use phase_step::Stepper;
-use phase_team::{NoGate, Team};
+use phase_strips::StripTeam;
 use std::alloc::Global;
 use std::io::{Read, Write};
 use std::thread::Threads;
@@ -68,7 +68,7 @@ pub fn run_on<T: Threads + Clock + Drop, R: Read, W: Write, K: Shelf>(
         result
         (outside R.remaining W.contents K.failures K.shelved reader.new writer.new shelf.new) }
 {
-    let team = Team::new(rt, alloc, setup.workers, NoGate);
+    let team = StripTeam::new(rt, alloc, setup.workers);
     let Ok(mut lab) = opened(alloc, setup, start, team) else {
         return Status::NoMemory.number();
     };

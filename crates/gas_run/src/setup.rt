@@ -1,7 +1,7 @@
 //! What a command line asks for.
 
 use gas_terms::{NoMemory, Size};
-pub use phase_team::MOST_WORKERS;
+pub use phase_strips::MOST_WORKERS;
 use std::net::SocketAddr;
 use thiserror::Error;
 

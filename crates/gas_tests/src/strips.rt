@@ -9,7 +9,8 @@ use gas_terms::{Pair, Rect, Size, Took};
 use phase_step::{
     Action, Exchange, Flow, Listed, PortArray, Run, Serial, Stepper, Still, parity_at,
 };
-use phase_team::{LeastRun, NoGate, Team};
+use phase_strips::{LeastRun, StripTeam};
+use phase_team::NoGate;
 use std::process::Abort;
 use std::thread::Threads;
 use std::time::Clock;
@@ -68,7 +69,7 @@ fn by_strips<R: Threads + Clock + Abort + AllocGlobal + Copy + Drop, A: Action>(
     particles: &mut Plane,
 ) -> Flow {
     expect_that(&rt, 0 < workers && workers <= 16);
-    let mut team = Team::with_least_run(*rt, rt.alloc(), workers, NoGate, EACH_BY_STRIPS);
+    let mut team = StripTeam::with_least_run(*rt, rt.alloc(), workers, EACH_BY_STRIPS);
     let flow = act_along(rt, &mut team, setting, action, particles);
     expect_that(&rt, team.was_by_strips());
     flow
@@ -290,13 +291,7 @@ fn comes_to<R: Threads + Clock + Abort + AllocGlobal + Copy + Drop, A: Action>(
             _ => {
                 let workers = way.saturating_sub(1);
                 expect_that(&rt, 0 < workers && workers <= 16);
-                let mut team = Team::with_least_run(
-                    *rt,
-                    rt.alloc(),
-                    workers,
-                    NoGate,
-                    EACH_BY_STRIPS,
-                );
+                let mut team = StripTeam::with_least_run(*rt, rt.alloc(), workers, EACH_BY_STRIPS);
                 act_along(rt, &mut team, run, action, &mut now)
             }
         };
@@ -414,7 +409,7 @@ fn team_parts_large_runs_into_strips(rt: HostRuntime) {
             patience: 60_000,
             ..LeastRun::USUAL
         };
-        let mut team = Team::with_least_run(rt, rt.alloc(), workers, NoGate, least);
+        let mut team = StripTeam::with_least_run(rt, rt.alloc(), workers, least);
         let mut now = seeded(&rt, size, 88172645463325252, 1);
         act_along(&rt, &mut team, run, &Still, &mut now);
         expect_that(&rt, team.was_by_strips() == in_strips);

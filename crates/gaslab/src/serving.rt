@@ -11,7 +11,7 @@ use gas_ledger::Gas;
 use gas_run::{Setup, Status, opened};
 use gas_snapshot::Shelf;
 use phase_step::Stepper;
-use phase_team::{NoGate, Team};
+use phase_strips::StripTeam;
 use std::alloc::Global;
 use std::fmt;
 use std::io::Write;
@@ -75,7 +75,7 @@ pub fn serve_on<T: Threads + Clock + Wait + Sync, L: Lobby, K: Shelf + Drop + Se
     ensures { Serves setup (start_of setup.size start) (vec_len shelves)
         (W.contents writer.old) result (W.contents writer.new) }
 {
-    let team = Team::new(rt, alloc, setup.workers, NoGate);
+    let team = StripTeam::new(rt, alloc, setup.workers);
     let Ok(lab) = opened(alloc, setup, start, team) else {
         return Status::NoMemory.number();
     };

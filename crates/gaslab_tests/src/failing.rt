@@ -6,7 +6,7 @@ use gas_lab::{Gas, Lab};
 use gas_snapshot::Shelf;
 use gas_talk::{SessionEnd, serve_alone};
 use gas_terms::Size;
-use phase_team::{NoGate, Team};
+use phase_strips::StripTeam;
 use std::process::Abort;
 use std::thread::Threads;
 use std::time::Clock;
@@ -107,10 +107,10 @@ fn first_lines(text: &[u8], count: usize) -> &[u8] {
     text
 }
 
-fn opened<R: Abort + AllocGlobal + Threads + Clock>(rt: &R) -> Lab<Team<&R, NoGate>> {
+fn opened<R: Abort + AllocGlobal + Threads + Clock>(rt: &R) -> Lab<StripTeam<&R>> {
     let size = Size::new(64, 64).expect(rt, "a size");
     let gas = Gas::empty(rt.alloc(), size).expect(rt, "memory");
-    Lab::open(rt.alloc(), gas, 1024, Team::new(rt, rt.alloc(), 1, NoGate)).expect(rt, "memory")
+    Lab::open(rt.alloc(), gas, 1024, StripTeam::new(rt, rt.alloc(), 1)).expect(rt, "memory")
 }
 
 // What a session wrote, what its shelf took, and how it ended.
@@ -123,7 +123,7 @@ struct Session {
 
 fn sits<R: Abort + AllocGlobal + Threads + Clock>(
     rt: &R,
-    lab: &mut Lab<Team<&R, NoGate>>,
+    lab: &mut Lab<StripTeam<&R>>,
     input: &[u8],
     failing: Failing,
 ) -> Session {
@@ -137,7 +137,7 @@ fn sits<R: Abort + AllocGlobal + Threads + Clock>(
 // All that can be seen of a laboratory: its tick, accounts and journal, and its gas as a snapshot.
 fn view_of<R: Abort + AllocGlobal + Threads + Clock>(
     rt: &R,
-    lab: &mut Lab<Team<&R, NoGate>>,
+    lab: &mut Lab<StripTeam<&R>>,
 ) -> Vec<u8> {
     let questions = lines(
         rt,

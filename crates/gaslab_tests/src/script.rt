@@ -11,7 +11,7 @@ use gas_snapshot::Shelf;
 use gas_talk::{SessionEnd, serve_alone};
 use gas_terms::Size;
 use gaslab::{Setup, Status, run_on};
-use phase_team::{LeastRun, NoGate, Team};
+use phase_strips::{LeastRun, StripTeam};
 use std::io::{Read, Write};
 use std::process::Abort;
 use std::thread::Threads;
@@ -91,7 +91,7 @@ pub fn opened_by_strips<R: AllocGlobal + Threads + Clock>(
     rt: &R,
     setup: Setup,
     start: Option<Gas>,
-) -> Option<Lab<Team<&R, NoGate>>>
+) -> Option<Lab<StripTeam<&R>>>
     requires { IsInRange setup }
     ensures { IfSome result (λ lab. lab.journal ≡ []) }
 {
@@ -100,7 +100,7 @@ pub fn opened_by_strips<R: AllocGlobal + Threads + Clock>(
         tiles: 0,
         patience: 60_000,
     };
-    let team = Team::with_least_run(rt, rt.alloc(), setup.workers, NoGate, least);
+    let team = StripTeam::with_least_run(rt, rt.alloc(), setup.workers, least);
     opened(rt.alloc(), setup, start, team).ok()
 }
 

@@ -3,10 +3,3 @@ pub mod Takings
 pub mod Places
 pub mod DrawnNumbers
 pub mod Closing
-pub mod Copies
-pub mod LaidStrips
-pub mod Courses
-pub mod Loads
-pub mod EdgeRows
-pub mod StripParts
-pub mod Flows

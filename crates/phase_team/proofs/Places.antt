@@ -59,11 +59,6 @@ module _ (cells : Cells) (i : ℕ) (t : Tile) (is : IsLattice cells) where
       written (left_of cells k + x) (top_of cells k + y) (left_in cells k x is p) (top_in cells k y is within q)
       ∙ sym (choose_false _ _ _ _ (ne_eqb _ _ (λ e. apart (sym place ∙ e))) refl)
 
-  pub lattice_kept : (next : Cells) → next ≡ with_tile cells i t → IsLattice next
-  lattice_kept next e =
-      let new : IsLattice (with_tile cells i t) = record { sized = is.sized; full = full-cells_where cells.width cells.height (λ x y. if tile_of cells x y == i then tile.has t (x % 64) (y % 64) else has cells x y) } in
-      subst IsLattice (sym e) new
-
 module _ (p : ℕ) (particles walls obstacles : Cells) where
   -- tile i as the phase leaves it, in the lattice's own terms
   abbrev Stands : Cells → ℕ → Type 0

@@ -1,17 +1,14 @@
-//! Steps of a gas on 1 to 16 threads: a `Team` is a `Stepper` and gives the same results as `Serial`.
+//! Single phases of a gas on 1 to 16 threads: a `Team` is a `Stepper` and gives the same results as `Serial`.
 //!
-//! In a run, each worker has a strip of whole rows of tiles, and shows its neighbors the rows of cells at its edges. Short runs,
-//! small lattices and a team of one stay on the calling thread. A single phase (`Team::phase`) is made by workers that draw its
-//! tiles one by one.
+//! A single phase (`Team::phase`) is made by workers that draw its tiles one by one at a desk. Each calls the team's `Gate` after
+//! each draw. The team makes runs by the `StripTeam` that it has inside (`phase_strips`).
 //!
-//! The program makes runs alone: it calls `Team::new` and `Stepper::run_with`. `Team::phase` with the module `phase`, and
-//! `Team::with_least_run` with its `LeastRun`, are there for callers of the library.
+//! All of it is there for callers of the library. The program makes runs alone, by `phase_strips`.
 #![tactic(auto)]
 
 mod phase;
-mod runs;
 mod team;
 
 pub use phase::{Gate, NoGate};
-pub use runs::LeastRun;
-pub use team::{MOST_WORKERS, Team};
+pub use phase_strips::{LeastRun, MOST_WORKERS};
+pub use team::Team;

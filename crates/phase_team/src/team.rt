@@ -1,61 +1,21 @@
-//! The team: single phases, whose tiles the workers draw, and the choice of how a run is made.
+//! The team: single phases, whose tiles the workers draw, and runs, which its strip team makes.
 
 ghost use Rattle.std.specs.Prelude.{◌≡◌, ◌<◌, ◌≤◌, IfSome, IfNone};
 ghost use Rattle.gas_terms.specs.Cells.{joined, HasSidesOf};
 ghost use Rattle.gas_terms.specs.Gas.{streamed};
 ghost use Rattle.gas_terms.specs.Accounts.{taken};
-ghost use Rattle.phase_step.specs.WholeRuns.{dynamics, CanRun, HasRunWhole};
-ghost use Rattle.phase_team.specs.Limits.{most_workers};
+ghost use Rattle.phase_strips.specs.Limits.{most_workers};
 ghost use Rattle.phase_team.specs.Teamwork.{IsRoom, cells_after, taken_in_all};
 
 use crate::phase::{Crew, Gate, NoGate, Shift, Task, Turned, crew_of, hand_in, work_together};
-use crate::runs::{LeastRun, Strips, is_worth_strips, run_by, strips_for};
 use gas_plane::Plane;
 use gas_terms::Took;
-use phase_step::{
-    Action, Counted, Flow, Run, Serial, Stepper, account_to_count, parity_at, run_whole,
-    with_missing_account,
-};
+use phase_step::{Action, Flow, Run, Serial, Stepper};
+use phase_strips::{LeastRun, StripTeam};
 use std::alloc::Global;
 use std::marker::Model;
 use std::thread::Threads;
 use std::time::Clock;
-
-/// How many workers a team has at most.
-pub const MOST_WORKERS: u32 = 16;
-
-// How many of the next runs one thread makes, since strips gave up in the last one: 2, then 4, .. and at most 64, until strips
-// work again.
-#[derive(Clone, Copy)]
-struct Solo {
-    left: u8,
-    last: u8,
-}
-
-impl Solo {
-    const NONE: Solo = Solo { left: 0, last: 1 };
-
-    // Whether the next run is one of these.
-    fn takes_next(&mut self) -> bool {
-        if self.left == 0 {
-            return false;
-        }
-        self.left -= 1;
-        true
-    }
-
-    // What follows a run by strips.
-    fn after(self, gave_up: bool) -> Solo {
-        if !gave_up {
-            return Solo::NONE;
-        }
-        let next = self.last.min(32) * 2;
-        Solo {
-            left: next,
-            last: next,
-        }
-    }
-}
 
 /// A team of 1 to 16 workers. The calling thread is worker 0; the others are threads that are started for each phase or run.
 /// A phase never fails: if memory runs out or a thread can't be started, the calling thread does the rest. In a single phase the
@@ -63,26 +23,18 @@ impl Solo {
 /// keeps, and put in place when all are turned. Contracts see the number of workers.
 #[derive(Drop)]
 pub struct Team<R: Threads + Drop, G: Gate + Drop> {
-    rt: R,
+    strips: StripTeam<R>,
     alloc: Global,
-    workers: u8,
     gate: G,
     rooms: Vec<Vec<Turned>>,
-    strips: Option<Strips>,
-    least: LeastRun,
-    solo: Solo,
-    by_strips: bool,
 }
 
 impl<R: Threads + Drop, G: Gate + Drop> Model for Team<R, G> {
-    ghost use Rattle.std.specs.Prelude.{ℕ, ◌<◌, ◌≤◌};
-    ghost use Rattle.phase_team.specs.Limits.{most_workers};
+    ghost use Rattle.std.specs.Prelude.{ℕ};
 
     ghost Value = { ℕ };
 
-    ghost view = { λ t. t.workers };
-
-    ghost invariant = { λ t. (0 < t.workers) × (t.workers ≤ most_workers) };
+    ghost view = { λ t. t.strips };
 }
 
 impl<R: Threads + Drop, G: Gate + Drop> Team<R, G> {
@@ -101,21 +53,16 @@ impl<R: Threads + Drop, G: Gate + Drop> Team<R, G> {
         ensures { result ≡ workers }
     {
         Team {
-            rt,
+            strips: StripTeam::with_least_run(rt, alloc, workers, least),
             alloc,
-            workers,
             gate,
             rooms: Vec::new(alloc),
-            strips: None,
-            least,
-            solo: Solo::NONE,
-            by_strips: false,
         }
     }
 
     /// Whether the last run was made by strips, and not by the calling thread alone.
     pub fn was_by_strips(&self) -> bool {
-        self.by_strips
+        self.strips.was_by_strips()
     }
 
     /// `Stepper::phase` by the workers, with any gate.
@@ -136,7 +83,7 @@ impl<R: Threads + Drop, G: Gate + Drop> Team<R, G> {
         ensures team { self.new ≡ self.old }
     {
         out.shows_lattice();
-        let workers = u32::from(self.workers).min(old.size().tiles());
+        let workers = u32::from(self.strips.workers()).min(old.size().tiles());
         let task = Task {
             old,
             walls,
@@ -159,8 +106,8 @@ impl<R: Threads + Drop, G: Gate + Drop> Team<R, G> {
         ensures team { self.new ≡ self.old }
     {
         let tiles = task.old.size().tiles();
+        let rt = self.strips.threads();
         let Team {
-            rt,
             alloc,
             gate,
             rooms,
@@ -193,76 +140,13 @@ impl<R: Threads + Clock + Drop> Stepper for Team<R, NoGate> {
         parity: u8,
         out: &mut Plane,
     ) -> Took {
-        if self.workers == 1 {
+        if self.strips.workers() == 1 {
             return Serial.phase(old, walls, obstacles, parity, out);
         }
         self.phase(old, walls, obstacles, parity, out)
     }
 
-    // Among walls, a run keeps one account, and works the other out from the momentum. What there is at the end is kept for the
-    // next run.
     fn run_with<A: Action>(&mut self, particles: &mut Plane, run: Run<'_, A>) -> Flow {
-        let walls = &run.solids.walls;
-        if walls.is_empty() && run.solids.obstacles.is_empty() {
-            return self.run_by_worth(particles, run, Counted::BOTH);
-        }
-        let counted = account_to_count(walls);
-        let end = parity_at(run.parity, run.n);
-        let before = particles.keep_total(run.parity);
-        let flow = self.run_by_worth(particles, run, counted);
-        let after = particles.keep_total(end);
-        with_missing_account(before, after, flow, counted)
-    }
-}
-
-impl<R: Threads + Clock + Drop> Team<R, NoGate> {
-    // A run by strips, if these are worth it. An account that is not kept has 0.
-    fn run_by_worth<A: Action>(
-        &mut self,
-        particles: &mut Plane,
-        run: Run<'_, A>,
-        counted: Counted,
-    ) -> Flow
-        requires { let r = run in
-            CanRun (dynamics r.parity r.solids.now (A.leaves r.action.now)) particles.old }
-        ensures { let r = run.entry in
-            HasRunWhole counted (dynamics r.parity r.solids.now (A.leaves r.action.now)) r.n
-            particles.old particles.new result }
-    {
-        let size = particles.size();
-        let (alloc, workers) = (self.alloc, self.workers);
-        let Team {
-            rt,
-            strips: kept,
-            solo,
-            least,
-            by_strips,
-            ..
-        } = self;
-        *by_strips = false;
-        if !is_worth_strips(*least, size, workers, run.n) || solo.takes_next() {
-            return run_whole(particles, run, counted);
-        }
-        match strips_for(kept, alloc, size, workers) {
-            Some(mut strips) => {
-                let made = run_by(
-                    rt,
-                    alloc,
-                    &mut strips,
-                    particles,
-                    &run,
-                    counted,
-                    least.patience,
-                );
-                *kept = Some(strips);
-                *solo = solo.after(made.is_none());
-                *by_strips = made.is_some();
-                match made {
-                    Some(flow) => flow,
-                    None => run_whole(particles, run, counted),
-                }
-            }
-            None => run_whole(particles, run, counted),
-        }
+        self.strips.run_with(particles, run)
     }
 }

@@ -4,7 +4,7 @@ ghost use Rattle.std.specs.Prelude.{◌≡◌, ◌+◌, ◌*◌, ◌<◌, ◌≤
 ghost use Rattle.std.specs.Vec.{vec_capacity};
 ghost use Rattle.gas_terms.specs.Cells.{tile_count};
 ghost use Rattle.claim_desk.specs.Desk.{fresh};
-ghost use Rattle.phase_team.specs.Limits.{most_workers};
+ghost use Rattle.phase_strips.specs.Limits.{most_workers};
 ghost use Rattle.phase_team.specs.Teamwork.{IsFresh, HasWorked, HasTurned, IsRight, IsRoom, AreTurned, StayTurned};
 ghost use Rattle.phase_team.specs.Teamwork.{HasDrawnAll, HaveDrawn, drawn};
 

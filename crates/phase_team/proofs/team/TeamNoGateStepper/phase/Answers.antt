@@ -1,5 +1,5 @@
 use Rattle.std.proofs.Common.{rules}
 use Rattle.phase_team.proofs.team.TeamNoGateStepper.phase.Goals as goal
 
-pub returns-then-self-eq1-clause-out : goal.returns-then-self-eq1-clause-out
-returns-then-self-eq1-clause-out g c = search rules
+pub returns-then-workers-eq1-clause-out : goal.returns-then-workers-eq1-clause-out
+returns-then-workers-eq1-clause-out g c = search rules

@@ -1,5 +1,0 @@
-use Rattle.std.proofs.Common.{◌≡◌}
-use Rattle.phase_team.proofs.runs.edges.take_row.Given as goal
-
-abbrev pub invariant-loop-looks : goal.invariant-loop-looks
-invariant-loop-looks g l = record { same : l.cells ≡ l.initial.cells }
