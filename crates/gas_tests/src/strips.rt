@@ -118,7 +118,7 @@ fn strips_agree<R: Threads + Clock + Abort + AllocGlobal + Copy + Drop>(
     }
 }
 
-// A run that counts nothing, two phases in a sweep, and the same phase by phase.
+// A run that counts nothing, two phases in a sweep by one thread and by strips, and the same phase by phase.
 fn sweeps_agree<R: Threads + Clock + Abort + AllocGlobal + Copy + Drop>(
     rt: &R,
     size: Size,
@@ -134,6 +134,12 @@ fn sweeps_agree<R: Threads + Clock + Abort + AllocGlobal + Copy + Drop>(
         let by_one = by_phases(rt, run, &mut alone);
         let took = act_along(rt, &mut one, run, &Still, &mut now).took;
         expect_that(&rt, took == by_one && have_same_rows(&now, &alone));
+        // No run of no phase is made by strips.
+        for workers in 1..if n == 0 { 1 } else { 4 } {
+            let mut now = seeded(rt, size, 88172645463325252, 1);
+            let took = by_strips(rt, workers, run, &Still, &mut now).took;
+            expect_that(&rt, took == by_one && have_same_rows(&now, &alone));
+        }
     }
 }
 
@@ -387,25 +393,29 @@ fn team_runs_as_one_thread(rt: HostRuntime) {
     }
 }
 
-// By hand: 32,768 tiles fewer for each worker are enough, from 16 phases on. On 32 by 32
-// tiles each of two workers turns 32 * 16 * 64 = 32,768 fewer in 64 phases and 32,256 in 63, and each of four 32 * 24 * 63 =
-// 48,384 in 63. Of 64 by 64 tiles each of two turns 64 * 32 * 16 = 32,768 fewer in 16 phases, and each of 16 turns
-// 64 * 60 * 15 = 57,600 fewer in 15, which are too few phases.
+// By hand: 131,072 tiles fewer for each worker are enough. On 32 by 32 tiles each of two workers turns 32 * 16 * 256 = 131,072
+// fewer in 256 phases and 130,560 in 255, and each of four 32 * 24 * 171 = 131,328 in 171. Of 64 by 64 tiles each of two turns
+// 64 * 32 * 64 = 131,072 fewer in 64 phases. Of 16 by 16 tiles each of 16 turns 16 * 15 * 512 = 122,880 fewer in 512 phases, and
+// more are not counted. If no tile is asked for, 16 phases are enough.
 #[test]
 fn team_parts_large_runs_into_strips(rt: HostRuntime) {
-    for (side, workers, n, in_strips) in [
-        (2048, 1, 64, false),
-        (2048, 2, 63, false),
-        (2048, 2, 64, true),
-        (2048, 4, 63, true),
-        (4096, 2, 16, true),
-        (4096, 16, 15, false),
+    let usual = LeastRun::USUAL.tiles;
+    for (side, workers, n, tiles, in_strips) in [
+        (2048, 1, 256, usual, false),
+        (2048, 2, 255, usual, false),
+        (2048, 2, 256, usual, true),
+        (2048, 4, 171, usual, true),
+        (4096, 2, 64, usual, true),
+        (1024, 16, 1024, usual, false),
+        (1024, 16, 15, 0, false),
+        (1024, 16, 16, 0, true),
     ] {
         let size = Size::new(side, side).expect(&rt, "a size");
         let none = Plane::empty(rt.alloc(), size).expect(&rt, "memory");
         let run = among(&none, &none, 0, n);
         expect_that(&rt, 0 < workers && workers <= 16);
         let least = LeastRun {
+            tiles,
             patience: 60_000,
             ..LeastRun::USUAL
         };

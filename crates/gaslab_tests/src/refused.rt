@@ -249,8 +249,8 @@ fn refused_channel_with_a_team(rt: HostRuntime) {
     );
 }
 
-/// A run that the program itself makes by strips: on 9 by 64 tiles each of 16 workers turns 9 * 60 * 64 = 34,560 fewer in it
-/// than one thread would, and 32,768 are enough. If the strips find no memory, the run is made without.
+/// A run that the program itself makes by strips: on 9 by 64 tiles each of 16 workers turns 9 * 60 * 243 = 131,220 fewer in
+/// it than one thread would, and 131,072 are enough. If the strips find no memory, the run is made without.
 #[test]
 fn refused_run_that_is_worth_strips(rt: HostRuntime) {
     let shape = LabShape {
@@ -262,10 +262,10 @@ fn refused_run_that_is_worth_strips(rt: HostRuntime) {
     runs(
         &rt,
         shape,
-        b"put 40 250 200 12\nstep 64\nprobe 0 193 576 63\ntally\n",
-        b"OK 0\nOK 1\nPROBE 600 0 -600\nTALLY 64 2400 0 0\n",
+        b"put 40 250 200 12\nstep 243\nprobe 0 10 576 246\ntally\n",
+        b"OK 0\nOK 1\nPROBE 1000 0 -1000\nTALLY 243 2400 0 0\n",
         &[
-            b"ERR 14 memory\nOK 0\nPROBE 0 0 0\nTALLY 64 0 0 0\n",
+            b"ERR 14 memory\nOK 0\nPROBE 0 0 0\nTALLY 243 0 0 0\n",
             b"OK 0\nERR 14 memory\nPROBE 1200 0 0\nTALLY 0 2400 0 0\n",
         ],
     );

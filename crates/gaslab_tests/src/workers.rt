@@ -106,7 +106,7 @@ fn random_gas_by_any_number_of_workers(rt: HostRuntime) {
 }
 
 /// The shortest run of a lattice of this size that the program itself makes by strips, with 16 workers. By hand: on 9 by 64
-/// tiles each of them turns 9 * 60 * 61 = 32,940 fewer in it than one thread would, in 60 steps 32,400, and 32,768 are enough.
+/// tiles each of them turns 9 * 60 * 243 = 131,220 fewer in it than one thread would, in 242 steps 130,680, and 131,072 are enough.
 /// What is there lies across the edges of strips. The replies are those of `tools/channel_gas.py`.
 #[test]
 fn run_that_is_worth_strips(rt: HostRuntime) {
@@ -119,8 +119,8 @@ fn run_that_is_worth_strips(rt: HostRuntime) {
     gives_on(
         &rt,
         shape,
-        "put 30 250 200 12; put 300 4090 100 6; put 100 2040 60 20; wall 0 240 576 1; wall 0 270 576 1; block 240 250 8 12; source 0 244 4 20 2; drain 280 241 8 29; step 61; tally; ledger; probe 0 255 576 1; probe 0 256 576 1; probe 232 241 24 29; unport; back 61; tally; ledger; probe 0 255 576 1; probe 0 256 576 1",
-        "OK 0; OK 1; OK 2; OK 3; OK 4; OK 5; OK 6; OK 7; OK 8; TALLY 61 5424 -236 60; LEDGER 0 5442 18 0 114 18 104 228 0 -18 -2 -76 0; PROBE 229 -11 229; PROBE 229 -19 -229; PROBE 126 60 2; OK 9; OK 10; TALLY 0 5424 122 -50; LEDGER 0 5442 18 0 114 18 -26 0 0 -18 -2 38 -4; PROBE 239 15 -239; PROBE 238 12 238",
+        "put 30 250 200 12; put 300 4090 100 6; put 100 2040 60 20; wall 0 240 576 1; wall 0 270 576 1; block 240 250 8 12; source 0 244 4 20 2; drain 280 241 8 29; step 243; tally; ledger; probe 0 255 576 1; probe 0 256 576 1; probe 232 241 24 29; unport; back 243; tally; ledger; probe 0 255 576 1; probe 0 256 576 1",
+        "OK 0; OK 1; OK 2; OK 3; OK 4; OK 5; OK 6; OK 7; OK 8; TALLY 243 8261 -1985 -7; LEDGER 0 8641 380 0 919 380 1492 1032 0 -37 -34 4 0; PROBE 176 -60 176; PROBE 182 -66 -182; PROBE 55 3 -1; OK 9; OK 10; TALLY 0 8261 549 -233; LEDGER 0 8641 380 0 919 380 -234 224 0 -37 -34 262 -32; PROBE 275 23 -275; PROBE 270 12 270",
     );
 }
 

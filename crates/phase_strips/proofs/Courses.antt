@@ -1,20 +1,23 @@
 -- How a lattice goes on in a run, phase by phase.
-use Rattle.std.proofs.Common.{◌≡◌, ℕ, zero, suc, ◌+◌, ◌*◌, ◌/◌, ◌≤◌, Bool, pos, refl, ap, ap₂, ◌∙◌, arith}
+use Rattle.std.proofs.Common.{◌≡◌, ℕ, zero, suc, ◌+◌, ◌*◌, ◌/◌, ◌≤◌, Bool, pos, refl, sym, ap, ap₂, mul-le-mul, ◌∙◌, arith}
 use Rattle.gas_terms.specs.Cells.{Cells, HasSidesOf, IsFull, has, joined}
 use Rattle.gas_terms.specs.Gas.{streamed}
 use Rattle.gas_terms.proofs.Cells.{full-cells_where}
+use Rattle.gas_terms.proofs.Steps.{full_streamed}
 use Rattle.gas_plane.specs.Planes.{IsLattice}
 use Rattle.phase_step.specs.Runs.{parity_at, tiles_take}
-use Rattle.phase_step.specs.Actions.{Leaves, acted, after_with, flow_plus, FlowsFit}
+use Rattle.phase_step.specs.Actions.{Leaves, acted, after_with, flow_plus, no_flow, FlowsFit}
 use Rattle.phase_step.specs.Balance.{flow_counted}
 use Rattle.phase_step.specs.TileRuns.{tiles_move, phase_flow, tiles_flow}
 use Rattle.phase_step.specs.WholeRuns.{Dynamics, after_all}
 use Rattle.phase_step.specs.declared.sums.flow.Flow.{Flow}
 use Rattle.phase_step.proofs.ActionParts.{part_after_with}
 use Rattle.phase_step.proofs.ActionRuns.{sides_with, sized_with, acted_same}
+use Rattle.phase_step.proofs.ActedTiles.{still_acts}
 use Rattle.phase_step.proofs.FlowSums.{flows_add}
+use Rattle.phase_step.proofs.StillRuns.{quiet_flow}
 use Rattle.phase_step.proofs.TileFlows.{own_flow_next, own_flow_fits}
-use Rattle.phase_strips.specs.Courses.{Course, lattice_at, rows_give}
+use Rattle.phase_strips.specs.Courses.{Course, IsQuiet, lattice_at, rows_give}
 
 full_with : (p : ℕ) (solid : Cells) (leaves : ℕ → Leaves) (c : Cells) (k : ℕ) → IsFull c → IsFull (after_with p solid leaves c k)
 full_with p solid leaves c zero full = full
@@ -92,3 +95,29 @@ module _ (course : Course) (k : ℕ) (turn : Dynamics) (is : IsPhase course k tu
       let d = course.dynamics in
       let a = course.start.width / 64 in
       own_flow_fits d.parity d.walls d.obstacles d.leaves course.start course.counted (first * a) (rows * a) k (rows_give course k first rows) here refl (e ∙ gives first rows) few short
+
+-- A quiet run: two phases in one sweep, and what the rows of a strip come to.
+module _ (course : Course) (quiet : IsQuiet course) where
+  abbrev solid : Cells
+  solid = joined course.dynamics.walls course.dynamics.obstacles
+
+  pub two_next : (k : ℕ) → parity_at course.dynamics.parity k ≡ 1 → streamed 0 (streamed 1 (lattice_at course k) solid) solid ≡ lattice_at course (k + 2)
+  two_next k odd =
+      let d = course.dynamics in
+      let now = lattice_at course k in
+      let even : parity_at d.parity (suc k) ≡ 0 = omega (arith, odd) in
+      let first : Cells = streamed 1 now solid in
+      let acted_first : Cells = acted (d.leaves k) first in
+      let next : suc (suc k) ≡ k + 2 = omega arith in
+      ap (λ (c : Cells). streamed 0 c solid) (still_acts (d.leaves k) first (full_streamed 1 now solid) (quiet.still k))
+      ∙ (still_acts (d.leaves (suc k)) (streamed 0 acted_first solid) (full_streamed 0 acted_first solid) (quiet.still (suc k))
+      ∙ (ap₂ (λ q r. acted (d.leaves (suc k)) (streamed r (acted (d.leaves k) (streamed q now solid)) solid)) (sym odd) (sym even)
+      ∙ ap (lattice_at course) next))
+
+  pub rows_quiet : (k first rows : ℕ) → IsLattice course.start → HasSidesOf course.dynamics.walls course.start → HasSidesOf course.dynamics.obstacles course.start → first + rows ≤ course.start.height / 64 → rows_give course k first rows ≡ no_flow
+  rows_quiet k first rows is of_walls of_obstacles inside =
+      let d = course.dynamics in
+      let a = course.start.width / 64 in
+      let all : (first + rows) * a ≤ course.start.height / 64 * a = mul-le-mul inside (let same : a ≤ a = omega arith in same) in
+      let turn : course.start.height / 64 * a ≡ a * (course.start.height / 64) = omega arith in
+      sym (quiet_flow d.parity d.walls d.obstacles d.leaves course.start is quiet.still course.counted (first * a) (rows * a) k (omega (arith, all, turn)) of_walls of_obstacles quiet.untaken)

@@ -1,10 +1,11 @@
 -- A strip in a run, as a part of the lattice.
 use Rattle.std.proofs.Common.{◌≡◌, ℕ, ◌+◌, ◌-◌, ◌*◌, ◌/◌, ◌%◌, List, All, length, map, sym, ap, ◌∙◌, subst, arith}
 use Rattle.std.proofs.lemmas.List.{length-map}
-use Rattle.gas_terms.specs.Cells.{Extent, extent, has}
+use Rattle.gas_terms.specs.Cells.{Cells, Extent, HasSidesOf, extent, has}
 use Rattle.gas_plane.specs.Planes.{IsLattice}
 use Rattle.gas_plane.proofs.Places.{high}
 use Rattle.phase_step.specs.Parts.{HasRows, IsPartOf}
+use Rattle.phase_step.specs.Runs.{parity_at}
 use Rattle.phase_step.proofs.RowRuns.{strip_is}
 use Rattle.phase_strips.specs.Courses.{Course, lattice_at}
 use Rattle.phase_strips.specs.Strips.{place_of, AreLaid, AreStrips, HasOwnRows, IsBefore, IsOf}
@@ -25,6 +26,16 @@ strip_part course k m down s start of down_is rows =
     strip_is s.own.first down s.own.rows m s.cells lattice is.sized is.full
     (omega (arith, same, tiles)) (of.wide ∙ sym sides.wide) of.high of.inside.some (omega (arith, inside, down_is))
     (λ x y xl low below. rows.row x y xl (omega (arith, low)) (omega (arith, below)) ∙ ap (λ d. has lattice x (((s.own.first + d - 1) * 64 + y) % (d * 64))) same)
+
+-- before a phase of parity 1 it has a row of cells more on either side
+pub odd_part : (course : Course) (k down : ℕ) (s : Strip) → IsLattice course.start → IsOf (extent course.start) s → down ≡ course.start.height / 64 → parity_at course.dynamics.parity k ≡ 1 → IsBefore course k s
+    → IsPartOf (place_of down s.own) s.cells (lattice_at course k) 63
+odd_part course k down s start of down_is odd before =
+    strip_part course k 63 down s start of down_is (subst (λ p. HasRows (place_of ((lattice_at course k).height / 64) s.own) s.cells (lattice_at course k) (64 - p)) odd before)
+
+-- the walls have the lattice's sides
+pub walls_there : (course : Course) (k : ℕ) (solid : Cells) → HasSidesOf solid course.start → HasSidesOf solid (lattice_at course k)
+walls_there course k solid of = let sides = course_sides course k in record { wide = of.wide ∙ sym sides.wide; high = of.high ∙ sym sides.high }
 
 -- what it has before a phase, it has of its own
 pub own_rows : (course : Course) (k : ℕ) (s : Strip) → IsBefore course k s → HasOwnRows (lattice_at course k) s

@@ -4,8 +4,9 @@ use Rattle.gas_terms.specs.Cells.{Cells, Extent, cells_where, extent, has, HasSi
 use Rattle.gas_terms.specs.Rows.{row_has}
 use Rattle.gas_plane.specs.Planes.{IsLattice}
 use Rattle.block_rule.specs.declared.walled.Counted.{Counted}
-use Rattle.phase_step.specs.Actions.{Leaves}
+use Rattle.phase_step.specs.Actions.{Leaves, IsStill}
 use Rattle.phase_step.specs.Exchanges.{Areas, listed}
+use Rattle.phase_step.specs.SolidBlocks.{AreOfNone}
 use Rattle.phase_step.specs.TileRuns.{tiles_flow}
 use Rattle.phase_step.specs.WholeRuns.{Dynamics, after_all, every, flow_all}
 use Rattle.phase_step.specs.Balance.{flow_counted}
@@ -46,6 +47,11 @@ pub record CanGoOn (whole : Extent) (d : Dynamics) (particles : Cells) : Type 0 
 pub record HasGoneOn (course : Course) (n : ℕ) (new : Cells) (answer : Flow) : Type 0 where
   pub particles : new ≡ lattice_at course n
   pub flow : answer ≡ flow_at course n
+
+-- nothing acts in the run, and nothing is taken in the accounts that are kept
+pub record IsQuiet (course : Course) : Type 0 where
+  pub still : (k : ℕ) → IsStill (course.dynamics.leaves k)
+  pub untaken : AreOfNone course.counted course.dynamics.walls course.dynamics.obstacles
 
 -- the list has what an action does after each of n phases of a run, from phase `from` on
 abbrev pub Lists : List Areas → (ℕ → Leaves) → ℕ → ℕ → Type 0

@@ -5,6 +5,8 @@ ghost use Rattle.std.specs.Prelude.{◌≡◌, ℕ, ◌+◌, ◌/◌, ◌<◌, �
 ghost use Rattle.std.specs.Vec.{vec_capacity};
 ghost use Rattle.gas_terms.specs.Cells.{extent};
 ghost use Rattle.gas_plane.specs.Planes.{IsLattice};
+ghost use Rattle.phase_step.specs.Actions.{IsStill};
+ghost use Rattle.phase_step.specs.SolidBlocks.{AreOfNone};
 ghost use Rattle.phase_step.specs.WholeRuns.{dynamics};
 ghost use Rattle.phase_strips.specs.Limits.{most_listed, most_workers};
 ghost use Rattle.phase_strips.specs.Courses.{course_of, CanGoOn, Course, HasGoneOn, lattice_at, flow_at, Lists};
@@ -33,8 +35,7 @@ use watch::{NoWatch, Stopwatch};
 /// How many exchanges are listed at once, for all strips. Threads last so long; without exchanges, for a whole run.
 const LISTED: u16 = 256;
 
-/// In so many phases of a run tiles are counted, to see whether it is worth strips. These wait for each other in every second
-/// phase, so a small lattice isn't worth them, however long the run.
+/// In so many phases of a run tiles are counted, to see whether it is worth strips. A small lattice isn't, however long the run.
 const COUNTED_PHASES: u16 = 512;
 
 /// The smallest run that is made by strips: how many phases it has, and how many tiles fewer each worker turns in it than one
@@ -48,11 +49,11 @@ pub struct LeastRun {
 }
 
 impl LeastRun {
-    /// That of the program. A run by strips starts threads, loads the strips and puts them together. That takes about a
-    /// millisecond, so smaller runs stay on one thread.
+    /// That of the program. A run by strips starts threads, loads the strips and puts them together, and its threads wait for each
+    /// other in every second phase. So what one thread makes in some ten milliseconds stays on one thread.
     pub const USUAL: LeastRun = LeastRun {
         phases: 16,
-        tiles: 32_768,
+        tiles: 131_072,
         patience: 10,
     };
 }
@@ -234,6 +235,15 @@ fn list_exchanges<A: Action>(action: &A, from: u16, left: u16, exchanges: &mut V
     n
 }
 
+// Whether nothing acts in a run, and nothing is taken in the accounts that are kept.
+fn is_quiet<A: Action>(run: &Run<'_, A>, counted: Counted) -> bool
+    ensures { let r = run.now in IsTrue result →
+        ((k : ℕ) → IsStill (A.leaves r.action.now k)) ×
+        AreOfNone counted r.solids.now.walls r.solids.now.obstacles }
+{
+    !run.action.acts() && !run.solids.is_counted(counted)
+}
+
 // A run that has a name. `None` if memory ran out or a strip gave up; then the particles are as they were.
 fn run_named<R: Threads + Clock, N: RunName + Send + Sync, A: Action>(
     rt: &R,
@@ -253,6 +263,7 @@ fn run_named<R: Threads + Clock, N: RunName + Send + Sync, A: Action>(
     if run.n == 0 {
         return None;
     }
+    let quiet = is_quiet(run, counted);
     let board = Board::<N>::new(alloc, particles, strips.strips.len())?;
     let mut done = 0;
     while done < run.n {
@@ -267,6 +278,7 @@ fn run_named<R: Threads + Clock, N: RunName + Send + Sync, A: Action>(
             counted,
             board: &board,
             patience,
+            quiet,
         };
         board.begun.store(0, Ordering::Relaxed);
         if !make_all(rt, &input, strips.strips.as_mut_slice()) {

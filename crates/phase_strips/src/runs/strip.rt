@@ -13,7 +13,7 @@ use crate::runs::input::RunInput;
 use crate::runs::watch::Watch;
 use gas_plane::{Plane, after, before};
 use gas_terms::Size;
-use phase_step::{ActionFrom, Flow, Listed, Part, Run, parity_at, run_part};
+use phase_step::{ActionFrom, Flow, Listed, Part, Run, parity_at, run_part, turn_strip};
 use std::alloc::Global;
 use std::sync::atomic::Ordering;
 
@@ -65,6 +65,17 @@ fn load(cells: &mut Plane, own: OwnRows, particles: &Plane)
     copy_rows(particles, below, 1, cells, rows + 1);
 }
 
+// Where those rows stand in the lattice.
+fn part_of(own: OwnRows, particles: &Plane) -> Part
+    ensures { result ≡ place_of (particles.now.height / 64) own }
+{
+    Part {
+        first: own.first,
+        down: u32::from(particles.size().height() / 64),
+        margin: 1,
+    }
+}
+
 impl Strip {
     /// A strip of a lattice of this size, without particles. `None` if memory runs out, or if it would be too high for a plane.
     pub fn new(alloc: Global, size: Size, own: OwnRows) -> Option<Strip>
@@ -92,6 +103,29 @@ impl Strip {
         self.flow = Flow::ZERO;
     }
 
+    // Makes the next of those phases that are made at a time: phase k, or in a quiet run also the one after it, in one sweep, if phase
+    // k has parity 1. Returns how many it makes.
+    fn make_next<N: RunName>(&mut self, input: &RunInput<'_, N>, k: u16) -> u16
+        requires k { k < input.now.phases }
+        requires at { IsAt N.course (input.now.from + k) self.old }
+        ensures some { (0 < result) × (k + result ≤ input.now.phases) }
+        ensures own { self.new.own ≡ self.old.own }
+        ensures strip { IsOf (extent N.course.start) self.new }
+        ensures rows { HasOwnRows (lattice_at N.course (input.now.from + k + result)) self.new }
+        ensures flow { let s = self.new in
+            s.flow ≡ rows_give N.course (input.now.from + k + result) s.own.first s.own.rows }
+    {
+        let odd = parity_at(input.parity, input.from + k) == 1;
+        if input.quiet && odd && k + 1 < input.phases {
+            let part = part_of(self.own, input.particles);
+            turn_strip(&mut self.cells, input.solids, part);
+            return 2;
+        }
+        let here = self.make_phase(input, k);
+        self.flow = self.flow.plus(here);
+        1
+    }
+
     // Phase k of those that are made at a time, and the exchange after it. Returns what it comes to in its own rows.
     fn make_phase<N: RunName>(&mut self, input: &RunInput<'_, N>, k: u16) -> Flow
         requires k { k < input.now.phases }
@@ -106,11 +140,7 @@ impl Strip {
             flow_plus (rows_give N.course (input.now.from + k) own.first own.rows) result
             ≡ rows_give N.course (input.now.from + k + 1) own.first own.rows }
     {
-        let part = Part {
-            first: self.own.first,
-            down: u32::from(input.particles.size().height() / 64),
-            margin: 1,
-        };
+        let part = part_of(self.own, input.particles);
         let listed = Listed {
             exchanges: input.exchanges,
         };
@@ -255,10 +285,10 @@ impl Strip {
         if input.from == 0 {
             self.begin(input.particles);
         }
-        for k in 0..input.phases {
-            let here = self.make_phase(input, k);
-            self.flow = self.flow.plus(here);
-            if !self.exchange_edges(input, number, input.from + k + 1, watch) {
+        let mut k = 0;
+        while k < input.phases {
+            k += self.make_next(input, k);
+            if !self.exchange_edges(input, number, input.from + k, watch) {
                 return false;
             }
         }

@@ -1,10 +1,11 @@
-use Rattle.std.proofs.Common.{rules, ◌≡◌, ◌+◌, ◌/◌, ◌≤◌, All, length, drop, refl, sym, ap, ◌∙◌, subst, arith}
+use Rattle.std.proofs.Common.{rules, ◌≡◌, ◌+◌, ◌/◌, ◌≤◌, All, List, length, drop, refl, sym, ap, ◌∙◌, subst, arith}
 use Rattle.std.proofs.lemmas.List.{take_at}
 use Rattle.std.specs.Bool.{IsTrue}
 use Rattle.gas_terms.specs.Cells.{Extent, extent}
 use Rattle.gas_plane.proofs.Places.{high}
+use Rattle.phase_step.specs.Exchanges.{Areas}
 use Rattle.phase_strips.specs.Limits.{most_listed}
-use Rattle.phase_strips.specs.Courses.{Course}
+use Rattle.phase_strips.specs.Courses.{Course, IsQuiet, Lists}
 use Rattle.phase_strips.specs.Strips.{AreStrips, IsAt, IsOf}
 use Rattle.phase_strips.proofs.LaidStrips.{count_few}
 use Rattle.phase_strips.proofs.StripParts.{same_count, still_strips}
@@ -68,3 +69,12 @@ returns-clause-run g c =
     let start = ap (λ (c : Course). c.start) c.requires.course in
     let all = subst (λ k. All (IsAt course k) c.as_slice-2.result.now) end (subst (All (IsAt course c.loop-done.done)) (sym c.as_slice-2.ensures.value) each) in
     record { particles = c.gather.ensures.cells course n start all; flow = c.gather.ensures.flow course n start all }
+
+pub invariant_of-input-clause-is_quiet : goal.invariant_of-input-clause-is_quiet
+invariant_of-input-clause-is_quiet g c = λ quiet. subst (λ (course : Course). IsQuiet course) (sym c.requires.course) (let is = c.is_quiet-quiet.ensures quiet in record { still = is.0; untaken = is.1 })
+
+pub invariant_of-input-clause-lists : goal.invariant_of-input-clause-lists
+invariant_of-input-clause-lists g c =
+    let leaves = g.A.Action.leaves c.args.run.now.action.now in
+    subst (λ (course : Course). Lists c.as_slice.result.now course.dynamics.leaves c.loop-done.done c.list_exchanges-phases.result) (sym c.requires.course)
+    (subst (λ (items : List Areas). Lists items leaves c.loop-done.done c.list_exchanges-phases.result) (sym c.as_slice.ensures.value) c.list_exchanges-phases.ensures.lists)

@@ -5,12 +5,13 @@ use Rattle.gas_terms.specs.Cells.{Cells, Extent, HasSidesOf, extent}
 use Rattle.gas_plane.specs.Planes.{IsLattice}
 use Rattle.gas_plane.proofs.Places.{wide, high}
 use Rattle.block_rule.specs.declared.walled.Counted.{Counted}
-use Rattle.phase_step.specs.Parts.{HasRows, IsPartOf}
+use Rattle.phase_step.specs.Parts.{HasRows, HasRun, IsPartOf}
 use Rattle.phase_step.specs.WholeRuns.{Dynamics, dynamics}
 use Rattle.phase_step.specs.Runs.{parity_at}
 use Rattle.phase_step.specs.Balance.{flow_counted}
 use Rattle.phase_step.specs.Exchanges.{listed}
 use Rattle.phase_step.specs.TileRuns.{tiles_flow}
+use Rattle.phase_step.specs.declared.parts.Part.{Part}
 use Rattle.phase_step.proofs.RowRuns.{strip_flow}
 use Rattle.phase_strips.specs.Courses.{lattice_at}
 use Rattle.phase_strips.specs.Strips.{place_of}
@@ -26,17 +27,18 @@ before g c = lattice_at g.N.RunName.course (c.args.input.now.from + c.args.k)
 
 is_part : (g : Over) (c : After-parity_at g)
     → let s = c.args.self.now in
-    IsPartOf (record { first = s.own.first; down = c.from.result; margin = 1 }) s.cells (before g c) (64 - c.parity_at.result)
+    IsPartOf c.part_of-part.result s.cells (before g c) (64 - c.parity_at.result)
 is_part g c =
     let i = c.args.input.now in
     let s = c.args.self.now in
     let course = g.N.RunName.course in
     let k = i.from + c.args.k in
     let start = i.start in
-    let down : c.from.result ≡ course.start.height / 64 = c.from.ensures ∙ ap (λ n. n / 64) (c.height.ensures ∙ (ap (λ (e : Extent). e.height) c.size.ensures.extent ∙ ap (λ (c : Cells). c.height) (sym start))) in
+    let down : i.particles.now.height / 64 ≡ course.start.height / 64 = ap (λ (c : Cells). c.height / 64) (sym start) in
     let parity : parity_at course.dynamics.parity k ≡ c.parity_at.result = ap (λ p. parity_at p k) i.parity_is ∙ sym c.parity_at.ensures.parity in
-    strip_part course k (64 - c.parity_at.result) c.from.result s (subst IsLattice (sym start) i.lattice) c.requires.strip down
-    (subst (λ p. HasRows (place_of ((lattice_at course k).height / 64) s.own) s.cells (lattice_at course k) (64 - p)) parity c.requires.rows)
+    subst (λ (part : Part). IsPartOf part s.cells (before g c) (64 - c.parity_at.result)) (sym c.part_of-part.ensures)
+    (strip_part course k (64 - c.parity_at.result) (i.particles.now.height / 64) s (subst IsLattice (sym start) i.lattice) c.requires.strip down
+    (subst (λ p. HasRows (place_of ((lattice_at course k).height / 64) s.own) s.cells (lattice_at course k) (64 - p)) parity c.requires.rows))
 
 -- the walls have its sides
 of_walls : (g : Over) (c : After-parity_at g) → HasSidesOf c.args.input.now.solids.now.walls (before g c)
@@ -69,7 +71,7 @@ run_part-requires g c =
     record {
       parity = c.parity_at.ensures.small;
       ready = record { lattice = before g at; is = is_part g at; sides = of_walls g at };
-      few = omega arith;
+      few = subst (λ (part : Part). part.margin * 1 ≤ 1) (sym c.part_of-part.ensures) (omega arith);
     }
 
 pub returns-clause-rows : goal.returns-clause-rows
@@ -79,11 +81,13 @@ returns-clause-rows g c =
     let i = c.args.input.now in
     let course = g.N.RunName.course in
     let k = i.from + c.args.k in
-    let run = c.run_part.ensures.run (before g at) (of_walls g at) (is_part g at) in
+    let down = i.particles.now.height / 64 in
+    let run : HasRun (place_of down s.own) i.counted (turn g at) 1 s.cells (before g at) c.run_part.new.particles c.run_part.result =
+    subst (λ (part : Part). HasRun part i.counted (turn g at) 1 s.cells (before g at) c.run_part.new.particles c.run_part.result) c.part_of-part.ensures (c.run_part.ensures.run (before g at) (of_walls g at) (is_part g at)) in
     let next = phase_next course k (turn g at) (is_phase g at) in
-    let here : HasRows (record { first = s.own.first; down = c.from.result; margin = 1 }) c.run_part.new.particles (lattice_at course (k + 1)) 64 = subst (λ (lattice : Cells). HasRows (record { first = s.own.first; down = c.from.result; margin = 1 }) c.run_part.new.particles lattice 64) next run.is.rows in
+    let here : HasRows (record { first = s.own.first; down = down; margin = 1 }) c.run_part.new.particles (lattice_at course (k + 1)) 64 = subst (λ (lattice : Cells). HasRows (record { first = s.own.first; down = down; margin = 1 }) c.run_part.new.particles lattice 64) next run.is.rows in
     subst (λ d. HasRows (record { first = s.own.first; down = d; margin = 1 }) c.run_part.new.particles (lattice_at course (k + 1)) 64)
-    (c.from.ensures ∙ ap (λ n. n / 64) (c.height.ensures ∙ (ap (λ (e : Extent). e.height) c.size.ensures.extent ∙ (ap (λ (c : Cells). c.height) (sym i.start) ∙ sym (course_sides course (k + 1)).high)))) here
+    (ap (λ n. n / 64) (ap (λ (c : Cells). c.height) (sym i.start) ∙ sym (course_sides course (k + 1)).high)) here
 
 pub returns-clause-fits : goal.returns-clause-fits
 returns-clause-fits g c =
@@ -92,9 +96,11 @@ returns-clause-fits g c =
     let i = c.args.input.now in
     let course = g.N.RunName.course in
     let k = i.from + c.args.k in
-    let run = c.run_part.ensures.run (before g at) (of_walls g at) (is_part g at) in
+    let down = i.particles.now.height / 64 in
+    let run : HasRun (place_of down s.own) i.counted (turn g at) 1 s.cells (before g at) c.run_part.new.particles c.run_part.result =
+    subst (λ (part : Part). HasRun part i.counted (turn g at) 1 s.cells (before g at) c.run_part.new.particles c.run_part.result) c.part_of-part.ensures (c.run_part.ensures.run (before g at) (of_walls g at) (is_part g at)) in
     let own = s.own in
-    let gives = strip_flow own.first c.from.result own.rows 1 i.counted (turn g at) s.cells (before g at) c.run_part.new.particles c.run_part.result c.requires.strip.high run in
+    let gives = strip_flow own.first down own.rows 1 i.counted (turn g at) s.cells (before g at) c.run_part.new.particles c.run_part.result c.requires.strip.high run in
     let start = subst IsLattice (sym i.start) i.lattice in
     let inside = c.requires.strip.inside.inside in
     let few : own.rows * (course.start.width / 64) ≤ 4096 = mul-le own.rows (course.start.width / 64) 64 64 (let tall = (high (extent course.start) start.sized).few in omega (arith, inside, tall)) (wide (extent course.start) start.sized).few in
@@ -109,7 +115,9 @@ returns-clause-flow g c =
     let i = c.args.input.now in
     let course = g.N.RunName.course in
     let k = i.from + c.args.k in
-    let run = c.run_part.ensures.run (before g at) (of_walls g at) (is_part g at) in
+    let down = i.particles.now.height / 64 in
+    let run : HasRun (place_of down s.own) i.counted (turn g at) 1 s.cells (before g at) c.run_part.new.particles c.run_part.result =
+    subst (λ (part : Part). HasRun part i.counted (turn g at) 1 s.cells (before g at) c.run_part.new.particles c.run_part.result) c.part_of-part.ensures (c.run_part.ensures.run (before g at) (of_walls g at) (is_part g at)) in
     let own = s.own in
-    let gives = strip_flow own.first c.from.result own.rows 1 i.counted (turn g at) s.cells (before g at) c.run_part.new.particles c.run_part.result c.requires.strip.high run in
+    let gives = strip_flow own.first down own.rows 1 i.counted (turn g at) s.cells (before g at) c.run_part.new.particles c.run_part.result c.requires.strip.high run in
     rows_next course k (turn g at) (is_phase g at) own.first own.rows c.run_part.result (gives ∙ ap (λ (kept : Counted). flow_counted kept (tiles_flow (turn g at).parity (turn g at).walls (turn g at).obstacles (turn g at).leaves (before g at) (own.first * ((before g at).width / 64)) (own.rows * ((before g at).width / 64)) 1)) (sym i.counted_is))
