@@ -54,8 +54,8 @@ pub(crate) struct House<'s, R, H> {
     pub(crate) refused: &'s AtomicU32,
 }
 
-/// A hall whose seats take sessions.
-pub(crate) trait Seating<T, R> {
+/// A hall whose seats `T` take sessions.
+pub trait Seating<T, R> {
     // The seat without what its sessions change.
     ghost kept: { T → T };
 
@@ -68,12 +68,15 @@ pub(crate) trait Seating<T, R> {
     // What the seat has seen of the journal, if it knows that.
     ghost seen: { T → List Entry };
 
+    /// The seat's number, by which a thread that could not be started is known.
     fn number_of(seat: &T) -> u16;
 
+    /// How many entries the seat made.
     fn entries_of(seat: &T) -> u32
         ensures made { result ≡ made seat.now }
         ensures bound { result ≤ most_entries };
 
+    /// Serves one session on the seat and returns the seat.
     fn serve_guest<In: Read, Out: Write, K: Shelf>(
         &self,
         rt: &R,
@@ -290,8 +293,9 @@ fn entries_of<T, R, H: Seating<T, R>>(seats: &[T]) -> u32
     total
 }
 
-// Serves each seat once.
-pub(crate) fn serve_seats<
+/// Serves each seat of any such hall once, as `serve_turn` does. Each seat comes back as it was, except for what its session
+/// changed.
+pub fn serve_seats<
     T: Drop + Send,
     R: Threads + Wait + Sync,
     H: Seating<T, R> + Sync,

@@ -1,12 +1,10 @@
 -- What a command leaves of a laboratory: its start, its capacity, and a journal with the seat's entries that the reply tells of.
-use Rattle.std.proofs.Common.{◌≡◌, ℕ, ◌+◌, ◌++◌, Bool, true, false, cond, not, ◌&&◌, List, [], ◌∷◌, All, length, Option, Some, None, Result, Ok, Err, refl, sym, ap, ◌∙◌, inl, inr, arith, length-append}
+use Rattle.std.proofs.Common.{◌≡◌, ℕ, ◌+◌, ◌++◌, Bool, true, false, cond, not, ◌&&◌, List, [], ◌∷◌, All, length, Option, Some, None, Result, Ok, Err, refl, sym, ap, ◌∙◌, inl, inr, arith}
 use Rattle.std.proofs.lemmas.List.{append-nil}
 use Rattle.std.proofs.lemmas.List.Elements.{All-nil, All-cons}
 use Rattle.std.specs.Prelude.{is_some}
-use Rattle.gas_terms.specs.Cells.{Extent, extent}
 use Rattle.gas_terms.specs.Commands.{is_change}
-use Rattle.gas_terms.specs.Gas.{Gas}
-use Rattle.gas_terms.specs.Laboratory.{Laboratory, IsSound, Applies, accepted, answer, cause, judged}
+use Rattle.gas_terms.specs.Laboratory.{Laboratory, Applies, accepted, answer, cause, judged}
 use Rattle.gas_terms.specs.declared.command.Command.{Command}
 use Rattle.gas_terms.specs.declared.command.Command.TheVariants.{Put, Erase, Wall, Block, Unwall, Row, Source, Drain, Unport, Step, Back, Probe, Tally, Ledger, Read, Entry as EntryAt}
 use Rattle.gas_terms.specs.declared.command.Entry.{Entry}
@@ -14,7 +12,6 @@ use Rattle.gas_terms.specs.declared.answer.Answer.{Answer}
 use Rattle.gas_terms.specs.declared.answer.Answer.TheVariants.{Taken}
 use Rattle.gas_terms.specs.declared.refusal.Refusal.{Refusal}
 use Rattle.gas_seats.specs.Seats.{taken}
-use Rattle.gas_seats.specs.Halls.{IsNamed}
 
 pub record Extends (entry : Entry) (old : Laboratory) (reply : Result Answer Refusal) (new : Laboratory) : Type 0 where
   pub start : new.start ≡ old.start
@@ -84,18 +81,3 @@ pub applies_extends : (old : Laboratory) (seat : ℕ) (command : Command) (reply
     → Applies old (record { seat = seat; command = command }) reply new → Extends (record { seat = seat; command = command }) old reply new
 applies_extends old seat command reply new (inl h) = rw (h.0, h.1) (judged_extends (cause old command) old seat command)
 applies_extends old seat command reply new (inr h) = rw (h.2, h.3) (left _ old _ refl)
-
-pub named_after : (size : Extent) (cap : ℕ) (entry : Entry) (old new : Laboratory) (reply : Result Answer Refusal)
-    → Extends entry old reply new → extent old.start.particles ≡ size → old.cap ≡ cap → IsSound new → IsNamed size cap new
-named_after size cap entry old new reply grown same kept sound = record {
-  sound = sound;
-  size_is = ap (λ (g : Gas). extent g.particles) grown.start ∙ same;
-  cap_is = grown.cap ∙ kept;
-}
-
-pub booked_after : (entry : Entry) (old new : Laboratory) (reply : Result Answer Refusal) (before made after : ℕ)
-    → Extends entry old reply new → before ≡ length old.journal → made ≡ taken reply → after ≡ before + made → after ≡ length new.journal
-booked_after entry old new reply before made after grown total is added =
-    let long = ap length grown.journal ∙ length-append old.journal grown.added in
-    let told = grown.told in
-    omega (arith, total, is, added, long, told)

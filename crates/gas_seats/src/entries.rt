@@ -1,4 +1,4 @@
-//! What both halls count of a reply.
+//! What halls count of a reply.
 
 ghost use Rattle.std.specs.Prelude.{◌≡◌};
 ghost use Rattle.gas_seats.specs.Seats.{taken};

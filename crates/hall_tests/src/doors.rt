@@ -4,12 +4,13 @@ ghost use Rattle.std.specs.Prelude.{◌≡◌, [], vec_len};
 ghost use Rattle.gas_terms.specs.Cells.{extent};
 
 use crate::expected::{expect_same, expect_that};
+use crate::gates::TestGate;
 use crate::small_labs::{look_at, small_lab, sums_of};
-use gas_hall::{Hall, HallGate, HallName, HallSeat};
 use gas_lab::{Lab, Serial, Stepper};
 use gas_snapshot::NoShelf;
 use gas_talk::session::serve_door;
 use gas_talk::{Door, SessionEnd};
+use mutex_hall::{Hall, HallGate, HallName, HallSeat};
 use std::alloc::Global;
 use std::marker::Brand;
 use std::process::Abort;
@@ -18,7 +19,6 @@ use std::sync::{Mutex, Wait};
 use std::thread;
 use std::thread::Threads;
 use std::time::Clock;
-use test_types::gates::TestGate;
 use test_types::pages::{OutputPage, PageWriter, shows};
 
 // One session over memory, which writes to the page.

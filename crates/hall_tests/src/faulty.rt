@@ -1,6 +1,7 @@
 //! A session that fails at each of its calls in turn, beside one that speaks when the first is over.
 
 use crate::expected::{expect_same, expect_that};
+use crate::gates::TestGate;
 use crate::open_and_serve::serve_sessions;
 use crate::small_labs::{counters, no_puts};
 use crate::turn_hall_serving::serve_in_turn;
@@ -13,8 +14,8 @@ use std::sync::{Mutex, Wait};
 use std::thread::Threads;
 use std::time::Clock;
 use test_types::faults::{FaultAt, Feed};
-use test_types::gates::{TestGate, wait_for};
 use test_types::pages::{OutputPage, PageWriter, shows};
+use test_types::waiting::wait_for;
 
 const FIRST: &[u8] = b"put 2 0 1 1\nput 6 0 1 1\n";
 

@@ -1,6 +1,7 @@
 //! Serving a `Hall` to sessions in memory, some of which fail.
 
 use crate::expected::{expect_same, expect_that};
+use crate::gates::TestGate;
 use crate::open_and_serve::{Left, serve_sessions};
 use crate::small_labs::{counted, no_puts};
 use std::array;
@@ -8,7 +9,6 @@ use std::process::Abort;
 use std::sync::{Mutex, Wait};
 use std::thread::Threads;
 use std::time::Clock;
-use test_types::gates::TestGate;
 use test_types::pages::{Guests, OutputPage, shows};
 
 // What is left of a hall: seats that were served and were not, and the entries of all; the entries of each seat; who put

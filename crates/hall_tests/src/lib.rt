@@ -1,4 +1,4 @@
-//! Tests of `gas_seats` and `gas_hall`: sessions over doors, in memory and over sockets.
+//! Tests of `gas_seats`, `gas_hall` and `mutex_hall`: sessions over doors, in memory and over sockets.
 #![tactic(auto)]
 
 #[cfg(test)]
@@ -7,6 +7,8 @@ mod doors;
 mod expected;
 #[cfg(test)]
 mod faulty;
+#[cfg(test)]
+mod gates;
 #[cfg(test)]
 mod hall_serving;
 #[cfg(test)]

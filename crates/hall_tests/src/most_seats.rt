@@ -1,13 +1,13 @@
 //! A hall with as many seats as it may have.
 
 use crate::expected::{expect_same, expect_that};
+use crate::gates::TestGate;
 use crate::open_and_serve::serve_sessions;
 use crate::small_labs::no_puts;
 use std::process::Abort;
 use std::sync::{Mutex, Wait};
 use std::thread::Threads;
 use std::time::Clock;
-use test_types::gates::TestGate;
 use test_types::pages::{Guests, OutputPage};
 
 const SEATS: usize = 64;

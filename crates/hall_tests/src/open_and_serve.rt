@@ -4,8 +4,9 @@ ghost use Rattle.std.specs.Prelude.{◌≡◌, ◌+◌, ◌<◌, ◌≤◌, [], 
 ghost use Rattle.gas_terms.specs.Cells.{extent};
 
 use crate::small_labs::{Seen, counters, empty_lab, look_at};
-use gas_hall::{Hall, HallGate, HallName, HallSeat, Lobby, Served, serve};
+use gas_hall::{Lobby, Served};
 use gas_lab::{Lab, Serial};
+use mutex_hall::{Hall, HallGate, HallName, HallSeat, serve};
 use std::marker::Brand;
 use std::process::Abort;
 use std::sync::Wait;

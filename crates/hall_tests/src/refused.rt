@@ -6,12 +6,13 @@ ghost use Rattle.gas_terms.specs.Cells.{extent};
 ghost use Rattle.gas_terms.specs.Commands.{fits};
 
 use crate::expected::{expect_same, expect_that};
+use crate::gates::TestGate;
 use crate::open_and_serve::{Left, serve_sessions};
 use crate::small_labs::{look_at, no_puts, small_lab, summed, taken};
-use gas_hall::{Hall, HallGate, HallName, HallSeat};
 use gas_lab::{Lab, Serial};
 use gas_talk::Door;
 use gas_terms::{Answer, Command, Rect, Refusal, Size};
+use mutex_hall::{Hall, HallGate, HallName, HallSeat};
 use std::alloc::Global;
 use std::marker::Brand;
 use std::process::Abort;
@@ -19,7 +20,6 @@ use std::sync::ledger::Blank;
 use std::sync::{Mutex, Wait};
 use std::thread::Threads;
 use std::time::Clock;
-use test_types::gates::TestGate;
 use test_types::pages::{Guests, OutputPage, shows};
 
 /// One particle at the upper left cell.

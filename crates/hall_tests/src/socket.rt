@@ -1,6 +1,7 @@
 //! Serving a session over a socket.
 
 use crate::expected::expect_same;
+use crate::gates::TestGate;
 use crate::open_and_serve::serve_sessions;
 use crate::small_labs::no_puts;
 use gas_hall::TcpLobby;
@@ -12,7 +13,6 @@ use std::sync::Wait;
 use std::thread::Threads;
 use std::time::Clock;
 use std::{io, thread};
-use test_types::gates::TestGate;
 
 // Serves one session of the listener. Tells how many were served and how many were not, and how many entries were made.
 fn serve_one<R: Threads + Wait + Clock + Sync + Abort + AllocGlobal + Copy>(

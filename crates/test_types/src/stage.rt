@@ -1,7 +1,7 @@
 //! Sessions in memory that wait for one another's replies.
 
-use crate::gates::wait_for;
 use crate::pages::{OutputPage, PageWriter, shows};
+use crate::waiting::wait_for;
 use gas_hall::{AcceptFault, Lobby};
 use std::io;
 use std::io::{ErrorKind, Read};

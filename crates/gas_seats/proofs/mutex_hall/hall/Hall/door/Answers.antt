@@ -1,5 +1,0 @@
-use Rattle.std.proofs.Common.{rules}
-use Rattle.gas_seats.proofs.mutex_hall.hall.Hall.door.Goals as goal
-
-pub returns : goal.returns
-returns g c = search rules

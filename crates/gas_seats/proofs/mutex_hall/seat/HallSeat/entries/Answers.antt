@@ -1,5 +1,0 @@
-use Rattle.std.proofs.Common.{rules}
-use Rattle.gas_seats.proofs.mutex_hall.seat.HallSeat.entries.Goals as goal
-
-pub returns-clause-entries : goal.returns-clause-entries
-returns-clause-entries g c = search rules
