@@ -10,7 +10,7 @@ from pathlib import Path
 
 import numpy
 
-from gaslab import Gone, Lab, Snapshot, Strange
+from gaslab import GaslabError, Gone, Lab, Snapshot, Strange
 from gaslab.page.hall import Hall
 from gaslab.page.laboratory import Laboratory, Means
 from gaslab.page.outbox import Outbox
@@ -387,13 +387,25 @@ class Seats(Halls):
         self.assertEqual(second.ask(".open 64 64"), ["DONE"])
 
     def test_a_program_that_does_not_start(self):
-        """The gas before stays, with its journal."""
+        """The gas before stays, with its journal, and the page is told the reason."""
         hall = self.hall()
         page = Page(hall)
         page.ask("put 0 0 1 1")
-        hall.means = Means("/bin/false")
-        self.assertEqual(page.ask(".open 64 64", ".fresh", "entry 0"),
-                         ["NO program", "NO program", "ENTRY 0 put 0 0 1 1"])
+        for program in ("/bin/false", "/nowhere/gaslab\n"):
+            hall.means = Means(program)
+            with self.assertRaises(GaslabError) as caught:
+                Lab.run(program=program)
+            why = str(caught.exception).replace("\n", "\\n")
+            self.assertEqual(page.ask(".open 64 64", ".fresh", "entry 0"),
+                             [f"NO program {why}"] * 2 + ["ENTRY 0 put 0 0 1 1"])
+
+    def test_a_gas_before_whose_program_has_ended(self):
+        hall = self.hall()
+        page = Page(hall)
+        page.ask("put 0 0 1 1", ".open 64 64")
+        hall._old.lab.close()
+        reply, = page.ask(".bring")
+        self.assertRegex(reply, "^NO program .*(closed|ended)")
 
 
 class Time(Halls):

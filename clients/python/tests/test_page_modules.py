@@ -102,6 +102,11 @@ class Words(unittest.TestCase):
                       ["ERR 5 rect", " row 64 0", picture])
         self.assertEqual(rows, 2 * [TEXTS["refusals"]["5 row"].replace("{last}", "63")])
 
+    def test_why_no_program_was_started(self):
+        reply = "NO program /x/$& y: there is no such file"
+        text, = called("wording", "plainWords", [reply])
+        self.assertIn("(/x/$& y: there is no such file)", text)
+
     def test_what_a_refusal_is(self):
         found = called("wording", "isRefusal", ["ERR 5 rect"], ["NO watch"], ["GONE"], ["OK 0"], ["ROW ff"],
                        ["TALLY 0"])
