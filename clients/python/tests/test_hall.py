@@ -14,7 +14,7 @@ from gaslab import GaslabError, Gone, Lab, Snapshot, Strange
 from gaslab.page.hall import Hall
 from gaslab.page.laboratory import Laboratory, Means
 from gaslab.page.outbox import Outbox
-from gaslab.page.rooms import place, room, sweep
+from gaslab.page.rooms import room, rooms_folder, sweep
 from gaslab.protocol.scripts import journal_lines
 
 from .fake import Fake
@@ -315,7 +315,7 @@ class Rooms(unittest.TestCase):
     def test_a_sweep_takes_what_nobody_uses(self):
         """A folder that a living process holds stays, and so does what is no folder of ours."""
         with room() as held, tempfile.TemporaryDirectory() as beside:
-            left, other = Path(place(), "gaslab-page-test-left"), Path(place(), "gaslab-page-test-link")
+            left, other = (Path(rooms_folder(), f"gaslab-page-test-{it}") for it in ("left", "link"))
             left.mkdir()
             (left / "now.gas").write_bytes(b"x")
             other.symlink_to(beside)

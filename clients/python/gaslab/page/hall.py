@@ -14,7 +14,7 @@ from ..protocol.scripts import Script
 from ..snapshot.files import Snapshot, SnapshotFault
 from .laboratory import Laboratory, Means
 from .outbox import ROOM, Message, Outbox
-from .pictures import LAYOUT, NOBODY, Play, Reading, file, picture
+from .pictures import LAYOUT, NOBODY, Play, Reading, file_message, picture_message
 
 Files = dict[str, Iterable[bytes]]
 
@@ -245,7 +245,7 @@ class Hall:
             for part in parts:
                 yield
                 if part:
-                    seat.out.put(file(int(number), name, part))
+                    seat.out.put(file_message(int(number), name, part))
 
     def _read_on(self) -> bool:
         """Reads some of the journal's new entries. Returns whether there are more."""
@@ -414,7 +414,7 @@ class Hall:
             solids = gas.wall_bytes, gas.obstacle_bytes, gas.drains, gas.sources
             is_old = seat.solids != solids
             if is_old not in self._frames:
-                self._frames[is_old] = picture(self._read(), self._number, self.player.play, is_old)
+                self._frames[is_old] = picture_message(self._read(), self._number, self.player.play, is_old)
             seat.is_behind = seat.out.size > ROOM
             if not seat.is_behind:
                 seat.newest, seat.solids, seat.undrawn = self._number, solids, seat.undrawn + 1
