@@ -5,8 +5,9 @@ import { TEXTS, told } from "./texts.js";
 
 const T = TEXTS.lessons;
 
+// one_file.py shortens rows of one digit
 const row = (line) => line.replace(/(.)\*(\d+)$/, (_, digit, count) => digit.repeat(count));
-const whole = (lesson) => ({ ...lesson, setup: lesson.setup.map(row) });         // as one_file.py has shortened it
+const whole = (lesson) => ({ ...lesson, setup: lesson.setup.map(row) });
 
 export const LESSONS = data.lessons.map(whole);
 export const SCENES = data.scenes.map(whole);
