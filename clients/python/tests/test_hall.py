@@ -10,11 +10,11 @@ from pathlib import Path
 
 import numpy
 
-from gaslab import Gone, Lab, Snapshot, Strange
+from gaslab import GaslabError, Gone, Lab, Snapshot, Strange
 from gaslab.page.hall import Hall
 from gaslab.page.laboratory import Laboratory, Means
 from gaslab.page.outbox import Outbox
-from gaslab.page.rooms import place, room, sweep
+from gaslab.page.rooms import room, rooms_folder, sweep
 from gaslab.protocol.scripts import journal_lines
 
 from .fake import Fake
@@ -315,7 +315,7 @@ class Rooms(unittest.TestCase):
     def test_a_sweep_takes_what_nobody_uses(self):
         """A folder that a living process holds stays, and so does what is no folder of ours."""
         with room() as held, tempfile.TemporaryDirectory() as beside:
-            left, other = Path(place(), "gaslab-page-test-left"), Path(place(), "gaslab-page-test-link")
+            left, other = (Path(rooms_folder(), f"gaslab-page-test-{it}") for it in ("left", "link"))
             left.mkdir()
             (left / "now.gas").write_bytes(b"x")
             other.symlink_to(beside)
@@ -387,13 +387,25 @@ class Seats(Halls):
         self.assertEqual(second.ask(".open 64 64"), ["DONE"])
 
     def test_a_program_that_does_not_start(self):
-        """The gas before stays, with its journal."""
+        """The gas before stays, with its journal, and the page is told the reason."""
         hall = self.hall()
         page = Page(hall)
         page.ask("put 0 0 1 1")
-        hall.means = Means("/bin/false")
-        self.assertEqual(page.ask(".open 64 64", ".fresh", "entry 0"),
-                         ["NO program", "NO program", "ENTRY 0 put 0 0 1 1"])
+        for program in ("/bin/false", "/nowhere/gaslab\n"):
+            hall.means = Means(program)
+            with self.assertRaises(GaslabError) as caught:
+                Lab.run(program=program)
+            why = str(caught.exception).replace("\n", "\\n")
+            self.assertEqual(page.ask(".open 64 64", ".fresh", "entry 0"),
+                             [f"NO program {why}"] * 2 + ["ENTRY 0 put 0 0 1 1"])
+
+    def test_a_gas_before_whose_program_has_ended(self):
+        hall = self.hall()
+        page = Page(hall)
+        page.ask("put 0 0 1 1", ".open 64 64")
+        hall._old.lab.close()
+        reply, = page.ask(".bring")
+        self.assertRegex(reply, "^NO program .*(closed|ended)")
 
 
 class Time(Halls):

@@ -120,3 +120,10 @@ class Imports(unittest.TestCase):
                 if isinstance(it, ast.ImportFrom) and it.level == 2 and layer in LAYERS:
                     other = it.module.partition(".")[0]
                     self.assertLess(LAYERS.index(other), LAYERS.index(layer), f"{path}:{it.lineno}")
+
+    def test_no_name_is_in_two_modules(self):
+        found = {}
+        for path in sorted((CLIENT / "gaslab").rglob("*.py")):
+            for it in ast.parse(path.read_text()).body:
+                if isinstance(it, (ast.FunctionDef, ast.ClassDef)) and not it.name.startswith("_"):
+                    self.assertEqual(found.setdefault(it.name, path), path, it.name)

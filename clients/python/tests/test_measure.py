@@ -381,6 +381,13 @@ class RandomGases(unittest.TestCase):
                                      (0, 2, "a drift"), (nan, 0, "a density"), (0.1, nan, "a dri")):
             with self.assertRaisesRegex(ValueError, rule):
                 random_gas(64, 64, density, drift)
+        for drift in ([0.1, 0.2], (0.1,), (0.1, 0.2, 0.3), "0.1", ("0", 0), None):
+            with self.assertRaises(TypeError) as caught:
+                random_gas(64, 64, 0.5, drift, tick=0)
+            self.assertIn(f"a number, or a tuple (right, down), and not {drift!r}",
+                          str(caught.exception))
+        for drift in (numpy.float32(0.5), numpy.int64(1), (0, numpy.float64(0.5))):
+            self.assertEqual(len(random_gas(64, 64, 0.25, drift, tick=0)), 64)
         for size in ((100, 64), (64, 4160), (0, 64)):
             with self.assertRaisesRegex(ValueError, "sides are multiples of 64 from 64 to 4,096"):
                 random_gas(*size, 0.5)

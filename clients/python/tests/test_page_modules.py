@@ -5,6 +5,8 @@ import json
 import random
 import unittest
 
+from gaslab.page.one_file import one_file
+
 from .test_page_engine import NODE, PAGE, run_node
 from .test_page_film import number, pictures
 
@@ -102,10 +104,25 @@ class Words(unittest.TestCase):
                       ["ERR 5 rect", " row 64 0", picture])
         self.assertEqual(rows, 2 * [TEXTS["refusals"]["5 row"].replace("{last}", "63")])
 
+    def test_why_no_program_was_started(self):
+        reply = "NO program /x/$& y: there is no such file"
+        text, = called("wording", "plainWords", [reply])
+        self.assertIn("(/x/$& y: there is no such file)", text)
+
     def test_what_a_refusal_is(self):
         found = called("wording", "isRefusal", ["ERR 5 rect"], ["NO watch"], ["GONE"], ["OK 0"], ["ROW ff"],
                        ["TALLY 0"])
         self.assertEqual(found, [True, True, True, False, False, False])
+
+
+@unittest.skipUnless(NODE, "node is not installed")
+class Lessons(unittest.TestCase):
+    def test_rows_of_one_digit_are_short_in_the_file_and_whole_on_the_page(self):
+        made = json.loads((PAGE / "static" / "lessons.json").read_text("utf-8"))
+        lessons = [it for kind in made.values() for it in kind]
+        self.assertEqual(called("lessons", "find", *([it["id"]] for it in lessons)), lessons)
+        self.assertIn("row 0 " + 64 * "a", made["lessons"][4]["setup"])
+        self.assertNotRegex(one_file(), r"row \d+ ([0-9a-f])\1{7}")
 
 
 @unittest.skipUnless(NODE, "node is not installed")

@@ -1,8 +1,10 @@
 import unittest
+from pathlib import Path
 
 from gaslab import (Bye, Entry, LIMITS, Ledger, Ok, Probe, REFUSALS, Refused, Row, Saved, Strange,
                     Tally, named, parse_reply)
 from gaslab import reply_text
+from gaslab.protocol import commands
 from gaslab.protocol.commands import COMMANDS
 
 EACH = [
@@ -43,6 +45,17 @@ STRANGE = [
     "ENTRY 0 source 0 0 1 1 65536", "ENTRY 0 row 0 0", "ENTRY 0 row 4096 " + 16 * "0",
     "ENTRY 0 row 0 " + 16 * "F", "ENTRY 0 \x1b]0;owned\x07", "ENTRY 0 put 0 0 1 1\x1b[2J",
 ]
+
+
+class Changes(unittest.TestCase):
+    def test_a_command_that_is_added_is_one_if_a_full_journal_refuses_it(self):
+        text, first = Path(commands.__file__).read_text("utf-8"), '    "put": Command('
+        self.assertEqual(text.count(first), 1)
+        more = [f'    "{word}": Command("x y w h", "", {refusals}),\n'
+                for word, refusals in (("mirror", (5, 13)), ("look", (5,)))]
+        found = {"__name__": "added"}
+        exec(text.replace(first, "".join(more) + first), found)
+        self.assertEqual(found["CHANGES"], ["mirror", *commands.CHANGES])
 
 
 class EachReply(unittest.TestCase):

@@ -10,8 +10,8 @@ import numpy
 
 from gaslab import (Drain, MagicFault, PortFault, ShortFault, SizeFault, Snapshot, SnapshotFault,
                     Source, TickFault, TrailingFault)
+from gaslab.protocol.drafts import draft
 from gaslab.snapshot.cells import array_of, as_cells, plane_of
-from gaslab.snapshot.files import draft
 from gaslab.snapshot.rectangles import cover
 
 from .stand_in import channel_gas

@@ -20,13 +20,14 @@ from ..page.one_file import one_file
 from ..pictures.drawing import picture
 from ..pictures.films import film
 from ..pictures.text import text_picture
+from ..protocol.drafts import draft
 from ..protocol.errors import Gone, Moving, Silent, Strange, Unreachable
 from ..protocol.places import lesson, lesson_names
 from ..protocol.printable import printable
 from ..protocol.programs import find_program
 from ..protocol.replies import Row, parse_reply, show_cells
 from ..protocol.scripts import Script, parse_script, read_text
-from ..snapshot.files import Snapshot, draft
+from ..snapshot.files import Snapshot
 from ..snapshot.gases import random_gas
 from ..snapshot.rectangles import cover
 from .options import gas_of, is_snapshot, lab_of, until_quit

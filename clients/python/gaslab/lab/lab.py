@@ -513,8 +513,8 @@ class Lab:
             step, at the present tick.
         seed: 0 to 4,294,967,295; the same one gives the same gas.
 
-        Returns the number of changes. Raises `ValueError` for other values, and `Refused` if the journal is
-        full (13): the gas is then filled in part.
+        Returns the number of changes. Raises `ValueError` or `TypeError` for other values, and `Refused` if
+        the journal is full (13): the gas is then filled in part.
         """
         rows = random_rows(*self.size, density, drift, seed, self.tick)
         scene = self.scene()

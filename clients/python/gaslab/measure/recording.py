@@ -9,11 +9,11 @@ from numpy.typing import NDArray
 from ..lab.lab import Lab
 from ..lab.progress import Progress, Told
 from ..protocol.doors import PathLike
+from ..protocol.drafts import draft
 from ..protocol.limits import Size
 from ..protocol.numbers import whole, whole_steps
 from ..protocol.replies import Probe
 from ..snapshot.counting import side_of_squares
-from ..snapshot.files import draft
 from ..snapshot.rectangles import Rectangle
 from .measuring import Fields, profile, velocity
 

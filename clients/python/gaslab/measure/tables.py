@@ -10,8 +10,8 @@ import numpy
 from numpy.typing import NDArray
 
 from ..protocol.doors import PathLike
+from ..protocol.drafts import draft
 from ..protocol.errors import library
-from ..snapshot.files import draft
 
 Table = Any
 """A DataFrame if pandas is installed, and else an array of numpy records. `table["tick"]` is a column."""

@@ -14,13 +14,13 @@ from ..protocol.scripts import Script
 from ..snapshot.files import Snapshot, SnapshotFault
 from .laboratory import Laboratory, Means
 from .outbox import ROOM, Message, Outbox
-from .pictures import LAYOUT, NOBODY, Play, Reading, file, picture
+from .pictures import LAYOUT, NOBODY, Play, Reading, file_message, picture_message
 
 Files = dict[str, Iterable[bytes]]
 
 MOST_LINES = {"all": 70_000, "watch": 512}
 """The most lines of one message that are done: a full journal and some more, or what a watcher may ask."""
-_LONGEST_NAME, _LONGEST_TITLE, _MOST_RATE = 24, 80, 60
+_LONGEST_NAME, _LONGEST_TITLE, _LONGEST_WHY, _MOST_RATE = 24, 80, 400, 60
 _SLICE, _TELL = 0.004, 0.025  # seconds until a message gives others their turn, and tells what it did
 _QUICK, _TOGETHER = 0.002, 64  # so many commands are sent at once while they take less than these seconds
 _MOST_REPLIES = 1 << 16  # signs of a slice
@@ -245,7 +245,7 @@ class Hall:
             for part in parts:
                 yield
                 if part:
-                    seat.out.put(file(int(number), name, part))
+                    seat.out.put(file_message(int(number), name, part))
 
     def _read_on(self) -> bool:
         """Reads some of the journal's new entries. Returns whether there are more."""
@@ -355,9 +355,9 @@ class Hall:
             return "NO old"
         try:
             old.lab.tally()
-        except GaslabError:
+        except GaslabError as fault:
             old.close()
-            return "NO program"
+            return _no_program(fault)
         return self._take(old)
 
     def _upload(self, seat: Seat, data: bytes) -> str:
@@ -372,8 +372,8 @@ class Hall:
         """Shows another gas. The one before stays if no program can be started for it."""
         try:
             return self._take(Laboratory.own(self.means, size, start, name))
-        except (GaslabError, OSError):
-            return "NO program"
+        except (GaslabError, OSError) as fault:
+            return _no_program(fault)
 
     def _take(self, laboratory: Laboratory) -> str:
         """Shows another gas, and keeps the one before for `.bring`."""
@@ -414,7 +414,7 @@ class Hall:
             solids = gas.wall_bytes, gas.obstacle_bytes, gas.drains, gas.sources
             is_old = seat.solids != solids
             if is_old not in self._frames:
-                self._frames[is_old] = picture(self._read(), self._number, self.player.play, is_old)
+                self._frames[is_old] = picture_message(self._read(), self._number, self.player.play, is_old)
             seat.is_behind = seat.out.size > ROOM
             if not seat.is_behind:
                 seat.newest, seat.solids, seat.undrawn = self._number, solids, seat.undrawn + 1
@@ -431,6 +431,11 @@ class Hall:
         """What the laboratory has now. It is read once for all pages."""
         self._reading = self._reading or self.laboratory.look()
         return self._reading
+
+
+def _no_program(fault: Exception) -> str:
+    """The refusal if none runs, with the reason."""
+    return f"NO program {printable(str(fault))[:_LONGEST_WHY]}"
 
 
 def _cut(data: bytes) -> Iterator[bytes]:

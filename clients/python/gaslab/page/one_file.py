@@ -17,6 +17,7 @@ _RULES = ("default-src 'none'; script-src {scripts}; style-src 'unsafe-inline'; 
           "base-uri 'none'; form-action 'none'; {more}")
 _STRICT = '"use strict";\n'
 _TEXTS = re.compile(r'"\./(texts_\w+\.json)"')  # in texts.js
+_SAME = re.compile(r"(?<=\d )([0-9a-f])\1{7,}$")  # the digits of a row that are all one
 
 
 def read(name: str) -> str:
@@ -83,7 +84,7 @@ def _collect(name: str, found: dict[str, str], above: tuple[str, ...]) -> None:
     if name in above:
         raise ValueError(f"modules import each other: {' '.join((*above, name))}")
     if name.endswith(".json"):
-        known = facts() if name == "facts.json" else json.loads(read(name))
+        known = _MADE[name]() if name in _MADE else json.loads(read(name))
         packed = json.dumps(known, ensure_ascii=False, separators=(",", ":"))
         found[name] = f"const {_variable(name)} = {packed};\n"
         return
@@ -119,6 +120,17 @@ def facts() -> dict[str, Any]:
                          if word != "quit"}
     return {**known, "colours": palette.COLOURS, "darkMat": palette.DARK["mat"],
             "curves": palette.CURVES, "ramp": palette.SHADES}
+
+
+def _lessons() -> dict[str, Any]:
+    """The lessons and scenes. Rows of one digit are short, as `row 3 c*64`: lessons.js writes them out."""
+    known: dict[str, Any] = json.loads(read("lessons.json"))
+    for it in (it for kind in known.values() for it in kind):
+        it["setup"] = [_SAME.sub(lambda row: f"{row[1]}*{len(row[0])}", line) for line in it["setup"]]
+    return known
+
+
+_MADE = {"facts.json": facts, "lessons.json": _lessons}
 
 
 def _properties() -> str:

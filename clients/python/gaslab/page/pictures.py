@@ -44,7 +44,7 @@ class Reading(NamedTuple):
     is_mixed: bool
 
 
-def picture(reading: Reading, number: int, play: Optional[Play], with_solids: bool) -> bytes:
+def picture_message(reading: Reading, number: int, play: Optional[Play], with_solids: bool) -> bytes:
     """The message of a picture. Walls, obstacles and ports are in it if the page doesn't have them yet."""
     gas, flags = reading.gas, LAYOUT["flags"]
     has = {"solids": with_solids, "ports": with_solids, "playing": play, "mixed": reading.is_mixed}
@@ -61,7 +61,7 @@ def picture(reading: Reading, number: int, play: Optional[Play], with_solids: bo
     return b"".join(parts)
 
 
-def file(line: int, name: str, contents: bytes) -> bytes:
+def file_message(line: int, name: str, contents: bytes) -> bytes:
     """The message of a file that was asked for by the line of this number."""
     word = name.encode()
     return _FILE.pack(LAYOUT["file"], 0, len(word), line) + word + contents

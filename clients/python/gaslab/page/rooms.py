@@ -13,7 +13,7 @@ _TRIES = 9
 _MEMORY = "/dev/shm"  # files there are never written to a disk
 
 
-def place() -> str:
+def rooms_folder() -> str:
     """Where the folders are: in memory, or else where the system has such files."""
     return _MEMORY if os.access(_MEMORY, os.W_OK) else gettempdir()
 
@@ -32,17 +32,17 @@ def room() -> Iterator[str]:
 def _made() -> tuple[str, int]:
     """A folder, and the descriptor that locks it. A sweep can remove it first: then it is made again."""
     for _ in range(_TRIES):
-        folder = mkdtemp(prefix=_PREFIX, dir=place())
+        folder = mkdtemp(prefix=_PREFIX, dir=rooms_folder())
         lock = _locked(folder, fcntl.LOCK_EX)
         if lock is not None:
             return folder, lock
-    raise OSError(f"no folder in {place()} can be locked")
+    raise OSError(f"no folder in {rooms_folder()} can be locked")
 
 
 def sweep(where: Optional[str] = None) -> list[str]:
     """Removes the folders that a process left when it was killed. Returns their paths."""
     found = []
-    for path in Path(where or place()).glob(_PREFIX + "*"):
+    for path in Path(where or rooms_folder()).glob(_PREFIX + "*"):
         lock = _locked(str(path), fcntl.LOCK_EX | fcntl.LOCK_NB)
         if lock is not None:
             shutil.rmtree(path, ignore_errors=True)

@@ -8,9 +8,10 @@ import numpy
 
 from ..lab.gas import Gas, as_snapshot
 from ..protocol.doors import PathLike
+from ..protocol.drafts import draft
 from ..protocol.errors import library
 from ..protocol.numbers import whole
-from ..snapshot.files import Snapshot, draft
+from ..snapshot.files import Snapshot
 from . import momentum, palette
 from .pixels import Pixels, cell_pixels, checked_mean, density_pixels, outlined, scaled
 

@@ -8,9 +8,9 @@ from typing import BinaryIO, Optional, SupportsIndex
 from ..lab.lab import Lab
 from ..lab.progress import Progress, Told
 from ..protocol.doors import PathLike
+from ..protocol.drafts import draft
 from ..protocol.errors import library
 from ..protocol.numbers import whole, whole_steps
-from ..snapshot.files import draft
 from .drawing import Image, drawn, kind_of
 
 _KINDS = {".png": "PNG", ".apng": "PNG", ".gif": "GIF"}

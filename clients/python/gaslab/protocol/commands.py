@@ -49,8 +49,8 @@ COMMANDS: dict[str, Command] = {
 }
 """Each command of the laboratory."""
 
-CHANGES = list(COMMANDS)[:11]
-"""The commands that a journal has: `put` to `back`."""
+CHANGES = [name for name, command in COMMANDS.items() if 13 in command.refusals]
+"""The commands that a journal has: those that a full one refuses."""
 RECTANGLES = [name for name, command in COMMANDS.items() if command.words.startswith("x y w h")]
 """The commands that begin with a rectangle."""
 

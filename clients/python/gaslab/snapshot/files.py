@@ -1,17 +1,15 @@
 """Snapshot files, read whole and checked as the laboratory checks them."""
-import os
 import struct
-from collections.abc import Iterable, Iterator
-from contextlib import contextmanager
+from collections.abc import Iterable
 from dataclasses import dataclass, field
 from functools import cached_property
-from secrets import token_hex
-from typing import Any, BinaryIO, NamedTuple, Optional, SupportsIndex
+from typing import Any, NamedTuple, Optional, SupportsIndex
 
 from numpy.typing import ArrayLike
 
 from ..protocol.commands import MOST_PORTS, MOST_SNAPSHOT, MOST_TICK, SIDES
 from ..protocol.doors import PathLike
+from ..protocol.drafts import draft
 from ..protocol.errors import GaslabError
 from ..protocol.numbers import whole_tick
 from .cells import Cells, array_of, as_cells, check_sides, plane_of
@@ -225,29 +223,3 @@ class _Reader:
         if not (w and h and x + w <= width and y + h <= height) or 0 in period:
             raise PortFault(f"{port} in a lattice of {width} by {height}")
         return port
-
-
-@contextmanager
-def draft(path: PathLike) -> Iterator[BinaryIO]:
-    """A new file beside `path` that takes its place in the end, or goes away after a fault.
-
-    What is no file, such as /dev/stdout, is written to at once.
-    """
-    place = os.path.realpath(path)
-    is_file = os.path.isfile(place) or not os.path.exists(place)
-    folder, name = os.path.split(place)
-    beside = os.path.join(folder, f".{name}.{token_hex(4)}.tmp") if is_file else place
-    try:
-        file = open(beside, "xb" if is_file else "wb")
-    except OSError as fault:
-        fault.filename = os.fspath(path)  # nobody knows the other name
-        raise
-    try:
-        with file:
-            yield file
-        if is_file:
-            os.replace(beside, place)
-    except BaseException:
-        if is_file:
-            os.unlink(beside)
-        raise

@@ -1,5 +1,6 @@
 """Random gases, as the lines that make them."""
 from collections.abc import Iterator
+from numbers import Real
 from typing import Optional, SupportsIndex, Union
 
 import numpy
@@ -22,7 +23,7 @@ def random_gas(width: SupportsIndex, height: SupportsIndex, density: float, drif
     tick; `lab.fill` knows it. The same `seed`, 0 to 4,294,967,295, gives the same gas.
 
     Raises `ValueError` for a size that no lattice has, if a probability would not be from 0 to 1, and for a
-    drift without its tick.
+    drift without its tick; `TypeError` if the drift is neither a number nor a tuple of two.
     """
     rows = random_rows(width, height, density, drift, seed, tick)
     return [f"row {y} {plane_of(cells).hex()}" for y, cells in enumerate(rows)]
@@ -32,7 +33,7 @@ def random_rows(width: SupportsIndex, height: SupportsIndex, density: float, dri
                 seed: Optional[SupportsIndex], tick: Optional[SupportsIndex]) -> Iterator[Cells]:
     """The rows of that gas from the top, each an array of truth values of shape (width,)."""
     check_sides(width, height)
-    drift_x, drift_y = drift if isinstance(drift, tuple) else (drift, 0.0)
+    drift_x, drift_y = _pair_of(drift)
     if not max(abs(drift_x), abs(drift_y)) <= 1:
         raise ValueError(f"a drift is from -1 to 1, and not {drift}")
     if not (density >= 0 and density * (1 + abs(drift_x)) * (1 + abs(drift_y)) <= 1):
@@ -46,3 +47,10 @@ def random_rows(width: SupportsIndex, height: SupportsIndex, density: float, dri
     right, down = (directions(int(side), whole_tick(tick)) for side in (width, height))
     across = 1 + drift_x * right
     return (draw.random_sample(across.size) < share * across for share in density * (1 + drift_y * down))
+
+
+def _pair_of(drift: Drift) -> tuple[float, float]:
+    pair = drift if isinstance(drift, tuple) else (drift, 0.0)
+    if len(pair) != 2 or not all(isinstance(it, Real) for it in pair):
+        raise TypeError(f"a drift is a number, or a tuple (right, down), and not {drift!r}")
+    return pair

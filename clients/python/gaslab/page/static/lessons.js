@@ -5,7 +5,12 @@ import { TEXTS, told } from "./texts.js";
 
 const T = TEXTS.lessons;
 
-export const { lessons: LESSONS, scenes: SCENES } = data;
+// one_file.py shortens rows of one digit
+const row = (line) => line.replace(/(.)\*(\d+)$/, (_, digit, count) => digit.repeat(count));
+const whole = (lesson) => ({ ...lesson, setup: lesson.setup.map(row) });
+
+export const LESSONS = data.lessons.map(whole);
+export const SCENES = data.scenes.map(whole);
 export const ALL = [...LESSONS, ...SCENES, EMPTY];
 export const find = (id) => ALL.find((lesson) => lesson.id === id);
 
