@@ -1,5 +1,5 @@
 use Rattle.std.proofs.Common.{◌≡◌, ◌+◌, ◌/◌, ◌<◌, true, ◌∙◌, sym, ap, subst, arith}
-use Rattle.gas_terms.specs.Cells.{Cells, HasSidesOf, extent, is_size}
+use Rattle.gas_terms.specs.Cells.{HasSidesOf, extent, is_size}
 use Rattle.gas_terms.specs.Gas.{streamed}
 use Rattle.phase_step.specs.OddPhase.{IsRowThere, HasInner, HasSeam, HasRow, IsBegunTurned, IsEvenRowTurned, place_at}
 use Rattle.phase_step.specs.declared.odd_phase.RowPlace.{RowPlace}

@@ -2,10 +2,10 @@ use Rattle.std.proofs.Common.{◌≡◌, ◌+◌, ◌/◌, ◌∙◌, sym, ap, s
 use Rattle.gas_terms.specs.Cells.{Cells, HasSidesOf, joined}
 use Rattle.gas_terms.specs.Gas.{streamed}
 use Rattle.gas_plane.specs.Planes.{IsLattice}
-use Rattle.phase_step.specs.Parts.{HasRows, IsPartOf, IsReady}
+use Rattle.phase_step.specs.Parts.{HasRows, IsPartOf}
 use Rattle.phase_step.specs.Runs.{parity_at}
 use Rattle.phase_step.specs.declared.parts.Part.{Part}
-use Rattle.phase_strips.specs.Courses.{Course, lattice_at}
+use Rattle.phase_strips.specs.Courses.{lattice_at}
 use Rattle.phase_strips.specs.Strips.{place_of}
 use Rattle.phase_strips.proofs.Courses.{course_sides, rows_quiet, two_next}
 use Rattle.phase_strips.proofs.StripParts.{odd_part, walls_there}

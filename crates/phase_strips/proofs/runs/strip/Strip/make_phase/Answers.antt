@@ -1,7 +1,7 @@
 use Rattle.std.proofs.Common.{◌≡◌, ◌+◌, ◌-◌, ◌*◌, ◌/◌, ◌≤◌, ◌∙◌, min, sym, ap, subst, arith}
 use Rattle.std.proofs.Math.Nat.{min-eq_left}
 use Rattle.std.proofs.lemmas.Nat.{mul-le}
-use Rattle.gas_terms.specs.Cells.{Cells, Extent, HasSidesOf, extent}
+use Rattle.gas_terms.specs.Cells.{Cells, HasSidesOf, extent}
 use Rattle.gas_plane.specs.Planes.{IsLattice}
 use Rattle.gas_plane.proofs.Places.{wide, high}
 use Rattle.block_rule.specs.declared.walled.Counted.{Counted}
