@@ -1,3 +1,4 @@
 pub mod Busy
 pub mod Turns
+pub mod Back
 pub mod Totals

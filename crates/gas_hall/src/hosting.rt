@@ -1,11 +1,11 @@
 //! Serves a laboratory: opens a hall over it and serves the hall.
 
-ghost use Rattle.std.specs.Prelude.{◌≡◌, ℕ, ◌+◌, ◌<◌, ◌≤◌, [], All, IfSome, Some, map, slice_get, vec_len, vec_capacity};
+ghost use Rattle.std.specs.Prelude.{◌≡◌, ℕ, ◌+◌, ◌<◌, ◌≤◌, [], All, IfSome, Some, slice_get, vec_len, vec_capacity};
 ghost use Rattle.gas_terms.specs.Gas.{Gas};
-ghost use Rattle.gas_terms.specs.Laboratory.{IsPrefix};
 ghost use Rattle.gas_seats.specs.Seats.{most_seats};
-ghost use Rattle.gas_seats.specs.TurnSeats.{TurnSeatView, but_for_seen, entries_made, made_in_all};
+ghost use Rattle.gas_seats.specs.TurnSeats.{TurnSeatView, made_in_all};
 ghost use Rattle.gas_hall.specs.Busy.{busy_seats};
+ghost use Rattle.gas_hall.specs.Served.{AreSame, AreSeats, HasMet};
 
 use crate::serving::{Lobby, TurnServed, serve_turn};
 use gas_lab::{Door, Lab, Stepper};
@@ -27,10 +27,7 @@ fn meet_each<S: Stepper, R>(
     requires door { door.old.seat.hall ≡ hall.now }
     ensures seats { seats.new.items ≡ seats.old.items }
     ensures capacity { vec_capacity seats.new ≡ vec_capacity seats.old }
-    ensures met { All (λ seat. IsPrefix seat.seen door.new.seat.seen) seats.old.items }
-    ensures more { IsPrefix door.old.seat.seen door.new.seat.seen }
-    ensures door { but_for_seen door.new.seat ≡ but_for_seen door.old.seat }
-    ensures made { entries_made door.new.seat ≡ entries_made door.old.seat }
+    ensures door { HasMet seats.old.items door.old.seat door.new.seat }
 {
     let Some(seat) = seats.pop() else {
         return;
@@ -49,9 +46,7 @@ fn meet_all<S: Stepper, R: Wait>(rt: &R, hall: &TurnHall<S>, seats: &mut Vec<Tur
     requires here { All (λ seat. seat.hall ≡ hall.now) seats.old.items }
     requires numbers { (i : ℕ) (seat : TurnSeatView)
         → slice_get seats.old.items i ≡ Some seat → seat.number ≡ i }
-    ensures all { vec_len seats.new ≡ vec_len seats.old }
-    ensures seats { map but_for_seen seats.new.items ≡ map but_for_seen seats.old.items }
-    ensures made { map entries_made seats.new.items ≡ map entries_made seats.old.items }
+    ensures same { AreSame seats.old.items seats.new.items }
     ensures room { (opened : Gas × ℕ)
         → All (λ seat. seat.opened ≡ Some opened) seats.old.items
         → made_in_all seats.new.items ≤ opened.1 }
@@ -80,14 +75,10 @@ pub fn serve_lab<S: Stepper + Send, L: Lobby, K: Shelf + Drop + Send, R: Threads
     requires lab { lab.journal ≡ [] }
     ensures count { IfSome result (λ served. served.done + served.failed ≡ vec_len shelves) }
     ensures busy { IfSome result (λ served. busy_seats served.seats.items ≤ served.done) }
-    ensures all { IfSome result (λ served. vec_len served.seats ≡ vec_len shelves) }
-    ensures numbers { IfSome result (λ served. (i : ℕ) (seat : TurnSeatView)
-        → slice_get served.seats.items i ≡ Some seat → seat.number ≡ i) }
-    ensures opened { IfSome result (λ served.
-        All (λ seat. seat.opened ≡ Some (lab.start, lab.cap)) served.seats.items) }
-    ensures entries { IfSome result (λ served.
-        served.entries ≡ made_in_all served.seats.items) }
-    ensures room { IfSome result (λ served. served.entries ≤ lab.cap) }
+    ensures seats { IfSome result (λ served.
+        AreSeats lab.start lab.cap (vec_len shelves) served.seats.items) }
+    ensures entries { IfSome result (λ served. (served.entries ≤ lab.cap)
+        × (served.entries ≡ made_in_all served.seats.items)) }
 {
     let count = shelves.len() as u16;
     let Ok((hall, seats)) = TurnHall::open(alloc, lab, count) else {

@@ -1,12 +1,12 @@
 //! Serves a hall: accepts a session for each seat, starts a thread for it, and joins all threads.
 
-ghost use Rattle.std.specs.Prelude.{◌≡◌, ℕ, ◌+◌, ◌≤◌, List, All, Some, IfOk, IfErr, length, map, slice_get, vec_len, vec_capacity};
+ghost use Rattle.std.specs.Prelude.{◌≡◌, ℕ, ◌+◌, ◌≤◌, List, All, IfOk, IfErr, length, vec_len, vec_capacity};
 ghost use Rattle.std.specs.List.{sum_by};
 ghost use Rattle.gas_terms.specs.Laboratory.{most_entries, IsPrefix};
 ghost use Rattle.gas_terms.specs.declared.command.Entry.{Entry};
 ghost use Rattle.gas_seats.specs.Seats.{most_seats};
-ghost use Rattle.gas_seats.specs.TurnSeats.{TurnSeatView, but_for_seen, entries_made, made_in_all};
-ghost use Rattle.gas_hall.specs.Busy.{busy};
+ghost use Rattle.gas_seats.specs.TurnSeats.{but_for_seen, entries_made, made_in_all};
+ghost use Rattle.gas_hall.specs.Served.{ComeBack, ComeBackTo};
 
 use gas_lab::Stepper;
 use gas_seats::{TurnHall, TurnSeat};
@@ -230,11 +230,11 @@ where
 fn serve_rest<
     's,
     E,
-    T: Drop + Send,
+    T: Drop + Send + 's,
     R: Threads + Wait + Sync,
     H: Seating<T, R> + Sync,
-    L: Lobby,
-    K: Shelf + Drop + Send,
+    L: Lobby + 's,
+    K: Shelf + Drop + Send + 's,
 >(
     house: &House<'s, R, H>,
     scope: &Scope<'s, E>,
@@ -242,20 +242,10 @@ fn serve_rest<
     seats: &mut Vec<T>,
     shelves: &mut Vec<K>,
 ) -> u32
-where
-    T: 's,
-    L::R: 's,
-    L::W: 's,
-    K: 's,
     requires few { vec_len seats.old ≤ most_seats }
     requires shelves { vec_len shelves.old ≡ vec_len seats.old }
     requires here { All (λ seat. H.has house.now.hall.now (H.kept seat)) seats.old.items }
-    ensures done { result ≤ vec_len seats.old }
-    ensures busy { busy H.made seats.old.items seats.new.items ≤ result }
-    ensures all { vec_len seats.new ≡ vec_len seats.old }
-    ensures seats { map H.kept seats.new.items ≡ map H.kept seats.old.items }
-    ensures seen { (i : ℕ) (old new : T) → slice_get seats.old.items i ≡ Some old
-        → slice_get seats.new.items i ≡ Some new → IsPrefix (H.seen old) (H.seen new) }
+    ensures back { ComeBack H.kept H.made H.seen seats.old.items seats.new.items result }
     ensures capacity { vec_capacity seats.new ≡ vec_capacity seats.old }
 {
     let Some(seat) = seats.pop() else {
@@ -306,11 +296,7 @@ pub fn serve_seats<
     requires shelves { vec_len shelves ≡ vec_len seats }
     requires here { All (λ seat. H.has hall.now (H.kept seat)) seats.items }
     ensures count { result.done + result.failed ≡ vec_len seats }
-    ensures busy { busy H.made seats.items result.seats.items ≤ result.done }
-    ensures all { vec_len result.seats ≡ vec_len seats }
-    ensures seats { map H.kept result.seats.items ≡ map H.kept seats.items }
-    ensures seen { (i : ℕ) (old new : T) → slice_get seats.items i ≡ Some old
-        → slice_get result.seats.items i ≡ Some new → IsPrefix (H.seen old) (H.seen new) }
+    ensures back { ComeBack H.kept H.made H.seen seats.items result.seats.items result.done }
     ensures entries { result.entries ≡ sum_by H.made result.seats.items }
 {
     let count = seats.len() as u32;
@@ -327,12 +313,7 @@ pub fn serve_seats<
             requires few { vec_len seats ≤ most_seats }
             requires shelves { vec_len shelves ≡ vec_len seats }
             requires here { All (λ seat. H.has hall.now (H.kept seat)) seats.items }
-            ensures done { result.0 ≤ vec_len seats }
-            ensures busy { busy H.made seats.items result.1.items ≤ result.0 }
-            ensures all { vec_len result.1 ≡ vec_len seats }
-            ensures seats { map H.kept result.1.items ≡ map H.kept seats.items }
-            ensures seen { (i : ℕ) (old new : T) → slice_get seats.items i ≡ Some old
-                → slice_get result.1.items i ≡ Some new → IsPrefix (H.seen old) (H.seen new) }
+            ensures back { ComeBack H.kept H.made H.seen seats.items result.1.items result.0 }
         {
             let mut seats = seats;
             let mut shelves = shelves;
@@ -374,12 +355,7 @@ pub fn serve_turn<S: Stepper + Send, L: Lobby, K: Shelf + Drop + Send, R: Thread
     requires shelves { vec_len shelves ≡ vec_len seats }
     requires here { All (λ seat. seat.hall ≡ hall.now) seats.items }
     ensures count { result.done + result.failed ≡ vec_len seats }
-    ensures busy { busy entries_made seats.items result.seats.items ≤ result.done }
-    ensures all { vec_len result.seats ≡ vec_len seats }
-    ensures seats { map but_for_seen result.seats.items ≡ map but_for_seen seats.items }
-    ensures seen { (i : ℕ) (old new : TurnSeatView) → slice_get seats.items i ≡ Some old
-        → slice_get result.seats.items i ≡ Some new → IsPrefix old.seen new.seen }
-    ensures here { All (λ seat. seat.hall ≡ hall.now) result.seats.items }
+    ensures back { ComeBackTo hall.now seats.items result.seats.items result.done }
     ensures entries { result.entries ≡ made_in_all result.seats.items }
 {
     serve_seats(rt, alloc, lobby, hall, seats, shelves)

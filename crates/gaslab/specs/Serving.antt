@@ -1,10 +1,11 @@
 -- What a run of the program as a server is.
-use Rattle.std.specs.Prelude.{◌≡◌, ℕ, ◌+◌, ◌≤◌, ◌⊎◌, List, [], ◌∷◌, ◌++◌, length, All, Option, Some, slice_get, codes}
+use Rattle.std.specs.Prelude.{◌≡◌, ℕ, ◌+◌, ◌≤◌, ◌⊎◌, List, [], ◌∷◌, ◌++◌, Option, codes}
 use Rattle.std.specs.Fmt.{decimal}
 use Rattle.std.specs.Io.KnownBytes.{Appends}
 use Rattle.gas_terms.specs.Gas.{Gas}
 use Rattle.gas_seats.specs.TurnSeats.{TurnSeatView, made_in_all}
 use Rattle.gas_hall.specs.Busy.{busy_seats}
+use Rattle.gas_hall.specs.Served.{AreSeats}
 use Rattle.gas_text.specs.Texts.{parted}
 use Rattle.gas_run.specs.declared.setup.Setup.{Setup}
 
@@ -15,12 +16,6 @@ served_text done failed entries =
 
 abbrev pub served_line : ℕ → ℕ → ℕ → List ℕ
 served_line done failed entries = served_text done failed entries ++ 10 ∷ []
-
--- These are so many seats with the numbers 0, 1, .. on a laboratory that opened with this gas and capacity.
-pub record AreSeats (start : Gas) (cap count : ℕ) (seats : List TurnSeatView) : Type 0 where
-  pub all : length seats ≡ count
-  pub numbers : (i : ℕ) (seat : TurnSeatView) → slice_get seats i ≡ Some seat → seat.number ≡ i
-  pub opened : All (λ seat. seat.opened ≡ Some (start, cap)) seats
 
 -- What is told: each seat was served or was not, and those that made entries were. The entries are those that the seats made
 -- in all, for which the journal had room. The line was written whole.

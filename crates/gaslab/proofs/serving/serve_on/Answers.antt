@@ -1,6 +1,6 @@
-use Rattle.std.proofs.Common.{rules, ◌≡◌, ◌≤◌, All, Some, subst, inl}
+use Rattle.std.proofs.Common.{rules, ◌≤◌, vec_len, subst, inl}
 use Rattle.gas_terms.specs.Laboratory.{Laboratory}
-use Rattle.gas_seats.specs.TurnSeats.{TurnSeatView}
+use Rattle.gas_hall.specs.Served.{AreSeats}
 use Rattle.gaslab.proofs.serving.serve_on.Goals as goal
 
 pub returns-in_default : goal.returns-in_default
@@ -19,13 +19,9 @@ returns-in-Some g c =
         seats = served.seats.items;
         each = c.in-Some.ensures.count;
         busy = c.in-Some.ensures.busy;
-        back = record {
-          all = search rules;
-          numbers = c.in-Some.ensures.numbers;
-          opened = subst (λ (l : Laboratory). All (λ (s : TurnSeatView). s.opened ≡ Some (l.start, l.cap)) served.seats.items) lab c.in-Some.ensures.opened;
-        };
-        sum = c.in-Some.ensures.entries;
-        room = subst (λ (l : Laboratory). served.entries ≤ l.cap) lab c.in-Some.ensures.room;
+        back = subst (λ (l : Laboratory). AreSeats l.start l.cap (vec_len c.args.shelves) served.seats.items) lab c.in-Some.ensures.seats;
+        sum = c.in-Some.ensures.entries.1;
+        room = subst (λ (l : Laboratory). served.entries ≤ l.cap) lab c.in-Some.ensures.entries.0;
         written = search rules;
       },
     )
