@@ -9,12 +9,13 @@ use Rattle.bit_tile.proofs.Classes.{in_even_even, in_odd_even, in_even_odd, in_o
 use Rattle.block_rule.specs.Around.{block_start, is_block_walled, is_walled_at, turned}
 use Rattle.block_rule.specs.Cell.{partner, turned_cell}
 use Rattle.block_rule.specs.Rows.{IsMade, odd_row, eight_row, beside_right}
-use Rattle.block_rule.specs.InPlace.{ShowsBegun, NamesRow, IsRowTurned, IsLeaving, IsInnerSeen, IsSeamSeen, AreNamed, HaveTurned, AreEndsKept}
+use Rattle.block_rule.specs.InPlace.{ShowsBegun, NamesRow, IsRowTurned, IsLeaving, IsInnerSeen, IsSeamSeen, AreNamed, AreRowsSeen, AreCarried, AreEightCarried, AreOthersCarried, AreOthersKept, IsCarried, carried_row, HaveTurned, AreEndsKept}
 use Rattle.block_rule.specs.NamedBlocks.{NameBlocks}
 use Rattle.block_rule.specs.Shown.{HasNoCell}
 use Rattle.block_rule.specs.declared.blocks.Blocks.{Blocks}
 use Rattle.block_rule.specs.declared.blocks.Beside.{Beside}
 use Rattle.block_rule.specs.declared.blocks.EightRows.{EightRows}
+use Rattle.block_rule.specs.declared.in_place.Carry.{Carry}
 use Rattle.block_rule.proofs.Around.{turned_by_cells}
 use Rattle.block_rule.proofs.Windows.{cell_by, next_shown}
 use Rattle.block_rule.proofs.NamedBlocks.{nothing_given, one_named}
@@ -73,6 +74,10 @@ landed test word coming made is first others i h =
       | inr ne ↦ is i h ∙ (rw (ne_eqb i 0 ne) (others (i - 1) (omega arith)) ∙ ap test (let z : 2 * (i - 1) + 2 ≡ 2 * i = omega arith in z))
     ]
 
+-- what is carried on, by two lists of words
+abbrev beside_of : List ℕ → List ℕ → ℕ → Beside
+beside_of upper lower m = record { upper = get_or upper m 0; lower = get_or lower m 0 }
+
 -- a tile after one of its rows of blocks is written
 abbrev pub row_written : Tile → ℕ → Blocks → Tile
 row_written t j new =
@@ -86,27 +91,106 @@ row_written t j new =
 pub rows_more : (P : ℕ → Blocks → Type 0) (t : Tile) (new : Blocks) (j : ℕ) → j + 1 < length t.even_even → j + 1 < length t.odd_even → j < length t.even_odd → j < length t.odd_odd → ((m : ℕ) → m < j → P m (odd_row t m)) → P j new → (m : ℕ) → m < j + 1 → P m (odd_row (row_written t j new) m)
 rows_more P t new j ee oe eo oo before here m below = grind (arith, cases_eq, get_or-set_same, get_or-set_other)
 
-pub rows_left : (t old : Tile) (new : Blocks) (j : ℕ) → ((m : ℕ) → j ≤ m → odd_row t m ≡ odd_row old m) → (m : ℕ) → j + 1 ≤ m → odd_row (row_written t j new) m ≡ odd_row old m
-rows_left t old new j before m above = grind (arith, cases_eq, get_or-set_other)
+pub rows_left : (from : ℕ) (t old : Tile) (new : Blocks) (j : ℕ) → from ≤ j → ((m : ℕ) → (m < from) ⊎ (j ≤ m) → odd_row t m ≡ odd_row old m) → (m : ℕ) → (m < from) ⊎ (j + 1 ≤ m) → odd_row (row_written t j new) m ≡ odd_row old m
+rows_left from t old new j low before m apart = grind (arith, cases_eq, get_or-set_other)
 
 pub beside_more : (P : ℕ → Beside → Type 0) (upper lower : List ℕ) (u l j : ℕ) → j < length upper → j < length lower → ((m : ℕ) → m < j → P m (record { upper = get_or upper m 0; lower = get_or lower m 0 })) → P j (record { upper = u; lower = l }) → (m : ℕ) → m < j + 1 → P m (record { upper = get_or (set upper j u) m 0; lower = get_or (set lower j l) m 0 })
 beside_more P upper lower u l j up low before here m below = grind (arith, cases_eq, get_or-set_same, get_or-set_other)
 
-pub words_left : (words old : List ℕ) (u j : ℕ) → ((m : ℕ) → j ≤ m → get_or words m 0 ≡ get_or old m 0) → (m : ℕ) → j + 1 ≤ m → get_or (set words j u) m 0 ≡ get_or old m 0
-words_left words old u j before m above = grind (arith, get_or-set_other)
+pub beside_left : (from : ℕ) (upper lower old others : List ℕ) (u l j : ℕ) → from ≤ j → ((m : ℕ) → (m < from) ⊎ (j ≤ m) → beside_of upper lower m ≡ beside_of old others m) → (m : ℕ) → (m < from) ⊎ (j + 1 ≤ m) → beside_of (set upper j u) (set lower j l) m ≡ beside_of old others m
+beside_left from upper lower old others u l j low before m apart = grind (arith, cases_eq, get_or-set_other)
+
+pub places_written : (upper lower some others : List ℕ) (at k : ℕ) → at + k < length upper → at + k < length lower → ((m : ℕ) → m < k → beside_of upper lower (at + m) ≡ beside_of some others m) → (m : ℕ) → m < k + 1 → beside_of (set upper (at + k) (get_or some k 0)) (set lower (at + k) (get_or others k 0)) (at + m) ≡ beside_of some others m
+places_written upper lower some others at k up low before m below = grind (arith, cases_eq, get_or-set_same, get_or-set_other)
+
+pub places_left : (upper lower old before : List ℕ) (u l at k : ℕ) → ((p : ℕ) → (p < at) ⊎ (at + k ≤ p) → beside_of upper lower p ≡ beside_of old before p) → (p : ℕ) → (p < at) ⊎ (at + (k + 1) ≤ p) → beside_of (set upper (at + k) u) (set lower (at + k) l) p ≡ beside_of old before p
+places_left upper lower old before u l at k same p apart = grind (arith, cases_eq, get_or-set_other)
 
 -- what is shown of a row of blocks whose words are as before
 pub begun_shown : (window : ℕ → ℕ → Bool) (j : ℕ) (own old : Blocks) (right beside : Beside) → own ≡ old → right ≡ beside → ShowsBegun window j old beside → ShowsBegun window j own right
 begun_shown window j own old right beside e f s = rw (e, f) s
 
-pub leaving_same : (column : ℕ → Bool) (j u l v m : ℕ) → u ≡ v → l ≡ m → IsLeaving (record { upper = v; lower = m }) column j → IsLeaving (record { upper = u; lower = l }) column j
-leaving_same column j u l v m e f is = rw (e, f) is
+pub leaving_kept : (column : ℕ → Bool) (j : ℕ) (now old : Beside) → now ≡ old → IsLeaving old column j → IsLeaving now column j
+leaving_kept column j now old e is = rw e is
 
 pub ends_left : (t old : Tile) (new : Blocks) (j : ℕ) → j < 31 → AreEndsKept old t → AreEndsKept old (row_written t j new)
 ends_left t old new j below are = grind (arith, get_or-set_other)
 
 pub row_named : (word begin : ℕ) (solid : ℕ → ℕ → Bool) (j : ℕ) → word ≡ begin → NamesRow begin solid j → NamesRow word solid j
 row_named word begin solid j e named = rw e named
+
+-- rows of which a word tells that none of their blocks is walled
+pub rows_free : (set : SetBlocks) (from to : ℕ) (solid : ℕ → ℕ → Bool) → to < 32 → NamesBlocks set.rows set.blocks.now (walled_by solid) → ((j : ℕ) → from ≤ j → j < to → bit set.rows j ≡ false) → AreNamed from to (λ _. 0) solid
+rows_free set from to solid small named none j h k i within =
+    let half : (2 * j + 1) / 2 ≡ j = omega arith in
+    bit-zero i ∙ (sym (named.rows 1 (omega arith) (2 * i + 1) (2 * j + 1) (omega arith) (omega arith) (ap (bit set.rows) half ∙ none j h k)) ∙ ap₂ (is_block_walled solid) (IsPlaced.begin (first_placed i)) (IsPlaced.begin (first_placed j)))
+
+-- rows that turn after others
+module _ (from mid to : ℕ) (old now new : Tile) (before during after : Carry) (first : AreOthersKept from mid old now before during) (more : AreOthersKept mid to now new during after) where
+  pub seen_more : (window : ℕ → ℕ → Bool) (r : Tile) → AreRowsSeen mid to window old r → AreRowsSeen mid to window now r
+  seen_more window r are j h k = begun_shown window j (odd_row now j) (odd_row old j) (beside_right r j) (beside_right r j) (first.rows j (inr h)) refl (are j h k)
+
+  pub carried_more : (column : ℕ → Bool) → AreCarried mid to before column → AreCarried mid to during column
+  carried_more column are j h k = leaving_kept column j _ _ (first.carried j (inr h)) (are j h k)
+
+  pub turned_both : (test : ℕ → ℕ → Bool) → HaveTurned from mid now test → HaveTurned mid to new test → HaveTurned from to new test
+  turned_both test some others j h k =
+      elim (cases_lt j mid) [
+        | inl less ↦ subst (λ row. IsRowTurned row test j) (sym (more.rows j (inl less))) (some j h less)
+        | inr above ↦ others j above k
+      ]
+
+  pub carried_both : (column : ℕ → Bool) → AreCarried from mid during column → AreCarried mid to after column → AreCarried from to after column
+  carried_both column some others j h k =
+      elim (cases_lt j mid) [
+        | inl less ↦ leaving_kept column j _ _ (more.carried j (inl less)) (some j h less)
+        | inr above ↦ others j above k
+      ]
+
+  pub others_kept : from ≤ mid → mid ≤ to → AreOthersKept from to old new before after
+  others_kept low high =
+      record {
+        rows = λ j. elim [
+          | inl less ↦ more.rows j (inl (omega arith)) ∙ first.rows j (inl less)
+          | inr above ↦ more.rows j (inr above) ∙ first.rows j (inr (omega arith))
+        ];
+        carried = λ j. elim [
+          | inl less ↦ more.carried j (inl (omega arith)) ∙ first.carried j (inl less)
+          | inr above ↦ more.carried j (inr above) ∙ first.carried j (inr (omega arith))
+        ];
+      }
+
+pub ends_both : (old now new : Tile) → AreEndsKept old now → AreEndsKept now new → AreEndsKept old new
+ends_both old now new first more = record { top_even = more.top_even ∙ first.top_even; top_odd = more.top_odd ∙ first.top_odd; bottom_even = more.bottom_even ∙ first.bottom_even; bottom_odd = more.bottom_odd ∙ first.bottom_odd }
+
+-- eight rows that are written after they were made
+module _ (from : ℕ) (old new : Tile) (rows : EightRows) (written : (k : ℕ) → k < 8 → odd_row new (from + k) ≡ eight_row rows k)
+    (upper_rest : (j : ℕ) → (j < from) ⊎ (from + 8 ≤ j) → (get_or new.odd_odd j 0 ≡ get_or old.odd_odd j 0) × (get_or new.even_odd j 0 ≡ get_or old.even_odd j 0))
+    (lower_rest : (j : ℕ) → (j ≤ from) ⊎ (from + 8 < j) → (get_or new.odd_even j 0 ≡ get_or old.odd_even j 0) × (get_or new.even_even j 0 ≡ get_or old.even_even j 0)) where
+  pub eight_turned : (test : ℕ → ℕ → Bool) → ((k : ℕ) → k < 8 → IsRowTurned (eight_row rows k) test (from + k)) → HaveTurned from (from + 8) new test
+  eight_turned test made j h k =
+      let at : from + (j - from) ≡ j = omega arith in
+      subst (λ m. IsRowTurned (odd_row new m) test m) at (subst (λ row. IsRowTurned row test (from + (j - from))) (sym (written (j - from) (omega arith))) (made (j - from) (omega arith)))
+
+  pub rows_kept : (j : ℕ) → (j < from) ⊎ (from + 8 ≤ j) → odd_row new j ≡ odd_row old j
+  rows_kept j apart =
+      let upper = upper_rest j apart in
+      let lower = lower_rest (j + 1) (elim apart [ inl less ↦ inl (omega arith) | inr above ↦ inr (omega arith) ]) in
+      rw (upper.0, upper.1, lower.0, lower.1) refl
+
+-- the places of eight rows, which are all others' or among them
+pub places_from : (from : ℕ) (c : Carry) (column : ℕ → Bool) → AreCarried from (from + 8) c column → AreEightCarried from from c column
+places_from from c column are k few = are (from + k) (omega arith) (omega arith)
+
+pub places_to : (from : ℕ) (c : Carry) (column : ℕ → Bool) → AreEightCarried from from c column → AreCarried from (from + 8) c column
+places_to from c column are j h k = let at : from + (j - from) ≡ j = omega arith in subst (λ m. IsLeaving (carried_row c m) column m) at (are (j - from) (omega arith))
+
+-- all places: those of the last rows get theirs before or after the others
+pub all_carried : (mid new : Carry) (column : ℕ → Bool) → AreCarried 0 24 new column → AreEightCarried 23 24 mid column → AreOthersCarried 0 24 mid new → IsCarried new column
+all_carried mid new column some others kept = record { first = λ j h. some j (omega arith) h; last = λ k h. leaving_kept column (23 + k) _ _ (kept (24 + k) (inr (omega arith))) (others k h) }
+
+pub first_carried : (old mid : Carry) (column : ℕ → Bool) → IsCarried old column → AreOthersCarried 24 32 old mid → AreCarried 0 24 mid column
+first_carried old mid column are kept j h k = leaving_kept column j _ _ (kept j (inl k)) (are.first j k)
 
 -- a tile's rows of blocks in a window
 module _ (window : ℕ → ℕ → Bool) (t r : Tile) (s : IsInnerSeen window t r) where
@@ -116,8 +200,8 @@ module _ (window : ℕ → ℕ → Bool) (t r : Tile) (s : IsInnerSeen window t 
   right_seen : (y v : ℕ) (b : Bool) → 1 ≤ y → y < 63 → y + 1 ≡ v → has r 0 y ≡ b → window 65 v ≡ b
   right_seen y v b low high f is = sym (ap (window 65) f) ∙ (s.right y low high ∙ is)
 
-  pub rows_seen : (j : ℕ) → j < 31 → ShowsBegun window j (odd_row t j) (beside_right r j)
-  rows_seen j h =
+  row_seen : (j : ℕ) → j < 31 → ShowsBegun window j (odd_row t j) (beside_right r j)
+  row_seen j h =
       record {
         upper_left = λ i k. tile_seen (2 * i + 1) (2 * j + 1) _ _ _ (omega arith) (omega arith) (omega arith) (omega arith) (omega arith) (odd_odd_at t i j);
         upper_right = λ i k. tile_seen (2 * i) (2 * j + 1) _ _ _ (omega arith) (omega arith) (omega arith) refl (omega arith) (even_odd_at t i j);
@@ -127,14 +211,17 @@ module _ (window : ℕ → ℕ → Bool) (t r : Tile) (s : IsInnerSeen window t 
         right_lower = right_seen (2 * (j + 1)) _ _ (omega arith) (omega arith) (omega arith) (even_even_at r 0 (j + 1));
       }
 
+  pub rows_seen : (from to : ℕ) → to ≤ 31 → AreRowsSeen from to window t r
+  rows_seen from to small j h k = row_seen j (omega arith)
+
 -- a tile's cells by its rows of blocks
-pub cells_turned : (t : Tile) (test : ℕ → ℕ → Bool) → HaveTurned 31 t test → (x y : ℕ) → x < 64 → 1 ≤ y → y < 63 → has t x y ≡ test x y
+pub cells_turned : (t : Tile) (test : ℕ → ℕ → Bool) → HaveTurned 0 31 t test → (x y : ℕ) → x < 64 → 1 ≤ y → y < 63 → has t x y ≡ test x y
 cells_turned t test rows x y h low high =
     elim (cases_eq (y % 2) 0) [
       | inl even_y ↦
           let row : 2 * (y / 2 - 1 + 1) ≡ y = omega (arith, even_y) in
           let also : 2 * (y / 2 - 1) + 2 ≡ y = omega (arith, even_y) in
-          let is = rows (y / 2 - 1) (omega arith) in
+          let is = rows (y / 2 - 1) (omega arith) (omega arith) in
           elim (cases_eq (x % 2) 0) [
             | inl even_x ↦
                 let column : 2 * (x / 2) ≡ x = omega (arith, even_x) in
@@ -145,7 +232,7 @@ cells_turned t test rows x y h low high =
           ]
       | inr odd_y ↦
           let row : 2 * (y / 2) + 1 ≡ y = omega (arith, odd_y) in
-          let is = rows (y / 2) (omega arith) in
+          let is = rows (y / 2) (omega arith) (omega arith) in
           elim (cases_eq (x % 2) 0) [
             | inl even_x ↦
                 let column : 2 * (x / 2) ≡ x = omega (arith, even_x) in
@@ -161,14 +248,14 @@ row_kept : (test : ℕ → ℕ → Bool) (t u : Tile) (j : ℕ) → (get_or u.od
 row_kept test t u j e f is = rw (e.0, e.1, f.0, f.1) is
 
 -- all rows: the last eight are written after the others have turned
-pub all_turned : (test : ℕ → ℕ → Bool) (mid new : Tile) (rows : EightRows) → HaveTurned 24 mid test → ((k : ℕ) → k < 8 → IsRowTurned (eight_row rows k) test (23 + k))
+pub all_turned : (test : ℕ → ℕ → Bool) (mid new : Tile) (rows : EightRows) → HaveTurned 0 24 mid test → ((k : ℕ) → k < 8 → IsRowTurned (eight_row rows k) test (23 + k))
     → ((k : ℕ) → k < 8 → odd_row new (23 + k) ≡ eight_row rows k)
     → ((j : ℕ) → (j < 23) ⊎ (31 ≤ j) → (get_or new.odd_odd j 0 ≡ get_or mid.odd_odd j 0) × (get_or new.even_odd j 0 ≡ get_or mid.even_odd j 0))
     → ((j : ℕ) → (j ≤ 23) ⊎ (31 < j) → (get_or new.odd_even j 0 ≡ get_or mid.odd_even j 0) × (get_or new.even_even j 0 ≡ get_or mid.even_even j 0))
-    → HaveTurned 31 new test
-all_turned test mid new rows first last written upper_rest lower_rest j below =
+    → HaveTurned 0 31 new test
+all_turned test mid new rows first last written upper_rest lower_rest j low below =
     elim (cases_lt j 23) [
-      | inl less ↦ row_kept test mid new j (upper_rest j (inl less)) (lower_rest (j + 1) (inl (omega arith))) (first j (omega arith))
+      | inl less ↦ row_kept test mid new j (upper_rest j (inl less)) (lower_rest (j + 1) (inl (omega arith))) (first j low (omega arith))
       | inr more ↦
           let at : 23 + (j - 23) ≡ j = omega arith in
           subst (λ m. IsRowTurned (odd_row new m) test m) at (subst (λ row. IsRowTurned row test (23 + (j - 23))) (sym (written (j - 23) (omega arith))) (last (j - 23) (omega arith)))
@@ -220,15 +307,15 @@ pub top_rest : (t : Tile) (odd even : ℕ) (x y : ℕ) → x < 64 → 1 ≤ y �
 top_rest t odd even x y h low k = grind (arith, cases_eq, in_even_even, in_even_odd, in_odd_even, in_odd_odd, get_or-set_other)
 
 -- the words of walled blocks that begin in a tile
-pub begins_named : (begins ends : ℕ → ℕ) (solid : ℕ → ℕ → Bool) → NameBlocks begins ends solid → AreNamed begins solid
-begins_named begins ends solid are j h i k = are.begin i (j + 1) k (omega arith) ∙ ap (is_block_walled solid (2 * i + 2)) (let e : 2 * (j + 1) ≡ 2 * j + 2 = omega arith in e)
+pub begins_named : (from to : ℕ) (begins ends : ℕ → ℕ) (solid : ℕ → ℕ → Bool) → to ≤ 32 → NameBlocks begins ends solid → AreNamed from to begins solid
+begins_named from to begins ends solid small are j h k i within = are.begin i (j + 1) within (omega arith) ∙ ap (is_block_walled solid (2 * i + 2)) (let e : 2 * (j + 1) ≡ 2 * j + 2 = omega arith in e)
 
-pub none_begins : (solid : ℕ → ℕ → Bool) → HasNoCell (is_walled_at 1 solid) → AreNamed (λ _. 0) solid
-none_begins solid none j h i k = bit-zero i ∙ (sym (none (2 * i + 1) (2 * j + 1) (omega arith) (omega arith)) ∙ ap₂ (is_block_walled solid) (IsPlaced.begin (first_placed i)) (IsPlaced.begin (first_placed j)))
+pub none_begins : (from to : ℕ) (solid : ℕ → ℕ → Bool) → to ≤ 32 → HasNoCell (is_walled_at 1 solid) → AreNamed from to (λ _. 0) solid
+none_begins from to solid small none j h k i within = bit-zero i ∙ (sym (none (2 * i + 1) (2 * j + 1) (omega arith) (omega arith)) ∙ ap₂ (is_block_walled solid) (IsPlaced.begin (first_placed i)) (IsPlaced.begin (first_placed j)))
 
 -- the blocks that are given
-pub none_given : (given : Option SetBlocks) (solid : ℕ → ℕ → Bool) → given ≡ None → AreGivenBlocks given (walled_by solid) → AreNamed (λ _. 0) solid
-none_given given solid e is = none_begins solid (nothing_given given (walled_by solid) e is 1 (omega arith))
+pub none_given : (given : Option SetBlocks) (from to : ℕ) (solid : ℕ → ℕ → Bool) → to ≤ 32 → given ≡ None → AreGivenBlocks given (walled_by solid) → AreNamed from to (λ _. 0) solid
+none_given given from to solid small e is = none_begins from to solid small (nothing_given given (walled_by solid) e is 1 (omega arith))
 
-pub set_given : (set : SetBlocks) (solid : ℕ → ℕ → Bool) → NamesBlocks set.rows set.blocks.now (walled_by solid) → AreNamed (λ k. get_or set.blocks.now.odd.begin k 0) solid
-set_given set solid named = begins_named _ _ solid (one_named set.blocks.now.odd solid named.odd)
+pub set_given : (set : SetBlocks) (from to : ℕ) (solid : ℕ → ℕ → Bool) → to ≤ 32 → NamesBlocks set.rows set.blocks.now (walled_by solid) → AreNamed from to (λ k. get_or set.blocks.now.odd.begin k 0) solid
+set_given set from to solid small named = begins_named from to _ _ solid small (one_named set.blocks.now.odd solid named.odd)

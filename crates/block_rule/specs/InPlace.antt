@@ -1,5 +1,5 @@
 -- The collision at odd parity in place.
-use Rattle.std.specs.Prelude.{◌≡◌, ℕ, ◌+◌, ◌*◌, ◌<◌, ◌≤◌, Bool, List, slice_index}
+use Rattle.std.specs.Prelude.{◌≡◌, ℕ, ◌+◌, ◌*◌, ◌<◌, ◌≤◌, ◌⊎◌, Bool, List, slice_index}
 use Rattle.bit_tile.specs.Bit.{bit}
 use Rattle.bit_tile.specs.Tile.{has}
 use Rattle.bit_tile.specs.declared.Tile.{Tile}
@@ -46,31 +46,45 @@ pub record IsSeamSeen (window : ℕ → ℕ → Bool) (t r d dr : Tile) : Type 0
   pub below : (x : ℕ) → x < 64 → window (x + 1) 65 ≡ has d x 0
   pub below_right : window 65 65 ≡ has dr 0 0
 
--- the first of these by words
-abbrev pub AreRowsSeen : (ℕ → ℕ → Bool) → Tile → Tile → Type 0
-AreRowsSeen window t r = (j : ℕ) → j < 31 → ShowsBegun window j (odd_row t j) (beside_right r j)
+-- Of the rows of blocks from..to that begin in a tile, the words are shown.
+abbrev pub AreRowsSeen : ℕ → ℕ → (ℕ → ℕ → Bool) → Tile → Tile → Type 0
+AreRowsSeen from to window t r = (j : ℕ) → from ≤ j → j < to → ShowsBegun window j (odd_row t j) (beside_right r j)
 
--- The words name the walled blocks that begin in a tile: word k those of row k of blocks, which begins at the window's row 2 * k.
-abbrev pub AreNamed : (ℕ → ℕ) → (ℕ → ℕ → Bool) → Type 0
-AreNamed begins solid = (j : ℕ) → j < 32 → NamesRow (begins (j + 1)) solid j
+-- The words name their walled blocks: word k those of row k of blocks, which begins at the window's row 2 * k.
+abbrev pub AreNamed : ℕ → ℕ → (ℕ → ℕ) → (ℕ → ℕ → Bool) → Type 0
+AreNamed from to begins solid = (j : ℕ) → from ≤ j → j < to → NamesRow (begins (j + 1)) solid j
 
--- what is carried into a column, in the tile's rows 1 to 62
+-- they have turned
+abbrev pub HaveTurned : ℕ → ℕ → Tile → (ℕ → ℕ → Bool) → Type 0
+HaveTurned from to t test = (j : ℕ) → from ≤ j → j < to → IsRowTurned (odd_row t j) test j
+
+-- what is carried into a column, in a place of the carry
 abbrev pub carried_row : Carry → ℕ → Beside
-carried_row c j = record { upper = slice_index c.upper j; lower = slice_index c.lower j }
+carried_row c p = record { upper = slice_index c.upper p; lower = slice_index c.lower p }
 
 abbrev pub eight_leaving : List ℕ → List ℕ → ℕ → Beside
 eight_leaving upper lower k = record { upper = slice_index upper k; lower = slice_index lower k }
 
-abbrev pub last_carried_row : Carry → ℕ → Beside
-last_carried_row c k = record { upper = slice_index c.last_upper k; lower = slice_index c.last_lower k }
+-- in eight places from `at` on, for the rows of blocks from `from` on
+abbrev pub AreEightCarried : ℕ → ℕ → Carry → (ℕ → Bool) → Type 0
+AreEightCarried from at c column = (k : ℕ) → k < 8 → IsLeaving (carried_row c (at + k)) column (from + k)
 
+-- the places of the rows of blocks from..to, which have the rows' numbers up to 23
+abbrev pub AreCarried : ℕ → ℕ → Carry → (ℕ → Bool) → Type 0
+AreCarried from to c column = (j : ℕ) → from ≤ j → j < to → IsLeaving (carried_row c j) column j
+
+-- what is carried into a column, in the tile's rows 1 to 62
 pub record IsCarried (c : Carry) (column : ℕ → Bool) : Type 0 where
   pub first : (j : ℕ) → j < 24 → IsLeaving (carried_row c j) column j
-  pub last : (k : ℕ) → k < 8 → IsLeaving (last_carried_row c k) column (23 + k)
+  pub last : (k : ℕ) → k < 8 → IsLeaving (carried_row c (24 + k)) column (23 + k)
 
--- of a tile's rows of blocks those before n have turned
-abbrev pub HaveTurned : ℕ → Tile → (ℕ → ℕ → Bool) → Type 0
-HaveTurned n t test = (j : ℕ) → j < n → IsRowTurned (odd_row t j) test j
+-- The other places of the carry are as before, and so are the other rows of blocks.
+abbrev pub AreOthersCarried : ℕ → ℕ → Carry → Carry → Type 0
+AreOthersCarried from to before after = (p : ℕ) → (p < from) ⊎ (to ≤ p) → carried_row after p ≡ carried_row before p
+
+pub record AreOthersKept (from to : ℕ) (old new : Tile) (before after : Carry) : Type 0 where
+  pub rows : (j : ℕ) → (j < from) ⊎ (to ≤ j) → odd_row new j ≡ odd_row old j
+  pub carried : AreOthersCarried from to before after
 
 -- the words of a tile's first and last row of cells are as before
 pub record AreEndsKept (old new : Tile) : Type 0 where

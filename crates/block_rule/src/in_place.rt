@@ -7,31 +7,28 @@ ghost use Rattle.bit_tile.specs.Tile.{has};
 ghost use Rattle.block_rule.specs.Around.{turned};
 ghost use Rattle.block_rule.specs.TileBlocks.{AreGivenBlocks, NamesBlocks, walled_by};
 ghost use Rattle.block_rule.specs.Rows.{odd_row, eight_row, beside_right};
-ghost use Rattle.block_rule.specs.InPlace.{ShowsBegun, NamesRow, IsRowTurned, IsLeaving, IsInnerSeen, IsSeamSeen, AreRowsSeen, AreNamed, IsCarried, carried_row, last_carried_row, eight_leaving, HaveTurned, AreEndsKept};
+ghost use Rattle.block_rule.specs.InPlace.{ShowsBegun, NamesRow, IsRowTurned, IsLeaving, IsInnerSeen, IsSeamSeen, AreRowsSeen, AreNamed, AreCarried, AreEightCarried, AreOthersCarried, AreOthersKept, IsCarried, carried_row, eight_leaving, HaveTurned, AreEndsKept};
 
 use crate::blocks::{Beside, Blocks, EightRows, collided, next, previous};
 use crate::blocks_in_tile::SetBlocks;
 use crate::made::write_eight;
-use crate::walled::{NoBlocks, OfOne, Walled};
+use crate::walled::{NoBlocks, OfOne, Walled, bits_from};
 use bit_tile::Tile;
 
 /// What the blocks that begin in a tile carry on to the tile to the right: of each word the last bit is for its first column. The
-/// rows of blocks 0 to 23, and the rows 23 to 30. Row 23 is there twice.
+/// places 0 to 23 are those of the rows of blocks 0 to 23, and the places 24 to 31 those of the rows 23 to 30. Row 23 is there
+/// twice.
 #[derive(Clone, Copy)]
 pub struct Carry {
-    pub upper: [u32; 24],
-    pub lower: [u32; 24],
-    pub last_upper: [u32; 8],
-    pub last_lower: [u32; 8],
+    pub upper: [u32; 32],
+    pub lower: [u32; 32],
 }
 
 impl Carry {
     /// Nothing is carried on.
     pub const ZERO: Carry = Carry {
-        upper: [0; 24],
-        lower: [0; 24],
-        last_upper: [0; 8],
-        last_lower: [0; 8],
+        upper: [0; 32],
+        lower: [0; 32],
     };
 }
 
@@ -102,36 +99,6 @@ fn right_row(right: &Tile, j: usize) -> Beside
     }
 }
 
-// The rows of blocks 0 to 23, in one loop that the compiler makes vectors of.
-#[inline(always)]
-fn turn_rows<W: Walled>(walled: W, tile: &mut Tile, right: &Tile, carry: &mut Carry)
-    ensures turned { (window solid : ℕ → ℕ → Bool) → AreRowsSeen window tile.old right.now →
-        AreNamed (W.begins walled) solid →
-        ((j : ℕ) → j < 24 → IsLeaving (carried_row carry.old j) (turned 1 window solid 0) j) →
-        HaveTurned 24 tile.new (turned 1 window solid) }
-    ensures leaving { (window solid : ℕ → ℕ → Bool) → AreRowsSeen window tile.old right.now →
-        AreNamed (W.begins walled) solid →
-        (j : ℕ) → j < 24 → IsLeaving (carried_row carry.new j) (turned 1 window solid 64) j }
-    ensures ends { AreEndsKept tile.old tile.new }
-    ensures others { (j : ℕ) → 24 ≤ j → odd_row tile.new j ≡ odd_row tile.old j }
-{
-    for j in 0..24usize {
-        let coming = Beside {
-            upper: carry.upper[j],
-            lower: carry.lower[j],
-        };
-        let own = begun_row(tile, j);
-        let beside = right_row(right, j);
-        let row = turned_row(own, beside, walled.begin(j + 1), coming);
-        tile.odd_odd[j] = row.own.upper_left;
-        tile.even_odd[j] = row.own.upper_right;
-        tile.odd_even[j + 1] = row.own.lower_left;
-        tile.even_even[j + 1] = row.own.lower_right;
-        carry.upper[j] = row.leaving.upper;
-        carry.lower[j] = row.leaving.lower;
-    }
-}
-
 // Eight rows of blocks that have turned, and what they carry on.
 #[derive(Clone, Copy)]
 struct TurnedEight {
@@ -140,17 +107,27 @@ struct TurnedEight {
     lower: [u32; 8],
 }
 
-// The rows of blocks 23 to 30.
+// The rows of blocks from `from` on. The carry has what comes into them from place `at` on.
 #[inline(always)]
-fn turned_last<W: Walled>(walled: W, tile: &Tile, right: &Tile, carry: &Carry) -> TurnedEight
-    ensures turned { (window solid : ℕ → ℕ → Bool) → AreRowsSeen window tile.now right.now →
-        AreNamed (W.begins walled) solid →
-        ((k : ℕ) → k < 8 →
-        IsLeaving (last_carried_row carry.now k) (turned 1 window solid 0) (23 + k)) →
-        (k : ℕ) → k < 8 → IsRowTurned (eight_row result.own k) (turned 1 window solid) (23 + k) }
-    ensures leaving { (window solid : ℕ → ℕ → Bool) → AreRowsSeen window tile.now right.now →
-        AreNamed (W.begins walled) solid → (k : ℕ) → k < 8 →
-        IsLeaving (eight_leaving result.upper result.lower k) (turned 1 window solid 64) (23 + k) }
+fn turned_eight<W: Walled>(
+    walled: W,
+    from: usize,
+    at: usize,
+    tile: &Tile,
+    right: &Tile,
+    carry: &Carry,
+) -> TurnedEight
+    requires { (from + 8 ≤ 31) × (at + 8 ≤ 32) }
+    ensures turned { (window solid : ℕ → ℕ → Bool) →
+        AreRowsSeen from (from + 8) window tile.now right.now →
+        AreNamed from (from + 8) (W.begins walled) solid →
+        AreEightCarried from at carry.now (turned 1 window solid 0) →
+        (k : ℕ) → k < 8 → IsRowTurned (eight_row result.own k) (turned 1 window solid) (from + k) }
+    ensures leaving { (window solid : ℕ → ℕ → Bool) →
+        AreRowsSeen from (from + 8) window tile.now right.now →
+        AreNamed from (from + 8) (W.begins walled) solid →
+        (k : ℕ) → k < 8 →
+        IsLeaving (eight_leaving result.upper result.lower k) (turned 1 window solid 64) (from + k) }
 {
     let mut eight = TurnedEight {
         own: EightRows::ZERO,
@@ -158,13 +135,14 @@ fn turned_last<W: Walled>(walled: W, tile: &Tile, right: &Tile, carry: &Carry) -
         lower: [0; 8],
     };
     for k in 0..8usize {
+        let j = from + k;
         let coming = Beside {
-            upper: carry.last_upper[k],
-            lower: carry.last_lower[k],
+            upper: carry.upper[at + k],
+            lower: carry.lower[at + k],
         };
-        let own = begun_row(tile, 23 + k);
-        let beside = right_row(right, 23 + k);
-        let row = turned_row(own, beside, walled.begin(23 + k + 1), coming);
+        let own = begun_row(tile, j);
+        let beside = right_row(right, j);
+        let row = turned_row(own, beside, walled.begin(j + 1), coming);
         eight.own.upper_left[k] = row.own.upper_left;
         eight.own.upper_right[k] = row.own.upper_right;
         eight.own.lower_left[k] = row.own.lower_left;
@@ -175,53 +153,214 @@ fn turned_last<W: Walled>(walled: W, tile: &Tile, right: &Tile, carry: &Carry) -
     eight
 }
 
-// The rows of blocks that begin in a tile and lie in its row of tiles. Row 23 is turned twice, so that all are whole vectors. It is
-// made before its words are written.
+// Puts what they carry on into the carry.
 #[inline(always)]
-fn turn_begun<W: Walled>(walled: W, tile: &mut Tile, right: &Tile, carry: &mut Carry)
+fn carry_eight(eight: &TurnedEight, at: usize, carry: &mut Carry)
+    requires { at + 8 ≤ 32 }
+    ensures carried { (k : ℕ) → k < 8 →
+        carried_row carry.new (at + k) ≡ eight_leaving eight.now.upper eight.now.lower k }
+    ensures others { AreOthersCarried at (at + 8) carry.old carry.new }
+{
+    for k in 0..8usize {
+        carry.upper[at + k] = eight.upper[k];
+        carry.lower[at + k] = eight.lower[k];
+    }
+}
+
+// Eight rows of blocks after they have turned. What they carry on is in the carry before any of them is written: the compiler
+// then keeps both as vectors.
+#[inline(always)]
+fn turned_on<W: Walled>(
+    walled: W,
+    from: usize,
+    at: usize,
+    tile: &Tile,
+    right: &Tile,
+    carry: &mut Carry,
+) -> EightRows
+    requires { (from + 8 ≤ 31) × (at + 8 ≤ 32) }
+    ensures turned { (window solid : ℕ → ℕ → Bool) →
+        AreRowsSeen from (from + 8) window tile.now right.now →
+        AreNamed from (from + 8) (W.begins walled) solid →
+        AreEightCarried from at carry.old (turned 1 window solid 0) →
+        (k : ℕ) → k < 8 → IsRowTurned (eight_row result k) (turned 1 window solid) (from + k) }
+    ensures leaving { (window solid : ℕ → ℕ → Bool) →
+        AreRowsSeen from (from + 8) window tile.now right.now →
+        AreNamed from (from + 8) (W.begins walled) solid →
+        AreEightCarried from at carry.new (turned 1 window solid 64) }
+    ensures others { AreOthersCarried at (at + 8) carry.old carry.new }
+{
+    let eight = turned_eight(walled, from, at, tile, right, carry);
+    carry_eight(&eight, at, carry);
+    eight.own
+}
+
+// The rows of blocks 0 to 23 among no walled blocks, in one loop that the compiler makes vectors of.
+#[inline(always)]
+fn turn_rows(tile: &mut Tile, right: &Tile, carry: &mut Carry)
+    ensures turned { (window solid : ℕ → ℕ → Bool) → AreRowsSeen 0 24 window tile.old right.now →
+        AreNamed 0 24 (λ _. 0) solid → AreCarried 0 24 carry.old (turned 1 window solid 0) →
+        HaveTurned 0 24 tile.new (turned 1 window solid) }
+    ensures leaving { (window solid : ℕ → ℕ → Bool) → AreRowsSeen 0 24 window tile.old right.now →
+        AreNamed 0 24 (λ _. 0) solid → AreCarried 0 24 carry.new (turned 1 window solid 64) }
+    ensures ends { AreEndsKept tile.old tile.new }
+    ensures others { AreOthersKept 0 24 tile.old tile.new carry.old carry.new }
+{
+    for j in 0..24usize {
+        let coming = Beside {
+            upper: carry.upper[j],
+            lower: carry.lower[j],
+        };
+        let own = begun_row(tile, j);
+        let beside = right_row(right, j);
+        let row = turned_row(own, beside, 0, coming);
+        tile.odd_odd[j] = row.own.upper_left;
+        tile.even_odd[j] = row.own.upper_right;
+        tile.odd_even[j + 1] = row.own.lower_left;
+        tile.even_even[j + 1] = row.own.lower_right;
+        carry.upper[j] = row.leaving.upper;
+        carry.lower[j] = row.leaving.lower;
+    }
+}
+
+// The rows of blocks that begin in a tile and lie in its row of tiles, if none of them is walled. Row 23 is turned twice, so that
+// all are whole vectors. It is made before its words are written.
+#[inline(always)]
+fn turn_free(tile: &mut Tile, right: &Tile, carry: &mut Carry)
     ensures turned { (window solid : ℕ → ℕ → Bool) → IsInnerSeen window tile.old right.now →
-        AreNamed (W.begins walled) solid → IsCarried carry.old (turned 1 window solid 0) →
+        AreNamed 0 31 (λ _. 0) solid → IsCarried carry.old (turned 1 window solid 0) →
         (x y : ℕ) → x < 64 → 1 ≤ y → y < 63 → has tile.new x y ≡ turned 1 window solid x y }
     ensures leaving { (window solid : ℕ → ℕ → Bool) → IsInnerSeen window tile.old right.now →
-        AreNamed (W.begins walled) solid → IsCarried carry.new (turned 1 window solid 64) }
+        AreNamed 0 31 (λ _. 0) solid → IsCarried carry.new (turned 1 window solid 64) }
     ensures top { (x : ℕ) → x < 64 → has tile.new x 0 ≡ has tile.old x 0 }
     ensures bottom { (x : ℕ) → x < 64 → has tile.new x 63 ≡ has tile.old x 63 }
 {
-    let last = turned_last(walled, tile, right, carry);
-    turn_rows(walled, tile, right, carry);
-    write_eight(&last.own, 23, tile);
-    carry.last_upper = last.upper;
-    carry.last_lower = last.lower;
+    let last = turned_on(NoBlocks, 23, 24, tile, right, carry);
+    turn_rows(tile, right, carry);
+    write_eight(&last, 23, tile);
+}
+
+// Turns eight of the rows of blocks 0 to 23.
+#[inline(always)]
+fn turn_eight<W: Walled>(walled: W, from: usize, tile: &mut Tile, right: &Tile, carry: &mut Carry)
+    requires { from + 8 ≤ 24 }
+    ensures turned { (window solid : ℕ → ℕ → Bool) →
+        AreRowsSeen from (from + 8) window tile.old right.now →
+        AreNamed from (from + 8) (W.begins walled) solid →
+        AreCarried from (from + 8) carry.old (turned 1 window solid 0) →
+        HaveTurned from (from + 8) tile.new (turned 1 window solid) }
+    ensures leaving { (window solid : ℕ → ℕ → Bool) →
+        AreRowsSeen from (from + 8) window tile.old right.now →
+        AreNamed from (from + 8) (W.begins walled) solid →
+        AreCarried from (from + 8) carry.new (turned 1 window solid 64) }
+    ensures ends { AreEndsKept tile.old tile.new }
+    ensures others { AreOthersKept from (from + 8) tile.old tile.new carry.old carry.new }
+{
+    let rows = turned_on(walled, from, from, tile, right, carry);
+    write_eight(&rows, from, tile);
+}
+
+// The same among walled blocks, without a look at them if none begins in these rows.
+#[inline(always)]
+fn turn_eight_among(
+    set: SetBlocks<'_>,
+    from: usize,
+    tile: &mut Tile,
+    right: &Tile,
+    carry: &mut Carry,
+)
+    requires { from + 8 ≤ 24 }
+    ensures turned { (window solid : ℕ → ℕ → Bool) →
+        AreRowsSeen from (from + 8) window tile.old right.now →
+        NamesBlocks set.entry.rows set.entry.blocks.now (walled_by solid) →
+        AreCarried from (from + 8) carry.old (turned 1 window solid 0) →
+        HaveTurned from (from + 8) tile.new (turned 1 window solid) }
+    ensures leaving { (window solid : ℕ → ℕ → Bool) →
+        AreRowsSeen from (from + 8) window tile.old right.now →
+        NamesBlocks set.entry.rows set.entry.blocks.now (walled_by solid) →
+        AreCarried from (from + 8) carry.new (turned 1 window solid 64) }
+    ensures ends { AreEndsKept tile.old tile.new }
+    ensures others { AreOthersKept from (from + 8) tile.old tile.new carry.old carry.new }
+{
+    if bits_from(set.rows, from, 8) == 0 {
+        turn_eight(NoBlocks, from, tile, right, carry);
+    } else {
+        turn_eight(OfOne { set }, from, tile, right, carry);
+    }
+}
+
+// All of them.
+#[inline(always)]
+fn turn_first(set: SetBlocks<'_>, tile: &mut Tile, right: &Tile, carry: &mut Carry)
+    ensures turned { (window solid : ℕ → ℕ → Bool) → AreRowsSeen 0 24 window tile.old right.now →
+        NamesBlocks set.entry.rows set.entry.blocks.now (walled_by solid) →
+        AreCarried 0 24 carry.old (turned 1 window solid 0) →
+        HaveTurned 0 24 tile.new (turned 1 window solid) }
+    ensures leaving { (window solid : ℕ → ℕ → Bool) → AreRowsSeen 0 24 window tile.old right.now →
+        NamesBlocks set.entry.rows set.entry.blocks.now (walled_by solid) →
+        AreCarried 0 24 carry.new (turned 1 window solid 64) }
+    ensures ends { AreEndsKept tile.old tile.new }
+    ensures others { AreOthersKept 0 24 tile.old tile.new carry.old carry.new }
+{
+    turn_eight_among(set, 0, tile, right, carry);
+    turn_eight_among(set, 8, tile, right, carry);
+    turn_eight_among(set, 16, tile, right, carry);
+}
+
+// The rows of blocks 23 to 30 after they have turned.
+#[inline(always)]
+fn turned_last(set: SetBlocks<'_>, tile: &Tile, right: &Tile, carry: &mut Carry) -> EightRows
+    ensures turned { (window solid : ℕ → ℕ → Bool) → AreRowsSeen 23 31 window tile.now right.now →
+        NamesBlocks set.entry.rows set.entry.blocks.now (walled_by solid) →
+        AreEightCarried 23 24 carry.old (turned 1 window solid 0) →
+        (k : ℕ) → k < 8 → IsRowTurned (eight_row result k) (turned 1 window solid) (23 + k) }
+    ensures leaving { (window solid : ℕ → ℕ → Bool) → AreRowsSeen 23 31 window tile.now right.now →
+        NamesBlocks set.entry.rows set.entry.blocks.now (walled_by solid) →
+        AreEightCarried 23 24 carry.new (turned 1 window solid 64) }
+    ensures others { AreOthersCarried 24 32 carry.old carry.new }
+{
+    if bits_from(set.rows, 23, 8) == 0 {
+        turned_on(NoBlocks, 23, 24, tile, right, carry)
+    } else {
+        turned_on(OfOne { set }, 23, 24, tile, right, carry)
+    }
+}
+
+// Among walled blocks as one call, which the loops without walls don't hold.
+#[inline(never)]
+fn turn_apart(set: SetBlocks<'_>, tile: &mut Tile, right: &Tile, carry: &mut Carry)
+    ensures turned { (window solid : ℕ → ℕ → Bool) → IsInnerSeen window tile.old right.now →
+        NamesBlocks set.entry.rows set.entry.blocks.now (walled_by solid) →
+        IsCarried carry.old (turned 1 window solid 0) →
+        (x y : ℕ) → x < 64 → 1 ≤ y → y < 63 → has tile.new x y ≡ turned 1 window solid x y }
+    ensures leaving { (window solid : ℕ → ℕ → Bool) → IsInnerSeen window tile.old right.now →
+        NamesBlocks set.entry.rows set.entry.blocks.now (walled_by solid) →
+        IsCarried carry.new (turned 1 window solid 64) }
+    ensures top { (x : ℕ) → x < 64 → has tile.new x 0 ≡ has tile.old x 0 }
+    ensures bottom { (x : ℕ) → x < 64 → has tile.new x 63 ≡ has tile.old x 63 }
+{
+    let last = turned_last(set, tile, right, carry);
+    turn_first(set, tile, right, carry);
+    write_eight(&last, 23, tile);
 }
 
 // What a tile carries on, without turning it.
 #[inline(always)]
 fn carried_among<W: Walled>(walled: W, tile: &Tile, right: &Tile) -> Carry
     ensures { (window solid : ℕ → ℕ → Bool) → IsInnerSeen window tile.now right.now →
-        AreNamed (W.begins walled) solid → IsCarried result (turned 1 window solid 64) }
+        AreNamed 0 31 (W.begins walled) solid → IsCarried result (turned 1 window solid 64) }
 {
-    let mut upper = [0; 24];
-    let mut lower = [0; 24];
+    let mut carry = Carry::ZERO;
     let none = Beside { upper: 0, lower: 0 };
     for j in 0..24usize {
         let own = begun_row(tile, j);
         let beside = right_row(right, j);
         let row = turned_row(own, beside, walled.begin(j + 1), none);
-        upper[j] = row.leaving.upper;
-        lower[j] = row.leaving.lower;
+        carry.upper[j] = row.leaving.upper;
+        carry.lower[j] = row.leaving.lower;
     }
-    let before = Carry::ZERO;
-    let TurnedEight {
-        upper: last_upper,
-        lower: last_lower,
-        ..
-    } = turned_last(walled, tile, right, &before);
-    Carry {
-        upper,
-        lower,
-        last_upper,
-        last_lower,
-    }
+    turned_on(walled, 23, 24, tile, right, &mut carry);
+    carry
 }
 
 /// The row of blocks that begin in a tile's last row and end in the tiles below.
@@ -274,23 +413,7 @@ pub fn put_top(tile: &mut Tile, row: &Blocks)
     tile.even_even[0] = row.lower_right;
 }
 
-// Among walled blocks as one call, which the loops without walls don't hold.
-#[inline(never)]
-fn turn_apart(set: SetBlocks<'_>, tile: &mut Tile, right: &Tile, carry: &mut Carry)
-    ensures turned { (window solid : ℕ → ℕ → Bool) → IsInnerSeen window tile.old right.now →
-        NamesBlocks set.entry.rows set.entry.blocks.now (walled_by solid) →
-        IsCarried carry.old (turned 1 window solid 0) →
-        (x y : ℕ) → x < 64 → 1 ≤ y → y < 63 → has tile.new x y ≡ turned 1 window solid x y }
-    ensures leaving { (window solid : ℕ → ℕ → Bool) → IsInnerSeen window tile.old right.now →
-        NamesBlocks set.entry.rows set.entry.blocks.now (walled_by solid) →
-        IsCarried carry.new (turned 1 window solid 64) }
-    ensures top { (x : ℕ) → x < 64 → has tile.new x 0 ≡ has tile.old x 0 }
-    ensures bottom { (x : ℕ) → x < 64 → has tile.new x 63 ≡ has tile.old x 63 }
-{
-    turn_begun(OfOne { set }, tile, right, carry)
-}
-
-// The same as one call.
+// The same among walled blocks, as one call.
 #[inline(never)]
 fn carried_apart(set: SetBlocks<'_>, tile: &Tile, right: &Tile) -> Carry
     ensures { (window solid : ℕ → ℕ → Bool) → IsInnerSeen window tile.now right.now →
@@ -316,7 +439,7 @@ pub fn turn_inner(walled: Option<SetBlocks<'_>>, tile: &mut Tile, right: &Tile, 
     ensures bottom { (x : ℕ) → x < 64 → has tile.new x 63 ≡ has tile.old x 63 }
 {
     match walled {
-        None => turn_begun(NoBlocks, tile, right, carry),
+        None => turn_free(tile, right, carry),
         Some(set) => turn_apart(set, tile, right, carry),
     }
 }

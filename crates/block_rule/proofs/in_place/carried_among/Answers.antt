@@ -1,7 +1,7 @@
-use Rattle.std.proofs.Common.{arith, length-set}
+use Rattle.std.proofs.Common.{arith, inl, length-set}
 use Rattle.block_rule.specs.Around.{turned}
 use Rattle.block_rule.specs.InPlace.{IsLeaving}
-use Rattle.block_rule.proofs.InPlace.{beside_more, begun_shown, row_named, rows_seen}
+use Rattle.block_rule.proofs.InPlace.{beside_more, begun_shown, leaving_kept, row_named, rows_seen}
 use Rattle.block_rule.proofs.in_place.carried_among.Goals as goal
 
 pub loop-j-preserved : goal.loop-j-preserved
@@ -11,18 +11,19 @@ loop-j-preserved g c =
     record {
       up = simp length-set l.invariant.up;
       low = simp length-set l.invariant.low;
-      leaving = λ window solid seen named.
-          beside_more (λ m new. IsLeaving new (turned 1 window solid 64) m) l.upper l.lower r.result.leaving.upper r.result.leaving.lower l.j (omega arith) (omega arith)
-          (l.invariant.leaving window solid seen named)
+      leaving = λ window solid seen named m low below.
+          beside_more (λ m new. IsLeaving new (turned 1 window solid 64) m) l.carry.upper l.carry.lower r.result.leaving.upper r.result.leaving.lower l.j (omega arith) (omega arith)
+          (λ m below. l.invariant.leaving window solid seen named m (omega arith) below)
           (r.ensures.leaving window solid l.j
-          (begun_shown window l.j c.begun_row-own.result _ c.right_row-beside.result _ c.begun_row-own.ensures c.right_row-beside.ensures (seen l.j (omega arith)))
-          (row_named _ _ solid l.j c.begin.ensures (named l.j (omega arith))));
+          (begun_shown window l.j c.begun_row-own.result _ c.right_row-beside.result _ c.begun_row-own.ensures c.right_row-beside.ensures (seen l.j (omega arith) (omega arith)))
+          (row_named _ _ solid l.j c.begin.ensures (named l.j (omega arith) (omega arith)))) m below;
     }
 
 pub returns : goal.returns
 returns g c = λ window solid seen named.
-    let rows = rows_seen window c.args.tile.now c.args.right.now seen in
+    let shown = rows_seen window c.args.tile.now c.args.right.now seen in
+    let column = turned 1 window solid 64 in
     record {
-      first = λ j h. c.loop-j.invariant.leaving window solid rows named j (omega arith);
-      last = c.turned_last.ensures.leaving window solid rows named;
+      first = λ j h. leaving_kept column j _ _ (c.turned_on.ensures.others j (inl h)) (c.loop-j.invariant.leaving window solid (shown 0 24 (omega arith)) (λ j h k. named j (omega arith) (omega arith)) j (omega arith) (omega arith));
+      last = c.turned_on.ensures.leaving window solid (shown 23 31 (omega arith)) (λ j h k. named j (omega arith) (omega arith));
     }

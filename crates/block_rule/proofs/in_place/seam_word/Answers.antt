@@ -5,7 +5,7 @@ use Rattle.block_rule.specs.TileBlocks.{walled_by}
 use Rattle.block_rule.proofs.in_place.seam_word.Goals as goal
 
 pub returns-in-None : goal.returns-in-None
-returns-in-None c = λ solid given. row_named _ _ solid 31 refl (none_given c.args.walled solid c.in-None.is given 31 (omega arith))
+returns-in-None c = λ solid given. row_named _ _ solid 31 refl (none_given c.args.walled 31 32 solid (omega arith) c.in-None.is given 31 (omega arith) (omega arith))
 
 pub returns-in-Some : goal.returns-in-Some
-returns-in-Some c = λ solid given. row_named _ _ solid 31 c.begin.ensures (set_given c.in-Some.set solid (words_given c.args.walled c.in-Some.set (walled_by solid) c.in-Some.is given) 31 (omega arith))
+returns-in-Some c = λ solid given. row_named _ _ solid 31 c.begin.ensures (set_given c.in-Some.set 31 32 solid (omega arith) (words_given c.args.walled c.in-Some.set (walled_by solid) c.in-Some.is given) 31 (omega arith) (omega arith))

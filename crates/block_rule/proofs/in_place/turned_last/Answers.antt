@@ -1,31 +1,15 @@
-use Rattle.std.proofs.Common.{◌+◌, arith, length-set}
-use Rattle.block_rule.specs.Around.{turned}
-use Rattle.block_rule.specs.InPlace.{IsRowTurned, IsLeaving}
-use Rattle.block_rule.proofs.Windows.{eight_more}
-use Rattle.block_rule.proofs.InPlace.{beside_more, begun_shown, row_named}
+use Rattle.std.proofs.Common.{arith}
+use Rattle.block_rule.proofs.InPlace.{rows_free, set_given}
 use Rattle.block_rule.proofs.in_place.turned_last.Goals as goal
 
-pub loop-k-preserved : goal.loop-k-preserved
-loop-k-preserved g c =
-    let l = c.loop-k in
-    let r = c.turned_row-row in
-    record {
-      ul = simp length-set l.invariant.ul;
-      ur = simp length-set l.invariant.ur;
-      ll = simp length-set l.invariant.ll;
-      lr = simp length-set l.invariant.lr;
-      up = simp length-set l.invariant.up;
-      low = simp length-set l.invariant.low;
-      done = λ window solid seen named coming.
-          eight_more (λ m new. IsRowTurned new (turned 1 window solid) (23 + m)) l.eight.own r.result.own l.k (omega arith) (omega arith) (omega arith) (omega arith)
-          (l.invariant.done window solid seen named coming)
-          (r.ensures.own window solid (23 + l.k)
-          (begun_shown window (23 + l.k) c.begun_row-own.result _ c.right_row-beside.result _ c.begun_row-own.ensures c.right_row-beside.ensures (seen (23 + l.k) (omega arith)))
-          (row_named _ _ solid (23 + l.k) c.begin.ensures (named (23 + l.k) (omega arith))) (coming l.k (omega arith)));
-      leaving = λ window solid seen named.
-          beside_more (λ m new. IsLeaving new (turned 1 window solid 64) (23 + m)) l.eight.upper l.eight.lower r.result.leaving.upper r.result.leaving.lower l.k (omega arith) (omega arith)
-          (l.invariant.leaving window solid seen named)
-          (r.ensures.leaving window solid (23 + l.k)
-          (begun_shown window (23 + l.k) c.begun_row-own.result _ c.right_row-beside.result _ c.begun_row-own.ensures c.right_row-beside.ensures (seen (23 + l.k) (omega arith)))
-          (row_named _ _ solid (23 + l.k) c.begin.ensures (named (23 + l.k) (omega arith))));
-    }
+pub returns-then-bits_from-eq0-clause-turned : goal.returns-then-bits_from-eq0-clause-turned
+returns-then-bits_from-eq0-clause-turned c = λ window solid seen named. c.turned_on.ensures.turned window solid seen (rows_free c.args.set 23 (31) solid (omega arith) named (c.bits_from.ensures c.if-bits_from-eq0.true))
+
+pub returns-else-bits_from-eq0-clause-turned : goal.returns-else-bits_from-eq0-clause-turned
+returns-else-bits_from-eq0-clause-turned c = λ window solid seen named. c.turned_on-else-bits_from-eq0.ensures.turned window solid seen (set_given c.args.set 23 (31) solid (omega arith) named)
+
+pub returns-then-bits_from-eq0-clause-leaving : goal.returns-then-bits_from-eq0-clause-leaving
+returns-then-bits_from-eq0-clause-leaving c = λ window solid seen named. c.turned_on.ensures.leaving window solid seen (rows_free c.args.set 23 (31) solid (omega arith) named (c.bits_from.ensures c.if-bits_from-eq0.true))
+
+pub returns-else-bits_from-eq0-clause-leaving : goal.returns-else-bits_from-eq0-clause-leaving
+returns-else-bits_from-eq0-clause-leaving c = λ window solid seen named. c.turned_on-else-bits_from-eq0.ensures.leaving window solid seen (set_given c.args.set 23 (31) solid (omega arith) named)

@@ -1,0 +1,15 @@
+use Rattle.std.proofs.Common.{◌+◌, arith}
+use Rattle.block_rule.proofs.InPlace.{rows_free, set_given}
+use Rattle.block_rule.proofs.in_place.turn_eight_among.Goals as goal
+
+pub returns-then-bits_from-eq0-clause-turned : goal.returns-then-bits_from-eq0-clause-turned
+returns-then-bits_from-eq0-clause-turned c = λ window solid seen named. c.turn_eight.ensures.turned window solid seen (rows_free c.args.set c.args.from (c.args.from + 8) solid (omega arith) named (c.bits_from.ensures c.if-bits_from-eq0.true))
+
+pub returns-else-bits_from-eq0-clause-turned : goal.returns-else-bits_from-eq0-clause-turned
+returns-else-bits_from-eq0-clause-turned c = λ window solid seen named. c.turn_eight-else-bits_from-eq0.ensures.turned window solid seen (set_given c.args.set c.args.from (c.args.from + 8) solid (omega arith) named)
+
+pub returns-then-bits_from-eq0-clause-leaving : goal.returns-then-bits_from-eq0-clause-leaving
+returns-then-bits_from-eq0-clause-leaving c = λ window solid seen named. c.turn_eight.ensures.leaving window solid seen (rows_free c.args.set c.args.from (c.args.from + 8) solid (omega arith) named (c.bits_from.ensures c.if-bits_from-eq0.true))
+
+pub returns-else-bits_from-eq0-clause-leaving : goal.returns-else-bits_from-eq0-clause-leaving
+returns-else-bits_from-eq0-clause-leaving c = λ window solid seen named. c.turn_eight-else-bits_from-eq0.ensures.leaving window solid seen (set_given c.args.set c.args.from (c.args.from + 8) solid (omega arith) named)
