@@ -19,7 +19,8 @@ import re
 import struct
 import sys
 
-COUNTS = {**dict.fromkeys(("put", "erase", "wall", "block", "unwall", "drain", "probe"), 4), "source": 5, "row": 2,
+PARTICLES = {"put": set.union, "erase": set.difference}  # what they make of the particles and a rectangle's cells
+COUNTS = {**dict.fromkeys((*PARTICLES, "wall", "block", "unwall", "drain", "probe"), 4), "source": 5, "row": 2,
           **dict.fromkeys(("step", "back", "read", "entry"), 1),
           **dict.fromkeys(("unport", "tally", "ledger", "save", "quit"), 0)}
 READINGS = ("probe", "tally", "ledger", "read", "entry", "save", "quit")
@@ -315,10 +316,8 @@ def saved(gas, journal, path):
 
 
 def change(gas, books, word, numbers, digits):
-    if word == "put":
-        books.change(gas, gas.particles | rectangle(*numbers))
-    elif word == "erase":
-        books.change(gas, gas.particles - rectangle(*numbers))
+    if word in PARTICLES:
+        books.change(gas, PARTICLES[word](gas.particles, rectangle(*numbers)))
     elif word == "row":
         row = full_cells(numbers[0], f"{int(digits, 16):0{gas.width}b}")
         books.change(gas, {cell for cell in gas.particles if cell[1] != numbers[0]} | row)
