@@ -52,10 +52,10 @@ class Changes(unittest.TestCase):
         text, first = Path(commands.__file__).read_text("utf-8"), '    "put": Command('
         self.assertEqual(text.count(first), 1)
         more = [f'    "{word}": Command("x y w h", "", {refusals}),\n'
-                for word, refusals in (("mirror", (5, 13)), ("look", (5,)))]
-        found = {"__name__": "added"}
+                for word, refusals in (("added", (5, 13)), ("look", (5,)))]
+        found = {"__name__": "commands"}
         exec(text.replace(first, "".join(more) + first), found)
-        self.assertEqual(found["CHANGES"], ["mirror", *commands.CHANGES])
+        self.assertEqual(found["CHANGES"], ["added", *commands.CHANGES])
 
 
 class EachReply(unittest.TestCase):
