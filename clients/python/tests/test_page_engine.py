@@ -11,6 +11,7 @@ import sys
 import unittest
 
 from gaslab.page.one_file import bundle
+from gaslab.protocol.commands import COMMANDS
 
 from .test_lab import ROOT
 
@@ -21,6 +22,7 @@ SIZES = {"5_sound": (256, 256), "5_empty": (256, 256), "9_light_cone": (128, 128
          "clap": (128, 128), "seams": (128, 128)}
 SESSIONS = ["8_first", "8_second", "8_third"]
 OBSTACLES_X = 8  # its place in a LEDGER reply
+PORTS = ["source", "drain", "unport"]
 ROWS = [f"read {y}" for y in range(64)]
 
 
@@ -80,9 +82,8 @@ def random_script(draw, width, height, has_ports):
         return f"{x} {y} {draw.randint(1, min(20, width - x))} {draw.randint(1, min(20, height - y))}"
 
     def line():
-        word = draw.choice(["put", "put", "erase", "wall", "block", "unwall", "probe", "row", "step", "step",
-                            "tally", "ledger", "read", "entry",
-                            *(["source", "drain", "unport"] if has_ports else ["back"])])
+        left_out = {"save", "quit", *(["back"] if has_ports else PORTS)}
+        word = draw.choice(["put", "step", *(it for it in COMMANDS if it not in left_out)])
         if word in ("step", "back"):
             return f"{word} {draw.randint(1, 9)}"
         if word == "row":
