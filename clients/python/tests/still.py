@@ -7,12 +7,13 @@ It keeps a journal and the tick, and saves one snapshot again and again. It is f
 around the laboratory: how many messages, bytes and seconds.
 """
 import argparse
+import json
 import struct
 import sys
+from pathlib import Path
 
-COUNTS = {"put": 4, "erase": 4, "wall": 4, "block": 4, "unwall": 4, "row": 2, "source": 5, "drain": 4,
-          "unport": 0, "step": 1, "back": 1, "probe": 4, "tally": 0, "ledger": 0, "read": 1, "entry": 1,
-          "save": 0, "quit": 0}
+STATIC = Path(__file__).resolve().parent.parent / "gaslab" / "page" / "static"
+COUNTS = json.loads((STATIC / "grammar.json").read_text())["counts"]
 READINGS = {"probe": "PROBE 0 0 0", "ledger": "LEDGER" + 13 * " 0", "quit": "BYE"}
 
 
