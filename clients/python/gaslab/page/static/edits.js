@@ -9,9 +9,9 @@ import { snapshotOf } from "./files.js";
 
 const T = TEXTS.edits;
 
-const MOST = 100, CELLS = ["particles"], SOLIDS = ["walls", "obstacles"];
-/** The planes that a command can change. Others change ports. */
-const CHANGES = { put: CELLS, erase: CELLS, row: CELLS, wall: SOLIDS, block: SOLIDS, unwall: SOLIDS };
+const MOST = 100, CELLS = ["particles"], SOLIDS = ["walls", "obstacles"], PORTS = [];
+/** The planes that a command can change. Others change particles. */
+const CHANGES = { wall: SOLIDS, block: SOLIDS, unwall: SOLIDS, source: PORTS, drain: PORTS, unport: PORTS };
 const textOf = (word) => (rect) => `${word} ${rect.join(" ")}`;
 
 class Edits {
@@ -72,8 +72,9 @@ class Edits {
     }
     const { open, open: { before } } = this;
     open.lines.push(line);
-    for (const name of CHANGES[word] ?? []) before[name] ??= gas[name].slice();
-    if (!CHANGES[word]) before.ports ??= { drains, sources };
+    const planes = CHANGES[word] ?? CELLS;
+    for (const name of planes) before[name] ??= gas[name].slice();
+    if (planes === PORTS) before.ports ??= { drains, sources };
     else open.rect = around(word === "row" ? [0, numbers[0], width, 1] : numbers, open.rect);
   }
 
