@@ -1,12 +1,12 @@
 -- What a command leaves of a laboratory: its start, its capacity, and a journal with the seat's entries that the reply tells of.
-use Rattle.std.proofs.Common.{◌≡◌, ℕ, ◌+◌, ◌++◌, Bool, true, false, cond, not, ◌&&◌, List, [], ◌∷◌, All, length, Option, Some, None, Result, Ok, Err, refl, sym, ap, ◌∙◌, inl, inr, arith}
+use Rattle.std.proofs.Common.{◌≡◌, ℕ, ◌++◌, Bool, true, false, cond, not, ◌&&◌, List, [], ◌∷◌, All, length, Option, Some, None, Result, Ok, Err, refl, sym, ap, ◌∙◌, inl, inr, arith}
 use Rattle.std.proofs.lemmas.List.{append-nil}
 use Rattle.std.proofs.lemmas.List.Elements.{All-nil, All-cons}
 use Rattle.std.specs.Prelude.{is_some}
 use Rattle.gas_terms.specs.Commands.{is_change}
 use Rattle.gas_terms.specs.Laboratory.{Laboratory, Applies, accepted, answer, cause, judged}
 use Rattle.gas_terms.specs.declared.command.Command.{Command}
-use Rattle.gas_terms.specs.declared.command.Command.TheVariants.{Put, Erase, Wall, Block, Unwall, Row, Source, Drain, Unport, Step, Back, Probe, Tally, Ledger, Read, Entry as EntryAt}
+use Rattle.gas_terms.specs.declared.command.Command.TheVariants.{Probe, Tally, Ledger, Read, Entry as EntryAt}
 use Rattle.gas_terms.specs.declared.command.Entry.{Entry}
 use Rattle.gas_terms.specs.declared.answer.Answer.{Answer}
 use Rattle.gas_terms.specs.declared.answer.Answer.TheVariants.{Taken}
@@ -55,22 +55,12 @@ refused lab entry refusal false = left entry lab (Err refusal) refl
 
 taken_up : (lab : Laboratory) (seat : ℕ) (command : Command)
     → Extends (record { seat = seat; command = command }) lab (Ok (answer lab command)) (next None lab (record { seat = seat; command = command }))
-taken_up lab seat (Put r) = more lab _ _ refl
-taken_up lab seat (Erase r) = more lab _ _ refl
-taken_up lab seat (Wall r) = more lab _ _ refl
-taken_up lab seat (Block r) = more lab _ _ refl
-taken_up lab seat (Unwall r) = more lab _ _ refl
-taken_up lab seat (Row y bits) = more lab _ _ refl
-taken_up lab seat (Source r period) = more lab _ _ refl
-taken_up lab seat (Drain r) = more lab _ _ refl
-taken_up lab seat Unport = more lab _ _ refl
-taken_up lab seat (Step n) = more lab _ _ refl
-taken_up lab seat (Back n) = more lab _ _ refl
 taken_up lab seat (Probe r) = left _ lab _ refl
 taken_up lab seat Tally = left _ lab _ refl
 taken_up lab seat Ledger = left _ lab _ refl
 taken_up lab seat (Read y) = left _ lab _ refl
 taken_up lab seat (EntryAt k) = left _ lab _ refl
+taken_up lab seat _ = more lab _ _ refl
 
 judged_extends : (why : Option Refusal) (lab : Laboratory) (seat : ℕ) (command : Command)
     → Extends (record { seat = seat; command = command }) lab (judged why (answer lab command)) (next why lab (record { seat = seat; command = command }))
