@@ -26,7 +26,7 @@ use Rattle.gas_talk.specs.Lines.{text, line_limit, is_newline, line_text, is_goo
 use Rattle.gas_text.specs.Texts.{area_numbers, parted, command_text, IsTyped}
 use Rattle.gas_text.specs.Verbs.{verb_word}
 use Rattle.gas_text.specs.declared.verb.Verb.{Verb}
-use Rattle.gas_text.specs.declared.verb.Verb.TheVariants.{Put, Erase, Wall, Block, Unwall, Drain, Probe, Source, Row, Step, Back, Read, Entry, Unport, Tally, Ledger}
+use Rattle.gas_text.specs.declared.verb.Verb.TheVariants.{Put, Source, Row, Step, Back, Read, Entry, Unport, Tally, Ledger}
 
 -- ---- what is a line, whatever comes after it
 
@@ -159,11 +159,6 @@ row_is_line y bits small few bytes =
     }
 
 pub command_is_line : (size : Extent) (command : Command) → is_size size ≡ true → fits size command ≡ true → IsTyped command → IsLine (command_text command)
-command_is_line size (commands.Put r) sized h typed = with_area size Put r sized h
-command_is_line size (commands.Erase r) sized h typed = with_area size Erase r sized h
-command_is_line size (commands.Wall r) sized h typed = with_area size Wall r sized h
-command_is_line size (commands.Block r) sized h typed = with_area size Block r sized h
-command_is_line size (commands.Unwall r) sized h typed = with_area size Unwall r sized h
 command_is_line size (commands.Row y bits) sized h typed =
     let parts = and_parts (nat_lt y size.height) (8 * length bits == size.width) h in
     row_is_line y bits (row_small size y sized parts.0) (grind (arith, nat_tests)) typed
@@ -171,12 +166,11 @@ command_is_line size (commands.Source r period) sized h typed =
     let parts = and_parts (lies_within size r) (is_period period) h in
     let (x, (y, (w, (height, none)))) = area_small size r sized parts.0 in
     with_numbers Source (r.x ∷ r.y ∷ r.w ∷ r.h ∷ period ∷ []) (x, (y, (w, (height, (period_small period parts.1, tt))))) (omega arith)
-command_is_line size (commands.Drain r) sized h typed = with_area size Drain r sized h
 command_is_line size commands.Unport sized h typed = with_numbers Unport [] tt (omega arith)
 command_is_line size (commands.Step n) sized h typed = with_number Step n (count_small n h)
 command_is_line size (commands.Back n) sized h typed = with_number Back n (count_small n h)
-command_is_line size (commands.Probe r) sized h typed = with_area size Probe r sized h
 command_is_line size commands.Tally sized h typed = with_numbers Tally [] tt (omega arith)
 command_is_line size commands.Ledger sized h typed = with_numbers Ledger [] tt (omega arith)
 command_is_line size (commands.Read y) sized h typed = with_number Read y (row_small size y sized h)
 command_is_line size (commands.Entry k) sized h typed = with_number Entry k typed
+command_is_line size _ sized h typed = search with_area
