@@ -1,10 +1,11 @@
 -- Tiles in their rooms.
-use Rattle.std.proofs.Common.{◌≡◌, ℕ, zero, suc, ◌+◌, ◌-◌, ◌*◌, ◌/◌, ◌<◌, ◌∙◌, true, false, List, ◌∷◌, length, get_or, set, take, drop, replicate, arith, refl, sym, ap, subst}
+use Rattle.std.proofs.Common.{◌≡◌, ℕ, zero, suc, ◌+◌, ◌-◌, ◌*◌, ◌/◌, ◌<◌, ◌∙◌, true, false, true≢false, List, ◌∷◌, length, get_or, set, take, drop, replicate, arith, refl, sym, ap, subst}
 use Rattle.std.proofs.Math.ListN.{get_or-map}
 use Rattle.std.proofs.lemmas.List.{map-set, length-map, get_or-take, get_or-drop, get_or_default}
 use Rattle.bit_tile.specs.Tile.{HasCells}
 use Rattle.bit_tile.specs.declared.Tile.{Tile}
 use Rattle.gas_terms.specs.Cells.{Cells, Extent, is_size, tile_count}
+use Rattle.gas_plane.specs.Counts.{AreOfAll}
 use Rattle.gas_plane.specs.Marks.{mark_at, IsMarkOf}
 use Rattle.gas_plane.specs.Planes.{IsTileFrom, with_tile}
 use Rattle.gas_plane.specs.Tiles.{tiled, no_cells, tile_at, tiles_of, AreTilesInRow, Cover, IsMarked}
@@ -63,3 +64,7 @@ each_marked t none (suc n) (suc i) = each_marked t none n i
 
 pub empty_marked : (tiles : List Tile) (marks : List Mark) (n : ℕ) (t : Tile) (size : Extent) → tiles ≡ replicate n t → marks ≡ replicate n Bare → n ≡ size.width / 64 * (size.height / 64) → is_size size ≡ true → HasCells t (λ _ _. false) → IsMarked tiles marks size
 empty_marked tiles marks n t size e f enough sized none = grind (arith, length-replicate, subst, replicate, each_marked)
+
+-- counts that are not kept
+pub not_kept : {counts : List ℕ} {cells : Cells} → AreOfAll false counts cells
+not_kept known = absurd (true≢false (sym known))

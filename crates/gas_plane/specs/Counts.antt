@@ -1,4 +1,4 @@
-use Rattle.std.specs.Prelude.{◌≡◌, ℕ, ◌+◌, ◌*◌, ◌<◌, IfSome, List, Option, slice_index}
+use Rattle.std.specs.Prelude.{◌≡◌, ℕ, ◌+◌, ◌*◌, ◌<◌, Bool, IsTrue, List, slice_index}
 use Rattle.gas_terms.specs.Cells.{Cells, Rectangle, whole}
 use Rattle.gas_terms.specs.Accounts.{parity_count}
 
@@ -6,6 +6,6 @@ use Rattle.gas_terms.specs.Accounts.{parity_count}
 pub record AreCounts (counts : List ℕ) (cells : Cells) (r : Rectangle) : Type 0 where
   pub count : (a b : ℕ) → a < 2 → b < 2 → slice_index counts (2 * b + a) ≡ parity_count cells r a b
 
--- counts that are kept, if any are, are those of all cells
-abbrev pub AreOfAll : Option (List ℕ) → Cells → Type 0
-AreOfAll kept cells = IfSome kept (λ counts. AreCounts counts cells (whole cells))
+-- counts that are kept are those of all cells
+abbrev pub AreOfAll : Bool → List ℕ → Cells → Type 0
+AreOfAll kept counts cells = IsTrue kept → AreCounts counts cells (whole cells)

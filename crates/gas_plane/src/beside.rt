@@ -38,7 +38,7 @@ impl Plane {
         requires { i + 1 < tile_count self.old }
         ensures { IsTurnedBeside (T.turns turner.old) turner.new self.old i self.new }
     {
-        self.counts = None;
+        self.is_counted = false;
         self.marks[i as usize] = Mark::Lent;
         turn_room(self.tiles.as_mut_slice(), i as usize, turner);
     }

@@ -44,8 +44,10 @@ pub struct Plane {
     // Row by row.
     tiles: Vec<Room>,
     marks: Vec<Mark>,
-    // How many cells there are of each class, if they were counted after the last write.
-    counts: Option<[u64; 4]>,
+    // How many cells there are of each class, if they were counted after the last write. Apart from an `Option`, since a write then
+    // clears one byte.
+    is_counted: bool,
+    counts: [u64; 4],
 }
 
 impl Model for Plane {
@@ -58,7 +60,7 @@ impl Model for Plane {
     ghost view = { λ p. tiled (tiles_of p.tiles.items) p.size };
 
     ghost invariant = { λ p. IsMarked (tiles_of p.tiles.items) p.marks.items p.size
-        × AreOfAll p.counts (tiled (tiles_of p.tiles.items) p.size) };
+        × AreOfAll p.is_counted p.counts (tiled (tiles_of p.tiles.items) p.size) };
 }
 
 impl Plane {
@@ -72,7 +74,8 @@ impl Plane {
             size,
             tiles,
             marks,
-            counts: None,
+            is_counted: false,
+            counts: [0; 4],
         })
     }
 
@@ -86,6 +89,7 @@ impl Plane {
             size: self.size,
             tiles,
             marks,
+            is_counted: self.is_counted,
             counts: self.counts,
         })
     }
@@ -131,7 +135,7 @@ impl Plane {
         requires { i < tile_count self.old }
         ensures { self.new ≡ with_tile self.old i tile }
     {
-        self.counts = None;
+        self.is_counted = false;
         self.tiles[i as usize].tile = tile;
         self.marks[i as usize] = mark_of(&tile);
     }
@@ -144,7 +148,7 @@ impl Plane {
         ensures* writes_back { sem 𝓛 (LendsTile self.entry i result) }
         ensures tile { let r = tile_rectangle self.old i in IsTileFrom result.now self.old r.x r.y }
     {
-        self.counts = None;
+        self.is_counted = false;
         self.marks[i as usize] = Mark::Lent;
         &mut self.tiles[i as usize].tile
     }

@@ -43,7 +43,8 @@ impl Plane {
         ensures sums { (tick : ℤ) → of_tick tick ≡ parity → result ≡ total tick self.old }
         ensures bounded { IsOfAtMost (2 ^ 24) result }
     {
-        self.counts = Some(self.counts_of_all());
+        self.counts = self.counts_of_all();
+        self.is_counted = true;
         self.total(parity)
     }
 
@@ -51,8 +52,8 @@ impl Plane {
     fn counts_of_all(&self) -> [u64; 4]
         ensures { AreCounts result self.now (whole self.now) }
     {
-        if let Some(counts) = self.counts {
-            return counts;
+        if self.is_counted {
+            return self.counts;
         }
         let size = self.size();
         let all = Rect::within(size, 0, 0, size.width() as u32, size.height() as u32).unwrap();

@@ -1,3 +1,4 @@
+use Rattle.gas_plane.proofs.Rooms.{not_kept}
 use Rattle.gas_plane.proofs.NextRooms.{vector_turned, plane_turned, marks_turned}
 use Rattle.gas_plane.proofs.Plane.turn_beside.Goals as goal
 
@@ -16,5 +17,5 @@ invariant_of-self g c =
     let slice = c.as_mut_slice.result.now in (
       marks_turned turns c.turn_room.new.turner inside.tiles.items slice c.turn_room.new.rooms _ inside.marks.items inside.size c.args.self.now c.args.i c.self.invariant.0 c.self.view_is c.requires c.as_mut_slice.ensures.value
           (vector_turned turns c.turn_room.new.turner inside.tiles slice c.turn_room.new.rooms c.args.i c.as_mut_slice.ensures.value c.turn_room.ensures) c.turn_room.ensures,
-      tt,
+      not_kept,
     )
