@@ -9,8 +9,8 @@ ghost use Rattle.block_rule.specs.NamedBlocks.{AreEvenBlocksOf, AreOddBlocksOf};
 ghost use Rattle.block_rule.specs.TileBlocks.{NamesBlocks, DifferInRows, walled_by};
 
 use crate::Window;
+use crate::apply_rule::made_odd;
 use crate::blocks::{AnyCorner, Blocks, Rule};
-use crate::made::made_odd;
 use crate::odd_rows::{OddRow, bottom_row, inner_row, top_row};
 use bit_tile::Tile;
 

@@ -7,8 +7,8 @@ ghost use Rattle.block_rule.specs.Shown.{TellsRows};
 ghost use Rattle.block_rule.specs.NamedBlocks.{NameBlocks, IsCollidedOdd, AreMadeUpTo};
 ghost use Rattle.block_rule.specs.Rows.{ShowsTile, ShowsAllRound, ShowsInnerRows, ShowsOddRow, eight_row};
 
+use crate::apply_rule::write_eight;
 use crate::blocks::{Blocks, EightRows, collided, next, previous};
-use crate::made::write_eight;
 use crate::odd_rows::{OddRow, bottom_row, inner_row, top_row};
 use crate::walled::{NoBlocks, Walled, bits_from};
 use bit_tile::Tile;

@@ -9,10 +9,10 @@ ghost use Rattle.block_rule.specs.TileBlocks.{AreGivenBlocks, NamesBlocks, walle
 ghost use Rattle.block_rule.specs.Rows.{odd_row, eight_row, beside_right};
 ghost use Rattle.block_rule.specs.InPlace.{ShowsBegun, NamesRow, IsRowTurned, IsLeaving, IsInnerSeen, IsSeamSeen, AreRowsSeen, AreNamed, AreCarried, AreEightCarried, AreOthersCarried, AreOthersKept, IsCarried, carried_row, eight_leaving, HaveTurned, AreEndsKept};
 
+use crate::apply_rule::write_eight;
 use crate::blocks::{Beside, Blocks, EightRows, collided, next, previous};
 use crate::blocks_in_tile::SetBlocks;
-use crate::made::write_eight;
-use crate::walled::{NoBlocks, OfOne, Walled, bits_from};
+use crate::walled::{NoBlocks, OfSet, Walled, bits_from};
 use bit_tile::Tile;
 
 /// What the blocks that begin in a tile carry on to the tile to the right: of each word the last bit is for its first column. The
@@ -285,7 +285,7 @@ fn turn_eight_among(
     if bits_from(set.rows, from, 8) == 0 {
         turn_eight(NoBlocks, from, tile, right, carry);
     } else {
-        turn_eight(OfOne { set }, from, tile, right, carry);
+        turn_eight(OfSet { set }, from, tile, right, carry);
     }
 }
 
@@ -322,7 +322,7 @@ fn turned_last(set: SetBlocks<'_>, tile: &Tile, right: &Tile, carry: &mut Carry)
     if bits_from(set.rows, 23, 8) == 0 {
         turned_on(NoBlocks, 23, 24, tile, right, carry)
     } else {
-        turned_on(OfOne { set }, 23, 24, tile, right, carry)
+        turned_on(OfSet { set }, 23, 24, tile, right, carry)
     }
 }
 
@@ -420,7 +420,7 @@ fn carried_apart(set: SetBlocks<'_>, tile: &Tile, right: &Tile) -> Carry
         NamesBlocks set.entry.rows set.entry.blocks.now (walled_by solid) →
         IsCarried result (turned 1 window solid 64) }
 {
-    carried_among(OfOne { set }, tile, right)
+    carried_among(OfSet { set }, tile, right)
 }
 
 /// Turns, in place, the rows of odd blocks that begin in a tile and end in its row of tiles: its rows 1 to 62. `walled` names the
@@ -480,6 +480,6 @@ fn seam_word(walled: Option<SetBlocks<'_>>) -> u32
 {
     match walled {
         None => 0,
-        Some(set) => OfOne { set }.begin(32),
+        Some(set) => OfSet { set }.begin(32),
     }
 }

@@ -5,6 +5,7 @@
 //! `one_tile`, with `turn_block` and `turn_tile`, is for callers of the library.
 #![tactic(auto)]
 
+mod apply_rule;
 mod blocks;
 mod blocks_in_tile;
 mod collide_even;
@@ -12,10 +13,9 @@ mod collide_odd;
 mod count;
 mod in_place;
 pub mod laws;
-mod made;
-mod named;
 mod odd_rows;
 mod one_tile;
+mod tile_phase;
 mod walled;
 
 use bit_tile::Tile;
@@ -24,9 +24,9 @@ pub use blocks_in_tile::{OddBlocks, SetBlocks, TileBlocks, tile_blocks};
 pub use in_place::{
     Carry, SeamRow, TurnedRow, carried_on, put_bottom, put_top, seam_row, turn_inner, turned_seam,
 };
-pub use named::{taken_among, turn_tile_even, turn_tile_odd};
 pub use one_tile::{turn_block, turn_tile};
 use tile_border::Round;
+pub use tile_phase::{taken_among, turn_tile_even, turn_tile_odd};
 pub use walled::Counted;
 
 /// A tile with the eight tiles round it.

@@ -11,7 +11,7 @@ ghost use Rattle.tile_border.specs.declared.border.Border.{Border as BorderValue
 
 use crate::Window;
 use crate::blocks_in_tile::{SetBlocks, tile_blocks};
-use crate::named::{taken_among, turn_tile_even, turn_tile_odd};
+use crate::tile_phase::{taken_among, turn_tile_even, turn_tile_odd};
 use crate::walled::Counted;
 use bit_tile::Tile;
 use gas_terms::Took;

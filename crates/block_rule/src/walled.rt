@@ -78,11 +78,11 @@ impl Walled for NoBlocks {
 
 /// The blocks of one set are walled.
 #[derive(Clone, Copy)]
-pub struct OfOne<'a> {
+pub struct OfSet<'a> {
     pub set: SetBlocks<'a>,
 }
 
-impl<'a> Walled for OfOne<'a> {
+impl<'a> Walled for OfSet<'a> {
     ghost told = { λ b. b.set.rows };
 
     ghost evens = { λ b k. slice_index b.set.blocks.now.even k };

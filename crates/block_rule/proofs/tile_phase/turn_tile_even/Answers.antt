@@ -2,7 +2,7 @@ use Rattle.std.proofs.Common.{arith}
 use Rattle.block_rule.specs.TileBlocks.{walled_by}
 use Rattle.block_rule.proofs.Holding.{turned_of_free}
 use Rattle.block_rule.proofs.NamedBlocks.{words_given, nothing_given}
-use Rattle.block_rule.proofs.named.turn_tile_even.Goals as goal
+use Rattle.block_rule.proofs.tile_phase.turn_tile_even.Goals as goal
 
 pub returns-in-None : goal.returns-in-None
 returns-in-None c = λ window solid shows given.

@@ -1,6 +1,6 @@
 use Rattle.std.proofs.Common.{◌≡◌, ℕ, ◌<◌, ◌≤◌, length}
 use Rattle.block_rule.specs.Rows.{IsMade, even_row}
-use Rattle.block_rule.proofs.made.make_even.Given as goal
+use Rattle.block_rule.proofs.apply_rule.make_even.Given as goal
 
 abbrev pub invariant-loop-j : goal.invariant-loop-j
 invariant-loop-j g l =

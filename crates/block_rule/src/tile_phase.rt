@@ -11,13 +11,13 @@ ghost use Rattle.block_rule.specs.NamedBlocks.{AreEvenBlocksOf, AreOddBlocksOf};
 ghost use Rattle.block_rule.specs.TileBlocks.{NamesBlocks, AreGivenBlocks, walled_by};
 
 use crate::Window;
+use crate::apply_rule::make_even;
 use crate::blocks::Collision;
 use crate::blocks_in_tile::{OddBlocks, SetBlocks};
 use crate::collide_even::collide_even;
 use crate::collide_odd::collide_odd;
 use crate::count::{Classes, count_class, momentum};
-use crate::made::make_even;
-use crate::walled::{Counted, NoBlocks, OfOne};
+use crate::walled::{Counted, NoBlocks, OfSet};
 use bit_tile::Tile;
 use gas_terms::{Pair, Took};
 
@@ -164,7 +164,7 @@ pub fn turn_tile_even(tile: &mut Tile, walled: Option<SetBlocks<'_>>)
 {
     match walled {
         None => make_even(Collision, tile),
-        Some(set) => collide_even(OfOne { set }, tile),
+        Some(set) => collide_even(OfSet { set }, tile),
     }
 }
 
@@ -177,6 +177,6 @@ pub fn turn_tile_odd(particles: &Window, walled: Option<SetBlocks<'_>>, out: &mu
     let Window { tile, round } = particles;
     match walled {
         None => collide_odd(NoBlocks, tile, round, out),
-        Some(set) => collide_odd(OfOne { set }, tile, round, out),
+        Some(set) => collide_odd(OfSet { set }, tile, round, out),
     }
 }

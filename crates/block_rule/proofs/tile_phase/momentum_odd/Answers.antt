@@ -1,6 +1,6 @@
 use Rattle.block_rule.specs.Around.{is_walled_at}
 use Rattle.block_rule.proofs.NamedBlocks.{end_first, begin_first, end_last, begin_last, counted_among}
-use Rattle.block_rule.proofs.named.momentum_odd.Goals as goal
+use Rattle.block_rule.proofs.tile_phase.momentum_odd.Goals as goal
 
 pub returns-clause-is : goal.returns-clause-is
 returns-clause-is c = λ window are.

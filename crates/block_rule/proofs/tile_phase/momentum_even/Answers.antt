@@ -1,7 +1,7 @@
 use Rattle.std.proofs.Common.{arith}
 use Rattle.block_rule.specs.Around.{is_walled_at}
 use Rattle.block_rule.proofs.NamedBlocks.{even_class, counted_among}
-use Rattle.block_rule.proofs.named.momentum_even.Goals as goal
+use Rattle.block_rule.proofs.tile_phase.momentum_even.Goals as goal
 
 pub returns-clause-is : goal.returns-clause-is
 returns-clause-is c = λ window are.

@@ -1,6 +1,6 @@
 use Rattle.std.proofs.Common.{◌≡◌, ℕ, ◌+◌, ◌<◌, ◌≤◌, ◌⊎◌, length, get_or}
 use Rattle.block_rule.specs.Rows.{odd_row, eight_row}
-use Rattle.block_rule.proofs.made.write_eight.Given as goal
+use Rattle.block_rule.proofs.apply_rule.write_eight.Given as goal
 
 abbrev pub invariant-loop-k : goal.invariant-loop-k
 invariant-loop-k l =

@@ -1,5 +1,5 @@
 use Rattle.block_rule.proofs.Holding.{both_took}
-use Rattle.block_rule.proofs.named.taken_among.Goals as goal
+use Rattle.block_rule.proofs.tile_phase.taken_among.Goals as goal
 
 pub returns : goal.returns
 returns c = λ walled obstructed of_walls of_obstacles.

@@ -1,7 +1,7 @@
 use Rattle.std.proofs.Common.{◌≡◌, ◌&&◌, sym, subst, arith}
 use Rattle.bit_tile.specs.Tile.{has}
 use Rattle.block_rule.specs.Around.{is_walled_at, twice_momentum}
-use Rattle.block_rule.proofs.named.momentum_by_set.Goals as goal
+use Rattle.block_rule.proofs.tile_phase.momentum_by_set.Goals as goal
 
 pub returns-then-parity-eq0-clause-is : goal.returns-then-parity-eq0-clause-is
 returns-then-parity-eq0-clause-is c = λ window are.

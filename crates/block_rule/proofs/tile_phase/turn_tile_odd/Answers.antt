@@ -1,7 +1,7 @@
 use Rattle.std.proofs.Common.{arith}
 use Rattle.block_rule.specs.TileBlocks.{walled_by}
 use Rattle.block_rule.proofs.NamedBlocks.{words_given, nothing_given, none_named, one_named}
-use Rattle.block_rule.proofs.named.turn_tile_odd.Goals as goal
+use Rattle.block_rule.proofs.tile_phase.turn_tile_odd.Goals as goal
 
 pub returns-in-None : goal.returns-in-None
 returns-in-None c = λ window solid shows given.

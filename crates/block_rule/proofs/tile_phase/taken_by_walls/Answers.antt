@@ -10,7 +10,7 @@ use Rattle.block_rule.proofs.Blank.{walled_either}
 use Rattle.block_rule.proofs.Holding.{none_took, is_counted}
 use Rattle.block_rule.proofs.Took.{twice_momentum-same, took_together, pair_same}
 use Rattle.block_rule.proofs.NamedBlocks.{words_given, nothing_given}
-use Rattle.block_rule.proofs.named.taken_by_walls.Goals as goal
+use Rattle.block_rule.proofs.tile_phase.taken_by_walls.Goals as goal
 
 no_walls : (w o s : Bool) → s ≡ (w || o) → s ≡ false → (w && not o) ≡ false
 no_walls w o s e f = grind arith

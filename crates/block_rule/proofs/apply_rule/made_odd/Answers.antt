@@ -1,6 +1,6 @@
 use Rattle.std.proofs.Common.{sym, ◌∙◌}
 use Rattle.block_rule.proofs.Windows.{cell_by, next_shown, previous_shown}
-use Rattle.block_rule.proofs.made.made_odd.Goals as goal
+use Rattle.block_rule.proofs.apply_rule.made_odd.Goals as goal
 
 pub returns : goal.returns
 returns g c = λ window y s.

@@ -2,7 +2,7 @@ use Rattle.block_rule.specs.Around.{is_walled_at}
 use Rattle.block_rule.specs.TileBlocks.{walled_by}
 use Rattle.block_rule.proofs.Holding.{none_took, is_counted}
 use Rattle.block_rule.proofs.NamedBlocks.{words_given, nothing_given}
-use Rattle.block_rule.proofs.named.taken_by_obstacles.Goals as goal
+use Rattle.block_rule.proofs.tile_phase.taken_by_obstacles.Goals as goal
 
 pub returns-in-Some : goal.returns-in-Some
 returns-in-Some c = λ obstructed is. is_counted c.args.counted _ _ c.if-not-counted.false (c.momentum_by_set.ensures.is obstructed (words_given c.args.obstacles c.in-Some.obstacles (walled_by obstructed) c.in-Some.is is))
