@@ -8,7 +8,7 @@ ghost use Rattle.gas_plane.specs.Counts.{AreCounts};
 ghost use Rattle.gas_ledger.specs.Gases.{row_of};
 
 use bit_tile::counts_in_row;
-use gas_plane::{Plane, sums, word_of};
+use gas_plane::{Plane, add_counts, word_of};
 use phase_step::CellCounts;
 
 /// What comes in and goes out when the bytes' cells replace row y.
@@ -29,8 +29,8 @@ pub fn row_change(plane: &Plane, y: u32, bytes: &[u8]) -> CellCounts
         let is = word_of(&bytes[from..from + 8]);
         let came = counts_in_row(is & !was, y);
         let went = counts_in_row(was & !is, y);
-        let more = sums(gained, came);
-        let less = sums(lost, went);
+        let more = add_counts(gained, came);
+        let less = add_counts(lost, went);
         gained = more;
         lost = less;
     }

@@ -1,7 +1,7 @@
 -- A tile that is turned beside the next one.
 use Rattle.std.specs.Prelude.{◌≡◌, ℕ, ◌+◌, List, slice_index_or, slice_set}
 use Rattle.bit_tile.specs.declared.Tile.{Tile}
-use Rattle.gas_plane.specs.declared.room.Room.{Room}
+use Rattle.gas_plane.specs.declared.aligned_tile.AlignedTile.{AlignedTile}
 use Rattle.gas_terms.specs.Cells.{Cells, tile_rectangle}
 use Rattle.gas_plane.specs.Planes.{IsTileFrom, with_tile}
 
@@ -16,7 +16,7 @@ pub record IsTurnedBeside {A : Type 0} (turns : Tile → Tile → Tile → A →
   pub replaced : now ≡ with_tile old i made
 
 -- the same of rooms
-pub record IsRoomTurned {A : Type 0} (turns : Tile → Tile → Tile → A → Type 0) (after : A) (old : List Room) (i : ℕ) (now : List Room) : Type 0 where
-  pub room : Room
-  pub related : (d e : Room) → turns (slice_index_or old i d).tile (slice_index_or old (i + 1) e).tile room.tile after
+pub record IsRoomTurned {A : Type 0} (turns : Tile → Tile → Tile → A → Type 0) (after : A) (old : List AlignedTile) (i : ℕ) (now : List AlignedTile) : Type 0 where
+  pub room : AlignedTile
+  pub related : (d e : AlignedTile) → turns (slice_index_or old i d).tile (slice_index_or old (i + 1) e).tile room.tile after
   pub replaced : now ≡ slice_set old i room

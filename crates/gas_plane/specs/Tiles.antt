@@ -5,13 +5,13 @@ use Rattle.bit_tile.specs.declared.Tile.{Tile}
 use Rattle.gas_plane.specs.Marks.{mark_at, IsMarkOf}
 use Rattle.gas_plane.specs.declared.marks.Mark.{Mark}
 use Rattle.gas_plane.specs.declared.around.TileRows.{TileRows}
-use Rattle.gas_plane.specs.declared.room.Room.{Room}
+use Rattle.gas_plane.specs.declared.aligned_tile.AlignedTile.{AlignedTile}
 use Rattle.gas_terms.specs.Cells.{Cells, Extent, cells_where, is_size, tile_count}
 use Rattle.gas_plane.specs.Planes.{IsLattice, IsTileFrom}
 
 -- the tiles in these rooms
-abbrev pub tiles_of : List Room → List Tile
-tiles_of rooms = map (λ (r : Room). r.tile) rooms
+abbrev pub tiles_of : List AlignedTile → List Tile
+tiles_of rooms = map (λ (r : AlignedTile). r.tile) rooms
 
 abbrev pub tile_at : List Tile → ℕ → Tile
 tile_at tiles i = slice_index_or tiles i no_cells
@@ -25,8 +25,8 @@ abbrev pub tiled : List Tile → Extent → Cells
 tiled tiles size = cells_where size.width size.height (tiles_have tiles (size.width / 64))
 
 -- the rooms begin with those of this row of tiles of a lattice
-pub record AreTilesInRow (rooms : List Room) (cells : Cells) (row : ℕ) : Type 0 where
-  pub tile : (column : ℕ) (d : Room) → column < cells.width / 64
+pub record AreTilesInRow (rooms : List AlignedTile) (cells : Cells) (row : ℕ) : Type 0 where
+  pub tile : (column : ℕ) (d : AlignedTile) → column < cells.width / 64
       → IsTileFrom (slice_index_or rooms column d).tile cells (column * 64) (row * 64)
 
 -- the rows are a row of tiles of a lattice and those above and below it, round the torus

@@ -8,8 +8,8 @@ ghost use Rattle.tile_border.specs.Ring.{IsBorderOfRound};
 ghost use Rattle.tile_border.specs.declared.border.Border.{Border as RingCells};
 
 use crate::Plane;
+use crate::aligned_tile::AlignedTile;
 use crate::circle::{after, before};
-use crate::room::Room;
 use bit_tile::Tile;
 use tile_border::{Border, Round};
 
@@ -53,9 +53,9 @@ impl Position {
 #[derive(Clone, Copy)]
 pub struct TileRows<'a> {
     pub across: u32,
-    above: &'a [Room],
-    here: &'a [Room],
-    below: &'a [Room],
+    above: &'a [AlignedTile],
+    here: &'a [AlignedTile],
+    below: &'a [AlignedTile],
 }
 
 impl<'a> TileRows<'a> {

@@ -6,8 +6,8 @@ ghost use Rattle.gas_terms.specs.Cells.{tile_count};
 ghost use Rattle.gas_plane.specs.Beside.{IsTurnedBeside, IsRoomTurned};
 
 use crate::Plane;
+use crate::aligned_tile::AlignedTile;
 use crate::marks::Mark;
-use crate::room::Room;
 use bit_tile::Tile;
 
 /// Turns a tile. It may look at the one to the right. `turns` relates the turner before, the tile before, the one to the right, the
@@ -22,7 +22,7 @@ pub trait Turner {
 
 // Turns a room's tile beside that of the next room.
 #[inline(always)]
-fn turn_room<T: Turner>(rooms: &mut [Room], i: usize, turner: &mut T)
+fn turn_room<T: Turner>(rooms: &mut [AlignedTile], i: usize, turner: &mut T)
     requires { i + 1 < length rooms.old }
     ensures { IsRoomTurned (T.turns turner.old) turner.new rooms.old i rooms.new }
 {

@@ -7,7 +7,7 @@ ghost use Rattle.bit_tile.specs.Tile.{count_cells};
 ghost use Rattle.bit_tile.specs.Tile as in_tile;
 
 use crate::Plane;
-use crate::parts::{is_covered, part_of, tiles_met};
+use crate::tile_areas::{is_covered, part_of, tiles_met};
 use bit_tile::Tile;
 use gas_terms::Rect;
 
@@ -27,7 +27,7 @@ impl Plane {
             for column in left..right {
                 let tile = self.tile(row * across + column);
                 let here = counts_of(tile, area, column * 64, row * 64);
-                let more = sums(counts, here);
+                let more = add_counts(counts, here);
                 counts = more;
             }
         }
@@ -52,7 +52,7 @@ fn counts_of(tile: &Tile, area: Rect, left: u32, top: u32) -> [u32; 4]
 }
 
 /// Adds the counts of four classes.
-pub fn sums(counts: [u64; 4], more: [u32; 4]) -> [u64; 4]
+pub fn add_counts(counts: [u64; 4], more: [u32; 4]) -> [u64; 4]
     requires { (k : ℕ) → k < 4 → slice_index counts k + slice_index more k < 2 ^ 63 }
     ensures { (k : ℕ) → k < 4 → slice_index result k ≡ slice_index counts k + slice_index more k }
 {

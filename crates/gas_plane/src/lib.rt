@@ -11,6 +11,7 @@ ghost use Rattle.gas_plane.specs.Planes.{IsLattice, IsTileFrom, IsBare, HasNone,
 ghost use Rattle.gas_plane.specs.Lending.{LendsTile};
 ghost use Rattle.gas_plane.specs.Tiles.{AreTilesInRow};
 
+mod aligned_tile;
 mod around;
 mod beside;
 mod circle;
@@ -18,23 +19,22 @@ mod counts;
 pub mod laws;
 mod marks;
 mod paint;
-mod parts;
-mod room;
 mod rows;
+mod tile_areas;
 mod totals;
 
+use aligned_tile::{AlignedTile, copied, rooms};
 pub use around::{Position, TileRows};
 pub use beside::Turner;
 pub use bit_tile::Tile;
 pub use circle::{after, before};
-pub use counts::sums;
+pub use counts::add_counts;
 use gas_terms::{NoMemory, Size};
 use marks::{Mark, are_all_bare, mark_of};
-pub use parts::{is_covered, part_of, tiles_met};
-use room::{Room, copied, rooms};
 pub use rows::word_of;
 use std::alloc::Global;
 use std::marker::Model;
+pub use tile_areas::{is_covered, part_of, tiles_met};
 
 /// A set of cells of a lattice, which is a torus. Contracts see its width, its height and its cells. Only `empty` and `copy`
 /// allocate.
@@ -42,7 +42,7 @@ use std::marker::Model;
 pub struct Plane {
     size: Size,
     // Row by row.
-    tiles: Vec<Room>,
+    tiles: Vec<AlignedTile>,
     marks: Vec<Mark>,
     // How many cells there are of each class, if they were counted after the last write. Apart from an `Option`, since a write then
     // clears one byte.
@@ -202,7 +202,7 @@ impl Plane {
 
     // The rooms from the one that has the first tile of this row of tiles.
     #[inline]
-    fn rooms_from(&self, row: u32) -> &[Room]
+    fn rooms_from(&self, row: u32) -> &[AlignedTile]
         requires { row < self.now.height / 64 }
         ensures length { self.now.width / 64 ≤ length result.now }
         ensures tiles { AreTilesInRow result.now self.now row }

@@ -6,7 +6,7 @@ ghost use Rattle.gas_plane.specs.Planes.{IsLattice, tile_of, painted_where};
 ghost use Rattle.bit_tile.specs.Tile as in_tile;
 
 use crate::Plane;
-use crate::parts::{is_covered, part_of, tiles_met};
+use crate::tile_areas::{is_covered, part_of, tiles_met};
 use bit_tile::Tile;
 use gas_terms::Rect;
 

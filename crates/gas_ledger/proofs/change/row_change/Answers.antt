@@ -20,8 +20,8 @@ loop-column-preserved c =
     let came = word_without c.word_of-is.result c.word-was.result after cells column y (omega arith) inside c.requires.y is was in
     let went = word_without c.word-was.result c.word_of-is.result cells after column y (omega arith) inside c.requires.y was is in
     record {
-      gained = counts_wider c.loop-column.gained c.counts_in_row-came.result c.sums-more.result _ (without after cells) column y c.loop-column.invariant.gained came c.counts_in_row-came.ensures.counts c.sums-more.ensures;
-      lost = counts_wider c.loop-column.lost c.counts_in_row-went.result c.sums-less.result _ (without cells after) column y c.loop-column.invariant.lost went c.counts_in_row-went.ensures.counts c.sums-less.ensures;
-      few_gained = λ k h. omega (arith, c.loop-column.invariant.few_gained k h, c.counts_in_row-came.ensures.bound k, c.sums-more.ensures k h);
-      few_lost = λ k h. omega (arith, c.loop-column.invariant.few_lost k h, c.counts_in_row-went.ensures.bound k, c.sums-less.ensures k h);
+      gained = counts_wider c.loop-column.gained c.counts_in_row-came.result c.add_counts-more.result _ (without after cells) column y c.loop-column.invariant.gained came c.counts_in_row-came.ensures.counts c.add_counts-more.ensures;
+      lost = counts_wider c.loop-column.lost c.counts_in_row-went.result c.add_counts-less.result _ (without cells after) column y c.loop-column.invariant.lost went c.counts_in_row-went.ensures.counts c.add_counts-less.ensures;
+      few_gained = λ k h. omega (arith, c.loop-column.invariant.few_gained k h, c.counts_in_row-came.ensures.bound k, c.add_counts-more.ensures k h);
+      few_lost = λ k h. omega (arith, c.loop-column.invariant.few_lost k h, c.counts_in_row-went.ensures.bound k, c.add_counts-less.ensures k h);
     }

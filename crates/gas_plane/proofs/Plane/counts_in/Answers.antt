@@ -35,13 +35,13 @@ loop-column-preserved c =
     let column = c.loop-column.column in
     let less : c.loop-column.column < c.across-across.result = omega (arith, c.tiles_met-left.ensures.within) in
     let within : c.loop-column.column < c.args.self.now.width / 64 = omega (arith, c.across-across.ensures.across) in
-    let next = λ (k : ℕ) (h : k < 4). c.sums-more.ensures k h in
+    let next = λ (k : ℕ) (h : k < 4). c.add_counts-more.ensures k h in
     record {
       so_far = λ a b p q.
-          count_more cells c.args.area a b row column c.across-across.result (get_or c.loop-column.counts (2 * b + a) 0) (get_or c.counts_of-here.result (2 * b + a) 0) (get_or c.sums-more.result (2 * b + a) 0) c.across-across.ensures.across (c.loop-column.invariant.so_far a b p q)
+          count_more cells c.args.area a b row column c.across-across.result (get_or c.loop-column.counts (2 * b + a) 0) (get_or c.counts_of-here.result (2 * b + a) 0) (get_or c.add_counts-more.result (2 * b + a) 0) c.across-across.ensures.across (c.loop-column.invariant.so_far a b p q)
           (c.counts_of-here.ensures.counts a b p q ∙ tile_counts cells c.args.area a b row column c.across-across.result c.tile-tile.result.now c.across-across.ensures.across less c.tile-tile.ensures)
           (next (2 * b + a) (class_place a b p q));
-      small = λ k h. small_next (row * (c.args.self.now.width / 64)) column (get_or c.loop-column.counts k 0) (get_or c.counts_of-here.result k 0) (get_or c.sums-more.result k 0) (next k h) (c.loop-column.invariant.small k h) (c.counts_of-here.ensures.bound k);
+      small = λ k h. small_next (row * (c.args.self.now.width / 64)) column (get_or c.loop-column.counts k 0) (get_or c.counts_of-here.result k 0) (get_or c.add_counts-more.result k 0) (next k h) (c.loop-column.invariant.small k h) (c.counts_of-here.ensures.bound k);
     }
 
 pub loop-row-preserved : goal.loop-row-preserved

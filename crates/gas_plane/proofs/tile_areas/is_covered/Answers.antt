@@ -1,7 +1,7 @@
 use Rattle.std.proofs.Common.{◌+◌, ◌≤◌, arith}
 use Rattle.gas_plane.proofs.BareTiles.{not_both}
 use Rattle.gas_plane.proofs.Painting.{all_inside, spans_all}
-use Rattle.gas_plane.proofs.parts.is_covered.Goals as goal
+use Rattle.gas_plane.proofs.tile_areas.is_covered.Goals as goal
 
 pub returns-then-spans : goal.returns-then-spans
 returns-then-spans c =
