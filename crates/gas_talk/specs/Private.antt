@@ -1,7 +1,7 @@
 -- Definitions that only contracts of private functions cite: what a line reader has of its input, what it finds there, and
 -- how far a session has come. Callers need not read them.
-use Rattle.std.specs.Prelude.{◌≡◌, ℕ, ◌<◌, ◌⊎◌, List, [], ◌∷◌, ◌++◌, length, map, Option, Some, None, Bool, IsTrue, string_bytes}
-use Rattle.std.specs.Io.KnownBytes.{Appends}
+use Rattle.std.specs.Prelude.{◌≡◌, ℕ, ◌<◌, ◌≤◌, ◌⊎◌, List, [], ◌∷◌, ◌++◌, length, map, Option, Some, None, Result, Ok, Err, Bool, IsTrue, string_bytes}
+use Rattle.std.specs.Io.KnownBytes.{Appends, Consumes, IsAtEnd, Keeps as KeepsBytes}
 use Rattle.tokio_util.specs.Codec.Next.{Resumes}
 use Rattle.tokio_util.specs.Codec.Lines.{at_line_start, gives_lines}
 use Rattle.gas_terms.specs.Cells.{Extent}
@@ -10,7 +10,9 @@ use Rattle.gas_talk.specs.declared.end.SessionEnd.TheVariants.{WriteFault}
 use Rattle.gas_talk.specs.declared.reader.LineReader.{LineReader}
 use Rattle.gas_talk.specs.declared.reader.Found.{Found}
 use Rattle.gas_talk.specs.declared.reader.Found.TheVariants.{Line, Bad, NoMemory as NoRoom, More}
-use Rattle.gas_talk.specs.Ends.{Place, replies, AreUnended, Leads, Serves}
+use Rattle.gas_talk.specs.declared.reader.ReadFault.{ReadFault}
+use Rattle.gas_talk.specs.declared.reader.ReadFault.TheVariants as faults
+use Rattle.gas_talk.specs.Ends.{Place, replies, AreUnended, Leads, Serves, read_limit}
 use Rattle.gas_talk.specs.Lines.{lines, text, bad, line_limit}
 use Rattle.gas_talk.specs.Talk.{TalkLine, AskCalls, CopyCalls}
 
@@ -37,6 +39,28 @@ IsShorter (Line line) old new = new < old
 IsShorter Bad old new = Unit {0}
 IsShorter NoRoom old new = Unit {0}
 IsShorter More old new = Unit {0}
+
+-- how many reads a call of `read_more` with this result made: if memory runs out, it does so before the read
+abbrev pub reads_made : Result ℕ ReadFault → ℕ
+reads_made (Ok n) = 1
+reads_made (Err faults.Reader) = 1
+reads_made (Err faults.NoMemory) = 0
+
+-- A read took the next n bytes of the input, and the line reader keeps them behind what it kept.
+pub record HasRead (n : ℕ) (unread_old : Option (List ℕ)) (old : LineReader)
+    (unread_new : Option (List ℕ)) (new : LineReader) : Type 0 where
+  pub more : List ℕ
+  pub long : length more ≡ n
+  pub consumes : Consumes unread_old unread_new more
+  pub keeps : (unread : List ℕ) → Keeps old unread → Keeps new (unread ++ more)
+  pub short : n ≤ read_limit
+  pub end : n ≡ 0 → IsAtEnd unread_new
+
+-- No byte was taken, and the line reader keeps what it kept.
+pub record HasReadNothing (unread_old : Option (List ℕ)) (old : LineReader)
+    (unread_new : Option (List ℕ)) (new : LineReader) : Type 0 where
+  pub bytes : KeepsBytes unread_old unread_new
+  pub keeps : (unread : List ℕ) → Keeps old unread → Keeps new unread
 
 -- A part of these bytes is written, and all of them if the flag is set.
 abbrev pub WritesPart : Option (List ℕ) → Option (List ℕ) → List ℕ → Bool → Type 0

@@ -1,9 +1,7 @@
 //! Cuts an input into lines.
 
-ghost use Rattle.std.specs.Prelude.{◌≡◌, ℕ, ◌+◌, ◌<◌, ◌≤◌, List, [], ◌++◌, length, Err, IfOk, OnOk, OnErr};
-ghost use Rattle.std.specs.Io.KnownBytes.{Consumes, Keeps as KeepsBytes, IsAtEnd};
-ghost use Rattle.gas_talk.specs.Ends.{read_limit};
-ghost use Rattle.gas_talk.specs.Private.{Keeps, kept_len, Finds, IsShorter};
+ghost use Rattle.std.specs.Prelude.{◌≡◌, ℕ, ◌+◌, ◌<◌, List, [], IfOk, OnErr};
+ghost use Rattle.gas_talk.specs.Private.{Keeps, kept_len, Finds, IsShorter, HasRead, HasReadNothing, reads_made};
 
 use crate::reads::{READ_LIMIT, SessionReads};
 use bytes::BytesMut;
@@ -74,23 +72,17 @@ impl LineReader {
         reads: &mut SessionReads<'_, R, L>,
     ) -> Result<usize, ReadFault>
         requires { 0 < reads.old.left }
-        ensures same { reads.new.reader.ghost_name ≡ reads.old.reader.ghost_name }
-        ensures same_count { reads.new.count.ghost_name ≡ reads.old.count.ghost_name }
-        ensures left { OnOk result (reads.new.left + 1 ≡ reads.old.left) }
-        ensures count { OnOk result (reads.new.count.now ≡ reads.old.count.now + 1) }
-        ensures failed { result ≡ Err ReadFault.Reader
-            → reads.new.count.now ≡ reads.old.count.now + 1 }
-        ensures not_made { result ≡ Err ReadFault.NoMemory
-            → reads.new.count.now ≡ reads.old.count.now }
-        ensures read { IfOk result (λ n. (more : List ℕ) × (length more ≡ n)
-            × Consumes (R.remaining reads.old.reader.now) (R.remaining reads.new.reader.now) more
-            × ((unread : List ℕ) → Keeps self.old unread → Keeps self.new (unread ++ more))) }
-        ensures short { IfOk result (λ n. n ≤ read_limit) }
-        ensures end { IfOk result (λ n. n ≡ 0 → IsAtEnd (R.remaining reads.new.reader.now)) }
-        ensures err { OnErr result (KeepsBytes (R.remaining reads.old.reader.now)
-            (R.remaining reads.new.reader.now)) }
-        ensures kept { OnErr result ((unread : List ℕ)
-            → Keeps self.old unread → Keeps self.new unread) }
+        ensures same { (reads.new.reader.ghost_name ≡ reads.old.reader.ghost_name)
+            × (reads.new.count.ghost_name ≡ reads.old.count.ghost_name) }
+        ensures counted { let made = reads_made result in
+            (reads.new.left + made ≡ reads.old.left)
+            × (reads.new.count.now ≡ reads.old.count.now + made) }
+        ensures read { IfOk result (λ n. HasRead n
+            (R.remaining reads.old.reader.now) self.old
+            (R.remaining reads.new.reader.now) self.new) }
+        ensures err { OnErr result (HasReadNothing
+            (R.remaining reads.old.reader.now) self.old
+            (R.remaining reads.new.reader.now) self.new) }
     {
         if self.buffer.reserve(READ_LIMIT).is_err() {
             return Err(ReadFault::NoMemory);

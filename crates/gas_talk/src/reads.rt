@@ -83,10 +83,10 @@ impl<'a, R: Read, L: Ledger> SessionReads<'a, R, L> {
     pub fn read(&mut self, page: &mut [u8]) -> io::Result<usize>
         requires left { 0 < self.old.left }
         requires page { length page.old ≤ read_limit }
-        ensures same { self.new.reader.ghost_name ≡ self.old.reader.ghost_name }
-        ensures left { self.new.left + 1 ≡ self.old.left }
-        ensures same_count { self.new.count.ghost_name ≡ self.old.count.ghost_name }
-        ensures count { self.new.count.now ≡ self.old.count.now + 1 }
+        ensures same { (self.new.reader.ghost_name ≡ self.old.reader.ghost_name)
+            × (self.new.count.ghost_name ≡ self.old.count.ghost_name) }
+        ensures counted { (self.new.left + 1 ≡ self.old.left)
+            × (self.new.count.now ≡ self.old.count.now + 1) }
         ensures bound { ReadsAtMost result page.new }
         ensures bytes { ReadConsumes (R.remaining self.old.reader.now)
             (R.remaining self.new.reader.now) result page.new }

@@ -23,28 +23,29 @@ loop-reads-init g c =
 pub returns-in-Ok-eq0 : goal.returns-in-Ok-eq0
 returns-in-Ok-eq0 g c =
     let given = c.in-Ok-eq0.ensures.read in
-    let nothing : given.0 ≡ [] = nil_from_length given.0 (given.1 ∙ c.in-Ok-eq0.field-0-test) in
-    let same = c.in-Ok-eq0.ensures.same ∙ c.loop-reads.invariant.5 ∙ c.new-reads.ensures.same in
-    let same_count = c.in-Ok-eq0.ensures.same_count ∙ c.loop-reads.invariant.7 ∙ c.new-reads.ensures.same_count in
+    let nothing : given.more ≡ [] = nil_from_length given.more (given.long ∙ c.in-Ok-eq0.field-0-test) in
+    let same = c.in-Ok-eq0.ensures.same.0 ∙ c.loop-reads.invariant.5 ∙ c.new-reads.ensures.same in
+    let same_count = c.in-Ok-eq0.ensures.same.1 ∙ c.loop-reads.invariant.7 ∙ c.new-reads.ensures.same_count in
     session_by g.D.Door.size_of g.D.Door.asks g.D.Door.copies g.R.Read.remaining _ c.read_more.new.reads.reader.now _ _ InputEnd _ (search (rules, same))
-    (c.loop-reads.invariant.3 + 1) c.args.count.now c.read_more.new.reads.count.now _ (search (rules, same_count)) (omega (arith, c.in-Ok-eq0.ensures.count, c.loop-reads.invariant.6)) (record {
-      input = c.loop-reads.invariant.0 ++ given.0;
-      given = Consumes-trans _ _ _ _ _ c.loop-reads.invariant.1 given.2;
+    (c.loop-reads.invariant.3 + 1) c.args.count.now c.read_more.new.reads.count.now _ (search (rules, same_count)) (omega (arith, c.in-Ok-eq0.ensures.counted.1, c.loop-reads.invariant.6)) (record {
+      input = c.loop-reads.invariant.0 ++ given.more;
+      given = Consumes-trans _ _ _ _ _ c.loop-reads.invariant.1 given.consumes;
       serves = rw (nothing, append-nil) (Serves_all g.D.Door.size_of g.D.Door.asks g.D.Door.copies c.loop-reads.invariant.0 _ c.loop-reads.lines _ c.loop-reads.invariant.2.0 InputEnd c.loop-reads.invariant.2.1 (λ h. h));
-      whole = λ _. c.in-Ok-eq0.ensures.end c.in-Ok-eq0.field-0-test;
+      whole = λ _. given.end c.in-Ok-eq0.field-0-test;
       counted = rw (nothing, append-nil) (after_nothing _ _ _ InputEnd c.loop-reads.invariant.4 (sym c.any_left.ensures ∙ c.loop-reads-test.true) (λ wrong. cc) refl);
-      stops = stops_at_read _ _ _ _ c.loop-reads.invariant.0 given.0 c.loop-reads.invariant.4
-          (ending_is g.D.Door.size_of g.D.Door.asks g.D.Door.copies c.loop-reads.invariant.0 _ c.loop-reads.lines _ c.loop-reads.invariant.2.0 [] c.loop-reads.invariant.2.1) given.1 c.in-Ok-eq0.ensures.short;
+      stops = stops_at_read _ _ _ _ c.loop-reads.invariant.0 given.more c.loop-reads.invariant.4
+          (ending_is g.D.Door.size_of g.D.Door.asks g.D.Door.copies c.loop-reads.invariant.0 _ c.loop-reads.lines _ c.loop-reads.invariant.2.0 [] c.loop-reads.invariant.2.1) given.long given.short;
     })
 
 pub returns-in-Err-Reader : goal.returns-in-Err-Reader
 returns-in-Err-Reader g c =
-    let same = c.in-Err-Reader.ensures.same ∙ c.loop-reads.invariant.5 ∙ c.new-reads.ensures.same in
-    let same_count = c.in-Err-Reader.ensures.same_count ∙ c.loop-reads.invariant.7 ∙ c.new-reads.ensures.same_count in
+    let counted = rw c.in-Err-Reader.field-0-is at c.in-Err-Reader.ensures.counted in
+    let same = c.in-Err-Reader.ensures.same.0 ∙ c.loop-reads.invariant.5 ∙ c.new-reads.ensures.same in
+    let same_count = c.in-Err-Reader.ensures.same.1 ∙ c.loop-reads.invariant.7 ∙ c.new-reads.ensures.same_count in
     session_by g.D.Door.size_of g.D.Door.asks g.D.Door.copies g.R.Read.remaining _ c.read_more.new.reads.reader.now _ _ ReadFault _ (search (rules, same))
-    (c.loop-reads.invariant.3 + 1) c.args.count.now c.read_more.new.reads.count.now _ (search (rules, same_count)) (omega (arith, c.in-Err-Reader.ensures.failed (search rules), c.loop-reads.invariant.6)) (record {
+    (c.loop-reads.invariant.3 + 1) c.args.count.now c.read_more.new.reads.count.now _ (search (rules, same_count)) (omega (arith, counted.1, c.loop-reads.invariant.6)) (record {
       input = c.loop-reads.invariant.0;
-      given = Consumes-kept _ _ _ _ c.loop-reads.invariant.1 c.in-Err-Reader.ensures.err;
+      given = Consumes-kept _ _ _ _ c.loop-reads.invariant.1 c.in-Err-Reader.ensures.err.bytes;
       serves = Serves_all g.D.Door.size_of g.D.Door.asks g.D.Door.copies c.loop-reads.invariant.0 _ c.loop-reads.lines _ c.loop-reads.invariant.2.0 ReadFault c.loop-reads.invariant.2.1 (λ h. h);
       whole = λ wrong. cc;
       counted = after_nothing _ _ _ ReadFault c.loop-reads.invariant.4 (sym c.any_left.ensures ∙ c.loop-reads-test.true) (λ wrong. cc) refl;
@@ -55,12 +56,13 @@ returns-in-Err-Reader g c =
 pub returns-in-Err-NoMemory : goal.returns-in-Err-NoMemory
 returns-in-Err-NoMemory g c =
     let sent = c.last.ensures in
-    let same = c.in-Err-NoMemory.ensures.same ∙ c.loop-reads.invariant.5 ∙ c.new-reads.ensures.same in
-    let same_count = c.in-Err-NoMemory.ensures.same_count ∙ c.loop-reads.invariant.7 ∙ c.new-reads.ensures.same_count in
+    let counted = rw c.in-Err-NoMemory.field-0-is at c.in-Err-NoMemory.ensures.counted in
+    let same = c.in-Err-NoMemory.ensures.same.0 ∙ c.loop-reads.invariant.5 ∙ c.new-reads.ensures.same in
+    let same_count = c.in-Err-NoMemory.ensures.same.1 ∙ c.loop-reads.invariant.7 ∙ c.new-reads.ensures.same_count in
     session_by g.D.Door.size_of g.D.Door.asks g.D.Door.copies g.R.Read.remaining _ c.read_more.new.reads.reader.now _ _ _ _ (search (rules, same))
-    c.loop-reads.invariant.3 c.args.count.now c.read_more.new.reads.count.now _ (search (rules, same_count)) (omega (arith, c.in-Err-NoMemory.ensures.not_made (search rules), c.loop-reads.invariant.6)) (record {
+    c.loop-reads.invariant.3 c.args.count.now c.read_more.new.reads.count.now _ (search (rules, same_count)) (omega (arith, counted.1, c.loop-reads.invariant.6)) (record {
       input = c.loop-reads.invariant.0;
-      given = Consumes-kept _ _ _ _ c.loop-reads.invariant.1 c.in-Err-NoMemory.ensures.err;
+      given = Consumes-kept _ _ _ _ c.loop-reads.invariant.1 c.in-Err-NoMemory.ensures.err.bytes;
       serves = Serves_last_memory g.D.Door.size_of g.D.Door.asks g.D.Door.copies c.loop-reads.invariant.0 _ c.loop-reads.lines _ c.loop-reads.invariant.2.0 _ c.last.result sent.0 sent.1 sent.2 sent.3 sent.4;
       whole = λ wrong. absurd (last_at_no_other _ _ _ InputEnd (λ wrong. cc) (λ wrong. cc) sent.4 wrong);
       counted = after_read _ _ _ _ c.loop-reads.invariant.4 (last_at_no_other _ _ _ TooManyReads (λ wrong. cc) (λ wrong. cc) sent.4)
@@ -71,32 +73,32 @@ returns-in-Err-NoMemory g c =
 pub returns-in-Some : goal.returns-in-Some
 returns-in-Some g c =
     let given = c.in-Ok.ensures.read in
-    let same = c.in-Ok.ensures.same ∙ c.loop-reads.invariant.5 ∙ c.new-reads.ensures.same in
-    let same_count = c.in-Ok.ensures.same_count ∙ c.loop-reads.invariant.7 ∙ c.new-reads.ensures.same_count in
+    let same = c.in-Ok.ensures.same.0 ∙ c.loop-reads.invariant.5 ∙ c.new-reads.ensures.same in
+    let same_count = c.in-Ok.ensures.same.1 ∙ c.loop-reads.invariant.7 ∙ c.new-reads.ensures.same_count in
     session_by g.D.Door.size_of g.D.Door.asks g.D.Door.copies g.R.Read.remaining _ c.read_more.new.reads.reader.now _ _ _ _ (search (rules, same))
-    (c.loop-reads.invariant.3 + 1) c.args.count.now c.read_more.new.reads.count.now _ (search (rules, same_count)) (omega (arith, c.in-Ok.ensures.count, c.loop-reads.invariant.6)) (record {
-      input = c.loop-reads.invariant.0 ++ given.0;
-      given = Consumes-trans _ _ _ _ _ c.loop-reads.invariant.1 given.2;
-      serves = c.in-Some.ensures.answered _ _ (Progress_read g.D.Door.size_of g.D.Door.asks g.D.Door.copies c.loop-reads.invariant.0 _ c.loop-reads.lines _ given.0 c.read_more.new.self c.loop-reads.invariant.2.0 given.3);
+    (c.loop-reads.invariant.3 + 1) c.args.count.now c.read_more.new.reads.count.now _ (search (rules, same_count)) (omega (arith, c.in-Ok.ensures.counted.1, c.loop-reads.invariant.6)) (record {
+      input = c.loop-reads.invariant.0 ++ given.more;
+      given = Consumes-trans _ _ _ _ _ c.loop-reads.invariant.1 given.consumes;
+      serves = c.in-Some.ensures.answered _ _ (Progress_read g.D.Door.size_of g.D.Door.asks g.D.Door.copies c.loop-reads.invariant.0 _ c.loop-reads.lines _ given.more c.read_more.new.self c.loop-reads.invariant.2.0 given.keeps);
       whole = λ wrong. absurd (c.in-Some.ensures.end wrong);
-      counted = after_read _ _ _ _ (one_more _ _ _ _ _ given.0 c.loop-reads.invariant.4 c.in-Ok.ensures.left given.1 c.in-Ok.ensures.short (omega (arith, c.in-Ok.field-0-test))) c.in-Some.ensures.in_time c.in-Some.ensures.end c.in-Some.ensures.no_fault;
-      stops = stops_at_read _ _ _ _ c.loop-reads.invariant.0 given.0 c.loop-reads.invariant.4
-          (ending_is g.D.Door.size_of g.D.Door.asks g.D.Door.copies c.loop-reads.invariant.0 _ c.loop-reads.lines _ c.loop-reads.invariant.2.0 [] c.loop-reads.invariant.2.1) given.1 c.in-Ok.ensures.short;
+      counted = after_read _ _ _ _ (one_more _ _ _ _ _ given.more c.loop-reads.invariant.4 c.in-Ok.ensures.counted.0 given.long given.short (omega (arith, c.in-Ok.field-0-test))) c.in-Some.ensures.in_time c.in-Some.ensures.end c.in-Some.ensures.no_fault;
+      stops = stops_at_read _ _ _ _ c.loop-reads.invariant.0 given.more c.loop-reads.invariant.4
+          (ending_is g.D.Door.size_of g.D.Door.asks g.D.Door.copies c.loop-reads.invariant.0 _ c.loop-reads.lines _ c.loop-reads.invariant.2.0 [] c.loop-reads.invariant.2.1) given.long given.short;
     })
 
 pub loop-reads-preserved : goal.loop-reads-preserved
 loop-reads-preserved g c =
     let given = c.in-Ok.ensures.read in (
-      c.loop-reads.invariant.0 ++ given.0,
-      Consumes-trans _ _ _ _ _ c.loop-reads.invariant.1 given.2,
-      c.in-None.ensures.answered _ _ (Progress_read g.D.Door.size_of g.D.Door.asks g.D.Door.copies c.loop-reads.invariant.0 _ c.loop-reads.lines _ given.0 c.read_more.new.self c.loop-reads.invariant.2.0 given.3),
+      c.loop-reads.invariant.0 ++ given.more,
+      Consumes-trans _ _ _ _ _ c.loop-reads.invariant.1 given.consumes,
+      c.in-None.ensures.answered _ _ (Progress_read g.D.Door.size_of g.D.Door.asks g.D.Door.copies c.loop-reads.invariant.0 _ c.loop-reads.lines _ given.more c.read_more.new.self c.loop-reads.invariant.2.0 given.keeps),
       c.loop-reads.invariant.3 + 1,
-      one_more _ _ _ _ _ given.0 c.loop-reads.invariant.4 c.in-Ok.ensures.left given.1 c.in-Ok.ensures.short (omega (arith, c.in-Ok.field-0-test)),
-      c.in-Ok.ensures.same ∙ c.loop-reads.invariant.5,
-      omega (arith, c.in-Ok.ensures.count, c.loop-reads.invariant.6),
-      c.in-Ok.ensures.same_count ∙ c.loop-reads.invariant.7,
-      stops_at_read _ _ _ _ c.loop-reads.invariant.0 given.0 c.loop-reads.invariant.4
-          (ending_is g.D.Door.size_of g.D.Door.asks g.D.Door.copies c.loop-reads.invariant.0 _ c.loop-reads.lines _ c.loop-reads.invariant.2.0 [] c.loop-reads.invariant.2.1) given.1 c.in-Ok.ensures.short,
+      one_more _ _ _ _ _ given.more c.loop-reads.invariant.4 c.in-Ok.ensures.counted.0 given.long given.short (omega (arith, c.in-Ok.field-0-test)),
+      c.in-Ok.ensures.same.0 ∙ c.loop-reads.invariant.5,
+      omega (arith, c.in-Ok.ensures.counted.1, c.loop-reads.invariant.6),
+      c.in-Ok.ensures.same.1 ∙ c.loop-reads.invariant.7,
+      stops_at_read _ _ _ _ c.loop-reads.invariant.0 given.more c.loop-reads.invariant.4
+          (ending_is g.D.Door.size_of g.D.Door.asks g.D.Door.copies c.loop-reads.invariant.0 _ c.loop-reads.lines _ c.loop-reads.invariant.2.0 [] c.loop-reads.invariant.2.1) given.long given.short,
     )
 
 pub returns : goal.returns

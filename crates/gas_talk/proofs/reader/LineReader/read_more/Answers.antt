@@ -15,12 +15,14 @@ returns-in-Ok-clause-read g c =
     let items : c.truncate.new.self.items ≡ kept ++ more =
     (rw c.as_mut_slice.ensures.value at c.truncate.ensures.items)
     ∙ kept_and_read c.reserve.new.self.items c.advance_mut.new.self.items c.read.new.page _ _ _ c.in-Ok.n _ c.len-kept.ensures.value c.advance_mut.ensures.front c.in-Ok.ensures.bound.0 fits
-    ∙ ap (λ xs. xs ++ more) c.reserve.ensures.items in (
-      more,
-      sym c.in-Ok.ensures.bound.1,
-      c.in-Ok.ensures.bytes.0,
-      λ unread keeps. rw items (Resumes-append gives_lines (at_line_start line_limit) unread c.args.self.now.codec kept more keeps),
-    )
+    ∙ ap (λ xs. xs ++ more) c.reserve.ensures.items in record {
+      more = more;
+      long = sym c.in-Ok.ensures.bound.1;
+      consumes = c.in-Ok.ensures.bytes.0;
+      keeps = λ unread keeps. rw items (Resumes-append gives_lines (at_line_start line_limit) unread c.args.self.now.codec kept more keeps);
+      short = search rules;
+      end = search rules;
+    }
 
 pub read-requires-clause-page : goal.read-requires-clause-page
 read-requires-clause-page g c = search rules
