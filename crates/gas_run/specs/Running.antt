@@ -33,16 +33,10 @@ pub record Outside : Type 0 where
   pub failures : ℕ
   pub shelved : Option (List (List ℕ))
 
--- what a run has around it: this reader, this writer and this shelf
-abbrev pub outside : {R W K : Type 0} → (R → Option (List ℕ)) → (W → Option (List ℕ))
-    → (K → ℕ) → (K → Option (List (List ℕ))) → R → W → K → Outside
-outside remaining contents failures shelved reader writer shelf =
-    record {
-      unread = remaining reader;
-      written = contents writer;
-      failures = failures shelf;
-      shelved = shelved shelf;
-    }
+-- the same of what is known of a reader, a writer and a shelf
+abbrev pub outside : Option (List ℕ) → Option (List ℕ) → ℕ → Option (List (List ℕ)) → Outside
+outside unread written failures shelved =
+    record { unread = unread; written = written; failures = failures; shelved = shelved }
 
 -- a laboratory and what its sessions write to and put on
 abbrev pub place_of : Laboratory → Outside → Place Laboratory

@@ -64,9 +64,11 @@ pub fn run_on<T: Threads + Clock + Drop, R: Read, W: Write, K: Shelf>(
 ) -> u8
     requires { IsInRange setup }
     ensures { Runs setup start
-        (outside R.remaining W.contents K.failures K.shelved reader.old writer.old shelf.old)
+        (outside (R.remaining reader.old) (W.contents writer.old)
+        (K.failures shelf.old) (K.shelved shelf.old))
         result
-        (outside R.remaining W.contents K.failures K.shelved reader.new writer.new shelf.new) }
+        (outside (R.remaining reader.new) (W.contents writer.new)
+        (K.failures shelf.new) (K.shelved shelf.new)) }
 {
     let team = StripTeam::new(rt, alloc, setup.workers);
     let Ok(mut lab) = opened(alloc, setup, start, team) else {

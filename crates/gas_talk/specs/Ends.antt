@@ -158,16 +158,10 @@ pub record Place (D : Type 0) : Type 0 where
   -- what the shelf has taken, where it is known
   pub shelved : Option (List (List ℕ))
 
--- the place of a door, a writer and a shelf
-abbrev pub place : {D W K : Type 0} → (W → Option (List ℕ))
-    → (K → ℕ) → (K → Option (List (List ℕ))) → D → W → K → Place D
-place contents failures shelved door writer shelf =
-    record {
-      door = door;
-      written = contents writer;
-      failures = failures shelf;
-      shelved = shelved shelf;
-    }
+-- the place of this door, with what its writer holds and what its shelf has failed and taken
+abbrev pub place : {D : Type 0} → D → Option (List ℕ) → ℕ → Option (List (List ℕ)) → Place D
+place door written failures shelved =
+    record { door = door; written = written; failures = failures; shelved = shelved }
 
 -- This holds between the door before a call and the door after it, for every call.
 pub record EachCall {D : Type 0} (asks : AskCalls D) (copies : CopyCalls D)

@@ -55,9 +55,9 @@ pub fn serve_alone<R: Read, W: Write, S: Stepper, K: Shelf>(
     shelf: &mut K,
 ) -> SessionEnd
     ensures { IsTalk seat (R.remaining reader.old) (R.remaining reader.new)
-        (place W.contents K.failures K.shelved lab.old writer.old shelf.old)
+        (place lab.old (W.contents writer.old) (K.failures shelf.old) (K.shelved shelf.old))
         result
-        (place W.contents K.failures K.shelved lab.new writer.new shelf.new) }
+        (place lab.new (W.contents writer.new) (K.failures shelf.new) (K.shelved shelf.new)) }
 {
     let mut door = Alone { lab, seat };
     serve_door(alloc, reader, writer, &mut door, shelf)

@@ -61,9 +61,9 @@ fn answer_lines<W: Write, D: Door, K: Shelf>(
 ) -> Option<SessionEnd>
     ensures answered { (input : List ℕ) (from : Place _)
         → Progress D.size_of D.asks D.copies input from lines.old
-        (place W.contents K.failures K.shelved door.old writer.old shelf.old)
+        (place door.old (W.contents writer.old) (K.failures shelf.old) (K.shelved shelf.old))
         → AnswersLines D.size_of D.asks D.copies input from result lines.new
-        (place W.contents K.failures K.shelved door.new writer.new shelf.new) }
+        (place door.new (W.contents writer.new) (K.failures shelf.new) (K.shelved shelf.new)) }
     ensures end { IfSome result (λ end. end ≢ SessionEnd.InputEnd) }
     ensures in_time { IfSome result (λ end. end ≢ SessionEnd.TooManyReads) }
     ensures no_fault { IfSome result (λ end. end ≢ SessionEnd.ReadFault) }
@@ -103,9 +103,9 @@ pub fn session<R: Read, W: Write, D: Door, K: Shelf, L: Ledger>(
     ensures { (reads : ℕ) × (count.new ≡ count.old + reads)
         × IsSession D.size_of D.asks D.copies reads
         (R.remaining reader.old) (R.remaining reader.new)
-        (place W.contents K.failures K.shelved door.old writer.old shelf.old)
+        (place door.old (W.contents writer.old) (K.failures shelf.old) (K.shelved shelf.old))
         result
-        (place W.contents K.failures K.shelved door.new writer.new shelf.new) }
+        (place door.new (W.contents writer.new) (K.failures shelf.new) (K.shelved shelf.new)) }
 {
     let mut reads = SessionReads::new(reader, READS, count);
     let mut lines = LineReader::new(alloc);
@@ -141,9 +141,9 @@ fn serve_counted<R: Read, W: Write, D: Door, K: Shelf, L: Ledger>(
     ensures { (reads : ℕ)
         × IsSession D.size_of D.asks D.copies reads
         (R.remaining reader.old) (R.remaining reader.new)
-        (place W.contents K.failures K.shelved door.old writer.old shelf.old)
+        (place door.old (W.contents writer.old) (K.failures shelf.old) (K.shelved shelf.old))
         result
-        (place W.contents K.failures K.shelved door.new writer.new shelf.new) }
+        (place door.new (W.contents writer.new) (K.failures shelf.new) (K.shelved shelf.new)) }
 {
     let mut count = ReadCount::<L>::new(blank);
     session(alloc, reader, writer, door, shelf, &mut count)
@@ -160,9 +160,9 @@ pub fn serve_door<R: Read, W: Write, D: Door, K: Shelf>(
     ensures { (reads : ℕ)
         × IsSession D.size_of D.asks D.copies reads
         (R.remaining reader.old) (R.remaining reader.new)
-        (place W.contents K.failures K.shelved door.old writer.old shelf.old)
+        (place door.old (W.contents writer.old) (K.failures shelf.old) (K.shelved shelf.old))
         result
-        (place W.contents K.failures K.shelved door.new writer.new shelf.new) }
+        (place door.new (W.contents writer.new) (K.failures shelf.new) (K.shelved shelf.new)) }
 {
     serve_counted::<R, W, D, K, Brand>(alloc, reader, writer, door, shelf, Blank::new(1))
 }

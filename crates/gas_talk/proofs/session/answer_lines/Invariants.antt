@@ -8,9 +8,9 @@ abbrev pub invariant-lines : goal.invariant-lines
 invariant-lines g l =
     (input : List ℕ) (from : Place _)
     → Progress g.D.Door.size_of g.D.Door.asks g.D.Door.copies input from l.fn.lines
-    (place g.W.Write.contents g.K.Shelf.failures g.K.Shelf.shelved l.fn.door l.fn.writer l.fn.shelf)
+    (place l.fn.door (g.W.Write.contents l.fn.writer) (g.K.Shelf.failures l.fn.shelf) (g.K.Shelf.shelved l.fn.shelf))
     → Progress g.D.Door.size_of g.D.Door.asks g.D.Door.copies input from l.lines
-    (place g.W.Write.contents g.K.Shelf.failures g.K.Shelf.shelved l.door l.writer l.shelf)
+    (place l.door (g.W.Write.contents l.writer) (g.K.Shelf.failures l.shelf) (g.K.Shelf.shelved l.shelf))
 
 abbrev pub decreases-lines : goal.decreases-lines
 decreases-lines g l = kept_len l.lines

@@ -10,9 +10,9 @@ abbrev pub invariant-loop-reads : goal.invariant-loop-reads
 invariant-loop-reads g l =
     (input : List ℕ) × Consumes (g.R.Read.remaining l.fn.reader) (g.R.Read.remaining l.reads.reader.now) input
     × AnswersLines g.D.Door.size_of g.D.Door.asks g.D.Door.copies input
-    (place g.W.Write.contents g.K.Shelf.failures g.K.Shelf.shelved l.fn.door l.fn.writer l.fn.shelf)
+    (place l.fn.door (g.W.Write.contents l.fn.writer) (g.K.Shelf.failures l.fn.shelf) (g.K.Shelf.shelved l.fn.shelf))
     None l.lines
-    (place g.W.Write.contents g.K.Shelf.failures g.K.Shelf.shelved l.door l.writer l.shelf)
+    (place l.door (g.W.Write.contents l.writer) (g.K.Shelf.failures l.shelf) (g.K.Shelf.shelved l.shelf))
     × (count : ℕ) × Counts count l.reads.left input × (l.reads.reader.ghost_name ≡ l.initial.reads.reader.ghost_name)
     × (l.reads.count.now ≡ l.fn.count + count) × (l.reads.count.ghost_name ≡ l.initial.reads.count.ghost_name)
     × StopsAtEnd (g.D.Door.size_of l.fn.door) count input
