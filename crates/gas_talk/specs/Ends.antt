@@ -18,7 +18,7 @@ use Rattle.gas_text.specs.Texts.{reply_line}
 use Rattle.gas_talk.specs.declared.end.SessionEnd.{SessionEnd}
 use Rattle.gas_talk.specs.declared.end.SessionEnd.TheVariants.{Quit, InputEnd, ReadFault, WriteFault, BadLine, Memory, TooManyReads}
 use Rattle.gas_talk.specs.Lines.{Item, text, bad, lines}
-use Rattle.gas_talk.specs.Talk.{Put, no_put, put_done, put_failed, TalkLine, Takes, AskCalls, CopyCalls}
+use Rattle.gas_talk.specs.Talk.{Put, no_put, put_done, put_failed, TalkLine, Takes, Calls}
 
 abbrev pub is_quit : Result Request Refusal → Bool
 is_quit (Ok (requests.Ask command)) = false
@@ -164,16 +164,16 @@ place door written failures shelved =
     record { door = door; written = written; failures = failures; shelved = shelved }
 
 -- This holds between the door before a call and the door after it, for every call.
-pub record EachCall {D : Type 0} (asks : AskCalls D) (copies : CopyCalls D)
-    (leads : D → D → Type 0) : Type 0 where
+pub record EachCall {D : Type 0} (door : Calls D) (leads : D → D → Type 0) : Type 0 where
   pub asked : (d : D) (command : Command) (reply : Result Answer Refusal) (e : D)
-      → asks d command reply e → leads d e
-  pub copied : (d : D) (copied : Result Copied NoMemory) (e : D) → copies d copied e → leads d e
+      → door.asks d command reply e → leads d e
+  pub copied : (d : D) (copied : Result Copied NoMemory) (e : D)
+      → door.copies d copied e → leads d e
 
-module _ {D : Type 0} (size_of : D → Extent) (asks : AskCalls D) (copies : CopyCalls D) where
+module _ {D : Type 0} (door : Calls D) where
   -- these talk lines lead from one place to the other, whatever is written
   pub record Leads (old : Place D) (talk_lines : List TalkLine) (new : Place D) : Type 0 where
-    pub talk : FoldsTo (Takes size_of asks copies) old.door talk_lines new.door
+    pub talk : FoldsTo (Takes door) old.door talk_lines new.door
     pub failures : new.failures ≡ failures_after old.failures (failed_puts talk_lines)
     pub shelved : Gains old.shelved new.shelved (shelved_by talk_lines)
 
@@ -184,24 +184,25 @@ module _ {D : Type 0} (size_of : D → Extent) (asks : AskCalls D) (copies : Cop
     pub later : List Item
     pub output : List ℕ
     pub leads : Leads old talk_lines new
-    pub items : until_end (size_of old.door) (lines input)
+    pub items : until_end (door.size_of old.door) (lines input)
         ≡ map (λ talk_line. talk_line.item) talk_lines ++ later
     pub writes : Appends old.written new.written output
-    pub ended : EndsAs (size_of old.door) end (lines input) talk_lines later output
+    pub ended : EndsAs (door.size_of old.door) end (lines input) talk_lines later output
 
-  -- The whole of it: the input is what so many reads gave, and at its end nothing is left unread.
-  pub record IsSession (reads : ℕ) (unread_old unread_new : Option (List ℕ))
+  -- The whole of it: the input is what the reads gave, and at its end nothing is left unread.
+  pub record IsSession (unread_old unread_new : Option (List ℕ))
       (old : Place D) (end : SessionEnd) (new : Place D) : Type 0 where
+    -- how many reads were made, and what they gave
+    pub reads : ℕ
     pub input : List ℕ
     pub given : Consumes unread_old unread_new input
     pub serves : Serves input old end new
     pub whole : end ≡ InputEnd → IsAtEnd unread_new
     pub counted : AreReads reads input end
-    pub stops : StopsAtEnd (size_of old.door) reads input
+    pub stops : StopsAtEnd (door.size_of old.door) reads input
 
   -- This holds between the door before a session and the door after it, for every session.
   abbrev pub EachSession : (D → D → Type 0) → Type 0
   EachSession leads =
-      (reads : ℕ) (unread_old unread_new : Option (List ℕ))
-      (old : Place D) (end : SessionEnd) (new : Place D)
-      → IsSession reads unread_old unread_new old end new → leads old.door new.door
+      (unread_old unread_new : Option (List ℕ)) (old : Place D) (end : SessionEnd) (new : Place D)
+      → IsSession unread_old unread_new old end new → leads old.door new.door

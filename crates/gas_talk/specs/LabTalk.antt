@@ -2,7 +2,7 @@
 use Rattle.std.specs.Prelude.{◌≡◌, ℕ, Bool, true, false, not, ◌&&◌, ◌||◌, List, [], ◌∷◌, ◌++◌, length, map, Option, is_some, Result, Ok, Err}
 use Rattle.std.specs.Io.KnownBytes.{Consumes, Appends, IsAtEnd}
 use Rattle.std.specs.declared.alloc.AllocError.{AllocError as NoMemory}
-use Rattle.gas_terms.specs.Cells.{Extent, extent}
+use Rattle.gas_terms.specs.Cells.{extent}
 use Rattle.gas_terms.specs.Commands.{is_row}
 use Rattle.gas_terms.specs.Laboratory.{Laboratory, Applies, event, reply, cause, takes_memory}
 use Rattle.gas_terms.specs.declared.command.Command.{Command}
@@ -21,7 +21,7 @@ use Rattle.gas_talk.specs.declared.end.SessionEnd.{SessionEnd}
 use Rattle.gas_talk.specs.declared.end.SessionEnd.TheVariants.{InputEnd}
 use Rattle.gas_text.specs.Requests.{request_of}
 use Rattle.gas_talk.specs.Lines.{Item, text, bad, lines}
-use Rattle.gas_talk.specs.Talk.{no_put, put_done, put_failed, TalkLine, replied, reply_to, snapshot, AskCalls, CopyCalls}
+use Rattle.gas_talk.specs.Talk.{no_put, put_done, put_failed, TalkLine, replied, reply_to, snapshot, Calls}
 use Rattle.gas_talk.specs.Ends.{until_end, EndsAs, AreReads, StopsAtEnd, Place, shelved_by, failed_puts, failures_after}
 
 -- whether an item finds what it needs: memory may be refused, or the shelf may fail
@@ -105,13 +105,13 @@ pub record IsTalk (seat : ℕ) (unread_old unread_new : Option (List ℕ))
   pub stops : StopsAtEnd (extent old.door.start.particles) count input
 
 -- A door of a seat whose calls are those of a laboratory that nobody else uses.
-pub record IsAlone {D : Type 0} (size_of : D → Extent) (asks : AskCalls D) (copies : CopyCalls D)
+pub record IsAlone {D : Type 0} (door : Calls D)
     (lab_of : D → Laboratory) (seat_of : D → ℕ) : Type 0 where
-  pub size : (d : D) → size_of d ≡ extent (lab_of d).start.particles
+  pub size : (d : D) → door.size_of d ≡ extent (lab_of d).start.particles
   pub asked : (d : D) (command : Command) (reply : Result Answer Refusal) (e : D)
-      → asks d command reply e
+      → door.asks d command reply e
       → Applies (lab_of d) (entry_of (seat_of d) command) reply (lab_of e) × (seat_of e ≡ seat_of d)
-  pub copied : (d : D) (copied : Result Copied NoMemory) (e : D) → copies d copied e
+  pub copied : (d : D) (copied : Result Copied NoMemory) (e : D) → door.copies d copied e
       → Copies (lab_of d) copied (lab_of e) × (seat_of e ≡ seat_of d)
 
 -- the same place, where a door stands for its laboratory

@@ -4,7 +4,6 @@ use Rattle.std.specs.Prelude.{◌≡◌, ℕ, ◌<◌, ◌≤◌, ◌⊎◌, Lis
 use Rattle.std.specs.Io.KnownBytes.{Appends, Consumes, IsAtEnd, Keeps as KeepsBytes}
 use Rattle.tokio_util.specs.Codec.Next.{Resumes}
 use Rattle.tokio_util.specs.Codec.Lines.{at_line_start, gives_lines}
-use Rattle.gas_terms.specs.Cells.{Extent}
 use Rattle.gas_talk.specs.declared.end.SessionEnd.{SessionEnd}
 use Rattle.gas_talk.specs.declared.end.SessionEnd.TheVariants.{WriteFault}
 use Rattle.gas_talk.specs.declared.reader.LineReader.{LineReader}
@@ -14,7 +13,7 @@ use Rattle.gas_talk.specs.declared.reader.ReadFault.{ReadFault}
 use Rattle.gas_talk.specs.declared.reader.ReadFault.TheVariants as faults
 use Rattle.gas_talk.specs.Ends.{Place, replies, AreUnended, Leads, Serves, read_limit}
 use Rattle.gas_talk.specs.Lines.{lines, text, bad, line_limit}
-use Rattle.gas_talk.specs.Talk.{TalkLine, AskCalls, CopyCalls}
+use Rattle.gas_talk.specs.Talk.{TalkLine, Calls}
 
 -- whatever comes after them, what the reader keeps reads as these bytes at the start of a line
 abbrev pub Keeps : LineReader → List ℕ → Type 0
@@ -72,21 +71,21 @@ WritesPart old new bytes whole =
 abbrev pub EndsWith : List ℕ → SessionEnd → SessionEnd → Type 0
 EndsWith missing wanted end = ((missing ≡ []) × (end ≡ wanted)) ⊎ (end ≡ WriteFault)
 
-module _ {D : Type 0} (size_of : D → Extent) (asks : AskCalls D) (copies : CopyCalls D) where
+module _ {D : Type 0} (door : Calls D) where
   -- Within a session: each item of the input so far is taken, or is an item of what is unread.
   pub record Progress (input : List ℕ)
       (old : Place D) (reader : LineReader) (new : Place D) : Type 0 where
     pub talk_lines : List TalkLine
     pub unread : List ℕ
-    pub leads : Leads size_of asks copies old talk_lines new
+    pub leads : Leads door old talk_lines new
     pub keeps : Keeps reader unread
     pub items : (more : List ℕ) → lines (input ++ more)
         ≡ map (λ talk_line. talk_line.item) talk_lines ++ lines (unread ++ more)
-    pub unended : AreUnended (size_of old.door) talk_lines
+    pub unended : AreUnended (door.size_of old.door) talk_lines
     pub writes : Appends old.written new.written (replies talk_lines)
 
   -- each line so far is answered, or the session is over
   abbrev pub AnswersLines : List ℕ → Place D → Option SessionEnd → LineReader → Place D → Type 0
   AnswersLines input old None reader new =
       (p : Progress input old reader new) × (lines p.unread ≡ [])
-  AnswersLines input old (Some end) reader new = Serves size_of asks copies input old end new
+  AnswersLines input old (Some end) reader new = Serves door input old end new

@@ -47,20 +47,26 @@ Saves (Ok copied) reply put =
     ⊎ ((reply ≡ Refused refusals.Save) × (put ≡ put_failed))
     ⊎ ((reply ≡ Refused refusals.Memory) × (put ≡ no_put))
 
--- how a command may be answered, and how a copy may be made: which door leads to which door
-abbrev pub AskCalls : Type 0 → Type 1
-AskCalls D = D → Command → Result Answer Refusal → D → Type 0
+-- The calls of a door of this type: its size, how a command may be answered, and how a copy may be made. The second door is
+-- the one after the call.
+pub record Calls (D : Type 0) : Type 1 where
+  pub size_of : D → Extent
+  pub asks : D → Command → Result Answer Refusal → D → Type 0
+  pub copies : D → Result Copied NoMemory → D → Type 0
 
-abbrev pub CopyCalls : Type 0 → Type 1
-CopyCalls D = D → Result Copied NoMemory → D → Type 0
+-- the calls of a door with these members
+abbrev pub calls : {D : Type 0} → (D → Extent) → (D → Command → Result Answer Refusal → D → Type 0)
+    → (D → Result Copied NoMemory → D → Type 0) → Calls D
+calls size_of asks copies = record { size_of = size_of; asks = asks; copies = copies }
 
-module _ {D : Type 0} (size_of : D → Extent) (asks : AskCalls D) (copies : CopyCalls D) where
+module _ {D : Type 0} (door : Calls D) where
   -- from the door old a request may be replied to so, and leave the door new
   abbrev pub Requests : D → Request → Reply → Put → D → Type 0
   Requests old (Ask command) reply put new =
-      (r : Result Answer Refusal) × asks old command r new × (reply ≡ reply_to r) × (put ≡ no_put)
+      (r : Result Answer Refusal) × door.asks old command r new
+      × (reply ≡ reply_to r) × (put ≡ no_put)
   Requests old Save reply put new =
-      (copied : Result Copied NoMemory) × copies old copied new × Saves copied reply put
+      (copied : Result Copied NoMemory) × door.copies old copied new × Saves copied reply put
   Requests old Quit reply put new = (reply ≡ Bye) × (put ≡ no_put) × (new ≡ old)
 
   -- the same for what a line was read as
@@ -72,10 +78,11 @@ module _ {D : Type 0} (size_of : D → Extent) (asks : AskCalls D) (copies : Cop
   abbrev pub Replies : D → Item → Reply → Put → D → Type 0
   Replies old (text line) reply put new =
       (read : Result Request Refusal)
-      × Reads read (request_of (size_of old) line) × Answers old read reply put new
+      × Reads read (request_of (door.size_of old) line) × Answers old read reply put new
   Replies old bad reply put new = (reply ≡ Refused refusals.Line) × (put ≡ no_put) × (new ≡ old)
 
   -- one talk line, which leaves the size
   abbrev pub Takes : D → TalkLine → D → Type 0
   Takes old talk_line new =
-      Replies old talk_line.item talk_line.reply talk_line.put new × (size_of new ≡ size_of old)
+      Replies old talk_line.item talk_line.reply talk_line.put new
+      × (door.size_of new ≡ door.size_of old)

@@ -7,7 +7,7 @@ ghost use Rattle.std.specs.declared.alloc.AllocError.{AllocError as NoMemory};
 ghost use Rattle.gas_text.specs.Requests.{request_of};
 ghost use Rattle.gas_text.specs.Texts.{is_bye};
 ghost use Rattle.gas_talk.specs.Lines.{text};
-ghost use Rattle.gas_talk.specs.Talk.{Put, Takes, Saves};
+ghost use Rattle.gas_talk.specs.Talk.{Put, Takes, Saves, calls};
 ghost use Rattle.gas_talk.specs.Ends.{is_quit, bytes_put, failed_by, failures_after};
 
 use gas_lab::{Copied, Door};
@@ -41,7 +41,7 @@ fn save<D: Door, K: Shelf>(alloc: Global, door: &mut D, shelf: &mut K) -> Reply
 
 /// Does what the line asks, and returns the reply: `Bye` exactly if the line asks to quit.
 pub fn reply_of<D: Door, K: Shelf>(alloc: Global, line: &str, door: &mut D, shelf: &mut K) -> Reply
-    ensures taken { (put : Put) × Takes D.size_of D.asks D.copies door.old
+    ensures taken { (put : Put) × Takes (calls D.size_of D.asks D.copies) door.old
         (record { item = text line.now; reply = result; put = put }) door.new
         × (K.failures shelf.new ≡ failures_after (K.failures shelf.old) (failed_by put))
         × Gains (K.shelved shelf.old) (K.shelved shelf.new) (bytes_put put) }

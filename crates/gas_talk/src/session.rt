@@ -4,6 +4,7 @@ ghost use Rattle.std.specs.Prelude.{◌≡◌, ◌≢◌, IfSome, ℕ, List, ◌
 ghost use Rattle.std.specs.Io.KnownBytes.{Appends};
 ghost use Rattle.gas_text.specs.Texts.{reply_line};
 ghost use Rattle.gas_talk.specs.Ends.{Place, place, IsSession};
+ghost use Rattle.gas_talk.specs.Talk.{calls};
 ghost use Rattle.gas_talk.specs.Private.{WritesPart, EndsWith, Progress, AnswersLines};
 
 use crate::end::SessionEnd;
@@ -60,9 +61,9 @@ fn answer_lines<W: Write, D: Door, K: Shelf>(
     page: &mut ReplyPage,
 ) -> Option<SessionEnd>
     ensures answered { (input : List ℕ) (from : Place _)
-        → Progress D.size_of D.asks D.copies input from lines.old
+        → Progress (calls D.size_of D.asks D.copies) input from lines.old
         (place door.old (W.contents writer.old) (K.failures shelf.old) (K.shelved shelf.old))
-        → AnswersLines D.size_of D.asks D.copies input from result lines.new
+        → AnswersLines (calls D.size_of D.asks D.copies) input from result lines.new
         (place door.new (W.contents writer.new) (K.failures shelf.new) (K.shelved shelf.new)) }
     ensures end { IfSome result (λ end. end ≢ SessionEnd.InputEnd) }
     ensures in_time { IfSome result (λ end. end ≢ SessionEnd.TooManyReads) }
@@ -100,12 +101,12 @@ pub fn session<R: Read, W: Write, D: Door, K: Shelf, L: Ledger>(
     shelf: &mut K,
     count: &mut ReadCount<L>,
 ) -> SessionEnd
-    ensures { (reads : ℕ) × (count.new ≡ count.old + reads)
-        × IsSession D.size_of D.asks D.copies reads
+    ensures { (session : IsSession (calls D.size_of D.asks D.copies)
         (R.remaining reader.old) (R.remaining reader.new)
         (place door.old (W.contents writer.old) (K.failures shelf.old) (K.shelved shelf.old))
         result
-        (place door.new (W.contents writer.new) (K.failures shelf.new) (K.shelved shelf.new)) }
+        (place door.new (W.contents writer.new) (K.failures shelf.new) (K.shelved shelf.new)))
+        × (count.new ≡ count.old + session.reads) }
 {
     let mut reads = SessionReads::new(reader, READS, count);
     let mut lines = LineReader::new(alloc);
@@ -138,8 +139,7 @@ fn serve_counted<R: Read, W: Write, D: Door, K: Shelf, L: Ledger>(
 ) -> SessionEnd
     requires name { blank.name ≡ L.name }
     requires parts { (blank.parts ≡ L.parts) × (blank.parts ≡ 1) }
-    ensures { (reads : ℕ)
-        × IsSession D.size_of D.asks D.copies reads
+    ensures { IsSession (calls D.size_of D.asks D.copies)
         (R.remaining reader.old) (R.remaining reader.new)
         (place door.old (W.contents writer.old) (K.failures shelf.old) (K.shelved shelf.old))
         result
@@ -157,8 +157,7 @@ pub fn serve_door<R: Read, W: Write, D: Door, K: Shelf>(
     door: &mut D,
     shelf: &mut K,
 ) -> SessionEnd
-    ensures { (reads : ℕ)
-        × IsSession D.size_of D.asks D.copies reads
+    ensures { IsSession (calls D.size_of D.asks D.copies)
         (R.remaining reader.old) (R.remaining reader.new)
         (place door.old (W.contents writer.old) (K.failures shelf.old) (K.shelved shelf.old))
         result

@@ -2,6 +2,7 @@ use Rattle.std.proofs.Common.{◌≡◌, ℕ, ◌+◌, List, None}
 use Rattle.std.specs.Io.KnownBytes.{Consumes}
 use Rattle.gas_talk.specs.Ends.{place, StopsAtEnd}
 use Rattle.gas_talk.specs.Private.{AnswersLines}
+use Rattle.gas_talk.specs.Talk.{calls}
 use Rattle.gas_talk.proofs.Counting.{Counts}
 use Rattle.gas_talk.proofs.session.session.Given as goal
 
@@ -9,7 +10,7 @@ use Rattle.gas_talk.proofs.session.session.Given as goal
 abbrev pub invariant-loop-reads : goal.invariant-loop-reads
 invariant-loop-reads g l =
     (input : List ℕ) × Consumes (g.R.Read.remaining l.fn.reader) (g.R.Read.remaining l.reads.reader.now) input
-    × AnswersLines g.D.Door.size_of g.D.Door.asks g.D.Door.copies input
+    × AnswersLines (calls g.D.Door.size_of g.D.Door.asks g.D.Door.copies) input
     (place l.fn.door (g.W.Write.contents l.fn.writer) (g.K.Shelf.failures l.fn.shelf) (g.K.Shelf.shelved l.fn.shelf))
     None l.lines
     (place l.door (g.W.Write.contents l.writer) (g.K.Shelf.failures l.shelf) (g.K.Shelf.shelved l.shelf))

@@ -8,5 +8,5 @@ but_for_entries s = record s { entries = 0 }
 
 pub returns-clause-kept : goal.returns-clause-kept
 returns-clause-kept g c =
-    let kept = stays _ _ _ (λ d. but_for_entries d.seat) (λ d command r e h. ap but_for_entries h.1) (λ d r e h. ap but_for_entries h.1) _ _ _ c.serve_door.ensures.1.serves.leads.talk in
+    let kept = stays _ (λ d. but_for_entries d.seat) (λ d command r e h. ap but_for_entries h.1) (λ d r e h. ap but_for_entries h.1) _ _ _ c.serve_door.ensures.serves.leads.talk in
     ap but_for_entries c.end.ensures ∙ kept ∙ ap but_for_entries c.door-door.ensures
