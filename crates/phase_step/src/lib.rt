@@ -1,8 +1,8 @@
 //! Steps of a gas. A `Stepper` makes a phase or a run of phases of a plane; `Serial` does it on the calling thread. An
 //! `Action` changes the particles after each phase of a run, as ports do.
 //!
-//! The program steps by `Stepper::run_with`, forward and back. `Stepper::phase` and `turn_tile_at` are there for callers of the
-//! library.
+//! The program steps by `Stepper::run_with`, forward and back. `Stepper::phase`, `turn_tile_at` and `act_on` are there for
+//! callers of the library.
 #![tactic(auto)]
 
 ghost use Rattle.std.specs.Prelude.{◌≡◌, ◌<◌};

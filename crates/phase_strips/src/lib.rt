@@ -3,8 +3,9 @@
 //! In a run, each worker has a strip of whole rows of tiles, and shows its neighbors the rows of cells at its edges. Short runs,
 //! small lattices and a team of one stay on the calling thread, and so does a single phase.
 //!
-//! The program calls `StripTeam::new` and `Stepper::run_with`. `StripTeam::with_least_run` with its `LeastRun`,
-//! `StripTeam::was_by_strips`, `Stepper::phase` and the accessors are there for callers of the library.
+//! The program calls `StripTeam::new` and `Stepper::run_with`. `StripTeam::with_least_run` with another `LeastRun` than the usual
+//! one, `StripTeam::was_by_strips`, `StripTeam::workers`, `StripTeam::threads` and `Stepper::phase` are there for callers of the
+//! library.
 #![tactic(auto)]
 
 mod runs;
