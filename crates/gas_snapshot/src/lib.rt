@@ -1,7 +1,7 @@
 //! Snapshots: `encode` and `decode` turn a gas into bytes and back, and a `Shelf` keeps the bytes, as in a file.
 //!
-//! The program uses all of it but the module `writer`: `write_to` writes a snapshot without allocating, and is there for
-//! callers of the library.
+//! The program uses all of it but `Shelf::failures` and the module `writer`, where `write_to` writes a snapshot without
+//! allocating. Both are there for callers of the library.
 #![tactic(auto)]
 
 mod cells;
