@@ -1,15 +1,15 @@
 -- The collision at odd parity in place.
-use Rattle.std.proofs.Common.{◌≡◌, ◌⊎◌, ℕ, ◌+◌, ◌-◌, ◌*◌, ◌/◌, ◌%◌, ◌<◌, ◌≤◌, ◌==◌, Bool, false, if◌then◌else◌, List, Option, None, length, get_or, set, refl, sym, subst, ◌∙◌, ap, ap₂, arith, inl, inr, get_or-set_other, get_or-set_same}
+use Rattle.std.proofs.Common.{◌≡◌, ◌⊎◌, ℕ, ◌+◌, ◌-◌, ◌*◌, ◌/◌, ◌%◌, ◌<◌, ◌≤◌, ◌==◌, Bool, false, if◌then◌else◌, List, Option, None, length, replicate, get_or, set, refl, sym, subst, ◌∙◌, ap, ap₂, arith, inl, inr, get_or-set_other, get_or-set_same}
 use Rattle.std.proofs.lemmas.Bool.{cases_eq, cases_lt, eq-eqb, ne_eqb}
 use Rattle.bit_tile.specs.Bit.{bit}
 use Rattle.bit_tile.specs.Tile.{has}
 use Rattle.bit_tile.specs.declared.Tile.{Tile}
-use Rattle.bit_tile.proofs.Bits.{bit-zero}
+use Rattle.bit_tile.proofs.Bits.{bit-zero, get_or-replicate_zero}
 use Rattle.bit_tile.proofs.Classes.{in_even_even, in_odd_even, in_even_odd, in_odd_odd, row_even, row_odd, even_even_at, odd_even_at, even_odd_at, odd_odd_at}
 use Rattle.block_rule.specs.Around.{block_start, is_block_walled, is_walled_at, turned}
 use Rattle.block_rule.specs.Cell.{partner, turned_cell}
 use Rattle.block_rule.specs.Rows.{IsMade, odd_row, eight_row, beside_right}
-use Rattle.block_rule.specs.InPlace.{ShowsBegun, NamesRow, IsRowTurned, IsLeaving, IsInnerSeen, IsSeamSeen, AreNamed, AreRowsSeen, AreCarried, AreEightCarried, AreOthersCarried, AreOthersKept, IsCarried, carried_row, HaveTurned, AreEndsKept}
+use Rattle.block_rule.specs.InPlace.{ShowsBegun, NamesRow, IsRowTurned, IsLeaving, IsInnerSeen, IsSeamSeen, AreNamed, AreRowsSeen, AreCarried, AreEightCarried, AreOthersCarried, AreOthersKept, IsCarried, carried_row, HaveTurned, AreEndsKept, HasOtherCells}
 use Rattle.block_rule.specs.NamedBlocks.{NameBlocks}
 use Rattle.block_rule.specs.Shown.{HasNoCell}
 use Rattle.block_rule.specs.declared.blocks.Blocks.{Blocks}
@@ -192,6 +192,11 @@ all_carried mid new column some others kept = record { first = λ j h. some j (o
 pub first_carried : (old mid : Carry) (column : ℕ → Bool) → IsCarried old column → AreOthersCarried 24 32 old mid → AreCarried 0 24 mid column
 first_carried old mid column are kept j h k = leaving_kept column j _ _ (kept j (inl k)) (are.first j k)
 
+pub none_carried : IsCarried (record { upper = replicate 32 0; lower = replicate 32 0 }) (λ _. false)
+none_carried =
+    let nothing : (p : ℕ) → bit (get_or (replicate {A = ℕ} 32 0) p 0) 31 ≡ false = λ p. ap (λ w. bit w 31) (get_or-replicate_zero 32 p) ∙ bit-zero 31 in
+    record { first = λ j h. record { upper = nothing j; lower = nothing j }; last = λ k h. record { upper = nothing (24 + k); lower = nothing (24 + k) } }
+
 -- a tile's rows of blocks in a window
 module _ (window : ℕ → ℕ → Bool) (t r : Tile) (s : IsInnerSeen window t r) where
   tile_seen : (x y u v : ℕ) (b : Bool) → x < 64 → 1 ≤ y → y < 63 → x + 1 ≡ u → y + 1 ≡ v → has t x y ≡ b → window u v ≡ b
@@ -305,6 +310,58 @@ bottom_rest t odd even x y h k = grind (arith, cases_eq, in_even_even, in_even_o
 
 pub top_rest : (t : Tile) (odd even : ℕ) (x y : ℕ) → x < 64 → 1 ≤ y → y < 64 → has (record { even_even = set t.even_even 0 even; odd_even = set t.odd_even 0 odd; even_odd = t.even_odd; odd_odd = t.odd_odd }) x y ≡ has t x y
 top_rest t odd even x y h low k = grind (arith, cases_eq, in_even_even, in_even_odd, in_odd_even, in_odd_odd, get_or-set_other)
+
+-- a tile after what comes from the left is put into one of its rows of blocks
+abbrev first_put : Tile → ℕ → ℕ → ℕ → Tile
+first_put t j upper lower = record { even_even = set t.even_even (j + 1) lower; odd_even = t.odd_even; even_odd = set t.even_odd j upper; odd_odd = t.odd_odd }
+
+module _ (t : Tile) (j upper lower : ℕ) (coming : Beside) (is_upper : (i : ℕ) → i < 32 → bit upper i ≡ (if i == 0 then bit coming.upper 31 else bit (get_or t.even_odd j 0) i)) (is_lower : (i : ℕ) → i < 32 → bit lower i ≡ (if i == 0 then bit coming.lower 31 else bit (get_or t.even_even (j + 1) 0) i))
+    (small : j < 31) (in_upper : j < length t.even_odd) (in_lower : j + 1 < length t.even_even) where
+  upper_first : has (first_put t j upper lower) 0 (2 * j + 1) ≡ bit coming.upper 31
+  upper_first = even_odd_at (first_put t j upper lower) 0 j ∙ (ap (λ w. bit w 0) (get_or-set_same t.even_odd j upper 0 in_upper) ∙ is_upper 0 (omega arith))
+
+  lower_first : has (first_put t j upper lower) 0 (2 * (j + 1)) ≡ bit coming.lower 31
+  lower_first = even_even_at (first_put t j upper lower) 0 (j + 1) ∙ (ap (λ w. bit w 0) (get_or-set_same t.even_even (j + 1) lower 0 in_lower) ∙ is_lower 0 (omega arith))
+
+  upper_left : (i m : ℕ) → i < 32 → (i ≡ 0 → m ≡ j → ⊥) → bit (get_or (set t.even_odd j upper) m 0) i ≡ bit (get_or t.even_odd m 0) i
+  upper_left i m h other =
+      elim (cases_eq m j) [
+        | inl e ↦ ap (λ n. bit (get_or (set t.even_odd j upper) n 0) i) e ∙ (ap (λ w. bit w i) (get_or-set_same t.even_odd j upper 0 in_upper) ∙ (is_upper i h ∙ (rw (ne_eqb i 0 (λ z. other z e)) (ap (λ n. bit (get_or t.even_odd n 0) i) (sym e)))))
+        | inr ne ↦ ap (λ w. bit w i) (get_or-set_other t.even_odd j m upper 0 ne)
+      ]
+
+  lower_left : (i m : ℕ) → i < 32 → (i ≡ 0 → m ≡ j + 1 → ⊥) → bit (get_or (set t.even_even (j + 1) lower) m 0) i ≡ bit (get_or t.even_even m 0) i
+  lower_left i m h other =
+      elim (cases_eq m (j + 1)) [
+        | inl e ↦ ap (λ n. bit (get_or (set t.even_even (j + 1) lower) n 0) i) e ∙ (ap (λ w. bit w i) (get_or-set_same t.even_even (j + 1) lower 0 in_lower) ∙ (is_lower i h ∙ (rw (ne_eqb i 0 (λ z. other z e)) (ap (λ n. bit (get_or t.even_even n 0) i) (sym e)))))
+        | inr ne ↦ ap (λ w. bit w i) (get_or-set_other t.even_even (j + 1) m lower 0 ne)
+      ]
+
+  others_left : HasOtherCells (2 * j) (2 * (j + 1)) t (first_put t j upper lower)
+  others_left x y h k other =
+      elim (cases_eq (x % 2) 0) [
+        | inl even_x ↦ elim (cases_eq (y % 2) 0) [
+          | inl even_y ↦ in_even_even (first_put t j upper lower) x y even_x even_y ∙ (lower_left (x / 2) (y / 2) (omega arith) (λ z e. other (omega (arith, z, even_x)) (omega (arith, e, even_y)) (omega (arith, e, even_y))) ∙ sym (in_even_even t x y even_x even_y))
+          | inr ne ↦ in_even_odd (first_put t j upper lower) x y even_x (omega (arith, ne)) ∙ (upper_left (x / 2) (y / 2) (omega arith) (λ z e. other (omega (arith, z, even_x)) (omega (arith, e, ne)) (omega (arith, e, ne))) ∙ sym (in_even_odd t x y even_x (omega (arith, ne))))
+        ]
+        | inr odd_x ↦ elim (cases_eq (y % 2) 0) [
+          | inl even_y ↦ in_odd_even (first_put t j upper lower) x y (omega (arith, odd_x)) even_y ∙ sym (in_odd_even t x y (omega (arith, odd_x)) even_y)
+          | inr ne ↦ in_odd_odd (first_put t j upper lower) x y (omega (arith, odd_x)) (omega (arith, ne)) ∙ sym (in_odd_odd t x y (omega (arith, odd_x)) (omega (arith, ne)))
+        ]
+      ]
+
+  pub column_more : (column : ℕ → Bool) (from : ℕ) → from ≤ j → ((y : ℕ) → 2 * from < y → y ≤ 2 * j → has t 0 y ≡ column y) → IsLeaving coming column j → (y : ℕ) → 2 * from < y → y ≤ 2 * (j + 1) → has (first_put t j upper lower) 0 y ≡ column y
+  column_more column from low before here y above below =
+      elim (cases_eq y (2 * j + 1)) [
+        | inl e ↦ subst (λ n. has (first_put t j upper lower) 0 n ≡ column n) (sym e) (upper_first ∙ here.upper)
+        | inr ne ↦ elim (cases_eq y (2 * j + 2)) [
+          | inl e ↦ subst (λ n. has (first_put t j upper lower) 0 n ≡ column n) (sym e) (ap (has (first_put t j upper lower) 0) (let z : 2 * j + 2 ≡ 2 * (j + 1) = omega arith in z) ∙ (lower_first ∙ here.lower))
+          | inr more ↦ others_left 0 y (omega arith) (omega (arith, small, below)) (λ z l h. absurd (omega (arith, ne, more, l, h))) ∙ before y above (omega (arith, ne, more, below))
+        ]
+      ]
+
+  pub others_more : (old : Tile) (from : ℕ) → from ≤ j → HasOtherCells (2 * from) (2 * j) old t → HasOtherCells (2 * from) (2 * (j + 1)) old (first_put t j upper lower)
+  others_more old from low before x y h k other = others_left x y h k (λ z l m. other z (omega (arith, l, low)) m) ∙ before x y h k (λ z l m. other z l (omega (arith, m)))
 
 -- the words of walled blocks that begin in a tile
 pub begins_named : (from to : ℕ) (begins ends : ℕ → ℕ) (solid : ℕ → ℕ → Bool) → to ≤ 32 → NameBlocks begins ends solid → AreNamed from to begins solid

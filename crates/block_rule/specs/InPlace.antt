@@ -3,7 +3,7 @@ use Rattle.std.specs.Prelude.{◌≡◌, ℕ, ◌+◌, ◌*◌, ◌<◌, ◌≤�
 use Rattle.bit_tile.specs.Bit.{bit}
 use Rattle.bit_tile.specs.Tile.{has}
 use Rattle.bit_tile.specs.declared.Tile.{Tile}
-use Rattle.block_rule.specs.Around.{is_block_walled}
+use Rattle.block_rule.specs.Around.{is_block_walled, turned}
 use Rattle.block_rule.specs.Rows.{odd_row, beside_right}
 use Rattle.block_rule.specs.declared.blocks.Blocks.{Blocks}
 use Rattle.block_rule.specs.declared.blocks.Beside.{Beside}
@@ -28,6 +28,10 @@ pub record IsRowTurned (new : Blocks) (test : ℕ → ℕ → Bool) (j : ℕ) : 
   pub upper_right : (i : ℕ) → i < 32 → bit new.upper_right i ≡ test (2 * i) (2 * j + 1)
   pub lower_left : (i : ℕ) → i < 32 → bit new.lower_left i ≡ test (2 * i + 1) (2 * j + 2)
   pub lower_right : (i : ℕ) → i < 32 → bit new.lower_right i ≡ test (2 * i) (2 * j + 2)
+
+-- The cells after the phase, but for a tile's first column: its cells come from the tile to the left.
+abbrev pub TurnsInto : (ℕ → ℕ → Bool) → (ℕ → ℕ → Bool) → (ℕ → ℕ → Bool) → Type 0
+TurnsInto window solid after = (x y : ℕ) → 1 ≤ x → after x y ≡ turned 1 window solid x y
 
 -- what is carried into a column, of which the test tells the cell in each of the tile's rows
 pub record IsLeaving (carried : Beside) (column : ℕ → Bool) (j : ℕ) : Type 0 where
@@ -92,3 +96,7 @@ pub record AreEndsKept (old new : Tile) : Type 0 where
   pub top_odd : slice_index new.odd_even 0 ≡ slice_index old.odd_even 0
   pub bottom_even : slice_index new.even_odd 31 ≡ slice_index old.even_odd 31
   pub bottom_odd : slice_index new.odd_odd 31 ≡ slice_index old.odd_odd 31
+
+-- All cells are as before but those of the first column, in the rows after `from` up to `to`.
+abbrev pub HasOtherCells : ℕ → ℕ → Tile → Tile → Type 0
+HasOtherCells from to old new = (x y : ℕ) → x < 64 → y < 64 → (x ≡ 0 → from < y → y ≤ to → ⊥) → has new x y ≡ has old x y

@@ -117,3 +117,11 @@ pub fn previous(row: u32, left: u32) -> u32
 {
     (row << 1) | (left >> 31)
 }
+
+/// A class's cells, of which the first comes from the tile to the left.
+#[inline]
+pub fn with_first(row: u32, left: u32) -> u32
+    ensures { (i : ℕ) → i < 32 → bit result i ≡ (if i == 0 then bit left 31 else bit row i) }
+{
+    previous(next(row, 0), left)
+}

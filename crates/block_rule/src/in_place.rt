@@ -7,10 +7,10 @@ ghost use Rattle.bit_tile.specs.Tile.{has};
 ghost use Rattle.block_rule.specs.Around.{turned};
 ghost use Rattle.block_rule.specs.TileBlocks.{AreGivenBlocks, NamesBlocks, walled_by};
 ghost use Rattle.block_rule.specs.Rows.{odd_row, eight_row, beside_right};
-ghost use Rattle.block_rule.specs.InPlace.{ShowsBegun, NamesRow, IsRowTurned, IsLeaving, IsInnerSeen, IsSeamSeen, AreRowsSeen, AreNamed, AreCarried, AreEightCarried, AreOthersCarried, AreOthersKept, IsCarried, carried_row, eight_leaving, HaveTurned, AreEndsKept};
+ghost use Rattle.block_rule.specs.InPlace.{ShowsBegun, NamesRow, TurnsInto, IsRowTurned, IsLeaving, IsInnerSeen, IsSeamSeen, AreRowsSeen, AreNamed, AreCarried, AreEightCarried, AreOthersCarried, AreOthersKept, IsCarried, carried_row, eight_leaving, HaveTurned, AreEndsKept, HasOtherCells};
 
 use crate::apply_rule::write_eight;
-use crate::blocks::{Beside, Blocks, EightRows, collided, next, previous};
+use crate::blocks::{Beside, Blocks, EightRows, collided, next, previous, with_first};
 use crate::blocks_in_tile::SetBlocks;
 use crate::walled::{NoBlocks, OfSet, Walled, bits_from};
 use bit_tile::Tile;
@@ -44,9 +44,9 @@ pub struct TurnedRow {
 /// tile to the left carries on.
 #[inline(always)]
 pub fn turned_row(own: Blocks, right: Beside, walled: u32, coming: Beside) -> TurnedRow
-    ensures own { (window solid : ℕ → ℕ → Bool) (j : ℕ) → ShowsBegun window j own right →
-        NamesRow walled solid j → IsLeaving coming (turned 1 window solid 0) j →
-        IsRowTurned result.own (turned 1 window solid) j }
+    ensures own { (window solid after : ℕ → ℕ → Bool) (j : ℕ) → TurnsInto window solid after →
+        ShowsBegun window j own right → NamesRow walled solid j → IsLeaving coming (after 0) j →
+        IsRowTurned result.own after j }
     ensures leaving { (window solid : ℕ → ℕ → Bool) (j : ℕ) → ShowsBegun window j own right →
         NamesRow walled solid j → IsLeaving result.leaving (turned 1 window solid 64) j }
 {
@@ -118,11 +118,11 @@ fn turned_eight<W: Walled>(
     carry: &Carry,
 ) -> TurnedEight
     requires { (from + 8 ≤ 31) × (at + 8 ≤ 32) }
-    ensures turned { (window solid : ℕ → ℕ → Bool) →
+    ensures turned { (window solid after : ℕ → ℕ → Bool) → TurnsInto window solid after →
         AreRowsSeen from (from + 8) window tile.now right.now →
         AreNamed from (from + 8) (W.begins walled) solid →
-        AreEightCarried from at carry.now (turned 1 window solid 0) →
-        (k : ℕ) → k < 8 → IsRowTurned (eight_row result.own k) (turned 1 window solid) (from + k) }
+        AreEightCarried from at carry.now (after 0) →
+        (k : ℕ) → k < 8 → IsRowTurned (eight_row result.own k) after (from + k) }
     ensures leaving { (window solid : ℕ → ℕ → Bool) →
         AreRowsSeen from (from + 8) window tile.now right.now →
         AreNamed from (from + 8) (W.begins walled) solid →
@@ -179,11 +179,11 @@ fn turned_on<W: Walled>(
     carry: &mut Carry,
 ) -> EightRows
     requires { (from + 8 ≤ 31) × (at + 8 ≤ 32) }
-    ensures turned { (window solid : ℕ → ℕ → Bool) →
+    ensures turned { (window solid after : ℕ → ℕ → Bool) → TurnsInto window solid after →
         AreRowsSeen from (from + 8) window tile.now right.now →
         AreNamed from (from + 8) (W.begins walled) solid →
-        AreEightCarried from at carry.old (turned 1 window solid 0) →
-        (k : ℕ) → k < 8 → IsRowTurned (eight_row result k) (turned 1 window solid) (from + k) }
+        AreEightCarried from at carry.old (after 0) →
+        (k : ℕ) → k < 8 → IsRowTurned (eight_row result k) after (from + k) }
     ensures leaving { (window solid : ℕ → ℕ → Bool) →
         AreRowsSeen from (from + 8) window tile.now right.now →
         AreNamed from (from + 8) (W.begins walled) solid →
@@ -198,9 +198,10 @@ fn turned_on<W: Walled>(
 // The rows of blocks 0 to 23 among no walled blocks, in one loop that the compiler makes vectors of.
 #[inline(always)]
 fn turn_rows(tile: &mut Tile, right: &Tile, carry: &mut Carry)
-    ensures turned { (window solid : ℕ → ℕ → Bool) → AreRowsSeen 0 24 window tile.old right.now →
-        AreNamed 0 24 (λ _. 0) solid → AreCarried 0 24 carry.old (turned 1 window solid 0) →
-        HaveTurned 0 24 tile.new (turned 1 window solid) }
+    ensures turned { (window solid after : ℕ → ℕ → Bool) → TurnsInto window solid after →
+        AreRowsSeen 0 24 window tile.old right.now →
+        AreNamed 0 24 (λ _. 0) solid → AreCarried 0 24 carry.old (after 0) →
+        HaveTurned 0 24 tile.new after }
     ensures leaving { (window solid : ℕ → ℕ → Bool) → AreRowsSeen 0 24 window tile.old right.now →
         AreNamed 0 24 (λ _. 0) solid → AreCarried 0 24 carry.new (turned 1 window solid 64) }
     ensures ends { AreEndsKept tile.old tile.new }
@@ -227,9 +228,10 @@ fn turn_rows(tile: &mut Tile, right: &Tile, carry: &mut Carry)
 // all are whole vectors. It is made before its words are written.
 #[inline(always)]
 fn turn_free(tile: &mut Tile, right: &Tile, carry: &mut Carry)
-    ensures turned { (window solid : ℕ → ℕ → Bool) → IsInnerSeen window tile.old right.now →
-        AreNamed 0 31 (λ _. 0) solid → IsCarried carry.old (turned 1 window solid 0) →
-        (x y : ℕ) → x < 64 → 1 ≤ y → y < 63 → has tile.new x y ≡ turned 1 window solid x y }
+    ensures turned { (window solid after : ℕ → ℕ → Bool) → TurnsInto window solid after →
+        IsInnerSeen window tile.old right.now →
+        AreNamed 0 31 (λ _. 0) solid → IsCarried carry.old (after 0) →
+        (x y : ℕ) → x < 64 → 1 ≤ y → y < 63 → has tile.new x y ≡ after x y }
     ensures leaving { (window solid : ℕ → ℕ → Bool) → IsInnerSeen window tile.old right.now →
         AreNamed 0 31 (λ _. 0) solid → IsCarried carry.new (turned 1 window solid 64) }
     ensures top { (x : ℕ) → x < 64 → has tile.new x 0 ≡ has tile.old x 0 }
@@ -244,11 +246,11 @@ fn turn_free(tile: &mut Tile, right: &Tile, carry: &mut Carry)
 #[inline(always)]
 fn turn_eight<W: Walled>(walled: W, from: usize, tile: &mut Tile, right: &Tile, carry: &mut Carry)
     requires { from + 8 ≤ 24 }
-    ensures turned { (window solid : ℕ → ℕ → Bool) →
+    ensures turned { (window solid after : ℕ → ℕ → Bool) → TurnsInto window solid after →
         AreRowsSeen from (from + 8) window tile.old right.now →
         AreNamed from (from + 8) (W.begins walled) solid →
-        AreCarried from (from + 8) carry.old (turned 1 window solid 0) →
-        HaveTurned from (from + 8) tile.new (turned 1 window solid) }
+        AreCarried from (from + 8) carry.old (after 0) →
+        HaveTurned from (from + 8) tile.new after }
     ensures leaving { (window solid : ℕ → ℕ → Bool) →
         AreRowsSeen from (from + 8) window tile.old right.now →
         AreNamed from (from + 8) (W.begins walled) solid →
@@ -270,11 +272,11 @@ fn turn_eight_among(
     carry: &mut Carry,
 )
     requires { from + 8 ≤ 24 }
-    ensures turned { (window solid : ℕ → ℕ → Bool) →
+    ensures turned { (window solid after : ℕ → ℕ → Bool) → TurnsInto window solid after →
         AreRowsSeen from (from + 8) window tile.old right.now →
         NamesBlocks set.entry.rows set.entry.blocks.now (walled_by solid) →
-        AreCarried from (from + 8) carry.old (turned 1 window solid 0) →
-        HaveTurned from (from + 8) tile.new (turned 1 window solid) }
+        AreCarried from (from + 8) carry.old (after 0) →
+        HaveTurned from (from + 8) tile.new after }
     ensures leaving { (window solid : ℕ → ℕ → Bool) →
         AreRowsSeen from (from + 8) window tile.old right.now →
         NamesBlocks set.entry.rows set.entry.blocks.now (walled_by solid) →
@@ -292,10 +294,11 @@ fn turn_eight_among(
 // All of them.
 #[inline(always)]
 fn turn_first(set: SetBlocks<'_>, tile: &mut Tile, right: &Tile, carry: &mut Carry)
-    ensures turned { (window solid : ℕ → ℕ → Bool) → AreRowsSeen 0 24 window tile.old right.now →
+    ensures turned { (window solid after : ℕ → ℕ → Bool) → TurnsInto window solid after →
+        AreRowsSeen 0 24 window tile.old right.now →
         NamesBlocks set.entry.rows set.entry.blocks.now (walled_by solid) →
-        AreCarried 0 24 carry.old (turned 1 window solid 0) →
-        HaveTurned 0 24 tile.new (turned 1 window solid) }
+        AreCarried 0 24 carry.old (after 0) →
+        HaveTurned 0 24 tile.new after }
     ensures leaving { (window solid : ℕ → ℕ → Bool) → AreRowsSeen 0 24 window tile.old right.now →
         NamesBlocks set.entry.rows set.entry.blocks.now (walled_by solid) →
         AreCarried 0 24 carry.new (turned 1 window solid 64) }
@@ -310,10 +313,11 @@ fn turn_first(set: SetBlocks<'_>, tile: &mut Tile, right: &Tile, carry: &mut Car
 // The rows of blocks 23 to 30 after they have turned.
 #[inline(always)]
 fn turned_last(set: SetBlocks<'_>, tile: &Tile, right: &Tile, carry: &mut Carry) -> EightRows
-    ensures turned { (window solid : ℕ → ℕ → Bool) → AreRowsSeen 23 31 window tile.now right.now →
+    ensures turned { (window solid after : ℕ → ℕ → Bool) → TurnsInto window solid after →
+        AreRowsSeen 23 31 window tile.now right.now →
         NamesBlocks set.entry.rows set.entry.blocks.now (walled_by solid) →
-        AreEightCarried 23 24 carry.old (turned 1 window solid 0) →
-        (k : ℕ) → k < 8 → IsRowTurned (eight_row result k) (turned 1 window solid) (23 + k) }
+        AreEightCarried 23 24 carry.old (after 0) →
+        (k : ℕ) → k < 8 → IsRowTurned (eight_row result k) after (23 + k) }
     ensures leaving { (window solid : ℕ → ℕ → Bool) → AreRowsSeen 23 31 window tile.now right.now →
         NamesBlocks set.entry.rows set.entry.blocks.now (walled_by solid) →
         AreEightCarried 23 24 carry.new (turned 1 window solid 64) }
@@ -329,10 +333,11 @@ fn turned_last(set: SetBlocks<'_>, tile: &Tile, right: &Tile, carry: &mut Carry)
 // Among walled blocks as one call, which the loops without walls don't hold.
 #[inline(never)]
 fn turn_apart(set: SetBlocks<'_>, tile: &mut Tile, right: &Tile, carry: &mut Carry)
-    ensures turned { (window solid : ℕ → ℕ → Bool) → IsInnerSeen window tile.old right.now →
+    ensures turned { (window solid after : ℕ → ℕ → Bool) → TurnsInto window solid after →
+        IsInnerSeen window tile.old right.now →
         NamesBlocks set.entry.rows set.entry.blocks.now (walled_by solid) →
-        IsCarried carry.old (turned 1 window solid 0) →
-        (x y : ℕ) → x < 64 → 1 ≤ y → y < 63 → has tile.new x y ≡ turned 1 window solid x y }
+        IsCarried carry.old (after 0) →
+        (x y : ℕ) → x < 64 → 1 ≤ y → y < 63 → has tile.new x y ≡ after x y }
     ensures leaving { (window solid : ℕ → ℕ → Bool) → IsInnerSeen window tile.old right.now →
         NamesBlocks set.entry.rows set.entry.blocks.now (walled_by solid) →
         IsCarried carry.new (turned 1 window solid 64) }
@@ -342,25 +347,6 @@ fn turn_apart(set: SetBlocks<'_>, tile: &mut Tile, right: &Tile, carry: &mut Car
     let last = turned_last(set, tile, right, carry);
     turn_first(set, tile, right, carry);
     write_eight(&last, 23, tile);
-}
-
-// What a tile carries on, without turning it.
-#[inline(always)]
-fn carried_among<W: Walled>(walled: W, tile: &Tile, right: &Tile) -> Carry
-    ensures { (window solid : ℕ → ℕ → Bool) → IsInnerSeen window tile.now right.now →
-        AreNamed 0 31 (W.begins walled) solid → IsCarried result (turned 1 window solid 64) }
-{
-    let mut carry = Carry::ZERO;
-    let none = Beside { upper: 0, lower: 0 };
-    for j in 0..24usize {
-        let own = begun_row(tile, j);
-        let beside = right_row(right, j);
-        let row = turned_row(own, beside, walled.begin(j + 1), none);
-        carry.upper[j] = row.leaving.upper;
-        carry.lower[j] = row.leaving.lower;
-    }
-    turned_on(walled, 23, 24, tile, right, &mut carry);
-    carry
 }
 
 /// The row of blocks that begin in a tile's last row and end in the tiles below.
@@ -413,25 +399,16 @@ pub fn put_top(tile: &mut Tile, row: &Blocks)
     tile.even_even[0] = row.lower_right;
 }
 
-// The same among walled blocks, as one call.
-#[inline(never)]
-fn carried_apart(set: SetBlocks<'_>, tile: &Tile, right: &Tile) -> Carry
-    ensures { (window solid : ℕ → ℕ → Bool) → IsInnerSeen window tile.now right.now →
-        NamesBlocks set.entry.rows set.entry.blocks.now (walled_by solid) →
-        IsCarried result (turned 1 window solid 64) }
-{
-    carried_among(OfSet { set }, tile, right)
-}
-
 /// Turns, in place, the rows of odd blocks that begin in a tile and end in its row of tiles: its rows 1 to 62. `walled` names the
 /// walled blocks, and `right` is the tile to the right as it was before the phase. `carry` has what the tile to the left carries
 /// on, and gets what this one does.
 #[inline(always)]
 pub fn turn_inner(walled: Option<SetBlocks<'_>>, tile: &mut Tile, right: &Tile, carry: &mut Carry)
-    ensures turned { (window solid : ℕ → ℕ → Bool) → IsInnerSeen window tile.old right.now →
+    ensures turned { (window solid after : ℕ → ℕ → Bool) → TurnsInto window solid after →
+        IsInnerSeen window tile.old right.now →
         AreGivenBlocks walled.entry (walled_by solid) →
-        IsCarried carry.old (turned 1 window solid 0) →
-        (x y : ℕ) → x < 64 → 1 ≤ y → y < 63 → has tile.new x y ≡ turned 1 window solid x y }
+        IsCarried carry.old (after 0) →
+        (x y : ℕ) → x < 64 → 1 ≤ y → y < 63 → has tile.new x y ≡ after x y }
     ensures leaving { (window solid : ℕ → ℕ → Bool) → IsInnerSeen window tile.old right.now →
         AreGivenBlocks walled.entry (walled_by solid) →
         IsCarried carry.new (turned 1 window solid 64) }
@@ -444,17 +421,34 @@ pub fn turn_inner(walled: Option<SetBlocks<'_>>, tile: &mut Tile, right: &Tile, 
     }
 }
 
-/// What a tile carries on. A row of tiles begins with what its last tile carries on to the first.
+// Puts what comes from the left into the first column, in some rows of blocks from row `from` on. The carry has it from place `at`
+// on.
 #[inline(always)]
-pub fn carried_on(walled: Option<SetBlocks<'_>>, tile: &Tile, right: &Tile) -> Carry
-    ensures { (window solid : ℕ → ℕ → Bool) → IsInnerSeen window tile.now right.now →
-        AreGivenBlocks walled.entry (walled_by solid) →
-        IsCarried result (turned 1 window solid 64) }
+fn put_rows(tile: &mut Tile, carry: &Carry, from: usize, at: usize, rows: usize)
+    requires { (from + rows ≤ 31) × (at + rows ≤ 32) }
+    ensures column { (column : ℕ → Bool) →
+        ((k : ℕ) → k < rows → IsLeaving (carried_row carry.now (at + k)) column (from + k)) →
+        (y : ℕ) → 2 * from < y → y ≤ 2 * (from + rows) → has tile.new 0 y ≡ column y }
+    ensures others { HasOtherCells (2 * from) (2 * (from + rows)) tile.old tile.new }
 {
-    match walled {
-        None => carried_among(NoBlocks, tile, right),
-        Some(set) => carried_apart(set, tile, right),
+    for k in 0..rows {
+        let j = from + k;
+        let upper = with_first(tile.even_odd[j], carry.upper[at + k]);
+        let lower = with_first(tile.even_even[j + 1], carry.lower[at + k]);
+        tile.even_odd[j] = upper;
+        tile.even_even[j + 1] = lower;
     }
+}
+
+/// Puts what the last tile of a row carries on into the first column of the first one, in its rows 1 to 62.
+#[inline(always)]
+pub fn put_first_column(tile: &mut Tile, carry: &Carry)
+    ensures column { (column : ℕ → Bool) → IsCarried carry.now column →
+        (y : ℕ) → 1 ≤ y → y < 63 → has tile.new 0 y ≡ column y }
+    ensures others { HasOtherCells 0 62 tile.old tile.new }
+{
+    put_rows(tile, carry, 0, 0, 24);
+    put_rows(tile, carry, 23, 24, 8);
 }
 
 /// Turns the row of blocks that begin in a tile's last row. `coming` is what the row of blocks in the tile to the left carries on.

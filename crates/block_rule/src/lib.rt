@@ -22,7 +22,8 @@ use bit_tile::Tile;
 pub use blocks::Beside;
 pub use blocks_in_tile::{OddBlocks, SetBlocks, TileBlocks, tile_blocks};
 pub use in_place::{
-    Carry, SeamRow, TurnedRow, carried_on, put_bottom, put_top, seam_row, turn_inner, turned_seam,
+    Carry, SeamRow, TurnedRow, put_bottom, put_first_column, put_top, seam_row, turn_inner,
+    turned_seam,
 };
 pub use one_tile::{turn_block, turn_tile};
 use tile_border::Round;

@@ -5,7 +5,7 @@ use crate::gases::pair;
 use crate::lattices::same_cells;
 use bit_tile::Tile;
 use block_rule::{
-    Beside, Carry, Counted, SetBlocks, TileBlocks, Window, carried_on, put_bottom, put_top,
+    Beside, Carry, Counted, SetBlocks, TileBlocks, Window, put_bottom, put_first_column, put_top,
     seam_row, taken_among, tile_blocks, turn_block, turn_inner, turn_tile, turn_tile_even,
     turn_tile_odd, turned_seam,
 };
@@ -345,8 +345,9 @@ fn walls_and_obstacles_turn_particles_back(rt: HostRuntime) {
 fn particles_are_carried_on_along_a_row_of_tiles(rt: HostRuntime) {
     let mut tile = tile_of([(1, 1), (63, 5), (20, 0), (20, 63)].as_slice());
     let right = tile_of([(0, 10)].as_slice());
-    let left = tile_of([(63, 3), (63, 49)].as_slice());
-    let mut carry = carried_on(None, &left, &tile);
+    let mut left = tile_of([(63, 3), (63, 49)].as_slice());
+    let mut carry = Carry::ZERO;
+    turn_inner(None, &mut left, &tile, &mut carry);
     turn_inner(None, &mut tile, &right, &mut carry);
     // Rows 0 and 63 stay for the rows of tiles above and below.
     let cells = [(2, 2), (63, 9), (0, 4), (0, 50), (20, 0), (20, 63)].as_slice();
@@ -362,6 +363,19 @@ fn particles_are_carried_on_along_a_row_of_tiles(rt: HostRuntime) {
     let mut carry = Carry::ZERO;
     turn_inner(given(&named), &mut tile, &right, &mut carry);
     expect_that(&rt, has_just(&tile, [(63, 5), (63, 9)].as_slice()));
+}
+
+/// A row of tiles is closed when its last tile has turned. A particle from (63, 3) goes to (0, 4) of the first one, and one from its
+/// (0, 9) comes to (63, 10). Other columns stay, and so do rows 0 and 63.
+#[test]
+fn the_first_column_gets_what_the_last_tile_carries_on(rt: HostRuntime) {
+    let mut first = tile_of([(0, 9), (5, 5), (0, 0)].as_slice());
+    let mut last = tile_of([(63, 3)].as_slice());
+    let mut carry = Carry::ZERO;
+    turn_inner(None, &mut last, &first, &mut carry);
+    expect_that(&rt, has_just(&last, [(63, 10)].as_slice()));
+    put_first_column(&mut first, &carry);
+    expect_that(&rt, has_just(&first, [(0, 4), (5, 5), (0, 0)].as_slice()));
 }
 
 /// The blocks that begin in row 63 end in the tile below. A particle from (7, 63) goes to (8, 0) there, one from (12, 0) there to

@@ -1,17 +1,20 @@
 -- The rows of cells 1 to 62 of a row of tiles, turned tile by tile.
-use Rattle.std.proofs.Common.{◌≡◌, ℕ, ◌+◌, ◌*◌, ◌/◌, ◌%◌, ◌<◌, ◌≤◌, Bool, true, refl, sym, ap, ◌∙◌, subst, arith, inl, inr}
-use Rattle.std.proofs.lemmas.Bool.{cases_eq}
+use Rattle.std.proofs.Common.{◌≡◌, ℕ, ◌+◌, ◌*◌, ◌/◌, ◌%◌, ◌<◌, ◌≤◌, ◌==◌, Bool, true, false, if◌then◌else◌, refl, sym, ap, ◌∙◌, subst, arith, inl, inr}
+use Rattle.std.proofs.lemmas.Bool.{cases_eq, eq-eqb, ne_eqb}
 use Rattle.bit_tile.specs.Tile as tile
 use Rattle.bit_tile.specs.declared.Tile.{Tile}
 use Rattle.gas_terms.specs.Cells.{Cells, has, extent, is_size}
 use Rattle.gas_plane.proofs.Places.{IsWholeTiles, wide, high, cell_below}
-use Rattle.block_rule.specs.InPlace.{IsInnerSeen, IsCarried}
+use Rattle.block_rule.specs.InPlace.{TurnsInto, IsCarried}
 use Rattle.block_rule.specs.TileBlocks.{AreGivenBlocks, walled_by}
 use Rattle.block_rule.specs.declared.in_place.Carry.{Carry}
-use Rattle.phase_step.specs.OddPhase.{IsInnerTurned, IsEdge, IsRowThere, HasInner, after_tiles, AreInnersTurned, IsInnerRowTurned}
+use Rattle.phase_step.specs.OddPhase.{IsInnerTurned, IsFirstPut, IsEdge, IsRowThere, HasInner, after_tiles, AreInnersTurned, IsInnerRowTurned}
 use Rattle.phase_step.specs.declared.odd_phase.RowPlace.{RowPlace}
 use Rattle.phase_step.specs.declared.odd_phase.RowTurner.{RowTurner}
-use Rattle.phase_step.proofs.RowWindows.{carried_alike, next_cells, window, walls_there, rule, across, some_columns, turned_there, seen_there, column_in, around_column, around_row, around_before, after_inside, after_last, inside_in, begin_is, around_after, edge}
+use Rattle.phase_step.proofs.RowWindows.{carried_alike, next_cells, window, walls_there, rule, across, some_columns, turned_there, seen_there, column_in, around_column, around_row, around_before, after_inside, after_last, inside_in, around_after, edge}
+
+if_false : (b : Bool) (c : Bool) → b ≡ false → (if b then false else c) ≡ c
+if_false b c e = rw e refl
 
 module _ (place : RowPlace) (column : ℕ) (solid old lattice : Cells) (is : IsRowThere place solid old lattice) (less : column < lattice.width / 64) (sized : is_size (extent old) ≡ true) (low : place.row < old.height / 64) (ready : HasInner place lattice.width old lattice) where
   abbrev next : Cells
@@ -44,24 +47,15 @@ module _ (place : RowPlace) (column : ℕ) (solid old lattice : Cells) (is : IsR
   leaves_at : (y : ℕ) → 1 ≤ y → y < 63 → made_of 64 y ≡ has next (after_tiles next (column + 1)) (place.there * 64 + y)
   leaves_at y k l = turned_there place column solid old lattice is less 64 y _ _ (omega arith) (omega (arith, l)) (around_after place column solid old lattice is less) (around_row place column solid old lattice is less y (omega (arith, l)))
 
-  -- the last tile of a row, before any has turned
-  module _ (last : column + 1 ≡ lattice.width / 64) (first : Tile) (are : (y : ℕ) → 1 ≤ y → y < 63 → tile.has first 0 y ≡ has old 0 (place.row * 64 + y)) where
-    pub last_seen : (t : Tile) → ((x y : ℕ) → x < 64 → y < 64 → tile.has t x y ≡ has old (column * 64 + x) (place.row * 64 + y)) → IsInnerSeen shown t first
-    last_seen t of_t =
-        record {
-          tile = λ x y h k l. seen_own x y h k l ∙ (sym (ready (column * 64 + x) y (column_in place column solid old lattice is less x h) k l) ∙ sym (of_t x y h (omega (arith, l))));
-          right = λ y k l. seen_edge y k l ∙ (ap (λ c. has lattice c (place.there * 64 + y)) (after_last place column solid old lattice is less last) ∙ (sym (ready 0 y (some_columns place column solid old lattice is less) k l) ∙ sym (are y k l)));
-        }
+  -- What becomes of its cells. The row's first column has none yet.
+  abbrev after_of : ℕ → ℕ → Bool
+  after_of x y = if column == 0 then (if x == 0 then false else made_of x y) else made_of x y
 
-    -- what is carried on from it
-    pub row_begun : (carry : Carry) → IsCarried carry (made_of 64) → AreInnersTurned place 0 next old old carry
-    row_begun carry carried =
-        record {
-          sides = record { wide = refl; high = refl };
-          made = λ x y h. absurd (omega (arith, h));
-          rest = λ x y h k other. refl;
-          carried = carried_alike carry (made_of 64) _ (λ y k l. leaves_at y k l ∙ ap (λ c. has next c (place.there * 64 + y)) (sym (begin_is place column solid old lattice is less last))) carried;
-        }
+  after_is : (x y : ℕ) → (column ≡ 0 → x ≡ 0 → ⊥) → after_of x y ≡ made_of x y
+  after_is x y ne = elim (cases_eq column 0) [ inl e ↦ rw (eq-eqb column 0 e, ne_eqb x 0 (ne e)) refl | inr n ↦ rw (ne_eqb column 0 n) refl ]
+
+  is_after : TurnsInto shown (walls_there place column solid old lattice is less) after_of
+  is_after x y some = after_is x y (λ _ e. absurd (omega (arith, e, some)))
 
   module _ (now : Cells) (carry : Carry) (so_far : AreInnersTurned place column next old now carry) where
     same_width : now.width ≡ lattice.width
@@ -87,8 +81,10 @@ module _ (place : RowPlace) (column : ℕ) (solid old lattice : Cells) (is : IsR
         }
 
     -- what comes from the tile to the left
-    carried_in : IsCarried carry (made_of 0)
-    carried_in = carried_alike carry _ (made_of 0) (λ y k l. sym (turned_there place column solid old lattice is less 0 y _ _ (omega arith) (omega (arith, l)) (around_before place column solid old lattice is less) (around_row place column solid old lattice is less y (omega (arith, l))))) so_far.carried
+    carried_in : IsCarried carry (after_of 0)
+    carried_in =
+        carried_alike carry _ (after_of 0)
+        (λ y k l. ap (λ b. if column == 0 then false else b) (sym (turned_there place column solid old lattice is less 0 y _ _ (omega arith) (omega (arith, l)) (around_before place column solid old lattice is less) (around_row place column solid old lattice is less y (omega (arith, l)))))) so_far.carried
 
     -- one more tile has turned
     pub inner_next : (before after : RowTurner) (new : Cells) → before.carry ≡ carry → IsInnerTurned place.row column beside before after now new
@@ -100,28 +96,59 @@ module _ (place : RowPlace) (column : ℕ) (solid old lattice : Cells) (is : IsR
         λ x y h k. inner.others x y (subst (λ w. x < w) (sym so_far.sides.wide) h) (subst (λ n. y < n) (sym so_far.sides.high) k) in
         record {
           sides = record { wide = inner.sides.wide ∙ so_far.sides.wide; high = inner.sides.high ∙ so_far.sides.high };
-          made = λ x y h k l.
+          made = λ x y some h k l.
               elim (cases_eq (x / 64) column) [
                 | inl e ↦
                     let at : column * 64 + x % 64 ≡ x = omega (arith, e) in
                     subst (λ u. has new u (place.row * 64 + y) ≡ has next u (place.there * 64 + y)) at
-                    (inner.cells shown (walls_there place column solid old lattice is less) own_inner seen_edge given (subst (λ c. IsCarried c (made_of 0)) (sym same_carry) carried_in) (x % 64) y (omega arith) k l
-                    ∙ turned_there place column solid old lattice is less (x % 64) y _ _ (omega arith) (omega (arith, l)) (around_column place column solid old lattice is less (x % 64) (omega arith)) (around_row place column solid old lattice is less y (omega (arith, l))))
+                    (inner.cells shown (walls_there place column solid old lattice is less) after_of is_after own_inner seen_edge given (subst (λ c. IsCarried c (after_of 0)) (sym same_carry) carried_in) (x % 64) y (omega arith) k l
+                    ∙ (after_is (x % 64) y (λ z w. absurd (omega (arith, at, some, z, w))) ∙ turned_there place column solid old lattice is less (x % 64) y _ _ (omega arith) (omega (arith, l)) (around_column place column solid old lattice is less (x % 64) (omega arith)) (around_row place column solid old lattice is less y (omega (arith, l)))))
                 | inr ne ↦
                     other x (place.row * 64 + y) (let w = is.wide in omega (arith, h, less, t, w)) (row_in y (omega (arith, l))) (λ e. absurd (ne e))
-                    ∙ so_far.made x y (omega (arith, h, ne)) k l
+                    ∙ so_far.made x y some (omega (arith, h, ne)) k l
               ];
           rest = λ x y h k not_in.
               other x y h k (λ e f g l. not_in (omega (arith, e)) (f, (g, l)))
               ∙ so_far.rest x y h k (λ below. not_in (omega (arith, below)));
-          carried = carried_alike after.carry (made_of 64) _ leaves_at (inner.leaving shown (walls_there place column solid old lattice is less) own_inner seen_edge given);
+          carried = carried_alike after.carry (made_of 64) _ (λ y k l. leaves_at y k l ∙ sym (if_false (column + 1 == 0) _ (ne_eqb (column + 1) 0 (λ e. omega (arith, e))))) (inner.leaving shown (walls_there place column solid old lattice is less) own_inner seen_edge given);
         }
 
--- when all tiles have turned
-pub inner_row : (place : RowPlace) (column : ℕ) (next old now : Cells) (carry : Carry) → is_size (extent next) ≡ true → column ≡ next.width / 64 → AreInnersTurned place column next old now carry → IsInnerRowTurned place next old now
-inner_row place column next old now carry sized all is =
-    let end : column * 64 ≡ next.width = ap (λ n. n * 64) all ∙ (wide (extent next) sized).tiles in
+-- before any tile has turned
+pub row_begun : (place : RowPlace) (next old : Cells) (carry : Carry) → IsCarried carry (λ _. false) → AreInnersTurned place 0 next old old carry
+row_begun place next old carry none =
     record {
-      made = λ x y h. is.made x y (subst (λ n. x < n) (sym end) h);
-      rest = λ x y h k other. is.rest x y h k (λ _. other);
+      sides = record { wide = refl; high = refl };
+      made = λ x y some h. absurd (omega (arith, h));
+      rest = λ x y h k other. refl;
+      carried = none;
     }
+
+-- when all tiles have turned, and what the last one carries on is in the first column
+module _ (place : RowPlace) (column : ℕ) (next old now new : Cells) (carry : Carry) (of_next : next.width ≡ old.width) (sized : is_size (extent old) ≡ true) (low : place.row < old.height / 64) (all : column ≡ next.width / 64) (so_far : AreInnersTurned place column next old now carry) (put : IsFirstPut place.row carry now new) where
+  whole : IsWholeTiles next.width
+  whole = subst IsWholeTiles (sym of_next) (wide (extent old) sized)
+
+  end : column * 64 ≡ next.width
+  end = ap (λ n. n * 64) all ∙ whole.tiles
+
+  is_first : IsCarried carry (λ y. has next 0 (place.there * 64 + y))
+  is_first =
+      let some = whole.some in
+      let e : (column == 0) ≡ false = ne_eqb column 0 (λ z. omega (arith, all, z, some)) in
+      let f : after_tiles next column ≡ 0 = rw (eq-eqb column (next.width / 64) all) refl in
+      carried_alike carry _ (λ y. has next 0 (place.there * 64 + y)) (λ y k l. if_false (column == 0) _ e ∙ ap (λ c. has next c (place.there * 64 + y)) f) so_far.carried
+
+  pub inner_row : IsInnerRowTurned place next old new
+  inner_row =
+      record {
+        made = λ x y h k l.
+            elim (cases_eq x 0) [
+              | inl e ↦ subst (λ u. has new u (place.row * 64 + y) ≡ has next u (place.there * 64 + y)) (sym e) (put.column (λ y. has next 0 (place.there * 64 + y)) is_first y k l)
+              | inr ne ↦
+                  put.others x (place.row * 64 + y) (subst (λ n. x < n) (sym (so_far.sides.wide ∙ sym of_next)) h) (subst (λ n. place.row * 64 + y < n) (sym so_far.sides.high) (cell_below old.height place.row y (high (extent old) sized) low (omega (arith, l)))) (λ e. absurd (ne e))
+                  ∙ so_far.made x y (omega (arith, ne)) (subst (λ n. x < n) (sym end) h) k l
+            ];
+        rest = λ x y h k other.
+            put.others x y (subst (λ n. x < n) (sym so_far.sides.wide) h) (subst (λ n. y < n) (sym so_far.sides.high) k) (λ e f g l. other (f, (g, l)))
+            ∙ so_far.rest x y h k (λ _. other);
+      }

@@ -8,9 +8,10 @@ use Rattle.gas_terms.specs.Cells.{Cells, HasSidesOf, has, extent, is_size, tile_
 use Rattle.gas_plane.specs.Planes.{IsTileFrom, with_tile, tile_of}
 use Rattle.gas_plane.proofs.Places.{wide, high, cell_below, tile_below}
 use Rattle.gas_plane.specs.Beside.{IsTurnedBeside}
-use Rattle.block_rule.specs.InPlace.{IsRowTurned, IsInnerSeen, IsSeamSeen}
+use Rattle.block_rule.specs.InPlace.{IsRowTurned, IsInnerSeen, IsSeamSeen, IsCarried, HasOtherCells}
 use Rattle.block_rule.specs.declared.blocks.Blocks.{Blocks}
-use Rattle.phase_step.specs.OddPhase.{TurnsInner, IsSeamPut, IsInnerTurned, IsEdge}
+use Rattle.block_rule.specs.declared.in_place.Carry.{Carry}
+use Rattle.phase_step.specs.OddPhase.{TurnsInner, IsSeamPut, IsInnerTurned, IsFirstPut, IsEdge}
 use Rattle.phase_step.specs.declared.odd_phase.RowTurner.{RowTurner}
 use Rattle.phase_step.proofs.MadeCells.{with_here, with_other}
 
@@ -46,9 +47,9 @@ module _ (cells : Cells) (row column i : ℕ) (t : Tile) (sized : is_size (exten
   pub tile_from : (old : Tile) → (let r = tile_rectangle cells i in IsTileFrom old cells r.x r.y) → (x y : ℕ) → x < 64 → y < 64 → tile.has old x y ≡ has cells (column * 64 + x) (row * 64 + y)
   tile_from old is x y h k = is.cell x y h k ∙ ap₂ (λ u v. has cells (u + x) (v + y)) is_column is_row
 
-  -- one whose cells are as before where a test of its rows says no
-  pub tile_others : (old : Tile) (P : ℕ → Type 0) → (let r = tile_rectangle cells i in IsTileFrom old cells r.x r.y) → ((x y : ℕ) → x < 64 → y < 64 → (P y → ⊥) → tile.has t x y ≡ tile.has old x y)
-      → (x y : ℕ) → x < cells.width → y < cells.height → (x / 64 ≡ column → y / 64 ≡ row → P (y % 64) → ⊥) → has (with_tile cells i t) x y ≡ has cells x y
+  -- one whose cells are as before where a test of its columns and rows says no
+  pub tile_others : (old : Tile) (P : ℕ → ℕ → Type 0) → (let r = tile_rectangle cells i in IsTileFrom old cells r.x r.y) → ((x y : ℕ) → x < 64 → y < 64 → (P x y → ⊥) → tile.has t x y ≡ tile.has old x y)
+      → (x y : ℕ) → x < cells.width → y < cells.height → (x / 64 ≡ column → y / 64 ≡ row → P (x % 64) (y % 64) → ⊥) → has (with_tile cells i t) x y ≡ has cells x y
   tile_others old P is kept x y h k other =
       elim (cases_eq (x / 64) column) [
         | inl e ↦ elim (cases_eq (y / 64) row) [
@@ -74,9 +75,9 @@ seam_put cells row below column i d words old bottom upper top sized low low_bel
     let across = wide (extent cells) sized in
     let down = high (extent cells) sized in
     let first_rest : (x y : ℕ) → x < cells.width → y < cells.height → (x / 64 ≡ column → y / 64 ≡ row → y % 64 ≡ 63 → ⊥) → has mid x y ≡ has cells x y =
-    tile_others cells row column i bottom sized low less place old (λ y. y ≡ 63) of_old (λ x y h k ne. bottom_rest x y h (let s : y ≡ 63 → ⊥ = ne in elim (cases_eq y 63) [ inl e ↦ absurd (s e) | inr n ↦ omega (arith, n, k) ])) in
+    tile_others cells row column i bottom sized low less place old (λ _ y. y ≡ 63) of_old (λ x y h k ne. bottom_rest x y h (let s : y ≡ 63 → ⊥ = ne in elim (cases_eq y 63) [ inl e ↦ absurd (s e) | inr n ↦ omega (arith, n, k) ])) in
     let second_rest : (x y : ℕ) → x < cells.width → y < cells.height → (x / 64 ≡ column → y / 64 ≡ below → y % 64 ≡ 0 → ⊥) → has (with_tile mid d top) x y ≡ has mid x y =
-    tile_others mid below column d top sized low_below less place_below upper (λ y. y ≡ 0) of_upper (λ x y h k ne. top_rest x y h (elim (cases_eq y 0) [ inl e ↦ absurd (ne e) | inr n ↦ omega (arith, n) ]) k) in
+    tile_others mid below column d top sized low_below less place_below upper (λ _ y. y ≡ 0) of_upper (λ x y h k ne. top_rest x y h (elim (cases_eq y 0) [ inl e ↦ absurd (ne e) | inr n ↦ omega (arith, n) ]) k) in
     record {
       sides = record { wide = refl; high = refl };
       bottom = λ test is x h.
@@ -101,10 +102,10 @@ inner_turned cells row column i t r made before after edge sized low less place 
     record {
       sides = record { wide = refl; high = refl };
       walled = turns.walled;
-      cells = λ window solid own beside given carried x y h k l. tile_here cells row column i made sized low less place x y h (omega (arith, l)) ∙ turns.cells window solid (seen window own beside) given carried x y h k l;
+      cells = λ window solid after are own beside given carried x y h k l. tile_here cells row column i made sized low less place x y h (omega (arith, l)) ∙ turns.cells window solid after are (seen window own beside) given carried x y h k l;
       leaving = λ window solid own beside. turns.leaving window solid (seen window own beside);
       others = λ x y h k other.
-          tile_others cells row column i made sized low less place t (λ y. (1 ≤ y) × (y < 63)) of_t
+          tile_others cells row column i made sized low less place t (λ _ y. (1 ≤ y) × (y < 63)) of_t
           (λ x y h k not_inner.
           elim (cases_eq y 0) [
             | inl e ↦ subst (λ y. tile.has made x y ≡ tile.has t x y) (sym e) (turns.top x h)
@@ -114,6 +115,21 @@ inner_turned cells row column i t r made before after edge sized low less place 
             ]
           ])
           x y h k (λ e f g. other e f g.0 g.1);
+    }
+
+-- the first column
+pub first_put : (cells : Cells) (row i : ℕ) (old made : Tile) (carry : Carry) → is_size (extent cells) ≡ true → row < cells.height / 64 → i ≡ row * (cells.width / 64) → (let r = tile_rectangle cells i in IsTileFrom old cells r.x r.y)
+    → ((column : ℕ → Bool) → IsCarried carry column → (y : ℕ) → 1 ≤ y → y < 63 → tile.has made 0 y ≡ column y) → HasOtherCells 0 62 old made → IsFirstPut row carry cells (with_tile cells i made)
+first_put cells row i old made carry sized low place of_old put kept =
+    let some = (wide (extent cells) sized).some in
+    let at : i ≡ row * (cells.width / 64) + 0 = omega (arith, place) in
+    record {
+      sides = record { wide = refl; high = refl };
+      column = λ column is y k l. tile_here cells row 0 i made sized low some at 0 y (omega arith) (omega (arith, l)) ∙ put column is y k l;
+      others = λ x y h k other.
+          tile_others cells row 0 i made sized low some at old (λ x y. (x ≡ 0) × ((1 ≤ y) × (y < 63))) of_old
+          (λ x y h k not_first. kept x y h k (λ e l m. not_first (e, (l, omega (arith, m)))))
+          x y h k (λ e f g. other (omega (arith, e, g.0)) f g.1.0 g.1.1);
     }
 
 -- beside the next tile

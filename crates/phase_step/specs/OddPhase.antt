@@ -1,6 +1,6 @@
 -- The phase of parity 1 in place. The blocks that begin in a tile's rows 1 to 61 lie in its row of tiles. Those that begin in its last
 -- row end in the first row of the tiles below.
-use Rattle.std.specs.Prelude.{◌≡◌, ◌⊎◌, ℕ, ◌+◌, ◌-◌, ◌*◌, ◌/◌, ◌%◌, ◌<◌, ◌≤◌, ◌==◌, Bool, true, if◌then◌else◌}
+use Rattle.std.specs.Prelude.{◌≡◌, ◌⊎◌, ℕ, ◌+◌, ◌-◌, ◌*◌, ◌/◌, ◌%◌, ◌<◌, ◌≤◌, ◌==◌, Bool, true, false, if◌then◌else◌}
 use Rattle.bit_tile.specs.Bit.{bit}
 use Rattle.bit_tile.specs.Tile as tile
 use Rattle.bit_tile.specs.declared.Tile.{Tile}
@@ -8,7 +8,7 @@ use Rattle.gas_terms.specs.Cells.{Cells, HasSidesOf, has, extent, is_size, tile_
 use Rattle.gas_terms.specs.Gas.{streamed}
 use Rattle.gas_plane.specs.Planes.{IsLattice}
 use Rattle.block_rule.specs.Around.{turned}
-use Rattle.block_rule.specs.InPlace.{ShowsBegun, IsInnerSeen, IsRowTurned, IsCarried}
+use Rattle.block_rule.specs.InPlace.{ShowsBegun, TurnsInto, IsInnerSeen, IsRowTurned, IsCarried}
 use Rattle.block_rule.specs.TileBlocks.{AreGivenBlocks, walled_by}
 use Rattle.block_rule.specs.declared.blocks.Blocks.{Blocks}
 use Rattle.block_rule.specs.declared.blocks.Beside.{Beside}
@@ -20,8 +20,8 @@ use Rattle.phase_step.specs.declared.odd_phase.RowTurner.{RowTurner}
 
 -- what a turner makes of a tile beside the one to its right, and what it carries on
 pub record TurnsInner (before : RowTurner) (t r made : Tile) (after : RowTurner) : Type 0 where
-  pub cells : (window solid : ℕ → ℕ → Bool) → IsInnerSeen window t r → AreGivenBlocks before.walled (walled_by solid) → IsCarried before.carry (turned 1 window solid 0)
-      → (x y : ℕ) → x < 64 → 1 ≤ y → y < 63 → tile.has made x y ≡ turned 1 window solid x y
+  pub cells : (window solid after : ℕ → ℕ → Bool) → TurnsInto window solid after → IsInnerSeen window t r → AreGivenBlocks before.walled (walled_by solid) → IsCarried before.carry (after 0)
+      → (x y : ℕ) → x < 64 → 1 ≤ y → y < 63 → tile.has made x y ≡ after x y
   pub leaving : (window solid : ℕ → ℕ → Bool) → IsInnerSeen window t r → AreGivenBlocks before.walled (walled_by solid) → IsCarried after.carry (turned 1 window solid 64)
   pub top : (x : ℕ) → x < 64 → tile.has made x 0 ≡ tile.has t x 0
   pub bottom : (x : ℕ) → x < 64 → tile.has made x 63 ≡ tile.has t x 63
@@ -31,12 +31,19 @@ pub record TurnsInner (before : RowTurner) (t r made : Tile) (after : RowTurner)
 pub record IsInnerTurned (row column : ℕ) (edge : ℕ → Bool) (before after : RowTurner) (old new : Cells) : Type 0 where
   pub sides : HasSidesOf new old
   pub walled : after.walled ≡ before.walled
-  pub cells : (window solid : ℕ → ℕ → Bool) → ((x y : ℕ) → x < 64 → 1 ≤ y → y < 63 → window (x + 1) (y + 1) ≡ has old (column * 64 + x) (row * 64 + y)) → ((y : ℕ) → 1 ≤ y → y < 63 → window 65 (y + 1) ≡ edge y)
-      → AreGivenBlocks before.walled (walled_by solid) → IsCarried before.carry (turned 1 window solid 0)
-      → (x y : ℕ) → x < 64 → 1 ≤ y → y < 63 → has new (column * 64 + x) (row * 64 + y) ≡ turned 1 window solid x y
+  pub cells : (window solid after : ℕ → ℕ → Bool) → TurnsInto window solid after
+      → ((x y : ℕ) → x < 64 → 1 ≤ y → y < 63 → window (x + 1) (y + 1) ≡ has old (column * 64 + x) (row * 64 + y)) → ((y : ℕ) → 1 ≤ y → y < 63 → window 65 (y + 1) ≡ edge y)
+      → AreGivenBlocks before.walled (walled_by solid) → IsCarried before.carry (after 0)
+      → (x y : ℕ) → x < 64 → 1 ≤ y → y < 63 → has new (column * 64 + x) (row * 64 + y) ≡ after x y
   pub leaving : (window solid : ℕ → ℕ → Bool) → ((x y : ℕ) → x < 64 → 1 ≤ y → y < 63 → window (x + 1) (y + 1) ≡ has old (column * 64 + x) (row * 64 + y)) → ((y : ℕ) → 1 ≤ y → y < 63 → window 65 (y + 1) ≡ edge y)
       → AreGivenBlocks before.walled (walled_by solid) → IsCarried after.carry (turned 1 window solid 64)
   pub others : (x y : ℕ) → x < old.width → y < old.height → (x / 64 ≡ column → y / 64 ≡ row → 1 ≤ y % 64 → y % 64 < 63 → ⊥) → has new x y ≡ has old x y
+
+-- What comes from the left was put into the first column of a row of tiles, in its rows of cells 1 to 62.
+pub record IsFirstPut (row : ℕ) (carry : Carry) (old new : Cells) : Type 0 where
+  pub sides : HasSidesOf new old
+  pub column : (column : ℕ → Bool) → IsCarried carry column → (y : ℕ) → 1 ≤ y → y < 63 → has new 0 (row * 64 + y) ≡ column y
+  pub others : (x y : ℕ) → x < old.width → y < old.height → (x ≡ 0 → y / 64 ≡ row → 1 ≤ y % 64 → y % 64 < 63 → ⊥) → has new x y ≡ has old x y
 
 -- what stands to the right of a tile in its rows 1 to 62: in the next tile, and for the last one of a row in the first one as it was
 pub record IsEdge (row column : ℕ) (first : Tile) (cells : Cells) (edge : ℕ → Bool) : Type 0 where
@@ -107,12 +114,12 @@ abbrev pub after_tiles : Cells → ℕ → ℕ
 after_tiles lattice column = if column == lattice.width / 64 then 0 else column * 64
 
 -- So many tiles of the row have turned within it: those cells are the next lattice's, all others are as before, and what is carried on
--- is the next column.
+-- is the next column. The first column waits for what the last tile carries on, and has no cells until then.
 pub record AreInnersTurned (place : RowPlace) (column : ℕ) (next old now : Cells) (carry : Carry) : Type 0 where
   pub sides : HasSidesOf now old
-  pub made : HasInner place (column * 64) now next
+  pub made : (x y : ℕ) → 1 ≤ x → x < column * 64 → 1 ≤ y → y < 63 → has now x (place.row * 64 + y) ≡ has next x (place.there * 64 + y)
   pub rest : (x y : ℕ) → x < old.width → y < old.height → (x < column * 64 → IsInnerOf place y → ⊥) → has now x y ≡ has old x y
-  pub carried : IsCarried carry (λ y. has next (after_tiles next column) (place.there * 64 + y))
+  pub carried : IsCarried carry (λ y. if column == 0 then false else has next (after_tiles next column) (place.there * 64 + y))
 
 -- the same across the seam
 pub record AreSeamsTurned (place : RowPlace) (column : ℕ) (next old now : Cells) (coming : Beside) : Type 0 where

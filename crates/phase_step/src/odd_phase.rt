@@ -4,12 +4,12 @@
 ghost use Rattle.std.specs.Prelude.{◌≡◌, ℕ, ◌+◌, ◌*◌, ◌/◌, ◌<◌, ◌≤◌, Bool};
 ghost use Rattle.gas_terms.specs.Cells.{Cells, HasSidesOf, tile_count};
 ghost use Rattle.gas_terms.specs.Gas.{streamed};
-ghost use Rattle.phase_step.specs.OddPhase.{TurnsInner, IsSeamPut, IsInnerTurned, IsEdge, IsSeamEdge, ShowsSeam, IsRowThere, HasInner, HasSeam, IsInnerRowTurned, IsSeamRowTurned};
+ghost use Rattle.phase_step.specs.OddPhase.{TurnsInner, IsSeamPut, IsInnerTurned, IsFirstPut, IsEdge, IsSeamEdge, ShowsSeam, IsRowThere, HasInner, HasSeam, IsInnerRowTurned, IsSeamRowTurned};
 ghost use Rattle.phase_step.specs.Solid.{all_of};
 
 use crate::steps::KnownSolid;
 use block_rule::{
-    Beside, Carry, SeamRow, SetBlocks, TurnedRow, carried_on, put_bottom, put_top, seam_row,
+    Beside, Carry, SeamRow, SetBlocks, TurnedRow, put_bottom, put_first_column, put_top, seam_row,
     turn_inner, turned_seam,
 };
 use gas_plane::{Plane, Tile, Turner};
@@ -64,7 +64,19 @@ fn turn_inner_at(
     }
 }
 
-/// Turns the blocks that lie in a row of tiles: its rows of cells 1 to 62.
+// Puts what the last tile of a row carries on into the first one.
+#[inline(always)]
+fn put_first(particles: &mut Plane, across: u32, row: u32, carry: &Carry)
+    requires across { across ≡ particles.old.width / 64 }
+    requires row { row < particles.old.height / 64 }
+    ensures { IsFirstPut row carry.now particles.old particles.new }
+{
+    particles.shows_lattice();
+    put_first_column(particles.tile_mut(row * across), carry);
+}
+
+/// Turns the blocks that lie in a row of tiles: its rows of cells 1 to 62. What the last tile carries on is known at the end: so the
+/// first one turns as if nothing came, and gets its first column then.
 #[inline(always)]
 pub fn turn_inner_row(particles: &mut Plane, known: KnownSolid<'_>, place: RowPlace)
     requires row { place.row < particles.old.height / 64 }
@@ -80,16 +92,17 @@ pub fn turn_inner_row(particles: &mut Plane, known: KnownSolid<'_>, place: RowPl
     let across = particles.across();
     let row = place.row;
     let there = place.there * across;
-    let last = across - 1;
     let first = *particles.tile(row * across);
-    let walled = known.in_tile(there + last);
-    let carry = carried_on(walled, particles.tile(row * across + last), &first);
-    let mut turner = RowTurner { walled, carry };
+    let mut turner = RowTurner {
+        walled: None,
+        carry: Carry::ZERO,
+    };
     for column in 0..across {
         let walled = known.in_tile(there + column);
         turner.walled = walled;
         turn_inner_at(particles, across, row, column, &first, &mut turner);
     }
+    put_first(particles, across, row, &turner.carry);
 }
 
 // The words of the row of blocks that begins in a tile's last row. `first` is the row's first tile as it was before the phase, and

@@ -4,13 +4,12 @@ use Rattle.block_rule.proofs.InPlace.{rows_seen, cells_turned, all_turned, all_c
 use Rattle.block_rule.proofs.in_place.turn_apart.Goals as goal
 
 pub returns-clause-turned : goal.returns-clause-turned
-returns-clause-turned c = λ window solid seen named carried.
-    let test = turned 1 window solid in
+returns-clause-turned c = λ window solid after are seen named carried.
     let shown = rows_seen window c.args.tile.now c.args.right.now seen in
-    cells_turned c.write_eight.new.out test
-    (all_turned test c.turn_first.new.tile c.write_eight.new.out c.turned_last-last.result
-    (c.turn_first.ensures.turned window solid (shown 0 24 (omega arith)) named (first_carried c.args.carry.now _ (test 0) carried c.turned_last-last.ensures.others))
-    (c.turned_last-last.ensures.turned window solid (shown 23 31 (omega arith)) named carried.last) c.write_eight.ensures.rows c.write_eight.ensures.upper_rest c.write_eight.ensures.lower_rest)
+    cells_turned c.write_eight.new.out after
+    (all_turned after c.turn_first.new.tile c.write_eight.new.out c.turned_last-last.result
+    (c.turn_first.ensures.turned window solid after are (shown 0 24 (omega arith)) named (first_carried c.args.carry.now _ (after 0) carried c.turned_last-last.ensures.others))
+    (c.turned_last-last.ensures.turned window solid after are (shown 23 31 (omega arith)) named carried.last) c.write_eight.ensures.rows c.write_eight.ensures.upper_rest c.write_eight.ensures.lower_rest)
 
 pub returns-clause-leaving : goal.returns-clause-leaving
 returns-clause-leaving c = λ window solid seen named.

@@ -4,10 +4,10 @@ use Rattle.block_rule.proofs.InPlace.{eight_turned, rows_kept, places_from, plac
 use Rattle.block_rule.proofs.in_place.turn_eight.Goals as goal
 
 pub returns-clause-turned : goal.returns-clause-turned
-returns-clause-turned g c = λ window solid seen named coming.
+returns-clause-turned g c = λ window solid after are seen named coming.
     let w = c.write_eight.ensures in
-    eight_turned c.args.from c.args.tile.now c.write_eight.new.out c.turned_on-rows.result w.rows w.upper_rest w.lower_rest (turned 1 window solid)
-    (c.turned_on-rows.ensures.turned window solid seen named (places_from c.args.from _ (turned 1 window solid 0) coming))
+    eight_turned c.args.from c.args.tile.now c.write_eight.new.out c.turned_on-rows.result w.rows w.upper_rest w.lower_rest after
+    (c.turned_on-rows.ensures.turned window solid after are seen named (places_from c.args.from _ (after 0) coming))
 
 pub returns-clause-leaving : goal.returns-clause-leaving
 returns-clause-leaving g c = λ window solid seen named. places_to c.args.from _ (turned 1 window solid 64) (c.turned_on-rows.ensures.leaving window solid seen named)

@@ -3,10 +3,10 @@ use Rattle.block_rule.proofs.InPlace.{rows_free, set_given}
 use Rattle.block_rule.proofs.in_place.turn_eight_among.Goals as goal
 
 pub returns-then-bits_from-eq0-clause-turned : goal.returns-then-bits_from-eq0-clause-turned
-returns-then-bits_from-eq0-clause-turned c = λ window solid seen named. c.turn_eight.ensures.turned window solid seen (rows_free c.args.set c.args.from (c.args.from + 8) solid (omega arith) named (c.bits_from.ensures c.if-bits_from-eq0.true))
+returns-then-bits_from-eq0-clause-turned c = λ window solid after are seen named. c.turn_eight.ensures.turned window solid after are seen (rows_free c.args.set c.args.from (c.args.from + 8) solid (omega arith) named (c.bits_from.ensures c.if-bits_from-eq0.true))
 
 pub returns-else-bits_from-eq0-clause-turned : goal.returns-else-bits_from-eq0-clause-turned
-returns-else-bits_from-eq0-clause-turned c = λ window solid seen named. c.turn_eight-else-bits_from-eq0.ensures.turned window solid seen (set_given c.args.set c.args.from (c.args.from + 8) solid (omega arith) named)
+returns-else-bits_from-eq0-clause-turned c = λ window solid after are seen named. c.turn_eight-else-bits_from-eq0.ensures.turned window solid after are seen (set_given c.args.set c.args.from (c.args.from + 8) solid (omega arith) named)
 
 pub returns-then-bits_from-eq0-clause-leaving : goal.returns-then-bits_from-eq0-clause-leaving
 returns-then-bits_from-eq0-clause-leaving c = λ window solid seen named. c.turn_eight.ensures.leaving window solid seen (rows_free c.args.set c.args.from (c.args.from + 8) solid (omega arith) named (c.bits_from.ensures c.if-bits_from-eq0.true))

@@ -4,19 +4,18 @@ use Rattle.block_rule.proofs.InPlace.{seen_more, carried_more, turned_both, carr
 use Rattle.block_rule.proofs.in_place.turn_first.Goals as goal
 
 pub returns-clause-turned : goal.returns-clause-turned
-returns-clause-turned c = λ window solid seen named coming.
-    let test = turned 1 window solid in
+returns-clause-turned c = λ window solid after are seen named coming.
     let right = c.args.right.now in
     let first = c.turn_eight_among.ensures in
     let second = c.turn_eight_among-2.ensures in
     let third = c.turn_eight_among-3.ensures in
     let two = others_kept 0 8 16 _ _ _ _ _ _ first.others second.others (omega arith) (omega arith) in
-    let eight = first.turned window solid (λ j h k. seen j h (omega arith)) named (λ j h k. coming j h (omega arith)) in
-    let more = second.turned window solid (seen_more 0 8 16 _ _ _ _ _ _ first.others second.others window right (λ j h k. seen j (omega arith) (omega arith))) named
-    (carried_more 0 8 16 _ _ _ _ _ _ first.others second.others (test 0) (λ j h k. coming j (omega arith) (omega arith))) in
-    let last = third.turned window solid (seen_more 0 16 24 _ _ _ _ _ _ two third.others window right (λ j h k. seen j (omega arith) k)) named
-    (carried_more 0 16 24 _ _ _ _ _ _ two third.others (test 0) (λ j h k. coming j (omega arith) k)) in
-    turned_both 0 16 24 _ _ _ _ _ _ two third.others test (turned_both 0 8 16 _ _ _ _ _ _ first.others second.others test eight more) last
+    let eight = first.turned window solid after are (λ j h k. seen j h (omega arith)) named (λ j h k. coming j h (omega arith)) in
+    let more = second.turned window solid after are (seen_more 0 8 16 _ _ _ _ _ _ first.others second.others window right (λ j h k. seen j (omega arith) (omega arith))) named
+    (carried_more 0 8 16 _ _ _ _ _ _ first.others second.others (after 0) (λ j h k. coming j (omega arith) (omega arith))) in
+    let last = third.turned window solid after are (seen_more 0 16 24 _ _ _ _ _ _ two third.others window right (λ j h k. seen j (omega arith) k)) named
+    (carried_more 0 16 24 _ _ _ _ _ _ two third.others (after 0) (λ j h k. coming j (omega arith) k)) in
+    turned_both 0 16 24 _ _ _ _ _ _ two third.others after (turned_both 0 8 16 _ _ _ _ _ _ first.others second.others after eight more) last
 
 pub returns-clause-leaving : goal.returns-clause-leaving
 returns-clause-leaving c = λ window solid seen named.

@@ -4,13 +4,12 @@ use Rattle.block_rule.proofs.InPlace.{rows_seen, cells_turned, all_turned, all_c
 use Rattle.block_rule.proofs.in_place.turn_free.Goals as goal
 
 pub returns-clause-turned : goal.returns-clause-turned
-returns-clause-turned c = λ window solid seen named carried.
-    let test = turned 1 window solid in
+returns-clause-turned c = λ window solid after are seen named carried.
     let shown = rows_seen window c.args.tile.now c.args.right.now seen in
-    cells_turned c.write_eight.new.out test
-    (all_turned test c.turn_rows.new.tile c.write_eight.new.out c.turned_on-last.result
-    (c.turn_rows.ensures.turned window solid (shown 0 24 (omega arith)) (λ j h k. named j (omega arith) (omega arith)) (first_carried c.args.carry.now _ (test 0) carried c.turned_on-last.ensures.others))
-    (c.turned_on-last.ensures.turned window solid (shown 23 31 (omega arith)) (λ j h k. named j (omega arith) (omega arith)) carried.last) c.write_eight.ensures.rows c.write_eight.ensures.upper_rest c.write_eight.ensures.lower_rest)
+    cells_turned c.write_eight.new.out after
+    (all_turned after c.turn_rows.new.tile c.write_eight.new.out c.turned_on-last.result
+    (c.turn_rows.ensures.turned window solid after are (shown 0 24 (omega arith)) (λ j h k. named j (omega arith) (omega arith)) (first_carried c.args.carry.now _ (after 0) carried c.turned_on-last.ensures.others))
+    (c.turned_on-last.ensures.turned window solid after are (shown 23 31 (omega arith)) (λ j h k. named j (omega arith) (omega arith)) carried.last) c.write_eight.ensures.rows c.write_eight.ensures.upper_rest c.write_eight.ensures.lower_rest)
 
 pub returns-clause-leaving : goal.returns-clause-leaving
 returns-clause-leaving c = λ window solid seen named.

@@ -16,12 +16,12 @@ loop-j-preserved c =
       oo = simp length-set l.invariant.oo;
       up = simp length-set l.invariant.up;
       low = simp length-set l.invariant.low;
-      done = λ window solid seen named coming m low below.
-          rows_more (λ m new. IsRowTurned new (turned 1 window solid) m) l.tile r.result.own l.j (omega arith) (omega arith) (omega arith) (omega arith)
-          (λ m below. l.invariant.done window solid seen named coming m (omega arith) below)
-          (r.ensures.own window solid l.j
+      done = λ window solid after are seen named coming m low below.
+          rows_more (λ m new. IsRowTurned new after m) l.tile r.result.own l.j (omega arith) (omega arith) (omega arith) (omega arith)
+          (λ m below. l.invariant.done window solid after are seen named coming m (omega arith) below)
+          (r.ensures.own window solid after l.j are
           (begun_shown window l.j c.begun_row-own.result _ c.right_row-beside.result _ (c.begun_row-own.ensures ∙ others.rows l.j (inr (omega arith))) c.right_row-beside.ensures (seen l.j (omega arith) (omega arith)))
-          (named l.j (omega arith) (omega arith)) (leaving_kept (turned 1 window solid 0) l.j _ _ (others.carried l.j (inr (omega arith))) (coming l.j (omega arith) (omega arith)))) m below;
+          (named l.j (omega arith) (omega arith)) (leaving_kept (after 0) l.j _ _ (others.carried l.j (inr (omega arith))) (coming l.j (omega arith) (omega arith)))) m below;
       leaving = λ window solid seen named m low below.
           beside_more (λ m new. IsLeaving new (turned 1 window solid 64) m) l.carry.upper l.carry.lower r.result.leaving.upper r.result.leaving.lower l.j (omega arith) (omega arith)
           (λ m below. l.invariant.leaving window solid seen named m (omega arith) below)
@@ -34,3 +34,6 @@ loop-j-preserved c =
         carried = beside_left 0 l.carry.upper l.carry.lower _ _ r.result.leaving.upper r.result.leaving.lower l.j (omega arith) others.carried;
       };
     }
+
+pub returns-clause-turned : goal.returns-clause-turned
+returns-clause-turned c = λ window solid after are seen named coming j low below. c.loop-j.invariant.done window solid after are seen named coming j low (omega (arith, below))

@@ -1,6 +1,6 @@
 use Rattle.std.proofs.Common.{◌≡◌, ℕ, Bool, length}
 use Rattle.block_rule.specs.Around.{turned}
-use Rattle.block_rule.specs.InPlace.{AreRowsSeen, AreNamed, AreCarried, AreOthersKept, HaveTurned, AreEndsKept}
+use Rattle.block_rule.specs.InPlace.{TurnsInto, AreRowsSeen, AreNamed, AreCarried, AreOthersKept, HaveTurned, AreEndsKept}
 use Rattle.block_rule.proofs.in_place.turn_rows.Given as goal
 
 abbrev pub invariant-loop-j : goal.invariant-loop-j
@@ -12,7 +12,7 @@ invariant-loop-j l =
       oo : length l.tile.odd_odd ≡ 32;
       up : length l.carry.upper ≡ 32;
       low : length l.carry.lower ≡ 32;
-      done : (window solid : ℕ → ℕ → Bool) → AreRowsSeen 0 24 window l.initial.tile l.right → AreNamed 0 24 (λ _. 0) solid → AreCarried 0 24 l.initial.carry (turned 1 window solid 0) → HaveTurned 0 l.j l.tile (turned 1 window solid);
+      done : (window solid after : ℕ → ℕ → Bool) → TurnsInto window solid after → AreRowsSeen 0 24 window l.initial.tile l.right → AreNamed 0 24 (λ _. 0) solid → AreCarried 0 24 l.initial.carry (after 0) → HaveTurned 0 l.j l.tile after;
       leaving : (window solid : ℕ → ℕ → Bool) → AreRowsSeen 0 24 window l.initial.tile l.right → AreNamed 0 24 (λ _. 0) solid → AreCarried 0 l.j l.carry (turned 1 window solid 64);
       ends : AreEndsKept l.initial.tile l.tile;
       others : AreOthersKept 0 l.j l.initial.tile l.tile l.initial.carry l.carry;

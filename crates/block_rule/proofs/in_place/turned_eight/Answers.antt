@@ -17,10 +17,10 @@ loop-k-preserved g c =
       lr = simp length-set l.invariant.lr;
       up = simp length-set l.invariant.up;
       low = simp length-set l.invariant.low;
-      done = λ window solid seen named coming.
-          eight_more (λ m new. IsRowTurned new (turned 1 window solid) (from + m)) l.eight.own r.result.own l.k (omega arith) (omega arith) (omega arith) (omega arith)
-          (l.invariant.done window solid seen named coming)
-          (r.ensures.own window solid (from + l.k)
+      done = λ window solid after are seen named coming.
+          eight_more (λ m new. IsRowTurned new after (from + m)) l.eight.own r.result.own l.k (omega arith) (omega arith) (omega arith) (omega arith)
+          (l.invariant.done window solid after are seen named coming)
+          (r.ensures.own window solid after (from + l.k) are
           (begun_shown window (from + l.k) c.begun_row-own.result _ c.right_row-beside.result _ c.begun_row-own.ensures c.right_row-beside.ensures (seen (from + l.k) (omega arith) (omega arith)))
           (row_named _ _ solid (from + l.k) c.begin.ensures (named (from + l.k) (omega arith) (omega arith))) (coming l.k (omega arith)));
       leaving = λ window solid seen named.
@@ -30,3 +30,6 @@ loop-k-preserved g c =
           (begun_shown window (from + l.k) c.begun_row-own.result _ c.right_row-beside.result _ c.begun_row-own.ensures c.right_row-beside.ensures (seen (from + l.k) (omega arith) (omega arith)))
           (row_named _ _ solid (from + l.k) c.begin.ensures (named (from + l.k) (omega arith) (omega arith))));
     }
+
+pub returns-clause-turned : goal.returns-clause-turned
+returns-clause-turned g c = λ window solid after are seen named coming k few. c.loop-k.invariant.done window solid after are seen named coming k (omega (arith, few))

@@ -1,7 +1,7 @@
 use Rattle.std.proofs.Common.{◌≡◌, ℕ, ◌+◌, ◌<◌, Bool, length}
 use Rattle.block_rule.specs.Around.{turned}
 use Rattle.block_rule.specs.Rows.{eight_row}
-use Rattle.block_rule.specs.InPlace.{IsRowTurned, IsLeaving, AreRowsSeen, AreNamed, AreEightCarried, eight_leaving}
+use Rattle.block_rule.specs.InPlace.{TurnsInto, IsRowTurned, IsLeaving, AreRowsSeen, AreNamed, AreEightCarried, eight_leaving}
 use Rattle.block_rule.proofs.in_place.turned_eight.Given as goal
 
 abbrev pub invariant-loop-k : goal.invariant-loop-k
@@ -13,6 +13,6 @@ invariant-loop-k g l =
       lr : length l.eight.own.lower_right ≡ 8;
       up : length l.eight.upper ≡ 8;
       low : length l.eight.lower ≡ 8;
-      done : (window solid : ℕ → ℕ → Bool) → AreRowsSeen l.from (l.from + 8) window l.tile l.right → AreNamed l.from (l.from + 8) (g.W.Walled.begins l.walled) solid → AreEightCarried l.from l.at l.carry (turned 1 window solid 0) → (k : ℕ) → k < l.k → IsRowTurned (eight_row l.eight.own k) (turned 1 window solid) (l.from + k);
+      done : (window solid after : ℕ → ℕ → Bool) → TurnsInto window solid after → AreRowsSeen l.from (l.from + 8) window l.tile l.right → AreNamed l.from (l.from + 8) (g.W.Walled.begins l.walled) solid → AreEightCarried l.from l.at l.carry (after 0) → (k : ℕ) → k < l.k → IsRowTurned (eight_row l.eight.own k) after (l.from + k);
       leaving : (window solid : ℕ → ℕ → Bool) → AreRowsSeen l.from (l.from + 8) window l.tile l.right → AreNamed l.from (l.from + 8) (g.W.Walled.begins l.walled) solid → (k : ℕ) → k < l.k → IsLeaving (eight_leaving l.eight.upper l.eight.lower k) (turned 1 window solid 64) (l.from + k);
     }
