@@ -8,7 +8,7 @@ use Rattle.gas_plane.specs.Planes.{IsLattice}
 use Rattle.gas_plane.proofs.Places.{high}
 use Rattle.phase_step.specs.Parts.{HasRows}
 use Rattle.phase_step.proofs.OwnTiles.{row_turns}
-use Rattle.phase_strips.specs.Strips.{place_of, IsInside, AreCopied, AreKept, ArePut, HasTileRow}
+use Rattle.phase_strips.specs.Strips.{place_of, IsInside, AreCopied, ArePut, HasTileRow}
 use Rattle.phase_strips.specs.declared.runs.strip.OwnRows.{OwnRows}
 
 -- row y of a strip, as a row of the lattice's torus
@@ -33,13 +33,11 @@ pub record IsLoaded (lattice old own_loaded above_loaded new : Cells) (own : Own
   pub one : HasSidesOf own_loaded old
   pub two : HasSidesOf above_loaded own_loaded
   pub three : HasSidesOf new above_loaded
-  pub own_copied : AreCopied lattice own.first own.rows own_loaded 1
+  pub own_copied : AreCopied lattice own.first own.rows old own_loaded 1
   pub above_is : above ≡ (own.first + lattice.height / 64 - 1) % (lattice.height / 64)
-  pub above_copied : AreCopied lattice above 1 above_loaded 0
-  pub above_kept : AreKept own_loaded 0 1 above_loaded
+  pub above_copied : AreCopied lattice above 1 own_loaded above_loaded 0
   pub below_is : below ≡ (own.first + own.rows - 1 + 1) % (lattice.height / 64)
-  pub below_copied : AreCopied lattice below 1 new (own.rows + 1)
-  pub below_kept : AreKept above_loaded (own.rows + 1) 1 new
+  pub below_copied : AreCopied lattice below 1 above_loaded new (own.rows + 1)
 
 module _ (lattice old own_loaded above_loaded new : Cells) (own : OwnRows) (above below : ℕ) (l : IsLoaded lattice old own_loaded above_loaded new own above below) where
   down_some : 0 < lattice.height / 64
@@ -98,11 +96,11 @@ module _ (lattice old own_loaded above_loaded new : Cells) (own : OwnRows) (abov
         elim (cases_lt y ((own.rows + 1) * 64)) [
           | inr past ↦ at_below x y xl past (omega (arith, high, tall))
           | inl less ↦
-              l.below_kept.cell x y (subst (λ w. x < w) (sym above_wide) xl) (omega (arith, above_tall, less)) (inl less)
+              l.below_copied.kept x y (subst (λ w. x < w) (sym above_wide) xl) (omega (arith, above_tall, less)) (inl less)
               ∙ elim (cases_lt y 64) [
                 | inl first ↦ at_above x y xl first
                 | inr inner ↦
-                    l.above_kept.cell x y (subst (λ w. x < w) (sym own_wide) xl) (omega (arith, own_tall, less)) (inr (omega (arith, inner)))
+                    l.above_copied.kept x y (subst (λ w. x < w) (sym own_wide) xl) (omega (arith, own_tall, less)) (inr (omega (arith, inner)))
                     ∙ at_own x y xl inner less
               ]
         ];
@@ -110,9 +108,9 @@ module _ (lattice old own_loaded above_loaded new : Cells) (own : OwnRows) (abov
 
 -- Some of a strip's own rows are put into a lattice.
 pub rows_put : (own : OwnRows) (strip old new lattice : Cells) (from rows : ℕ) → IsInside (extent old) own → from + rows ≤ own.rows → IsLattice old → HasSidesOf old lattice
-    → strip.width ≡ old.width → strip.height ≡ (own.rows + 2) * 64 → AreCopied strip (from + 1) rows new (own.first + from) → AreKept old (own.first + from) rows new
+    → strip.width ≡ old.width → strip.height ≡ (own.rows + 2) * 64 → AreCopied strip (from + 1) rows old new (own.first + from)
     → HasRows (place_of (old.height / 64) own) strip lattice 64 → ArePut lattice old (own.first + from) rows new
-rows_put own strip old new lattice from rows is_inside few is sides wide_is tall copied kept own_rows =
+rows_put own strip old new lattice from rows is_inside few is sides wide_is tall copied own_rows =
     let down = old.height / 64 in
     let inside = is_inside.inside in
     let tiles = (high (extent old) is.sized).tiles in
@@ -133,7 +131,7 @@ rows_put own strip old new lattice from rows is_inside few is sides wide_is tall
       kept = λ r below was.
           let beside : (r * 64 + 64 ≤ (own.first + from) * 64) ⊎ ((own.first + from + rows) * 64 ≤ r * 64) → HasTileRow lattice new r = λ apart. record {
             cell = λ x q xl ql.
-                kept.cell x (r * 64 + q) (subst (λ w. x < w) (sym sides.wide) xl) (let e = sides.high in omega (arith, below, tiles, e)) (elim apart [
+                copied.kept x (r * 64 + q) (subst (λ w. x < w) (sym sides.wide) xl) (let e = sides.high in omega (arith, below, tiles, e)) (elim apart [
                   | inl low ↦ inl (omega arith)
                   | inr past ↦ inr (omega arith)
                 ])

@@ -23,14 +23,11 @@ pub record IsOf (size : Extent) (s : Strip) : Type 0 where
   pub wide : s.cells.width ≡ size.width
   pub high : s.cells.height ≡ (s.own.rows + 2) * 64
 
--- `rows` rows of tiles from row `from` on are the other's from row `to` on
-pub record AreCopied (source : Cells) (from rows : ℕ) (out : Cells) (to : ℕ) : Type 0 where
-  pub cell : (x y : ℕ) → x < source.width → y < rows * 64 → has out x (to * 64 + y)
+-- `rows` rows of tiles were copied: those from row `from` on are now the rows from row `to` on. All others are as before.
+pub record AreCopied (source : Cells) (from rows : ℕ) (before now : Cells) (to : ℕ) : Type 0 where
+  pub cell : (x y : ℕ) → x < source.width → y < rows * 64 → has now x (to * 64 + y)
       ≡ has source x (from * 64 + y)
-
--- all rows of tiles are as before, but for `rows` of them from row `to` on
-pub record AreKept (before : Cells) (to rows : ℕ) (now : Cells) : Type 0 where
-  pub cell : (x y : ℕ) → x < before.width → y < before.height
+  pub kept : (x y : ℕ) → x < before.width → y < before.height
       → (y < to * 64) ⊎ ((to + rows) * 64 ≤ y) → has now x y ≡ has before x y
 
 -- row r of tiles is the lattice's

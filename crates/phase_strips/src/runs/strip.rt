@@ -6,7 +6,7 @@ ghost use Rattle.gas_plane.specs.Planes.{IsLattice};
 ghost use Rattle.phase_step.specs.Actions.{flow_plus, no_flow, FlowsFit};
 ghost use Rattle.phase_step.specs.Parts.{HasRows};
 ghost use Rattle.phase_strips.specs.Courses.{lattice_at, rows_give};
-ghost use Rattle.phase_strips.specs.Strips.{place_of, AreCopied, AreKept, ArePut, HasOwnRows, IsAt, IsBefore, IsInside, IsOf};
+ghost use Rattle.phase_strips.specs.Strips.{place_of, AreCopied, ArePut, HasOwnRows, IsAt, IsBefore, IsInside, IsOf};
 
 use crate::runs::edges::{RunName, show_row, take_row};
 use crate::runs::input::RunInput;
@@ -37,8 +37,7 @@ fn copy_rows(source: &Plane, from: u32, rows: u32, out: &mut Plane, to: u32)
     requires wide { out.old.width ≡ source.now.width }
     requires from { from + rows ≤ source.now.height / 64 }
     requires to { to + rows ≤ out.old.height / 64 }
-    ensures copied { AreCopied source.now from rows out.new to }
-    ensures kept { AreKept out.old to rows out.new }
+    ensures copied { AreCopied source.now from rows out.old out.new to }
     ensures sides { HasSidesOf out.new out.old }
     ensures lattice { IsLattice out.new }
 {

@@ -90,9 +90,9 @@ returns c =
     let end : c.loop-i.i ≡ c.args.rows * a = (let k : c.loop-i.i ≡ c.args.rows * c.across.result = omega arith in k) ∙ ap (λ a. c.args.rows * a) out in
     let columns = wide (extent source) c.across-across.ensures.lattice.sized in
     record {
-      copied = record { cell = λ x y xl yl. was.copied x y xl yl (subst (λ n. y / 64 * a + x / 64 < n) (sym end) (tile_in_rows a x y c.args.rows (tile_below source.width x columns xl) yl)) };
-      kept = record {
-        cell = λ x y xl yl apart. was.kept x y xl yl
+      copied = record {
+        cell = λ x y xl yl. was.copied x y xl yl (subst (λ n. y / 64 * a + x / 64 < n) (sym end) (tile_in_rows a x y c.args.rows (tile_below source.width x columns xl) yl));
+        kept = λ x y xl yl apart. was.kept x y xl yl
             (subst (λ n. (y / 64 * a + x / 64 < to * a) ⊎ (to * a + n ≤ y / 64 * a + x / 64)) (sym end)
             (tile_outside a x y to c.args.rows (tile_below source.width x columns (subst (λ w. x < w) c.requires.wide xl)) apart));
       };

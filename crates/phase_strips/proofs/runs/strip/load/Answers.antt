@@ -19,8 +19,6 @@ returns-clause-rows c =
       own_copied = c.copy_rows.ensures.copied;
       above_is = c.before-above.ensures.place ∙ ap (λ d. (own.first + d - 1) % d) down;
       above_copied = c.copy_rows-2.ensures.copied;
-      above_kept = c.copy_rows-2.ensures.kept;
       below_is = c.after-below.ensures.place ∙ ap (λ d. (own.first + own.rows - 1 + 1) % d) down;
       below_copied = c.copy_rows-3.ensures.copied;
-      below_kept = c.copy_rows-3.ensures.kept;
     })

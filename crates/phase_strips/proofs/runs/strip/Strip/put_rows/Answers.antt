@@ -14,4 +14,4 @@ pub returns-clause-rows : goal.returns-clause-rows
 returns-clause-rows c = λ lattice sides own_rows.
     let s = c.args.self.now in
     let strip = c.requires.strip in
-    rows_put s.own s.cells c.args.out.now c.copy_rows.new.out lattice c.args.from c.args.rows strip.inside c.requires.rows c.requires.is sides strip.wide strip.high c.copy_rows.ensures.copied c.copy_rows.ensures.kept own_rows
+    rows_put s.own s.cells c.args.out.now c.copy_rows.new.out lattice c.args.from c.args.rows strip.inside c.requires.rows c.requires.is sides strip.wide strip.high c.copy_rows.ensures.copied own_rows
