@@ -1,9 +1,11 @@
 -- Strips: some rows of tiles of a lattice, with a row more above and below.
 use Rattle.std.specs.Prelude.{◌≡◌, ℕ, ◌+◌, ◌-◌, ◌*◌, ◌/◌, ◌<◌, ◌≤◌, ◌⊎◌, List, All, get_or, length, map}
 use Rattle.gas_terms.specs.Cells.{Cells, Extent, extent, has}
+use Rattle.phase_step.specs.Actions.{flow_plus, FlowsFit}
 use Rattle.phase_step.specs.Parts.{HasRows}
 use Rattle.phase_step.specs.Runs.{parity_at}
 use Rattle.phase_step.specs.declared.parts.Part.{Part}
+use Rattle.phase_step.specs.declared.sums.flow.Flow.{Flow}
 use Rattle.phase_strips.specs.Courses.{Course, lattice_at, rows_give}
 use Rattle.phase_strips.specs.declared.runs.strip.OwnRows.{OwnRows}
 use Rattle.phase_strips.specs.declared.runs.strip.Strip.{Strip}
@@ -50,6 +52,17 @@ abbrev pub IsBefore : Course → ℕ → Strip → Type 0
 IsBefore course k s =
     let lattice = lattice_at course k in
     HasRows (place_of (lattice.height / 64) s.own) s.cells lattice (64 - parity_at course.dynamics.parity k)
+
+-- The strip has made k phases: it has its own rows of the lattice, and knows what they came to in them.
+pub record HasMade (course : Course) (k : ℕ) (s : Strip) : Type 0 where
+  pub of_lattice : IsOf (extent course.start) s
+  pub rows : HasOwnRows (lattice_at course k) s
+  pub flow : s.flow ≡ rows_give course k s.own.first s.own.rows
+
+-- What phase k comes to in a strip's own rows. It can be added to what the phases before came to.
+pub record IsPhaseFlow (course : Course) (k : ℕ) (own : OwnRows) (flow : Flow) : Type 0 where
+  pub fits : FlowsFit (rows_give course k own.first own.rows) flow
+  pub next : flow_plus (rows_give course k own.first own.rows) flow ≡ rows_give course (k + 1) own.first own.rows
 
 -- After k phases: it has the rows that the next phase needs, and knows what those phases came to in its own.
 pub record IsAt (course : Course) (k : ℕ) (s : Strip) : Type 0 where

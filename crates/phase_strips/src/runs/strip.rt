@@ -3,10 +3,10 @@
 ghost use Rattle.std.specs.Prelude.{◌≡◌, ℕ, ◌+◌, ◌*◌, ◌/◌, ◌<◌, ◌≤◌, ◌-◌, IsTrue, IfSome, length};
 ghost use Rattle.gas_terms.specs.Cells.{Cells, extent, HasSidesOf};
 ghost use Rattle.gas_plane.specs.Planes.{IsLattice};
-ghost use Rattle.phase_step.specs.Actions.{flow_plus, no_flow, FlowsFit};
+ghost use Rattle.phase_step.specs.Actions.{no_flow};
 ghost use Rattle.phase_step.specs.Parts.{HasRows};
-ghost use Rattle.phase_strips.specs.Courses.{lattice_at, rows_give};
-ghost use Rattle.phase_strips.specs.Strips.{place_of, AreCopied, ArePut, HasOwnRows, IsAt, IsBefore, IsInside, IsOf};
+ghost use Rattle.phase_strips.specs.Courses.{lattice_at};
+ghost use Rattle.phase_strips.specs.Strips.{place_of, AreCopied, ArePut, HasMade, HasOwnRows, IsAt, IsBefore, IsInside, IsOf, IsPhaseFlow};
 
 use crate::runs::edges::{RunName, show_row, take_row};
 use crate::runs::input::RunInput;
@@ -109,10 +109,7 @@ impl Strip {
         requires at { IsAt N.course (input.now.from + k) self.old }
         ensures some { (0 < result) × (k + result ≤ input.now.phases) }
         ensures own { self.new.own ≡ self.old.own }
-        ensures strip { IsOf (extent N.course.start) self.new }
-        ensures rows { HasOwnRows (lattice_at N.course (input.now.from + k + result)) self.new }
-        ensures flow { let s = self.new in
-            s.flow ≡ rows_give N.course (input.now.from + k + result) s.own.first s.own.rows }
+        ensures made { HasMade N.course (input.now.from + k + result) self.new }
     {
         let odd = parity_at(input.parity, input.from + k) == 1;
         if input.quiet && odd && k + 1 < input.phases {
@@ -128,16 +125,11 @@ impl Strip {
     // Phase k of those that are made at a time, and the exchange after it. Returns what it comes to in its own rows.
     fn make_phase<N: RunName>(&mut self, input: &RunInput<'_, N>, k: u16) -> Flow
         requires k { k < input.now.phases }
-        requires strip { IsOf (extent N.course.start) self.old }
-        requires rows { IsBefore N.course (input.now.from + k) self.old }
+        requires at { IsAt N.course (input.now.from + k) self.old }
         ensures strip { IsOf (extent N.course.start) self.new }
         ensures same { (self.new.own ≡ self.old.own) × (self.new.flow ≡ self.old.flow) }
         ensures rows { HasOwnRows (lattice_at N.course (input.now.from + k + 1)) self.new }
-        ensures fits { let own = self.old.own in
-            FlowsFit (rows_give N.course (input.now.from + k) own.first own.rows) result }
-        ensures flow { let own = self.old.own in
-            flow_plus (rows_give N.course (input.now.from + k) own.first own.rows) result
-            ≡ rows_give N.course (input.now.from + k + 1) own.first own.rows }
+        ensures flow { IsPhaseFlow N.course (input.now.from + k) self.old.own result }
     {
         let part = part_of(self.own, input.particles);
         let listed = Listed {

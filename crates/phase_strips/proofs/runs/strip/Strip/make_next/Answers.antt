@@ -45,14 +45,17 @@ turn_strip-requires-clause-ready g c =
     let at = (goal.at.turn_strip-requires-clause-ready g c).After-part_of-part in
     record { lattice = before g at; is = is_part g at; sides = of_solid g at }
 
-pub returns-then-k-input-clause-rows : goal.returns-then-k-input-clause-rows
-returns-then-k-input-clause-rows g c =
-    let at = (goal.at.returns-then-k-input-clause-rows g c).After-part_of-part in
+pub returns-then-k-input-clause-made : goal.returns-then-k-input-clause-made
+returns-then-k-input-clause-made g c =
+    let at = (goal.at.returns-then-k-input-clause-made g c).After-part_of-part in
     let i = c.args.input.now in
-    let own = c.args.self.now.own in
+    let s = c.args.self.now in
+    let own = s.own in
     let course = g.N.RunName.course in
     let k = i.from + c.args.k in
     let new = c.turn_strip.new.particles in
+    let of_lattice = c.requires.at.of_lattice in
+    let sides = c.turn_strip.ensures.sides in
     let quiet = i.is_quiet c.if-input.true in
     let now = before g at in
     let next : streamed 0 (streamed 1 now (solid g at)) (solid g at) ≡ lattice_at course (k + 2) =
@@ -61,18 +64,13 @@ returns-then-k-input-clause-rows g c =
     let placed : HasRows (place_of (i.particles.now.height / 64) own) new (lattice_at course (k + 2)) 64 =
     subst (λ (lattice : Cells). HasRows (place_of (i.particles.now.height / 64) own) new lattice 64) next
     (subst (λ (part : Part). HasRows part new (streamed 0 (streamed 1 now (solid g at)) (solid g at)) 64) c.part_of-part.ensures rows) in
-    subst (λ d. HasRows (place_of d own) new (lattice_at course (k + 2)) 64)
-    (ap (λ n. n / 64) (ap (λ (c : Cells). c.height) (sym i.start) ∙ sym (course_sides course (k + 2)).high)) placed
-
-pub returns-then-k-input-clause-flow : goal.returns-then-k-input-clause-flow
-returns-then-k-input-clause-flow g c =
-    let i = c.args.input.now in
-    let s = c.args.self.now in
-    let course = g.N.RunName.course in
-    let k = i.from + c.args.k in
-    let quiet = i.is_quiet c.if-input.true in
     let start = subst IsLattice (sym i.start) i.lattice in
     let walls : HasSidesOf course.dynamics.walls course.start = subst (λ (w : Cells). HasSidesOf w course.start) (sym i.walls) (subst (HasSidesOf i.solids.now.walls) (sym i.start) i.of_walls) in
     let obstacles : HasSidesOf course.dynamics.obstacles course.start = subst (λ (o : Cells). HasSidesOf o course.start) (sym i.obstacles) (subst (HasSidesOf i.solids.now.obstacles) (sym i.start) i.of_obstacles) in
-    let inside = c.requires.at.of_lattice.inside.inside in
-    c.requires.at.flow ∙ (rows_quiet course quiet k s.own.first s.own.rows start walls obstacles inside ∙ sym (rows_quiet course quiet (k + 2) s.own.first s.own.rows start walls obstacles inside))
+    let inside = of_lattice.inside.inside in
+    record {
+      of_lattice = record { inside = of_lattice.inside; wide = sides.wide ∙ of_lattice.wide; high = sides.high ∙ of_lattice.high };
+      rows = subst (λ d. HasRows (place_of d own) new (lattice_at course (k + 2)) 64)
+          (ap (λ n. n / 64) (ap (λ (c : Cells). c.height) (sym i.start) ∙ sym (course_sides course (k + 2)).high)) placed;
+      flow = c.requires.at.flow ∙ (rows_quiet course quiet k own.first own.rows start walls obstacles inside ∙ sym (rows_quiet course quiet (k + 2) own.first own.rows start walls obstacles inside));
+    }

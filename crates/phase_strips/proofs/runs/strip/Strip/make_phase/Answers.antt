@@ -37,8 +37,8 @@ is_part g c =
     let down : i.particles.now.height / 64 ≡ course.start.height / 64 = ap (λ (c : Cells). c.height / 64) (sym start) in
     let parity : parity_at course.dynamics.parity k ≡ c.parity_at.result = ap (λ p. parity_at p k) i.parity_is ∙ sym c.parity_at.ensures.parity in
     subst (λ (part : Part). IsPartOf part s.cells (before g c) (64 - c.parity_at.result)) (sym c.part_of-part.ensures)
-    (strip_part course k (64 - c.parity_at.result) (i.particles.now.height / 64) s (subst IsLattice (sym start) i.lattice) c.requires.strip down
-    (subst (λ p. HasRows (place_of ((lattice_at course k).height / 64) s.own) s.cells (lattice_at course k) (64 - p)) parity c.requires.rows))
+    (strip_part course k (64 - c.parity_at.result) (i.particles.now.height / 64) s (subst IsLattice (sym start) i.lattice) c.requires.at.of_lattice down
+    (subst (λ p. HasRows (place_of ((lattice_at course k).height / 64) s.own) s.cells (lattice_at course k) (64 - p)) parity c.requires.at.before))
 
 -- the walls have its sides
 of_walls : (g : Over) (c : After-parity_at g) → HasSidesOf c.args.input.now.solids.now.walls (before g c)
@@ -89,25 +89,6 @@ returns-clause-rows g c =
     subst (λ d. HasRows (record { first = s.own.first; down = d; margin = 1 }) c.run_part.new.particles (lattice_at course (k + 1)) 64)
     (ap (λ n. n / 64) (ap (λ (c : Cells). c.height) (sym i.start) ∙ sym (course_sides course (k + 1)).high)) here
 
-pub returns-clause-fits : goal.returns-clause-fits
-returns-clause-fits g c =
-    let at = (goal.at.returns-clause-fits g c).After-parity_at in
-    let s = c.args.self.now in
-    let i = c.args.input.now in
-    let course = g.N.RunName.course in
-    let k = i.from + c.args.k in
-    let down = i.particles.now.height / 64 in
-    let run : HasRun (place_of down s.own) i.counted (turn g at) 1 s.cells (before g at) c.run_part.new.particles c.run_part.result =
-    subst (λ (part : Part). HasRun part i.counted (turn g at) 1 s.cells (before g at) c.run_part.new.particles c.run_part.result) c.part_of-part.ensures (c.run_part.ensures.run (before g at) (of_walls g at) (is_part g at)) in
-    let own = s.own in
-    let gives = strip_flow own.first down own.rows 1 i.counted (turn g at) s.cells (before g at) c.run_part.new.particles c.run_part.result c.requires.strip.high run in
-    let start = subst IsLattice (sym i.start) i.lattice in
-    let inside = c.requires.strip.inside.inside in
-    let few : own.rows * (course.start.width / 64) ≤ 4096 = mul-le own.rows (course.start.width / 64) 64 64 (let tall = (high (extent course.start) start.sized).few in omega (arith, inside, tall)) (wide (extent course.start) start.sized).few in
-    let short = i.few in
-    let less = c.requires.k in
-    rows_next_fit course k (turn g at) (is_phase g at) own.first own.rows c.run_part.result (gives ∙ ap (λ (kept : Counted). flow_counted kept (tiles_flow (turn g at).parity (turn g at).walls (turn g at).obstacles (turn g at).leaves (before g at) (own.first * ((before g at).width / 64)) (own.rows * ((before g at).width / 64)) 1)) (sym i.counted_is)) few (omega (arith, short, less))
-
 pub returns-clause-flow : goal.returns-clause-flow
 returns-clause-flow g c =
     let at = (goal.at.returns-clause-flow g c).After-parity_at in
@@ -119,5 +100,14 @@ returns-clause-flow g c =
     let run : HasRun (place_of down s.own) i.counted (turn g at) 1 s.cells (before g at) c.run_part.new.particles c.run_part.result =
     subst (λ (part : Part). HasRun part i.counted (turn g at) 1 s.cells (before g at) c.run_part.new.particles c.run_part.result) c.part_of-part.ensures (c.run_part.ensures.run (before g at) (of_walls g at) (is_part g at)) in
     let own = s.own in
-    let gives = strip_flow own.first down own.rows 1 i.counted (turn g at) s.cells (before g at) c.run_part.new.particles c.run_part.result c.requires.strip.high run in
-    rows_next course k (turn g at) (is_phase g at) own.first own.rows c.run_part.result (gives ∙ ap (λ (kept : Counted). flow_counted kept (tiles_flow (turn g at).parity (turn g at).walls (turn g at).obstacles (turn g at).leaves (before g at) (own.first * ((before g at).width / 64)) (own.rows * ((before g at).width / 64)) 1)) (sym i.counted_is))
+    let gives = strip_flow own.first down own.rows 1 i.counted (turn g at) s.cells (before g at) c.run_part.new.particles c.run_part.result c.requires.at.of_lattice.high run in
+    let kept = gives ∙ ap (λ (kept : Counted). flow_counted kept (tiles_flow (turn g at).parity (turn g at).walls (turn g at).obstacles (turn g at).leaves (before g at) (own.first * ((before g at).width / 64)) (own.rows * ((before g at).width / 64)) 1)) (sym i.counted_is) in
+    let start = subst IsLattice (sym i.start) i.lattice in
+    let inside = c.requires.at.of_lattice.inside.inside in
+    let few : own.rows * (course.start.width / 64) ≤ 4096 = mul-le own.rows (course.start.width / 64) 64 64 (let tall = (high (extent course.start) start.sized).few in omega (arith, inside, tall)) (wide (extent course.start) start.sized).few in
+    let short = i.few in
+    let less = c.requires.k in
+    record {
+      fits = rows_next_fit course k (turn g at) (is_phase g at) own.first own.rows c.run_part.result kept few (omega (arith, short, less));
+      next = rows_next course k (turn g at) (is_phase g at) own.first own.rows c.run_part.result kept;
+    }
