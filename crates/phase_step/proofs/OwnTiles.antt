@@ -41,6 +41,11 @@ own_at part cells row column c low high =
     let most : (row + 1) * a ≤ cells.height / 64 * a = mul-le-mul (let e : row + 1 ≤ cells.height / 64 = omega arith in e) same in
     record { within = omega (arith, most, c); low = omega (arith, from); high = omega (arith, end, c) }
 
+-- each tile from the first own one up to the end is one
+pub own_each : (part : Part) (cells : Cells) (first end i : ℕ) → first ≡ part.margin * (cells.width / 64) → end - first ≡ own_rows part cells * (cells.width / 64) → end ≤ tile_count cells → first ≤ i → i < end → IsOwn part cells i
+own_each part cells first end i e count inside low less =
+    record { within = omega (arith, less, inside); low = omega (arith, e, low); high = omega (arith, e, count, low, less) }
+
 -- they are below the end
 pub own_past : (part : Part) (cells : Cells) (first end i : ℕ) → first ≡ part.margin * (cells.width / 64) → first ≤ end → end - first ≡ own_rows part cells * (cells.width / 64) → end ≤ i → (j : ℕ) → IsOwn part cells j → j < i
 own_past part cells first end i e order count past j own = let h = own.high in omega (arith, e, order, count, past, h)

@@ -9,6 +9,7 @@ use Rattle.phase_step.specs.Runs.{tiles_take}
 use Rattle.phase_step.specs.Balance.{flow_counted}
 use Rattle.phase_step.specs.WholeRuns.{Dynamics, after_all}
 use Rattle.phase_step.specs.TileRuns.{tiles_flow, tiles_move}
+use Rattle.phase_step.specs.declared.parts.OwnTiles.{OwnTiles}
 use Rattle.phase_step.specs.declared.parts.Part.{Part}
 use Rattle.phase_step.specs.declared.sums.flow.Flow.{Flow}
 
@@ -48,6 +49,17 @@ pub record IsOwn (part : Part) (cells : Cells) (i : ℕ) : Type 0 where
   pub within : i < tile_count cells
   pub low : part.margin * (cells.width / 64) ≤ i
   pub high : i < part.margin * (cells.width / 64) + own_rows part cells * (cells.width / 64)
+
+-- A part's own tiles are those from `first` up to `end`. Those of any lattice that the part is of
+-- begin with tile `there`.
+pub record AreOwn (part : Part) (cells : Cells) (own : OwnTiles) : Type 0 where
+  pub first : own.first ≡ part.margin * (cells.width / 64)
+  pub count : own.end - own.first ≡ own_rows part cells * (cells.width / 64)
+  pub there : own.there ≡ part.first * (cells.width / 64)
+  pub each : (i : ℕ) → own.first ≤ i → i < own.end → IsOwn part cells i
+  pub few : own.there + (own.end - own.first) ≤ 4096
+  pub inside : (lattice : Cells) → is_size (extent lattice) ≡ true → IsPlaced part cells lattice
+      → own.there + (own.end - own.first) ≤ tile_count lattice
 
 -- what n phases come to in the part's own tiles
 abbrev pub own_flow : Part → Dynamics → Cells → Cells → ℕ → Flow

@@ -1,10 +1,10 @@
 //! Parts of a lattice: some of its rows of tiles, one after another round its torus. A run of a
 //! part is told by the lattice's rows that it has. A strip is a part, and so is the whole lattice.
 
-ghost use Rattle.std.specs.Prelude.{◌≡◌, ℕ, ◌+◌, ◌-◌, ◌*◌, ◌/◌, ◌%◌, ◌<◌, ◌≤◌, true};
-ghost use Rattle.gas_terms.specs.Cells.{Cells, tile_count, extent, is_size};
+ghost use Rattle.std.specs.Prelude.{◌≡◌, ◌+◌, ◌%◌, ◌<◌, ◌≤◌};
+ghost use Rattle.gas_terms.specs.Cells.{tile_count};
 ghost use Rattle.gas_plane.specs.Planes.{IsLattice};
-ghost use Rattle.phase_step.specs.Parts.{start_of, own_rows, IsOwn, IsOfSome, IsPlaced, whole_part};
+ghost use Rattle.phase_step.specs.Parts.{start_of, AreOwn, IsOfSome, whole_part};
 
 mod acting;
 mod counting;
@@ -42,15 +42,8 @@ pub struct OwnTiles {
 pub fn own_tiles(part: Part, cells: &Plane) -> OwnTiles
     requires { IsOfSome part cells.now 64 }
     ensures lattice { IsLattice cells.now }
-    ensures first { result.first ≡ part.margin * (cells.now.width / 64) }
     ensures order { (result.first ≤ result.end) × (result.end ≤ tile_count cells.now) }
-    ensures count { result.end - result.first ≡ own_rows part cells.now * (cells.now.width / 64) }
-    ensures own { (i : ℕ) → result.first ≤ i → i < result.end → IsOwn part cells.now i }
-    ensures there { result.there ≡ part.first * (cells.now.width / 64) }
-    ensures few { result.there + (result.end - result.first) ≤ 4096 }
-    ensures inside { (lattice : Cells) → is_size (extent lattice) ≡ true →
-        IsPlaced part cells.now lattice →
-        result.there + (result.end - result.first) ≤ tile_count lattice }
+    ensures own { AreOwn part cells.now result }
 {
     let across = cells.across();
     let margin = part.margin * across;

@@ -33,7 +33,7 @@ loop-i-init c =
     record {
       from = omega arith;
       sides = record { wide = refl; high = refl };
-      made = λ lattice is. none_made (tile_of old) first 64 c.args.part (acted leaves lattice) old (none_before c.args.part old first t.ensures.lattice.sized t.ensures.first);
+      made = λ lattice is. none_made (tile_of old) first 64 c.args.part (acted leaves lattice) old (none_before c.args.part old first t.ensures.lattice.sized t.ensures.own.first);
       moved = λ lattice is. let e : 0 ≡ first - first = omega arith in ap (tiles_move (pos c.args.parity) lattice (acted leaves lattice) (c.args.part.first * (lattice.width / 64))) e;
     }
 
@@ -44,8 +44,8 @@ corner c =
     let t = c.own_tiles-own in
     let cells = c.args.particles.now in
     let i = c.loop-i.i in
-    corner_at h.lattice c.across-across.result _ _ (lattice_is c.args.part cells h.lattice 64 is) (within_there c.args.part cells h.lattice i t.ensures.lattice.sized is.placed (t.ensures.own i c.loop-i.invariant.from c.loop-i-test.true))
-    (c.across-across.ensures.across ∙ ap (λ w. w / 64) is.placed.wide) (there_is c.args.part cells h.lattice i t.result.first t.result.there is.placed t.ensures.first t.ensures.there)
+    corner_at h.lattice c.across-across.result _ _ (lattice_is c.args.part cells h.lattice 64 is) (within_there c.args.part cells h.lattice i t.ensures.lattice.sized is.placed (t.ensures.own.each i c.loop-i.invariant.from c.loop-i-test.true))
+    (c.across-across.ensures.across ∙ ap (λ w. w / 64) is.placed.wide) (there_is c.args.part cells h.lattice i t.result.first t.result.there is.placed t.ensures.own.first t.ensures.own.there)
 
 pub meets-requires : goal.meets-requires
 meets-requires c = corner (goal.at.meets-requires c).In-loop-i
@@ -63,25 +63,25 @@ loop-i-preserved-then-not-meets c =
     let tick = pos c.args.parity in
     let t = c.own_tiles-own in
     let low = c.loop-i.invariant.from in
-    let own = t.ensures.own i low c.loop-i-test.true in
+    let own = t.ensures.own.each i low c.loop-i-test.true in
     record {
       from = omega (arith, low);
       sides = c.loop-i.invariant.sides;
       made = λ lattice is.
           let j = tile_in part (lattice.width / 64) i in
-          let kept = kept_at leaves lattice c.across-across.result j _ (c.across-across.ensures.across ∙ ap (λ w. w / 64) is.placed.wide) (there_is part cells lattice i t.result.first t.result.there is.placed t.ensures.first t.ensures.there) (c.meets.ensures c.if-not-meets.true) in
+          let kept = kept_at leaves lattice c.across-across.result j _ (c.across-across.ensures.across ∙ ap (λ w. w / 64) is.placed.wide) (there_is part cells lattice i t.result.first t.result.there is.placed t.ensures.own.first t.ensures.own.there) (c.meets.ensures c.if-not-meets.true) in
           tile_stays part cells lattice (acted leaves lattice) c.loop-i.particles i t.ensures.lattice.sized is own (c.loop-i.invariant.made lattice is) (kept_there leaves lattice j (lattice_is part cells lattice 64 is) (within_there part cells lattice i t.ensures.lattice.sized is.placed own) kept);
       moved = λ lattice is.
           let j = tile_in part (lattice.width / 64) i in
-          let kept = kept_at leaves lattice c.across-across.result j _ (c.across-across.ensures.across ∙ ap (λ w. w / 64) is.placed.wide) (there_is part cells lattice i t.result.first t.result.there is.placed t.ensures.first t.ensures.there) (c.meets.ensures c.if-not-meets.true) in
+          let kept = kept_at leaves lattice c.across-across.result j _ (c.across-across.ensures.across ∙ ap (λ w. w / 64) is.placed.wide) (there_is part cells lattice i t.result.first t.result.there is.placed t.ensures.own.first t.ensures.own.there) (c.meets.ensures c.if-not-meets.true) in
           movements_add.right c.loop-i.moved
           ∙ sum_next movements _ t.result.first i c.loop-i.moved _ low (c.loop-i.invariant.moved lattice is)
           (stays_there tick leaves lattice j (lattice_is part cells lattice 64 is) (within_there part cells lattice i t.ensures.lattice.sized is.placed own) kept
-          ∙ ap (tile_moves tick lattice (acted leaves lattice)) (own_number part cells lattice i t.result.first is.placed t.ensures.first));
+          ∙ ap (tile_moves tick lattice (acted leaves lattice)) (own_number part cells lattice i t.result.first is.placed t.ensures.own.first));
     }
 
 own : (c : After-moved-here) → IsOwn c.args.part c.args.particles.now c.loop-i.i
-own c = c.own_tiles-own.ensures.own c.loop-i.i c.loop-i.invariant.from c.loop-i-test.true
+own c = c.own_tiles-own.ensures.own.each c.loop-i.i c.loop-i.invariant.from c.loop-i-test.true
 
 -- what an own tile was, becomes and moves
 module _ (c : After-moved-here) (lattice : Cells) (is : IsPartOf c.args.part c.args.particles.now lattice 64) where
@@ -99,7 +99,7 @@ module _ (c : After-moved-here) (lattice : Cells) (is : IsPartOf c.args.part c.a
 
   left : (let r = tile_rectangle lattice (tile_in c.args.part (lattice.width / 64) c.loop-i.i) in IsLeftOf (leaves_of c.args.exchange.now) r.x r.y c.tile_mut.result.now c.on_tile.new.tile)
   left = left_at (leaves_of c.args.exchange.now) lattice c.across-across.result _ _ c.tile_mut.result.now c.on_tile.new.tile (c.across-across.ensures.across ∙ ap (λ w. w / 64) is.placed.wide)
-      (there_is c.args.part c.args.particles.now lattice c.loop-i.i c.own_tiles-own.result.first c.own_tiles-own.result.there is.placed c.own_tiles-own.ensures.first c.own_tiles-own.ensures.there) c.on_tile.ensures.left
+      (there_is c.args.part c.args.particles.now lattice c.loop-i.i c.own_tiles-own.result.first c.own_tiles-own.result.there is.placed c.own_tiles-own.ensures.own.first c.own_tiles-own.ensures.own.there) c.on_tile.ensures.left
 
   is_moved : c.moved-here.result ≡ tile_moves (pos c.args.parity) lattice (acted (leaves_of c.args.exchange.now) lattice) (c.args.part.first * (lattice.width / 64) + (c.loop-i.i - c.own_tiles-own.result.first))
   is_moved =
@@ -107,7 +107,7 @@ module _ (c : After-moved-here) (lattice : Cells) (is : IsPartOf c.args.part c.a
       let j = tile_in c.args.part (lattice.width / 64) c.loop-i.i in
       c.moved-here.ensures (pos c.args.parity) (let s = c.requires.parity in omega (arith, s))
       ∙ (moves_there (pos c.args.parity) leaves lattice j c.on_tile.result c.tile_mut.result.now c.on_tile.new.tile whole below from left c.on_tile.ensures.gained c.on_tile.ensures.lost
-      ∙ ap (tile_moves (pos c.args.parity) lattice (acted leaves lattice)) (own_number c.args.part c.args.particles.now lattice c.loop-i.i c.own_tiles-own.result.first is.placed c.own_tiles-own.ensures.first))
+      ∙ ap (tile_moves (pos c.args.parity) lattice (acted leaves lattice)) (own_number c.args.part c.args.particles.now lattice c.loop-i.i c.own_tiles-own.result.first is.placed c.own_tiles-own.ensures.own.first))
 
 pub plus-moved-requires : goal.plus-moved-requires
 plus-moved-requires c =
@@ -149,11 +149,11 @@ returns-clause-rows c = λ lattice is.
     let t = c.own_tiles-own in
     let old = c.args.particles.now in
     all_acted (tile_of old) c.loop-i.i (leaves_of c.args.exchange.now) c.args.part old lattice c.loop-i.particles is
-    (own_before c.args.part old t.result.first t.result.end c.loop-i.i t.ensures.lattice.sized t.ensures.first t.ensures.order.0 t.ensures.count (omega (arith, c.loop-i-test.false))) (c.loop-i.invariant.made lattice is)
+    (own_before c.args.part old t.result.first t.result.end c.loop-i.i t.ensures.lattice.sized t.ensures.own.first t.ensures.order.0 t.ensures.own.count (omega (arith, c.loop-i-test.false))) (c.loop-i.invariant.made lattice is)
 
 pub returns-clause-moved : goal.returns-clause-moved
 returns-clause-moved c = λ lattice is.
     let t = c.own_tiles-own in
     let n : c.loop-i.i - t.result.first ≡ t.result.end - t.result.first = omega (arith, c.loop-i-test.false, c.loop-i.auto.i-end) in
     c.loop-i.invariant.moved lattice is
-    ∙ ap (tiles_move (pos c.args.parity) lattice (acted (leaves_of c.args.exchange.now) lattice) (c.args.part.first * (lattice.width / 64))) (n ∙ (t.ensures.count ∙ ap (λ w. own_rows c.args.part c.args.particles.now * (w / 64)) is.placed.wide))
+    ∙ ap (tiles_move (pos c.args.parity) lattice (acted (leaves_of c.args.exchange.now) lattice) (c.args.part.first * (lattice.width / 64))) (n ∙ (t.ensures.own.count ∙ ap (λ w. own_rows c.args.part c.args.particles.now * (w / 64)) is.placed.wide))

@@ -30,16 +30,16 @@ pub in_tile-tile_solids-requires-clause-walls : goal.in_tile-tile_solids-require
 in_tile-tile_solids-requires-clause-walls c =
     let h = c.requires.ready in
     let t = c.own_tiles-own in
-    there_below h.lattice c.args.solids.now.walls t.result.first t.result.end t.result.there c.loop-i.i h.sides (t.ensures.inside h.lattice h.is.sized h.is.placed) c.loop-i.invariant.from c.loop-i-test.true
+    there_below h.lattice c.args.solids.now.walls t.result.first t.result.end t.result.there c.loop-i.i h.sides (t.ensures.own.inside h.lattice h.is.sized h.is.placed) c.loop-i.invariant.from c.loop-i-test.true
 
 pub in_tile-tile_solids-requires-clause-obstacles : goal.in_tile-tile_solids-requires-clause-obstacles
 in_tile-tile_solids-requires-clause-obstacles c =
     let h = c.requires.ready in
     let t = c.own_tiles-own in
-    there_below h.lattice c.args.solids.now.obstacles t.result.first t.result.end t.result.there c.loop-i.i (sides_on _ _ _ c.args.solids.now.sides h.sides) (t.ensures.inside h.lattice h.is.sized h.is.placed) c.loop-i.invariant.from c.loop-i-test.true
+    there_below h.lattice c.args.solids.now.obstacles t.result.first t.result.end t.result.there c.loop-i.i (sides_on _ _ _ c.args.solids.now.sides h.sides) (t.ensures.own.inside h.lattice h.is.sized h.is.placed) c.loop-i.invariant.from c.loop-i-test.true
 
 own : (c : After-count_tile-here) → IsOwn c.args.part c.args.particles.now c.loop-i.i
-own c = c.own_tiles-own.ensures.own c.loop-i.i c.loop-i.invariant.from c.loop-i-test.true
+own c = c.own_tiles-own.ensures.own.each c.loop-i.i c.loop-i.invariant.from c.loop-i-test.true
 
 -- what is taken in the lattice's tile, by its place among the own ones
 takes : (c : After-count_tile-here) (lattice : Cells) → HasSidesOf c.args.solids.now.walls lattice → IsPartOf c.args.part c.args.particles.now lattice 64
@@ -51,11 +51,11 @@ takes c lattice sides is =
     let i = c.loop-i.i in
     let t = c.own_tiles-own in
     let sized = t.ensures.lattice.sized in
-    let there = there_is part cells lattice i t.result.first t.result.there is.placed t.ensures.first t.ensures.there in
+    let there = there_is part cells lattice i t.result.first t.result.there is.placed t.ensures.own.first t.ensures.own.there in
     c.count_tile-here.ensures lattice s.walls s.obstacles (tile_in part (lattice.width / 64) i) (lattice_is part cells lattice 64 is) (within_there part cells lattice i sized is.placed (own c)) sides (sides_on _ _ _ s.sides sides)
     (subst (λ j. AreTileSolids s.walls s.obstacles j c.in_tile-tile_solids.result) there c.in_tile-tile_solids.ensures)
     (own_cells part cells lattice i c.tile.result.now sized is (own c) c.tile.ensures)
-    ∙ ap (λ j. counted_of c.args.counted (taken_in (pos c.args.parity) lattice s.walls s.obstacles (tile_rectangle lattice j))) (own_number part cells lattice i t.result.first is.placed t.ensures.first)
+    ∙ ap (λ j. counted_of c.args.counted (taken_in (pos c.args.parity) lattice s.walls s.obstacles (tile_rectangle lattice j))) (own_number part cells lattice i t.result.first is.placed t.ensures.own.first)
 
 pub plus-took-requires : goal.plus-took-requires
 plus-took-requires c =
@@ -93,4 +93,4 @@ returns c = λ lattice sides is.
     let t = c.own_tiles-own in
     let n : c.loop-i.i - t.result.first ≡ t.result.end - t.result.first = omega (arith, c.loop-i-test.false, c.loop-i.auto.i-end) in
     c.loop-i.invariant.took lattice sides is
-    ∙ ap (λ n. counted_of c.args.counted (tiles_take c.args.parity lattice s.walls s.obstacles (c.args.part.first * (lattice.width / 64)) n)) (n ∙ (t.ensures.count ∙ ap (λ w. own_rows c.args.part c.args.particles.now * (w / 64)) is.placed.wide))
+    ∙ ap (λ n. counted_of c.args.counted (tiles_take c.args.parity lattice s.walls s.obstacles (c.args.part.first * (lattice.width / 64)) n)) (n ∙ (t.ensures.own.count ∙ ap (λ w. own_rows c.args.part c.args.particles.now * (w / 64)) is.placed.wide))
