@@ -157,7 +157,6 @@ fn renew_tile(
     near: (usize, usize),
     words: &mut SetWords,
 )
-    requires lattice { IsLattice set.now }
     requires tile { i < tile_count set.now }
     requires near { near.1 ≤ 33 }
     requires others { HaveOthers set.now (option_copied others) }
@@ -170,6 +169,7 @@ fn renew_tile(
         AreRenewedUpTo i before now words.old.rows.items words.old.blocks.items →
         AreRenewedUpTo (i + 1) before now words.new.rows.items words.new.blocks.items }
 {
+    set.shows_lattice();
     let window = window_in(set, i);
     let beside = others_at(others, i);
     let (from, end) = near;

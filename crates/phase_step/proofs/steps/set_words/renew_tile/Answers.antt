@@ -25,5 +25,5 @@ returns-clause-words c = λ before other others sides differ so_far.
     let were =
     subst (λ w. NamesBlocks w b (is_walled_in before i)) (sym is_word) (subst (λ b. NamesBlocks (get_or told i 0) b (is_walled_in before i)) (sym is_b) (so_far.rest i (omega arith) tile)) in
     renewed_next i c.renew.result c.renew.new.self before (joined set other) told words tile (record { rows = all.rows; blocks = all.blocks })
-    (named_again set other i c.window_in-window.result c.others_at-beside.result.rows c.others_at-beside.result.blocks.now (sides_of set other (option_copied c.args.others) others) c.requires.lattice.sized tile c.window_in-window.ensures
-    (c.others_at-beside.ensures set other c.requires.lattice tile others) before c.args.near.0 c.args.near.1 word c.renew.result b c.renew.new.self sides differ c.renew.ensures were) so_far
+    (named_again set other i c.window_in-window.result c.others_at-beside.result.rows c.others_at-beside.result.blocks.now (sides_of set other (option_copied c.args.others) others) c.shows_lattice.ensures.sized tile c.window_in-window.ensures
+    (c.others_at-beside.ensures set other c.shows_lattice.ensures tile others) before c.args.near.0 c.args.near.1 word c.renew.result b c.renew.new.self sides differ c.renew.ensures were) so_far
