@@ -14,7 +14,7 @@ use Rattle.phase_step.specs.Runs.{parity_at, tiles_take}
 use Rattle.phase_step.specs.Actions.{Leaves, acted, after_with, flow_plus, flow_with, FlowsFit}
 use Rattle.phase_step.specs.Balance.{flow_counted}
 use Rattle.phase_step.specs.TileRuns.{tiles_move, phase_flow, tiles_flow}
-use Rattle.phase_step.specs.Parts.{own_rows, own_take, own_moves, IsPartOf, HasRun, whole_part}
+use Rattle.phase_step.specs.Parts.{own_rows, own_take, own_moves, part_run, IsPartOf, HasRun, whole_part}
 use Rattle.phase_step.specs.WholeRuns.{Dynamics, after_all}
 use Rattle.phase_step.specs.declared.parts.Part.{Part}
 use Rattle.phase_step.specs.declared.sums.flow.Flow.{Flow}
@@ -33,7 +33,7 @@ pub record IsPartPhase (part : Part) (counted : Counted) (d : Dynamics) (q k : �
   pub parity : q ≡ parity_at d.parity k
   pub now_sides : HasSidesOf now old
   pub come_sides : HasSidesOf come old
-  pub so_far : HasRun part counted d k old lattice now flow
+  pub so_far : HasRun (part_run part counted d k) old lattice now flow
   pub action : IsPartOf part next (acted (d.leaves k) (streamed q (after_all d lattice k) (joined d.walls d.obstacles))) 64
   pub took : here.took ≡ counted_of counted (own_take part q now (after_all d lattice k) d.walls d.obstacles)
   pub moved : let there = streamed q (after_all d lattice k) (joined d.walls d.obstacles) in here.moved ≡ own_moves part (1 - q) come there (acted (d.leaves k) there)
@@ -65,7 +65,7 @@ module _ (part : Part) (counted : Counted) (d : Dynamics) (q k : ℕ) (lattice o
       ∙ (ap₂ (λ a m. of_rows q a m) across_is (rows_are now is.now_sides)
       ∙ ap (λ r. of_rows r (lattice.width / 64) (own_rows part old)) is.parity)
 
-  pub run_next : HasRun part counted d (k + 1) old lattice next (flow_plus flow here)
+  pub run_next : HasRun (part_run part counted d (k + 1)) old lattice next (flow_plus flow here)
   run_next =
       record {
         is = subst (λ (there : Cells). IsPartOf part next there 64) next_is is.action;
@@ -77,7 +77,7 @@ module _ (part : Part) (counted : Counted) (d : Dynamics) (q k : ℕ) (lattice o
 
 -- no phase yet
 pub run_begins : (part : Part) (counted : Counted) (d : Dynamics) (old lattice : Cells) (p : ℕ) → IsPartOf part old lattice (64 - p)
-    → HasRun part counted d 0 old lattice old (record { took = record { walls = record { x = pos 0; y = pos 0 }; obstacles = record { x = pos 0; y = pos 0 } }; moved = record { injected = record { count = pos 0; px = pos 0; py = pos 0 }; drained = record { count = pos 0; px = pos 0; py = pos 0 } } })
+    → HasRun (part_run part counted d 0) old lattice old (record { took = record { walls = record { x = pos 0; y = pos 0 }; obstacles = record { x = pos 0; y = pos 0 } }; moved = record { injected = record { count = pos 0; px = pos 0; py = pos 0 }; drained = record { count = pos 0; px = pos 0; py = pos 0 } } })
 run_begins part counted d old lattice p is =
     record { is = rows_left part old lattice (64 - p) 64 (mul-le-mul_left part.margin (omega arith)) is; flow = same_flow _ _ (counted_none counted) refl }
 
@@ -110,7 +110,7 @@ whole_held part cells k is e = subst (λ (part : Part). IsPartOf part cells cell
 pub whole_same : (down k : ℕ) (new lattice : Cells) → IsFull new → IsPartOf (record { first = 0; down = down; margin = 0 }) new lattice k → new ≡ lattice
 whole_same down k new lattice full is = grind (arith, same_cells, wide, has, whole_row)
 
-pub whole_flow : (down n : ℕ) (counted : Counted) (d : Dynamics) (cells new : Cells) (answer : Flow) → is_size (extent cells) ≡ true → HasRun (record { first = 0; down = down; margin = 0 }) counted d n cells cells new answer
+pub whole_flow : (down n : ℕ) (counted : Counted) (d : Dynamics) (cells new : Cells) (answer : Flow) → is_size (extent cells) ≡ true → HasRun (part_run (record { first = 0; down = down; margin = 0 }) counted d n) cells cells new answer
     → answer ≡ flow_counted counted (flow_with d.parity d.walls d.obstacles d.leaves cells n)
 whole_flow down n counted d cells new answer sized run =
     let a = cells.width / 64 in
@@ -138,6 +138,6 @@ pub strip_is : (first down rows k : ℕ) (strip lattice : Cells) → is_size (ex
     → IsPartOf (record { first = first; down = down; margin = 1 }) strip lattice k
 strip_is first down rows k strip lattice sized full high_is wide_is strip_high some within row = grind (arith, wide)
 
-pub strip_flow : (first down rows n : ℕ) (counted : Counted) (d : Dynamics) (strip lattice new : Cells) (answer : Flow) → strip.height ≡ (rows + 2) * 64 → HasRun (record { first = first; down = down; margin = 1 }) counted d n strip lattice new answer
+pub strip_flow : (first down rows n : ℕ) (counted : Counted) (d : Dynamics) (strip lattice new : Cells) (answer : Flow) → strip.height ≡ (rows + 2) * 64 → HasRun (part_run (record { first = first; down = down; margin = 1 }) counted d n) strip lattice new answer
     → answer ≡ flow_counted counted (tiles_flow d.parity d.walls d.obstacles d.leaves lattice (first * (lattice.width / 64)) (rows * (lattice.width / 64)) n)
 strip_flow first down rows n counted d strip lattice new answer high_is run = grind (arith, flow_counted, tiles_flow)

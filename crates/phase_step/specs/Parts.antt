@@ -109,16 +109,26 @@ pub record CanRunPart (part : Part) (d : Dynamics) (n : ℕ) (particles : Cells)
   pub ready : IsReady part d.walls particles (64 - d.parity)
   pub few : part.margin * n ≤ 1
 
--- What a run of n phases is: the part's own rows are the lattice's after it, and the flow is that
--- of its own tiles.
-pub record HasRun (part : Part) (counted : Counted) (d : Dynamics) (n : ℕ) (old lattice new : Cells) (answer : Flow) : Type 0 where
-  pub is : IsPartOf part new (after_all d lattice n) 64
-  pub flow : answer ≡ flow_counted counted (own_flow part d old lattice n)
+-- A run of a part: how its lattice goes on, in how many phases, and which accounts are kept.
+pub record PartRun : Type 0 where
+  pub part : Part
+  pub counted : Counted
+  pub dynamics : Dynamics
+  pub phases : ℕ
+
+abbrev pub part_run : Part → Counted → Dynamics → ℕ → PartRun
+part_run part counted d n = record { part = part; counted = counted; dynamics = d; phases = n }
+
+-- What such a run is: the part's own rows are the lattice's after it, and the flow is that of its
+-- own tiles.
+pub record HasRun (r : PartRun) (old lattice new : Cells) (answer : Flow) : Type 0 where
+  pub is : IsPartOf r.part new (after_all r.dynamics lattice r.phases) 64
+  pub flow : answer ≡ flow_counted r.counted (own_flow r.part r.dynamics old lattice r.phases)
 
 -- So it is with each lattice that the part may be of. The particles keep their size.
-pub record HasRunPart (part : Part) (counted : Counted) (d : Dynamics) (n : ℕ) (old new : Cells) (answer : Flow) : Type 0 where
-  pub run : (lattice : Cells) → HasSidesOf d.walls lattice → IsPartOf part old lattice (64 - d.parity)
-      → HasRun part counted d n old lattice new answer
+pub record HasRunPart (r : PartRun) (old new : Cells) (answer : Flow) : Type 0 where
+  pub run : (lattice : Cells) → HasSidesOf r.dynamics.walls lattice
+      → IsPartOf r.part old lattice (64 - r.dynamics.parity) → HasRun r old lattice new answer
   pub sides : HasSidesOf new old
 
 -- Of a part's cells in some order, those before place n are the next lattice's, but for k rows at

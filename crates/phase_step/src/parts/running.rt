@@ -1,6 +1,6 @@
 //! A run: its phases, what they take, and the action after each.
 
-ghost use Rattle.phase_step.specs.Parts.{CanRunPart, HasRunPart};
+ghost use Rattle.phase_step.specs.Parts.{part_run, CanRunPart, HasRunPart};
 ghost use Rattle.phase_step.specs.WholeRuns.{dynamics, CanRun, HasRunWhole};
 
 use crate::exchanges::Action;
@@ -29,8 +29,8 @@ pub fn run_part<A: Action>(
         CanRunPart part (dynamics r.parity r.solids.now (A.leaves r.action.now)) r.n
         particles.old }
     ensures { let r = run.entry in
-        HasRunPart part counted (dynamics r.parity r.solids.now (A.leaves r.action.now)) r.n
-        particles.old particles.new result }
+        let d = dynamics r.parity r.solids.now (A.leaves r.action.now) in
+        HasRunPart (part_run part counted d r.n) particles.old particles.new result }
 {
     let known = KnownSolid::of(run.solids);
     let is_counted = run.solids.is_counted(counted);

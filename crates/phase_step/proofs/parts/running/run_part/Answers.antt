@@ -2,7 +2,7 @@ use Rattle.std.proofs.Common.{◌≡◌, ◌+◌, ◌-◌, sym, subst, arith, re
 use Rattle.gas_terms.specs.Cells.{Cells, HasSidesOf, joined}
 use Rattle.gas_terms.specs.Gas.{streamed}
 use Rattle.phase_step.specs.Actions.{flow_plus}
-use Rattle.phase_step.specs.Parts.{IsPartOf, IsReady, IsTurned, HasRun}
+use Rattle.phase_step.specs.Parts.{part_run, IsPartOf, IsReady, IsTurned, HasRun}
 use Rattle.phase_step.specs.WholeRuns.{dynamics, after_all}
 use Rattle.phase_step.specs.declared.sums.flow.Flow.{Flow}
 use Rattle.phase_step.proofs.RowRuns.{IsPartPhase, run_begins, run_next, run_fits, own_few, sides_on, sides_there, ready_again}
@@ -65,12 +65,12 @@ loop-k-preserved g c =
     let d = dynamics run.parity s (g.A.Action.leaves run.action.now) in
     let after = (goal.at.loop-k-preserved g c).After-act_after-moved in
     let flow : Flow = record { took = c.count_part-took.result; moved = c.act_after-moved.result } in
-    let next : (lattice : Cells) → HasSidesOf s.walls lattice → IsPartOf c.args.part c.args.particles.now lattice (64 - run.parity) → HasRun c.args.part c.args.counted d (c.loop-k.k + 1) c.args.particles.now lattice c.act_after-moved.new.particles (flow_plus c.loop-k.flow flow) =
+    let next : (lattice : Cells) → HasSidesOf s.walls lattice → IsPartOf c.args.part c.args.particles.now lattice (64 - run.parity) → HasRun (part_run c.args.part c.args.counted d (c.loop-k.k + 1)) c.args.particles.now lattice c.act_after-moved.new.particles (flow_plus c.loop-k.flow flow) =
     λ lattice of_walls start. run_next c.args.part c.args.counted d c.parity_at-now.result c.loop-k.k lattice c.args.particles.now c.loop-k.particles c.turn_part.new.particles c.act_after-moved.new.particles c.loop-k.flow flow (phase_made g after lattice of_walls start) in
     record {
       sides = sides_on _ _ _ c.act_after-moved.ensures.sides (sides_on _ _ _ c.turn_part.ensures.sides c.loop-k.invariant.sides);
       run = λ lattice of_walls start.
-          subst (λ (f : Flow). HasRun c.args.part c.args.counted d (c.loop-k.k + 1) c.args.particles.now lattice c.act_after-moved.new.particles f) (sym c.plus-flow.ensures) (next lattice of_walls start);
+          subst (λ (f : Flow). HasRun (part_run c.args.part c.args.counted d (c.loop-k.k + 1)) c.args.particles.now lattice c.act_after-moved.new.particles f) (sym c.plus-flow.ensures) (next lattice of_walls start);
       ready = λ lattice q of_walls start more e. ready_again c.args.part c.act_after-moved.new.particles _ run.n c.loop-k.k q c.requires.few more (next lattice of_walls start).is;
     }
 
@@ -80,7 +80,7 @@ returns g c =
     let d = dynamics run.parity run.solids.now (g.A.Action.leaves run.action.now) in
     let e : c.loop-k.k ≡ run.n = omega arith in
     record {
-      run = λ lattice of_walls start. subst (λ k. HasRun c.args.part c.args.counted d k c.args.particles.now lattice c.loop-k.particles c.loop-k.flow) e (c.loop-k.invariant.run lattice of_walls start);
+      run = λ lattice of_walls start. subst (λ k. HasRun (part_run c.args.part c.args.counted d k) c.args.particles.now lattice c.loop-k.particles c.loop-k.flow) e (c.loop-k.invariant.run lattice of_walls start);
       sides = c.loop-k.invariant.sides;
     }
 

@@ -1,6 +1,6 @@
 use Rattle.std.proofs.Common.{◌≡◌, ◌*◌, ◌-◌, ◌/◌, ◌≤◌, sym, subst, arith}
 use Rattle.gas_terms.specs.Cells.{Cells, HasSidesOf}
-use Rattle.phase_step.specs.Parts.{HasRun}
+use Rattle.phase_step.specs.Parts.{part_run, HasRun}
 use Rattle.phase_step.specs.Runs.{after}
 use Rattle.phase_step.specs.WholeRuns.{dynamics}
 use Rattle.phase_step.specs.declared.parts.Part.{Part}
@@ -37,8 +37,8 @@ returns g c =
     let down = cells.height / 64 in
     let new = c.run_part-flow.new.particles in
     let whole = whole_held c.whole-part.result cells (64 - run.parity) c.whole-part.ensures.lattice c.whole-part.ensures.part in
-    let made : HasRun (record { first = 0; down = down; margin = 0 }) c.args.counted d run.n cells cells new c.run_part-flow.result =
-    subst (λ (part : Part). HasRun part c.args.counted d run.n cells cells new c.run_part-flow.result) c.whole-part.ensures.part (c.run_part-flow.ensures.run cells c.requires.walls whole) in
+    let made : HasRun (part_run (record { first = 0; down = down; margin = 0 }) c.args.counted d run.n) cells cells new c.run_part-flow.result =
+    subst (λ (part : Part). HasRun (part_run part c.args.counted d run.n) cells cells new c.run_part-flow.result) c.whole-part.ensures.part (c.run_part-flow.ensures.run cells c.requires.walls whole) in
     record {
       particles = whole_same down 64 new _ c.shows_lattice-2.ensures.full made.is;
       flow = whole_flow down run.n c.args.counted d cells new c.run_part-flow.result c.whole-part.ensures.lattice.sized made;

@@ -5,7 +5,7 @@ use Rattle.gas_terms.specs.Cells.{Cells, HasSidesOf, extent}
 use Rattle.gas_plane.specs.Planes.{IsLattice}
 use Rattle.gas_plane.proofs.Places.{wide, high}
 use Rattle.block_rule.specs.declared.walled.Counted.{Counted}
-use Rattle.phase_step.specs.Parts.{HasRows, HasRun, IsPartOf}
+use Rattle.phase_step.specs.Parts.{part_run, HasRows, HasRun, IsPartOf}
 use Rattle.phase_step.specs.WholeRuns.{Dynamics, dynamics}
 use Rattle.phase_step.specs.Runs.{parity_at}
 use Rattle.phase_step.specs.Balance.{flow_counted}
@@ -82,8 +82,8 @@ returns-clause-rows g c =
     let course = g.N.RunName.course in
     let k = i.from + c.args.k in
     let down = i.particles.now.height / 64 in
-    let run : HasRun (place_of down s.own) i.counted (turn g at) 1 s.cells (before g at) c.run_part.new.particles c.run_part.result =
-    subst (λ (part : Part). HasRun part i.counted (turn g at) 1 s.cells (before g at) c.run_part.new.particles c.run_part.result) c.part_of-part.ensures (c.run_part.ensures.run (before g at) (of_walls g at) (is_part g at)) in
+    let run : HasRun (part_run (place_of down s.own) i.counted (turn g at) 1) s.cells (before g at) c.run_part.new.particles c.run_part.result =
+    subst (λ (part : Part). HasRun (part_run part i.counted (turn g at) 1) s.cells (before g at) c.run_part.new.particles c.run_part.result) c.part_of-part.ensures (c.run_part.ensures.run (before g at) (of_walls g at) (is_part g at)) in
     let next = phase_next course k (turn g at) (is_phase g at) in
     let here : HasRows (record { first = s.own.first; down = down; margin = 1 }) c.run_part.new.particles (lattice_at course (k + 1)) 64 = subst (λ (lattice : Cells). HasRows (record { first = s.own.first; down = down; margin = 1 }) c.run_part.new.particles lattice 64) next run.is.rows in
     subst (λ d. HasRows (record { first = s.own.first; down = d; margin = 1 }) c.run_part.new.particles (lattice_at course (k + 1)) 64)
@@ -97,8 +97,8 @@ returns-clause-flow g c =
     let course = g.N.RunName.course in
     let k = i.from + c.args.k in
     let down = i.particles.now.height / 64 in
-    let run : HasRun (place_of down s.own) i.counted (turn g at) 1 s.cells (before g at) c.run_part.new.particles c.run_part.result =
-    subst (λ (part : Part). HasRun part i.counted (turn g at) 1 s.cells (before g at) c.run_part.new.particles c.run_part.result) c.part_of-part.ensures (c.run_part.ensures.run (before g at) (of_walls g at) (is_part g at)) in
+    let run : HasRun (part_run (place_of down s.own) i.counted (turn g at) 1) s.cells (before g at) c.run_part.new.particles c.run_part.result =
+    subst (λ (part : Part). HasRun (part_run part i.counted (turn g at) 1) s.cells (before g at) c.run_part.new.particles c.run_part.result) c.part_of-part.ensures (c.run_part.ensures.run (before g at) (of_walls g at) (is_part g at)) in
     let own = s.own in
     let gives = strip_flow own.first down own.rows 1 i.counted (turn g at) s.cells (before g at) c.run_part.new.particles c.run_part.result c.requires.at.of_lattice.high run in
     let kept = gives ∙ ap (λ (kept : Counted). flow_counted kept (tiles_flow (turn g at).parity (turn g at).walls (turn g at).obstacles (turn g at).leaves (before g at) (own.first * ((before g at).width / 64)) (own.rows * ((before g at).width / 64)) 1)) (sym i.counted_is) in
