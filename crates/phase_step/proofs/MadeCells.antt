@@ -15,7 +15,7 @@ use Rattle.gas_plane.proofs.Places.{wide, high, tile_below}
 use Rattle.gas_plane.proofs.Sweeps.{left_of, top_of, tile_column}
 use Rattle.gas_plane.proofs.Tilings.{choose_true, choose_false}
 use Rattle.phase_step.specs.Actions.{Leaves, acted}
-use Rattle.phase_step.specs.Parts.{row_in, tile_in, IsPlaced, HasRows, IsOwn, IsPartOf, AreMadeTo}
+use Rattle.phase_step.specs.Parts.{row_in, tile_in, made_to, IsPlaced, HasRows, IsOwn, IsPartOf, AreMadeTo}
 use Rattle.phase_step.specs.declared.parts.Part.{Part}
 use Rattle.phase_step.proofs.ActedTiles.{cell_within}
 use Rattle.phase_step.proofs.PhaseSweeps.{sized_as}
@@ -36,7 +36,7 @@ module _ (cells now : Cells) (i : ℕ) (t : Tile) (sides : HasSidesOf now cells)
   with_other other = there ∙ sym (choose_false _ _ _ _ (ne_eqb (tile_of now x y) i (λ e. other (sym same_tile ∙ e))) refl)
 
 -- none at the beginning
-pub none_made : (order : ℕ → ℕ → ℕ) (n k : ℕ) (part : Part) (next old : Cells) → ((x y : ℕ) → x < old.width → part.margin * k ≤ y → y + part.margin * k < old.height → n ≤ order x y) → AreMadeTo order n k part next old old
+pub none_made : (order : ℕ → ℕ → ℕ) (n k : ℕ) (part : Part) (next old : Cells) → ((x y : ℕ) → x < old.width → part.margin * k ≤ y → y + part.margin * k < old.height → n ≤ order x y) → AreMadeTo (made_to order n k part) next old old
 none_made order n k part next old none =
     record {
       sides = record { wide = refl; high = refl };
@@ -45,10 +45,10 @@ none_made order n k part next old none =
     }
 
 -- those in one place more
-pub made_next : (order : ℕ → ℕ → ℕ) (n k : ℕ) (part : Part) (next old now new : Cells) → AreMadeTo order n k part next old now → HasSidesOf new now
+pub made_next : (order : ℕ → ℕ → ℕ) (n k : ℕ) (part : Part) (next old now new : Cells) → AreMadeTo (made_to order n k part) next old now → HasSidesOf new now
     → ((x y : ℕ) → x < old.width → y < old.height → (order x y ≡ n → ⊥) → has new x y ≡ has now x y)
     → ((x y : ℕ) → x < old.width → part.margin * k ≤ y → y + part.margin * k < old.height → order x y ≡ n → has new x y ≡ has next x (row_in part y))
-    → AreMadeTo order (n + 1) k part next old new
+    → AreMadeTo (made_to order (n + 1) k part) next old new
 made_next order n k part next old now new so_far sides others here =
     record {
       sides = record { wide = sides.wide ∙ so_far.sides.wide; high = sides.high ∙ so_far.sides.high };
@@ -83,7 +83,7 @@ full_streamed p lattice solid = full-cells_where lattice.width lattice.height (�
 
 pub has_all_made : (order : ℕ → ℕ → ℕ) (n k : ℕ) (part : Part) (cells lattice next now : Cells) → k ≤ 64 → HasSidesOf next lattice → IsFull next → IsPartOf part cells lattice k
     → ((x y : ℕ) → x < cells.width → part.margin * 64 ≤ y → y + part.margin * 64 < cells.height → order x y < n)
-    → AreMadeTo order n k part next cells now → IsPartOf part now next 64
+    → AreMadeTo (made_to order n k part) next cells now → IsPartOf part now next 64
 has_all_made order n k part cells lattice next now few of_lattice full is past made =
     has_own_rows part cells lattice next now k made.sides of_lattice full is
     (record {
@@ -97,14 +97,14 @@ has_all_made order n k part cells lattice next now few of_lattice full is past m
 -- after a phase, and after an action
 pub all_turned : (order : ℕ → ℕ → ℕ) (n k p : ℕ) (part : Part) (solid cells lattice now : Cells) → k ≤ 64 → IsPartOf part cells lattice k
     → ((x y : ℕ) → x < cells.width → part.margin * 64 ≤ y → y + part.margin * 64 < cells.height → order x y < n)
-    → AreMadeTo order n k part (streamed p lattice solid) cells now → IsPartOf part now (streamed p lattice solid) 64
+    → AreMadeTo (made_to order n k part) (streamed p lattice solid) cells now → IsPartOf part now (streamed p lattice solid) 64
 all_turned order n k p part solid cells lattice now few is past made =
     has_all_made order n k part cells lattice (streamed p lattice solid) now few (record { wide = refl; high = refl })
     (full-cells_where lattice.width lattice.height (λ x y. arrived lattice solid (site_of (p + 1) lattice.width lattice.height x y) (velocity_at (p + 1) x y))) is past made
 
 pub all_acted : (order : ℕ → ℕ → ℕ) (n : ℕ) (leaves : Leaves) (part : Part) (cells lattice now : Cells) → IsPartOf part cells lattice 64
     → ((x y : ℕ) → x < cells.width → part.margin * 64 ≤ y → y + part.margin * 64 < cells.height → order x y < n)
-    → AreMadeTo order n 64 part (acted leaves lattice) cells now → IsPartOf part now (acted leaves lattice) 64
+    → AreMadeTo (made_to order n 64 part) (acted leaves lattice) cells now → IsPartOf part now (acted leaves lattice) 64
 all_acted order n leaves part cells lattice now is past made =
     has_all_made order n 64 part cells lattice (acted leaves lattice) now (omega arith) (record { wide = refl; high = refl }) (full-cells_where lattice.width lattice.height (λ x y. leaves x y (has lattice x y))) is past made
 
@@ -138,7 +138,7 @@ none_before part cells first sized e x y h low top =
     omega (arith, e, l)
 
 -- a tile that was not replaced yet
-pub tile_before : (part : Part) (next before now : Cells) (i k : ℕ) (t : Tile) → IsLattice before → IsOwn part before i → AreMadeTo (tile_of before) i k part next before now → IsTileFrom t now (left_of now i) (top_of now i) → IsTileFrom t before (left_of before i) (top_of before i)
+pub tile_before : (part : Part) (next before now : Cells) (i k : ℕ) (t : Tile) → IsLattice before → IsOwn part before i → AreMadeTo (made_to (tile_of before) i k part) next before now → IsTileFrom t now (left_of now i) (top_of now i) → IsTileFrom t before (left_of before i) (top_of before i)
 tile_before part next before now i k t of own made from =
     record {
       cell = λ x y h q.
@@ -150,8 +150,8 @@ tile_before part next before now i k t of own made from =
     }
 
 -- one more own tile has the lattice's cells: it is replaced, or it stays
-pub tile_made : (part : Part) (cells lattice next now : Cells) (i : ℕ) (t : Tile) → is_size (extent cells) ≡ true → IsPlaced part cells lattice → IsOwn part cells i → AreMadeTo (tile_of cells) i 64 part next cells now
-    → (let r = tile_rectangle lattice (tile_in part (lattice.width / 64) i) in HasCells t (λ x y. has next (r.x + x) (r.y + y))) → AreMadeTo (tile_of cells) (i + 1) 64 part next cells (with_tile now i t)
+pub tile_made : (part : Part) (cells lattice next now : Cells) (i : ℕ) (t : Tile) → is_size (extent cells) ≡ true → IsPlaced part cells lattice → IsOwn part cells i → AreMadeTo (made_to (tile_of cells) i 64 part) next cells now
+    → (let r = tile_rectangle lattice (tile_in part (lattice.width / 64) i) in HasCells t (λ x y. has next (r.x + x) (r.y + y))) → AreMadeTo (made_to (tile_of cells) (i + 1) 64 part) next cells (with_tile now i t)
 tile_made part cells lattice next now i t sized placed own so_far made =
     made_next (tile_of cells) i 64 part next cells now (with_tile now i t) so_far (record { wide = refl; high = refl })
     (λ x y h k ne. with_other cells now i t so_far.sides x y h k ne)
@@ -159,8 +159,8 @@ tile_made part cells lattice next now i t sized placed own so_far made =
     with_here cells now i t so_far.sides x y h (omega (arith, top)) e
     ∙ (made (x % 64) (y % 64) (omega arith) (omega arith) ∙ ap₂ (has next) (column_at part cells lattice i sized placed own x y h e) (row_at part cells lattice i sized placed own x y h e)))
 
-pub tile_stays : (part : Part) (cells lattice next now : Cells) (i : ℕ) → is_size (extent cells) ≡ true → IsPartOf part cells lattice 64 → IsOwn part cells i → AreMadeTo (tile_of cells) i 64 part next cells now
-    → (let r = tile_rectangle lattice (tile_in part (lattice.width / 64) i) in (x y : ℕ) → x < 64 → y < 64 → has next (r.x + x) (r.y + y) ≡ has lattice (r.x + x) (r.y + y)) → AreMadeTo (tile_of cells) (i + 1) 64 part next cells now
+pub tile_stays : (part : Part) (cells lattice next now : Cells) (i : ℕ) → is_size (extent cells) ≡ true → IsPartOf part cells lattice 64 → IsOwn part cells i → AreMadeTo (made_to (tile_of cells) i 64 part) next cells now
+    → (let r = tile_rectangle lattice (tile_in part (lattice.width / 64) i) in (x y : ℕ) → x < 64 → y < 64 → has next (r.x + x) (r.y + y) ≡ has lattice (r.x + x) (r.y + y)) → AreMadeTo (made_to (tile_of cells) (i + 1) 64 part) next cells now
 tile_stays part cells lattice next now i sized is own so_far same =
     made_next (tile_of cells) i 64 part next cells now now so_far (record { wide = refl; high = refl })
     (λ x y h k ne. refl)

@@ -13,7 +13,7 @@ use Rattle.block_rule.specs.TileBlocks.{AreGivenBlocks, walled_by}
 use Rattle.block_rule.specs.declared.blocks.Blocks.{Blocks}
 use Rattle.block_rule.specs.declared.blocks.Beside.{Beside}
 use Rattle.block_rule.specs.declared.in_place.Carry.{Carry}
-use Rattle.phase_step.specs.Parts.{start_of, row_in, AreMadeTo}
+use Rattle.phase_step.specs.Parts.{start_of, row_in, made_to, AreMadeTo}
 use Rattle.phase_step.specs.declared.parts.Part.{Part}
 use Rattle.phase_step.specs.declared.odd_phase.RowPlace.{RowPlace}
 use Rattle.phase_step.specs.declared.odd_phase.RowTurner.{RowTurner}
@@ -144,11 +144,11 @@ begins_in cells y = (y + cells.height - 1) % cells.height / 64
 
 -- a part's rows of tiles before this one have turned at parity 0
 abbrev pub AreRowsMadeTo : ℕ → Part → Cells → Cells → Cells → Type 0
-AreRowsMadeTo rows part next old now = AreMadeTo (λ x y. y / 64) rows 64 part next old now
+AreRowsMadeTo rows part next old now = AreMadeTo (made_to (λ x y. y / 64) rows 64 part) next old now
 
 -- the blocks that begin in them have turned at parity 1
 abbrev pub AreTurnedTo : ℕ → Part → Cells → Cells → Cells → Type 0
-AreTurnedTo rows part next old now = AreMadeTo (λ x y. begins_in old y) rows 63 part next old now
+AreTurnedTo rows part next old now = AreMadeTo (made_to (λ x y. begins_in old y) rows 63 part) next old now
 
 -- Two phases of a whole lattice in one sweep: the blocks that begin in the rows of tiles before this one have turned at both parities, all
 -- others up to it at parity 0 alone, and those below not at all.

@@ -131,10 +131,22 @@ pub record HasRunPart (r : PartRun) (old new : Cells) (answer : Flow) : Type 0 w
       → IsPartOf r.part old lattice (64 - r.dynamics.parity) → HasRun r old lattice new answer
   pub sides : HasSidesOf new old
 
--- Of a part's cells in some order, those before place n are the next lattice's, but for k rows at
--- either end if it has margins. All from n on are as before.
-pub record AreMadeTo (order : ℕ → ℕ → ℕ) (n k : ℕ) (part : Part) (next old now : Cells) : Type 0 where
+-- How far a part's cells are made: in this order, those before this place. If the part has margins,
+-- so many rows at either end are not.
+pub record Progress : Type 0 where
+  pub order : ℕ → ℕ → ℕ
+  pub place : ℕ
+  pub edge : ℕ
+  pub part : Part
+
+abbrev pub made_to : (ℕ → ℕ → ℕ) → ℕ → ℕ → Part → Progress
+made_to order place edge part = record { order = order; place = place; edge = edge; part = part }
+
+-- Cells that are made are the next lattice's. All from the place on are as before.
+pub record AreMadeTo (to : Progress) (next old now : Cells) : Type 0 where
   pub sides : HasSidesOf now old
-  pub made : (x y : ℕ) → x < old.width → part.margin * k ≤ y → y + part.margin * k < old.height
-      → order x y < n → has now x y ≡ has next x (row_in part y)
-  pub rest : (x y : ℕ) → x < old.width → y < old.height → n ≤ order x y → has now x y ≡ has old x y
+  pub made : (x y : ℕ) → x < old.width → to.part.margin * to.edge ≤ y
+      → y + to.part.margin * to.edge < old.height → to.order x y < to.place
+      → has now x y ≡ has next x (row_in to.part y)
+  pub rest : (x y : ℕ) → x < old.width → y < old.height → to.place ≤ to.order x y
+      → has now x y ≡ has old x y

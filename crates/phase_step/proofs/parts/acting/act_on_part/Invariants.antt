@@ -3,7 +3,7 @@ use Rattle.gas_terms.specs.Cells.{Cells, HasSidesOf}
 use Rattle.gas_plane.specs.Planes.{tile_of}
 use Rattle.phase_step.specs.Actions.{acted}
 use Rattle.phase_step.specs.Exchanges.{leaves_of}
-use Rattle.phase_step.specs.Parts.{IsPartOf, AreMadeTo}
+use Rattle.phase_step.specs.Parts.{made_to, IsPartOf, AreMadeTo}
 use Rattle.phase_step.specs.TileRuns.{tiles_move}
 use Rattle.phase_step.proofs.parts.acting.act_on_part.Given as goal
 
@@ -13,6 +13,6 @@ invariant-loop-i l =
     record {
       from : l.initial.i ≤ l.i;
       sides : HasSidesOf l.particles old;
-      made : (lattice : Cells) → IsPartOf l.fn.part old lattice 64 → AreMadeTo (tile_of old) l.i 64 l.fn.part (acted (leaves_of l.exchange) lattice) old l.particles;
+      made : (lattice : Cells) → IsPartOf l.fn.part old lattice 64 → AreMadeTo (made_to (tile_of old) l.i 64 l.fn.part) (acted (leaves_of l.exchange) lattice) old l.particles;
       moved : (lattice : Cells) → IsPartOf l.fn.part old lattice 64 → l.moved ≡ tiles_move (pos l.parity) lattice (acted (leaves_of l.exchange) lattice) (l.fn.part.first * (lattice.width / 64)) (l.i - l.initial.i);
     }
