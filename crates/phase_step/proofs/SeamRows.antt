@@ -8,7 +8,7 @@ use Rattle.gas_plane.proofs.Places.{IsWholeTiles, wide, high, cell_below}
 use Rattle.block_rule.specs.InPlace.{IsRowTurned, IsLeaving}
 use Rattle.block_rule.specs.declared.blocks.Blocks.{Blocks}
 use Rattle.block_rule.specs.declared.blocks.Beside.{Beside}
-use Rattle.phase_step.specs.OddPhase.{IsSeamPut, IsSeamEdge, IsRowThere, below_there, HasSeam, after_tiles, AreSeamsTurned, IsSeamRowTurned}
+use Rattle.phase_step.specs.OddPhase.{seam_place, IsSeamPut, IsSeamEdge, IsRowThere, below_there, HasSeam, after_tiles, AreSeamsTurned, IsSeamRowTurned}
 use Rattle.phase_step.specs.declared.odd_phase.RowPlace.{RowPlace}
 use Rattle.phase_step.proofs.RowWindows.{next_cells, window, rule, across, some_columns, turned_there, seen_there, column_in, around_column, around_row, around_below, around_before, after_inside, after_last, inside_in, begin_is, around_after, edge, edge_below}
 
@@ -67,7 +67,7 @@ module _ (place : RowPlace) (column : ℕ) (solid old lattice : Cells) (is : IsR
 
     -- the last tile of a row, before any has turned
     module _ (last : column + 1 ≡ lattice.width / 64) where
-      pub last_edge : IsSeamEdge place.row place.below column first first_below old upper_edge lower_edge
+      pub last_edge : IsSeamEdge (seam_place place.row place.below column) first first_below old upper_edge lower_edge
       last_edge = record { next = λ h. absurd (let l : column + 1 < lattice.width / 64 = subst (λ w. column + 1 < w / 64) is.wide h in omega (arith, l, last)); last = λ _. round_edge last }
 
       pub last_bottom : (x : ℕ) → x < 64 → shown (x + 1) 64 ≡ has old (column * 64 + x) (place.row * 64 + 63)
@@ -103,7 +103,7 @@ module _ (place : RowPlace) (column : ℕ) (solid old lattice : Cells) (is : IsR
       pub own_top : (x : ℕ) → x < 64 → shown (x + 1) 65 ≡ has now (column * 64 + x) (place.below * 64)
       own_top x h = seen_top x h ∙ sym (still_top (column * 64 + x) (omega arith) (column_in place column solid old lattice is less x h))
 
-      pub is_seam_edge : IsSeamEdge place.row place.below column first first_below now upper_edge lower_edge
+      pub is_seam_edge : IsSeamEdge (seam_place place.row place.below column) first first_below now upper_edge lower_edge
       is_seam_edge =
           record {
             next = λ h.

@@ -57,15 +57,24 @@ pub record IsSeamPut (row below column : ℕ) (words : Blocks) (old new : Cells)
   pub top : (test : ℕ → ℕ → Bool) → IsRowTurned words test 31 → (x : ℕ) → x < 64 → has new (column * 64 + x) (below * 64) ≡ test x 64
   pub others : (x y : ℕ) → x < old.width → y < old.height → (x / 64 ≡ column → (y ≡ row * 64 + 63) ⊎ (y ≡ below * 64) → ⊥) → has new x y ≡ has old x y
 
--- what stands to the right of that row of blocks
-pub record IsSeamEdge (row below column : ℕ) (first first_below : Tile) (cells : Cells) (upper lower : Bool) : Type 0 where
-  pub next : column + 1 < cells.width / 64 → (has cells ((column + 1) * 64) (row * 64 + 63) ≡ upper) × (has cells ((column + 1) * 64) (below * 64) ≡ lower)
-  pub last : column + 1 ≡ cells.width / 64 → (tile.has first 0 63 ≡ upper) × (tile.has first_below 0 0 ≡ lower)
+-- Where such a row of blocks is: its tile's row and column of tiles, and the row of tiles below.
+pub record SeamPlace : Type 0 where
+  pub row : ℕ
+  pub below : ℕ
+  pub column : ℕ
+
+abbrev pub seam_place : ℕ → ℕ → ℕ → SeamPlace
+seam_place row below column = record { row = row; below = below; column = column }
+
+-- what stands to the right of it
+pub record IsSeamEdge (seam : SeamPlace) (first first_below : Tile) (cells : Cells) (upper lower : Bool) : Type 0 where
+  pub next : seam.column + 1 < cells.width / 64 → (has cells ((seam.column + 1) * 64) (seam.row * 64 + 63) ≡ upper) × (has cells ((seam.column + 1) * 64) (seam.below * 64) ≡ lower)
+  pub last : seam.column + 1 ≡ cells.width / 64 → (tile.has first 0 63 ≡ upper) × (tile.has first_below 0 0 ≡ lower)
 
 -- the words show that row of blocks
-abbrev pub ShowsSeam : ℕ → ℕ → ℕ → Cells → Bool → Bool → Blocks → Beside → Type 0
-ShowsSeam row below column cells upper lower own right =
-    (window : ℕ → ℕ → Bool) → ((x : ℕ) → x < 64 → window (x + 1) 64 ≡ has cells (column * 64 + x) (row * 64 + 63)) → ((x : ℕ) → x < 64 → window (x + 1) 65 ≡ has cells (column * 64 + x) (below * 64)) → window 65 64 ≡ upper → window 65 65 ≡ lower → ShowsBegun window 31 own right
+abbrev pub ShowsSeam : SeamPlace → Cells → Bool → Bool → Blocks → Beside → Type 0
+ShowsSeam seam cells upper lower own right =
+    (window : ℕ → ℕ → Bool) → ((x : ℕ) → x < 64 → window (x + 1) 64 ≡ has cells (seam.column * 64 + x) (seam.row * 64 + 63)) → ((x : ℕ) → x < 64 → window (x + 1) 65 ≡ has cells (seam.column * 64 + x) (seam.below * 64)) → window 65 64 ≡ upper → window 65 65 ≡ lower → ShowsBegun window 31 own right
 
 -- The row of tiles stands there in a lattice with these walls.
 pub record IsRowThere (place : RowPlace) (solid cells lattice : Cells) : Type 0 where

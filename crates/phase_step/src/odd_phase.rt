@@ -4,7 +4,7 @@
 ghost use Rattle.std.specs.Prelude.{◌≡◌, ℕ, ◌+◌, ◌*◌, ◌/◌, ◌<◌, ◌≤◌, Bool};
 ghost use Rattle.gas_terms.specs.Cells.{Cells, HasSidesOf, tile_count};
 ghost use Rattle.gas_terms.specs.Gas.{streamed};
-ghost use Rattle.phase_step.specs.OddPhase.{TurnsInner, IsSeamPut, IsInnerTurned, IsFirstPut, IsEdge, IsSeamEdge, ShowsSeam, IsRowThere, HasInner, HasSeam, IsInnerRowTurned, IsSeamRowTurned};
+ghost use Rattle.phase_step.specs.OddPhase.{seam_place, TurnsInner, IsSeamPut, IsInnerTurned, IsFirstPut, IsEdge, IsSeamEdge, ShowsSeam, IsRowThere, HasInner, HasSeam, IsInnerRowTurned, IsSeamRowTurned};
 ghost use Rattle.phase_step.specs.Solid.{all_of};
 
 use crate::steps::KnownSolid;
@@ -121,9 +121,9 @@ fn seam_at(
     requires row { row < particles.now.height / 64 }
     requires below { below < particles.now.height / 64 }
     requires column { column < particles.now.width / 64 }
-    ensures { (upper lower : Bool) →
-        IsSeamEdge row below column first.now first_below.now particles.now upper lower →
-        ShowsSeam row below column particles.now upper lower result.own result.right }
+    ensures { let seam = seam_place row below column in (upper lower : Bool) →
+        IsSeamEdge seam first.now first_below.now particles.now upper lower →
+        ShowsSeam seam particles.now upper lower result.own result.right }
 {
     particles.shows_lattice();
     let i = row * across + column;
